@@ -1,0 +1,11 @@
+-- A counter of bytes read, with the bytes that it is tied to.
+use Rattle.std.specs.Prelude.{◌≡◌, ◌+◌, ℕ, List}
+
+pub record Metered : Type 0 where
+  pub bytes : List ℕ
+  pub count : ℕ
+
+-- n more bytes of the same list were read
+pub record Costs (old new : Metered) (n : ℕ) : Type 0 where
+  pub bytes : new.bytes ≡ old.bytes
+  pub count : new.count ≡ old.count + n

@@ -1,0 +1,15 @@
+//! Words in both byte orders, owned texts and lists, and a buffer whose bytes are counted as they
+//! leave it.
+#![tactic(auto)]
+
+mod buffer;
+mod counters;
+mod lists;
+mod texts;
+mod words;
+
+pub use buffer::Buf;
+pub use counters::{Meter, Steps};
+pub use lists::List;
+pub use texts::{NoMemory, Text};
+pub use words::{Order, put_word, word_at};

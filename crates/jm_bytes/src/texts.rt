@@ -1,0 +1,83 @@
+ghost use Rattle.std.specs.Prelude.{◌≡◌, ◌∷◌, ◌++◌, [], length, IfOk, OnOk, OnErr};
+
+use std::alloc::Global;
+use std::marker::Model;
+
+/// No memory was found for a value that has to grow.
+#[derive(Clone, Copy, Debug, PartialEq, Eq)]
+pub struct NoMemory;
+
+/// An owned list of bytes.
+#[derive(Debug, Drop)]
+pub struct Text {
+    bytes: Vec<u8>,
+}
+
+impl Model for Text {
+    ghost use Rattle.std.specs.Prelude.{List, ℕ};
+
+    ghost Value = { List ℕ };
+
+    ghost view = { λ a. a.bytes.items };
+}
+
+impl Text {
+    /// The text of no byte, which takes no memory yet.
+    pub fn new(alloc: Global) -> Text
+        ensures { result ≡ [] }
+    {
+        Text {
+            bytes: Vec::new(alloc),
+        }
+    }
+
+    /// The text of the bytes of `v`.
+    pub fn from_vec(v: Vec<u8>) -> Text
+        ensures { result ≡ v.items }
+    {
+        Text { bytes: v }
+    }
+
+    /// A text of its own with the same bytes.
+    pub fn copy_of(alloc: Global, bytes: &[u8]) -> Result<Text, NoMemory>
+        ensures { IfOk result (λ text. text ≡ bytes.now) }
+    {
+        match Vec::from_slice(alloc, bytes) {
+            Ok(bytes) => Ok(Text { bytes }),
+            Err(_) => Err(NoMemory),
+        }
+    }
+
+    /// The bytes as a vector.
+    pub fn into_vec(self) -> Vec<u8>
+        ensures { result.items ≡ self }
+    {
+        let Text { bytes } = self;
+        bytes
+    }
+
+    /// The bytes, borrowed.
+    pub fn as_slice(&self) -> &[u8]
+        ensures { result.now ≡ self.now }
+    {
+        self.bytes.as_slice()
+    }
+
+    /// How many bytes it has.
+    pub fn len(&self) -> usize
+        ensures { result ≡ length self.now }
+    {
+        self.bytes.len()
+    }
+
+    /// Puts a byte at the end. A text for which no memory was found stays as it was.
+    pub fn push(&mut self, byte: u8) -> Result<(), NoMemory>
+        ensures ok { OnOk result (self.new ≡ self.old ++ byte ∷ []) }
+        ensures err { OnErr result (self.new ≡ self.old) }
+    {
+        match self.bytes.push(byte) {
+            Ok(()) => Ok(()),
+            Err(_) => Err(NoMemory),
+        }
+    }
+}
