@@ -5,6 +5,8 @@
 mod buffer;
 mod counters;
 mod lists;
+#[cfg(test)]
+mod tests;
 mod texts;
 mod words;
 

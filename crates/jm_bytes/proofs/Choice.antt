@@ -1,0 +1,26 @@
+-- Choices, options and pairs taken apart.
+use Rattle.std.proofs.Common.{◌≡◌, ◌⊎◌, inl, inr, Bool, true, false, cond, Option, Some, Result, Ok, refl, ap}
+
+-- which value a choice took
+pub chosen : {A : Type 0} (b : Bool) (x y z : A) → cond b x y ≡ z → ((b ≡ true) × (x ≡ z)) ⊎ ((b ≡ false) × (y ≡ z))
+chosen true x y z h = inl (refl, h)
+chosen false x y z h = inr (refl, h)
+
+pub same_some : {A : Type 0} (x y : A) → Some x ≡ Some y → x ≡ y
+same_some x y e = cc
+
+pub same_ok : {A E : Type 0} (x y : A) → ◌≡◌ {A = Result A E} (Ok x) (Ok y) → x ≡ y
+same_ok x y e = cc
+
+-- the parts of two equal pairs under a `Some`
+pub same_first : {A B : Type 0} (x y : A) (u v : B) → ◌≡◌ {A = Option (A × B)} (Some (x, u)) (Some (y, v)) → x ≡ y
+same_first {A} {B} x y u v e =
+    let p : A × B = (x, u) in
+    let q : A × B = (y, v) in
+    ap (λ (r : A × B). r.0) (same_some p q e)
+
+pub same_second : {A B : Type 0} (x y : A) (u v : B) → ◌≡◌ {A = Option (A × B)} (Some (x, u)) (Some (y, v)) → u ≡ v
+same_second {A} {B} x y u v e =
+    let p : A × B = (x, u) in
+    let q : A × B = (y, v) in
+    ap (λ (r : A × B). r.1) (same_some p q e)
