@@ -1,0 +1,86 @@
+-- The names of an image (jimage 1.0): a name is a list of bytes that is kept in four pieces.
+use Rattle.std.specs.Prelude.{ℕ, Bool, true, false, nat_eq, map, ◌==◌, ◌&&◌, ◌||◌, not, List, [], ◌∷◌, ◌++◌, if◌then◌else◌, codes}
+use Rattle.std.specs.List.{list_any, before_first, after_first, before_last, after_last, starts_with}
+use Rattle.std.specs.Str.{bytes_eq}
+
+-- the four pieces of a name
+pub record Cut : Type 0 where
+  pub «module» : List ℕ
+  pub parent : List ℕ
+  pub base : List ℕ
+  pub ext : List ℕ
+
+-- `/`
+abbrev pub is_slash : ℕ → Bool
+is_slash b = b == 47
+
+-- `.`
+abbrev pub is_dot : ℕ → Bool
+is_dot b = b == 46
+
+-- a text of no byte
+abbrev pub is_empty : List ℕ → Bool
+is_empty [] = true
+is_empty (b ∷ bs) = false
+
+-- `/`, the module and `/`, all three only where the module is not empty
+abbrev pub module_front : List ℕ → List ℕ
+module_front [] = []
+module_front (b ∷ bs) = 47 ∷ ((b ∷ bs) ++ 47 ∷ [])
+
+-- the parent and `/`, both only where the parent is not empty
+abbrev pub parent_front : List ℕ → List ℕ
+parent_front [] = []
+parent_front (b ∷ bs) = (b ∷ bs) ++ 47 ∷ []
+
+-- `.` and the extension, both only where the extension is not empty
+abbrev pub ext_end : List ℕ → List ℕ
+ext_end [] = []
+ext_end (b ∷ bs) = 46 ∷ (b ∷ bs)
+
+-- the name that the pieces make
+abbrev pub join : Cut → List ℕ
+join cut = module_front cut.module ++ (parent_front cut.parent ++ (cut.base ++ ext_end cut.ext))
+
+-- `modules` and `packages`, the two first parts that a tree's own nodes have
+abbrev pub is_tree : List ℕ → Bool
+is_tree text = bytes_eq text (codes "modules") || bytes_eq text (codes "packages")
+
+-- a name that is base alone
+abbrev pub base_only : List ℕ → Cut
+base_only base = record { «module» = []; parent = []; base = base; ext = [] }
+
+-- what stands after the parent is cut at its last dot that a byte follows
+abbrev pub cut_tail : List ℕ → List ℕ → List ℕ → Cut
+cut_tail text parent tail =
+    if list_any is_dot tail && not (is_empty (after_last is_dot tail))
+    then record { «module» = text; parent = parent; base = before_last is_dot tail; ext = after_last is_dot tail }
+    else record { «module» = text; parent = parent; base = tail; ext = [] }
+
+-- what stands after the module is cut at its last slash that a byte precedes; below the two trees it
+-- stays whole
+abbrev pub cut_rest : List ℕ → List ℕ → Cut
+cut_rest text rest =
+    if is_tree text then record { «module» = text; parent = []; base = rest; ext = [] }
+    else if not (is_empty (before_last is_slash rest))
+    then cut_tail text (before_last is_slash rest) (after_last is_slash rest)
+    else cut_tail text [] rest
+
+-- the four pieces of a name: the module stands between a first slash and the next one, with a byte
+-- between the two; a name of another shape is base alone
+abbrev pub split : List ℕ → Cut
+split [] = base_only []
+split (b ∷ name) =
+    if is_slash b && (list_any is_slash name && not (is_empty (before_first is_slash name)))
+    then cut_rest (before_first is_slash name) (after_first is_slash name)
+    else base_only (b ∷ name)
+
+-- `/modules`, `/packages`, and what begins with one of these and `/`
+abbrev pub is_node : List ℕ → Bool
+is_node name =
+    bytes_eq name (codes "/modules") || bytes_eq name (codes "/packages")
+    || (starts_with nat_eq name (codes "/modules/") || starts_with nat_eq name (codes "/packages/"))
+
+-- a folder with a dot for each slash, as a package is called
+abbrev pub dotted : List ℕ → List ℕ
+dotted folder = map (λ b. if is_slash b then 46 else b) folder

@@ -1,0 +1,105 @@
+ghost use Rattle.std.specs.Prelude.{◌≡◌, ◌==◌, OnOk, IfErr, drop};
+ghost use Rattle.std.specs.Result.{result_err};
+ghost use Rattle.std.specs.List.{list_any, slice_split};
+ghost use Rattle.jm_names.specs.Names.{is_slash, is_empty};
+ghost use Rattle.jm_names.specs.NameFaults.{HasFault, IsSound, has_module, is_dots, name_fault, parts};
+
+use crate::characters::text_len;
+use memchr::memchr;
+
+/// How many bytes a name may have.
+const MOST_BYTES: usize = 4096;
+
+/// What is wrong with a name. The order is that of the checks: a name has the first fault of those
+/// that hold (this project's rule).
+#[derive(Clone, Copy, Debug, PartialEq, Eq)]
+pub enum NameFault {
+    /// It doesn't begin with a slash, or has no second one.
+    Empty,
+    /// A part, which is what stands between the slashes after the leading one, is empty.
+    EmptyPart,
+    /// A part is `.` or `..`.
+    Dots,
+    /// A byte is 0.
+    Zero,
+    /// It has more than 4,096 bytes.
+    TooLong,
+    /// It isn't Modified UTF-8 (JVMS 4). The number is the length in bytes of its longest front
+    /// that is.
+    NotText(usize),
+}
+
+/// Checks that a name may stand in an image. An error is the first fault of the name.
+pub fn check_name(name: &[u8]) -> Result<(), NameFault>
+    ensures fault { result_err result ≡ name_fault name.now }
+    ensures ok { OnOk result (IsSound name.now) }
+    ensures err { IfErr result (λ fault. HasFault name.now fault) }
+{
+    if !has_module(name) {
+        return Err(NameFault::Empty);
+    }
+    if has_empty_part(name) {
+        return Err(NameFault::EmptyPart);
+    }
+    if has_dots(name) {
+        return Err(NameFault::Dots);
+    }
+    if has_byte(0, name) {
+        return Err(NameFault::Zero);
+    }
+    if name.len() > MOST_BYTES {
+        return Err(NameFault::TooLong);
+    }
+    let at = text_len(name);
+    if at < name.len() {
+        return Err(NameFault::NotText(at));
+    }
+    Ok(())
+}
+
+fn has_module(name: &[u8]) -> bool
+    ensures { result ≡ has_module name.now }
+{
+    match name.split_first() {
+        Some((first, rest)) => *first == b'/' && has_byte(b'/', rest),
+        None => false,
+    }
+}
+
+fn has_byte(byte: u8, text: &[u8]) -> bool
+    ensures { result ≡ list_any (λ x. x == byte) text.now }
+{
+    memchr(byte, text).is_some()
+}
+
+fn has_empty_part(name: &[u8]) -> bool
+    ensures { result ≡ list_any is_empty (parts name.now) }
+{
+    below_root(name)
+        .split(|b| *b == b'/')
+        .any(|part| part.is_empty())
+}
+
+fn has_dots(name: &[u8]) -> bool
+    ensures { result ≡ list_any is_dots (parts name.now) }
+{
+    below_root(name)
+        .split(|b| *b == b'/')
+        .any(|part| is_dots(part))
+}
+
+fn is_dots(part: &[u8]) -> bool
+    ensures { result ≡ is_dots part.now }
+{
+    part == b".".as_slice() || part == b"..".as_slice()
+}
+
+// The name without its leading slash.
+fn below_root(name: &[u8]) -> &[u8]
+    ensures { result.now ≡ drop 1 name.now }
+{
+    match name.split_first() {
+        Some((_, rest)) => rest,
+        None => &[],
+    }
+}

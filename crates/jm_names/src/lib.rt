@@ -1,0 +1,17 @@
+//! Names of an image: their four pieces, their checks and their hash.
+#![tactic(auto)]
+
+mod characters;
+mod check;
+mod hashing;
+mod nodes;
+mod packages;
+mod pieces;
+#[cfg(test)]
+mod tests;
+
+pub use check::{NameFault, check_name};
+pub use hashing::{hash, hash_pieces};
+pub use nodes::is_node;
+pub use packages::dotted;
+pub use pieces::{Pieces, split};
