@@ -1,0 +1,7 @@
+use Rattle.std.proofs.Common.{refl}
+use Rattle.jm_halves.specs.Pieces.{piece_start}
+use Rattle.jm_halves.proofs.run.start_of.Goals as goal
+
+pub returns-clause-start : goal.returns-clause-start
+unfolding piece_start
+returns-clause-start c = refl
