@@ -1,0 +1,29 @@
+-- The definitions at examples: they compute.
+use Rattle.std.proofs.Common.{◌≡◌, ◌∷◌, [], Ok, Err, refl}
+use Rattle.std.specs.Prelude.{codes}
+use Rattle.jm_pattern.specs.Reading.{pattern_of, items_of, list_of}
+use Rattle.jm_pattern.specs.declared.signs.Sign.TheVariants.{AnyRun, Run, One, Byte}
+use Rattle.jm_pattern.specs.declared.signs.PatternError.TheVariants.{BadEscape, Empty, Prefix}
+
+-- `***` is `**` and then `*`
+three-stars : pattern_of (codes "***") ≡ Ok (AnyRun ∷ Run ∷ [])
+three-stars = refl
+
+every-sign : pattern_of (codes "**a?\\*") ≡ Ok (AnyRun ∷ Byte 97 ∷ One ∷ Byte 42 ∷ [])
+every-sign = refl
+
+escape-at_end : pattern_of (codes "a\\") ≡ Err (BadEscape 1)
+escape-at_end = refl
+
+no-byte : pattern_of [] ≡ Err Empty
+no-byte = refl
+
+-- a `\` takes a `,` with it, and a last `,` leaves an empty item
+cut : items_of (codes "a\\,b,,") ≡ codes "a\\,b" ∷ [] ∷ [] ∷ []
+cut = refl
+
+refused : list_of (codes "a,regex:b") ≡ Err (Prefix 1)
+refused = refl
+
+glob-once : list_of (codes "glob:@,\\,") ≡ Ok ((Byte 64 ∷ []) ∷ (Byte 44 ∷ []) ∷ [])
+glob-once = refl

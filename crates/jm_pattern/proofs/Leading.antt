@@ -1,0 +1,112 @@
+-- The steps of a search for a match: each leads from what was left to what is left behind it.
+use Rattle.std.proofs.Common.{◌≡◌, ◌≢◌, ◌∷◌, [], ℕ, List, refl}
+use Rattle.std.proofs.lemmas.List.Elements.{All-nil, All-cons, All-head}
+use Rattle.jm_pattern.specs.Matching.{StandsFor, Match}
+use Rattle.jm_pattern.specs.Searching.{Leads, IsFixed, BeginsFixed, AtRun, AtAny}
+use Rattle.jm_pattern.proofs.Runs.{InRun, any-empty, run-empty, any-longer, run-longer, any-shorter, run-shorter, any-absorbs, run-absorbs, any-absorbs_before, any-fixed, run-fixed, fixed-on}
+use Rattle.jm_pattern.specs.declared.signs.Sign.{Sign}
+use Rattle.jm_pattern.specs.declared.signs.Sign.TheVariants.{AnyRun, Run, One, Byte}
+
+pub leads-here : (p : List Sign) (n : List ℕ) → Leads p n p n
+leads-here p n = record { back = λ m. m; on = λ m. m; run = λ m. m; any = λ m. m }
+
+pub leads-further : (p : List Sign) (n : List ℕ) (q : List Sign) (o : List ℕ) (r : List Sign) (t : List ℕ) → Leads p n q o → Leads q o r t → Leads p n r t
+leads-further p n q o r t first second = record {
+  back = λ m. first.back (second.back m);
+  on = λ m. second.on (first.on m);
+  run = λ m. second.run (first.run m);
+  any = λ m. second.any (first.any m);
+}
+
+-- one byte of a sign for one byte
+pub leads-fixed : (s : Sign) (p : List Sign) (b : ℕ) (n : List ℕ) → IsFixed s → StandsFor s (b ∷ []) → Leads (s ∷ p) (b ∷ n) p n
+leads-fixed s p b n f h = record {
+  back = λ m. (b ∷ [], n, refl, h, m);
+  on = λ m. (fixed-on s p b n f m).1;
+  run = λ m. run-fixed s p b n f h m;
+  any = λ m. any-fixed s p b n f m;
+}
+
+-- a run at whose front the signs behind it don't match takes the first byte
+pub leads-run_byte : (p : List Sign) (b : ℕ) (n : List ℕ) → ¬ Match p (b ∷ n) → b ≢ 47 → Leads (Run ∷ p) (b ∷ n) (Run ∷ p) n
+leads-run_byte p b n not_here h =
+    let on : Match (Run ∷ p) (b ∷ n) → Match (Run ∷ p) n = λ m. (run-shorter p b n not_here m).1 in
+    record {
+      back = λ m. run-longer p b n h m;
+      on = on;
+      run = λ m. run-empty (Run ∷ p) n (on (run-absorbs p (b ∷ n) m));
+      any = λ m. any-run p n (any-shorter p b n not_here (any-absorbs Run p (b ∷ n) m));
+    }
+  where
+    any-run : (q : List Sign) (o : List ℕ) → Match (AnyRun ∷ q) o → Match (AnyRun ∷ Run ∷ q) o
+    any-run q o m = (m.0, m.1, m.2, tt, run-empty q m.1 m.4)
+
+pub leads-any_byte : (p : List Sign) (b : ℕ) (n : List ℕ) → ¬ Match p (b ∷ n) → Leads (AnyRun ∷ p) (b ∷ n) (AnyRun ∷ p) n
+leads-any_byte p b n not_here =
+    let on : Match (AnyRun ∷ p) (b ∷ n) → Match (AnyRun ∷ p) n = λ m. any-shorter p b n not_here m in
+    record {
+      back = λ m. any-longer p b n m;
+      on = on;
+      run = λ m. run-empty (AnyRun ∷ p) n (on (any-absorbs_before p (b ∷ n) m));
+      any = λ m. any-empty (AnyRun ∷ p) n (on (any-absorbs AnyRun p (b ∷ n) m));
+    }
+
+-- at the end of a block or a segment a run before it adds nothing
+run-at_run : (p : List Sign) (n : List ℕ) → AtRun p n → Match (Run ∷ p) n → Match p n
+run-at_run [] n e m = e
+run-at_run (AnyRun ∷ p) n e m = any-absorbs_before p n m
+run-at_run (Run ∷ p) n e m = run-absorbs p n m
+run-at_run (One ∷ p) n e m = absurd (e tt)
+run-at_run (Byte b ∷ p) n e m = absurd (e tt)
+
+any-at_any : (p : List Sign) (n : List ℕ) → AtAny p n → Match (AnyRun ∷ p) n → Match p n
+any-at_any [] n e m = e
+any-at_any (s ∷ p) n e m = rw e (any-absorbs AnyRun p n (rw e at m))
+
+-- a block or a segment that stands at its least place decides for the run before it
+pub leads-run : (p : List Sign) (n : List ℕ) (q : List Sign) (o : List ℕ) → Leads p n q o → AtRun q o → Leads (Run ∷ p) n q o
+leads-run p n q o l e =
+    let on : Match (Run ∷ p) n → Match q o = λ m. run-at_run q o e (l.run m) in
+    record {
+      back = λ m. run-empty p n (l.back m);
+      on = on;
+      run = λ m. run-empty q o (on (run-absorbs p n m));
+      any = λ m. l.any (any-absorbs Run p n m);
+    }
+
+pub leads-any : (p : List Sign) (n : List ℕ) (q : List Sign) (o : List ℕ) → Leads p n q o → AtAny q o → Leads (AnyRun ∷ p) n q o
+leads-any p n q o l e =
+    let on : Match (AnyRun ∷ p) n → Match q o = λ m. any-at_any q o e (l.any m) in
+    record {
+      back = λ m. any-empty p n (l.back m);
+      on = on;
+      run = λ m. run-empty q o (on (any-absorbs_before p n m));
+      any = λ m. any-empty q o (on (any-absorbs AnyRun p n m));
+    }
+
+-- the same, of a name and signs that begin so
+pub leads-one : (signs : List Sign) (name : List ℕ) (s : Sign) (p : List Sign) (b : ℕ) (n : List ℕ) → signs ≡ s ∷ p → name ≡ b ∷ n → BeginsFixed signs → StandsFor s (b ∷ []) → Leads signs name p n
+leads-one signs name s p b n e1 e2 f h = rw (e1, e2) (leads-fixed s p b n (rw e1 at f) h)
+
+pub none-one : (signs : List Sign) (name : List ℕ) (s : Sign) (p : List Sign) (b : ℕ) (n : List ℕ) → signs ≡ s ∷ p → name ≡ b ∷ n → BeginsFixed signs → ¬ StandsFor s (b ∷ []) → ¬ Match signs name
+none-one signs name s p b n e1 e2 f h m = h (fixed-on s p b n (rw e1 at f) (rw (e1, e2) at m)).0
+
+-- a `*` at a byte that it may take, behind which nothing matches here, and at one that it may not
+pub leads-run_on : (p : List Sign) (n rest : List ℕ) (b : ℕ) (after : List ℕ) → Leads (Run ∷ p) n (Run ∷ p) rest → rest ≡ b ∷ after → ¬ Match p rest → StandsFor Run (b ∷ []) → Leads (Run ∷ p) n (Run ∷ p) after
+leads-run_on p n rest b after l e not_here h =
+    leads-further (Run ∷ p) n (Run ∷ p) (b ∷ after) (Run ∷ p) after (rw e at l) (leads-run_byte p b after (rw e at not_here) (All-head InRun b [] h))
+
+pub none-run_on : (p : List Sign) (n rest : List ℕ) (b : ℕ) (after : List ℕ) → Leads (Run ∷ p) n (Run ∷ p) rest → rest ≡ b ∷ after → ¬ Match p rest → ¬ StandsFor Run (b ∷ []) → ¬ Match (Run ∷ p) n
+none-run_on p n rest b after l e not_here h m =
+    h (All-cons InRun b [] (run-shorter p b after (rw e at not_here) (rw e at (l.on m))).0 (All-nil InRun))
+
+-- a `**` at a byte, behind which nothing matches here
+pub leads-any_on : (p : List Sign) (n rest : List ℕ) (b : ℕ) (after : List ℕ) → Leads (AnyRun ∷ p) n (AnyRun ∷ p) rest → rest ≡ b ∷ after → ¬ Match p rest → Leads (AnyRun ∷ p) n (AnyRun ∷ p) after
+leads-any_on p n rest b after l e not_here =
+    leads-further (AnyRun ∷ p) n (AnyRun ∷ p) (b ∷ after) (AnyRun ∷ p) after (rw e at l) (leads-any_byte p b after (rw e at not_here))
+
+-- the sign behind a segment is a `**`
+pub leads-past_any : (p : List Sign) (n : List ℕ) (q : List Sign) (o : List ℕ) (s : Sign) (behind r : List Sign) (t : List ℕ) → Leads p n q o → AtAny q o → q ≡ s ∷ behind → Leads (AnyRun ∷ behind) o r t → Leads p n r t
+leads-past_any p n q o s behind r t l e same next =
+    let first : s ≡ AnyRun = rw same at e in
+    leads-further p n (AnyRun ∷ behind) o r t (rw (same, first) at l) next

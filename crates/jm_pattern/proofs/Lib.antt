@@ -1,0 +1,6 @@
+pub mod Examples
+pub mod FirstItem
+pub mod FirstSign
+pub mod Laws
+pub mod Leading
+pub mod Runs

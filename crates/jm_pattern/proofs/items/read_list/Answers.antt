@@ -1,0 +1,11 @@
+use Rattle.std.proofs.Common.{option_map, ap}
+use Rattle.jm_pattern.proofs.FirstItem.{less-left, list-further}
+use Rattle.jm_pattern.specs.Reading.{list_of}
+use Rattle.jm_pattern.proofs.items.read_list.Goals as goal
+
+pub loop-left-smaller : goal.loop-left-smaller
+loop-left-smaller c = rw c.in-Some.is (less-left c.first_item.result.1 _ c.first_item.ensures.shorter)
+
+pub loop-left-preserved : goal.loop-left-preserved
+loop-left-preserved c =
+    rw c.in_ok-push.ensures.ok (list-further (list_of c.args.text.now) c.loop-left.patterns (option_map (λ rest. rest.now) c.loop-left.left) c.in-Some.text.now c.first_item.result.0.now (option_map (λ rest. rest.now) c.first_item.result.1) c.len.result c.in_ok-pattern.pattern c.loop-left.invariant (ap (option_map (λ rest. rest.now)) c.in-Some.is) c.first_item.ensures.items c.len.ensures c.in_ok-pattern.ensures)

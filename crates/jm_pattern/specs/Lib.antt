@@ -1,0 +1,4 @@
+pub mod Matching
+pub mod Progress
+pub mod Reading
+pub mod Searching

@@ -1,0 +1,89 @@
+ghost use Rattle.std.specs.Prelude.{◌≡◌, ◌∷◌, ◌<◌, ◌≤◌, length, option_map, IfSome, IfNone};
+ghost use Rattle.jm_pattern.specs.Reading.{UnlessMemory, items_of, is_refused, without_glob, item_pattern, list_of};
+ghost use Rattle.jm_pattern.specs.Progress.{GoesOn, EndsItem, items_behind};
+
+use crate::signs::{Pattern, PatternError};
+use jm_bytes::List;
+use std::alloc::Global;
+
+/// Reads a comma list of patterns from left to right: `\` takes the next byte with it, and each `,`
+/// that isn't so taken cuts. An item that begins with `regex:` or `@` is refused as `Prefix`, else
+/// it loses a `glob:` at its front once and is read as a pattern. The least item with a fault
+/// decides; a place in `BadEscape` counts in the item without its `glob:`.
+pub fn read_list(alloc: Global, text: &[u8]) -> Result<List<Pattern>, PatternError>
+    ensures { UnlessMemory result (list_of text.now) }
+{
+    let mut patterns = List::new(alloc);
+    let mut left = Some(text);
+    while let Some(text) = left {
+        let (item, behind) = first_item(text);
+        let pattern = read_item(alloc, patterns.len(), item)?;
+        patterns.push(pattern)?;
+        left = behind;
+    }
+    Ok(patterns)
+}
+
+/// Reads an item of a list as a pattern.
+fn read_item(alloc: Global, number: usize, item: &[u8]) -> Result<Pattern, PatternError>
+    ensures { UnlessMemory result (item_pattern number item.now) }
+{
+    if item.starts_with(b"regex:") || item.starts_with(b"@") {
+        return Err(PatternError::Prefix(number));
+    }
+    Pattern::parse(alloc, behind_glob(item))
+}
+
+/// An item without the `glob:` at its front.
+fn behind_glob(item: &[u8]) -> &[u8]
+    ensures { result.now ≡ without_glob item.now }
+{
+    if item.starts_with(b"glob:") {
+        &item[5..]
+    } else {
+        item
+    }
+}
+
+/// The first item of a list and, where a `,` ends it, what that `,` leaves.
+fn first_item(text: &[u8]) -> (&[u8], Option<&[u8]>)
+    ensures items { items_of text.now
+        ≡ result.0.now ∷ items_behind (option_map (λ rest. rest.now) result.1) }
+    ensures shorter { IfSome result.1 (λ rest. length rest.now < length text.now) }
+{
+    let mut rest = text;
+    while let Some(after) = next_in_item(rest) {
+        rest = after;
+    }
+    let (item, rest) = text.split_at(text.len() - rest.len());
+    match rest.split_first() {
+        Some((_, behind)) => (item, Some(behind)),
+        None => (item, None),
+    }
+}
+
+/// What follows one byte of an item, or a `\` and the byte that it takes with it; none at the `,`
+/// that ends the item and at the end of the list.
+fn next_in_item(text: &[u8]) -> Option<&[u8]>
+    ensures goes_on { IfSome result (λ rest. GoesOn text.now rest.now) }
+    ensures shorter { IfSome result (λ rest. length rest.now < length text.now) }
+    ensures ends { IfNone result (EndsItem text.now) }
+{
+    let (first, rest) = text.split_first()?;
+    match *first {
+        b',' => None,
+        b'\\' => Some(behind_escaped(rest)),
+        _ => Some(rest),
+    }
+}
+
+/// What follows the byte that a `\` takes with it, which is nothing at the end.
+fn behind_escaped(text: &[u8]) -> &[u8]
+    ensures goes_on { GoesOn (92 ∷ text.now) result.now }
+    ensures shorter { length result.now ≤ length text.now }
+{
+    match text.split_first() {
+        Some((_, rest)) => rest,
+        None => text,
+    }
+}

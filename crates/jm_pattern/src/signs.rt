@@ -1,0 +1,85 @@
+ghost use Rattle.std.specs.Prelude.{◌≡◌, ◌↔◌, IsTrue, IfOk, All, codes};
+ghost use Rattle.jm_pattern.specs.Matching.{Match, MatchesOnly, MatchesAll};
+ghost use Rattle.jm_pattern.specs.Reading.{UnlessMemory, IsPlain, pattern_of};
+
+use crate::matching::is_match;
+use crate::reading::signs_of;
+use jm_bytes::{List, NoMemory};
+use std::alloc::Global;
+use std::marker::Model;
+
+/// What stands for a run of bytes in a pattern.
+#[derive(Clone, Copy, Debug, PartialEq, Eq)]
+pub enum Sign {
+    /// `**`: any run of bytes.
+    AnyRun,
+    /// `*`: any run of bytes other than `/`.
+    Run,
+    /// `?`: one byte other than `/`.
+    One,
+    /// The byte itself.
+    Byte(u8),
+}
+
+/// Why a text is no pattern, or a list of texts no list of patterns.
+#[derive(Clone, Copy, Debug, PartialEq, Eq)]
+pub enum PatternError {
+    /// The `\` at this place, in bytes from 0, has no byte behind it.
+    BadEscape(usize),
+    /// There is no byte.
+    Empty,
+    /// The item of this number, from 0, begins with `regex:` or `@`.
+    Prefix(usize),
+    /// No memory was found.
+    Memory,
+}
+
+/// A pattern of names, seen as its list of signs.
+#[derive(Debug, Drop)]
+pub struct Pattern {
+    signs: List<Sign>,
+}
+
+impl Model for Pattern {
+    ghost use Rattle.std.specs.Prelude.{List};
+    ghost use Rattle.jm_pattern.specs.declared.signs.Sign.{Sign};
+
+    ghost Value = { List Sign };
+
+    ghost view = { λ a. a.signs };
+}
+
+impl From<NoMemory> for PatternError {
+    ghost use Rattle.jm_pattern.specs.declared.signs.PatternError.TheVariants.{Memory};
+
+    ghost from_gives = { λ _ e. e ≡ Memory };
+
+    fn from(_none: NoMemory) -> PatternError {
+        PatternError::Memory
+    }
+}
+
+impl Pattern {
+    /// Reads a text from left to right: `**`, `*` and `?` are signs, `\x` is the byte x, and any other
+    /// byte is itself. A place in `BadEscape` is in bytes from 0.
+    pub fn parse(alloc: Global, text: &[u8]) -> Result<Pattern, PatternError>
+        ensures read { UnlessMemory result (pattern_of text.now) }
+
+        // A text without signs matches itself alone, and `**` matches every name.
+        ensures plain { All IsPlain text.now → IfOk result (λ signs. MatchesOnly signs text.now) }
+        ensures any { text.now ≡ codes "**" → IfOk result MatchesAll }
+    {
+        if text.is_empty() {
+            return Err(PatternError::Empty);
+        }
+        let signs = signs_of(alloc, text)?;
+        Ok(Pattern { signs })
+    }
+
+    /// Whether the whole of `name` is a concatenation of what the signs stand for.
+    pub fn matches(&self, name: &[u8]) -> bool
+        ensures { IsTrue result ↔ Match self.now name.now }
+    {
+        is_match(self.signs.as_slice(), name)
+    }
+}
