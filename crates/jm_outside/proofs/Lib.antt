@@ -1,0 +1,6 @@
+pub mod Answer
+pub mod Last
+pub mod Laws
+pub mod Map
+pub mod Names
+pub mod Sound

@@ -1,0 +1,49 @@
+-- The files that a shelf tells: a finite map from path to bytes, as a list of pairs (this project's
+-- rule).
+use Rattle.std.specs.Prelude.{ℕ, List, [], ◌∷◌, ◌++◌, Option, Some, None, map, unwrap_or, All, IsUtf8, if◌then◌else◌, ◌==◌}
+use Rattle.std.specs.List.{filter_map}
+use Rattle.std.specs.List.Sorted.{IsStrictlySortedBy}
+use Rattle.std.specs.Str.{bytes_eq}
+use Rattle.std.specs.Cmp.Lexicographic.{slice_cmp}
+use Rattle.std.specs.Ordering.{nat_cmp, match_ordering}
+
+-- each file's path and its bytes
+abbrev pub Files : Type 0
+Files = List (List ℕ × List ℕ)
+
+-- the paths, in the order of the files
+abbrev pub paths : Files → List (List ℕ)
+paths files = map (λ f. f.0) files
+
+-- texts that rise in byte order, each once: unsigned bytes, a proper prefix first
+abbrev pub Rising : List (List ℕ) → Type 0
+Rising texts = IsStrictlySortedBy (slice_cmp nat_cmp) texts
+
+-- files rise by their paths, and each path is text
+pub record IsSound (files : Files) : Type 0 where
+  pub rising : Rising (paths files)
+  pub texts : All IsUtf8 (paths files)
+
+-- the bytes of the file at a path
+abbrev pub file : Files → List ℕ → Option (List ℕ)
+file [] path = None
+file (f ∷ files) path = if bytes_eq path f.0 then Some f.1 else file files path
+
+-- the files with these bytes at a path, in place of what it had
+abbrev pub put : Files → List ℕ → List ℕ → Files
+put [] path bytes = (path, bytes) ∷ []
+put (f ∷ files) path bytes = match_ordering (slice_cmp nat_cmp path f.0) ((path, bytes) ∷ f ∷ files) ((f.0, bytes) ∷ files) (f ∷ put files path bytes)
+
+-- the files with bytes at the end of a path's own, or of an empty file where none was there
+abbrev pub add : Files → List ℕ → List ℕ → Files
+add files path bytes = put files path (unwrap_or (file files path) [] ++ bytes)
+
+-- what follows a front in a text that begins so
+abbrev pub after_front : List ℕ → List ℕ → Option (List ℕ)
+after_front [] text = Some text
+after_front (b ∷ front) [] = None
+after_front (b ∷ front) (c ∷ text) = if b == c then after_front front text else None
+
+-- every r for which the folder, a slash and r make a path, in the order of the files
+abbrev pub names_below : List ℕ → Files → List (List ℕ)
+names_below folder files = filter_map (λ f. after_front (folder ++ 47 ∷ []) f.0) files

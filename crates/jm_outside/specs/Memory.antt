@@ -1,0 +1,35 @@
+-- What the objects in memory tell.
+use Rattle.std.specs.Prelude.{ℕ, List, drop}
+use Rattle.jm_outside.specs.Files.{Files}
+use Rattle.jm_outside.specs.Numbered.{Numbered}
+use Rattle.jm_outside.specs.declared.mem_shelf.MemShelf.{MemShelf}
+use Rattle.jm_outside.specs.declared.mem_streams.MemSink.{MemSink}
+use Rattle.jm_outside.specs.declared.mem_streams.MemSource.{MemSource}
+
+-- the files of a shelf in memory
+abbrev pub files_on : MemShelf → Files
+files_on shelf = shelf.files
+
+-- the numbered calls of a shelf in memory
+abbrev pub calls_of : MemShelf → Numbered
+calls_of shelf = shelf.calls
+
+-- the bytes that a source in memory still has
+abbrev pub rest_of : MemSource → List ℕ
+rest_of source = drop source.at source.bytes
+
+-- the cuts that a source in memory still has
+abbrev pub cuts_of : MemSource → List ℕ
+cuts_of source = drop source.cut source.cuts
+
+-- the numbered calls of a source in memory
+abbrev pub source_calls : MemSource → Numbered
+source_calls source = source.calls
+
+-- the bytes that a sink in memory holds
+abbrev pub bytes_in : MemSink → List ℕ
+bytes_in sink = sink.bytes.items
+
+-- the numbered calls of a sink in memory
+abbrev pub sink_calls : MemSink → Numbered
+sink_calls sink = sink.calls

@@ -1,0 +1,108 @@
+ghost use Rattle.std.specs.Prelude.{◌≡◌, ◌++◌, ◌∷◌, [], IfOk, OnOk, OnErr, option_map};
+ghost use Rattle.jm_outside.specs.Files.{file, put, add, after_front, names_below};
+
+use jm_bytes::{List, NoMemory, Text};
+use std::alloc::Global;
+use std::collections::BTreeMap;
+use std::marker::Model;
+
+/// Files in memory, seen as their list.
+#[derive(Debug, Drop)]
+pub struct FileMap {
+    files: BTreeMap<Vec<u8>, Vec<u8>>,
+}
+
+impl Model for FileMap {
+    ghost use Rattle.jm_outside.specs.Files.{Files};
+    ghost use Rattle.jm_outside.specs.Entries.{files_of};
+
+    ghost Value = { Files };
+
+    ghost view = { λ a. files_of a.files };
+}
+
+impl FileMap {
+    pub fn new(alloc: Global) -> FileMap
+        ensures { result ≡ [] }
+    {
+        FileMap {
+            files: BTreeMap::new(alloc),
+        }
+    }
+
+    pub fn file(&self, path: &[u8]) -> Option<&[u8]>
+        ensures { option_map (λ bytes. bytes.now) result ≡ file self.now path.now }
+    {
+        match self.files.get(path) {
+            Some(bytes) => Some(bytes.as_slice()),
+            None => None,
+        }
+    }
+
+    /// The names of the files below a folder.
+    pub fn names(&self, alloc: Global, folder: &[u8]) -> Result<List<Text>, NoMemory>
+        ensures { IfOk result (λ names. names ≡ names_below folder.now self.now) }
+    {
+        let mut names = List::new(alloc);
+        for (path, _) in self.files.iter() {
+            if let Some(name) = name_below(folder, path.as_slice()) {
+                names.push(Text::copy_of(alloc, name)?)?;
+            }
+        }
+        Ok(names)
+    }
+
+    pub fn put(&mut self, path: Vec<u8>, bytes: Vec<u8>) -> Result<(), NoMemory>
+        ensures ok { OnOk result (self.new ≡ put self.old path.items bytes.items) }
+        ensures err { OnErr result (self.new ≡ self.old) }
+    {
+        match self.files.insert(path, bytes) {
+            Ok(_) => Ok(()),
+            Err(_) => Err(NoMemory),
+        }
+    }
+
+    /// Makes the file at a path empty, or an empty one where none is there.
+    pub fn clear(&mut self, alloc: Global, path: &[u8]) -> Result<(), NoMemory>
+        ensures ok { OnOk result (self.new ≡ put self.old path.now []) }
+        ensures err { OnErr result (self.new ≡ self.old) }
+    {
+        self.put(copy_of(alloc, path)?, Vec::new(alloc))
+    }
+
+    /// Adds bytes to the end of a file, to an empty one where none is there.
+    pub fn add(&mut self, alloc: Global, path: &[u8], bytes: &[u8]) -> Result<(), NoMemory>
+        ensures ok { OnOk result (self.new ≡ add self.old path.now bytes.now) }
+        ensures err { OnErr result (self.new ≡ self.old) }
+    {
+        match self.files.get_mut(path) {
+            Some(file) => extend(file, bytes),
+            None => self.put(copy_of(alloc, path)?, copy_of(alloc, bytes)?),
+        }
+    }
+}
+
+fn name_below<'a>(folder: &[u8], path: &'a [u8]) -> Option<&'a [u8]>
+    ensures { option_map (λ name. name.now) result ≡ after_front (folder.now ++ 47 ∷ []) path.now }
+{
+    path.strip_prefix(folder)?.strip_prefix(b"/")
+}
+
+fn extend(file: &mut Vec<u8>, bytes: &[u8]) -> Result<(), NoMemory>
+    ensures ok { OnOk result (file.new.items ≡ file.old.items ++ bytes.now) }
+    ensures err { OnErr result (file.new.items ≡ file.old.items) }
+{
+    match file.extend_from_slice(bytes) {
+        Ok(()) => Ok(()),
+        Err(_) => Err(NoMemory),
+    }
+}
+
+fn copy_of(alloc: Global, bytes: &[u8]) -> Result<Vec<u8>, NoMemory>
+    ensures { IfOk result (λ copy. copy.items ≡ bytes.now) }
+{
+    match Vec::from_slice(alloc, bytes) {
+        Ok(copy) => Ok(copy),
+        Err(_) => Err(NoMemory),
+    }
+}

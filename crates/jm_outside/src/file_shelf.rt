@@ -1,0 +1,79 @@
+ghost use Rattle.std.specs.Prelude.{◌≡◌, ◌≤◌, None, All, IsUtf8, IfOk, IsErrOf};
+ghost use Rattle.jm_outside.specs.Files.{Rising};
+ghost use Rattle.jm_outside.specs.Outcome.{Rose};
+
+use crate::contents::{append_to, create_at, read_at};
+use crate::folders::names_in;
+use crate::shelf::{Shelf, ShelfError};
+use jm_bytes::{List, Text};
+use std::alloc::Global;
+use std::rt::Files;
+
+/// The shelf of the file system, which tells no files. A path is the system's: one that begins with
+/// no slash goes from the folder in which the program runs.
+///
+/// Each error of the system counts as one fault.
+#[derive(Drop)]
+pub struct FileShelf<'a, R: Files + AllocGlobal> {
+    rt: &'a R,
+    faults: u64,
+}
+
+impl<'a, R: Files + AllocGlobal> FileShelf<'a, R> {
+    /// The shelf of a runtime's file system, which has no fault yet.
+    pub fn new(rt: &'a R) -> FileShelf<'a, R>
+        ensures { ⟦<FileShelf<'a, R> as Shelf>⟧.faults result ≡ 0 }
+    {
+        FileShelf { rt, faults: 0 }
+    }
+
+    /// Hands on what a call answers, and counts a fault where it failed.
+    fn counted<T: Drop>(&mut self, answer: Result<T, ShelfError>) -> Result<T, ShelfError>
+        ensures same { result ≡ answer }
+        ensures count { self.old.faults ≤ self.new.faults }
+        ensures rose { IsErrOf result ShelfError.Failed → Rose self.old.faults self.new.faults }
+    {
+        if let Err(ShelfError::Failed) = &answer {
+            self.faults = self.faults.saturating_add(1);
+        }
+        answer
+    }
+}
+
+impl<'a, R: Files + AllocGlobal> Shelf for FileShelf<'a, R> {
+    ghost files = { λ _. None };
+
+    ghost faults = { λ shelf. shelf.faults };
+
+    /// Goes through the folder to any depth. A symbolic link below it that leads to a file counts as
+    /// a file. Any other link is left out, and none is entered, so that no link leads out of the
+    /// folder or round in it. What is neither a file nor a folder is left out too.
+    ///
+    /// A name that isn't UTF-8 is a fault, and so are more than 16,777,216 files and folders. A
+    /// folder that isn't there has no names.
+    fn names(&mut self, alloc: Global, dir: &[u8]) -> Result<List<Text>, ShelfError> {
+        let answer = names_in(self.rt, alloc, dir);
+        self.counted(answer)
+    }
+
+    /// None where the path, or a folder of it, isn't there, or a folder of it is a file. A folder in
+    /// the place of the file is a fault, and so are more than 4,294,967,296 bytes.
+    fn read(&mut self, alloc: Global, path: &[u8]) -> Result<Option<Text>, ShelfError> {
+        let answer = read_at(self.rt, alloc, path);
+        self.counted(answer)
+    }
+
+    /// Makes the folders of the path that are missing.
+    fn create(&mut self, _alloc: Global, path: &[u8]) -> Result<(), ShelfError> {
+        let answer = create_at(self.rt, path);
+        self.counted(answer)
+    }
+
+    /// Makes no folder: one that is missing is a fault.
+    fn append(&mut self, _alloc: Global, path: &[u8], bytes: &[u8]) -> Result<(), ShelfError> {
+        let answer = append_to(self.rt, path, bytes);
+        self.counted(answer)
+    }
+
+    ghost sound = { λ _. tt };
+}

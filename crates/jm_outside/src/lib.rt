@@ -1,0 +1,24 @@
+//! The outside of the tool: a shelf of files, a source of bytes and a sink of bytes, as traits; the
+//! same in memory, with calls that fail where a test says so; and the adapters to the file system
+//! and the standard streams.
+#![tactic(auto)]
+
+mod calls;
+mod contents;
+mod file_map;
+mod file_shelf;
+mod folders;
+mod mem_shelf;
+mod mem_streams;
+mod shelf;
+mod std_streams;
+mod streams;
+#[cfg(test)]
+mod tests;
+
+pub use file_shelf::FileShelf;
+pub use mem_shelf::MemShelf;
+pub use mem_streams::{MemSink, MemSource};
+pub use shelf::{Shelf, ShelfError};
+pub use std_streams::{StdSink, StdSource};
+pub use streams::{Failed, Sink, SinkError, Source};

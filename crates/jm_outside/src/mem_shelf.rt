@@ -1,0 +1,155 @@
+ghost use Rattle.std.specs.Prelude.{◌≡◌, ◌≤◌, ◌/◌, ◌↔◌, ◌⊎◌, [], Some, All, IsUtf8, IfOk, OnOk, OnErr, IsErrOf, option_map, take, length};
+ghost use Rattle.std.specs.List.Sorted.{IsStrictlySortedBy-prop};
+ghost use Rattle.std.proofs.lemmas.Str.{IsUtf8-had};
+ghost use Rattle.jm_outside.specs.Files.{Files, Rising, paths, file, put, add, names_below};
+ghost use Rattle.jm_outside.specs.Outcome.{Rose};
+ghost use Rattle.jm_outside.specs.Numbered.{uncalled, IsListed, after_call};
+
+use crate::calls::Calls;
+use crate::file_map::FileMap;
+use crate::shelf::{Shelf, ShelfError};
+use jm_bytes::{List, NoMemory, Text};
+use std::alloc::Global;
+
+/// A shelf in memory, which tells its files. A file is just a path.
+///
+/// It numbers the calls of the trait from 0 and fails those that `fail_on` lists, with one fault
+/// each. The numbers stand still at the last of 64 bits.
+#[derive(Debug, Drop)]
+pub struct MemShelf {
+    files: FileMap,
+    calls: Calls,
+    ghost rising: { Rising (paths files) } by { IsStrictlySortedBy-prop _ (paths files) },
+    ghost texts: { All (λ path. ∥ IsUtf8 path ∥₁) (paths files) },
+}
+
+impl MemShelf {
+    ghost use Rattle.jm_outside.specs.Memory.{files_on, calls_of};
+
+    /// A shelf of no file, none of whose calls fails.
+    pub fn new(alloc: Global) -> MemShelf
+        ensures files { files_on result ≡ [] }
+        ensures calls { calls_of result ≡ uncalled }
+    {
+        MemShelf {
+            files: FileMap::new(alloc),
+            calls: Calls::new(alloc),
+        }
+    }
+
+    /// Makes the calls with these numbers fail, and no others.
+    pub fn fail_on(&mut self, calls: List<u64>)
+        ensures files { files_on self.new ≡ files_on self.old }
+        ensures calls { calls_of self.new ≡ record (calls_of self.old) { failing = calls } }
+    {
+        self.calls.fail_on(calls);
+    }
+
+    /// Gives a path these bytes. It is no numbered call.
+    pub fn put_file(&mut self, path: Text, bytes: Text) -> Result<(), NoMemory>
+        requires text { IsUtf8 path }
+        ensures ok { OnOk result (files_on self.new ≡ put (files_on self.old) path bytes) }
+        ensures err { OnErr result (files_on self.new ≡ files_on self.old) }
+        ensures calls { calls_of self.new ≡ calls_of self.old }
+    {
+        self.files.put(path.into_vec(), bytes.into_vec())
+    }
+
+    /// The bytes of the file at a path. It is no numbered call.
+    pub fn file(&self, path: &[u8]) -> Option<&[u8]>
+        ensures { option_map (λ bytes. bytes.now) result ≡ file (files_on self.now) path.now }
+    {
+        self.files.file(path)
+    }
+}
+
+impl Shelf for MemShelf {
+    ghost use Rattle.jm_outside.specs.Memory.{files_on, calls_of};
+    ghost use Rattle.jm_outside.specs.Answers.{shelf_failed};
+
+    ghost files = { λ shelf. Some (files_on shelf) };
+
+    ghost faults = { λ shelf. (calls_of shelf).faults };
+
+    /// A listed call answers `Failed`.
+    fn names(&mut self, alloc: Global, dir: &[u8]) -> Result<List<Text>, ShelfError>
+        requires text { IsUtf8 dir.now }
+        ensures files { files_on self.new ≡ files_on self.old }
+        ensures rising { IfOk result Rising }
+        ensures texts { IfOk result (All IsUtf8) }
+        ensures found { IfOk result (λ names. names ≡ names_below dir.now (files_on self.old)) }
+        ensures listed { IsErrOf result ShelfError.Failed ↔ IsListed (calls_of self.old) }
+        ensures calls { calls_of self.new ≡ after_call (calls_of self.old) (shelf_failed result) }
+        ensures count { (calls_of self.old).faults ≤ (calls_of self.new).faults }
+        ensures rose { IsErrOf result ShelfError.Failed → Rose (calls_of self.old).faults (calls_of self.new).faults }
+    {
+        if self.calls.number() {
+            self.calls.fault();
+            return Err(ShelfError::Failed);
+        }
+        Ok(self.files.names(alloc, dir)?)
+    }
+
+    /// A listed call answers `Failed`.
+    fn read(&mut self, alloc: Global, path: &[u8]) -> Result<Option<Text>, ShelfError>
+        requires text { IsUtf8 path.now }
+        ensures files { files_on self.new ≡ files_on self.old }
+        ensures found { IfOk result (λ found. found ≡ file (files_on self.old) path.now) }
+        ensures listed { IsErrOf result ShelfError.Failed ↔ IsListed (calls_of self.old) }
+        ensures calls { calls_of self.new ≡ after_call (calls_of self.old) (shelf_failed result) }
+        ensures count { (calls_of self.old).faults ≤ (calls_of self.new).faults }
+        ensures rose { IsErrOf result ShelfError.Failed → Rose (calls_of self.old).faults (calls_of self.new).faults }
+    {
+        if self.calls.number() {
+            self.calls.fault();
+            return Err(ShelfError::Failed);
+        }
+        match self.files.file(path) {
+            Some(bytes) => Ok(Some(Text::copy_of(alloc, bytes)?)),
+            None => Ok(None),
+        }
+    }
+
+    /// A listed call answers `Failed` and leaves all as before.
+    fn create(&mut self, alloc: Global, path: &[u8]) -> Result<(), ShelfError>
+        requires text { IsUtf8 path.now }
+        ensures ok { OnOk result (files_on self.new ≡ put (files_on self.old) path.now []) }
+        ensures err { OnErr result (files_on self.new ≡ files_on self.old) }
+        ensures listed { IsErrOf result ShelfError.Failed ↔ IsListed (calls_of self.old) }
+        ensures calls { calls_of self.new ≡ after_call (calls_of self.old) (shelf_failed result) }
+        ensures count { (calls_of self.old).faults ≤ (calls_of self.new).faults }
+        ensures rose { IsErrOf result ShelfError.Failed → Rose (calls_of self.old).faults (calls_of self.new).faults }
+    {
+        if self.calls.number() {
+            self.calls.fault();
+            return Err(ShelfError::Failed);
+        }
+        self.files.clear(alloc, path)?;
+        Ok(())
+    }
+
+    /// A listed call adds the first half of the bytes, rounded down, and answers `Failed`. Where no
+    /// memory is found for that half it adds nothing, answers `Memory` and counts no fault.
+    fn append(&mut self, alloc: Global, path: &[u8], bytes: &[u8]) -> Result<(), ShelfError>
+        requires text { IsUtf8 path.now }
+        ensures ok { OnOk result (files_on self.new ≡ add (files_on self.old) path.now bytes.now) }
+        ensures failed { IsErrOf result ShelfError.Failed → files_on self.new ≡ add (files_on self.old) path.now (take (length bytes.now / 2) bytes.now) }
+        ensures memory { IsErrOf result ShelfError.Memory → files_on self.new ≡ files_on self.old }
+        ensures listed { IsErrOf result ShelfError.Failed → IsListed (calls_of self.old) }
+        ensures unlisted { OnOk result (¬ IsListed (calls_of self.old)) }
+        ensures calls { calls_of self.new ≡ after_call (calls_of self.old) (shelf_failed result) }
+        ensures count { (calls_of self.old).faults ≤ (calls_of self.new).faults }
+        ensures rose { IsErrOf result ShelfError.Failed → Rose (calls_of self.old).faults (calls_of self.new).faults }
+    {
+        if self.calls.number() {
+            let (half, _) = bytes.split_at(bytes.len() / 2);
+            self.files.add(alloc, path, half)?;
+            self.calls.fault();
+            return Err(ShelfError::Failed);
+        }
+        self.files.add(alloc, path, bytes)?;
+        Ok(())
+    }
+
+    ghost sound = { λ shelf. record { rising = shelf.rising; texts = λ k d h. IsUtf8-had _ (shelf.texts k d h) } };
+}

@@ -1,0 +1,208 @@
+ghost use Rattle.std.specs.Prelude.{◌≡◌, ◌≤◌, ◌<◌, ◌/◌, ◌↔◌, ◌++◌, [], Some, IfOk, OnOk, OnErr, IsErr, IsErrOf, is_err, take, drop, length, min};
+ghost use Rattle.jm_outside.specs.Cuts.{given};
+ghost use Rattle.jm_outside.specs.Outcome.{Rose};
+ghost use Rattle.jm_outside.specs.Numbered.{uncalled, IsListed, after_call};
+
+use crate::calls::Calls;
+use crate::streams::{Failed, Sink, SinkError, Source};
+use jm_bytes::{List, NoMemory, Text};
+use std::alloc::Global;
+
+/// A source of bytes in memory, which tells its rest.
+///
+/// A call gives at most the bytes of the next cut, where a cut is at least 1, and all that fits
+/// once the cuts are used up. Each call that doesn't fail uses up a cut. It numbers its calls from 0
+/// and fails those that `fail_on` lists, with one fault each. The numbers stand still at the last of
+/// 64 bits.
+#[derive(Debug, Drop)]
+pub struct MemSource {
+    bytes: Text,
+    at: usize,
+    cuts: List<usize>,
+    cut: usize,
+    calls: Calls,
+    ghost within: { at ≤ length bytes },
+    ghost cut_within: { cut ≤ length cuts },
+}
+
+impl MemSource {
+    ghost use Rattle.jm_outside.specs.Memory.{rest_of, cuts_of, source_calls};
+
+    /// A source of these bytes, none of whose calls fails.
+    pub fn new(bytes: Text, cuts: List<usize>) -> MemSource
+        ensures rest { rest_of result ≡ bytes }
+        ensures cuts { cuts_of result ≡ cuts }
+        ensures calls { source_calls result ≡ uncalled }
+    {
+        let bytes = bytes.into_vec();
+        let alloc = *bytes.allocator();
+        MemSource {
+            bytes: Text::from_vec(bytes),
+            at: 0,
+            cuts,
+            cut: 0,
+            calls: Calls::new(alloc),
+        }
+    }
+
+    /// Makes the calls with these numbers fail, and no others.
+    pub fn fail_on(&mut self, calls: List<u64>)
+        ensures rest { rest_of self.new ≡ rest_of self.old }
+        ensures cuts { cuts_of self.new ≡ cuts_of self.old }
+        ensures calls { source_calls self.new ≡ record (source_calls self.old) { failing = calls } }
+    {
+        self.calls.fail_on(calls);
+    }
+
+    /// How many bytes a call gives, and uses up the cut.
+    fn next_count(&mut self, room: usize) -> usize
+        ensures count { result ≡ given (cuts_of self.old) (length (rest_of self.old)) room }
+        ensures rest { rest_of self.new ≡ rest_of self.old }
+        ensures cuts { cuts_of self.new ≡ drop 1 (cuts_of self.old) }
+        ensures calls { source_calls self.new ≡ source_calls self.old }
+    {
+        let fits = room.min(self.bytes.len() - self.at);
+        if self.cut == self.cuts.len() {
+            return fits;
+        }
+        let cut = self.cuts.as_slice()[self.cut];
+        self.cut += 1;
+        fits.min(cut.max(1))
+    }
+
+    /// Moves the next bytes to the front of a slice.
+    fn give(&mut self, count: usize, into: &mut [u8])
+        requires left { count ≤ length (rest_of self.old) }
+        requires room { count ≤ length into.old }
+        ensures front { into.new ≡ take count (rest_of self.old) ++ drop count into.old }
+        ensures rest { rest_of self.new ≡ drop count (rest_of self.old) }
+        ensures cuts { cuts_of self.new ≡ cuts_of self.old }
+        ensures calls { source_calls self.new ≡ source_calls self.old }
+    {
+        let (_, rest) = self.bytes.as_slice().split_at(self.at);
+        copy_front(rest, count, into);
+        self.at += count;
+    }
+}
+
+fn copy_front(from: &[u8], count: usize, into: &mut [u8])
+    requires left { count ≤ length from.now }
+    requires room { count ≤ length into.old }
+    ensures { into.new ≡ take count from.now ++ drop count into.old }
+{
+    into[..count].copy_from_slice(&from[..count]);
+}
+
+impl Source for MemSource {
+    ghost use Rattle.jm_outside.specs.Memory.{rest_of, cuts_of, source_calls};
+
+    ghost rest = { λ source. Some (rest_of source) };
+
+    ghost faults = { λ source. (source_calls source).faults };
+
+    /// A listed call answers `Failed`, and uses up no cut.
+    fn take(&mut self, into: &mut [u8]) -> Result<usize, Failed>
+        ensures number { IfOk result (λ n. n ≡ given (cuts_of self.old) (length (rest_of self.old)) (length into.old)) }
+        ensures moved { IfOk result (λ n. rest_of self.old ≡ take n into.new ++ rest_of self.new) }
+        ensures behind { IfOk result (λ n. drop n into.new ≡ drop n into.old) }
+        ensures within { IfOk result (λ n. n ≤ length into.old) }
+        ensures end { IfOk result (λ n. n ≡ 0 → 0 < length into.old → rest_of self.old ≡ []) }
+        ensures cuts { OnOk result (cuts_of self.new ≡ drop 1 (cuts_of self.old)) }
+        ensures err { OnErr result (rest_of self.new ≡ rest_of self.old) }
+        ensures err_cuts { OnErr result (cuts_of self.new ≡ cuts_of self.old) }
+        ensures listed { IsErr result ↔ IsListed (source_calls self.old) }
+        ensures calls { source_calls self.new ≡ after_call (source_calls self.old) (is_err result) }
+        ensures count { (source_calls self.old).faults ≤ (source_calls self.new).faults }
+        ensures rose { OnErr result (Rose (source_calls self.old).faults (source_calls self.new).faults) }
+    {
+        if self.calls.number() {
+            self.calls.fault();
+            return Err(Failed);
+        }
+        let count = self.next_count(into.len());
+        self.give(count, into);
+        Ok(count)
+    }
+}
+
+/// A sink of bytes in memory, which tells what was put into it.
+///
+/// It numbers its calls from 0 and fails those that `fail_on` lists, with one fault each. The
+/// numbers stand still at the last of 64 bits.
+#[derive(Debug, Drop)]
+pub struct MemSink {
+    bytes: Vec<u8>,
+    calls: Calls,
+}
+
+impl MemSink {
+    ghost use Rattle.jm_outside.specs.Memory.{bytes_in, sink_calls};
+
+    /// A sink of no byte, none of whose calls fails.
+    pub fn new(alloc: Global) -> MemSink
+        ensures bytes { bytes_in result ≡ [] }
+        ensures calls { sink_calls result ≡ uncalled }
+    {
+        MemSink {
+            bytes: Vec::new(alloc),
+            calls: Calls::new(alloc),
+        }
+    }
+
+    /// Makes the calls with these numbers fail, and no others.
+    pub fn fail_on(&mut self, calls: List<u64>)
+        ensures bytes { bytes_in self.new ≡ bytes_in self.old }
+        ensures calls { sink_calls self.new ≡ record (sink_calls self.old) { failing = calls } }
+    {
+        self.calls.fail_on(calls);
+    }
+
+    /// What was put.
+    pub fn bytes(&self) -> &[u8]
+        ensures { result.now ≡ bytes_in self.now }
+    {
+        self.bytes.as_slice()
+    }
+
+    fn add(&mut self, bytes: &[u8]) -> Result<(), NoMemory>
+        ensures ok { OnOk result (bytes_in self.new ≡ bytes_in self.old ++ bytes.now) }
+        ensures err { OnErr result (bytes_in self.new ≡ bytes_in self.old) }
+        ensures calls { sink_calls self.new ≡ sink_calls self.old }
+    {
+        match self.bytes.extend_from_slice(bytes) {
+            Ok(()) => Ok(()),
+            Err(_) => Err(NoMemory),
+        }
+    }
+}
+
+impl Sink for MemSink {
+    ghost use Rattle.jm_outside.specs.Memory.{bytes_in, sink_calls};
+    ghost use Rattle.jm_outside.specs.Answers.{sink_failed};
+
+    ghost content = { λ sink. Some (bytes_in sink) };
+
+    ghost faults = { λ sink. (sink_calls sink).faults };
+
+    /// A listed call adds the first half of the bytes, rounded down, and answers `Failed`. Where no
+    /// memory is found for that half it adds nothing, answers `Memory` and counts no fault.
+    fn put(&mut self, _alloc: Global, bytes: &[u8]) -> Result<(), SinkError>
+        ensures ok { OnOk result (bytes_in self.new ≡ bytes_in self.old ++ bytes.now) }
+        ensures failed { IsErrOf result SinkError.Failed → bytes_in self.new ≡ bytes_in self.old ++ take (length bytes.now / 2) bytes.now }
+        ensures memory { IsErrOf result SinkError.Memory → bytes_in self.new ≡ bytes_in self.old }
+        ensures listed { IsErrOf result SinkError.Failed → IsListed (sink_calls self.old) }
+        ensures unlisted { OnOk result (¬ IsListed (sink_calls self.old)) }
+        ensures calls { sink_calls self.new ≡ after_call (sink_calls self.old) (sink_failed result) }
+        ensures count { (sink_calls self.old).faults ≤ (sink_calls self.new).faults }
+        ensures rose { IsErrOf result SinkError.Failed → Rose (sink_calls self.old).faults (sink_calls self.new).faults }
+    {
+        if self.calls.number() {
+            let (half, _) = bytes.split_at(bytes.len() / 2);
+            self.add(half)?;
+            self.calls.fault();
+            return Err(SinkError::Failed);
+        }
+        self.add(bytes)?;
+        Ok(())
+    }
+}

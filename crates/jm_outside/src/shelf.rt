@@ -1,0 +1,122 @@
+ghost use Rattle.std.specs.Prelude.{◌≡◌, ◌≤◌, ℕ, [], Option, All, IsUtf8, IfOk, OnOk, OnErr, IsErrOf, option_map};
+ghost use Rattle.jm_outside.specs.Files.{Files, IsSound, Rising, file, put, add, names_below};
+ghost use Rattle.jm_outside.specs.Outcome.{Shows, Told, AsBeforeOrEmpty, AddsFront, Rose};
+
+use jm_bytes::{List, NoMemory, Text};
+use std::alloc::{AllocError, AllocFailed, Global};
+use std::io;
+use std::io::ErrorKind;
+use thiserror::Error;
+
+/// Why a call of a shelf gave up.
+#[derive(Debug, Drop, Error)]
+pub enum ShelfError {
+    /// The outside failed. The shelf's count of faults rose in the call.
+    #[error("the outside failed")]
+    Failed,
+
+    /// No memory was found.
+    #[error("out of memory")]
+    Memory,
+}
+
+impl From<NoMemory> for ShelfError {
+    ghost use Rattle.jm_outside.specs.declared.shelf.ShelfError.TheVariants.{Memory};
+
+    ghost from_gives = { λ _ e. e ≡ Memory };
+
+    fn from(_: NoMemory) -> ShelfError {
+        ShelfError::Memory
+    }
+}
+
+impl From<AllocError> for ShelfError {
+    ghost use Rattle.jm_outside.specs.declared.shelf.ShelfError.TheVariants.{Memory};
+
+    ghost from_gives = { λ _ e. e ≡ Memory };
+
+    fn from(_: AllocError) -> ShelfError {
+        ShelfError::Memory
+    }
+}
+
+impl<T: Drop> From<AllocFailed<T>> for ShelfError {
+    ghost use Rattle.jm_outside.specs.declared.shelf.ShelfError.TheVariants.{Memory};
+
+    ghost from_gives = { λ _ e. e ≡ Memory };
+
+    fn from(_: AllocFailed<T>) -> ShelfError {
+        ShelfError::Memory
+    }
+}
+
+/// What the system answered: `Memory` where it found none, and else `Failed`.
+impl From<io::Error> for ShelfError {
+    ghost use Rattle.std.specs.IoError.{error_kind};
+    ghost use Rattle.jm_outside.specs.Answers.{shelf_error_of};
+
+    ghost from_gives = { λ error e. e ≡ shelf_error_of (error_kind error) };
+
+    fn from(error: io::Error) -> ShelfError {
+        match error.kind() {
+            ErrorKind::OutOfMemory => ShelfError::Memory,
+            _ => ShelfError::Failed,
+        }
+    }
+}
+
+/// A shelf of files, each a path and its bytes. It may tell its files, and counts its faults.
+///
+/// Every path and folder that a call takes is UTF-8. A folder has no slash at its end: the file `r`
+/// of the folder `dir` has the path `dir/r`.
+pub trait Shelf {
+    // Each path with its bytes, or None where the shelf tells nothing.
+    ghost files: { Self → Option Files };
+
+    // How many calls the outside failed, as far as the counter goes.
+    ghost faults: { Self → ℕ };
+
+    /// The names of the files below a folder, to any depth, rising in byte order: what follows
+    /// `dir` and a slash in their paths. A folder that isn't there has none.
+    fn names(&mut self, alloc: Global, dir: &[u8]) -> Result<List<Text>, ShelfError>
+        requires text { IsUtf8 dir.now }
+        ensures same { files self.new ≡ files self.old }
+
+        // Told or not.
+        ensures rising { IfOk result Rising }
+        ensures texts { IfOk result (All IsUtf8) }
+
+        ensures told { IfOk result (λ names. Shows (files self.old) (λ files. names ≡ names_below dir.now files)) }
+        ensures count { faults self.old ≤ faults self.new }
+        ensures failed { IsErrOf result ShelfError.Failed → Rose (faults self.old) (faults self.new) };
+
+    /// The bytes of the file at a path. None exactly where no file has it.
+    fn read(&mut self, alloc: Global, path: &[u8]) -> Result<Option<Text>, ShelfError>
+        requires text { IsUtf8 path.now }
+        ensures same { files self.new ≡ files self.old }
+        ensures told { IfOk result (λ found. Shows (files self.old) (λ files. found ≡ file files path.now)) }
+        ensures count { faults self.old ≤ faults self.new }
+        ensures failed { IsErrOf result ShelfError.Failed → Rose (faults self.old) (faults self.new) };
+
+    /// Makes an empty file at a path, or empties the one that is there. Other files stay.
+    fn create(&mut self, alloc: Global, path: &[u8]) -> Result<(), ShelfError>
+        requires text { IsUtf8 path.now }
+        ensures ok { OnOk result (files self.new ≡ option_map (λ files. put files path.now []) (files self.old)) }
+        ensures err { OnErr result (Told (files self.old) (files self.new) (λ old new. AsBeforeOrEmpty old new path.now)) }
+        ensures memory { IsErrOf result ShelfError.Memory → files self.new ≡ files self.old }
+        ensures count { faults self.old ≤ faults self.new }
+        ensures failed { IsErrOf result ShelfError.Failed → Rose (faults self.old) (faults self.new) };
+
+    /// Adds bytes to the end of the file at a path, to an empty file where none is there. After
+    /// `Failed` a prefix of them was added. Other files stay.
+    fn append(&mut self, alloc: Global, path: &[u8], bytes: &[u8]) -> Result<(), ShelfError>
+        requires text { IsUtf8 path.now }
+        ensures ok { OnOk result (files self.new ≡ option_map (λ files. add files path.now bytes.now) (files self.old)) }
+        ensures err { OnErr result (Told (files self.old) (files self.new) (λ old new. AddsFront old new path.now bytes.now)) }
+        ensures memory { IsErrOf result ShelfError.Memory → files self.new ≡ files self.old }
+        ensures count { faults self.old ≤ faults self.new }
+        ensures failed { IsErrOf result ShelfError.Failed → Rose (faults self.old) (faults self.new) };
+
+    // Told files rise by path, and each path is UTF-8.
+    ghost sound: { (shelf : Self) → Shows (files shelf) IsSound };
+}
