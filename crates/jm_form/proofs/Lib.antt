@@ -1,0 +1,9 @@
+pub mod HeadLaws
+pub mod RowReading
+pub mod RowSpelling
+pub mod SectionLaws
+pub mod SlotLaws
+pub mod TableLaws
+pub mod TextLaws
+pub mod Validity
+pub mod VectorLaws
