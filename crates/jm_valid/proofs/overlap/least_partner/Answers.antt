@@ -1,0 +1,29 @@
+use Rattle.std.proofs.Common.{sym, ◌∙◌, subst, get_or, take, ◌+◌}
+use Rattle.jm_valid.specs.declared.overlap.Range.{Range}
+use Rattle.jm_valid.specs.Ranges.{IsLeast, Meets, meets}
+use Rattle.jm_valid.proofs.LeastRanges.{least_all, least_nil, least_skips_at, least_takes_at, test_false, test_true}
+use Rattle.jm_valid.proofs.overlap.least_partner.Goals as goal
+use Rattle.jm_valid.proofs.overlap.least_partner.Goals.{then-overlaps, else-overlaps}
+
+pub loop-other-init : goal.loop-other-init
+loop-other-init c = least_nil (Meets c.args.range.now)
+
+pub loop-other-preserved : goal.loop-other-preserved
+loop-other-preserved c =
+    let range = c.args.range.now in
+    let ranges = c.args.ranges.now in
+    let i = c.loop-other.other-index in
+    let none : Range = record { start = 0; slot = 0; end = 0 } in
+    let other = get_or ranges i none in
+    elim c.if-overlaps.branch [
+      | then-overlaps w ↦
+          let met = test_true range.slot other.slot (meets range other) (sym c.overlaps.ensures ∙ w.if-overlaps.true) in
+          let least = w.least_with.ensures in
+          subst (IsLeast (Meets range) (take (i + 1) ranges)) (sym w.least-is) (least_takes_at (Meets range) ranges c.loop-other.least i none w.least_with.result c.loop-other-test.true c.loop-other.invariant met least.from least.below least.last)
+      | else-overlaps w ↦
+          let apart = test_false range.slot other.slot (meets range other) (sym c.overlaps.ensures ∙ w.if-overlaps.false) in
+          subst (IsLeast (Meets range) (take (i + 1) ranges)) (sym w.least-is) (least_skips_at (Meets range) ranges c.loop-other.least i none c.loop-other-test.true c.loop-other.invariant (λ met. apart met.0 met.1))
+    ]
+
+pub returns : goal.returns
+returns c = least_all (Meets c.args.range.now) c.args.ranges.now c.loop-other.least c.loop-other.other-index c.loop-other-test.false c.loop-other.invariant

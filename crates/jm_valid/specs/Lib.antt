@@ -1,0 +1,4 @@
+pub mod Held
+pub mod Opened
+pub mod Ranges
+pub mod Sweep

@@ -1,0 +1,12 @@
+-- What a sweep over ranges by rising start knows of those that it has passed.
+use Rattle.std.specs.Prelude.{◌≤◌, List, Contains}
+use Rattle.jm_valid.specs.declared.overlap.Range.{Range}
+use Rattle.jm_valid.specs.declared.overlap.Sweep.{Sweep}
+use Rattle.jm_valid.specs.Ranges.{Marked, IsLeast}
+
+-- no range passed reaches further than `furthest`, and `least` has the least slot of those that have a
+-- byte in common with another one that was passed
+pub record Swept (passed : List Range) (sweep : Sweep) : Type 0 where
+  pub seen : Contains passed sweep.furthest
+  pub reach : (r : Range) → Contains passed r → r.end ≤ sweep.furthest.end
+  pub least : IsLeast (Marked passed) passed sweep.least

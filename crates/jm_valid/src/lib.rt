@@ -1,0 +1,20 @@
+//! The check of an image: its first damage, or the image as a value that is known to be valid.
+#![tactic(auto)]
+
+mod entries;
+mod image;
+mod open;
+mod open_error;
+mod overlap;
+mod search;
+mod sections;
+mod slots;
+mod table;
+#[cfg(test)]
+mod tests;
+mod texts;
+
+pub use image::Image;
+pub use jm_form::Damage;
+pub use open::open_image;
+pub use open_error::OpenError;

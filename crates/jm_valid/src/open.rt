@@ -1,0 +1,78 @@
+ghost use Rattle.std.specs.Prelude.{◌≡◌, ◌<◌, ℕ, None, IfOk, IfErr, OnOk};
+ghost use Rattle.jm_form.specs.Damages as faults;
+ghost use Rattle.jm_form.specs.Damages.{Valid};
+ghost use Rattle.jm_form.specs.Entries as image;
+ghost use Rattle.jm_valid.specs.Opened.{IsDamageOf};
+
+use crate::entries::contents_of;
+use crate::image::Image;
+use crate::open_error::OpenError;
+use crate::overlap::first_overlap;
+use crate::search::least_fault;
+use crate::sections::Sections;
+use jm_bytes::NoMemory;
+use jm_form::{Damage, read_header};
+use jm_halves::Gate;
+use std::alloc::Global;
+use std::thread::Threads;
+
+/// What is wrong with the entries of an image none of whose slots has a fault: their number, or two
+/// contents with a byte in common.
+fn entries_damage(alloc: Global, sections: &Sections) -> Result<Option<Damage>, NoMemory>
+    requires { (i : ℕ) → i < sections.now.header.length → faults.slot_fault sections.now.bytes.now sections.now.header i ≡ None }
+    ensures { IfOk result (λ damage. damage ≡ faults.count_fault sections.now.header.count (image.entries sections.now.bytes.now sections.now.header)) }
+{
+    let mut contents = contents_of(alloc, sections)?;
+    let stated = sections.header.count;
+    let found = contents.count;
+    if stated != found {
+        return Ok(Some(Damage::Count { stated, found }));
+    }
+    Ok(first_overlap(contents.ranges.as_mut_slice()))
+}
+
+/// What is wrong behind the header: the fault of the least slot that has one, else that of the
+/// entries.
+fn body_damage<R: Threads + Sync, G: Gate + Sync>(
+    rt: &R,
+    alloc: Global,
+    jobs: u32,
+    sections: &Sections,
+    gate: &G,
+) -> Result<Option<Damage>, NoMemory>
+    requires { 0 < jobs }
+    ensures { IfOk result (λ damage. damage ≡ faults.body_damage sections.now.bytes.now sections.now.header) }
+{
+    if let Some(damage) = least_fault(rt, jobs, sections, gate) {
+        return Ok(Some(damage));
+    }
+    entries_damage(alloc, sections)
+}
+
+/// The image that these bytes are, or their first damage (jimage 1.0, uncompressed).
+///
+/// The slots are checked in pieces, as many as there are jobs; no number of jobs changes the answer.
+/// Memory is taken for the entries' places, and `Memory` is answered where none is found.
+pub fn open_image<'a, R: Threads + Sync, G: Gate + Sync>(
+    rt: &R,
+    alloc: Global,
+    jobs: u32,
+    bytes: &'a [u8],
+    gate: &G,
+) -> Result<Image<'a>, OpenError>
+    requires { 0 < jobs }
+    ensures same { IfOk result (λ image. image ≡ bytes.now) }
+    ensures valid { OnOk result (Valid bytes.now) }
+    ensures damaged { IfErr result (IsDamageOf bytes.now) }
+{
+    let header = match read_header(bytes) {
+        Ok(header) => header,
+        Err(fault) => return Err(OpenError::Damaged(Damage::Header(fault))),
+    };
+    let sections = Sections::of(bytes, header);
+    match body_damage(rt, alloc, jobs, &sections, gate) {
+        Ok(None) => Ok(Image::checked(bytes, header)),
+        Ok(Some(damage)) => Err(OpenError::Damaged(damage)),
+        Err(NoMemory) => Err(OpenError::Memory),
+    }
+}

@@ -1,0 +1,32 @@
+ghost use Rattle.std.specs.Prelude.{◌≡◌, ◌<◌};
+ghost use Rattle.jm_form.specs.Damages as faults;
+
+use crate::sections::Sections;
+use crate::slots::slot_fault;
+use jm_form::Damage;
+use jm_halves::{Gate, first_some};
+use std::thread::Threads;
+
+/// The first fault of the slot with this number.
+fn fault_at(sections: &Sections, slot: usize) -> Option<Damage>
+    requires { slot < sections.now.header.length }
+    ensures { result ≡ faults.slot_fault sections.now.bytes.now sections.now.header slot }
+{
+    prove!(slot < sections.header.length as usize);
+    slot_fault(sections, slot as u32)
+}
+
+/// The first fault of the least slot that has one, looked for in pieces, as many as there are jobs.
+pub fn least_fault<R: Threads + Sync, G: Gate + Sync>(
+    rt: &R,
+    jobs: u32,
+    sections: &Sections,
+    gate: &G,
+) -> Option<Damage>
+    requires { 0 < jobs }
+    ensures { result ≡ faults.least_fault (faults.slot_fault sections.now.bytes.now sections.now.header) 0 sections.now.header.length }
+{
+    let slots = sections.header.length as usize;
+    let (_, damage) = first_some(rt, jobs, slots, &|slot| fault_at(sections, slot), gate)?;
+    Some(damage)
+}
