@@ -1,0 +1,13 @@
+-- What a look-up hands out.
+use Rattle.std.specs.Prelude.{ℕ, List, length, Option, Some, None}
+use Rattle.jm_form.specs.declared.rows.Row.{Row}
+use Rattle.jm_reader.specs.declared.look_up.Found.{Found}
+
+-- the row and the content
+abbrev pub found_as : Found → Row × List ℕ
+found_as found = (found.row, found.bytes.now)
+
+-- how many bytes of content are handed out
+abbrev pub answer_length : Option Found → ℕ
+answer_length None = 0
+answer_length (Some found) = length found.bytes.now
