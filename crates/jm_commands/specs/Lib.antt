@@ -1,0 +1,3 @@
+pub mod CatWords
+pub mod Ending
+pub mod StatusValue
