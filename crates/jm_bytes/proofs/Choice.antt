@@ -1,5 +1,5 @@
 -- Choices, options and pairs taken apart.
-use Rattle.std.proofs.Common.{◌≡◌, ◌⊎◌, inl, inr, Bool, true, false, cond, Option, Some, Result, Ok, refl, ap}
+use Rattle.std.proofs.Common.{◌≡◌, ◌⊎◌, inl, inr, ℕ, ◌+◌, ◌≤◌, Bool, true, false, cond, Option, Some, Result, Ok, Err, refl, ap, arith}
 
 -- which value a choice took
 pub chosen : {A : Type 0} (b : Bool) (x y z : A) → cond b x y ≡ z → ((b ≡ true) × (x ≡ z)) ⊎ ((b ≡ false) × (y ≡ z))
@@ -11,6 +11,9 @@ same_some x y e = cc
 
 pub same_ok : {A E : Type 0} (x y : A) → ◌≡◌ {A = Result A E} (Ok x) (Ok y) → x ≡ y
 same_ok x y e = cc
+
+pub same_err : {A E : Type 0} (x y : E) → ◌≡◌ {A = Result A E} (Err x) (Err y) → x ≡ y
+same_err x y e = cc
 
 -- the parts of two equal pairs under a `Some`
 pub same_first : {A B : Type 0} (x y : A) (u v : B) → ◌≡◌ {A = Option (A × B)} (Some (x, u)) (Some (y, v)) → x ≡ y
@@ -24,3 +27,7 @@ same_second {A} {B} x y u v e =
     let p : A × B = (x, u) in
     let q : A × B = (y, v) in
     ap (λ (r : A × B). r.1) (same_some p q e)
+
+-- a place from another on is that place or behind it
+pub first_or_later : (i j : ℕ) → i ≤ j → (i ≡ j) ⊎ (i + 1 ≤ j)
+first_or_later i j h = grind arith

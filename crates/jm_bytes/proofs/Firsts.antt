@@ -1,10 +1,10 @@
 -- The first element of a list that passes a test, found by its place.
 use Rattle.std.proofs.Common.{◌≡◌, ℕ, zero, suc, ◌+◌, ◌<◌, ◌||◌, not, Bool, true, false, cond, List, [], ◌∷◌, length, take, get_or, refl, ap, ◌∙◌, arith, length-take}
 use Rattle.std.proofs.lemmas.Bool.{false_from_ne_true}
-use Rattle.std.proofs.lemmas.List.{length-take-le, take-take}
+use Rattle.std.proofs.lemmas.List.{length-take-le, take-take, take_all}
 use Rattle.std.proofs.lemmas.List.Elements.{All-from_get_or}
 use Rattle.std.proofs.lemmas.List.Folds.{list_any_none}
-use Rattle.std.proofs.lemmas.List.Sums.{position_or_len_is}
+use Rattle.std.proofs.lemmas.List.Sums.{passes_at_first, position_or_len_is}
 use Rattle.std.specs.List.{before_first, list_any, position_or_len}
 
 -- what stands before the first element that passes, where its place is known
@@ -12,6 +12,12 @@ pub before_first_at : {X : Type 0} (p : X → Bool) (xs : List X) (i : ℕ) (d :
 before_first_at p xs i d below earlier here =
     let place = position_or_len_is p xs i d (omega arith) (λ k k_below. false_from_ne_true (p (get_or xs k d)) (earlier k k_below)) (λ _. here) in
     ap (λ n. take n xs) place
+
+-- all stands before it where none passes
+pub before_first_none : {X : Type 0} (p : X → Bool) (xs : List X) (d : X) → ((k : ℕ) → k < length xs → p (get_or xs k d) ≡ true → ⊥) → before_first p xs ≡ xs
+before_first_none p xs d none_passes =
+    let place = position_or_len_is p xs (length xs) d (omega arith) (λ k k_below. false_from_ne_true (p (get_or xs k d)) (none_passes k k_below)) (λ past. absurd (omega arith)) in
+    ap (λ n. take n xs) place ∙ take_all (length xs) xs (omega arith)
 
 -- no element passes where none passes at any place
 pub no_first : {X : Type 0} (p : X → Bool) (xs : List X) (d : X) → ((k : ℕ) → k < length xs → p (get_or xs k d) ≡ true → ⊥) → list_any p xs ≡ false
@@ -47,3 +53,9 @@ before_first-take p n xs some =
     let cut : take k (take n xs) ≡ take k xs = take-take k n xs (omega arith) in
     let front : length (take k xs) ≡ k = length-take-le k xs (omega arith) in
     (ap (λ j. take j (take n xs)) same ∙ cut, omega arith)
+
+-- an element that passes stands at some place
+pub place_of_any : {X : Type 0} (p : X → Bool) (xs : List X) (d : X) → list_any p xs ≡ true → (k : ℕ) × (k < length xs) × (p (get_or xs k d) ≡ true)
+place_of_any p xs d some =
+    let below = position_below p xs some in
+    (position_or_len p xs, below, passes_at_first p xs d below)

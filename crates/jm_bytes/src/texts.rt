@@ -7,6 +7,16 @@ use std::marker::Model;
 #[derive(Clone, Copy, Debug, PartialEq, Eq)]
 pub struct NoMemory;
 
+/// The same bytes in a vector of their own.
+pub fn copy_of(alloc: Global, bytes: &[u8]) -> Result<Vec<u8>, NoMemory>
+    ensures { IfOk result (λ v. v.items ≡ bytes.now) }
+{
+    match Vec::from_slice(alloc, bytes) {
+        Ok(copy) => Ok(copy),
+        Err(_) => Err(NoMemory),
+    }
+}
+
 /// An owned list of bytes.
 #[derive(Debug, Drop)]
 pub struct Text {
@@ -42,10 +52,9 @@ impl Text {
     pub fn copy_of(alloc: Global, bytes: &[u8]) -> Result<Text, NoMemory>
         ensures { IfOk result (λ text. text ≡ bytes.now) }
     {
-        match Vec::from_slice(alloc, bytes) {
-            Ok(bytes) => Ok(Text { bytes }),
-            Err(_) => Err(NoMemory),
-        }
+        Ok(Text {
+            bytes: copy_of(alloc, bytes)?,
+        })
     }
 
     /// The bytes as a vector.
