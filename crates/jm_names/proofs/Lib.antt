@@ -1,6 +1,9 @@
-pub mod Cuts
-pub mod Faults
-pub mod Hashes
-pub mod Joins
-pub mod Texts
+pub mod ByteSearches
+pub mod CharacterLaws
+pub mod ComputedFaultLaws
+pub mod ComputedTextLaws
+pub mod HashLaws
+pub mod JoinLaws
+pub mod UtfLaws
+pub mod UtfSteps
 pub mod Vectors

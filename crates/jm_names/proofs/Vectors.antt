@@ -2,9 +2,10 @@
 use Rattle.std.proofs.Common.{Some, None, ◌≡◌, ℕ, true, false, List, [], ◌∷◌, refl}
 use Rattle.std.specs.Prelude.{codes}
 use Rattle.jm_names.specs.Hash.{hash}
-use Rattle.jm_names.specs.NameFaults.{name_fault}
+use Rattle.jm_names.specs.ComputedFault.{name_fault}
 use Rattle.jm_names.specs.declared.check.NameFault.TheVariants.{Empty, EmptyPart, Dots, Zero, NotText}
 use Rattle.jm_names.specs.Names.{Cut, split, is_node}
+use Rattle.jm_names.specs.UtfForms.{modified, utf}
 
 -- a cut by its four texts
 abbrev cut : List ℕ → List ℕ → List ℕ → List ℕ → Cut
@@ -153,3 +154,24 @@ fault_fine = refl
 
 fault_zero : name_fault (0x2F ∷ 0x6D ∷ 0x2F ∷ 0x00 ∷ []) ≡ Some Zero
 fault_zero = refl
+
+modified_one : modified (0x61 ∷ 0xF0 ∷ 0x9F ∷ 0x98 ∷ 0x80 ∷ 0x62 ∷ []) ≡ 0x61 ∷ 0xED ∷ 0xA0 ∷ 0xBD ∷ 0xED ∷ 0xB8 ∷ 0x80 ∷ 0x62 ∷ []
+modified_one = refl
+
+modified_last : modified (0xF4 ∷ 0x8F ∷ 0xBF ∷ 0xBF ∷ []) ≡ 0xED ∷ 0xAF ∷ 0xBF ∷ 0xED ∷ 0xBF ∷ 0xBF ∷ []
+modified_last = refl
+
+modified_beyond : modified (0xF4 ∷ 0x90 ∷ 0x80 ∷ 0x80 ∷ []) ≡ 0xF4 ∷ 0x90 ∷ 0x80 ∷ 0x80 ∷ []
+modified_beyond = refl
+
+modified_overlong : modified (0xF0 ∷ 0x8F ∷ 0xBF ∷ 0xBF ∷ []) ≡ 0xF0 ∷ 0x8F ∷ 0xBF ∷ 0xBF ∷ []
+modified_overlong = refl
+
+utf_one : utf (0xED ∷ 0xA0 ∷ 0xBD ∷ 0xED ∷ 0xB8 ∷ 0x80 ∷ []) ≡ 0xF0 ∷ 0x9F ∷ 0x98 ∷ 0x80 ∷ []
+utf_one = refl
+
+utf_behind_high : utf (0xED ∷ 0xA0 ∷ 0xBD ∷ 0xED ∷ 0xA0 ∷ 0xBD ∷ 0xED ∷ 0xB8 ∷ 0x80 ∷ []) ≡ 0xED ∷ 0xA0 ∷ 0xBD ∷ 0xF0 ∷ 0x9F ∷ 0x98 ∷ 0x80 ∷ []
+utf_behind_high = refl
+
+utf_low_first : utf (0xED ∷ 0xB8 ∷ 0x80 ∷ 0xED ∷ 0xA0 ∷ 0xBD ∷ []) ≡ 0xED ∷ 0xB8 ∷ 0x80 ∷ 0xED ∷ 0xA0 ∷ 0xBD ∷ []
+utf_low_first = refl

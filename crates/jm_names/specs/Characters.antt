@@ -1,5 +1,6 @@
--- Modified UTF-8 (JVMS 4, "The CONSTANT_Utf8_info Structure"), with a zero byte as a character of its own.
-use Rattle.std.specs.Prelude.{◌≡◌, ℕ, zero, suc, ◌+◌, ◌<◌, ◌≤◌, Bool, true, false, nat_le, ◌==◌, ◌&&◌, ◌||◌, List, [], ◌∷◌, length, take, drop, if◌then◌else◌}
+-- Modified UTF-8 (JVMS 4, "The CONSTANT_Utf8_info Structure"), with a zero byte as a character of
+-- its own.
+use Rattle.std.specs.Prelude.{◌≡◌, ℕ, ◌<◌, ◌≤◌, Bool, true, false, nat_le, ◌==◌, ◌&&◌, ◌||◌, List, [], ◌∷◌, length, take}
 use Rattle.std.specs.List.{list_all, concat}
 
 -- a number from low to high
@@ -25,35 +26,18 @@ abbrev pub is_character : List ℕ → Bool
 is_character (a ∷ []) = from_to 0x00 0x7F a
 is_character (a ∷ x ∷ []) = from_to 0xC2 0xDF a && goes_on x
 is_character (a ∷ x ∷ y ∷ []) = begins_three a x && goes_on y
-is_character (a ∷ x ∷ y ∷ b ∷ z ∷ w ∷ []) = is_surrogate 0xA0 0xAF a x y && is_surrogate 0xB0 0xBF b z w
+is_character (a ∷ x ∷ y ∷ b ∷ z ∷ w ∷ []) =
+    is_surrogate 0xA0 0xAF a x y && is_surrogate 0xB0 0xBF b z w
 is_character _ = false
 
 -- the bytes are a run of characters
 abbrev pub IsText : List ℕ → Type 0
-IsText bytes = (characters : List (List ℕ)) × (list_all is_character characters ≡ true) × (concat characters ≡ bytes)
+IsText bytes =
+    (characters : List (List ℕ)) × (list_all is_character characters ≡ true)
+    × (concat characters ≡ bytes)
 
 -- the front of this length is a run of characters, and no longer front is
 pub record IsLongestText (at : ℕ) (bytes : List ℕ) : Type 0 where
   pub within : at ≤ length bytes
   pub text : IsText (take at bytes)
   pub longest : (n : ℕ) → at < n → n ≤ length bytes → ¬ IsText (take n bytes)
-
--- the length of the character in front, or 0 where none stands there
-abbrev pub character_len : List ℕ → ℕ
-character_len bytes =
-    if is_character (take 1 bytes) then 1
-    else if is_character (take 2 bytes) then 2
-    else if is_character (take 3 bytes) then 3
-    else if is_character (take 6 bytes) then 6
-    else 0
-
--- the length of the run of at most so many characters in front
-abbrev pub run_len : ℕ → List ℕ → ℕ
-run_len zero bytes = 0
-run_len (suc most) bytes =
-    if character_len bytes == 0 then 0
-    else character_len bytes + run_len most (drop (character_len bytes) bytes)
-
--- the length of the longest front that is a run of characters
-abbrev pub text_len : List ℕ → ℕ
-text_len bytes = run_len (length bytes) bytes

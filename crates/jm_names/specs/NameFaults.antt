@@ -1,9 +1,9 @@
 -- What makes a name unfit for an image (this project's rule).
-use Rattle.std.specs.Prelude.{◌≡◌, ℕ, ◌<◌, ◌≤◌, Bool, true, false, not, nat_lt, ◌==◌, ◌&&◌, ◌||◌, List, [], ◌∷◌, length, drop, codes, if◌then◌else◌, Option, Some, None}
+use Rattle.std.specs.Prelude.{◌≡◌, ℕ, ◌<◌, ◌≤◌, Bool, true, false, ◌==◌, ◌&&◌, ◌||◌, List, [], ◌∷◌, length, drop, codes}
 use Rattle.std.specs.List.{list_any, slice_split}
 use Rattle.std.specs.Str.{bytes_eq}
 use Rattle.jm_names.specs.Names.{is_slash, is_empty}
-use Rattle.jm_names.specs.Characters.{IsText, IsLongestText, text_len}
+use Rattle.jm_names.specs.Characters.{IsText, IsLongestText}
 use Rattle.jm_names.specs.declared.check.NameFault.{NameFault}
 use Rattle.jm_names.specs.declared.check.NameFault.TheVariants.{Empty, EmptyPart, Dots, Zero, TooLong, NotText}
 
@@ -33,14 +33,14 @@ Fails name Zero = list_any is_zero name ≡ true
 Fails name TooLong = 4096 < length name
 Fails name (NotText at) = (¬ IsText name) × IsLongestText at name
 
--- the order of the faults
+-- the place of a fault in the order of the faults
 abbrev pub rank : NameFault → ℕ
-rank Empty = 1
-rank EmptyPart = 2
-rank Dots = 3
-rank Zero = 4
-rank TooLong = 6
-rank (NotText at) = 7
+rank Empty = 0
+rank EmptyPart = 1
+rank Dots = 2
+rank Zero = 3
+rank TooLong = 4
+rank (NotText at) = 5
 
 -- the fault is the first that holds
 pub record HasFault (name : List ℕ) (fault : NameFault) : Type 0 where
@@ -50,14 +50,3 @@ pub record HasFault (name : List ℕ) (fault : NameFault) : Type 0 where
 -- no fault holds
 abbrev pub IsSound : List ℕ → Type 0
 IsSound name = (fault : NameFault) → ¬ Fails name fault
-
--- the first fault that holds, or none
-abbrev pub name_fault : List ℕ → Option NameFault
-name_fault name =
-    if not (has_module name) then Some Empty
-    else if list_any is_empty (parts name) then Some EmptyPart
-    else if list_any is_dots (parts name) then Some Dots
-    else if list_any is_zero name then Some Zero
-    else if nat_lt 4096 (length name) then Some TooLong
-    else if nat_lt (text_len name) (length name) then Some (NotText (text_len name))
-    else None

@@ -52,19 +52,24 @@ base_only base = record { «module» = []; parent = []; base = base; ext = [] }
 
 -- what stands after the parent is cut at its last dot that a byte follows
 abbrev pub cut_tail : List ℕ → List ℕ → List ℕ → Cut
-cut_tail text parent tail =
+cut_tail «module» parent tail =
     if list_any is_dot tail && not (is_empty (after_last is_dot tail))
-    then record { «module» = text; parent = parent; base = before_last is_dot tail; ext = after_last is_dot tail }
-    else record { «module» = text; parent = parent; base = tail; ext = [] }
+    then record {
+      «module» = «module»;
+      parent = parent;
+      base = before_last is_dot tail;
+      ext = after_last is_dot tail;
+    }
+    else record { «module» = «module»; parent = parent; base = tail; ext = [] }
 
--- what stands after the module is cut at its last slash that a byte precedes; below the two trees it
--- stays whole
+-- what stands after the module is cut at its last slash that a byte precedes; below the two trees
+-- it stays whole
 abbrev pub cut_rest : List ℕ → List ℕ → Cut
-cut_rest text rest =
-    if is_tree text then record { «module» = text; parent = []; base = rest; ext = [] }
+cut_rest «module» rest =
+    if is_tree «module» then record { «module» = «module»; parent = []; base = rest; ext = [] }
     else if not (is_empty (before_last is_slash rest))
-    then cut_tail text (before_last is_slash rest) (after_last is_slash rest)
-    else cut_tail text [] rest
+    then cut_tail «module» (before_last is_slash rest) (after_last is_slash rest)
+    else cut_tail «module» [] rest
 
 -- the four pieces of a name: the module stands between a first slash and the next one, with a byte
 -- between the two; a name of another shape is base alone

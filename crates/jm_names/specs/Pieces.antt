@@ -4,4 +4,9 @@ use Rattle.jm_names.specs.declared.pieces.Pieces.{Pieces}
 
 -- the texts of the pieces
 abbrev pub cut_of : Pieces → Cut
-cut_of pieces = record { «module» = pieces.module.now; parent = pieces.parent.now; base = pieces.base.now; ext = pieces.ext.now }
+cut_of pieces = record {
+  «module» = pieces.module.now;
+  parent = pieces.parent.now;
+  base = pieces.base.now;
+  ext = pieces.ext.now;
+}

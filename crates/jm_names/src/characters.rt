@@ -1,7 +1,8 @@
 ghost use Rattle.std.specs.Prelude.{◌≡◌, ◌<◌, true, IfSome, IfNone, take, nat_le, ◌&&◌};
-ghost use Rattle.jm_names.specs.Characters.{IsLongestText, begins_three, character_len, from_to, goes_on, is_character, is_surrogate, text_len};
+ghost use Rattle.jm_names.specs.Characters.{IsLongestText, begins_three, from_to, goes_on, is_character, is_surrogate};
+ghost use Rattle.jm_names.specs.ComputedText.{character_len, text_len};
 
-/// The length of the longest front that is a run of characters of Modified UTF-8.
+/// The length in bytes of the longest front that is a run of characters of Modified UTF-8.
 pub(crate) fn text_len(bytes: &[u8]) -> usize
     ensures longest { IsLongestText result bytes.now }
     ensures value { result ≡ text_len bytes.now }
@@ -16,7 +17,7 @@ pub(crate) fn text_len(bytes: &[u8]) -> usize
     }
 }
 
-// The length of the character in front.
+/// The length in bytes of the character in front, if one stands there.
 fn character_len(bytes: &[u8]) -> Option<usize>
     ensures some { IfSome result (λ len. len ≡ character_len bytes.now) }
     ensures front { IfSome result (λ len. 0 < len) }
@@ -35,7 +36,7 @@ fn character_len(bytes: &[u8]) -> Option<usize>
     }
 }
 
-// The first bytes, or all where fewer stand there.
+/// The first bytes, or all where fewer stand there.
 fn front(bytes: &[u8], len: usize) -> &[u8]
     ensures { result.now ≡ take len bytes.now }
 {
@@ -43,6 +44,7 @@ fn front(bytes: &[u8], len: usize) -> &[u8]
     front
 }
 
+/// Whether the bytes are one character.
 fn is_character(bytes: &[u8]) -> bool
     ensures { result ≡ is_character bytes.now }
 {
@@ -57,14 +59,14 @@ fn is_character(bytes: &[u8]) -> bool
     }
 }
 
-// Whether a byte is one that goes on a character.
-fn goes_on(byte: u8) -> bool
+/// Whether a byte is one that goes on a character.
+pub(crate) fn goes_on(byte: u8) -> bool
     ensures { result ≡ goes_on byte }
 {
     matches!(byte, 0x80..=0xBF)
 }
 
-// Whether the first two of three bytes are neither an overlong form nor a surrogate.
+/// Whether the first two of three bytes are neither an overlong form nor a surrogate.
 fn begins_three(a: u8, x: u8) -> bool
     ensures { result ≡ begins_three a x }
 {
@@ -76,8 +78,8 @@ fn begins_three(a: u8, x: u8) -> bool
     }
 }
 
-// Whether the three bytes are a surrogate whose second byte is from `low` to `high`.
-fn is_surrogate(low: u8, high: u8, a: u8, x: u8, y: u8) -> bool
+/// Whether the three bytes are a surrogate whose second byte is from `low` to `high`.
+pub(crate) fn is_surrogate(low: u8, high: u8, a: u8, x: u8, y: u8) -> bool
     ensures { result ≡ is_surrogate low high a x y }
 {
     a == 0xED && low <= x && x <= high && goes_on(y)

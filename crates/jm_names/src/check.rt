@@ -2,7 +2,8 @@ ghost use Rattle.std.specs.Prelude.{◌≡◌, ◌==◌, OnOk, IfErr, drop};
 ghost use Rattle.std.specs.Result.{result_err};
 ghost use Rattle.std.specs.List.{list_any, slice_split};
 ghost use Rattle.jm_names.specs.Names.{is_slash, is_empty};
-ghost use Rattle.jm_names.specs.NameFaults.{HasFault, IsSound, has_module, is_dots, name_fault, parts};
+ghost use Rattle.jm_names.specs.NameFaults.{HasFault, IsSound, has_module, is_dots, parts};
+ghost use Rattle.jm_names.specs.ComputedFault.{name_fault};
 
 use crate::characters::text_len;
 use memchr::memchr;
@@ -35,28 +36,39 @@ pub fn check_name(name: &[u8]) -> Result<(), NameFault>
     ensures ok { OnOk result (IsSound name.now) }
     ensures err { IfErr result (λ fault. HasFault name.now fault) }
 {
+    match name_fault(name) {
+        Some(fault) => Err(fault),
+        None => Ok(()),
+    }
+}
+
+/// The first fault of a name, or none.
+fn name_fault(name: &[u8]) -> Option<NameFault>
+    ensures { result ≡ name_fault name.now }
+{
     if !has_module(name) {
-        return Err(NameFault::Empty);
+        return Some(NameFault::Empty);
     }
     if has_empty_part(name) {
-        return Err(NameFault::EmptyPart);
+        return Some(NameFault::EmptyPart);
     }
     if has_dots(name) {
-        return Err(NameFault::Dots);
+        return Some(NameFault::Dots);
     }
     if has_byte(0, name) {
-        return Err(NameFault::Zero);
+        return Some(NameFault::Zero);
     }
     if name.len() > MOST_BYTES {
-        return Err(NameFault::TooLong);
+        return Some(NameFault::TooLong);
     }
     let at = text_len(name);
     if at < name.len() {
-        return Err(NameFault::NotText(at));
+        return Some(NameFault::NotText(at));
     }
-    Ok(())
+    None
 }
 
+/// Whether the name begins with a slash and has a second one.
 fn has_module(name: &[u8]) -> bool
     ensures { result ≡ has_module name.now }
 {
@@ -66,36 +78,40 @@ fn has_module(name: &[u8]) -> bool
     }
 }
 
+/// Whether a byte of the text is this one.
 fn has_byte(byte: u8, text: &[u8]) -> bool
     ensures { result ≡ list_any (λ x. x == byte) text.now }
 {
     memchr(byte, text).is_some()
 }
 
+/// Whether a part of the name is empty.
 fn has_empty_part(name: &[u8]) -> bool
     ensures { result ≡ list_any is_empty (parts name.now) }
 {
-    below_root(name)
+    without_first(name)
         .split(|b| *b == b'/')
         .any(|part| part.is_empty())
 }
 
+/// Whether a part of the name is `.` or `..`.
 fn has_dots(name: &[u8]) -> bool
     ensures { result ≡ list_any is_dots (parts name.now) }
 {
-    below_root(name)
+    without_first(name)
         .split(|b| *b == b'/')
         .any(|part| is_dots(part))
 }
 
+/// Whether the part is `.` or `..`.
 fn is_dots(part: &[u8]) -> bool
     ensures { result ≡ is_dots part.now }
 {
     part == b".".as_slice() || part == b"..".as_slice()
 }
 
-// The name without its leading slash.
-fn below_root(name: &[u8]) -> &[u8]
+/// The name without its first byte.
+fn without_first(name: &[u8]) -> &[u8]
     ensures { result.now ≡ drop 1 name.now }
 {
     match name.split_first() {

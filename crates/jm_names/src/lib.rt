@@ -3,6 +3,7 @@
 
 mod characters;
 mod check;
+mod forms;
 mod hashing;
 mod nodes;
 mod packages;
@@ -11,7 +12,8 @@ mod pieces;
 mod tests;
 
 pub use check::{NameFault, check_name};
-pub use hashing::{hash, hash_pieces};
+pub use forms::{to_modified, to_utf8};
+pub use hashing::{DEFAULT_SEED, hash, hash_pieces};
 pub use nodes::is_node;
 pub use packages::dotted;
 pub use pieces::{Pieces, split};

@@ -1,6 +1,6 @@
 ghost use Rattle.std.specs.Prelude.{◌≡◌, ◌==◌, true, false, IfSome, IfNone};
 ghost use Rattle.std.specs.List.{list_any, before_first, after_first, before_last, after_last};
-ghost use Rattle.jm_names.specs.Names.{split, join, base_only, cut_rest, cut_tail, is_tree};
+ghost use Rattle.jm_names.specs.Names.{split, join, base_only, cut_rest, cut_tail, is_empty, is_slash, is_tree};
 ghost use Rattle.jm_names.specs.Pieces.{cut_of};
 
 use memchr::{memchr, memrchr};
@@ -27,7 +27,7 @@ pub fn split<'a>(name: &'a [u8]) -> Pieces<'a>
     ensures whole { join (cut_of result) ≡ name.now }
 {
     match module_and_rest(name) {
-        Some((module, rest)) => below_module(module, rest),
+        Some((module, rest)) => pieces_below_module(module, rest),
         None => Pieces {
             module: &[],
             parent: &[],
@@ -37,6 +37,7 @@ pub fn split<'a>(name: &'a [u8]) -> Pieces<'a>
     }
 }
 
+/// The module of a name and what stands behind its slash, if the name has a module.
 fn module_and_rest(name: &[u8]) -> Option<(&[u8], &[u8])>
     ensures some { IfSome result (λ cut. split name.now ≡ cut_rest cut.0.now cut.1.now) }
     ensures none { IfNone result (split name.now ≡ base_only name.now) }
@@ -53,7 +54,8 @@ fn module_and_rest(name: &[u8]) -> Option<(&[u8], &[u8])>
     }
 }
 
-fn below_module<'a>(module: &'a [u8], rest: &'a [u8]) -> Pieces<'a>
+/// The pieces of a name, from its module and what stands behind it.
+fn pieces_below_module<'a>(module: &'a [u8], rest: &'a [u8]) -> Pieces<'a>
     ensures { cut_of result ≡ cut_rest «module».now rest.now }
 {
     if is_tree(module) {
@@ -64,13 +66,30 @@ fn below_module<'a>(module: &'a [u8], rest: &'a [u8]) -> Pieces<'a>
             ext: &[],
         };
     }
-    match cut_at_last(b'/', rest) {
-        Some((parent, tail)) if !parent.is_empty() => below_parent(module, parent, tail),
-        _ => below_parent(module, &[], rest),
+    match parent_and_tail(rest) {
+        Some((parent, tail)) => pieces_below_parent(module, parent, tail),
+        None => pieces_below_parent(module, &[], rest),
     }
 }
 
-fn below_parent<'a>(module: &'a [u8], parent: &'a [u8], tail: &'a [u8]) -> Pieces<'a>
+/// What stands before and after the last slash that a byte precedes, if there is one.
+#[tactic(auto, using(crate::proofs::JoinLaws::parents))]
+fn parent_and_tail(rest: &[u8]) -> Option<(&[u8], &[u8])>
+    ensures some { IfSome result (λ cut. is_empty (before_last is_slash rest.now) ≡ false) }
+    ensures parent { IfSome result (λ cut. cut.0.now ≡ before_last is_slash rest.now) }
+    ensures tail { IfSome result (λ cut. cut.1.now ≡ after_last is_slash rest.now) }
+    ensures none { IfNone result (is_empty (before_last is_slash rest.now) ≡ true) }
+{
+    let (parent, tail) = cut_at_last(b'/', rest)?;
+    if parent.is_empty() {
+        None
+    } else {
+        Some((parent, tail))
+    }
+}
+
+/// The pieces of a name, from its module, its parent and what stands behind these.
+fn pieces_below_parent<'a>(module: &'a [u8], parent: &'a [u8], tail: &'a [u8]) -> Pieces<'a>
     ensures { cut_of result ≡ cut_tail «module».now parent.now tail.now }
 {
     match cut_at_last(b'.', tail) {
@@ -89,14 +108,14 @@ fn below_parent<'a>(module: &'a [u8], parent: &'a [u8], tail: &'a [u8]) -> Piece
     }
 }
 
-// Whether the module is one of the two whose names are the nodes of the trees.
+/// Whether the module is one of the two whose names are the nodes of the trees.
 fn is_tree(module: &[u8]) -> bool
     ensures { result ≡ is_tree «module».now }
 {
     module == b"modules".as_slice() || module == b"packages".as_slice()
 }
 
-// What stands before and after the first such byte.
+/// What stands before and after the first such byte.
 pub(crate) fn cut_at_first(byte: u8, text: &[u8]) -> Option<(&[u8], &[u8])>
     ensures found { IfSome result (λ cut. list_any (λ x. x == byte) text.now ≡ true) }
     ensures before { IfSome result (λ cut. cut.0.now ≡ before_first (λ x. x == byte) text.now) }
@@ -109,7 +128,7 @@ pub(crate) fn cut_at_first(byte: u8, text: &[u8]) -> Option<(&[u8], &[u8])>
     Some((before, after))
 }
 
-// What stands before and after the last such byte.
+/// What stands before and after the last such byte.
 fn cut_at_last(byte: u8, text: &[u8]) -> Option<(&[u8], &[u8])>
     ensures found { IfSome result (λ cut. list_any (λ x. x == byte) text.now ≡ true) }
     ensures before { IfSome result (λ cut. cut.0.now ≡ before_last (λ x. x == byte) text.now) }

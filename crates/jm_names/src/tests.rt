@@ -26,10 +26,10 @@ fn four_hashes(rt: HostRuntime) {
         ("/modules", 0x10294C1D),
         ("/packages", 0x0B721439),
     ] {
-        assert_eq!(rt; hash_of(0x01000193, name), want, "the hash of {name}");
+        assert_eq!(rt; hash_of(DEFAULT_SEED, name), want, "the hash of {name}");
         let pieces = split(name.as_bytes());
         assert_eq!(rt;
-            hash_pieces(0x01000193, &pieces),
+            hash_pieces(DEFAULT_SEED, &pieces),
             want,
             "the pieces of {name}"
         );
@@ -77,22 +77,31 @@ fn names_cut(rt: HostRuntime) {
 }
 
 #[test]
-fn first_faults(rt: HostRuntime) {
+fn not_text_and_other_faults(rt: HostRuntime) {
+    let not_text = Err(NameFault::NotText(3));
     for (name, want) in [
-        ("", Err(NameFault::Empty)),
-        ("/m", Err(NameFault::Empty)),
-        ("m/a", Err(NameFault::Empty)),
-        ("//", Err(NameFault::EmptyPart)),
-        ("//x", Err(NameFault::EmptyPart)),
-        ("/m/", Err(NameFault::EmptyPart)),
-        ("/m/..//x", Err(NameFault::EmptyPart)),
-        ("/m/.", Err(NameFault::Dots)),
-        ("/m/../\0", Err(NameFault::Dots)),
-        ("/m/\0", Err(NameFault::Zero)),
-        ("/m/...", Ok(())),
-        ("/m/a/x.tar.gz", Ok(())),
+        (b"".as_slice(), Err(NameFault::Empty)),
+        (b"/m", Err(NameFault::Empty)),
+        (b"m/a", Err(NameFault::Empty)),
+        (b"//", Err(NameFault::EmptyPart)),
+        (b"//x", Err(NameFault::EmptyPart)),
+        (b"/m/", Err(NameFault::EmptyPart)),
+        (b"/m/..//x", Err(NameFault::EmptyPart)),
+        (b"/m/.", Err(NameFault::Dots)),
+        (b"/m/../\0", Err(NameFault::Dots)),
+        (b"/m/\0", Err(NameFault::Zero)),
+        (b"/m/...", Ok(())),
+        (b"/m/a/x.tar.gz", Ok(())),
+        (b"/a/\xED\xA0\xBD", not_text),
+        (b"/a/\xF0\x9F\x98\x80", not_text),
+        (b"/a/\xC0\x80", not_text),
+        (b"/a/\xED\xB8\x80", not_text),
+        (b"/a/\xED\xA0\xBD\xED\xA0\xBD\xED\xB8\x80", not_text),
+        (b"/a/\xED\xA0\xBD\xED\xB8\x80", Ok(())),
+        (b"/a/\xC3\xA9\xE2\x82\xAC", Ok(())),
+        (b"/a/\xC3\xA9\xC3", Err(NameFault::NotText(5))),
     ] {
-        assert_eq!(rt; check_name(name.as_bytes()), want, "{name}");
+        assert_eq!(rt; check_name(name), want, "{name:?}");
     }
     let mut long = [b'a'; 4097];
     long[0] = b'/';
@@ -107,17 +116,36 @@ fn first_faults(rt: HostRuntime) {
 }
 
 #[test]
-fn not_text(rt: HostRuntime) {
-    let fault = Err(NameFault::NotText(3));
-    assert_eq!(rt; check_name(b"/a/\xED\xA0\xBD"), fault);
-    assert_eq!(rt; check_name(b"/a/\xF0\x9F\x98\x80"), fault);
-    assert_eq!(rt; check_name(b"/a/\xC0\x80"), fault);
-    assert_eq!(rt; check_name(b"/a/\xED\xB8\x80"), fault);
-    assert_eq!(rt;
-        check_name(b"/a/\xED\xA0\xBD\xED\xA0\xBD\xED\xB8\x80"),
-        fault
-    );
-    assert_eq!(rt; check_name(b"/a/\xED\xA0\xBD\xED\xB8\x80"), Ok(()));
-    assert_eq!(rt; check_name(b"/a/\xC3\xA9\xE2\x82\xAC"), Ok(()));
-    assert_eq!(rt; check_name(b"/a/\xC3\xA9\xC3"), Err(NameFault::NotText(5)));
+fn forms_of_utf8(rt: HostRuntime) {
+    for (text, name) in [
+        (b"".as_slice(), b"".as_slice()),
+        (b"/a/x", b"/a/x"),
+        (b"/a/\xC3\xA9\xE2\x82\xAC\0", b"/a/\xC3\xA9\xE2\x82\xAC\0"),
+        (b"/a/\xF0\x9F\x98\x80", b"/a/\xED\xA0\xBD\xED\xB8\x80"),
+        (
+            b"\xF0\x90\x80\x80-\xF4\x8F\xBF\xBF",
+            b"\xED\xA0\x80\xED\xB0\x80-\xED\xAF\xBF\xED\xBF\xBF",
+        ),
+        (
+            b"\xF0\xF0\x9F\x98\x80\x80",
+            b"\xF0\xED\xA0\xBD\xED\xB8\x80\x80",
+        ),
+        (
+            b"\xED\xA0\xBD\xF0\x9F\x98\x80",
+            b"\xED\xA0\xBD\xED\xA0\xBD\xED\xB8\x80",
+        ),
+        (b"\xED\xB8\x80\xED\xA0\xBD", b"\xED\xB8\x80\xED\xA0\xBD"),
+        (b"\xF0\x8F\xBF\xBF", b"\xF0\x8F\xBF\xBF"),
+        (b"\xF4\x90\x80\x80", b"\xF4\x90\x80\x80"),
+        (b"\xF0\x9F\x98", b"\xF0\x9F\x98"),
+    ] {
+        assert!(rt;
+            to_modified(rt.alloc(), text).is_ok_and(|given| given.as_slice() == name),
+            "{text:?}"
+        );
+        assert!(rt;
+            to_utf8(rt.alloc(), name).is_ok_and(|given| given.as_slice() == text),
+            "{name:?}"
+        );
+    }
 }

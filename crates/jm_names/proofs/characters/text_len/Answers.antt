@@ -1,6 +1,8 @@
 use Rattle.std.proofs.Common.{take, sym, ap, ◌∙◌, arith}
-use Rattle.jm_names.specs.Characters.{is_character, character_len}
-use Rattle.jm_names.proofs.Texts.{StandsInFront-found, IsText-more, IsLongestText-stop, IsLongestText-unique, text_len-longest}
+use Rattle.jm_names.specs.Characters.{is_character}
+use Rattle.jm_names.specs.ComputedText.{character_len}
+use Rattle.jm_names.proofs.CharacterLaws.{IsText-more, IsLongestText-unique}
+use Rattle.jm_names.proofs.ComputedTextLaws.{StandsInFront-found, IsLongestText-stop, text_len-longest}
 use Rattle.jm_names.proofs.characters.text_len.Goals as goal
 
 pub overflow_add-at : goal.overflow_add-at

@@ -1,5 +1,5 @@
 use Rattle.std.proofs.Common.{◌==◌, ◌∙◌}
-use Rattle.jm_names.proofs.Cuts.{found_any}
+use Rattle.jm_names.proofs.ByteSearches.{found_any}
 use Rattle.jm_names.proofs.check.has_byte.Goals as goal
 
 pub returns : goal.returns

@@ -1,10 +1,10 @@
 use Rattle.std.proofs.Common.{◌==◌, ◌+◌, ap, sym, ◌∙◌, take, drop}
 use Rattle.std.proofs.lemmas.List.{drop-drop}
-use Rattle.jm_names.proofs.Cuts.{first_none, first_place}
+use Rattle.jm_names.proofs.ByteSearches.{found_nowhere, first_place}
 use Rattle.jm_names.proofs.pieces.cut_at_first.Goals as goal
 
 pub returns-in_err-at-clause-none : goal.returns-in_err-at-clause-none
-returns-in_err-at-clause-none c = rw c.from_residual.ensures (first_none (λ x. x == c.args.byte) c.args.text.now c.in_err-at.ensures)
+returns-in_err-at-clause-none c = rw c.from_residual.ensures (found_nowhere (λ x. x == c.args.byte) c.args.text.now c.in_err-at.ensures)
 
 pub returns-clause-before : goal.returns-clause-before
 returns-clause-before c =

@@ -1,18 +1,13 @@
--- The longest front of a list that is a run of characters is found by reading one character after another.
-use Rattle.std.proofs.Common.{◌≡◌, ℕ, zero, suc, ◌+◌, ◌<◌, ◌≤◌, Bool, true, false, ◌&&◌, ◌==◌, List, [], ◌∷◌, ◌++◌, length, take, drop, refl, sym, ap, subst, inl, inr, ◌∙◌, append_assoc, append-nil, arith}
+-- The longest front that is a run of characters is found by reading one character after another.
+use Rattle.std.proofs.Common.{◌≡◌, ℕ, zero, suc, ◌+◌, ◌<◌, ◌≤◌, Bool, true, false, ◌==◌, List, [], ◌∷◌, ◌++◌, length, take, drop, refl, sym, ap, subst, ◌∙◌, append_assoc, arith}
 use Rattle.std.specs.Prelude.{if◌then◌else◌}
 use Rattle.std.specs.List.{list_all, concat}
-use Rattle.std.proofs.lemmas.Bool.{false≢true, cases_lt}
+use Rattle.std.proofs.lemmas.Bool.{false≢true, and_parts}
 use Rattle.std.proofs.lemmas.Bool.Decides.{nat_tests}
 use Rattle.std.proofs.lemmas.List.{drop_at, drop-drop, take-append-drop, length-append, length-take, length-drop, length-take-le, nil_from_length}
-use Rattle.std.proofs.lemmas.List.Folds.{concat-append, list_all-append}
-use Rattle.std.proofs.Math.Seq.{take-add}
-use Rattle.jm_names.specs.Characters.{is_character, IsText, IsLongestText, character_len, run_len, text_len}
-
--- a character has at least one byte
-pub character_some : (c : List ℕ) → is_character c ≡ true → 0 < length c
-character_some [] h = absurd (false≢true h)
-character_some (a ∷ c) h = omega arith
+use Rattle.jm_names.specs.Characters.{is_character, IsText, IsLongestText}
+use Rattle.jm_names.specs.ComputedText.{character_len, run_len, text_len}
+use Rattle.jm_names.proofs.CharacterLaws.{character_some, IsText-cons}
 
 -- a character in front is the one that is found there
 pub character_len-append : (c rest : List ℕ) → is_character c ≡ true → character_len (c ++ rest) ≡ length c
@@ -30,11 +25,6 @@ character_len-append (a ∷ x ∷ y ∷ b ∷ z ∷ w ∷ []) rest h =
     let two : is_character (a ∷ x ∷ []) ≡ false = grind (arith, nat_tests) in
     let three : is_character (a ∷ x ∷ y ∷ []) ≡ false = grind (arith, nat_tests) in rw (one, two, three, h)
 character_len-append (a ∷ x ∷ y ∷ b ∷ z ∷ w ∷ u ∷ c) rest h = absurd (false≢true h)
-
-both : (a b : Bool) → (a && b) ≡ true → (a ≡ true) × (b ≡ true)
-both true true h = (refl, refl)
-both true false h = absurd (false≢true h)
-both false b h = absurd (false≢true h)
 
 -- two bytes are needed where one isn't enough, and so on
 fits_two : (bytes : List ℕ) → is_character (take 1 bytes) ≡ false → is_character (take 2 bytes) ≡ true → 2 ≤ length bytes
@@ -83,12 +73,12 @@ StandsInFront-found bytes n e some =
 no_longer : (cs ds : List (List ℕ)) (rest other : List ℕ) → list_all is_character cs ≡ true → list_all is_character ds ≡ true → concat cs ++ rest ≡ concat ds ++ other → character_len rest ≡ 0 → length (concat ds) ≤ length (concat cs)
 no_longer cs [] rest other hc hd e stop = omega arith
 no_longer [] (d ∷ ds) rest other hc hd e stop =
-    let tests = both (is_character d) (list_all is_character ds) hd in
+    let tests = and_parts (is_character d) (list_all is_character ds) hd in
     let found : character_len rest ≡ length d = ap character_len (e ∙ append_assoc d (concat ds) other) ∙ character_len-append d (concat ds ++ other) tests.0 in
     absurd (omega (arith, character_some d tests.0))
 no_longer (c ∷ cs) (d ∷ ds) rest other hc hd e stop =
-    let first = both (is_character c) (list_all is_character cs) hc in
-    let second = both (is_character d) (list_all is_character ds) hd in
+    let first = and_parts (is_character c) (list_all is_character cs) hc in
+    let second = and_parts (is_character d) (list_all is_character ds) hd in
     let whole : c ++ (concat cs ++ rest) ≡ d ++ (concat ds ++ other) = sym (append_assoc c (concat cs) rest) ∙ e ∙ append_assoc d (concat ds) other in
     let same : length c ≡ length d =
     sym (character_len-append c (concat cs ++ rest) first.0) ∙ ap character_len whole ∙ character_len-append d (concat ds ++ other) second.0 in
@@ -108,33 +98,6 @@ IsLongestText-stop bytes at within text stop = record {
       let short = no_longer text.0 other.0 (drop at bytes) (drop n bytes) text.1 other.1 whole stop in
       omega (arith, ap length text.2, ap length other.2, length-take-le at bytes within, length-take-le n bytes le);
 }
-
--- there is one longest front
-pub IsLongestText-unique : (bytes : List ℕ) (a b : ℕ) → IsLongestText a bytes → IsLongestText b bytes → a ≡ b
-IsLongestText-unique bytes a b h k = elim (cases_lt a b) [
-  | inl lt ↦ absurd (h.longest b lt k.within k.text)
-  | inr ge ↦ elim (cases_lt b a) [
-    | inl lt ↦ absurd (k.longest a lt h.within h.text)
-    | inr le ↦ omega arith
-  ]
-]
-
--- one more character
-pub IsText-more : (bytes : List ℕ) (at n : ℕ) → IsText (take at bytes) → is_character (take n (drop at bytes)) ≡ true → IsText (take (at + n) bytes)
-IsText-more bytes at n text h = (
-  text.0 ++ take n (drop at bytes) ∷ [],
-  list_all-append is_character text.0 (take n (drop at bytes) ∷ []) ∙ rw (text.1, h),
-  concat-append text.0 (take n (drop at bytes) ∷ []) ∙ ap (λ xs. xs ++ (take n (drop at bytes) ++ [])) text.2
-      ∙ ap (λ xs. take at bytes ++ xs) (append-nil (take n (drop at bytes))) ∙ sym (take-add at n bytes),
-)
-
--- one character and a run after it
-IsText-cons : (bytes : List ℕ) (n m : ℕ) → is_character (take n bytes) ≡ true → IsText (take m (drop n bytes)) → IsText (take (n + m) bytes)
-IsText-cons bytes n m h text = (
-  take n bytes ∷ text.0,
-  rw (h, text.1),
-  ap (λ xs. take n bytes ++ xs) text.2 ∙ sym (take-add n m bytes),
-)
 
 -- what reading some characters gives
 record Runs (most n : ℕ) (bytes : List ℕ) : Type 0 where
