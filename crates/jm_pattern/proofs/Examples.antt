@@ -1,7 +1,8 @@
 -- The definitions at examples: they compute.
 use Rattle.std.proofs.Common.{◌≡◌, ◌∷◌, [], Ok, Err, refl}
 use Rattle.std.specs.Prelude.{codes}
-use Rattle.jm_pattern.specs.Reading.{pattern_of, items_of, list_of}
+use Rattle.jm_pattern.specs.ComputedReading.{pattern_of}
+use Rattle.jm_pattern.specs.Items.{items_of, list_of}
 use Rattle.jm_pattern.specs.declared.signs.Sign.TheVariants.{AnyRun, Run, One, Byte}
 use Rattle.jm_pattern.specs.declared.signs.PatternError.TheVariants.{BadEscape, Empty, Prefix}
 

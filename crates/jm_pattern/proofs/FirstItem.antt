@@ -1,8 +1,10 @@
 -- The first item of a list, and the items behind it.
 use Rattle.std.proofs.Common.{◌≡◌, ◌≢◌, ◌+◌, ◌++◌, ◌∷◌, ◌<◌, [], ℕ, Bool, true, false, List, Option, Some, None, Result, Ok, refl, sym, ap, ◌∙◌, arith, append_assoc, eqb, cond, length-append, length, Bor, IfSome, unwrap_or, option_map}
-use Rattle.jm_pattern.specs.Reading.{after, before, UnlessMemory, onto_first, items_of, item_pattern, patterns_from}
-use Rattle.jm_pattern.specs.Progress.{items_behind, GoesOn}
-use Rattle.jm_pattern.proofs.FirstSign.{read-on, test-false, given-ok}
+use Rattle.std.proofs.lemmas.Bool.{ne_eqb}
+use Rattle.jm_pattern.specs.ComputedReading.{with_front, UnlessMemory}
+use Rattle.jm_pattern.specs.Items.{with_first, onto_first, items_of, item_pattern, patterns_from}
+use Rattle.jm_pattern.specs.ReadingSteps.{items_behind, GoesOn}
+use Rattle.jm_pattern.proofs.FirstSign.{read-on, given-ok}
 use Rattle.jm_pattern.specs.declared.signs.Sign.{Sign}
 use Rattle.jm_pattern.specs.declared.signs.PatternError.{PatternError}
 
@@ -45,8 +47,8 @@ goes-further text middle rest first second = (
 
 -- a byte by itself
 pub goes-byte : (text : List ℕ) (b : ℕ) (rest : List ℕ) → text ≡ b ∷ rest → b ≢ 44 → b ≢ 92 → GoesOn text rest
-goes-byte text b [] e h k = (b ∷ [], e, rw (e, test-false b 44 h) refl)
-goes-byte text b (c ∷ rest) e h k = (b ∷ [], e, rw (e, test-false b 92 k, test-false b 44 h) refl)
+goes-byte text b [] e h k = (b ∷ [], e, rw (e, ne_eqb b 44 h) refl)
+goes-byte text b (c ∷ rest) e h k = (b ∷ [], e, rw (e, ne_eqb b 92 k, ne_eqb b 44 h) refl)
 
 -- a `\` and the byte that it takes, or the end
 pub goes-taken : (text : List ℕ) (b : ℕ) (rest : List ℕ) → text ≡ b ∷ rest → GoesOn (92 ∷ text) rest
@@ -57,13 +59,13 @@ goes-at_end [] e = (92 ∷ [], refl, refl)
 goes-at_end (b ∷ text) e = absurd (omega arith)
 
 -- one pattern further
-pub list-further : (whole : Result (List (List Sign)) PatternError) (patterns : List (List Sign)) (left : Option (List ℕ)) (text item : List ℕ) (behind : Option (List ℕ)) (number : ℕ) (pattern : List Sign) → whole ≡ after patterns (patterns_from (length patterns) (items_behind left)) → left ≡ Some text → items_of text ≡ item ∷ items_behind behind → number ≡ length patterns → UnlessMemory (Ok pattern) (item_pattern number item) → whole ≡ after (patterns ++ pattern ∷ []) (patterns_from (length (patterns ++ pattern ∷ [])) (items_behind behind))
+pub list-further : (whole : Result (List (List Sign)) PatternError) (patterns : List (List Sign)) (left : Option (List ℕ)) (text item : List ℕ) (behind : Option (List ℕ)) (number : ℕ) (pattern : List Sign) → whole ≡ with_front patterns (patterns_from (length patterns) (items_behind left)) → left ≡ Some text → items_of text ≡ item ∷ items_behind behind → number ≡ length patterns → UnlessMemory (Ok pattern) (item_pattern number item) → whole ≡ with_front (patterns ++ pattern ∷ []) (patterns_from (length (patterns ++ pattern ∷ [])) (items_behind behind))
 list-further whole patterns left text item behind number pattern e is items count read =
     let one : item_pattern (length patterns) item ≡ Ok pattern = rw count at (given-ok pattern (item_pattern number item) read) in
     let more : length (patterns ++ pattern ∷ []) ≡ length patterns + 1 = omega (arith, length-append patterns (pattern ∷ [])) in
     let here : items_behind left ≡ item ∷ items_behind behind = ap items_behind is ∙ items in
     let next = patterns_from (length patterns + 1) (items_behind behind) in
-    rw more (e ∙ ap (λ x. after patterns (patterns_from (length patterns) x)) here ∙ ap (λ x. after patterns (before x next)) one ∙ read-on patterns pattern next)
+    rw more (e ∙ ap (λ x. with_front patterns (patterns_from (length patterns) x)) here ∙ ap (λ x. with_front patterns (with_first x next)) one ∙ read-on patterns pattern next)
 
 -- what is left of the list gets shorter
 pub less-left : (behind : Option (Bor (List ℕ))) (n : ℕ) → IfSome behind (λ rest. length rest.now < n) → unwrap_or (option_map (λ rest. length rest.now + 1) behind) 0 < n + 1

@@ -1,8 +1,10 @@
 -- The first sign of a text, by its first bytes.
 use Rattle.std.proofs.Common.{◌≡◌, ◌≢◌, ◌+◌, ◌-◌, ◌<◌, ◌≤◌, ◌++◌, ◌∷◌, [], ℕ, List, Result, Ok, Err, length, refl, sym, ap, ◌∙◌, arith, append_assoc, eqb, ◌&&◌, true, false, Bool, inl, inr}
 use Rattle.std.proofs.lemmas.Bool.Decides.{nat_tests}
-use Rattle.jm_pattern.specs.Reading.{UnlessMemory, after, sign_of, signs_from}
-use Rattle.jm_pattern.specs.Progress.{BeginsWith, ReadsFirst}
+use Rattle.std.proofs.lemmas.Bool.{ne_eqb}
+use Rattle.jm_pattern.specs.ComputedReading.{UnlessMemory, with_front, sign_of, signs_from}
+use Rattle.jm_pattern.specs.Reading.{BeginsWith}
+use Rattle.jm_pattern.specs.ReadingSteps.{ReadsFirst}
 use Rattle.jm_pattern.specs.declared.signs.Sign.{Sign}
 use Rattle.jm_pattern.specs.declared.signs.Sign.TheVariants.{AnyRun, Run, One, Byte}
 use Rattle.jm_pattern.specs.declared.signs.PatternError.{PatternError}
@@ -12,11 +14,8 @@ use Rattle.jm_pattern.specs.declared.signs.PatternError.TheVariants.{BadEscape}
 place-behind : (at k : ℕ) (text rest : List ℕ) → length text ≡ length rest + k → at + (length text - length rest) ≡ at + k
 place-behind at k text rest e = omega arith
 
-pub test-false : (x y : ℕ) → x ≢ y → eqb x y ≡ false
-test-false x y ne = grind (arith, nat_tests)
-
 -- a byte that isn't a `\` and makes no pair with the next
-single-pair : (at b c : ℕ) (text : List ℕ) (pair : Bool) → eqb b 92 ≡ false → (eqb b 42 && eqb c 42) ≡ pair → pair ≡ false → signs_from at (b ∷ c ∷ text) ≡ after (sign_of b ∷ []) (signs_from (at + 1) (c ∷ text))
+single-pair : (at b c : ℕ) (text : List ℕ) (pair : Bool) → eqb b 92 ≡ false → (eqb b 42 && eqb c 42) ≡ pair → pair ≡ false → signs_from at (b ∷ c ∷ text) ≡ with_front (sign_of b ∷ []) (signs_from (at + 1) (c ∷ text))
 single-pair at b c text pair e1 e2 e3 = rw (e1, e2, e3) refl
 
 no-pair : (b c : ℕ) (text : List ℕ) → (b ≡ 42 → ¬ BeginsWith 42 (c ∷ text)) → (eqb b 42 && eqb c 42) ≡ false
@@ -30,9 +29,9 @@ no-pair b c text k = go (eqb b 42) refl (eqb c 42) refl
         let then-star : c ≡ 42 = grind (arith, nat_tests) in
         absurd (k is-star then-star)
 
-pub reads-single : (at b : ℕ) (text : List ℕ) → b ≢ 92 → (b ≡ 42 → ¬ BeginsWith 42 text) → signs_from at (b ∷ text) ≡ after (sign_of b ∷ []) (signs_from (at + 1) text)
-reads-single at b [] h k = rw (test-false b 92 h) refl
-reads-single at b (c ∷ text) h k = single-pair at b c text false (test-false b 92 h) (no-pair b c text k) refl
+pub reads-single : (at b : ℕ) (text : List ℕ) → b ≢ 92 → (b ≡ 42 → ¬ BeginsWith 42 text) → signs_from at (b ∷ text) ≡ with_front (sign_of b ∷ []) (signs_from (at + 1) text)
+reads-single at b [] h k = rw (ne_eqb b 92 h) refl
+reads-single at b (c ∷ text) h k = single-pair at b c text false (ne_eqb b 92 h) (no-pair b c text k) refl
 
 pub first-single : (whole : List ℕ) (b : ℕ) (text : List ℕ) (sign : Sign) → whole ≡ b ∷ text → b ≢ 92 → (b ≡ 42 → ¬ BeginsWith 42 text) → sign_of b ≡ sign → ReadsFirst whole sign text
 first-single whole b text sign e h k same at =
@@ -45,6 +44,9 @@ first-run text k = first-single (42 ∷ text) 42 text Run refl (λ e. absurd (om
 -- two `*`
 pub first-any : (text rest : List ℕ) → text ≡ 42 ∷ rest → ReadsFirst (42 ∷ text) AnyRun rest
 first-any text rest e at = rw (e, place-behind at 2 (42 ∷ 42 ∷ rest) rest (omega arith)) refl
+
+-- for the tactics, which take no name with a dash
+pub ruleset runs = (first-run, first-any)
 
 -- a `\` and its byte
 pub first-escaped : (whole text rest : List ℕ) (b c : ℕ) → whole ≡ b ∷ text → b ≡ 92 → text ≡ c ∷ rest → ReadsFirst whole (Byte c) rest
@@ -59,7 +61,7 @@ first-one whole text b e1 e2 = first-single whole b text One e1 (omega arith) (�
 -- any other byte
 pub first-byte : (whole text : List ℕ) (b : ℕ) → whole ≡ b ∷ text → b ≢ 92 → b ≢ 42 → b ≢ 63 → ReadsFirst whole (Byte b) text
 first-byte whole text b e h1 h2 h3 =
-    first-single whole b text (Byte b) e h1 (λ e. absurd (h2 e)) (rw (test-false b 42 h2, test-false b 63 h3) refl)
+    first-single whole b text (Byte b) e h1 (λ e. absurd (h2 e)) (rw (ne_eqb b 42 h2, ne_eqb b 63 h3) refl)
 
 -- a `\` at the end
 pub escape-at_end : (whole text : List ℕ) (b : ℕ) → whole ≡ b ∷ text → b ≡ 92 → length text ≡ 0 → (at : ℕ) → signs_from at whole ≡ Err (BadEscape at)
@@ -67,15 +69,15 @@ escape-at_end whole [] b e1 e2 e3 at = let e : whole ≡ 92 ∷ [] = cc in rw e 
 escape-at_end whole (c ∷ text) b e1 e2 e3 at = absurd (omega arith)
 
 -- what was read before what is left, one further
-pub read-on : {A : Type 0} (first : List A) (sign : A) (given : Result (List A) PatternError) → after first (after (sign ∷ []) given) ≡ after (first ++ sign ∷ []) given
+pub read-on : {A : Type 0} (first : List A) (sign : A) (given : Result (List A) PatternError) → with_front first (with_front (sign ∷ []) given) ≡ with_front (first ++ sign ∷ []) given
 read-on first sign (Ok signs) = ap (λ x. Ok x) (sym (append_assoc first (sign ∷ []) signs))
 read-on first sign (Err fault) = refl
 
-pub reads-further : (text : List ℕ) (signs : List Sign) (left : List ℕ) (sign : Sign) (rest : List ℕ) → length left ≤ length text → signs_from 0 text ≡ after signs (signs_from (length text - length left) left) → length rest < length left → ReadsFirst left sign rest → signs_from 0 text ≡ after (signs ++ sign ∷ []) (signs_from (length text - length rest) rest)
+pub reads-further : (text : List ℕ) (signs : List Sign) (left : List ℕ) (sign : Sign) (rest : List ℕ) → length left ≤ length text → signs_from 0 text ≡ with_front signs (signs_from (length text - length left) left) → length rest < length left → ReadsFirst left sign rest → signs_from 0 text ≡ with_front (signs ++ sign ∷ []) (signs_from (length text - length rest) rest)
 reads-further text signs left sign rest h e shorter first =
     let place : (length text - length left) + (length left - length rest) ≡ length text - length rest = omega arith in
     let here = rw place at (first (length text - length left)) in
-    e ∙ ap (λ x. after signs x) here ∙ read-on signs sign (signs_from (length text - length rest) rest)
+    e ∙ ap (λ x. with_front signs x) here ∙ read-on signs sign (signs_from (length text - length rest) rest)
 
 -- a result that is there is the one that the rules give
 pub given-ok : {A : Type 0} (x : A) (given : Result A PatternError) → UnlessMemory (Ok x) given → given ≡ Ok x

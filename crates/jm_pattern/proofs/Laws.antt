@@ -2,9 +2,11 @@
 use Rattle.std.proofs.Common.{◌≡◌, ◌+◌, ◌++◌, ◌∷◌, [], ℕ, List, Ok, map, refl, sym, ap, ◌∙◌, append-nil}
 use Rattle.std.specs.List.{All}
 use Rattle.std.proofs.lemmas.List.Elements.{All-head, All-tail}
+use Rattle.std.proofs.lemmas.Bool.{ne_eqb}
 use Rattle.jm_pattern.specs.Matching.{MatchesOnly, MatchesAll}
-use Rattle.jm_pattern.specs.Reading.{after, sign_of, signs_from, IsPlain, UnlessMemory}
-use Rattle.jm_pattern.proofs.FirstSign.{reads-single, test-false, given-ok}
+use Rattle.jm_pattern.specs.ComputedReading.{with_front, sign_of, signs_from, UnlessMemory}
+use Rattle.jm_pattern.specs.Reading.{IsPlain}
+use Rattle.jm_pattern.proofs.FirstSign.{reads-single, given-ok}
 use Rattle.jm_pattern.specs.declared.signs.Sign.{Sign}
 use Rattle.jm_pattern.specs.declared.signs.Sign.TheVariants.{AnyRun, Byte}
 
@@ -13,9 +15,9 @@ pub plain-signs : (at : ℕ) (text : List ℕ) → All IsPlain text → signs_fr
 plain-signs at [] h = refl
 plain-signs at (b ∷ text) h =
     let own = All-head IsPlain b text h in
-    let sign : sign_of b ≡ Byte b = rw (test-false b 42 own.0, test-false b 63 own.1) refl in
-    reads-single at b text own.2 (λ e. absurd (own.0 e)) ∙ ap (λ x. after (x ∷ []) (signs_from (at + 1) text)) sign
-    ∙ ap (λ x. after (Byte b ∷ []) x) (plain-signs (at + 1) text (All-tail IsPlain b text h))
+    let sign : sign_of b ≡ Byte b = rw (ne_eqb b 42 own.0, ne_eqb b 63 own.1) refl in
+    reads-single at b text own.2 (λ e. absurd (own.0 e)) ∙ ap (λ x. with_front (x ∷ []) (signs_from (at + 1) text)) sign
+    ∙ ap (λ x. with_front (Byte b ∷ []) x) (plain-signs (at + 1) text (All-tail IsPlain b text h))
 
 -- bytes match themselves alone
 pub plain-matches : (text : List ℕ) → MatchesOnly (map (λ b. Byte b) text) text

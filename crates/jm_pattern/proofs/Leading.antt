@@ -2,7 +2,7 @@
 use Rattle.std.proofs.Common.{◌≡◌, ◌≢◌, ◌∷◌, [], ℕ, List, refl}
 use Rattle.std.proofs.lemmas.List.Elements.{All-nil, All-cons, All-head}
 use Rattle.jm_pattern.specs.Matching.{StandsFor, Match}
-use Rattle.jm_pattern.specs.Searching.{Leads, IsFixed, BeginsFixed, AtRun, AtAny}
+use Rattle.jm_pattern.specs.MatchingSteps.{Leads, IsFixed, BeginsFixed, AtRun, AtAny}
 use Rattle.jm_pattern.proofs.Runs.{InRun, any-empty, run-empty, any-longer, run-longer, any-shorter, run-shorter, any-absorbs, run-absorbs, any-absorbs_before, any-fixed, run-fixed, fixed-on}
 use Rattle.jm_pattern.specs.declared.signs.Sign.{Sign}
 use Rattle.jm_pattern.specs.declared.signs.Sign.TheVariants.{AnyRun, Run, One, Byte}

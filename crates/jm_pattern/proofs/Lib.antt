@@ -1,3 +1,4 @@
+pub mod ComputedReadingLaws
 pub mod Examples
 pub mod FirstItem
 pub mod FirstSign

@@ -1,4 +1,6 @@
+pub mod ComputedReading
+pub mod Items
 pub mod Matching
-pub mod Progress
+pub mod MatchingSteps
 pub mod Reading
-pub mod Searching
+pub mod ReadingSteps

@@ -1,6 +1,7 @@
 ghost use Rattle.std.specs.Prelude.{◌≡◌, ◌∷◌, ◌<◌, ◌≤◌, length, option_map, IfSome, IfNone};
-ghost use Rattle.jm_pattern.specs.Reading.{UnlessMemory, items_of, is_refused, without_glob, item_pattern, list_of};
-ghost use Rattle.jm_pattern.specs.Progress.{GoesOn, EndsItem, items_behind};
+ghost use Rattle.jm_pattern.specs.ComputedReading.{UnlessMemory};
+ghost use Rattle.jm_pattern.specs.Items.{items_of, is_refused, without_glob, item_pattern, list_of};
+ghost use Rattle.jm_pattern.specs.ReadingSteps.{GoesOn, EndsItem, items_behind};
 
 use crate::signs::{Pattern, PatternError};
 use jm_bytes::List;

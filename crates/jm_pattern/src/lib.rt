@@ -1,5 +1,5 @@
-//! Patterns of names, by a rule of this project: `**` is any run of bytes, `*` a run without `/`, `?`
-//! one byte other than `/`, and `\` takes the next byte as itself.
+//! Patterns of names, by a rule of this project: `**` is any run of bytes, `*` a run without `/`,
+//! `?` one byte other than `/`, and `\` takes the next byte as itself.
 #![tactic(auto)]
 
 mod items;

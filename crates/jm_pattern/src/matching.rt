@@ -1,6 +1,6 @@
 ghost use Rattle.std.specs.Prelude.{◌≡◌, ◌∷◌, ◌+◌, ◌≤◌, ◌↔◌, [], length, IsTrue, IfSome, IfNone};
 ghost use Rattle.jm_pattern.specs.Matching.{StandsFor, Match};
-ghost use Rattle.jm_pattern.specs.Searching.{Leads, BeginsFixed, AtRun, AtAny};
+ghost use Rattle.jm_pattern.specs.MatchingSteps.{Leads, BeginsFixed, AtRun, AtAny};
 
 use crate::signs::Sign;
 
@@ -133,7 +133,8 @@ fn one_byte<'s, 'n>(left: Left<'s, 'n>) -> Option<Left<'s, 'n>>
     requires { BeginsFixed left.signs.now }
     ensures leads { IfSome result
         (λ next. Leads left.entry.signs.now left.entry.name.now next.signs.now next.name.now) }
-    ensures shorter { IfSome result (λ next. length next.signs.now + 1 ≡ length left.entry.signs.now) }
+    ensures shorter { IfSome result
+        (λ next. length next.signs.now + 1 ≡ length left.entry.signs.now) }
     ensures none { IfNone result (¬ Match left.entry.signs.now left.entry.name.now) }
 {
     let (sign, signs) = left.signs.split_first()?;

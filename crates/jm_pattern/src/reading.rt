@@ -1,6 +1,7 @@
 ghost use Rattle.std.specs.Prelude.{◌≡◌, ◌<◌, ◌≤◌, ◌∷◌, ℕ, length, IfSome, IfNone};
-ghost use Rattle.jm_pattern.specs.Reading.{UnlessMemory, signs_from};
-ghost use Rattle.jm_pattern.specs.Progress.{BeginsWith, ReadsFirst};
+ghost use Rattle.jm_pattern.specs.ComputedReading.{UnlessMemory, signs_from};
+ghost use Rattle.jm_pattern.specs.Reading.{BeginsWith};
+ghost use Rattle.jm_pattern.specs.ReadingSteps.{ReadsFirst};
 
 use crate::signs::{PatternError, Sign};
 use jm_bytes::List;
@@ -45,6 +46,7 @@ fn first_sign(text: &[u8]) -> Option<(Sign, &[u8])>
 }
 
 /// The sign of a `*` before these bytes, and what follows it.
+#[tactic(auto, using(crate::proofs::FirstSign::runs))]
 fn run_sign(after: &[u8]) -> (Sign, &[u8])
     ensures reads { ReadsFirst (42 ∷ after.now) result.0 result.1.now }
     ensures shorter { length result.1.now ≤ length after.now }

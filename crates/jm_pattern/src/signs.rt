@@ -1,6 +1,7 @@
 ghost use Rattle.std.specs.Prelude.{◌≡◌, ◌↔◌, IsTrue, IfOk, All, codes};
 ghost use Rattle.jm_pattern.specs.Matching.{Match, MatchesOnly, MatchesAll};
-ghost use Rattle.jm_pattern.specs.Reading.{UnlessMemory, IsPlain, pattern_of};
+ghost use Rattle.jm_pattern.specs.ComputedReading.{UnlessMemory, pattern_of};
+ghost use Rattle.jm_pattern.specs.Reading.{IsPlain};
 
 use crate::matching::is_match;
 use crate::reading::signs_of;
@@ -60,8 +61,8 @@ impl From<NoMemory> for PatternError {
 }
 
 impl Pattern {
-    /// Reads a text from left to right: `**`, `*` and `?` are signs, `\x` is the byte x, and any other
-    /// byte is itself. A place in `BadEscape` is in bytes from 0.
+    /// Reads a text from left to right: `**`, `*` and `?` are signs, `\x` is the byte x, and any
+    /// other byte is itself. A place in `BadEscape` is in bytes from 0.
     pub fn parse(alloc: Global, text: &[u8]) -> Result<Pattern, PatternError>
         ensures read { UnlessMemory result (pattern_of text.now) }
 

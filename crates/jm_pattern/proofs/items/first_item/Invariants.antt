@@ -1,5 +1,5 @@
 use Rattle.std.proofs.Common.{length}
-use Rattle.jm_pattern.specs.Progress.{GoesOn}
+use Rattle.jm_pattern.specs.ReadingSteps.{GoesOn}
 use Rattle.jm_pattern.proofs.items.first_item.Given as goal
 
 abbrev pub invariant-loop-after : goal.invariant-loop-after

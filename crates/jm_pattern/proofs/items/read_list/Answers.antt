@@ -1,6 +1,6 @@
 use Rattle.std.proofs.Common.{option_map, ap}
 use Rattle.jm_pattern.proofs.FirstItem.{less-left, list-further}
-use Rattle.jm_pattern.specs.Reading.{list_of}
+use Rattle.jm_pattern.specs.Items.{list_of}
 use Rattle.jm_pattern.proofs.items.read_list.Goals as goal
 
 pub loop-left-smaller : goal.loop-left-smaller

@@ -1,5 +1,5 @@
 use Rattle.std.proofs.Common.{◌∷◌, length}
-use Rattle.jm_pattern.specs.Searching.{Leads}
+use Rattle.jm_pattern.specs.MatchingSteps.{Leads}
 use Rattle.jm_pattern.specs.declared.signs.Sign.TheVariants.{Run}
 use Rattle.jm_pattern.proofs.matching.after_run.Given as goal
 

@@ -1,5 +1,5 @@
 use Rattle.std.proofs.Common.{◌≤◌, length}
-use Rattle.jm_pattern.specs.Searching.{Leads}
+use Rattle.jm_pattern.specs.MatchingSteps.{Leads}
 use Rattle.jm_pattern.proofs.matching.block.Given as goal
 
 abbrev pub invariant-loop-left : goal.invariant-loop-left

@@ -1,5 +1,5 @@
 use Rattle.std.proofs.Common.{◌≤◌, length}
-use Rattle.jm_pattern.specs.Searching.{Leads, AtRun}
+use Rattle.jm_pattern.specs.MatchingSteps.{Leads, AtRun}
 use Rattle.jm_pattern.proofs.matching.segment.Given as goal
 
 abbrev pub invariant-loop-behind : goal.invariant-loop-behind

@@ -1,5 +1,5 @@
 use Rattle.std.proofs.Common.{length}
-use Rattle.jm_pattern.specs.Searching.{Leads, AtAny}
+use Rattle.jm_pattern.specs.MatchingSteps.{Leads, AtAny}
 use Rattle.jm_pattern.proofs.matching.whole.Given as goal
 
 abbrev pub invariant-loop-behind : goal.invariant-loop-behind

@@ -1,16 +1,14 @@
--- How far the reading of a text or of a list has come.
+-- How far the reading of a text or of a list has come (words of the proof).
 use Rattle.std.specs.Prelude.{◌≡◌, ◌+◌, ◌-◌, ◌++◌, ◌∷◌, [], ℕ, List, Option, Some, None, length}
-use Rattle.jm_pattern.specs.Reading.{after, signs_from, onto_first, items_of}
+use Rattle.jm_pattern.specs.ComputedReading.{with_front, signs_from}
+use Rattle.jm_pattern.specs.Items.{onto_first, items_of}
 use Rattle.jm_pattern.specs.declared.signs.Sign.{Sign}
-
--- a text begins with a byte
-abbrev pub BeginsWith : ℕ → List ℕ → Type 0
-BeginsWith b [] = ⊥
-BeginsWith b (c ∷ text) = c ≡ b
 
 -- a text reads as one sign and what the rest reads as
 abbrev pub ReadsFirst : List ℕ → Sign → List ℕ → Type 0
-ReadsFirst text sign rest = (at : ℕ) → signs_from at text ≡ after (sign ∷ []) (signs_from (at + (length text - length rest)) rest)
+ReadsFirst text sign rest =
+    (at : ℕ) → signs_from at text
+    ≡ with_front (sign ∷ []) (signs_from (at + (length text - length rest)) rest)
 
 -- the items behind a list's first: those of what the `,` that ends it leaves
 abbrev pub items_behind : Option (List ℕ) → List (List ℕ)
@@ -19,7 +17,8 @@ items_behind (Some text) = items_of text
 
 -- some bytes of the first item, and what follows them
 abbrev pub GoesOn : List ℕ → List ℕ → Type 0
-GoesOn text rest = (front : List ℕ) × (text ≡ front ++ rest) × (items_of text ≡ onto_first front (items_of rest))
+GoesOn text rest =
+    (front : List ℕ) × (text ≡ front ++ rest) × (items_of text ≡ onto_first front (items_of rest))
 
 -- the first item ends here: at a `,`, or at the end of the list
 abbrev pub EndsItem : List ℕ → Type 0

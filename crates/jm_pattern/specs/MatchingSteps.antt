@@ -1,4 +1,5 @@
--- How far a search for a match has come: what is left to match decides for the whole.
+-- How far a search for a match has come: what is left to match decides for the whole (words of the
+-- proof).
 use Rattle.std.specs.Prelude.{◌≡◌, ◌∷◌, [], ℕ, List}
 use Rattle.jm_pattern.specs.Matching.{Match}
 use Rattle.jm_pattern.specs.declared.signs.Sign.{Sign}
@@ -6,7 +7,8 @@ use Rattle.jm_pattern.specs.declared.signs.Sign.TheVariants.{AnyRun, Run, One, B
 
 -- the signs and the name left match exactly where the whole do, and no match that begins later,
 -- behind a `*` or a `**`, is lost by going on from there
-pub record Leads (signs : List Sign) (name : List ℕ) (signs_left : List Sign) (name_left : List ℕ) : Type 0 where
+pub record Leads (signs : List Sign) (name : List ℕ)
+    (signs_left : List Sign) (name_left : List ℕ) : Type 0 where
   pub back : Match signs_left name_left → Match signs name
   pub on : Match signs name → Match signs_left name_left
   pub run : Match (Run ∷ signs) name → Match (Run ∷ signs_left) name_left
