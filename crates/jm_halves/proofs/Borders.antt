@@ -2,7 +2,7 @@
 use Rattle.std.proofs.Common.{◌≡◌, ℕ, ◌*◌, ◌/◌, ◌<◌, ◌≤◌, ap, ◌∙◌}
 use Rattle.std.proofs.Math.Nat.{le_trans, div-mul-le_self, mul-le-mul_right, mul-div_cancel_left, zero-mul, zero-div}
 use Rattle.std.proofs.lemmas.Nat.{le-div}
-use Rattle.jm_halves.specs.Pieces.{piece_start}
+use Rattle.jm_halves.specs.ComputedPieces.{piece_start}
 
 -- a later piece begins no earlier
 pub piece_start-mono : (places pieces j k : ℕ) → 0 < pieces → j ≤ k → piece_start places pieces j ≤ piece_start places pieces k

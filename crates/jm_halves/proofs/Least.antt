@@ -4,7 +4,7 @@ use Rattle.std.proofs.Math.Nat.{le_refl}
 use Rattle.std.proofs.lemmas.Bool.{cases_lt}
 use Rattle.std.specs.Option.{option_or}
 use Rattle.jm_halves.specs.First.{IsFirstIn}
-use Rattle.jm_halves.specs.Pieces.{piece_start}
+use Rattle.jm_halves.specs.ComputedPieces.{piece_start}
 use Rattle.jm_halves.proofs.Borders.{piece_start-first, piece_start-end, piece_start-mono}
 
 module _ {D : Type 0} (gives : ℕ → Option D → Type 0) where

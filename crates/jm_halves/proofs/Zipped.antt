@@ -7,7 +7,7 @@ use Rattle.std.specs.Borrow.{Bor}
 use Rattle.std.specs.Fn.{FnReturns, FnReturnsAt}
 use Rattle.std.specs.List.{AllZip}
 use denote.Param.Members.{Shared}
-use Rattle.jm_halves.specs.Pieces.{piece_start, pieces_between}
+use Rattle.jm_halves.specs.ComputedPieces.{piece_start, pieces_between}
 use Rattle.jm_halves.proofs.Borders.{piece_start-mono, piece_start-first, piece_start-end}
 
 -- a range is its front and the rest of it

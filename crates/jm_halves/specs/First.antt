@@ -1,8 +1,10 @@
 -- The least place with a value (this project's rule: the answer that one thread gives).
 use Rattle.std.specs.Prelude.{ℕ, ◌<◌, ◌≤◌, Option, Some, None, IfSome, IfNone}
 
--- the least place from low on and below high for which gives says that there is a value, with that value
-pub record IsFirstIn {D : Type 0} (gives : ℕ → Option D → Type 0) (low high : ℕ) (found : Option (ℕ × D)) : Type 0 where
+-- the least place from low on and below high for which gives says that there is a value, with that
+-- value
+pub record IsFirstIn {D : Type 0}
+    (gives : ℕ → Option D → Type 0) (low high : ℕ) (found : Option (ℕ × D)) : Type 0 where
   -- what is found is the value at a place within
   pub value : IfSome found (λ r. (low ≤ r.0) × (r.0 < high) × gives r.0 (Some r.1))
   -- no place before it has a value

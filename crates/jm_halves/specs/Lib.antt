@@ -1,2 +1,2 @@
+pub mod ComputedPieces
 pub mod First
-pub mod Pieces

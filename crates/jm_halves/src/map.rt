@@ -2,7 +2,7 @@ ghost use Rattle.std.specs.Prelude.{◌≡◌, ◌++◌, ◌<◌, Contains, IfOk
 ghost use Rattle.std.specs.Fn.{FnReturnsAt};
 ghost use Rattle.std.specs.List.{AllZip};
 ghost use Rattle.std.specs.Thread.{IsSend, IsSync};
-ghost use Rattle.jm_halves.specs.Pieces.{pieces_between};
+ghost use Rattle.jm_halves.specs.ComputedPieces.{pieces_between};
 
 use crate::gate::Gate;
 use crate::run::Run;
@@ -68,7 +68,7 @@ fn map_run<R: Threads + Sync, T: Sync, U: Send + Drop, F: Fn(&T) -> U + Sync, G:
             (pieces_between items.entry.now right.pieces right.from right.to) v.items) }
     { map_run(rt, alloc, right, items, f, gate) };
     let (front, back) = join(rt, front, back);
-    joined(front, back)
+    answers_of_both(front, back)
 }
 
 /// The answers to all items of a slice, in order.
@@ -88,11 +88,12 @@ fn map_slice<T, U: Drop, F: Fn(&T) -> U>(
 }
 
 /// The answers of two runs as one list.
-fn joined<U: Drop>(
+fn answers_of_both<U: Drop>(
     front: Result<Vec<U>, AllocError>,
     back: Result<Vec<U>, AllocError>,
 ) -> Result<Vec<U>, AllocError>
-    ensures { IfOk result (λ all. IsOkAnd front (λ a. IsOkAnd back (λ b. all.items ≡ a.items ++ b.items))) }
+    ensures { IfOk result (λ all. IsOkAnd front (λ a. IsOkAnd back
+        (λ b. all.items ≡ a.items ++ b.items))) }
 {
     let mut all = front?;
     let mut rest = back?;

@@ -1,5 +1,5 @@
 ghost use Rattle.std.specs.Prelude.{◌≡◌, ◌+◌, ◌<◌, ◌≤◌, ◌↔◌, IsNone, IfSome, IfNone, min};
-ghost use Rattle.jm_halves.specs.Pieces.{piece_start};
+ghost use Rattle.jm_halves.specs.ComputedPieces.{piece_start};
 
 /// A run of neighbouring pieces: those from `from` up to and without `to`, of all `pieces` pieces.
 #[derive(Clone, Copy)]

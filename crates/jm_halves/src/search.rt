@@ -1,7 +1,7 @@
 ghost use Rattle.std.specs.Prelude.{◌≡◌, ◌<◌, ◌≤◌};
 ghost use Rattle.std.specs.Thread.{IsSend, IsSync};
 ghost use Rattle.jm_halves.specs.First.{IsFirstIn};
-ghost use Rattle.jm_halves.specs.Pieces.{piece_start};
+ghost use Rattle.jm_halves.specs.ComputedPieces.{piece_start};
 
 use crate::gate::Gate;
 use crate::run::Run;

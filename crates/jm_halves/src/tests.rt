@@ -115,7 +115,8 @@ fn squares<R: Threads + Sync, G: Gate + Sync>(
 
 fn above_zero(numbers: &[u32], place: usize) -> Option<u32>
     requires { place < length numbers.now }
-    ensures some { IfSome result (λ number. (number ≡ slice_index numbers.now place) × (0 < number)) }
+    ensures some { IfSome result
+        (λ number. (number ≡ slice_index numbers.now place) × (0 < number)) }
     ensures none { IfNone result (slice_index numbers.now place ≡ 0) }
 {
     if numbers[place] > 0 {
@@ -136,7 +137,8 @@ fn first_above_zero<R: Threads + Sync, G: Gate + Sync>(
     ensures inside { IfSome result (λ r. r.0 < length numbers.now) }
     ensures value { IfSome result (λ r. (r.1 ≡ slice_index numbers.now r.0) × (0 < r.1)) }
     ensures first { IfSome result (λ r. (i : ℕ) → i < r.0 → slice_index numbers.now i ≡ 0) }
-    ensures none { IfNone result ((i : ℕ) → i < length numbers.now → slice_index numbers.now i ≡ 0) }
+    ensures none { IfNone result
+        ((i : ℕ) → i < length numbers.now → slice_index numbers.now i ≡ 0) }
 {
     first_some(
         rt,

@@ -10,6 +10,6 @@ returns g t c =
     let halves = c.in-Some.ensures in
     let found = c.join-front.ensures in
     zip_joined (FnReturnsAt g.F.Fn c.args.f.now) (λ v. v.items) c.args.items.now run.pieces run.from left.to run.to
-    (omega arith) (omega arith) (omega arith) _ _ _ c.joined.ensures
+    (omega arith) (omega arith) (omega arith) _ _ _ c.answers_of_both.ensures
     (rw (halves.start, halves.first) at found.first)
     (rw (← halves.meet, halves.end, halves.second) at found.second)

@@ -2,7 +2,7 @@ use Rattle.std.proofs.Common.{arith}
 use Rattle.std.proofs.lemmas.Result.{IfOk-at_ok}
 use Rattle.std.specs.Fn.{FnReturnsAt}
 use Rattle.std.specs.List.{AllZip}
-use Rattle.jm_halves.specs.Pieces.{pieces_between}
+use Rattle.jm_halves.specs.ComputedPieces.{pieces_between}
 use Rattle.jm_halves.proofs.Zipped.{zip_whole}
 use Rattle.jm_halves.proofs.map.map_halves.Goals as goal
 
