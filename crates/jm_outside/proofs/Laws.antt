@@ -50,9 +50,9 @@ behind_front (b ∷ front) r (c ∷ text) = go (b == c) (behind_front front r te
     go true h = h
     go false h = refl
 
-named : (front r : List ℕ) (files : Files) → list_any (bytes_eq r) (filter_map (λ f. after_front front f.0) files) ≡ is_some (file files (front ++ r))
-named front r [] = refl
-named front r (f ∷ files) = rw (behind_front front r f.0) (go (after_front front f.0) (named front r files))
+any_name_behind : (front r : List ℕ) (files : Files) → list_any (bytes_eq r) (filter_map (λ f. after_front front f.0) files) ≡ is_some (file files (front ++ r))
+any_name_behind front r [] = refl
+any_name_behind front r (f ∷ files) = rw (behind_front front r f.0) (go (after_front front f.0) (any_name_behind front r files))
   where
     test : (b : Bool) → list_any (bytes_eq r) (filter_map (λ f. after_front front f.0) files) ≡ is_some (file files (front ++ r)) → (b || list_any (bytes_eq r) (filter_map (λ f. after_front front f.0) files)) ≡ is_some (cond b (Some f.1) (file files (front ++ r)))
     test true h = refl
@@ -64,4 +64,4 @@ named front r (f ∷ files) = rw (behind_front front r f.0) (go (after_front fro
 
 -- a folder has exactly the names that make paths with it and a slash
 pub names_below-exact : (folder r : List ℕ) (files : Files) → list_any (bytes_eq r) (names_below folder files) ≡ is_some (file files (folder ++ 47 ∷ r))
-names_below-exact folder r files = rw (sym (append_assoc folder (47 ∷ []) r)) (named (folder ++ 47 ∷ []) r files)
+names_below-exact folder r files = rw (sym (append_assoc folder (47 ∷ []) r)) (any_name_behind (folder ++ 47 ∷ []) r files)

@@ -1,4 +1,3 @@
-pub mod Answer
 pub mod Last
 pub mod Laws
 pub mod Map

@@ -29,10 +29,12 @@ abbrev pub file : Files → List ℕ → Option (List ℕ)
 file [] path = None
 file (f ∷ files) path = if bytes_eq path f.0 then Some f.1 else file files path
 
--- the files with these bytes at a path, in place of what it had
+-- the files with these bytes at a path, in place of what it had: in front of the first path above
 abbrev pub put : Files → List ℕ → List ℕ → Files
 put [] path bytes = (path, bytes) ∷ []
-put (f ∷ files) path bytes = match_ordering (slice_cmp nat_cmp path f.0) ((path, bytes) ∷ f ∷ files) ((f.0, bytes) ∷ files) (f ∷ put files path bytes)
+put (f ∷ files) path bytes =
+    match_ordering (slice_cmp nat_cmp path f.0)
+    ((path, bytes) ∷ f ∷ files) ((f.0, bytes) ∷ files) (f ∷ put files path bytes)
 
 -- the files with bytes at the end of a path's own, or of an empty file where none was there
 abbrev pub add : Files → List ℕ → List ℕ → Files

@@ -1,7 +1,7 @@
 pub mod Answers
-pub mod Cuts
-pub mod Entries
+pub mod ComputedCalls
+pub mod ComputedCuts
 pub mod Files
-pub mod Memory
-pub mod Numbered
+pub mod MapView
 pub mod Outcome
+pub mod Views

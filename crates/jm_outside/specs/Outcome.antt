@@ -1,5 +1,5 @@
 -- What is known of the content of a shelf, a source or a sink that may tell it, and of its count of
--- faults.
+-- faults (this project's rule).
 use Rattle.std.specs.Prelude.{◌≡◌, ◌<◌, ◌≤◌, ◌-◌, ◌^◌, ℕ, List, [], ◌++◌, Option, Some, None, ◌⊎◌, length, take}
 use Rattle.jm_outside.specs.Files.{Files, put, add}
 
@@ -20,7 +20,8 @@ AsBeforeOrEmpty old new path = (new ≡ old) ⊎ (new ≡ put old path [])
 
 -- a prefix of the bytes was added to the file: the files are as before where it is none
 abbrev pub AddsFront : Files → Files → List ℕ → List ℕ → Type 0
-AddsFront old new path bytes = (new ≡ old) ⊎ ((n : ℕ) × (n ≤ length bytes) × (new ≡ add old path (take n bytes)))
+AddsFront old new path bytes =
+    (new ≡ old) ⊎ ((n : ℕ) × (n ≤ length bytes) × (new ≡ add old path (take n bytes)))
 
 -- a prefix of the bytes was put at the end
 abbrev pub PutsFront : List ℕ → List ℕ → List ℕ → Type 0
@@ -29,3 +30,8 @@ PutsFront old new bytes = (n : ℕ) × (n ≤ length bytes) × (new ≡ old ++ t
 -- a count rose in a call: it is greater, or stands at the last value of a counter of 64 bits
 abbrev pub Rose : ℕ → ℕ → Type 0
 Rose old new = (old < new) ⊎ (new ≡ 2 ^ 64 - 1)
+
+-- a count of faults over a call: it never falls, and it rose where the call failed
+pub record CountsFaults (old new : ℕ) (failed : Type 0) : Type 0 where
+  pub count : old ≤ new
+  pub rose : failed → Rose old new

@@ -14,19 +14,19 @@ pub struct Calls {
 }
 
 impl Model for Calls {
-    ghost use Rattle.jm_outside.specs.Numbered.{Numbered};
+    ghost use Rattle.jm_outside.specs.ComputedCalls.{CallNumbers};
 
-    ghost Value = { Numbered };
+    ghost Value = { CallNumbers };
 
     ghost view = { λ a. record { failing = a.failing; next = a.next; faults = a.faults } };
 }
 
 impl Calls {
-    ghost use Rattle.jm_outside.specs.Numbered.{uncalled, IsListed, one_more, after_call};
+    ghost use Rattle.jm_outside.specs.ComputedCalls.{no_calls, IsListed, one_more, after_call};
     ghost use Rattle.jm_outside.specs.Outcome.{Rose};
 
     pub fn new(alloc: Global) -> Calls
-        ensures { result ≡ uncalled }
+        ensures { result ≡ no_calls }
     {
         Calls {
             failing: List::new(alloc),

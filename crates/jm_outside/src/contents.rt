@@ -15,6 +15,11 @@ const LEAST_PIECE: usize = 8 * 1024;
 
 const MOST_PIECE: usize = 128 * 1024;
 
+/// Whether an error says that nothing is at a path, or that a folder of the path is none.
+pub fn is_absence(kind: ErrorKind) -> bool {
+    matches!(kind, ErrorKind::NotFound | ErrorKind::NotADirectory)
+}
+
 /// The bytes of the file at a path, or None where no file is there.
 pub fn read_at<R: Files>(rt: &R, alloc: Global, path: &[u8]) -> Result<Option<Text>, ShelfError> {
     let Ok(path) = str::from_utf8(path) else {
@@ -22,12 +27,8 @@ pub fn read_at<R: Files>(rt: &R, alloc: Global, path: &[u8]) -> Result<Option<Te
     };
     let mut file = match fs::open(rt, path) {
         Ok(file) => file,
-        Err(e) => {
-            return match e.kind() {
-                ErrorKind::NotFound | ErrorKind::NotADirectory => Ok(None),
-                _ => Err(ShelfError::from(e)),
-            };
-        }
+        Err(e) if is_absence(e.kind()) => return Ok(None),
+        Err(e) => return Err(ShelfError::from(e)),
     };
     let size = file.metadata()?.len();
     if size > MOST_BYTES {

@@ -1,7 +1,7 @@
 ghost use Rattle.std.specs.Prelude.{◌≡◌, ◌++◌, ◌∷◌, [], IfOk, OnOk, OnErr, option_map};
 ghost use Rattle.jm_outside.specs.Files.{file, put, add, after_front, names_below};
 
-use jm_bytes::{List, NoMemory, Text};
+use jm_bytes::{List, NoMemory, Text, copy_of};
 use std::alloc::Global;
 use std::collections::BTreeMap;
 use std::marker::Model;
@@ -14,7 +14,7 @@ pub struct FileMap {
 
 impl Model for FileMap {
     ghost use Rattle.jm_outside.specs.Files.{Files};
-    ghost use Rattle.jm_outside.specs.Entries.{files_of};
+    ghost use Rattle.jm_outside.specs.MapView.{files_of};
 
     ghost Value = { Files };
 
@@ -94,15 +94,6 @@ fn extend(file: &mut Vec<u8>, bytes: &[u8]) -> Result<(), NoMemory>
 {
     match file.extend_from_slice(bytes) {
         Ok(()) => Ok(()),
-        Err(_) => Err(NoMemory),
-    }
-}
-
-fn copy_of(alloc: Global, bytes: &[u8]) -> Result<Vec<u8>, NoMemory>
-    ensures { IfOk result (λ copy. copy.items ≡ bytes.now) }
-{
-    match Vec::from_slice(alloc, bytes) {
-        Ok(copy) => Ok(copy),
         Err(_) => Err(NoMemory),
     }
 }

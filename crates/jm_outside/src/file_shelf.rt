@@ -1,6 +1,5 @@
-ghost use Rattle.std.specs.Prelude.{◌≡◌, ◌≤◌, None, All, IsUtf8, IfOk, IsErrOf};
-ghost use Rattle.jm_outside.specs.Files.{Rising};
-ghost use Rattle.jm_outside.specs.Outcome.{Rose};
+ghost use Rattle.std.specs.Prelude.{◌≡◌, None, IsErrOf};
+ghost use Rattle.jm_outside.specs.Outcome.{CountsFaults};
 
 use crate::contents::{append_to, create_at, read_at};
 use crate::folders::names_in;
@@ -28,10 +27,10 @@ impl<'a, R: Files + AllocGlobal> FileShelf<'a, R> {
     }
 
     /// Hands on what a call answers, and counts a fault where it failed.
-    fn counted<T: Drop>(&mut self, answer: Result<T, ShelfError>) -> Result<T, ShelfError>
-        ensures same { result ≡ answer }
-        ensures count { self.old.faults ≤ self.new.faults }
-        ensures rose { IsErrOf result ShelfError.Failed → Rose self.old.faults self.new.faults }
+    fn count_failure<T: Drop>(&mut self, answer: Result<T, ShelfError>) -> Result<T, ShelfError>
+        ensures answer { result ≡ answer }
+        ensures faults { CountsFaults self.old.faults self.new.faults
+            (IsErrOf result ShelfError.Failed) }
     {
         if let Err(ShelfError::Failed) = &answer {
             self.faults = self.faults.saturating_add(1);
@@ -45,34 +44,34 @@ impl<'a, R: Files + AllocGlobal> Shelf for FileShelf<'a, R> {
 
     ghost faults = { λ shelf. shelf.faults };
 
-    /// Goes through the folder to any depth. A symbolic link below it that leads to a file counts as
-    /// a file. Any other link is left out, and none is entered, so that no link leads out of the
+    /// Goes through the folder to any depth. A symbolic link below it that leads to a file counts
+    /// as a file. Any other link is left out, and none is entered, so that no link leads out of the
     /// folder or round in it. What is neither a file nor a folder is left out too.
     ///
     /// A name that isn't UTF-8 is a fault, and so are more than 16,777,216 files and folders. A
     /// folder that isn't there has no names.
     fn names(&mut self, alloc: Global, dir: &[u8]) -> Result<List<Text>, ShelfError> {
         let answer = names_in(self.rt, alloc, dir);
-        self.counted(answer)
+        self.count_failure(answer)
     }
 
-    /// None where the path, or a folder of it, isn't there, or a folder of it is a file. A folder in
-    /// the place of the file is a fault, and so are more than 4,294,967,296 bytes.
+    /// None where the path, or a folder of it, isn't there, or a folder of it is a file. A folder
+    /// in the place of the file is a fault, and so are more than 4,294,967,296 bytes.
     fn read(&mut self, alloc: Global, path: &[u8]) -> Result<Option<Text>, ShelfError> {
         let answer = read_at(self.rt, alloc, path);
-        self.counted(answer)
+        self.count_failure(answer)
     }
 
     /// Makes the folders of the path that are missing.
     fn create(&mut self, _alloc: Global, path: &[u8]) -> Result<(), ShelfError> {
         let answer = create_at(self.rt, path);
-        self.counted(answer)
+        self.count_failure(answer)
     }
 
     /// Makes no folder: one that is missing is a fault.
     fn append(&mut self, _alloc: Global, path: &[u8], bytes: &[u8]) -> Result<(), ShelfError> {
         let answer = append_to(self.rt, path, bytes);
-        self.counted(answer)
+        self.count_failure(answer)
     }
 
     ghost sound = { λ _. tt };

@@ -1,7 +1,8 @@
 //! The names of the files below a folder of the system.
-ghost use Rattle.std.specs.Prelude.{◌≡◌, ◌∷◌, ◌++◌, [], All, IsUtf8, IfOk, IsTrue};
+ghost use Rattle.std.specs.Prelude.{◌∷◌, ◌++◌, [], All, IsUtf8, IfOk, IsTrue};
 ghost use Rattle.jm_outside.specs.Files.{Rising};
 
+use crate::contents::is_absence;
 use crate::shelf::ShelfError;
 use jm_bytes::{List, NoMemory, Text};
 use std::alloc::Global;
@@ -19,7 +20,7 @@ const MOST_ENTRIES: u32 = 16_777_216;
 struct Tree {
     names: Vec<String>,
     folders: Vec<String>,
-    met: u32,
+    entry_count: u32,
 }
 
 /// The names of the files below a folder, rising.
@@ -37,7 +38,7 @@ pub fn names_in<R: Files + AllocGlobal>(
     let mut tree = Tree {
         names: Vec::new(alloc),
         folders: Vec::new(alloc),
-        met: 0,
+        entry_count: 0,
     };
     if !list(rt, alloc, folder, "", &mut tree)? {
         return Ok(List::new(alloc));
@@ -65,27 +66,35 @@ fn list<R: Files + AllocGlobal>(
     let path = format!(in alloc; "{root}/{inner}")?;
     let entries = match fs::read_dir(&rt, path.as_str()) {
         Ok(entries) => entries,
-        Err(e) => {
-            return match e.kind() {
-                ErrorKind::NotFound | ErrorKind::NotADirectory => Ok(false),
-                _ => Err(ShelfError::from(e)),
-            };
-        }
+        Err(e) if is_absence(e.kind()) => return Ok(false),
+        Err(e) => return Err(ShelfError::from(e)),
     };
     for entry in entries {
         let entry = entry?;
-        if tree.met >= MOST_ENTRIES {
-            return Err(ShelfError::Failed);
-        }
-        tree.met += 1;
-        let name = entry.file_name();
-        match kind_at(rt, entry.path())? {
-            Kind::File => tree.names.push(format!(in alloc; "{inner}{name}")?)?,
-            Kind::Folder => tree.folders.push(format!(in alloc; "{inner}{name}/")?)?,
-            Kind::Other => {}
-        }
+        let kind = kind_at(rt, entry.path())?;
+        add_entry(alloc, inner, entry.file_name(), kind, tree)?;
     }
     Ok(true)
+}
+
+/// Adds what stands in a folder to its tree.
+fn add_entry(
+    alloc: Global,
+    inner: &str,
+    name: &str,
+    kind: Kind,
+    tree: &mut Tree,
+) -> Result<(), ShelfError> {
+    if tree.entry_count >= MOST_ENTRIES {
+        return Err(ShelfError::Failed);
+    }
+    tree.entry_count += 1;
+    match kind {
+        Kind::File => tree.names.push(format!(in alloc; "{inner}{name}")?)?,
+        Kind::Folder => tree.folders.push(format!(in alloc; "{inner}{name}/")?)?,
+        Kind::Other => {}
+    }
+    Ok(())
 }
 
 /// What stands at a path.
@@ -102,21 +111,18 @@ fn kind_at<R: Files>(rt: &R, path: Path<'_>) -> io::Result<Kind> {
     if found.is_dir() {
         return Ok(Kind::Folder);
     }
-    if found.is_file() {
+    if found.is_file() || found.is_symlink() && leads_to_file(rt, path)? {
         return Ok(Kind::File);
     }
-    if !found.is_symlink() {
-        return Ok(Kind::Other);
-    }
+    Ok(Kind::Other)
+}
+
+/// Whether a link leads to a file.
+fn leads_to_file<R: Files>(rt: &R, path: Path<'_>) -> io::Result<bool> {
     match fs::metadata(rt, path) {
-        Ok(target) if target.is_file() => Ok(Kind::File),
-        Ok(_) => Ok(Kind::Other),
-        Err(e) => match e.kind() {
-            ErrorKind::NotFound | ErrorKind::NotADirectory | ErrorKind::FilesystemLoop => Ok(
-                Kind::Other,
-            ),
-            _ => Err(e),
-        },
+        Ok(target) => Ok(target.is_file()),
+        Err(e) if e.kind() == ErrorKind::FilesystemLoop || is_absence(e.kind()) => Ok(false),
+        Err(e) => Err(e),
     }
 }
 

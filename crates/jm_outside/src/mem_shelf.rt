@@ -1,9 +1,10 @@
-ghost use Rattle.std.specs.Prelude.{◌≡◌, ◌≤◌, ◌/◌, ◌↔◌, ◌⊎◌, [], Some, All, IsUtf8, IfOk, OnOk, OnErr, IsErrOf, option_map, take, length};
+ghost use Rattle.std.specs.Prelude.{◌≡◌, ◌/◌, ◌↔◌, [], Some, All, IsUtf8, IfOk, OnOk, OnErr, IsErrOf, option_map};
 ghost use Rattle.std.specs.List.Sorted.{IsStrictlySortedBy-prop};
 ghost use Rattle.std.proofs.lemmas.Str.{IsUtf8-had};
-ghost use Rattle.jm_outside.specs.Files.{Files, Rising, paths, file, put, add, names_below};
-ghost use Rattle.jm_outside.specs.Outcome.{Rose};
-ghost use Rattle.jm_outside.specs.Numbered.{uncalled, IsListed, after_call};
+ghost use Rattle.jm_outside.specs.Files.{Rising, paths, file, put, add, names_below};
+ghost use Rattle.jm_outside.specs.Outcome.{CountsFaults};
+ghost use Rattle.jm_outside.specs.ComputedCalls.{no_calls, IsListed, after_call};
+ghost use Rattle.jm_outside.specs.ComputedCuts.{first_half};
 
 use crate::calls::Calls;
 use crate::file_map::FileMap;
@@ -24,12 +25,12 @@ pub struct MemShelf {
 }
 
 impl MemShelf {
-    ghost use Rattle.jm_outside.specs.Memory.{files_on, calls_of};
+    ghost use Rattle.jm_outside.specs.Views.{files_on, calls_of};
 
     /// A shelf of no file, none of whose calls fails.
     pub fn new(alloc: Global) -> MemShelf
         ensures files { files_on result ≡ [] }
-        ensures calls { calls_of result ≡ uncalled }
+        ensures calls { calls_of result ≡ no_calls }
     {
         MemShelf {
             files: FileMap::new(alloc),
@@ -64,7 +65,7 @@ impl MemShelf {
 }
 
 impl Shelf for MemShelf {
-    ghost use Rattle.jm_outside.specs.Memory.{files_on, calls_of};
+    ghost use Rattle.jm_outside.specs.Views.{files_on, calls_of};
     ghost use Rattle.jm_outside.specs.Answers.{shelf_failed};
 
     ghost files = { λ shelf. Some (files_on shelf) };
@@ -80,8 +81,10 @@ impl Shelf for MemShelf {
         ensures found { IfOk result (λ names. names ≡ names_below dir.now (files_on self.old)) }
         ensures listed { IsErrOf result ShelfError.Failed ↔ IsListed (calls_of self.old) }
         ensures calls { calls_of self.new ≡ after_call (calls_of self.old) (shelf_failed result) }
-        ensures count { (calls_of self.old).faults ≤ (calls_of self.new).faults }
-        ensures rose { IsErrOf result ShelfError.Failed → Rose (calls_of self.old).faults (calls_of self.new).faults }
+
+        // Follows from `calls`.
+        ensures faults { CountsFaults (calls_of self.old).faults (calls_of self.new).faults
+            (IsErrOf result ShelfError.Failed) }
     {
         if self.calls.number() {
             self.calls.fault();
@@ -97,8 +100,10 @@ impl Shelf for MemShelf {
         ensures found { IfOk result (λ found. found ≡ file (files_on self.old) path.now) }
         ensures listed { IsErrOf result ShelfError.Failed ↔ IsListed (calls_of self.old) }
         ensures calls { calls_of self.new ≡ after_call (calls_of self.old) (shelf_failed result) }
-        ensures count { (calls_of self.old).faults ≤ (calls_of self.new).faults }
-        ensures rose { IsErrOf result ShelfError.Failed → Rose (calls_of self.old).faults (calls_of self.new).faults }
+
+        // Follows from `calls`.
+        ensures faults { CountsFaults (calls_of self.old).faults (calls_of self.new).faults
+            (IsErrOf result ShelfError.Failed) }
     {
         if self.calls.number() {
             self.calls.fault();
@@ -117,8 +122,10 @@ impl Shelf for MemShelf {
         ensures err { OnErr result (files_on self.new ≡ files_on self.old) }
         ensures listed { IsErrOf result ShelfError.Failed ↔ IsListed (calls_of self.old) }
         ensures calls { calls_of self.new ≡ after_call (calls_of self.old) (shelf_failed result) }
-        ensures count { (calls_of self.old).faults ≤ (calls_of self.new).faults }
-        ensures rose { IsErrOf result ShelfError.Failed → Rose (calls_of self.old).faults (calls_of self.new).faults }
+
+        // Follows from `calls`.
+        ensures faults { CountsFaults (calls_of self.old).faults (calls_of self.new).faults
+            (IsErrOf result ShelfError.Failed) }
     {
         if self.calls.number() {
             self.calls.fault();
@@ -133,13 +140,16 @@ impl Shelf for MemShelf {
     fn append(&mut self, alloc: Global, path: &[u8], bytes: &[u8]) -> Result<(), ShelfError>
         requires text { IsUtf8 path.now }
         ensures ok { OnOk result (files_on self.new ≡ add (files_on self.old) path.now bytes.now) }
-        ensures failed { IsErrOf result ShelfError.Failed → files_on self.new ≡ add (files_on self.old) path.now (take (length bytes.now / 2) bytes.now) }
+        ensures failed { IsErrOf result ShelfError.Failed →
+            files_on self.new ≡ add (files_on self.old) path.now (first_half bytes.now) }
         ensures memory { IsErrOf result ShelfError.Memory → files_on self.new ≡ files_on self.old }
         ensures listed { IsErrOf result ShelfError.Failed → IsListed (calls_of self.old) }
         ensures unlisted { OnOk result (¬ IsListed (calls_of self.old)) }
         ensures calls { calls_of self.new ≡ after_call (calls_of self.old) (shelf_failed result) }
-        ensures count { (calls_of self.old).faults ≤ (calls_of self.new).faults }
-        ensures rose { IsErrOf result ShelfError.Failed → Rose (calls_of self.old).faults (calls_of self.new).faults }
+
+        // Follows from `calls`.
+        ensures faults { CountsFaults (calls_of self.old).faults (calls_of self.new).faults
+            (IsErrOf result ShelfError.Failed) }
     {
         if self.calls.number() {
             let (half, _) = bytes.split_at(bytes.len() / 2);
@@ -151,5 +161,8 @@ impl Shelf for MemShelf {
         Ok(())
     }
 
-    ghost sound = { λ shelf. record { rising = shelf.rising; texts = λ k d h. IsUtf8-had _ (shelf.texts k d h) } };
+    ghost sound = { λ shelf. record {
+      rising = shelf.rising;
+      texts = λ k d h. IsUtf8-had _ (shelf.texts k d h);
+    } };
 }

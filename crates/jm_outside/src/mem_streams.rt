@@ -1,7 +1,7 @@
 ghost use Rattle.std.specs.Prelude.{◌≡◌, ◌≤◌, ◌<◌, ◌/◌, ◌↔◌, ◌++◌, [], Some, IfOk, OnOk, OnErr, IsErr, IsErrOf, is_err, take, drop, length, min};
-ghost use Rattle.jm_outside.specs.Cuts.{given};
-ghost use Rattle.jm_outside.specs.Outcome.{Rose};
-ghost use Rattle.jm_outside.specs.Numbered.{uncalled, IsListed, after_call};
+ghost use Rattle.jm_outside.specs.ComputedCalls.{no_calls, IsListed, after_call};
+ghost use Rattle.jm_outside.specs.ComputedCuts.{given_count, first_half};
+ghost use Rattle.jm_outside.specs.Outcome.{CountsFaults};
 
 use crate::calls::Calls;
 use crate::streams::{Failed, Sink, SinkError, Source};
@@ -11,9 +11,9 @@ use std::alloc::Global;
 /// A source of bytes in memory, which tells its rest.
 ///
 /// A call gives at most the bytes of the next cut, where a cut is at least 1, and all that fits
-/// once the cuts are used up. Each call that doesn't fail uses up a cut. It numbers its calls from 0
-/// and fails those that `fail_on` lists, with one fault each. The numbers stand still at the last of
-/// 64 bits.
+/// once the cuts are used up. Each call that doesn't fail uses up a cut. It numbers its calls from
+/// 0 and fails those that `fail_on` lists, with one fault each. The numbers stand still at the last
+/// of 64 bits.
 #[derive(Debug, Drop)]
 pub struct MemSource {
     bytes: Text,
@@ -26,13 +26,13 @@ pub struct MemSource {
 }
 
 impl MemSource {
-    ghost use Rattle.jm_outside.specs.Memory.{rest_of, cuts_of, source_calls};
+    ghost use Rattle.jm_outside.specs.Views.{rest_of, cuts_of, source_calls};
 
     /// A source of these bytes, none of whose calls fails.
     pub fn new(bytes: Text, cuts: List<usize>) -> MemSource
         ensures rest { rest_of result ≡ bytes }
         ensures cuts { cuts_of result ≡ cuts }
-        ensures calls { source_calls result ≡ uncalled }
+        ensures calls { source_calls result ≡ no_calls }
     {
         let bytes = bytes.into_vec();
         let alloc = *bytes.allocator();
@@ -56,7 +56,7 @@ impl MemSource {
 
     /// How many bytes a call gives, and uses up the cut.
     fn next_count(&mut self, room: usize) -> usize
-        ensures count { result ≡ given (cuts_of self.old) (length (rest_of self.old)) room }
+        ensures count { result ≡ given_count (cuts_of self.old) (length (rest_of self.old)) room }
         ensures rest { rest_of self.new ≡ rest_of self.old }
         ensures cuts { cuts_of self.new ≡ drop 1 (cuts_of self.old) }
         ensures calls { source_calls self.new ≡ source_calls self.old }
@@ -94,7 +94,7 @@ fn copy_front(from: &[u8], count: usize, into: &mut [u8])
 }
 
 impl Source for MemSource {
-    ghost use Rattle.jm_outside.specs.Memory.{rest_of, cuts_of, source_calls};
+    ghost use Rattle.jm_outside.specs.Views.{rest_of, cuts_of, source_calls};
 
     ghost rest = { λ source. Some (rest_of source) };
 
@@ -102,18 +102,21 @@ impl Source for MemSource {
 
     /// A listed call answers `Failed`, and uses up no cut.
     fn take(&mut self, into: &mut [u8]) -> Result<usize, Failed>
-        ensures number { IfOk result (λ n. n ≡ given (cuts_of self.old) (length (rest_of self.old)) (length into.old)) }
+        ensures number { IfOk result (λ n. n ≡ given_count (cuts_of self.old)
+            (length (rest_of self.old)) (length into.old)) }
         ensures moved { IfOk result (λ n. rest_of self.old ≡ take n into.new ++ rest_of self.new) }
         ensures behind { IfOk result (λ n. drop n into.new ≡ drop n into.old) }
-        ensures within { IfOk result (λ n. n ≤ length into.old) }
-        ensures end { IfOk result (λ n. n ≡ 0 → 0 < length into.old → rest_of self.old ≡ []) }
         ensures cuts { OnOk result (cuts_of self.new ≡ drop 1 (cuts_of self.old)) }
         ensures err { OnErr result (rest_of self.new ≡ rest_of self.old) }
         ensures err_cuts { OnErr result (cuts_of self.new ≡ cuts_of self.old) }
         ensures listed { IsErr result ↔ IsListed (source_calls self.old) }
         ensures calls { source_calls self.new ≡ after_call (source_calls self.old) (is_err result) }
-        ensures count { (source_calls self.old).faults ≤ (source_calls self.new).faults }
-        ensures rose { OnErr result (Rose (source_calls self.old).faults (source_calls self.new).faults) }
+
+        // Follow from `number` and `calls`.
+        ensures within { IfOk result (λ n. n ≤ length into.old) }
+        ensures end { IfOk result (λ n. n ≡ 0 → 0 < length into.old → rest_of self.old ≡ []) }
+        ensures faults { CountsFaults (source_calls self.old).faults (source_calls self.new).faults
+            (IsErr result) }
     {
         if self.calls.number() {
             self.calls.fault();
@@ -136,12 +139,12 @@ pub struct MemSink {
 }
 
 impl MemSink {
-    ghost use Rattle.jm_outside.specs.Memory.{bytes_in, sink_calls};
+    ghost use Rattle.jm_outside.specs.Views.{bytes_in, sink_calls};
 
     /// A sink of no byte, none of whose calls fails.
     pub fn new(alloc: Global) -> MemSink
         ensures bytes { bytes_in result ≡ [] }
-        ensures calls { sink_calls result ≡ uncalled }
+        ensures calls { sink_calls result ≡ no_calls }
     {
         MemSink {
             bytes: Vec::new(alloc),
@@ -177,7 +180,7 @@ impl MemSink {
 }
 
 impl Sink for MemSink {
-    ghost use Rattle.jm_outside.specs.Memory.{bytes_in, sink_calls};
+    ghost use Rattle.jm_outside.specs.Views.{bytes_in, sink_calls};
     ghost use Rattle.jm_outside.specs.Answers.{sink_failed};
 
     ghost content = { λ sink. Some (bytes_in sink) };
@@ -188,13 +191,17 @@ impl Sink for MemSink {
     /// memory is found for that half it adds nothing, answers `Memory` and counts no fault.
     fn put(&mut self, _alloc: Global, bytes: &[u8]) -> Result<(), SinkError>
         ensures ok { OnOk result (bytes_in self.new ≡ bytes_in self.old ++ bytes.now) }
-        ensures failed { IsErrOf result SinkError.Failed → bytes_in self.new ≡ bytes_in self.old ++ take (length bytes.now / 2) bytes.now }
+        ensures failed { IsErrOf result SinkError.Failed →
+            bytes_in self.new ≡ bytes_in self.old ++ first_half bytes.now }
         ensures memory { IsErrOf result SinkError.Memory → bytes_in self.new ≡ bytes_in self.old }
         ensures listed { IsErrOf result SinkError.Failed → IsListed (sink_calls self.old) }
         ensures unlisted { OnOk result (¬ IsListed (sink_calls self.old)) }
-        ensures calls { sink_calls self.new ≡ after_call (sink_calls self.old) (sink_failed result) }
-        ensures count { (sink_calls self.old).faults ≤ (sink_calls self.new).faults }
-        ensures rose { IsErrOf result SinkError.Failed → Rose (sink_calls self.old).faults (sink_calls self.new).faults }
+        ensures calls { sink_calls self.new ≡
+            after_call (sink_calls self.old) (sink_failed result) }
+
+        // Follows from `calls`.
+        ensures faults { CountsFaults (sink_calls self.old).faults (sink_calls self.new).faults
+            (IsErrOf result SinkError.Failed) }
     {
         if self.calls.number() {
             let (half, _) = bytes.split_at(bytes.len() / 2);

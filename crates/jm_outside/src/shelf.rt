@@ -1,6 +1,6 @@
-ghost use Rattle.std.specs.Prelude.{◌≡◌, ◌≤◌, ℕ, [], Option, All, IsUtf8, IfOk, OnOk, OnErr, IsErrOf, option_map};
+ghost use Rattle.std.specs.Prelude.{◌≡◌, ℕ, [], Option, All, IsUtf8, IfOk, OnOk, OnErr, IsErrOf, option_map};
 ghost use Rattle.jm_outside.specs.Files.{Files, IsSound, Rising, file, put, add, names_below};
-ghost use Rattle.jm_outside.specs.Outcome.{Shows, Told, AsBeforeOrEmpty, AddsFront, Rose};
+ghost use Rattle.jm_outside.specs.Outcome.{Shows, Told, AsBeforeOrEmpty, AddsFront, CountsFaults};
 
 use jm_bytes::{List, NoMemory, Text};
 use std::alloc::{AllocError, AllocFailed, Global};
@@ -80,42 +80,48 @@ pub trait Shelf {
     /// `dir` and a slash in their paths. A folder that isn't there has none.
     fn names(&mut self, alloc: Global, dir: &[u8]) -> Result<List<Text>, ShelfError>
         requires text { IsUtf8 dir.now }
-        ensures same { files self.new ≡ files self.old }
+        ensures files { files self.new ≡ files self.old }
 
         // Told or not.
         ensures rising { IfOk result Rising }
         ensures texts { IfOk result (All IsUtf8) }
 
-        ensures told { IfOk result (λ names. Shows (files self.old) (λ files. names ≡ names_below dir.now files)) }
-        ensures count { faults self.old ≤ faults self.new }
-        ensures failed { IsErrOf result ShelfError.Failed → Rose (faults self.old) (faults self.new) };
+        ensures told { IfOk result (λ names. Shows (files self.old)
+            (λ files. names ≡ names_below dir.now files)) }
+        ensures faults { CountsFaults (faults self.old) (faults self.new)
+            (IsErrOf result ShelfError.Failed) };
 
     /// The bytes of the file at a path. None exactly where no file has it.
     fn read(&mut self, alloc: Global, path: &[u8]) -> Result<Option<Text>, ShelfError>
         requires text { IsUtf8 path.now }
-        ensures same { files self.new ≡ files self.old }
-        ensures told { IfOk result (λ found. Shows (files self.old) (λ files. found ≡ file files path.now)) }
-        ensures count { faults self.old ≤ faults self.new }
-        ensures failed { IsErrOf result ShelfError.Failed → Rose (faults self.old) (faults self.new) };
+        ensures files { files self.new ≡ files self.old }
+        ensures told { IfOk result (λ found. Shows (files self.old)
+            (λ files. found ≡ file files path.now)) }
+        ensures faults { CountsFaults (faults self.old) (faults self.new)
+            (IsErrOf result ShelfError.Failed) };
 
     /// Makes an empty file at a path, or empties the one that is there. Other files stay.
     fn create(&mut self, alloc: Global, path: &[u8]) -> Result<(), ShelfError>
         requires text { IsUtf8 path.now }
-        ensures ok { OnOk result (files self.new ≡ option_map (λ files. put files path.now []) (files self.old)) }
-        ensures err { OnErr result (Told (files self.old) (files self.new) (λ old new. AsBeforeOrEmpty old new path.now)) }
+        ensures ok { OnOk result
+            (files self.new ≡ option_map (λ files. put files path.now []) (files self.old)) }
+        ensures err { OnErr result (Told (files self.old) (files self.new)
+            (λ old new. AsBeforeOrEmpty old new path.now)) }
         ensures memory { IsErrOf result ShelfError.Memory → files self.new ≡ files self.old }
-        ensures count { faults self.old ≤ faults self.new }
-        ensures failed { IsErrOf result ShelfError.Failed → Rose (faults self.old) (faults self.new) };
+        ensures faults { CountsFaults (faults self.old) (faults self.new)
+            (IsErrOf result ShelfError.Failed) };
 
     /// Adds bytes to the end of the file at a path, to an empty file where none is there. After
     /// `Failed` a prefix of them was added. Other files stay.
     fn append(&mut self, alloc: Global, path: &[u8], bytes: &[u8]) -> Result<(), ShelfError>
         requires text { IsUtf8 path.now }
-        ensures ok { OnOk result (files self.new ≡ option_map (λ files. add files path.now bytes.now) (files self.old)) }
-        ensures err { OnErr result (Told (files self.old) (files self.new) (λ old new. AddsFront old new path.now bytes.now)) }
+        ensures ok { OnOk result
+            (files self.new ≡ option_map (λ files. add files path.now bytes.now) (files self.old)) }
+        ensures err { OnErr result (Told (files self.old) (files self.new)
+            (λ old new. AddsFront old new path.now bytes.now)) }
         ensures memory { IsErrOf result ShelfError.Memory → files self.new ≡ files self.old }
-        ensures count { faults self.old ≤ faults self.new }
-        ensures failed { IsErrOf result ShelfError.Failed → Rose (faults self.old) (faults self.new) };
+        ensures faults { CountsFaults (faults self.old) (faults self.new)
+            (IsErrOf result ShelfError.Failed) };
 
     // Told files rise by path, and each path is UTF-8.
     ghost sound: { (shelf : Self) → Shows (files shelf) IsSound };

@@ -1,5 +1,4 @@
-ghost use Rattle.std.specs.Prelude.{◌≡◌, ◌≤◌, None};
-ghost use Rattle.jm_outside.specs.Outcome.{Rose};
+ghost use Rattle.std.specs.Prelude.{◌≡◌, None};
 
 use crate::streams::{Failed, Sink, SinkError, Source};
 use std::alloc::Global;
@@ -13,8 +12,8 @@ pub struct StdSource<R: Read + Drop> {
     faults: u64,
 }
 
-/// The sink of a stream of the system, as the standard output or error: it tells no content. It goes
-/// on after a write that took only a part, and flushes what it has put.
+/// The sink of a stream of the system, as the standard output or error: it tells no content. It
+/// goes on after a write that took only a part, and flushes what it has put.
 #[derive(Drop)]
 pub struct StdSink<W: Write + Drop> {
     output: W,

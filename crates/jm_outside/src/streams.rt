@@ -1,5 +1,5 @@
-ghost use Rattle.std.specs.Prelude.{◌≡◌, ◌≤◌, ◌<◌, ◌++◌, ℕ, List, [], Option, IfOk, OnOk, OnErr, IsErrOf, length, take, drop, option_map};
-ghost use Rattle.jm_outside.specs.Outcome.{Shows, Told, PutsFront, Rose};
+ghost use Rattle.std.specs.Prelude.{◌≡◌, ◌≤◌, ◌<◌, ◌++◌, ℕ, List, [], Option, IfOk, OnOk, OnErr, IsErr, IsErrOf, length, take, drop, option_map};
+ghost use Rattle.jm_outside.specs.Outcome.{Shows, Told, PutsFront, CountsFaults};
 
 use jm_bytes::NoMemory;
 use std::alloc::Global;
@@ -46,12 +46,14 @@ pub trait Source {
         // Told or not.
         ensures within { IfOk result (λ n. n ≤ length into.old) }
 
-        ensures moved { IfOk result (λ n. Told (rest self.old) (rest self.new) (λ old new. old ≡ take n into.new ++ new)) }
-        ensures behind { IfOk result (λ n. Shows (rest self.old) (λ _. drop n into.new ≡ drop n into.old)) }
-        ensures end { IfOk result (λ n. n ≡ 0 → 0 < length into.old → Shows (rest self.old) (λ old. old ≡ [])) }
+        ensures moved { IfOk result (λ n. Told (rest self.old) (rest self.new)
+            (λ old new. old ≡ take n into.new ++ new)) }
+        ensures behind { IfOk result (λ n. Shows (rest self.old)
+            (λ _. drop n into.new ≡ drop n into.old)) }
+        ensures end { IfOk result (λ n. n ≡ 0 → 0 < length into.old →
+            Shows (rest self.old) (λ rest. rest ≡ [])) }
         ensures err { OnErr result (rest self.new ≡ rest self.old) }
-        ensures count { faults self.old ≤ faults self.new }
-        ensures failed { OnErr result (Rose (faults self.old) (faults self.new)) };
+        ensures faults { CountsFaults (faults self.old) (faults self.new) (IsErr result) };
 }
 
 /// A sink of bytes. It may tell what was put into it, and counts its faults.
@@ -64,9 +66,11 @@ pub trait Sink {
 
     /// Adds bytes. After `Failed` a prefix of them was added.
     fn put(&mut self, alloc: Global, bytes: &[u8]) -> Result<(), SinkError>
-        ensures ok { OnOk result (content self.new ≡ option_map (λ old. old ++ bytes.now) (content self.old)) }
-        ensures err { OnErr result (Told (content self.old) (content self.new) (λ old new. PutsFront old new bytes.now)) }
+        ensures ok { OnOk result
+            (content self.new ≡ option_map (λ old. old ++ bytes.now) (content self.old)) }
+        ensures err { OnErr result (Told (content self.old) (content self.new)
+            (λ old new. PutsFront old new bytes.now)) }
         ensures memory { IsErrOf result SinkError.Memory → content self.new ≡ content self.old }
-        ensures count { faults self.old ≤ faults self.new }
-        ensures failed { IsErrOf result SinkError.Failed → Rose (faults self.old) (faults self.new) };
+        ensures faults { CountsFaults (faults self.old) (faults self.new)
+            (IsErrOf result SinkError.Failed) };
 }

@@ -1,288 +1,299 @@
-//! Each object once, through its trait and by its own calls.
+//! What no clause says: what the adapters do with real files, folders, links and streams, and that
+//! each call of each object can succeed. In memory, calls fail at the listed numbers.
+//!
+//! An answer is put down as one character, so that a test compares few texts: a helper that holds
+//! no value of its own is proved fast, and a test with many is not.
 use crate::{
     FileShelf, MemShelf, MemSink, MemSource, Shelf, ShelfError, Sink, SinkError, Source, StdSink,
     StdSource,
 };
-use jm_bytes::{List, Text};
+use jm_bytes::{List, NoMemory, Text};
 use std::alloc::{AllocError, Global};
 use std::io::{ErrorKind, Read, Write};
 use std::os::unix::fs::symlink;
-use std::process::Abort;
 use std::test::Fail;
-use std::{env, fs, io, process};
+use std::{env, fs, io, process, str};
 
-const TREE: [(&str, &str); 4] = [
-    ("a b", "333"),
-    ("a/b.txt", ""),
-    ("a/b/two words.txt", "4444"),
-    ("a/one.txt", "1"),
-];
+/// Goes into a new folder of this process alone, and gives its path.
+fn enter_own_folder(rt: &HostRuntime) -> Result<String, Fail> {
+    let id = process::id(rt.process());
+    let folder = env::temp_dir(rt)?;
+    let own = format!(in rt.alloc(); "{}/jm_outside-{id}", folder.display())?;
+    fs::create_dir(rt, own.as_str())?;
+    env::set_current_dir(rt, own.as_str())?;
+    Ok(own)
+}
+
+/// The numbers of calls as a list.
+fn call_numbers(alloc: Global, numbers: &[u64]) -> Result<List<u64>, NoMemory> {
+    let mut list = List::new(alloc);
+    for number in numbers {
+        list.push(*number)?;
+    }
+    Ok(list)
+}
+
+/// What a shelf answered.
+fn shelf_mark<T: Drop>(answer: Result<T, ShelfError>) -> u8 {
+    match answer {
+        Ok(_) => b'.',
+        Err(ShelfError::Failed) => b'!',
+        Err(ShelfError::Memory) => b'?',
+    }
+}
+
+fn names_mark<S: Shelf>(alloc: Global, shelf: &mut S, folder: &str) -> u8 {
+    shelf_mark(shelf.names(alloc, folder.as_bytes()))
+}
+
+fn read_mark<S: Shelf>(alloc: Global, shelf: &mut S, path: &str) -> u8 {
+    match shelf.read(alloc, path.as_bytes()) {
+        Ok(None) => b'-',
+        answer => shelf_mark(answer),
+    }
+}
+
+fn create_mark<S: Shelf>(alloc: Global, shelf: &mut S, path: &str) -> u8 {
+    shelf_mark(shelf.create(alloc, path.as_bytes()))
+}
+
+fn append_mark<S: Shelf>(alloc: Global, shelf: &mut S, path: &str, bytes: &str) -> u8 {
+    shelf_mark(shelf.append(alloc, path.as_bytes(), bytes.as_bytes()))
+}
 
 /// Writes a file in two parts.
 fn write<S: Shelf>(
     alloc: Global,
     shelf: &mut S,
     path: &str,
-    bytes: &str,
+    front: &str,
+    back: &str,
 ) -> Result<(), ShelfError> {
-    let (front, back) = bytes.as_bytes().split_at(bytes.len() / 2);
     shelf.create(alloc, path.as_bytes())?;
-    shelf.append(alloc, path.as_bytes(), front)?;
-    shelf.append(alloc, path.as_bytes(), back)
+    shelf.append(alloc, path.as_bytes(), front.as_bytes())?;
+    shelf.append(alloc, path.as_bytes(), back.as_bytes())
 }
 
-/// Whether a file holds these bytes, or isn't there.
-fn holds<S: Shelf>(
+/// Writes some files below a folder.
+fn write_tree<S: Shelf>(alloc: Global, shelf: &mut S) -> Result<(), ShelfError> {
+    write(alloc, shelf, "d/a/b/two words.txt", "", "4444")?;
+    write(alloc, shelf, "d/a b", "33", "3")?;
+    write(alloc, shelf, "d/a b", "2", "2")?;
+    write(alloc, shelf, "d/a/b.txt", "", "")
+}
+
+const TREE: &[u8] = b"a b:22\na/b.txt:\na/b/two words.txt:4444\n";
+
+/// Adds what a file holds to a text.
+fn add_content<S: Shelf>(
     alloc: Global,
     shelf: &mut S,
     path: &str,
-    bytes: Option<&str>,
-) -> Result<bool, ShelfError> {
-    let found = shelf.read(alloc, path.as_bytes())?;
-    Ok(match (found, bytes) {
-        (Some(found), Some(bytes)) => found.as_slice() == bytes.as_bytes(),
-        (None, None) => true,
-        _ => false,
-    })
+    text: &mut Vec<u8>,
+) -> Result<(), ShelfError> {
+    if let Some(bytes) = shelf.read(alloc, path.as_bytes())? {
+        text.push(b':')?;
+        text.extend_from_slice(bytes.as_slice())?;
+    }
+    Ok(text.push(b'\n')?)
 }
 
-/// Whether a folder has just these names, in this order.
-fn lists<S: Shelf>(
+/// Adds a line on a file to a text: its name, a colon and its bytes.
+fn add_line<S: Shelf>(
     alloc: Global,
     shelf: &mut S,
     folder: &str,
-    names: &[&str],
-) -> Result<bool, ShelfError> {
-    let found = shelf.names(alloc, folder.as_bytes())?;
-    Ok(
-        found.len() == names.len()
-            && found
-                .as_slice()
-                .iter()
-                .zip(names)
-                .all(|(name, wanted)| name.as_slice() == wanted.as_bytes()),
-    )
+    name: &[u8],
+    text: &mut Vec<u8>,
+) -> Result<(), ShelfError> {
+    let Ok(name) = str::from_utf8(name) else {
+        return Err(ShelfError::Failed);
+    };
+    text.extend_from_slice(name.as_bytes())?;
+    let path = format!(in alloc; "{folder}/{name}")?;
+    add_content(alloc, shelf, path.as_str(), text)
 }
 
-/// A path below a folder.
-fn below(alloc: Global, root: &str, name: &str) -> Result<String, AllocError> {
-    format!(in alloc; "{root}/{name}")
+/// The files below a folder, each with its line.
+fn listing<S: Shelf>(alloc: Global, shelf: &mut S, folder: &str) -> Result<Vec<u8>, ShelfError> {
+    let names = shelf.names(alloc, folder.as_bytes())?;
+    let mut text = Vec::new(alloc);
+    for name in names.as_slice() {
+        add_line(alloc, shelf, folder, name.as_slice(), &mut text)?;
+    }
+    Ok(text)
 }
 
-/// What both shelves do with a tree of files below a folder that isn't there yet.
-fn keeps_a_tree<S: Shelf>(
-    rt: &impl Abort,
-    alloc: Global,
-    shelf: &mut S,
-    root: &str,
-) -> Result<(), Fail> {
-    assert!(rt; lists(alloc, shelf, root, &[])?, "nothing is there");
-    for (name, bytes) in TREE {
-        write(alloc, shelf, below(alloc, root, name)?.as_str(), bytes)?;
+fn lists<S: Shelf>(alloc: Global, shelf: &mut S, folder: &str, text: &[u8]) -> bool {
+    match listing(alloc, shelf, folder) {
+        Ok(found) => found.as_slice() == text,
+        Err(_) => false,
     }
-    assert!(rt;
-        lists(
-            alloc,
-            shelf,
-            root,
-            &["a b", "a/b.txt", "a/b/two words.txt", "a/one.txt"]
-        )?
-    );
-    for (name, bytes) in TREE {
-        assert!(rt;
-            holds(
-                alloc,
-                shelf,
-                below(alloc, root, name)?.as_str(),
-                Some(bytes)
-            )?,
-            "at {name}"
-        );
-    }
-    for name in ["c", "a/c", "a/one.txt/c"] {
-        assert!(rt;
-            holds(alloc, shelf, below(alloc, root, name)?.as_str(), None)?,
-            "at {name}"
-        );
-    }
-    Ok(())
+}
+
+/// Whether a shelf without files keeps what is written to it.
+fn keeps_a_tree<S: Shelf>(alloc: Global, shelf: &mut S) -> bool {
+    lists(alloc, shelf, "d", b"")
+        && write_tree(alloc, shelf).is_ok()
+        && lists(alloc, shelf, "d", TREE)
+        && read_mark(alloc, shelf, "d/a/c") == b'-'
 }
 
 #[test]
-fn a_shelf_in_memory_keeps_a_tree(rt: HostRuntime) -> Result<(), Fail> {
-    keeps_a_tree(&rt, rt.alloc(), &mut MemShelf::new(rt.alloc()), "mods")
+fn a_shelf_in_memory_keeps_a_tree(rt: HostRuntime) {
+    let mut shelf = MemShelf::new(rt.alloc());
+    assert!(rt; keeps_a_tree(rt.alloc(), &mut shelf));
+    assert!(rt; shelf.file(b"d/a b").is_some());
 }
 
-/// A folder of this process alone.
-fn own_folder(rt: &HostRuntime, alloc: Global, name: &str) -> Result<String, Fail> {
-    let id = process::id(rt.process());
-    let folder = env::temp_dir(rt)?;
-    Ok(format!(in alloc; "{}/{name}-{id}", folder.display())?)
+/// Links to a file, to a folder, to nothing and to itself, and an empty folder.
+fn make_links(rt: &HostRuntime) -> io::Result<()> {
+    fs::create_dir(rt, "d/empty")?;
+    symlink(rt, "a b", "d/link")?;
+    symlink(rt, "..", "d/round")?;
+    symlink(rt, "nowhere", "d/gone")?;
+    symlink(rt, "self", "d/self")
+}
+
+/// The listing with the link to a file, and with no other.
+const LINKED: &[u8] = b"a b:22\na/b.txt:\na/b/two words.txt:4444\nlink:22\n";
+
+/// Whether links are as they should, and a file in the place of a folder is no fault, but a folder
+/// in the place of a file is one, and so is a folder that isn't there.
+fn keeps_links<S: Shelf>(alloc: Global, shelf: &mut S) -> bool {
+    lists(alloc, shelf, "d", LINKED)
+        && lists(alloc, shelf, "d/empty", b"")
+        && read_mark(alloc, shelf, "d/a/b.txt/c") == b'-'
+        && read_mark(alloc, shelf, "d/empty") == b'!'
+        && append_mark(alloc, shelf, "e/a", "1") == b'!'
 }
 
 #[test]
 fn a_shelf_of_the_system_keeps_a_tree(rt: HostRuntime) -> Result<(), Fail> {
-    let alloc = rt.alloc();
-    let root = own_folder(&rt, alloc, "shelf")?;
-    keeps_a_tree(&rt, alloc, &mut FileShelf::new(&rt), root.as_str())?;
-    fs::remove_dir_all(&rt, root)?;
-    Ok(())
-}
-
-#[test]
-fn a_shelf_of_the_system_leaves_links_out(rt: HostRuntime) -> Result<(), Fail> {
-    let alloc = rt.alloc();
-    let root = own_folder(&rt, alloc, "links")?;
+    let own = enter_own_folder(&rt)?;
     let mut shelf = FileShelf::new(&rt);
-    write(
-        alloc,
-        &mut shelf,
-        below(alloc, root.as_str(), "a/one")?.as_str(),
-        "1",
-    )?;
-    fs::create_dir(&rt, below(alloc, root.as_str(), "empty")?)?;
-    for (target, name) in [
-        ("a/one", "file"),
-        ("..", "round"),
-        ("nowhere", "gone"),
-        ("self", "self"),
-    ] {
-        symlink(&rt, target, below(alloc, root.as_str(), name)?)?;
-    }
-    assert!(rt;
-        lists(alloc, &mut shelf, root.as_str(), &["a/one", "file"])?,
-        "links to files count"
-    );
-    let empty = below(alloc, root.as_str(), "empty")?;
-    assert!(rt; lists(alloc, &mut shelf, empty.as_str(), &[])?);
-    let answer = holds(alloc, &mut shelf, empty.as_str(), None);
-    assert!(rt;
-        matches!(answer, Err(ShelfError::Failed)),
-        "a folder in the place of a file"
-    );
-    fs::remove_dir_all(&rt, root)?;
+    assert!(rt; keeps_a_tree(rt.alloc(), &mut shelf));
+    make_links(&rt)?;
+    assert!(rt; keeps_links(rt.alloc(), &mut shelf));
+    fs::remove_dir_all(&rt, own)?;
     Ok(())
 }
 
-/// A shelf in memory with one file, the next call of which fails.
-fn failing_shelf(alloc: Global, path: &str, bytes: &str) -> Result<MemShelf, Fail> {
+/// A shelf in memory with one file, the first four calls of which fail.
+fn failing_shelf(alloc: Global) -> Result<MemShelf, NoMemory> {
     let mut shelf = MemShelf::new(alloc);
-    let path = String::from_str(alloc, path)?;
-    shelf.put_file(
-        Text::from_vec(path.into_bytes()),
-        Text::copy_of(alloc, bytes.as_bytes())?,
-    )?;
-    shelf.fail_on(List::from_vec(vec![in alloc; 0u64]?));
+    let path = Text::copy_of(alloc, b"d/a")?;
+    shelf.put_file(path, Text::copy_of(alloc, b"one")?)?;
+    shelf.fail_on(call_numbers(alloc, &[0, 1, 2, 3])?);
     Ok(shelf)
 }
 
-#[test]
-fn a_failing_names_and_read_answer_once(rt: HostRuntime) -> Result<(), Fail> {
-    let alloc = rt.alloc();
-    let mut shelf = failing_shelf(alloc, "d/a", "one")?;
-    assert!(rt; lists(alloc, &mut shelf, "d", &["b"]).is_err());
-    assert!(rt; lists(alloc, &mut shelf, "d", &["a"])?);
-    let mut shelf = failing_shelf(alloc, "d/a", "one")?;
-    assert!(rt; holds(alloc, &mut shelf, "d/a", None).is_err());
-    assert!(rt; holds(alloc, &mut shelf, "d/a", Some("one"))?);
-    Ok(())
+/// What each call of a shelf answers, one after the other.
+fn call_marks<S: Shelf>(alloc: Global, shelf: &mut S) -> [u8; 4] {
+    let names = names_mark(alloc, shelf, "d");
+    let read = read_mark(alloc, shelf, "d/a");
+    let create = create_mark(alloc, shelf, "d/a");
+    let append = append_mark(alloc, shelf, "d/a", "12345");
+    [names, read, create, append]
+}
+
+/// Whether the four calls fail, the last with half its bytes added, and then do what they should.
+fn fails_at_first<S: Shelf>(alloc: Global, shelf: &mut S) -> bool {
+    call_marks(alloc, shelf) == *b"!!!!"
+        && lists(alloc, shelf, "d", b"a:one12\n")
+        && call_marks(alloc, shelf) == *b"...."
+        && lists(alloc, shelf, "d", b"a:12345\n")
 }
 
 #[test]
-fn a_failing_create_leaves_all_as_before(rt: HostRuntime) -> Result<(), Fail> {
-    let alloc = rt.alloc();
-    let mut shelf = failing_shelf(alloc, "d/a", "one")?;
-    assert!(rt; write(alloc, &mut shelf, "d/a", "three").is_err());
-    assert!(rt; holds(alloc, &mut shelf, "d/a", Some("one"))?);
-    write(alloc, &mut shelf, "d/a", "two")?;
-    assert!(rt; holds(alloc, &mut shelf, "d/a", Some("two"))?);
+fn a_shelf_in_memory_fails_the_listed_calls(rt: HostRuntime) -> Result<(), Fail> {
+    let mut shelf = failing_shelf(rt.alloc())?;
+    assert!(rt; fails_at_first(rt.alloc(), &mut shelf));
     Ok(())
 }
 
-#[test]
-fn a_failing_append_adds_the_first_half(rt: HostRuntime) -> Result<(), Fail> {
-    let alloc = rt.alloc();
-    for (path, bytes, held) in [("d/a", "12345", "one12"), ("d/b", "1", ""), ("d/b", "", "")] {
-        let mut shelf = failing_shelf(alloc, "d/a", "one")?;
-        assert!(rt;
-            shelf
-                .append(alloc, path.as_bytes(), bytes.as_bytes())
-                .is_err()
-        );
-        assert!(rt; holds(alloc, &mut shelf, path, Some(held))?, "at {path}");
+/// Adds what one call of a source gives to a text.
+fn add_given<I: Source>(source: &mut I, text: &mut Vec<u8>) -> Result<(), AllocError> {
+    let mut into = [b'_'; 2];
+    match source.take(&mut into) {
+        Ok(count) => text.extend_from_slice(&into[..count])?,
+        Err(_) => text.push(b'!')?,
     }
-    Ok(())
+    Ok(text.push(b'|')?)
+}
+
+/// What so many calls of a source give, each with a bar behind it.
+fn given_text<I: Source>(alloc: Global, source: &mut I, calls: u32) -> Result<Vec<u8>, AllocError> {
+    let mut text = Vec::new(alloc);
+    for _ in 0..calls {
+        add_given(source, &mut text)?;
+    }
+    Ok(text)
+}
+
+fn gives<I: Source>(alloc: Global, source: &mut I, calls: u32, text: &[u8]) -> bool {
+    match given_text(alloc, source, calls) {
+        Ok(given) => given.as_slice() == text,
+        Err(_) => false,
+    }
+}
+
+/// The cuts of a source.
+fn cuts(alloc: Global) -> Result<List<usize>, NoMemory> {
+    let mut cuts = List::new(alloc);
+    cuts.push(0)?;
+    cuts.push(3)?;
+    Ok(cuts)
 }
 
 #[test]
 fn a_source_in_memory_gives_its_cuts(rt: HostRuntime) -> Result<(), Fail> {
-    let alloc = rt.alloc();
-    let single = [1usize; 5];
-    let rows: [(&[usize], usize, &[usize]); 4] = [
-        (&single, 4, &[1, 1, 1, 1, 1, 0]),
-        (&[0, 3], 2, &[1, 2, 2, 0]),
-        (&[], 9, &[5, 0]),
-        (&[9, 9], 3, &[3, 2, 0]),
-    ];
-    for (cuts, room, counts) in rows {
-        let cuts = List::from_vec(Vec::from_slice(alloc, cuts)?);
-        let mut source = MemSource::new(Text::copy_of(alloc, b"hello")?, cuts);
-        let mut got = Vec::new(alloc);
-        for count in counts {
-            let mut into = Vec::from_elem(alloc, 0u8, room)?;
-            let given = source.take(into.as_mut_slice())?;
-            assert_eq!(rt; given, *count, "at room {room}");
-            into.truncate(given);
-            got.extend_from_slice(into.as_slice())?;
-        }
-        assert_eq!(rt; got.as_slice(), b"hello".as_slice());
-    }
+    let failing = call_numbers(rt.alloc(), &[1])?;
+    let cuts = cuts(rt.alloc())?;
+    let mut source = MemSource::new(Text::copy_of(rt.alloc(), b"hello")?, cuts);
+    source.fail_on(failing);
+    assert!(rt; gives(rt.alloc(), &mut source, 5, b"h|!|el|lo||"));
     Ok(())
 }
 
-#[test]
-fn a_source_in_memory_fails_the_listed_calls(rt: HostRuntime) -> Result<(), Fail> {
-    let alloc = rt.alloc();
-    let mut source = MemSource::new(Text::copy_of(alloc, b"abc")?, List::new(alloc));
-    source.fail_on(List::from_vec(vec![in alloc; 1]?));
-    let mut into = [0u8; 2];
-    assert_eq!(rt; source.take(&mut into)?, 2);
-    assert!(rt; source.take(&mut into).is_err());
-    assert_eq!(rt; source.take(&mut into)?, 1);
-    assert_eq!(rt; into[0], b'c');
-    Ok(())
+fn sink_mark(answer: Result<(), SinkError>) -> u8 {
+    match answer {
+        Ok(()) => b'.',
+        Err(SinkError::Failed) => b'!',
+        Err(SinkError::Memory) => b'?',
+    }
+}
+
+/// What a sink answers to three texts.
+fn put_marks<O: Sink>(alloc: Global, sink: &mut O) -> [u8; 3] {
+    let first = sink_mark(sink.put(alloc, b"abc"));
+    let second = sink_mark(sink.put(alloc, b"12345"));
+    let third = sink_mark(sink.put(alloc, b"z"));
+    [first, second, third]
 }
 
 #[test]
 fn a_sink_in_memory_fails_the_listed_calls(rt: HostRuntime) -> Result<(), Fail> {
-    let alloc = rt.alloc();
-    let mut sink = MemSink::new(alloc);
-    sink.fail_on(List::from_vec(vec![in alloc; 1]?));
-    sink.put(alloc, b"abc")?;
-    assert!(rt; matches!(sink.put(alloc, b"12345"), Err(SinkError::Failed)));
-    sink.put(alloc, b"z")?;
-    assert_eq!(rt; sink.bytes(), b"abc12z".as_slice());
+    let mut sink = MemSink::new(rt.alloc());
+    sink.fail_on(call_numbers(rt.alloc(), &[1])?);
+    assert!(rt; put_marks(rt.alloc(), &mut sink) == *b".!.");
+    assert!(rt; sink.bytes() == b"abc12z".as_slice());
     Ok(())
+}
+
+/// Whether what is put to a file comes back from it.
+fn carries_bytes(rt: &HostRuntime) -> io::Result<bool> {
+    let mut sink = StdSink::new(fs::create(rt, "stream")?);
+    let marks = put_marks(rt.alloc(), &mut sink);
+    let mut source = StdSource::new(fs::open(rt, "stream")?);
+    Ok(marks == *b"..." && gives(rt.alloc(), &mut source, 6, b"ab|c1|23|45|z||"))
 }
 
 #[test]
 fn streams_of_the_system_carry_bytes(rt: HostRuntime) -> Result<(), Fail> {
-    let alloc = rt.alloc();
-    let path = own_folder(&rt, alloc, "streams")?;
-    let mut sink = StdSink::new(fs::create(&rt, path.as_str())?);
-    for part in ["abc", "", "de"] {
-        sink.put(alloc, part.as_bytes())?;
-    }
-    let mut source = StdSource::new(fs::open(&rt, path.as_str())?);
-    let mut into = [0u8; 8];
-    assert_eq!(rt; source.take(&mut into)?, 5);
-    assert_eq!(rt; &into[..5], b"abcde".as_slice());
-    assert_eq!(rt; source.take(&mut into)?, 0);
-    fs::remove_file(&rt, path.as_str())?;
-
-    StdSink::new(io::writer(&rt)).put(alloc, b"")?;
-    StdSink::new(rt.stderr()).put(alloc, b"")?;
-    assert_eq!(rt; StdSource::new(rt.reader()).take(&mut [])?, 0);
+    let own = enter_own_folder(&rt)?;
+    assert!(rt; carries_bytes(&rt)?);
+    fs::remove_dir_all(&rt, own)?;
     Ok(())
 }
 
@@ -328,20 +339,9 @@ impl Write for Halting {
 }
 
 #[test]
-fn streams_that_halt_are_faults(rt: HostRuntime) -> Result<(), Fail> {
-    let alloc = rt.alloc();
+fn streams_that_halt_are_faults(rt: HostRuntime) {
     let mut source = StdSource::new(Halting { turn: 0 });
-    let mut into = [0u8; 4];
-    assert_eq!(rt; source.take(&mut into)?, 1);
-    assert_eq!(rt; into, [b'x', 0, 0, 0]);
-    assert!(rt; source.take(&mut into).is_err());
-
+    assert!(rt; gives(rt.alloc(), &mut source, 2, b"x|!|"));
     let mut sink = StdSink::new(Halting { turn: 0 });
-    sink.put(alloc, b"abc")?;
-    let answer = sink.put(alloc, b"d");
-    assert!(rt;
-        matches!(answer, Err(SinkError::Failed)),
-        "a write that takes nothing"
-    );
-    Ok(())
+    assert!(rt; put_marks(rt.alloc(), &mut sink) == *b".!!");
 }

@@ -1,18 +1,19 @@
--- Numbered calls of the objects in memory, some of which fail (this project's rule).
+-- CallNumbers calls of the objects in memory, some of which fail, as values that compute (this
+-- project's rule).
 use Rattle.std.specs.Prelude.{◌+◌, ◌-◌, ◌^◌, ℕ, List, [], Contains, min, Bool, if◌then◌else◌}
 
 -- the numbers of the calls that fail, the number of the next call, and how many failed
-pub record Numbered : Type 0 where
+pub record CallNumbers : Type 0 where
   pub failing : List ℕ
   pub next : ℕ
   pub faults : ℕ
 
 -- no call was made, and none is to fail
-abbrev pub uncalled : Numbered
-uncalled = record { failing = []; next = 0; faults = 0 }
+abbrev pub no_calls : CallNumbers
+no_calls = record { failing = []; next = 0; faults = 0 }
 
 -- the next call is one of those that fail
-abbrev pub IsListed : Numbered → Type 0
+abbrev pub IsListed : CallNumbers → Type 0
 IsListed calls = Contains calls.failing calls.next
 
 -- one more, in a counter of 64 bits
@@ -20,5 +21,9 @@ abbrev pub one_more : ℕ → ℕ
 one_more n = min (n + 1) (2 ^ 64 - 1)
 
 -- the numbers after a call, which failed or not
-abbrev pub after_call : Numbered → Bool → Numbered
-after_call calls failed = record { failing = calls.failing; next = one_more calls.next; faults = if failed then one_more calls.faults else calls.faults }
+abbrev pub after_call : CallNumbers → Bool → CallNumbers
+after_call calls failed = record {
+  failing = calls.failing;
+  next = one_more calls.next;
+  faults = if failed then one_more calls.faults else calls.faults;
+}

@@ -1,7 +1,7 @@
 -- What the objects in memory tell.
 use Rattle.std.specs.Prelude.{ℕ, List, drop}
 use Rattle.jm_outside.specs.Files.{Files}
-use Rattle.jm_outside.specs.Numbered.{Numbered}
+use Rattle.jm_outside.specs.ComputedCalls.{CallNumbers}
 use Rattle.jm_outside.specs.declared.mem_shelf.MemShelf.{MemShelf}
 use Rattle.jm_outside.specs.declared.mem_streams.MemSink.{MemSink}
 use Rattle.jm_outside.specs.declared.mem_streams.MemSource.{MemSource}
@@ -11,7 +11,7 @@ abbrev pub files_on : MemShelf → Files
 files_on shelf = shelf.files
 
 -- the numbered calls of a shelf in memory
-abbrev pub calls_of : MemShelf → Numbered
+abbrev pub calls_of : MemShelf → CallNumbers
 calls_of shelf = shelf.calls
 
 -- the bytes that a source in memory still has
@@ -23,7 +23,7 @@ abbrev pub cuts_of : MemSource → List ℕ
 cuts_of source = drop source.cut source.cuts
 
 -- the numbered calls of a source in memory
-abbrev pub source_calls : MemSource → Numbered
+abbrev pub source_calls : MemSource → CallNumbers
 source_calls source = source.calls
 
 -- the bytes that a sink in memory holds
@@ -31,5 +31,5 @@ abbrev pub bytes_in : MemSink → List ℕ
 bytes_in sink = sink.bytes.items
 
 -- the numbered calls of a sink in memory
-abbrev pub sink_calls : MemSink → Numbered
+abbrev pub sink_calls : MemSink → CallNumbers
 sink_calls sink = sink.calls

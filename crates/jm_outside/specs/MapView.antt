@@ -1,4 +1,4 @@
--- The files that a map of paths and bytes holds.
+-- The files that a map of paths and bytes is seen as.
 use Rattle.std.specs.Prelude.{ℕ, map}
 use Rattle.std.specs.declared.vec.Vec.{Vec}
 use Rattle.std.specs.declared.alloc.Global.{Global}
