@@ -1,9 +1,15 @@
+pub mod ComputedRowsLaws
+pub mod EntryLaws
 pub mod HeadLaws
-pub mod RowReading
-pub mod RowSpelling
+pub mod LookLaws
+pub mod OverlapLaws
+pub mod OverlapNone
+mod OverlapVectors
 pub mod SectionLaws
 pub mod SlotLaws
-pub mod TableLaws
+pub mod StandsLaws
 pub mod TextLaws
+pub mod UsualLaws
 pub mod Validity
 pub mod VectorLaws
+pub mod Vectors

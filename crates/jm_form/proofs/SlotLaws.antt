@@ -1,90 +1,130 @@
--- What follows for a slot that has no fault.
-use Rattle.std.proofs.Common.{◌≡◌, ℕ, ◌+◌, ◌-◌, ◌<◌, ◌≤◌, ◌&&◌, ◌==◌, true, List, length, Option, Some, None, refl, sym, ap, ◌∙◌, inl, inr, arith}
+-- The fault of a slot, by what its offset word leads to.
+use Rattle.std.proofs.Common.{◌≡◌, ℕ, ◌+◌, ◌-◌, ◌≤◌, ◌⊎◌, inl, inr, ◌&&◌, ◌==◌, not, Bool, true, false, cond, List, [], ◌∷◌, length, Option, Some, None, is_none, refl, sym, ap, ◌∙◌, arith}
+use Rattle.std.proofs.lemmas.Bool.{eqb-true, not-false}
 use Rattle.std.proofs.lemmas.Bool.Decides.{nat_tests}
 use Rattle.std.specs.Prelude.{nat_lt, nat_le}
-use Rattle.jm_bytes.proofs.Choice.{chosen}
+use Rattle.jm_bytes.proofs.CheckLaws.{fault_if_none, no_fault_head, no_fault_tail}
+use Rattle.jm_bytes.specs.Checks.{fault_if, first_fault}
 use Rattle.jm_form.specs.declared.container.Header.{Header}
-use Rattle.jm_form.specs.declared.container.Damage.TheVariants as damage
+use Rattle.jm_form.specs.declared.damage.Damage.{Damage}
+use Rattle.jm_form.specs.declared.damage.Damage.TheVariants as damage
 use Rattle.jm_form.specs.declared.rows.Row.{Row}
-use Rattle.jm_form.specs.Damages.{or_else, text_fault, texts_fault, packed_fault, range_fault, entry_fault, row_fault, slot_fault}
-use Rattle.jm_form.specs.Entries.{strings, contents, text_ends, offset_word, row_text, row_at, unless_blank}
-use Rattle.jm_form.specs.Rows.{row_front}
-use Rattle.jm_form.specs.Sound.{SoundRow}
-use Rattle.jm_form.proofs.Validity.{or_else_none}
+use Rattle.jm_form.specs.declared.slots.SlotRow.{SlotRow}
+use Rattle.jm_form.specs.declared.slots.SlotRow.TheVariants as slot_row
+use Rattle.jm_form.specs.ComputedRows.{row_front}
+use Rattle.jm_form.specs.Damages.{content_fits, entry_checks, row_checks, slot_fault}
+use Rattle.jm_form.specs.Entries.{row_at, row_of_slot, row_read, row_text, spelled_row}
+use Rattle.jm_form.specs.Places.{contents, offset_word, strings}
+use Rattle.jm_form.specs.Texts.{text_ends}
+use Rattle.jm_form.specs.Validity.{SoundRow}
 
-text_sound : (i : ℕ) (section : List ℕ) (kind place : ℕ) → text_fault i section kind place ≡ None → text_ends section place ≡ true
-text_sound i section kind place clear =
-    elim (chosen (text_ends section place) None (Some (damage.Text i kind)) None clear) [
-      | inl h ↦ h.0
-      | inr h ↦ let other = h.1 in cc
-    ]
+-- The checks of a slot, over whether its offset word is within the locations and what was read there
 
-packed_sound : (i : ℕ) (row : Row) → packed_fault i row ≡ None → row.packed ≡ 0
-packed_sound i row clear =
-    elim (chosen (row.packed == 0) None (Some (damage.Compressed i)) None clear) [
-      | inl h ↦ is_zero row.packed h.0
-      | inr h ↦ let other = h.1 in cc
-    ]
+abbrev slot_row_from : Bool → Option (Row × ℕ) → SlotRow
+slot_row_from inside read = cond inside (row_read read) slot_row.Outside
+
+abbrev checks_from : ℕ → List ℕ → ℕ → Bool → Option (Row × ℕ) → List (Option Damage)
+checks_from i section size inside read =
+    fault_if (not inside) (damage.Offset i)
+    ∷ fault_if (is_none read) (damage.Row i)
+    ∷ entry_checks i section size (spelled_row (slot_row_from inside read))
+
+-- a row that was read is blank or spelled
+blank_or_spelled : (r : Row × ℕ) → (row_read (Some r) ≡ slot_row.Blank) ⊎ (row_read (Some r) ≡ slot_row.Spelled r.0)
+blank_or_spelled r = go (r.1 == 1)
   where
-    is_zero : (n : ℕ) → n == 0 ≡ true → n ≡ 0
-    is_zero n e = grind (arith, nat_tests)
+    go : (b : Bool) → (cond b slot_row.Blank (slot_row.Spelled r.0) ≡ slot_row.Blank) ⊎ (cond b slot_row.Blank (slot_row.Spelled r.0) ≡ slot_row.Spelled r.0)
+    go true = inl refl
+    go false = inr refl
 
-within : (offset size all : ℕ) → nat_le size all && nat_le offset (all - size) ≡ true → offset + size ≤ all
-within offset size all fits = grind (arith, nat_tests)
-
-range_sound : (i : ℕ) (row : Row) (all : ℕ) → range_fault i row all ≡ None → row.offset + row.size ≤ all
-range_sound i row all clear =
-    elim (chosen (nat_le row.size all && nat_le row.offset (all - row.size)) None (Some (damage.Range i)) None clear) [
-      | inl h ↦ within row.offset row.size all h.0
-      | inr h ↦ let other = h.1 in cc
+outside_fault : (i : ℕ) (section : List ℕ) (size : ℕ) (inside : Bool) (read : Option (Row × ℕ)) → slot_row_from inside read ≡ slot_row.Outside → first_fault (checks_from i section size inside read) ≡ Some (damage.Offset i)
+outside_fault i section size false read e = refl
+outside_fault i section size true None e = cc
+outside_fault i section size true (Some r) e =
+    elim (blank_or_spelled r) [
+      | inl blank ↦ let both = sym blank ∙ e in cc
+      | inr spelled ↦ let both = sym spelled ∙ e in cc
     ]
 
-entry_sound : (b : List ℕ) (h : Header) (i : ℕ) (row : Row) → entry_fault b h i (Some row) ≡ None → SoundRow b h row
-entry_sound b h i row clear =
+unspelled_fault : (i : ℕ) (section : List ℕ) (size : ℕ) (inside : Bool) (read : Option (Row × ℕ)) → slot_row_from inside read ≡ slot_row.Unspelled → first_fault (checks_from i section size inside read) ≡ Some (damage.Row i)
+unspelled_fault i section size false read e = cc
+unspelled_fault i section size true None e = refl
+unspelled_fault i section size true (Some r) e =
+    elim (blank_or_spelled r) [
+      | inl blank ↦ let both = sym blank ∙ e in cc
+      | inr spelled ↦ let both = sym spelled ∙ e in cc
+    ]
+
+blank_fault : (i : ℕ) (section : List ℕ) (size : ℕ) (inside : Bool) (read : Option (Row × ℕ)) → slot_row_from inside read ≡ slot_row.Blank → first_fault (checks_from i section size inside read) ≡ None
+blank_fault i section size false read e = cc
+blank_fault i section size true None e = cc
+blank_fault i section size true (Some r) e = ap (λ s. first_fault (entry_checks i section size (spelled_row s))) e
+
+spelled_fault : (i : ℕ) (section : List ℕ) (size : ℕ) (inside : Bool) (read : Option (Row × ℕ)) (row : Row) → slot_row_from inside read ≡ slot_row.Spelled row → first_fault (checks_from i section size inside read) ≡ first_fault (row_checks i section size row)
+spelled_fault i section size false read row e = cc
+spelled_fault i section size true None row e = cc
+spelled_fault i section size true (Some r) row e = ap (λ s. first_fault (entry_checks i section size (spelled_row s))) e
+
+-- The fault of a slot
+
+pub slot_outside : (b : List ℕ) (h : Header) (i : ℕ) → row_of_slot b h i ≡ slot_row.Outside → slot_fault b h i ≡ Some (damage.Offset i)
+slot_outside b h i e = outside_fault i (strings b h) (length (contents b h)) (nat_lt (offset_word b h i) h.locations) (row_front (row_text b h i)) e
+
+pub slot_unspelled : (b : List ℕ) (h : Header) (i : ℕ) → row_of_slot b h i ≡ slot_row.Unspelled → slot_fault b h i ≡ Some (damage.Row i)
+slot_unspelled b h i e = unspelled_fault i (strings b h) (length (contents b h)) (nat_lt (offset_word b h i) h.locations) (row_front (row_text b h i)) e
+
+pub slot_blank : (b : List ℕ) (h : Header) (i : ℕ) → row_of_slot b h i ≡ slot_row.Blank → slot_fault b h i ≡ None
+slot_blank b h i e = blank_fault i (strings b h) (length (contents b h)) (nat_lt (offset_word b h i) h.locations) (row_front (row_text b h i)) e
+
+pub slot_spelled : (b : List ℕ) (h : Header) (i : ℕ) (row : Row) → row_of_slot b h i ≡ slot_row.Spelled row → slot_fault b h i ≡ first_fault (row_checks i (strings b h) (length (contents b h)) row)
+slot_spelled b h i row e = spelled_fault i (strings b h) (length (contents b h)) (nat_lt (offset_word b h i) h.locations) (row_front (row_text b h i)) row e
+
+-- A slot without a fault
+
+-- the row that a slot spells
+spelled_there : (s : SlotRow) (row : Row) → spelled_row s ≡ Some row → s ≡ slot_row.Spelled row
+spelled_there slot_row.Outside row e = cc
+spelled_there slot_row.Unspelled row e = cc
+spelled_there slot_row.Blank row e = cc
+spelled_there (slot_row.Spelled other) row e = cc
+
+pub row_spelled : (b : List ℕ) (h : Header) (i : ℕ) (row : Row) → row_at b h i ≡ Some row → row_of_slot b h i ≡ slot_row.Spelled row
+row_spelled b h i row e = spelled_there (row_of_slot b h i) row e
+
+content_within : (offset size all : ℕ) → nat_le size all && nat_le offset (all - size) ≡ true → offset + size ≤ all
+content_within offset size all e = grind (arith, nat_tests)
+
+-- the test of a check that finds nothing holds
+test_holds : (test : Bool) (fault : Damage) (later : List (Option Damage)) → first_fault (fault_if (not test) fault ∷ later) ≡ None → test ≡ true
+test_holds test fault later e = not-false test (fault_if_none (not test) fault (no_fault_head (fault_if (not test) fault) later e))
+
+pub checked_row : (b : List ℕ) (h : Header) (i : ℕ) (row : Row) → first_fault (row_checks i (strings b h) (length (contents b h)) row) ≡ None → SoundRow b h row
+checked_row b h i row clear =
     let s : List ℕ = strings b h in
-    let rest = or_else_none (packed_fault i row) (or_else (texts_fault i s row) (range_fault i row (length (contents b h)))) clear in
-    let both = or_else_none (texts_fault i s row) (range_fault i row (length (contents b h))) rest.1 in
-    let texts = or_else_none (text_fault i s 1 row.module) (or_else (text_fault i s 2 row.parent) (or_else (text_fault i s 3 row.base) (text_fault i s 4 row.ext))) both.0 in
-    let later = or_else_none (text_fault i s 2 row.parent) (or_else (text_fault i s 3 row.base) (text_fault i s 4 row.ext)) texts.1 in
-    let last = or_else_none (text_fault i s 3 row.base) (text_fault i s 4 row.ext) later.1 in
+    let all : ℕ = length (contents b h) in
+    let stored = fault_if (not (row.packed == 0)) (damage.Compressed i) in
+    let texts = text_check s 1 row.module in
+    let parents = text_check s 2 row.parent in
+    let bases = text_check s 3 row.base in
+    let exts = text_check s 4 row.ext in
+    let content = fault_if (not (content_fits row all)) (damage.Range i) in
+    let after_stored = no_fault_tail stored (texts ∷ parents ∷ bases ∷ exts ∷ content ∷ []) clear in
+    let after_module = no_fault_tail texts (parents ∷ bases ∷ exts ∷ content ∷ []) after_stored in
+    let after_parent = no_fault_tail parents (bases ∷ exts ∷ content ∷ []) after_module in
+    let after_base = no_fault_tail bases (exts ∷ content ∷ []) after_parent in
+    let after_ext = no_fault_tail exts (content ∷ []) after_base in
     record {
-      stored = packed_sound i row rest.0;
-      module_ends = text_sound i s 1 row.module texts.0;
-      parent_ends = text_sound i s 2 row.parent later.0;
-      base_ends = text_sound i s 3 row.base last.0;
-      ext_ends = text_sound i s 4 row.ext last.1;
-      within = range_sound i row (length (contents b h)) both.1;
+      stored = eqb-true row.packed 0 (test_holds (row.packed == 0) (damage.Compressed i) (texts ∷ parents ∷ bases ∷ exts ∷ content ∷ []) clear);
+      module_ends = test_holds (text_ends s row.module) (damage.Text i 1) (parents ∷ bases ∷ exts ∷ content ∷ []) after_stored;
+      parent_ends = test_holds (text_ends s row.parent) (damage.Text i 2) (bases ∷ exts ∷ content ∷ []) after_module;
+      base_ends = test_holds (text_ends s row.base) (damage.Text i 3) (exts ∷ content ∷ []) after_parent;
+      ext_ends = test_holds (text_ends s row.ext) (damage.Text i 4) (content ∷ []) after_base;
+      within = content_within row.offset row.size all (test_holds (content_fits row all) (damage.Range i) [] after_ext);
     }
-
--- a slot without a fault has an offset word within the locations, and a row is spelled there
-pub record Spelled (b : List ℕ) (h : Header) (i : ℕ) : Type 0 where
-  pub below : offset_word b h i < h.locations
-  pub row : Row
-  pub rest : List ℕ
-  pub read : row_front (row_text b h i) ≡ Some (row, rest)
-
-lt_of : (a b : ℕ) → nat_lt a b ≡ true → a < b
-lt_of a b h = grind (arith, nat_tests)
-
-pub sound_spelled : (b : List ℕ) (h : Header) (i : ℕ) → slot_fault b h i ≡ None → Spelled b h i
-sound_spelled b h i clear =
-    elim (chosen (nat_lt (offset_word b h i) h.locations) (row_fault b h i (row_front (row_text b h i))) (Some (damage.Offset i)) None clear) [
-      | inl c ↦ read (lt_of (offset_word b h i) h.locations c.0) (row_front (row_text b h i)) refl c.1
-      | inr c ↦ let other = c.1 in cc
-    ]
   where
-    read : offset_word b h i < h.locations → (r : Option (Row × List ℕ)) → row_front (row_text b h i) ≡ r → row_fault b h i r ≡ None → Spelled b h i
-    read below None e clear = cc
-    read below (Some r) e clear = record { below = below; row = r.0; rest = r.1; read = e }
+    text_check : List ℕ → ℕ → ℕ → Option Damage
+    text_check s kind place = fault_if (not (text_ends s place)) (damage.Text i kind)
 
--- its row, where it isn't blank, is sound
+-- the row of a slot without a fault, where it isn't blank, is sound
 pub sound_row : (b : List ℕ) (h : Header) (i : ℕ) (row : Row) → slot_fault b h i ≡ None → row_at b h i ≡ Some row → SoundRow b h row
-sound_row b h i row clear there =
-    elim (chosen (nat_lt (offset_word b h i) h.locations) (row_fault b h i (row_front (row_text b h i))) (Some (damage.Offset i)) None clear) [
-      | inl c ↦ read (row_front (row_text b h i)) c.1 there
-      | inr c ↦ let other = c.1 in cc
-    ]
-  where
-    read : (r : Option (Row × List ℕ)) → row_fault b h i r ≡ None → unless_blank (row_text b h i) r ≡ Some row → SoundRow b h row
-    read None clear there = cc
-    read (Some r) clear there = entry_sound b h i row (ap (entry_fault b h i) (sym there) ∙ clear)
+sound_row b h i row clear there = checked_row b h i row (sym (slot_spelled b h i row (row_spelled b h i row there)) ∙ clear)

@@ -1,14 +1,17 @@
 -- The definitions, evaluated on whole images.
 use Rattle.std.proofs.Common.{◌≡◌, ℕ, [], ◌∷◌, map, take, Some, None, Ok, refl}
 use Rattle.std.specs.Prelude.{slice_set, codes, option_map}
+use Rattle.std.specs.Fmt.{digits}
 use Rattle.jm_bytes.specs.declared.words.Order.TheVariants.{Little}
 use Rattle.jm_form.specs.declared.container.Header.{Header}
 use Rattle.jm_form.specs.declared.container.HeaderFault.TheVariants as fault
-use Rattle.jm_form.specs.declared.container.Damage.TheVariants as damage
-use Rattle.jm_form.specs.Damages.{first_damage, look, resources}
+use Rattle.jm_form.specs.declared.damage.Damage.TheVariants as damage
+use Rattle.jm_form.specs.DamageText.{damage_text}
+use Rattle.jm_form.specs.Damages.{first_damage}
 use Rattle.jm_form.specs.Entries.{entries}
 use Rattle.jm_form.specs.Head.{header_of}
-use Rattle.jm_form.specs.Vectors.{tiny, big_tiny, overlapping, side_by_side, empty, no_entries}
+use Rattle.jm_form.specs.Validity.{look, resources}
+use Rattle.jm_form.proofs.Vectors.{tiny, big_tiny, overlapping, side_by_side, empty, no_entries}
 
 abbrev first_slot : ℕ
 first_slot = 0
@@ -86,10 +89,10 @@ any_seed = refl
 
 -- Two entries
 
-overlapping_pair : first_damage (overlapping) ≡ Some (damage.Overlap 0 1)
+overlapping_pair : first_damage overlapping ≡ Some (damage.Overlap 0 1)
 overlapping_pair = refl
 
-empty_contents : first_damage (side_by_side) ≡ None
+empty_contents : first_damage side_by_side ≡ None
 empty_contents = refl
 
 overlapping_names : map (λ e. e.name) (entries overlapping (record { order = Little; flags = 0; count = 2; length = 2; locations = 15; strings = 13 })) ≡ codes "/m/b" ∷ codes "/m/a" ∷ []
@@ -131,3 +134,13 @@ empty_cut = refl
 
 no_entries_sound : first_damage no_entries ≡ None
 no_entries_sound = refl
+
+-- In print
+
+version_printed : damage_text (damage.Header (fault.Version 65537)) ≡ codes "Header Version 65537"
+unfolding digits
+version_printed = refl
+
+text_printed : damage_text (damage.Text 10 1) ≡ codes "Text 10 1"
+unfolding digits
+text_printed = refl

@@ -1,5 +1,6 @@
 -- The header of an image: seven words (jimage 1.0).
-use Rattle.std.specs.Prelude.{ℕ, ◌+◌, ◌*◌, ◌==◌, nat_lt, nat_le, List, length, Option, Some, None, Result, Ok, Err, if◌then◌else◌}
+use Rattle.std.specs.Prelude.{ℕ, ◌+◌, ◌*◌, ◌==◌, nat_lt, not, List, [], ◌∷◌, length, Option, Some, None, is_none, unwrap_or, Result, if◌then◌else◌}
+use Rattle.jm_bytes.specs.Checks.{fault_if, first_fault, unless_fault}
 use Rattle.jm_bytes.specs.Word.{word}
 use Rattle.jm_bytes.specs.declared.words.Order.{Order}
 use Rattle.jm_bytes.specs.declared.words.Order.TheVariants.{Little, Big}
@@ -14,26 +15,41 @@ order_of b =
     else if word Big b 0 == 0xCAFEDADA then Some Big
     else None
 
+-- the order in which the other words are read; without a magic it doesn't matter
+abbrev pub read_order : List ℕ → Order
+read_order b = unwrap_or (order_of b) Little
+
+-- the word behind the magic
+abbrev pub version_of : List ℕ → ℕ
+version_of b = word (read_order b) b 4
+
 -- the words that stand at places 8 to 27
-abbrev pub fields_of : Order → List ℕ → Header
-fields_of order b =
-    record { order = order; flags = word order b 8; count = word order b 12; length = word order b 16; locations = word order b 20; strings = word order b 24 }
+abbrev pub fields_in : Order → List ℕ → Header
+fields_in order b = record {
+  order = order;
+  flags = word order b 8;
+  count = word order b 12;
+  length = word order b 16;
+  locations = word order b 20;
+  strings = word order b 24;
+}
+
+abbrev pub fields_of : List ℕ → Header
+fields_of b = fields_in (read_order b) b
 
 -- how many bytes stand in front of the contents
 abbrev pub index_length : Header → ℕ
 index_length h = 28 + 8 * h.length + h.locations + h.strings
 
-abbrev pub sized : List ℕ → Header → Result Header HeaderFault
-sized b h = if nat_le (index_length h) (length b) then Ok h else Err Sizes
-
-abbrev pub versioned : List ℕ → Order → Result Header HeaderFault
-versioned b order =
-    if word order b 4 == 0x00010000 then sized b (fields_of order b) else Err (Version (word order b 4))
-
-abbrev pub ordered : List ℕ → Option Order → Result Header HeaderFault
-ordered b None = Err Magic
-ordered b (Some order) = versioned b order
+-- what can be wrong with a header, in this order
+abbrev pub header_checks : List ℕ → List (Option HeaderFault)
+header_checks b =
+    fault_if (nat_lt (length b) 28) Short
+    ∷ fault_if (is_none (order_of b)) Magic
+    ∷ fault_if (not (version_of b == 0x00010000)) (Version (version_of b))
+    ∷ fault_if (nat_lt (length b) (index_length (fields_of b))) Sizes
+    ∷ []
 
 -- the header, or the first header fault
 abbrev pub header_of : List ℕ → Result Header HeaderFault
-header_of b = if nat_lt (length b) 28 then Err Short else ordered b (order_of b)
+header_of b = unless_fault (first_fault (header_checks b)) (fields_of b)

@@ -1,6 +1,12 @@
+pub mod ComputedOverlap
+pub mod ComputedRows
+pub mod DamageText
+pub mod Damages
 pub mod Entries
 pub mod Head
+pub mod Overlap
+pub mod Places
 pub mod Rows
-pub mod Sound
-pub mod Damages
-pub mod Vectors
+pub mod Table
+pub mod Texts
+pub mod Validity

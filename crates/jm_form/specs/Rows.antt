@@ -1,7 +1,8 @@
 -- Location rows (jimage 1.0): a run of attributes and an end byte.
-use Rattle.std.specs.Prelude.{ℕ, zero, suc, ◌+◌, ◌-◌, ◌*◌, ◌/◌, ◌%◌, ◌<◌, ◌≤◌, ◌≡◌, ◌==◌, nat_lt, nat_le, ◌&&◌, List, [], ◌∷◌, ◌++◌, length, drop, Option, Some, None, if◌then◌else◌}
-use Rattle.std.specs.List.{flat_map}
-use Rattle.byteorder.specs.Endian.{big_number}
+use Rattle.std.specs.Prelude.{ℕ, ◌+◌, ◌-◌, ◌*◌, ◌^◌, ◌<◌, ◌≤◌, ◌≡◌, ◌==◌, nat_lt, List, [], ◌∷◌, ◌++◌, length, if◌then◌else◌}
+use Rattle.std.specs.List.{find, flat_map, range_with_len}
+use Rattle.std.specs.Option.{unwrap_or}
+use Rattle.byteorder.specs.Endian.{big_number, big_bytes}
 use Rattle.jm_form.specs.declared.rows.Row.{Row}
 
 -- the row in which no attribute is spelled
@@ -32,29 +33,37 @@ spelled a = (a.kind * 8 + (length a.value - 1)) ∷ a.value
 -- attributes of 1 to 8 bytes whose kinds rise strictly, above one and up to 7
 abbrev pub Rising : ℕ → List Attribute → Type 0
 Rising above [] = Unit {0}
-Rising above (a ∷ parts) = (above < a.kind) × (a.kind < 8) × (0 < length a.value) × (length a.value ≤ 8) × Rising a.kind parts
+Rising above (a ∷ parts) =
+    (above < a.kind) × (a.kind < 8)
+    × (0 < length a.value) × (length a.value ≤ 8) × Rising a.kind parts
 
 -- the row with the values of attributes
 abbrev pub row_of : Row → List Attribute → Row
 row_of row [] = row
-row_of row (a ∷ parts) = row_of (with_value row a.kind (big_number (length a.value) a.value)) parts
+row_of row (a ∷ parts) =
+    row_of (with_value row a.kind (big_number (length a.value) a.value)) parts
 
--- the text is attributes with rising kinds and one end byte, and the row has their values
+-- the rule: the text is attributes with rising kinds and one end byte, and the row has their values
 abbrev pub Spells : List ℕ → Row → Type 0
 Spells text row =
     (parts : List Attribute) × (last : ℕ) × Rising 0 parts × (last < 8)
     × (text ≡ flat_map spelled parts ++ last ∷ []) × (row ≡ row_of blank parts)
 
--- the row that attributes above a kind make of one, and what stands behind its end byte
-abbrev pub row_from : ℕ → ℕ → Row → List ℕ → Option (Row × List ℕ)
-row_from left above row [] = None
-row_from zero above row (b ∷ bytes) = if nat_lt b 8 then Some (row, bytes) else None
-row_from (suc left) above row (b ∷ bytes) =
-    if nat_lt b 8 then Some (row, bytes)
-    else if nat_lt above (b / 8) && nat_lt (b / 8) 8 && nat_le (b % 8 + 1) (length bytes)
-    then row_from left (b / 8) (with_value row (b / 8) (big_number (b % 8 + 1) bytes)) (drop (b % 8 + 1) bytes)
-    else None
+-- the least number of bytes, from 1 to 8, that a value fits in
+abbrev pub byte_count : ℕ → ℕ
+byte_count v = unwrap_or (find (λ n. nat_lt v (256 ^ n)) (range_with_len 1 8)) 8
 
--- the row that is spelled at the front, and what stands behind it; there are seven kinds
-abbrev pub row_front : List ℕ → Option (Row × List ℕ)
-row_front bytes = row_from 7 0 blank bytes
+-- a value as an attribute of that many bytes; a value of 0 is left out
+abbrev pub usual_attribute : ℕ → ℕ → List ℕ
+usual_attribute kind v =
+    if v == 0 then [] else spelled (record { kind = kind; value = big_bytes (byte_count v) v })
+
+-- the kinds with a row's values
+abbrev pub values_of : Row → List (ℕ × ℕ)
+values_of row =
+    (1, row.«module») ∷ (2, row.parent) ∷ (3, row.base) ∷ (4, row.ext) ∷ (5, row.offset)
+    ∷ (6, row.packed) ∷ (7, row.size) ∷ []
+
+-- the usual spelling: the attributes whose value isn't 0, and 0
+abbrev pub usual : Row → List ℕ
+usual row = flat_map (λ v. usual_attribute v.0 v.1) (values_of row) ++ 0 ∷ []

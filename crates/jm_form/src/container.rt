@@ -1,7 +1,11 @@
-ghost use Rattle.std.specs.Prelude.{◌≡◌, ◌≤◌, length};
-ghost use Rattle.jm_form.specs.Head.{fields_of, header_of, index_length, order_of};
+ghost use Rattle.std.specs.Prelude.{◌≡◌, ◌%◌, ◌≤◌, ◌<◌, Some, length};
+ghost use Rattle.jm_form.specs.DamageText.{header_fault_text};
+ghost use Rattle.jm_form.specs.Head.{fields_in, header_of, index_length, order_of};
+ghost use Rattle.jm_form.specs.Places as places;
+ghost use Rattle.jm_form.specs.Table.{slot_below};
 
 use jm_bytes::{Order, word_at};
+use std::fmt;
 
 /// The first four bytes of an image, as a word in the image's byte order.
 const MAGIC: u32 = 0xCAFE_DADA;
@@ -10,7 +14,7 @@ const MAGIC: u32 = 0xCAFE_DADA;
 const VERSION: u32 = 0x0001_0000;
 
 /// How many bytes the seven words of the header take.
-const HEADER_LENGTH: u64 = 28;
+const HEADER_LENGTH: usize = 28;
 
 /// The header of an image of version 1.0.
 #[derive(Clone, Copy, Debug, PartialEq, Eq)]
@@ -42,42 +46,74 @@ pub enum HeaderFault {
     Sizes,
 }
 
-/// What is wrong with the bytes of an image; a slot's damage stands before those of later slots, and
-/// `Count` and `Overlap` come last.
-#[derive(Clone, Copy, Debug, PartialEq, Eq)]
-pub enum Damage {
-    /// There is no header.
-    Header(HeaderFault),
-    /// The offset word of this slot isn't below the length of the locations.
-    Offset(u32),
-    /// No row is spelled at the offset of this slot.
-    Row(u32),
-    /// The content of this slot is compressed.
-    Compressed(u32),
-    /// A text of this slot, the module (1), parent (2), base (3) or extension (4), has no place in the
-    /// strings or doesn't end there.
-    Text {
-        /// The number of the slot, from 0.
-        slot: u32,
-        /// The kind of the attribute, from 1 to 4.
-        kind: u8,
-    },
-    /// The content of this slot reaches past the end of the file.
-    Range(u32),
-    /// The header's count is not the number of entries.
-    Count {
-        /// The header's count.
-        stated: u32,
-        /// The number of slots that their own name reaches.
-        found: u32,
-    },
-    /// The contents of two entries have a byte in common.
-    Overlap {
-        /// The least slot whose content overlaps that of another entry.
-        first: u32,
-        /// The least slot of another entry whose content overlaps that of `first`.
-        second: u32,
-    },
+/// The kind and its number, as `Version 65537`.
+impl fmt::Display for HeaderFault {
+    ghost output = { λ x. Some (header_fault_text x) };
+
+    fn fmt<W: fmt::Write>(&self, f: &mut fmt::Formatter<W>) -> fmt::Result {
+        match *self {
+            HeaderFault::Short => write!(f, "Short"),
+            HeaderFault::Magic => write!(f, "Magic"),
+            HeaderFault::Version(word) => write!(f, "Version {word}"),
+            HeaderFault::Sizes => write!(f, "Sizes"),
+        }
+    }
+}
+
+/// Where the parts of an image stand, in bytes from its front: behind the header's seven words the
+/// redirect words, the offset words, the locations, the strings and the contents (jimage 1.0).
+impl Header {
+    /// The place of a bucket's redirect word.
+    pub fn redirect_place(&self, bucket: u32) -> usize
+        ensures { result ≡ places.redirect_place bucket }
+    {
+        HEADER_LENGTH + 4 * bucket as usize
+    }
+
+    /// The place of a slot's offset word.
+    pub fn offset_place(&self, slot: u32) -> usize
+        ensures { result ≡ places.offset_place self.now slot }
+    {
+        HEADER_LENGTH + 4 * self.length as usize + 4 * slot as usize
+    }
+
+    /// The place of the locations.
+    pub fn locations_place(&self) -> usize
+        ensures { result ≡ places.locations_place self.now }
+    {
+        HEADER_LENGTH + 8 * self.length as usize
+    }
+
+    /// The place of the strings.
+    pub fn strings_place(&self) -> usize
+        ensures { result ≡ places.strings_place self.now }
+    {
+        self.locations_place() + self.locations as usize
+    }
+
+    /// The place of the contents, which is the length of the index.
+    pub fn contents_place(&self) -> usize
+        ensures { result ≡ index_length self.now }
+    {
+        self.strings_place() + self.strings as usize
+    }
+
+    /// The slot, if the table has it.
+    pub fn slot(&self, slot: u32) -> Option<u32>
+        ensures { result ≡ slot_below self.now.length slot }
+    {
+        if slot < self.length { Some(slot) } else { None }
+    }
+
+    /// The slot of a hash, if the table has a slot.
+    pub fn slot_of(&self, hash: u32) -> Option<u32>
+        ensures { result ≡ slot_below self.now.length (hash % self.now.length) }
+    {
+        if self.length == 0 {
+            return None;
+        }
+        self.slot(hash % self.length)
+    }
 }
 
 /// The byte order in which the first word is the magic.
@@ -94,35 +130,10 @@ fn order_of(bytes: &[u8]) -> Option<Order>
     }
 }
 
-/// Reads the header, the seven words at the front (jimage 1.0).
-///
-/// The faults are looked for in the order of `HeaderFault`, and the sum of the index's parts is taken
-/// in 64 bits.
-pub fn read_header(bytes: &[u8]) -> Result<Header, HeaderFault>
-    ensures { result ≡ header_of bytes.now }
-{
-    if bytes.len() < 28 {
-        return Err(HeaderFault::Short);
-    }
-    let Some(order) = order_of(bytes) else {
-        return Err(HeaderFault::Magic);
-    };
-    let version = word_at(order, bytes, 4);
-    if version != VERSION {
-        return Err(HeaderFault::Version(version));
-    }
-    let header = words_of(order, bytes);
-    if index_length(&header) <= bytes.len() as u64 {
-        Ok(header)
-    } else {
-        Err(HeaderFault::Sizes)
-    }
-}
-
 /// The header's fields, whatever they say.
-fn words_of(order: Order, bytes: &[u8]) -> Header
+fn fields_in(order: Order, bytes: &[u8]) -> Header
     requires { 28 ≤ length bytes.now }
-    ensures { result ≡ fields_of order bytes.now }
+    ensures { result ≡ fields_in order bytes.now }
 {
     Header {
         order,
@@ -134,12 +145,26 @@ fn words_of(order: Order, bytes: &[u8]) -> Header
     }
 }
 
-/// How many bytes stand in front of the contents: the header, two words a slot and the two sections.
-pub fn index_length(header: &Header) -> u64
-    ensures { result ≡ index_length header.now }
+/// Reads the header, the seven words at the front (jimage 1.0).
+///
+/// The faults are looked for in the order of `HeaderFault`, and the sum of the index's parts is
+/// taken in 64 bits.
+pub fn read_header(bytes: &[u8]) -> Result<Header, HeaderFault>
+    ensures { result ≡ header_of bytes.now }
 {
-    let length = header.length;
-    let locations = header.locations;
-    let strings = header.strings;
-    HEADER_LENGTH + 8 * u64::from(length) + u64::from(locations) + u64::from(strings)
+    if bytes.len() < HEADER_LENGTH {
+        return Err(HeaderFault::Short);
+    }
+    let Some(order) = order_of(bytes) else {
+        return Err(HeaderFault::Magic);
+    };
+    let version = word_at(order, bytes, 4);
+    if version != VERSION {
+        return Err(HeaderFault::Version(version));
+    }
+    let header = fields_in(order, bytes);
+    if header.contents_place() > bytes.len() {
+        return Err(HeaderFault::Sizes);
+    }
+    Ok(header)
 }

@@ -1,12 +1,21 @@
-//! The container of an image: its header, its location rows and what damage it can have.
+//! The container of an image: its header, where its parts stand, its location rows, its table, and
+//! what damage it can have.
 #![tactic(auto)]
 
 mod container;
+mod damage;
+mod ranges;
 mod rows;
+mod slots;
+mod spelling;
 mod table;
 #[cfg(test)]
 mod tests;
 
-pub use container::{Damage, Header, HeaderFault, index_length, read_header};
+pub use container::{Header, HeaderFault, read_header};
+pub use damage::Damage;
+pub use ranges::Range;
 pub use rows::{Row, read_row};
-pub use table::{DEFAULT_SEED, slot_below};
+pub use slots::{SlotRow, row_of_slot};
+pub use spelling::write_row;
+pub use table::{Redirect, redirect_at};

@@ -1,5 +1,6 @@
-ghost use Rattle.std.specs.Prelude.{◌≡◌, ◌<◌, ◌≤◌, ℕ, length, take, drop, option_map, IfNone, IfSome};
-ghost use Rattle.jm_form.specs.Rows.{row_from, row_front, with_value, Spells};
+ghost use Rattle.std.specs.Prelude.{◌≡◌, ◌<◌, ◌≤◌, ℕ, length, take, option_map, IfNone, IfSome};
+ghost use Rattle.jm_form.specs.ComputedRows.{row_from, row_front};
+ghost use Rattle.jm_form.specs.Rows.{with_value, Spells};
 
 use byteorder::{BigEndian, ByteOrder};
 
@@ -62,7 +63,7 @@ fn with(row: Row, kind: u8, value: u64) -> Row
 
 /// Reads on from a row whose attributes so far are all of kind `above` or less. At most `left` more
 /// can come.
-#[tactic(auto, using(crate::proofs::RowReading::row_from_more))]
+#[tactic(auto, using(crate::proofs::ComputedRowsLaws::row_from_more))]
 fn row_of(left: u8, above: u8, row: Row, bytes: &[u8]) -> Option<(Row, &[u8])>
     ensures { option_map (λ x. (x.0, x.1.now)) result ≡ row_from left above row bytes.now }
 {
@@ -92,7 +93,7 @@ pub fn read_row(bytes: &[u8]) -> Option<(Row, usize)>
     ensures within { IfSome result (λ r. (0 < r.1) × (r.1 ≤ length bytes.now)) }
     ensures found { IfSome result (λ r. Spells (take r.1 bytes.now) r.0) }
     ensures none { IfNone result ((n : ℕ) (row : Row) → Spells (take n bytes.now) row → ⊥) }
-    ensures value { option_map (λ r. (r.0, drop r.1 bytes.now)) result ≡ row_front bytes.now }
+    ensures value { result ≡ row_front bytes.now }
 {
     let (row, rest) = row_of(7, 0, BLANK, bytes)?;
     Some((row, bytes.len() - rest.len()))

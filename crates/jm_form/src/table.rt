@@ -1,12 +1,52 @@
-ghost use Rattle.std.specs.Prelude.{◌≡◌};
-ghost use Rattle.jm_form.specs.Entries as image;
+ghost use Rattle.std.specs.Prelude.{◌≡◌, Ok};
+ghost use Rattle.jm_bytes.specs.Metered.{CostsAtMost};
+ghost use Rattle.jm_form.specs.Head.{header_of};
+ghost use Rattle.jm_form.specs.Table.{redirect_at, redirect_of};
 
-/// The seed of the hash that finds a name's redirect word (jimage 1.0).
-pub const DEFAULT_SEED: u32 = 0x0100_0193;
+use crate::container::Header;
+use jm_bytes::{Buf, Meter};
+use std::sync::ledger::Ledger;
 
-/// The slot, if a table of this length has it.
-pub fn slot_below(length: u32, slot: u32) -> Option<u32>
-    ensures { result ≡ image.below length slot }
+/// What the table says of the names of one bucket (jimage 1.0).
+#[derive(Clone, Copy, Debug, PartialEq, Eq)]
+pub enum Redirect {
+    /// No entry has such a name.
+    Nowhere,
+    /// They are led to this slot, which the table may not have.
+    Slot(u32),
+    /// They are led to the slots that a second hash with this seed gives.
+    Seed(u32),
+}
+
+/// What a redirect word says, which is read as a signed number.
+fn redirect_of(word: u32) -> Redirect
+    ensures { result ≡ redirect_of word }
 {
-    if slot < length { Some(slot) } else { None }
+    if word == 0 {
+        Redirect::Nowhere
+    } else if word < 1 << 31 {
+        Redirect::Seed(word)
+    } else {
+        Redirect::Slot(u32::MAX - word)
+    }
+}
+
+/// What the table says of the names that have this hash with the default seed. It costs at most the
+/// four bytes of one redirect word.
+pub fn redirect_at<R: Ledger>(
+    buf: &Buf,
+    header: &Header,
+    hash: u32,
+    reads: &mut Meter<R>,
+) -> Redirect
+    requires read { header_of buf.now ≡ Ok header.now }
+    requires metered { reads.old.bytes ≡ buf.now }
+    ensures redirect { result ≡ redirect_at buf.now header.now hash }
+    ensures cost { CostsAtMost reads.old reads.new 4 }
+{
+    if header.length == 0 {
+        return Redirect::Nowhere;
+    }
+    let place = header.redirect_place(hash % header.length);
+    redirect_of(buf.word(header.order, place, reads))
 }

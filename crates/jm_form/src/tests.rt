@@ -1,38 +1,36 @@
 use super::*;
 use jm_bytes::Order;
+use std::test::Fail;
 
-/// An image of one entry, `/m/a`, that holds `hi`.
-const TINY: [u8; 57] = [
-    0xDA, 0xDA, 0xFE, 0xCA, 0, 0, 1, 0, 0, 0, 0, 0, 1, 0, 0, 0, 1, 0, 0, 0, 8, 0, 0, 0, 11, 0, 0,
-    0, 0xFF, 0xFF, 0xFF, 0xFF, 1, 0, 0, 0, 0, 8, 7, 24, 9, 56, 2, 0, 0, 99, 108, 97, 115, 115, 0,
-    109, 0, 97, 0, 104, 105,
+/// The header of an image of no slot, with the lowest byte of each word first.
+const HEADER: [u8; 28] = [
+    0xDA, 0xDA, 0xFE, 0xCA, 0, 0, 1, 0, 7, 0, 0, 0, 1, 0, 0, 0, 0, 0, 0, 0, 0, 0, 0, 0, 0, 0, 0, 0,
 ];
 
 #[test]
-fn headers_read(rt: HostRuntime) {
+fn headers_are_read(rt: HostRuntime) {
     let header = Header {
         order: Order::Little,
-        flags: 0,
+        flags: 7,
         count: 1,
-        length: 1,
-        locations: 8,
-        strings: 11,
+        length: 0,
+        locations: 0,
+        strings: 0,
     };
-    assert_eq!(rt; read_header(&TINY), Ok(header));
-    assert_eq!(rt; index_length(&header), 55);
-    assert_eq!(rt; read_header(&TINY[..55]), Ok(header));
-    assert_eq!(rt; read_header(&TINY[..54]), Err(HeaderFault::Sizes));
-    assert_eq!(rt; read_header(&TINY[..27]), Err(HeaderFault::Short));
+    assert_eq!(rt; read_header(&HEADER), Ok(header));
+    assert_eq!(rt; read_header(&HEADER[..27]), Err(HeaderFault::Short));
     assert_eq!(rt; read_header(&[]), Err(HeaderFault::Short));
     for (place, byte, fault) in [
         (0, 0, HeaderFault::Magic),
         (3, 0xDA, HeaderFault::Magic),
         (4, 1, HeaderFault::Version(0x0001_0001)),
         (6, 2, HeaderFault::Version(0x0002_0000)),
-        (19, 0xFF, HeaderFault::Sizes),
-        (24, 14, HeaderFault::Sizes),
+        (16, 1, HeaderFault::Sizes),
+        (20, 1, HeaderFault::Sizes),
+        (24, 1, HeaderFault::Sizes),
+        (27, 0xFF, HeaderFault::Sizes),
     ] {
-        let mut bytes = TINY;
+        let mut bytes = HEADER;
         bytes[place] = byte;
         assert_eq!(rt; read_header(&bytes), Err(fault), "byte {place} as {byte}");
     }
@@ -54,10 +52,12 @@ fn the_big_order_is_read(rt: HostRuntime) {
     };
     assert_eq!(rt; read_header(&bytes), Ok(header));
     assert_eq!(rt; read_header(&bytes[..30]), Err(HeaderFault::Sizes));
+    assert_eq!(rt; header.strings_place(), 29);
+    assert_eq!(rt; header.contents_place(), 31);
 }
 
 #[test]
-fn rows_read(rt: HostRuntime) {
+fn rows_are_read(rt: HostRuntime) {
     let blank = Row {
         module: 0,
         parent: 0,
@@ -74,27 +74,84 @@ fn rows_read(rt: HostRuntime) {
         size: 2,
         ..blank
     };
-    let usual = [8, 7, 24, 9, 0x29, 1, 0x2C, 56, 2, 0];
-    assert_eq!(rt; read_row(&usual), Some((row, 10)));
-    for end in 0..10 {
-        assert_eq!(rt; read_row(&usual[..end]), None, "the first {end} bytes");
-    }
-    assert_eq!(rt;
-        read_row(&[8, 7, 24, 9, 0x2A, 0, 1, 0x2C, 56, 2, 7, 8]),
-        Some((row, 11))
-    );
-    assert_eq!(rt; read_row(&[0]), Some((blank, 1)));
-    assert_eq!(rt; read_row(&[7, 8]), Some((blank, 1)));
-    assert_eq!(rt; read_row(&[8, 0, 0]), Some((blank, 3)));
-    assert_eq!(rt; read_row(&[8, 1, 8, 2, 0]), None, "a kind that repeats");
-    assert_eq!(rt; read_row(&[24, 1, 8, 2, 0]), None, "kinds that fall");
-    assert_eq!(rt; read_row(&[64, 1, 0]), None, "a kind of 8");
     let largest = Row {
         size: u64::MAX,
         ..blank
     };
-    assert_eq!(rt;
-        read_row(&[0x3F, 255, 255, 255, 255, 255, 255, 255, 255, 0]),
-        Some((largest, 10))
-    );
+    let usual = [8, 7, 24, 9, 0x29, 1, 0x2C, 56, 2, 0];
+    for end in 0..10 {
+        assert_eq!(rt; read_row(&usual[..end]), None, "the first {end} bytes");
+    }
+    let cases: [(&[u8], Option<(Row, usize)>); 9] = [
+        (&usual, Some((row, 10))),
+        (
+            &[8, 7, 24, 9, 0x2A, 0, 1, 0x2C, 56, 2, 7, 8],
+            Some((row, 11)),
+        ),
+        (&[0], Some((blank, 1))),
+        (&[7, 8], Some((blank, 1))),
+        (&[8, 0, 0], Some((blank, 3))),
+        (&[8, 1, 8, 2, 0], None),
+        (&[24, 1, 8, 2, 0], None),
+        (&[64, 1, 0], None),
+        (
+            &[0x3F, 255, 255, 255, 255, 255, 255, 255, 255, 0],
+            Some((largest, 10)),
+        ),
+    ];
+    for (bytes, read) in cases {
+        assert_eq!(rt; read_row(bytes), read, "{bytes:?}");
+    }
+}
+
+#[test]
+fn rows_are_written(rt: HostRuntime) -> Result<(), Fail> {
+    let blank = Row {
+        module: 0,
+        parent: 0,
+        base: 0,
+        ext: 0,
+        offset: 0,
+        packed: 0,
+        size: 0,
+    };
+    let cases: [(Row, &[u8]); 4] = [
+        (
+            Row {
+                module: 7,
+                base: 9,
+                offset: 300,
+                size: 2,
+                ..blank
+            },
+            &[8, 7, 0x18, 9, 0x29, 1, 0x2C, 0x38, 2, 0],
+        ),
+        (blank, &[0]),
+        (
+            Row {
+                parent: 0x100,
+                ext: 0xFF,
+                packed: 0xFF_FFFF,
+                ..blank
+            },
+            &[0x11, 1, 0, 0x20, 255, 0x32, 255, 255, 255, 0],
+        ),
+        (
+            Row {
+                size: u64::MAX,
+                ..blank
+            },
+            &[0x3F, 255, 255, 255, 255, 255, 255, 255, 255, 0],
+        ),
+    ];
+    for (row, bytes) in cases {
+        let text = write_row(rt.alloc(), &row)?;
+        assert_eq!(rt; text.as_slice(), bytes, "{row:?}");
+        assert_eq!(rt;
+            read_row(text.as_slice()),
+            Some((row, bytes.len())),
+            "{row:?}"
+        );
+    }
+    Ok(())
 }

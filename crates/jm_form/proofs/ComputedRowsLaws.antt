@@ -1,15 +1,22 @@
--- The reading of a row and its spelling agree, and no spelling is a proper prefix of another.
-use Rattle.std.proofs.Common.{◌≡◌, ℕ, zero, suc, ◌+◌, ◌-◌, ◌*◌, ◌/◌, ◌%◌, ◌<◌, ◌≤◌, ◌&&◌, inl, inr, Bool, true, false, cond, List, [], ◌∷◌, ◌++◌, length, take, drop, Option, Some, None, refl, sym, ap, ◌∙◌, arith, append_assoc, length-append, take-append-drop}
+-- The row that `row_front` computes is the one that `Spells` rules: both ways, and no spelling is a
+-- proper prefix of another.
+use Rattle.std.proofs.Common.{◌≡◌, ℕ, zero, suc, ◌+◌, ◌-◌, ◌*◌, ◌/◌, ◌%◌, ◌<◌, ◌≤◌, ◌&&◌, inl, inr, Bool, true, cond, List, [], ◌∷◌, ◌++◌, length, take, drop, Option, Some, None, refl, sym, ap, ◌∙◌, subst, arith, append_assoc, length-append, length-take, length-drop, take-append-drop, option_map}
+use Rattle.std.proofs.lemmas.Bool.{ltb-false, ltb-true}
 use Rattle.std.proofs.lemmas.Bool.Decides.{nat_tests}
-use Rattle.std.proofs.lemmas.List.{take_all, take_at, take-take, drop_all, drop_at, length-take-le}
+use Rattle.std.proofs.lemmas.List.{nil_from_length, take_all, take_at, take-take, drop_at, length-take-le}
 use Rattle.std.specs.List.{flat_map}
 use Rattle.std.specs.Prelude.{nat_lt, nat_le}
 use Rattle.byteorder.specs.Endian.{big_number}
 use Rattle.byteorder.specs.Numbers.{big_from-append, big_from-take}
 use Rattle.jm_form.specs.declared.rows.Row.{Row}
-use Rattle.jm_form.specs.Rows.{Attribute, spelled, Rising, Spells, blank, row_of, row_from, row_front, with_value}
+use Rattle.jm_form.specs.ComputedRows.{row_from, row_front}
+use Rattle.jm_form.specs.Rows.{Attribute, spelled, Rising, Spells, blank, row_of, with_value}
 use Rattle.jm_bytes.proofs.Choice.{chosen, same_first, same_second}
-use Rattle.jm_form.proofs.RowReading.{row_from_more}
+
+-- one attribute more is read
+pub row_from_more : (left above : ℕ) (row : Row) (b : ℕ) (bytes : List ℕ) (kind len : ℕ) → 0 < left → kind ≡ b / 8 → len ≡ b % 8 + 1 → 8 ≤ b → above < kind → kind < 8 → len ≤ length bytes → row_from left above row (b ∷ bytes) ≡ row_from (left - 1) kind (with_value row kind (big_number len bytes)) (drop len bytes)
+row_from_more zero above row b bytes kind len more k l high rises small fits = grind (arith, nat_tests)
+row_from_more (suc left) above row b bytes kind len more k l high rises small fits = grind (arith, nat_tests)
 
 -- what is spelled is read
 pub spelled_read : (left above : ℕ) (row : Row) (parts : List Attribute) (last : ℕ) (rest : List ℕ) → Rising above parts → last < 8 → 7 ≤ above + left → row_from left above row (flat_map spelled parts ++ last ∷ rest) ≡ Some (row_of row parts, rest)
@@ -58,26 +65,14 @@ one_read above row b bytes read rest high rises small fits more =
       row = more.row ∙ ap (λ v. row_of (with_value row (b / 8) v) more.parts) (sym number);
     }
 
-test_rises : (above b n : ℕ) → nat_lt above (b / 8) && nat_lt (b / 8) 8 && nat_le (b % 8 + 1) n ≡ true → above < b / 8
-test_rises above b n h = grind (arith, nat_tests)
-
-test_small : (above b n : ℕ) → nat_lt above (b / 8) && nat_lt (b / 8) 8 && nat_le (b % 8 + 1) n ≡ true → b / 8 < 8
-test_small above b n h = grind (arith, nat_tests)
-
-test_fits : (above b n : ℕ) → nat_lt above (b / 8) && nat_lt (b / 8) 8 && nat_le (b % 8 + 1) n ≡ true → b % 8 + 1 ≤ n
-test_fits above b n h = grind (arith, nat_tests)
-
-test_low : (b : ℕ) → nat_lt b 8 ≡ true → b < 8
-test_low b h = grind (arith, nat_tests)
-
-test_high : (b : ℕ) → nat_lt b 8 ≡ false → 8 ≤ b
-test_high b h = grind (arith, nat_tests)
+one_fits : (above kind n size : ℕ) → nat_lt above kind && nat_lt kind 8 && nat_le n size ≡ true → (above < kind) × (kind < 8) × (n ≤ size)
+one_fits above kind n size e = (grind (arith, nat_tests), grind (arith, nat_tests), grind (arith, nat_tests))
 
 pub read_spelled : (left above : ℕ) (row : Row) (bytes : List ℕ) (read : Row) (rest : List ℕ) → row_from left above row bytes ≡ Some (read, rest) → ReadAs above row bytes read rest
 read_spelled left above row [] read rest e = cc
 read_spelled zero above row (b ∷ bytes) read rest e =
     elim (chosen (nat_lt b 8) (Some (row, bytes)) None (Some (read, rest)) e) [
-      | inl h ↦ ends_here above row b bytes read rest (test_low b h.0) h.1
+      | inl h ↦ ends_here above row b bytes read rest (ltb-true b 8 h.0) h.1
       | inr h ↦ let no = h.1 in cc
     ]
 read_spelled (suc left) above row (b ∷ bytes) read rest e =
@@ -86,60 +81,87 @@ read_spelled (suc left) above row (b ∷ bytes) read rest e =
     let go : Option (Row × List ℕ) = row_from left kind (with_value row kind (big_number n bytes)) (drop n bytes) in
     let fits : Bool = nat_lt above kind && nat_lt kind 8 && nat_le n (length bytes) in
     elim (chosen (nat_lt b 8) (Some (row, bytes)) (cond fits go None) (Some (read, rest)) e) [
-      | inl h ↦ ends_here above row b bytes read rest (test_low b h.0) h.1
+      | inl h ↦ ends_here above row b bytes read rest (ltb-true b 8 h.0) h.1
       | inr h ↦
           elim (chosen fits go None (Some (read, rest)) h.1) [
-            | inl m ↦ one_read above row b bytes read rest (test_high b h.0) (test_rises above b (length bytes) m.0) (test_small above b (length bytes) m.0) (test_fits above b (length bytes) m.0)
+            | inl m ↦
+                let (rises, small, room) = one_fits above kind n (length bytes) m.0 in
+                one_read above row b bytes read rest (ltb-false b 8 h.0) rises small room
                 (read_spelled left kind (with_value row kind (big_number n bytes)) (drop n bytes) read rest m.1)
             | inr m ↦ let no = m.1 in cc
           ]
     ]
 
+-- the row at the front of some bytes, and what stands behind it
+abbrev pub front_and_rest : List ℕ → Option (Row × List ℕ)
+front_and_rest bytes = row_from 7 0 blank bytes
+
+abbrev pub with_length : List ℕ → Row × List ℕ → Row × ℕ
+with_length bytes r = (r.0, length bytes - length r.1)
+
 -- a spelling at the front of some bytes is what is read there
-pub spelled_front : (bytes : List ℕ) (n : ℕ) (row : Row) → Spells (take n bytes) row → row_front bytes ≡ Some (row, drop n bytes)
-spelled_front bytes n row (parts, last, rising, low, text, is) =
+spelled_rest : (bytes : List ℕ) (n : ℕ) (row : Row) → Spells (take n bytes) row → front_and_rest bytes ≡ Some (row, drop n bytes)
+spelled_rest bytes n row (parts, last, rising, low, text, is) =
     let whole : bytes ≡ flat_map spelled parts ++ last ∷ drop n bytes =
     sym (take-append-drop n bytes) ∙ ap (λ l. l ++ drop n bytes) text ∙ append_assoc (flat_map spelled parts) (last ∷ []) (drop n bytes) in
     let read = spelled_read 7 0 blank parts last (drop n bytes) rising low (omega arith) in
-    let there : row_front bytes ≡ Some (row_of blank parts, drop n bytes) = ap row_front whole ∙ read in
+    let there : front_and_rest bytes ≡ Some (row_of blank parts, drop n bytes) = ap front_and_rest whole ∙ read in
     rw is there
 
+pub spelled_front : (bytes : List ℕ) (n : ℕ) (row : Row) → n ≤ length bytes → Spells (take n bytes) row → row_front bytes ≡ Some (row, n)
+spelled_front bytes n row fits spells =
+    let rest = length-drop n bytes in
+    let size : length bytes - length (drop n bytes) ≡ n = omega arith in
+    ap (option_map (with_length bytes)) (spelled_rest bytes n row spells) ∙ ap (λ (k : ℕ). Some (row, k)) size
+
+-- where no row is read at the front none is spelled there
+pub nothing_spelled : (bytes : List ℕ) → row_front bytes ≡ None → (n : ℕ) (row : Row) → Spells (take n bytes) row → ⊥
+nothing_spelled bytes nothing n row spells =
+    let there = ap (option_map (with_length bytes)) (spelled_rest bytes n row spells) in
+    let both : ◌≡◌ {A = Option (Row × ℕ)} None (Some (row, length bytes - length (drop n bytes))) = sym nothing ∙ there in
+    cc
+
 -- what is read at the front is spelled there, with at least one byte
-pub front_spelled : (bytes : List ℕ) (row : Row) (rest : List ℕ) → row_front bytes ≡ Some (row, rest) → Spells (take (length bytes - length rest) bytes) row
-front_spelled bytes row rest e =
+pub record SpelledFront (bytes : List ℕ) (row : Row) (n : ℕ) : Type 0 where
+  pub some : 0 < n
+  pub within : n ≤ length bytes
+  pub spells : Spells (take n bytes) row
+
+pub rest_spelled : (bytes : List ℕ) (row : Row) (rest : List ℕ) → front_and_rest bytes ≡ Some (row, rest) → SpelledFront bytes row (length bytes - length rest)
+rest_spelled bytes row rest e =
     let r = read_spelled 7 0 blank bytes row rest e in
     let front : List ℕ = flat_map spelled r.parts ++ r.last ∷ [] in
     let split : bytes ≡ front ++ rest = r.text ∙ sym (append_assoc (flat_map spelled r.parts) (r.last ∷ []) rest) in
     let size : length bytes ≡ length front + length rest = ap length split ∙ length-append front rest in
+    let some : length front ≡ length (flat_map spelled r.parts) + 1 = length-append (flat_map spelled r.parts) (r.last ∷ []) in
     let cut : take (length bytes - length rest) bytes ≡ front = ap (λ l. take (length bytes - length rest) l) split ∙ take_at front rest (length bytes - length rest) (omega arith) in
-    (r.parts, r.last, r.rising, r.low, cut, r.row)
+    record { some = omega arith; within = omega arith; spells = (r.parts, r.last, r.rising, r.low, cut, r.row) }
 
--- what stands behind a row is shorter than the text
-pub front_shorter : (bytes : List ℕ) (row : Row) (rest : List ℕ) → row_front bytes ≡ Some (row, rest) → length rest < length bytes
-front_shorter bytes row rest e =
-    let r = read_spelled 7 0 blank bytes row rest e in
-    let size : length bytes ≡ length (flat_map spelled r.parts) + length (r.last ∷ rest) = ap length r.text ∙ length-append (flat_map spelled r.parts) (r.last ∷ rest) in
-    omega arith
+pub front_spelled : (bytes : List ℕ) (row : Row) (n : ℕ) → row_front bytes ≡ Some (row, n) → SpelledFront bytes row n
+front_spelled bytes row n e = go (front_and_rest bytes) refl e
+  where
+    go : (r : Option (Row × List ℕ)) → front_and_rest bytes ≡ r → ◌≡◌ {A = Option (Row × ℕ)} (option_map (with_length bytes) r) (Some (row, n)) → SpelledFront bytes row n
+    go None there e = cc
+    go (Some r) there e =
+        let rows : r.0 ≡ row = same_first r.0 row (length bytes - length r.1) n e in
+        let sizes : length bytes - length r.1 ≡ n = same_second r.0 row (length bytes - length r.1) n e in
+        subst (λ (k : ℕ). SpelledFront bytes row k) sizes (subst (λ (x : Row). SpelledFront bytes x (length bytes - length r.1)) rows (rest_spelled bytes r.0 r.1 there))
 
--- what stands behind a row is the end of the text
-pub front_rest : (bytes : List ℕ) (row : Row) (rest : List ℕ) → row_front bytes ≡ Some (row, rest) → drop (length bytes - length rest) bytes ≡ rest
-front_rest bytes row rest e =
-    let r = read_spelled 7 0 blank bytes row rest e in
-    let front : List ℕ = flat_map spelled r.parts ++ r.last ∷ [] in
-    let split : bytes ≡ front ++ rest = r.text ∙ sym (append_assoc (flat_map spelled r.parts) (r.last ∷ []) rest) in
-    let size : length bytes ≡ length front + length rest = ap length split ∙ length-append front rest in
-    ap (λ l. drop (length bytes - length rest) l) split ∙ drop_at front rest (length bytes - length rest) (omega arith)
+-- what stands behind a row that was read is shorter than the text
+pub rest_shorter : (bytes : List ℕ) (row : Row) (rest : List ℕ) → front_and_rest bytes ≡ Some (row, rest) → length rest < length bytes
+rest_shorter bytes row rest e = let spelled = rest_spelled bytes row rest e in let some = spelled.some in omega arith
 
 -- no spelling of a row is a proper prefix of another
 pub no_longer_spelling : (text more : List ℕ) (row other : Row) → Spells text row → Spells (text ++ more) other → more ≡ []
 no_longer_spelling text more row other short long =
     let whole : List ℕ = text ++ more in
+    let size : length whole ≡ length text + length more = length-append text more in
     let front : take (length text) whole ≡ text = take_at text more (length text) refl in
     let all : take (length whole) whole ≡ whole = take_all (length whole) whole (omega arith) in
-    let one : row_front whole ≡ Some (row, drop (length text) whole) = spelled_front whole (length text) row (rw front short) in
-    let two : row_front whole ≡ Some (other, drop (length whole) whole) = spelled_front whole (length whole) other (rw all long) in
-    let same = same_second row other (drop (length text) whole) (drop (length whole) whole) (sym one ∙ two) in
-    sym (drop_at text more (length text) refl) ∙ same ∙ drop_all (length whole) whole (omega arith)
+    let one : row_front whole ≡ Some (row, length text) = spelled_front whole (length text) row (omega arith) (rw front short) in
+    let two : row_front whole ≡ Some (other, length whole) = spelled_front whole (length whole) other (omega arith) (rw all long) in
+    let same : length text ≡ length whole = same_second row other (length text) (length whole) (sym one ∙ two) in
+    nil_from_length more (omega arith)
 
 -- a row has at most 64 bytes: nine for each of the seven kinds, and the end byte
 spelled_length : (above : ℕ) (parts : List Attribute) → Rising above parts → above < 8 → length (flat_map spelled parts) + 9 * above ≤ 63
@@ -156,20 +178,28 @@ row_length text row (parts, last, rising, low, is, value) =
     omega arith
 
 -- 64 bytes are enough to read a row
-pub row_within : (bytes : List ℕ) (n : ℕ) (row : Row) (rest : List ℕ) → 64 ≤ n → row_front bytes ≡ Some (row, rest) → row_front (take n bytes) ≡ Some (row, drop (length bytes - length rest) (take n bytes))
-row_within bytes n row rest room e =
-    let size : ℕ = length bytes - length rest in
-    let spells = front_spelled bytes row rest e in
-    let shorter = front_shorter bytes row rest e in
-    let most = row_length (take size bytes) row spells in
-    let exact : length (take size bytes) ≡ size = length-take-le size bytes (omega arith) in
-    let front : take size (take n bytes) ≡ take size bytes = take-take size n bytes (omega arith) in
-    spelled_front (take n bytes) size row (rw front spells)
+row_within : (bytes : List ℕ) (n : ℕ) (r : Row × ℕ) → 64 ≤ n → row_front bytes ≡ Some r → row_front (take n bytes) ≡ Some r
+row_within bytes n r room e =
+    let front = front_spelled bytes r.0 r.1 e in
+    let within = front.within in
+    let most = row_length (take r.1 bytes) r.0 front.spells in
+    let exact : length (take r.1 bytes) ≡ r.1 = length-take-le r.1 bytes within in
+    let size = length-take n bytes in
+    let cut : take r.1 (take n bytes) ≡ take r.1 bytes = take-take r.1 n bytes (omega arith) in
+    spelled_front (take n bytes) r.1 r.0 (omega arith) (rw cut front.spells)
 
--- where 64 bytes spell no row, none is spelled
-pub no_row_within : (bytes : List ℕ) (n : ℕ) → 64 ≤ n → row_front (take n bytes) ≡ None → row_front bytes ≡ None
-no_row_within bytes n room nothing = go (row_front bytes) refl
+-- and where 64 bytes spell no row, none is spelled
+pub row_within_64 : (bytes : List ℕ) (n : ℕ) → 64 ≤ n → row_front (take n bytes) ≡ row_front bytes
+row_within_64 bytes n room = go (row_front bytes) refl (row_front (take n bytes)) refl
   where
-    go : (r : Option (Row × List ℕ)) → row_front bytes ≡ r → row_front bytes ≡ None
-    go None e = e
-    go (Some x) e = let there = row_within bytes n x.0 x.1 room e in let both : ◌≡◌ {A = Option (Row × List ℕ)} None (Some (x.0, drop (length bytes - length x.1) (take n bytes))) = sym nothing ∙ there in cc
+    shorter : (k : ℕ) → k ≤ length (take n bytes) → k ≤ n × k ≤ length bytes
+    shorter k fits = let size = length-take n bytes in (omega arith, omega arith)
+
+    go : (r : Option (Row × ℕ)) → row_front bytes ≡ r → (s : Option (Row × ℕ)) → row_front (take n bytes) ≡ s → row_front (take n bytes) ≡ row_front bytes
+    go (Some r) there s front = row_within bytes n r room there ∙ sym there
+    go None there None front = front ∙ sym there
+    go None there (Some s) front =
+        let spelled = front_spelled (take n bytes) s.0 s.1 front in
+        let fits = shorter s.1 spelled.within in
+        let cut : take s.1 (take n bytes) ≡ take s.1 bytes = take-take s.1 n bytes fits.0 in
+        absurd (nothing_spelled bytes there s.1 s.0 (rw cut at spelled.spells))

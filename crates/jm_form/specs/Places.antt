@@ -1,0 +1,37 @@
+-- Where the parts of an image stand: behind the header the redirect words, the offset words, the
+-- locations, the strings and the contents (jimage 1.0). Places count bytes from the image's front.
+use Rattle.std.specs.Prelude.{ℕ, ◌+◌, ◌*◌, List, take, drop}
+use Rattle.jm_bytes.specs.Word.{word}
+use Rattle.jm_form.specs.declared.container.Header.{Header}
+use Rattle.jm_form.specs.Head.{index_length}
+
+-- the redirect word of a bucket
+abbrev pub redirect_place : ℕ → ℕ
+redirect_place bucket = 28 + 4 * bucket
+
+-- the offset word of a slot
+abbrev pub offset_place : Header → ℕ → ℕ
+offset_place h slot = 28 + 4 * h.length + 4 * slot
+
+abbrev pub locations_place : Header → ℕ
+locations_place h = 28 + 8 * h.length
+
+abbrev pub strings_place : Header → ℕ
+strings_place h = 28 + 8 * h.length + h.locations
+
+-- The words and sections that stand there
+
+abbrev pub redirect_word : List ℕ → Header → ℕ → ℕ
+redirect_word b h bucket = word h.order b (redirect_place bucket)
+
+abbrev pub offset_word : List ℕ → Header → ℕ → ℕ
+offset_word b h slot = word h.order b (offset_place h slot)
+
+abbrev pub locations : List ℕ → Header → List ℕ
+locations b h = take h.locations (drop (locations_place h) b)
+
+abbrev pub strings : List ℕ → Header → List ℕ
+strings b h = take h.strings (drop (strings_place h) b)
+
+abbrev pub contents : List ℕ → Header → List ℕ
+contents b h = drop (index_length h) b

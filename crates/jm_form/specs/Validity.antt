@@ -1,0 +1,57 @@
+-- Which bytes are an image, and what an image stands for (jimage 1.0; JEP 220 for the nodes).
+use Rattle.std.specs.Prelude.{ℕ, ◌+◌, ◌<◌, ◌≤◌, ◌≡◌, true, not, List, length, filter, map, Option, None, option_map, Ok, Err, Result, IsPermutation}
+use Rattle.jm_names.specs.Names.{is_node}
+use Rattle.jm_form.specs.declared.container.Header.{Header}
+use Rattle.jm_form.specs.declared.container.HeaderFault.{HeaderFault}
+use Rattle.jm_form.specs.declared.rows.Row.{Row}
+use Rattle.jm_form.specs.Damages.{slot_fault}
+use Rattle.jm_form.specs.Entries.{Entry, entries, entry_with}
+use Rattle.jm_form.specs.Head.{header_of}
+use Rattle.jm_form.specs.Overlap.{Apart, ranges_of}
+use Rattle.jm_form.specs.Places.{strings, contents}
+use Rattle.jm_form.specs.Texts.{text_ends}
+
+-- no slot has a fault, spare ones included
+abbrev pub SoundSlots : List ℕ → Header → Type 0
+SoundSlots b h = (i : ℕ) → i < h.length → slot_fault b h i ≡ None
+
+-- the bytes are an image whose header is h: no slot has a fault, the count is the number of its
+-- entries, and no two contents have a byte in common
+pub record ValidAs (b : List ℕ) (h : Header) : Type 0 where
+  pub header : header_of b ≡ Ok h
+  pub slots : SoundSlots b h
+  pub count : h.count ≡ length (entries b h)
+  pub apart : Apart (ranges_of (entries b h))
+
+abbrev pub Valid : List ℕ → Type 0
+Valid b = (h : Header) × ValidAs b h
+
+-- what a row keeps in a slot without a fault: the content is stored as it is, the four texts end in
+-- the strings, and the content lies in the contents
+pub record SoundRow (b : List ℕ) (h : Header) (row : Row) : Type 0 where
+  pub stored : row.packed ≡ 0
+  pub module_ends : text_ends (strings b h) row.module ≡ true
+  pub parent_ends : text_ends (strings b h) row.parent ≡ true
+  pub base_ends : text_ends (strings b h) row.base ≡ true
+  pub ext_ends : text_ends (strings b h) row.ext ≡ true
+  pub within : row.offset + row.size ≤ length (contents b h)
+
+-- the entries whose name isn't that of a node, with their contents
+abbrev pub resources : List Entry → List (List ℕ × List ℕ)
+resources es = map (λ e. (e.name, e.content)) (filter (λ e. not (is_node e.name)) es)
+
+-- a valid image whose resources are exactly these pairs, each once
+abbrev pub Stands : List ℕ → List (List ℕ × List ℕ) → Type 0
+Stands b m = (h : Header) × ValidAs b h × IsPermutation (resources (entries b h)) m
+
+-- the look-up: row and content of the entry of a name
+
+abbrev pub entry_found : Entry → Row × List ℕ
+entry_found e = (e.row, e.content)
+
+abbrev pub look_with : List ℕ → List ℕ → Result Header HeaderFault → Option (Row × List ℕ)
+look_with b name (Err fault) = None
+look_with b name (Ok h) = option_map entry_found (entry_with name (entries b h))
+
+abbrev pub look : List ℕ → List ℕ → Option (Row × List ℕ)
+look b name = look_with b name (header_of b)
