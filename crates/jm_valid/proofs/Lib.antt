@@ -1,8 +1,4 @@
-pub mod Counting
-pub mod EntryOrder
-pub mod LeastFault
+pub mod EntryRows
 pub mod LeastRanges
-pub mod OverlapLaws
-pub mod PairLaws
 pub mod Sorting
 pub mod Sweeping

@@ -7,7 +7,7 @@ use Rattle.std.proofs.lemmas.Map.Keys.{IsDistinct-IsPermutation, IsDistinct-from
 use Rattle.std.specs.Cmp.{IsTotalOrder}
 use Rattle.std.specs.declared.cmp.Ordering.{Ordering}
 use Rattle.std.specs.Ordering.{is_lt, nat_cmp, ordering_then}
-use Rattle.jm_valid.specs.declared.overlap.Range.{Range}
+use Rattle.jm_form.specs.declared.ranges.Range.{Range}
 use Rattle.jm_valid.specs.Ranges.{Follows}
 
 abbrev range_cmp : Range → Range → Ordering

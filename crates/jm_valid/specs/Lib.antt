@@ -1,4 +1,5 @@
-pub mod Held
 pub mod Opened
 pub mod Ranges
+pub mod Sections
 pub mod Sweep
+pub mod Texts

@@ -1,4 +1,4 @@
--- Why bytes were not opened as an image.
+-- Why bytes were not opened as an image (this project's rule).
 use Rattle.std.specs.Prelude.{◌≡◌, ℕ, List, Some}
 use Rattle.jm_form.specs.Damages.{first_damage}
 use Rattle.jm_valid.specs.declared.open_error.OpenError.{OpenError}

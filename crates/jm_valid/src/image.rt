@@ -1,5 +1,5 @@
 ghost use Rattle.std.specs.Prelude.{◌≡◌};
-ghost use Rattle.jm_form.specs.Damages.{ValidAs};
+ghost use Rattle.jm_form.specs.Validity.{ValidAs};
 
 use jm_bytes::Buf;
 use jm_form::Header;
@@ -14,7 +14,7 @@ pub struct Image<'a> {
 
 impl<'a> Model for Image<'a> {
     ghost use Rattle.std.specs.Prelude.{List, ℕ};
-    ghost use Rattle.jm_form.specs.Damages.{ValidAs};
+    ghost use Rattle.jm_form.specs.Validity.{ValidAs};
 
     ghost Value = { List ℕ };
 
@@ -24,7 +24,7 @@ impl<'a> Model for Image<'a> {
 }
 
 impl<'a> Image<'a> {
-    ghost use Rattle.jm_form.specs.Damages.{ValidAs};
+    ghost use Rattle.jm_form.specs.Validity.{ValidAs};
 
     /// The image of bytes that were found to be valid.
     pub(crate) fn checked(bytes: &'a [u8], header: Header) -> Image<'a>

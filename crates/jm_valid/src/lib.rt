@@ -10,9 +10,7 @@ mod search;
 mod sections;
 mod slots;
 mod table;
-#[cfg(test)]
-mod tests;
-mod texts;
+mod unmetered;
 
 pub use image::Image;
 pub use jm_form::Damage;

@@ -1,8 +1,8 @@
-ghost use Rattle.std.specs.Prelude.{◌≡◌, ◌<◌, ℕ, None, IfOk, IfErr, OnOk};
-ghost use Rattle.jm_form.specs.Damages as faults;
-ghost use Rattle.jm_form.specs.Damages.{Valid};
-ghost use Rattle.jm_form.specs.Entries as image;
+ghost use Rattle.std.specs.Prelude.{◌≡◌, ◌<◌, ◌==◌, not, IfOk, IfErr, OnOk};
+ghost use Rattle.jm_bytes.specs.Checks.{fault_if};
+ghost use Rattle.jm_form.specs.Validity.{Valid};
 ghost use Rattle.jm_valid.specs.Opened.{IsDamageOf};
+ghost use Rattle.jm_valid.specs.Sections.{body_damage_in, entries_damage_in, IsSound};
 
 use crate::entries::contents_of;
 use crate::image::Image;
@@ -16,17 +16,26 @@ use jm_halves::Gate;
 use std::alloc::Global;
 use std::thread::Threads;
 
+/// A stated count that isn't the one that was found.
+fn count_damage(stated: u32, found: u32) -> Option<Damage>
+    ensures { result ≡ fault_if (not (stated == found)) (Damage.Count stated found) }
+{
+    if stated != found {
+        Some(Damage::Count { stated, found })
+    } else {
+        None
+    }
+}
+
 /// What is wrong with the entries of an image none of whose slots has a fault: their number, or two
 /// contents with a byte in common.
 fn entries_damage(alloc: Global, sections: &Sections) -> Result<Option<Damage>, NoMemory>
-    requires { (i : ℕ) → i < sections.now.header.length → faults.slot_fault sections.now.bytes.now sections.now.header i ≡ None }
-    ensures { IfOk result (λ damage. damage ≡ faults.count_fault sections.now.header.count (image.entries sections.now.bytes.now sections.now.header)) }
+    requires { IsSound sections.now }
+    ensures { IfOk result (λ damage. damage ≡ entries_damage_in sections.now) }
 {
     let mut contents = contents_of(alloc, sections)?;
-    let stated = sections.header.count;
-    let found = contents.count;
-    if stated != found {
-        return Ok(Some(Damage::Count { stated, found }));
+    if let Some(damage) = count_damage(sections.header.count, contents.count) {
+        return Ok(Some(damage));
     }
     Ok(first_overlap(contents.ranges.as_mut_slice()))
 }
@@ -41,7 +50,7 @@ fn body_damage<R: Threads + Sync, G: Gate + Sync>(
     gate: &G,
 ) -> Result<Option<Damage>, NoMemory>
     requires { 0 < jobs }
-    ensures { IfOk result (λ damage. damage ≡ faults.body_damage sections.now.bytes.now sections.now.header) }
+    ensures { IfOk result (λ damage. damage ≡ body_damage_in sections.now) }
 {
     if let Some(damage) = least_fault(rt, jobs, sections, gate) {
         return Ok(Some(damage));

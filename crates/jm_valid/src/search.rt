@@ -1,5 +1,5 @@
 ghost use Rattle.std.specs.Prelude.{◌≡◌, ◌<◌};
-ghost use Rattle.jm_form.specs.Damages as faults;
+ghost use Rattle.jm_valid.specs.Sections.{slot_fault_in, least_fault_in};
 
 use crate::sections::Sections;
 use crate::slots::slot_fault;
@@ -10,7 +10,7 @@ use std::thread::Threads;
 /// The first fault of the slot with this number.
 fn fault_at(sections: &Sections, slot: usize) -> Option<Damage>
     requires { slot < sections.now.header.length }
-    ensures { result ≡ faults.slot_fault sections.now.bytes.now sections.now.header slot }
+    ensures { result ≡ slot_fault_in sections.now slot }
 {
     prove!(slot < sections.header.length as usize);
     slot_fault(sections, slot as u32)
@@ -24,7 +24,7 @@ pub fn least_fault<R: Threads + Sync, G: Gate + Sync>(
     gate: &G,
 ) -> Option<Damage>
     requires { 0 < jobs }
-    ensures { result ≡ faults.least_fault (faults.slot_fault sections.now.bytes.now sections.now.header) 0 sections.now.header.length }
+    ensures { result ≡ least_fault_in sections.now }
 {
     let slots = sections.header.length as usize;
     let (_, damage) = first_some(rt, jobs, slots, &|slot| fault_at(sections, slot), gate)?;

@@ -1,68 +1,64 @@
-ghost use Rattle.std.specs.Prelude.{◌≡◌, ◌<◌, length, Ok};
-ghost use Rattle.jm_form.specs.Entries as image;
+ghost use Rattle.std.specs.Prelude.{◌≡◌, length, Ok};
 ghost use Rattle.jm_form.specs.Head.{header_of};
+ghost use Rattle.jm_form.specs.Places as places;
+ghost use Rattle.jm_form.specs.Texts.{text_ends};
+ghost use Rattle.jm_valid.specs.Texts.{ended_texts};
 
-use jm_bytes::word_at;
 use jm_form::Header;
+use memchr::memrchr;
 
-/// An image whose header was read, with its sections borrowed from its bytes.
+/// An image whose header was read, with what the checks read of its sections.
 #[derive(Clone, Copy)]
 pub struct Sections<'a> {
     pub bytes: &'a [u8],
     pub header: Header,
-    pub locations: &'a [u8],
-    pub strings: &'a [u8],
+    /// The front of the strings up to and with their last zero byte; the texts that end begin in it.
+    pub texts: &'a [u8],
     pub contents: &'a [u8],
     pub ghost header_read: { header_of bytes.now ≡ Ok header },
-    pub ghost locations_cut: { locations.now ≡ image.locations bytes.now header },
-    pub ghost strings_cut: { strings.now ≡ image.strings bytes.now header },
-    pub ghost contents_cut: { contents.now ≡ image.contents bytes.now header },
+    pub ghost texts_cut: { texts.now ≡ ended_texts (places.strings bytes.now header) },
+    pub ghost contents_cut: { contents.now ≡ places.contents bytes.now header },
+}
+
+/// The front up to and with the last zero byte.
+fn ended_texts(strings: &[u8]) -> &[u8]
+    ensures { result.now ≡ ended_texts strings.now }
+{
+    match memrchr(0, strings) {
+        Some(last) => &strings[..last + 1],
+        None => &[],
+    }
 }
 
 impl<'a> Sections<'a> {
+    ghost use Rattle.jm_valid.specs.Sections.{contents_in, strings_in};
+
     /// The sections of the image that these bytes are.
     pub fn of(bytes: &'a [u8], header: Header) -> Sections<'a>
         requires { header_of bytes.now ≡ Ok header }
         ensures bytes { result.bytes.now ≡ bytes.now }
         ensures header { result.header ≡ header }
     {
-        let words = 8 * header.length as usize + 28;
-        let (_, behind_words) = bytes.split_at(words);
-        let (locations, behind_locations) = behind_words.split_at(header.locations as usize);
-        let (strings, contents) = behind_locations.split_at(header.strings as usize);
+        let (_, behind) = bytes.split_at(header.strings_place());
+        let (strings, contents) = behind.split_at(header.strings as usize);
         Sections {
             bytes,
             header,
-            locations,
-            strings,
+            texts: ended_texts(strings),
             contents,
         }
     }
 
-    /// The redirect word of a bucket, as it stands.
-    pub fn redirect(&self, bucket: u32) -> u32
-        requires { bucket < self.now.header.length }
-        ensures { result ≡ image.redirect self.now.bytes.now self.now.header bucket }
+    /// A text from this place of the strings on ends within them.
+    pub fn ends(&self, place: u64) -> bool
+        ensures { result ≡ text_ends (strings_in self.now) place }
     {
-        word_at(self.header.order, self.bytes, 28 + 4 * bucket as usize)
-    }
-
-    /// The offset word of a slot, in bytes from the front of the locations.
-    pub fn offset_word(&self, slot: u32) -> u32
-        requires { slot < self.now.header.length }
-        ensures { result ≡ image.offset_word self.now.bytes.now self.now.header slot }
-    {
-        let length = self.header.length as usize;
-        word_at(
-            self.header.order,
-            self.bytes,
-            28 + 4 * length + 4 * slot as usize,
-        )
+        place < self.texts.len() as u64
     }
 
     /// How many bytes the contents have.
     pub fn size(&self) -> u64
-        ensures { result ≡ length (image.contents self.now.bytes.now self.now.header) }
+        ensures { result ≡ length (contents_in self.now) }
     {
         self.contents.len() as u64
     }

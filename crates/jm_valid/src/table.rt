@@ -1,78 +1,73 @@
-ghost use Rattle.std.specs.Prelude.{◌≡◌, ◌<◌, ◌&&◌, None, is_some, IfSome, option_map};
+ghost use Rattle.std.specs.Prelude.{◌≡◌, ◌<◌, ◌==◌, None};
+ghost use Rattle.std.specs.List.{before_first};
 ghost use Rattle.jm_names.specs.Names.{join};
 ghost use Rattle.jm_names.specs.Pieces.{cut_of};
-ghost use Rattle.jm_form.specs.Damages as faults;
-ghost use Rattle.jm_form.specs.Entries as image;
-ghost use Rattle.jm_valid.specs.Held.{held};
+ghost use Rattle.jm_form.specs.Table.{is_slot};
+ghost use Rattle.jm_form.specs.Texts.{text_at};
+ghost use Rattle.jm_form.specs.Validity.{SoundRow};
+ghost use Rattle.jm_valid.specs.Sections.{entry_row_in, name_in, probe_in, slot_fault_in};
 
 use crate::sections::Sections;
-use crate::slots::row_text;
-use crate::texts::text_at;
-use jm_form::{DEFAULT_SEED, Row, read_row, slot_below};
-use jm_names::{Pieces, hash_pieces};
+use crate::unmetered::{redirect_at, row_of_slot};
+use jm_form::{Redirect, Row, SlotRow};
+use jm_names::{DEFAULT_SEED, Pieces, hash_pieces};
+use memchr::memchr;
 
-/// The slot to which a redirect word leads a name; the word is read as signed.
-fn led_to(length: u32, pieces: &Pieces, word: u32) -> Option<u32>
-    requires { 0 < length }
-    ensures { result ≡ image.led_to length (join (cut_of pieces.now)) word }
+/// The bytes before the first zero byte, or all where there is none.
+fn before_zero(bytes: &[u8]) -> &[u8]
+    ensures { result.now ≡ before_first (λ x. x == 0) bytes.now }
 {
-    if word == 0 {
-        None
-    } else if word < 1 << 31 {
-        slot_below(length, hash_pieces(word, pieces) % length)
-    } else {
-        slot_below(length, u32::MAX - word)
+    match memchr(0, bytes) {
+        Some(end) => bytes.split_at(end).0,
+        None => bytes,
     }
 }
 
-/// The slot to which the table leads the name of these pieces.
-fn probe(sections: &Sections, pieces: &Pieces) -> Option<u32>
-    ensures { result ≡ image.probe sections.now.bytes.now sections.now.header (join (cut_of pieces.now)) }
+/// The text at a place of some texts, without the zero byte that ends it.
+fn text_at(texts: &[u8], place: u64) -> &[u8]
+    ensures { result.now ≡ text_at texts.now place }
 {
-    let length = sections.header.length;
-    if length == 0 {
+    let start = place.min(texts.len() as u64) as usize;
+    before_zero(texts.split_at(start).1)
+}
+
+/// The pieces of the name of a row without a fault.
+fn pieces_of<'a>(sections: &Sections<'a>, row: &Row) -> Pieces<'a>
+    requires { SoundRow sections.now.bytes.now sections.now.header row.now }
+    ensures { join (cut_of result) ≡ name_in sections.now row.now }
+{
+    Pieces {
+        module: text_at(sections.texts, row.module),
+        parent: text_at(sections.texts, row.parent),
+        base: text_at(sections.texts, row.base),
+        ext: text_at(sections.texts, row.ext),
+    }
+}
+
+/// The table leads the name of these pieces to this slot.
+fn is_led_to(sections: &Sections, slot: u32, pieces: &Pieces) -> bool
+    requires { slot < sections.now.header.length }
+    ensures { result ≡ is_slot slot (probe_in sections.now (join (cut_of pieces.now))) }
+{
+    match redirect_at(sections, hash_pieces(DEFAULT_SEED, pieces)) {
+        Redirect::Nowhere => false,
+        Redirect::Slot(led) => led == slot,
+        Redirect::Seed(seed) => hash_pieces(seed, pieces) % sections.header.length == slot,
+    }
+}
+
+/// The row of the entry of a slot without a fault, or None where the slot is spare.
+pub fn entry_row(sections: &Sections, slot: u32) -> Option<Row>
+    requires below { slot < sections.now.header.length }
+    requires sound { slot_fault_in sections.now slot ≡ None }
+    ensures { result ≡ entry_row_in sections.now slot }
+{
+    let SlotRow::Spelled(row) = row_of_slot(sections, slot) else {
         return None;
-    }
-    let bucket = hash_pieces(DEFAULT_SEED, pieces) % length;
-    led_to(length, pieces, sections.redirect(bucket))
-}
-
-/// The row of a slot that has no fault, or None where the row is blank.
-fn row_at(sections: &Sections, slot: u32) -> Option<Row>
-    requires below { slot < sections.now.header.length }
-    requires sound { faults.slot_fault sections.now.bytes.now sections.now.header slot ≡ None }
-    ensures { result ≡ image.row_at sections.now.bytes.now sections.now.header slot }
-{
-    let text = row_text(sections, slot)?;
-    match read_row(text) {
-        Some((_, 1)) | None => None,
-        Some((row, _)) => Some(row),
-    }
-}
-
-/// The pieces of a row's name, or None where one of its texts doesn't end in the strings.
-fn pieces_of<'a>(strings: &'a [u8], row: &Row) -> Option<Pieces<'a>>
-    ensures name { IfSome result (λ pieces. join (cut_of pieces) ≡ image.name_of strings.now row.now) }
-    ensures ends { is_some result ≡ (image.text_ends strings.now row.now.module && image.text_ends strings.now row.now.parent && image.text_ends strings.now row.now.base && image.text_ends strings.now row.now.ext) }
-{
-    Some(Pieces {
-        module: text_at(strings, row.module)?,
-        parent: text_at(strings, row.parent)?,
-        base: text_at(strings, row.base)?,
-        ext: text_at(strings, row.ext)?,
-    })
-}
-
-/// The row of the entry that a slot without a fault holds, or None where the slot is spare.
-pub fn held_row(sections: &Sections, slot: u32) -> Option<Row>
-    requires below { slot < sections.now.header.length }
-    requires sound { faults.slot_fault sections.now.bytes.now sections.now.header slot ≡ None }
-    ensures { result ≡ option_map (λ e. e.row) (held sections.now.bytes.now sections.now.header slot) }
-{
-    let row = row_at(sections, slot)?;
-    let pieces = pieces_of(sections.strings, &row)?;
-    match probe(sections, &pieces) {
-        Some(reached) if reached == slot => Some(row),
-        _ => None,
+    };
+    if is_led_to(sections, slot, &pieces_of(sections, &row)) {
+        Some(row)
+    } else {
+        None
     }
 }

@@ -1,28 +1,37 @@
-use Rattle.std.proofs.Common.{◌∙◌, length, ap, sym}
-use Rattle.jm_form.specs.Entries.{entries}
-use Rattle.jm_form.proofs.Validity.{number_same}
-use Rattle.jm_valid.specs.Ranges.{range_overlap}
-use Rattle.jm_valid.proofs.EntryOrder.{slots_rise}
-use Rattle.jm_valid.proofs.OverlapLaws.{overlap_of_ranges, ranges_some, ranges_rising}
+use Rattle.std.proofs.Common.{◌≡◌, ◌==◌, not, ℕ, List, [], ◌∷◌, length, Option, Some, None, option_map, refl, sym, ap, ◌∙◌}
+use Rattle.jm_bytes.specs.Checks.{fault_if, first_fault}
+use Rattle.jm_form.specs.declared.damage.Damage.{Damage}
+use Rattle.jm_form.specs.declared.damage.Damage.TheVariants as damage
+use Rattle.jm_form.specs.ComputedOverlap.{first_overlap}
+use Rattle.jm_form.specs.Damages.{entries_checks}
+use Rattle.jm_form.specs.Entries.{Entry, entries}
+use Rattle.jm_form.specs.Overlap.{ranges_of}
+use Rattle.jm_form.proofs.OverlapLaws.{first_overlap-bytes}
+use Rattle.jm_valid.proofs.EntryRows.{ranges_rise, ranges_some}
 use Rattle.jm_valid.proofs.open.entries_damage.Goals as goal
+
+abbrev overlap_damage : Option (ℕ × ℕ) → Option Damage
+overlap_damage o = option_map (λ o. damage.Overlap o.0 o.1) o
+
+only_check : (o : Option Damage) → first_fault (o ∷ []) ≡ o
+only_check None = refl
+only_check (Some fault) = refl
+
+-- where the count is right, the damage is the overlap
+entries_overlap : (stated : ℕ) (es : List Entry) → fault_if (not (stated == length es)) (damage.Count stated (length es)) ≡ None → first_fault (entries_checks stated es) ≡ overlap_damage (first_overlap (ranges_of es))
+entries_overlap stated es counted = rw counted (only_check (overlap_damage (first_overlap (ranges_of es))))
 
 pub first_overlap-requires-clause-rising : goal.first_overlap-requires-clause-rising
 first_overlap-requires-clause-rising c =
-    let b = c.args.sections.now.bytes.now in
-    let h = c.args.sections.now.header in
-    let is = c.as_mut_slice.ensures.value ∙ c.in_ok-contents.ensures.ranges in
-    rw is (ranges_rising (entries b h) (slots_rise b h))
+    rw (c.as_mut_slice.ensures.value ∙ c.in_ok-contents.ensures.ranges) (ranges_rise c.args.sections.now.bytes.now c.args.sections.now.header)
 
 pub first_overlap-requires-clause-some : goal.first_overlap-requires-clause-some
 first_overlap-requires-clause-some c =
-    let is = c.as_mut_slice.ensures.value ∙ c.in_ok-contents.ensures.ranges in
-    rw is (ranges_some (entries c.args.sections.now.bytes.now c.args.sections.now.header))
+    rw (c.as_mut_slice.ensures.value ∙ c.in_ok-contents.ensures.ranges) (ranges_some (ranges_of (entries c.args.sections.now.bytes.now c.args.sections.now.header)))
 
 pub returns : goal.returns
 returns c =
-    let b = c.args.sections.now.bytes.now in
-    let h = c.args.sections.now.header in
-    let is = c.as_mut_slice.ensures.value ∙ c.in_ok-contents.ensures.ranges in
-    let overlap = c.first_overlap.ensures ∙ ap (λ rs. range_overlap rs rs) is ∙ sym (overlap_of_ranges (entries b h)) in
-    let same = number_same h.count (length (entries b h)) (c.if-stated-found.false ∙ c.in_ok-contents.ensures.count) in
-    rw same overlap
+    let es = entries c.args.sections.now.bytes.now c.args.sections.now.header in
+    let listed = c.as_mut_slice.ensures.value ∙ c.in_ok-contents.ensures.ranges in
+    c.first_overlap.ensures ∙ ap overlap_damage (ap first_overlap listed ∙ first_overlap-bytes (ranges_of es))
+    ∙ sym (entries_overlap c.args.sections.now.header.count es (rw c.in_ok-contents.ensures.count at (sym c.in_default.ensures)))

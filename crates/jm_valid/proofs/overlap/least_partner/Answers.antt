@@ -1,7 +1,10 @@
 use Rattle.std.proofs.Common.{sym, ◌∙◌, subst, get_or, take, ◌+◌}
-use Rattle.jm_valid.specs.declared.overlap.Range.{Range}
-use Rattle.jm_valid.specs.Ranges.{IsLeast, Meets, meets}
-use Rattle.jm_valid.proofs.LeastRanges.{least_all, least_nil, least_skips_at, least_takes_at, test_false, test_true}
+use Rattle.std.proofs.lemmas.Bool.{false≢true}
+use Rattle.jm_form.specs.declared.ranges.Range.{Range}
+use Rattle.jm_form.specs.Overlap.{Meets}
+use Rattle.jm_form.proofs.OverlapLaws.{from_meets, meets_from}
+use Rattle.jm_valid.specs.Ranges.{IsLeastIfAny}
+use Rattle.jm_valid.proofs.LeastRanges.{least_all, least_nil, least_skips_at, least_takes_at}
 use Rattle.jm_valid.proofs.overlap.least_partner.Goals as goal
 use Rattle.jm_valid.proofs.overlap.least_partner.Goals.{then-overlaps, else-overlaps}
 
@@ -17,12 +20,12 @@ loop-other-preserved c =
     let other = get_or ranges i none in
     elim c.if-overlaps.branch [
       | then-overlaps w ↦
-          let met = test_true range.slot other.slot (meets range other) (sym c.overlaps.ensures ∙ w.if-overlaps.true) in
+          let met = from_meets range other (sym c.overlaps.ensures ∙ w.if-overlaps.true) in
           let least = w.least_with.ensures in
-          subst (IsLeast (Meets range) (take (i + 1) ranges)) (sym w.least-is) (least_takes_at (Meets range) ranges c.loop-other.least i none w.least_with.result c.loop-other-test.true c.loop-other.invariant met least.from least.below least.last)
+          subst (IsLeastIfAny (Meets range) (take (i + 1) ranges)) (sym w.least-is) (least_takes_at (Meets range) ranges c.loop-other.least i none w.least_with.result c.loop-other-test.true c.loop-other.invariant met least.from least.below least.last)
       | else-overlaps w ↦
-          let apart = test_false range.slot other.slot (meets range other) (sym c.overlaps.ensures ∙ w.if-overlaps.false) in
-          subst (IsLeast (Meets range) (take (i + 1) ranges)) (sym w.least-is) (least_skips_at (Meets range) ranges c.loop-other.least i none c.loop-other-test.true c.loop-other.invariant (λ met. apart met.0 met.1))
+          let apart = sym w.if-overlaps.false ∙ c.overlaps.ensures in
+          subst (IsLeastIfAny (Meets range) (take (i + 1) ranges)) (sym w.least-is) (least_skips_at (Meets range) ranges c.loop-other.least i none c.loop-other-test.true c.loop-other.invariant (λ met. false≢true (apart ∙ meets_from range other met)))
     ]
 
 pub returns : goal.returns
