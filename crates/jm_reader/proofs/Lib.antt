@@ -1,4 +1,4 @@
-pub mod LookLaws
 pub mod MarkLaws
 pub mod NameTexts
-pub mod RowReads
+pub mod ViewLaws
+pub mod WalkLaws

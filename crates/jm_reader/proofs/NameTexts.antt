@@ -6,13 +6,14 @@ use Rattle.std.specs.Prelude.{All}
 use Rattle.jm_names.specs.Names.{module_front, parent_front, ext_end}
 use Rattle.jm_form.specs.declared.container.Header.{Header}
 use Rattle.jm_form.specs.declared.rows.Row.{Row}
-use Rattle.jm_form.specs.Damages.{ValidAs}
-use Rattle.jm_form.specs.Entries.{text_at, strings, name_of}
-use Rattle.jm_form.specs.Sound.{SoundRow}
+use Rattle.jm_form.specs.Entries.{name_of}
+use Rattle.jm_form.specs.Places.{strings, strings_place}
+use Rattle.jm_form.specs.Texts.{text_at, EndsWithin}
+use Rattle.jm_form.specs.Validity.{SoundRow, ValidAs}
 use Rattle.jm_form.proofs.HeadLaws.{header_fits}
 use Rattle.jm_form.proofs.SectionLaws.{Placed, text_placed}
 use Rattle.jm_reader.specs.declared.marks.MarkedText.{MarkedText}
-use Rattle.jm_reader.specs.Marks.{marked, spelling, strings_place, Ends}
+use Rattle.jm_reader.specs.Marks.{marked, spelling}
 
 module_marked : (text : List ℕ) → marked (Some 47) (Some 47) text ≡ module_front text
 module_marked [] = refl
@@ -46,17 +47,21 @@ ext_text place = record { place = place; before = Some 46; after = None }
 abbrev pub four : ℕ → ℕ → ℕ → ℕ → List MarkedText
 four m p b e = module_text m ∷ parent_text p ∷ base_text b ∷ ext_text e ∷ []
 
-ends_at : (bytes : List ℕ) (h : Header) (text : MarkedText) (place : ℕ) → Placed bytes h place → text.place ≡ strings_place h + place → Ends bytes text
+-- a text with its marks ends within the bytes
+abbrev pub TextEnds : List ℕ → MarkedText → Type 0
+TextEnds bytes text = EndsWithin bytes text.place
+
+ends_at : (bytes : List ℕ) (h : Header) (text : MarkedText) (place : ℕ) → Placed bytes h place → text.place ≡ strings_place h + place → EndsWithin bytes text.place
 ends_at bytes h text place placed is = let within = placed.ends in record { within = rw is within }
 
 -- the four texts end within the image
-pub four_end : (bytes : List ℕ) (h : Header) (row : Row) (m p b e : ℕ) → ValidAs bytes h → SoundRow bytes h row → m ≡ strings_place h + row.module → p ≡ strings_place h + row.parent → b ≡ strings_place h + row.base → e ≡ strings_place h + row.ext → All (Ends bytes) (four m p b e)
+pub four_end : (bytes : List ℕ) (h : Header) (row : Row) (m p b e : ℕ) → ValidAs bytes h → SoundRow bytes h row → m ≡ strings_place h + row.module → p ≡ strings_place h + row.parent → b ≡ strings_place h + row.base → e ≡ strings_place h + row.ext → All (TextEnds bytes) (four m p b e)
 four_end bytes h row m p b e valid sound at_m at_p at_b at_e =
     let fits = header_fits bytes h valid.header in
-    let last = All-cons (Ends bytes) (ext_text e) [] (ends_at bytes h (ext_text e) row.ext (text_placed bytes h row.ext fits sound.ext_ends) at_e) (All-nil (Ends bytes)) in
-    let third = All-cons (Ends bytes) (base_text b) (ext_text e ∷ []) (ends_at bytes h (base_text b) row.base (text_placed bytes h row.base fits sound.base_ends) at_b) last in
-    let second = All-cons (Ends bytes) (parent_text p) (base_text b ∷ ext_text e ∷ []) (ends_at bytes h (parent_text p) row.parent (text_placed bytes h row.parent fits sound.parent_ends) at_p) third in
-    All-cons (Ends bytes) (module_text m) (parent_text p ∷ base_text b ∷ ext_text e ∷ []) (ends_at bytes h (module_text m) row.module (text_placed bytes h row.module fits sound.module_ends) at_m) second
+    let last = All-cons (TextEnds bytes) (ext_text e) [] (ends_at bytes h (ext_text e) row.ext (text_placed bytes h row.ext fits sound.ext_ends) at_e) (All-nil (TextEnds bytes)) in
+    let third = All-cons (TextEnds bytes) (base_text b) (ext_text e ∷ []) (ends_at bytes h (base_text b) row.base (text_placed bytes h row.base fits sound.base_ends) at_b) last in
+    let second = All-cons (TextEnds bytes) (parent_text p) (base_text b ∷ ext_text e ∷ []) (ends_at bytes h (parent_text p) row.parent (text_placed bytes h row.parent fits sound.parent_ends) at_p) third in
+    All-cons (TextEnds bytes) (module_text m) (parent_text p ∷ base_text b ∷ ext_text e ∷ []) (ends_at bytes h (module_text m) row.module (text_placed bytes h row.module fits sound.module_ends) at_m) second
 
 -- and spell the row's name
 pub four_spell : (bytes : List ℕ) (h : Header) (row : Row) (m p b e : ℕ) → ValidAs bytes h → SoundRow bytes h row → m ≡ strings_place h + row.module → p ≡ strings_place h + row.parent → b ≡ strings_place h + row.base → e ≡ strings_place h + row.ext → spelling bytes (four m p b e) ≡ name_of (strings bytes h) row

@@ -1,3 +1,4 @@
 pub mod Look
 pub mod Marks
-pub mod Shown
+pub mod Views
+pub mod Walk

@@ -1,8 +1,7 @@
 -- A name as texts with marks around them (jimage 1.0: `/module/parent/base.extension`).
-use Rattle.std.specs.Prelude.{ℕ, ◌+◌, ◌*◌, ◌<◌, ◌==◌, List, [], ◌∷◌, ◌++◌, length, Option, Some, None, option_to_list, if◌then◌else◌}
+use Rattle.std.specs.Prelude.{ℕ, ◌==◌, List, [], ◌∷◌, ◌++◌, Option, Some, None, option_to_list, if◌then◌else◌}
 use Rattle.std.specs.List.{flat_map}
-use Rattle.jm_form.specs.declared.container.Header.{Header}
-use Rattle.jm_form.specs.Entries.{text_at}
+use Rattle.jm_form.specs.Texts.{text_at}
 use Rattle.jm_reader.specs.declared.marks.MarkedText.{MarkedText}
 
 -- a text with its marks, which it has only where it isn't empty
@@ -10,24 +9,16 @@ abbrev pub marked : Option ℕ → Option ℕ → List ℕ → List ℕ
 marked before after [] = []
 marked before after (b ∷ text) = option_to_list before ++ ((b ∷ text) ++ option_to_list after)
 
-abbrev pub marked_of : List ℕ → MarkedText → List ℕ
-marked_of bytes text = marked text.before text.after (text_at bytes text.place)
+abbrev pub marked_text : List ℕ → MarkedText → List ℕ
+marked_text bytes text = marked text.before text.after (text_at bytes text.place)
 
 -- the texts with their marks, one behind the other
 abbrev pub spelling : List ℕ → List MarkedText → List ℕ
-spelling bytes texts = flat_map (marked_of bytes) texts
+spelling bytes texts = flat_map (marked_text bytes) texts
 
--- the text ends within the bytes, with the zero byte behind it
-pub record Ends (bytes : List ℕ) (text : MarkedText) : Type 0 where
-  pub within : text.place + length (text_at bytes text.place) < length bytes
-
--- what stands behind a mark at the front of a name, and how many bytes the mark takes; nothing where
--- the name doesn't begin with the mark
-abbrev pub behind : Option ℕ → List ℕ → ℕ × List ℕ
-behind None name = (0, name)
-behind (Some mark) [] = (0, [])
-behind (Some mark) (b ∷ name) = if b == mark then (1, name) else (0, [])
-
--- the place in the image at which the strings begin
-abbrev pub strings_place : Header → ℕ
-strings_place h = 28 + 8 * h.length + h.locations
+-- what stands behind a mark at the front of a name, and how many bytes the mark takes; nothing
+-- where the name doesn't begin with the mark
+abbrev pub behind_mark : Option ℕ → List ℕ → ℕ × List ℕ
+behind_mark None name = (0, name)
+behind_mark (Some mark) [] = (0, [])
+behind_mark (Some mark) (b ∷ name) = if b == mark then (1, name) else (0, [])

@@ -1,10 +1,17 @@
-//! The look-up in an image.
+//! The look-up in an image, and the walk over its entries.
 #![tactic(auto)]
 
 mod compare;
+mod contents;
+mod entries;
 mod look_up;
 mod marks;
-mod rows;
+mod name_bytes;
+mod name_view;
 mod table;
+mod texts;
 
+pub use entries::{Entries, Entry, walk};
 pub use look_up::{Found, find};
+pub use name_bytes::NameBytes;
+pub use name_view::NameView;

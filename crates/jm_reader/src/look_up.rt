@@ -1,15 +1,18 @@
-ghost use Rattle.std.specs.Prelude.{◌≡◌, ◌+◌, ◌≤◌, true, IsTrue, ◌↔◌, All, length, option_map};
-ghost use Rattle.jm_form.specs.Damages.{look, ValidAs};
-ghost use Rattle.jm_form.specs.Entries as image;
-ghost use Rattle.jm_form.specs.Sound.{SoundRow};
+ghost use Rattle.std.specs.Prelude.{◌≡◌, ◌+◌, IsTrue, ◌↔◌, All, length, option_map};
+ghost use Rattle.jm_bytes.specs.Metered.{CostsAtMost, RisesAtMost};
+ghost use Rattle.jm_form.specs.Entries.{name_of};
+ghost use Rattle.jm_form.specs.Places.{strings};
+ghost use Rattle.jm_form.specs.Texts.{EndsWithin};
+ghost use Rattle.jm_form.specs.Validity.{look, SoundRow, ValidAs};
 ghost use Rattle.jm_reader.specs.Look.{answer_length, found_as};
-ghost use Rattle.jm_reader.specs.Marks.{spelling, strings_place, Ends};
+ghost use Rattle.jm_reader.specs.Marks.{spelling};
 
+use crate::contents::content;
 use crate::marks::{MarkedText, spells};
-use crate::rows::{content, row_at};
 use crate::table::probe;
+use crate::texts::place_of;
 use jm_bytes::{Buf, Meter, Steps};
-use jm_form::{Header, Row};
+use jm_form::{Header, Row, row_of_slot};
 use jm_valid::Image;
 use std::sync::ledger::Ledger;
 
@@ -22,22 +25,12 @@ pub struct Found<'a> {
     pub bytes: &'a [u8],
 }
 
-/// The place in the image of the text at a place of the strings.
-fn place_of(buf: &Buf, header: &Header, place: u64) -> usize
-    requires valid { ValidAs buf.now header.now }
-    requires ends { image.text_ends (image.strings buf.now header.now) place ≡ true }
-    ensures { result ≡ strings_place header.now + place }
-{
-    let _size = buf.len();
-    28 + 8 * header.length as usize + header.locations as usize + place as usize
-}
-
 /// The four texts of a row's name, with their marks: `/module/parent/base.extension`.
 fn texts_of(buf: &Buf, header: &Header, row: &Row) -> [MarkedText; 4]
     requires valid { ValidAs buf.now header.now }
     requires sound { SoundRow buf.now header.now row.now }
-    ensures ends { All (Ends buf.now) result }
-    ensures name { spelling buf.now result ≡ image.name_of (image.strings buf.now header.now) row.now }
+    ensures ends { All (λ text. EndsWithin buf.now text.place) result }
+    ensures name { spelling buf.now result ≡ name_of (strings buf.now header.now) row.now }
 {
     [
         MarkedText {
@@ -73,10 +66,9 @@ fn is_named<R: Ledger>(
 ) -> bool
     requires valid { ValidAs buf.now header.now }
     requires sound { SoundRow buf.now header.now row.now }
-    requires same { reads.old.bytes ≡ buf.now }
-    ensures answer { IsTrue result ↔ (name.now ≡ image.name_of (image.strings buf.now header.now) row.now) }
-    ensures bytes { reads.new.bytes ≡ reads.old.bytes }
-    ensures reads { (reads.old.count ≤ reads.new.count) × (reads.new.count ≤ reads.old.count + length name.now + 4) }
+    requires metered { reads.old.bytes ≡ buf.now }
+    ensures answer { IsTrue result ↔ (name.now ≡ name_of (strings buf.now header.now) row.now) }
+    ensures reads { CostsAtMost reads.old reads.new (length name.now + 4) }
 {
     let texts = texts_of(buf, header, row);
     spells(buf, &texts, name, reads)
@@ -91,14 +83,14 @@ fn find_in<'a, H: Ledger, R: Ledger>(
     reads: &mut Meter<R>,
 ) -> Option<Found<'a>>
     requires valid { ValidAs buf.now header.now }
-    requires same { reads.old.bytes ≡ buf.now }
+    requires metered { reads.old.bytes ≡ buf.now }
     ensures found { option_map found_as result ≡ look buf.now name.now }
-    ensures hashes { (hashes.old ≤ hashes.new) × (hashes.new ≤ hashes.old + 2) }
-    ensures bytes { reads.new.bytes ≡ reads.old.bytes }
-    ensures reads { (reads.old.count ≤ reads.new.count) × (reads.new.count ≤ reads.old.count + length name.now + 76 + answer_length result) }
+    ensures hashes { RisesAtMost hashes.old hashes.new 2 }
+    ensures reads { CostsAtMost reads.old reads.new
+        (length name.now + 76 + answer_length result) }
 {
     let slot = probe(buf, header, name, hashes, reads)?;
-    let row = row_at(buf, header, slot, reads)?;
+    let row = row_of_slot(buf, header, slot, reads).row()?;
     if !is_named(buf, header, &row, name, reads) {
         return None;
     }
@@ -119,9 +111,9 @@ pub fn find<'a, H: Ledger, R: Ledger>(
 ) -> Option<Found<'a>>
     requires { reads.old.bytes ≡ image.now }
     ensures found { option_map found_as result ≡ look image.now name.now }
-    ensures hashes { (hashes.old ≤ hashes.new) × (hashes.new ≤ hashes.old + 2) }
-    ensures bytes { reads.new.bytes ≡ reads.old.bytes }
-    ensures reads { (reads.old.count ≤ reads.new.count) × (reads.new.count ≤ reads.old.count + length name.now + 76 + answer_length result) }
+    ensures hashes { RisesAtMost hashes.old hashes.new 2 }
+    ensures reads { CostsAtMost reads.old reads.new
+        (length name.now + 76 + answer_length result) }
 {
     find_in(&image.buf(), &image.header(), name, hashes, reads)
 }

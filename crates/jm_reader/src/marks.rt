@@ -1,6 +1,7 @@
 ghost use Rattle.std.specs.Prelude.{◌≡◌, ◌≢◌, ℕ, ◌+◌, ◌<◌, ◌≤◌, length, take, ◌++◌, option_to_list, IfSome, IfNone, IsTrue, ◌↔◌, All};
-ghost use Rattle.jm_form.specs.Entries.{text_at};
-ghost use Rattle.jm_reader.specs.Marks.{behind, marked_of, spelling, Ends};
+ghost use Rattle.jm_bytes.specs.Metered.{CostsAtMost};
+ghost use Rattle.jm_form.specs.Texts.{EndsWithin};
+ghost use Rattle.jm_reader.specs.Marks.{behind_mark, marked_text, spelling};
 
 use crate::compare::front_of;
 use jm_bytes::{Buf, Meter};
@@ -20,8 +21,8 @@ pub struct MarkedText {
 /// How many bytes a name's mark takes, and what stands behind it; nothing where the name doesn't begin
 /// with the mark.
 fn behind_mark(mark: Option<u8>, name: &[u8]) -> (usize, &[u8])
-    ensures taken { result.0 ≡ (behind mark name.now).0 }
-    ensures rest { result.1.now ≡ (behind mark name.now).1 }
+    ensures taken { result.0 ≡ (behind_mark mark name.now).0 }
+    ensures rest { result.1.now ≡ (behind_mark mark name.now).1 }
 {
     match (mark, name) {
         (None, _) => (0, name),
@@ -33,8 +34,10 @@ fn behind_mark(mark: Option<u8>, name: &[u8]) -> (usize, &[u8])
 /// How many bytes a mark takes that stands at the place `at`, or None where it doesn't stand there.
 fn mark_length(mark: Option<u8>, name: &[u8], at: usize) -> Option<usize>
     requires { at ≤ length name.now }
-    ensures there { IfSome result (λ n. (at + n ≤ length name.now) × (take (at + n) name.now ≡ take at name.now ++ option_to_list mark)) }
-    ensures none { IfNone result ((k : ℕ) → take at name.now ++ option_to_list mark ≢ take k name.now) }
+    ensures there { IfSome result (λ n. (at + n ≤ length name.now)
+        × (take (at + n) name.now ≡ take at name.now ++ option_to_list mark)) }
+    ensures none { IfNone result
+        ((k : ℕ) → take at name.now ++ option_to_list mark ≢ take k name.now) }
 {
     match mark {
         None => Some(0),
@@ -51,32 +54,30 @@ fn marked_front<R: Ledger>(
     name: &[u8],
     reads: &mut Meter<R>,
 ) -> Option<usize>
-    requires same { reads.old.bytes ≡ buf.now }
-    requires ends { Ends buf.now text.now }
-    ensures front { IfSome result (λ n. (n ≤ length name.now) × (marked_of buf.now text.now ≡ take n name.now)) }
-    ensures other { IfNone result ((n : ℕ) → marked_of buf.now text.now ≢ take n name.now) }
-    ensures bytes { reads.new.bytes ≡ reads.old.bytes }
-    ensures grows { reads.old.count ≤ reads.new.count }
-    ensures cost { IfSome result (λ n. reads.new.count ≤ reads.old.count + n + 1) }
-    ensures cost_none { IfNone result (reads.new.count ≤ reads.old.count + length name.now + 1) }
+    requires metered { reads.old.bytes ≡ buf.now }
+    requires ends { EndsWithin buf.now text.now.place }
+    ensures front { IfSome result (λ n. (n ≤ length name.now)
+        × (marked_text buf.now text.now ≡ take n name.now)) }
+    ensures other { IfNone result ((n : ℕ) → marked_text buf.now text.now ≢ take n name.now) }
+    ensures cost { IfSome result (λ n. CostsAtMost reads.old reads.new (n + 1)) }
+    ensures cost_other { IfNone result (CostsAtMost reads.old reads.new (length name.now + 1)) }
 {
     let (skipped, rest) = behind_mark(text.before, name);
     let n = front_of(buf, text.place, rest, reads)?;
     if n == 0 {
         return Some(0);
     }
-    let behind = mark_length(text.after, rest, n)?;
-    Some(skipped + n + behind)
+    let last = mark_length(text.after, rest, n)?;
+    Some(skipped + n + last)
 }
 
 /// Whether the texts with their marks, one behind the other, are the name. It costs at most the name's
 /// bytes and one for each text.
 pub fn spells<R: Ledger>(buf: &Buf, texts: &[MarkedText], name: &[u8], reads: &mut Meter<R>) -> bool
-    requires same { reads.old.bytes ≡ buf.now }
-    requires ends { All (Ends buf.now) texts.now }
+    requires metered { reads.old.bytes ≡ buf.now }
+    requires ends { All (λ text. EndsWithin buf.now text.place) texts.now }
     ensures answer { IsTrue result ↔ (name.now ≡ spelling buf.now texts.now) }
-    ensures bytes { reads.new.bytes ≡ reads.old.bytes }
-    ensures reads { (reads.old.count ≤ reads.new.count) × (reads.new.count ≤ reads.old.count + length name.now + length texts.now) }
+    ensures reads { CostsAtMost reads.old reads.new (length name.now + length texts.now) }
 {
     match texts {
         [] => name.is_empty(),

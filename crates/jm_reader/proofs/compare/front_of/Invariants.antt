@@ -1,5 +1,5 @@
 use Rattle.std.proofs.Common.{◌≡◌, ◌+◌, ◌≤◌, length, take}
-use Rattle.jm_form.specs.Entries.{text_at}
+use Rattle.jm_form.specs.Texts.{text_at}
 use Rattle.jm_reader.proofs.compare.front_of.Given as goal
 
 abbrev pub invariant-loop-n : goal.invariant-loop-n

@@ -1,5 +1,5 @@
 use Rattle.std.proofs.Common.{◌<◌, arith}
-use Rattle.jm_form.specs.Entries.{text_at}
+use Rattle.jm_form.specs.Texts.{text_at}
 use Rattle.jm_reader.proofs.MarkLaws.{no_front, no_mark_behind, front_marked}
 use Rattle.jm_reader.proofs.marks.marked_front.Goals as goal
 
@@ -10,14 +10,14 @@ returns-in_err-n-clause-other g c =
     let other = c.in_err-n.ensures.other in
     rw c.from_residual.ensures (no_front text.before text.after (text_at c.args.buf.now text.place) c.args.name.now (rw rest at other))
 
-pub returns-in_err-behind-clause-other : goal.returns-in_err-behind-clause-other
-returns-in_err-behind-clause-other g c =
+pub returns-in_err-last-clause-other : goal.returns-in_err-last-clause-other
+returns-in_err-last-clause-other g c =
     let text = c.args.text.now in
     let rest = c.behind_mark-skipped.ensures.rest in
     let front = rw rest at c.in_ok-n.ensures.front in
     let some : 0 < c.in_ok-n.n = (let not_zero = c.if-n-eq0.false in omega arith) in
-    let other = rw rest at c.in_err-behind.ensures.none in
-    rw c.from_residual-in_err-behind.ensures (no_mark_behind text.before text.after (text_at c.args.buf.now text.place) c.args.name.now c.in_ok-n.n some front.0 front.1 other)
+    let other = rw rest at c.in_err-last.ensures.none in
+    rw c.from_residual-in_err-last.ensures (no_mark_behind text.before text.after (text_at c.args.buf.now text.place) c.args.name.now c.in_ok-n.n some front.0 front.1 other)
 
 pub returns-clause-front : goal.returns-clause-front
 returns-clause-front g c =
@@ -26,6 +26,6 @@ returns-clause-front g c =
     let taken = c.behind_mark-skipped.ensures.taken in
     let front = rw rest at c.in_ok-n.ensures.front in
     let some : 0 < c.in_ok-n.n = (let not_zero = c.if-n-eq0.false in omega arith) in
-    let there = rw rest at c.in_ok-behind.ensures.there in
-    let whole = front_marked text.before text.after (text_at c.args.buf.now text.place) c.args.name.now c.in_ok-n.n c.in_ok-behind.behind some there.0 front.1 there.1 in
+    let there = rw rest at c.in_ok-last.ensures.there in
+    let whole = front_marked text.before text.after (text_at c.args.buf.now text.place) c.args.name.now c.in_ok-n.n c.in_ok-last.last some there.0 front.1 there.1 in
     rw taken (whole.1, whole.0)

@@ -1,0 +1,43 @@
+-- The entries of the slots from one on: that slot's, and those of the slots behind it.
+use Rattle.std.proofs.Common.{◌≡◌, ℕ, suc, ◌+◌, ◌-◌, ◌<◌, List, [], ◌∷◌, ◌++◌, Ok, sym, ap, ◌∙◌, arith}
+use Rattle.std.proofs.lemmas.List.Elements.{filter-append, filter_map-append}
+use Rattle.std.specs.List.{filter, filter_map, range_with_len}
+use Rattle.jm_form.specs.declared.container.Header.{Header}
+use Rattle.jm_form.specs.Entries.{entry_at, is_reached}
+use Rattle.jm_form.specs.Head.{header_of}
+use Rattle.jm_reader.specs.declared.entries.Entry as handed
+use Rattle.jm_reader.specs.Walk.{entries_from, entries_to_come, to_come_with, entries_in, entry_alone, IsFirst}
+
+from_more : (b : List ℕ) (h : Header) (slot : ℕ) → slot < h.length → entries_from b h slot ≡ entry_alone b h slot ++ entries_from b h (slot + 1)
+from_more b h slot below =
+    let later : List ℕ = range_with_len (slot + 1) (h.length - (slot + 1)) in
+    let size : h.length - slot ≡ suc (h.length - (slot + 1)) = omega arith in
+    let read = filter_map-append (entry_at b h) (slot ∷ []) later in
+    ap (λ (n : ℕ). entries_in b h (range_with_len slot n)) size
+    ∙ ap (filter (is_reached b h)) read
+    ∙ filter-append (is_reached b h) (filter_map (entry_at b h) (slot ∷ [])) (filter_map (entry_at b h) later)
+
+with_header : (b : List ℕ) (h : Header) (slot : ℕ) → header_of b ≡ Ok h → entries_to_come b slot ≡ entries_from b h slot
+with_header b h slot header = ap (to_come_with b slot) header
+
+-- the entries from a slot on are that slot's and those behind it
+pub to_come_more : (b : List ℕ) (h : Header) (slot : ℕ) → header_of b ≡ Ok h → slot < h.length → entries_to_come b slot ≡ entry_alone b h slot ++ entries_to_come b (slot + 1)
+to_come_more b h slot header below =
+    with_header b h slot header ∙ from_more b h slot below
+    ∙ ap (λ es. entry_alone b h slot ++ es) (sym (with_header b h (slot + 1) header))
+
+-- behind a spare slot all of them follow
+pub to_come_spare : (b : List ℕ) (h : Header) (slot : ℕ) → header_of b ≡ Ok h → slot < h.length → entry_alone b h slot ≡ [] → entries_to_come b slot ≡ entries_to_come b (slot + 1)
+to_come_spare b h slot header below spare = to_come_more b h slot header below ∙ ap (λ es. es ++ entries_to_come b (slot + 1)) spare
+
+-- and the slot's own is the first of them
+pub first_to_come : (b : List ℕ) (h : Header) (start slot : ℕ) (given : handed.Entry) → header_of b ≡ Ok h → slot < h.length → entries_to_come b start ≡ entries_to_come b slot → IsFirst (entry_alone b h slot) given [] → given.slot ≡ slot → IsFirst (entries_to_come b start) given (entries_to_come b (given.slot + 1))
+first_to_come b h start slot given header below rest alone same = record {
+  entry = alone.entry;
+  first =
+      rest ∙ to_come_more b h slot header below ∙ ap (λ es. es ++ entries_to_come b (slot + 1)) alone.first
+      ∙ ap (λ (n : ℕ). alone.entry ∷ entries_to_come b (n + 1)) (sym same);
+  slot = alone.slot;
+  name = alone.name;
+  content = alone.content;
+}

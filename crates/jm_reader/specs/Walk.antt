@@ -1,0 +1,57 @@
+-- The entries of an image, one after another by rising slot (jimage 1.0).
+use Rattle.std.specs.Prelude.{ℕ, ◌-◌, ◌≤◌, ◌≡◌, List, [], ◌∷◌, filter, filter_map, Ok, Err, Result}
+use Rattle.std.specs.List.{range_with_len}
+use Rattle.jm_bytes.specs.Metered.{Metered}
+use Rattle.jm_form.specs.declared.container.Header.{Header}
+use Rattle.jm_form.specs.declared.container.HeaderFault.{HeaderFault}
+use Rattle.jm_form.specs.Entries.{Entry, entries, entry_at, is_reached}
+use Rattle.jm_form.specs.Head.{header_of}
+use Rattle.jm_reader.specs.declared.entries.Entry as handed
+
+-- the image's bytes and the entries still to come
+pub record Walked : Type 0 where
+  pub bytes : List ℕ
+  pub rest : List Entry
+
+-- the entries of some slots: of those that the slots spell, the ones that are reached
+abbrev pub entries_in : List ℕ → Header → List ℕ → List Entry
+entries_in b h places = filter (is_reached b h) (filter_map (entry_at b h) places)
+
+-- the entry of one slot, or none where the slot is spare
+abbrev pub entry_alone : List ℕ → Header → ℕ → List Entry
+entry_alone b h slot = entries_in b h (slot ∷ [])
+
+-- the entries of the slots from one on
+abbrev pub entries_from : List ℕ → Header → ℕ → List Entry
+entries_from b h slot = entries_in b h (range_with_len slot (h.length - slot))
+
+-- the same with what was read as the header; none where that is a fault
+abbrev pub to_come_with : List ℕ → ℕ → Result Header HeaderFault → List Entry
+to_come_with b slot (Err fault) = []
+to_come_with b slot (Ok h) = entries_from b h slot
+
+-- the entries of an image's bytes, of the slots from one on
+abbrev pub entries_to_come : List ℕ → ℕ → List Entry
+entries_to_come b slot = to_come_with b slot (header_of b)
+
+-- all entries, with what was read as the header
+abbrev pub entries_with : List ℕ → Result Header HeaderFault → List Entry
+entries_with b (Err fault) = []
+entries_with b (Ok h) = entries b h
+
+-- all entries of an image's bytes
+abbrev pub entries_of : List ℕ → List Entry
+entries_of b = entries_with b (header_of b)
+
+-- the entry that is handed out is the first of some entries, and the rest follows it
+pub record IsFirst (all : List Entry) (given : handed.Entry) (rest : List Entry) : Type 0 where
+  pub entry : Entry
+  pub first : all ≡ entry ∷ rest
+  pub slot : given.slot ≡ entry.slot
+  pub name : given.name ≡ entry.name
+  pub content : given.bytes.now ≡ entry.content
+
+-- the same bytes are read, and the count didn't fall
+pub record IsLater (old new : Metered) : Type 0 where
+  pub bytes : new.bytes ≡ old.bytes
+  pub count : old.count ≤ new.count

@@ -1,0 +1,133 @@
+ghost use Rattle.std.specs.Prelude.{◌≡◌, ◌≢◌, ◌++◌, ◌+◌, ◌<◌, ◌^◌, ℕ, List, length, IfOk, IsTrue, IsFalse, ◌↔◌, nat_eq};
+ghost use Rattle.std.specs.List.{starts_with};
+ghost use Rattle.jm_names.specs.Names.{is_node, join};
+ghost use Rattle.jm_names.specs.Pieces.{cut_of};
+ghost use Rattle.jm_reader.specs.Views.{marked_length, ShortPieces};
+
+use crate::name_bytes::NameBytes;
+use jm_bytes::{NoMemory, Text};
+use jm_names::Pieces;
+use std::alloc::Global;
+use std::marker::Model;
+
+/// The name of an entry, `/module/parent/base.ext` without the marks of the pieces that are empty. It
+/// borrows its four pieces from the image.
+#[derive(Debug, Drop)]
+pub struct NameView<'a> {
+    module: &'a [u8],
+    parent: &'a [u8],
+    base: &'a [u8],
+    ext: &'a [u8],
+}
+
+impl<'a> Model for NameView<'a> {
+    ghost use Rattle.std.specs.Prelude.{List, ℕ};
+    ghost use Rattle.jm_reader.specs.Views.{cut_from, joined, ShortPieces};
+
+    ghost Value = { List ℕ };
+
+    ghost view = { λ a. joined a.module.now a.parent.now a.base.now a.ext.now };
+
+    ghost invariant = { λ a. ShortPieces
+        (cut_from a.module.now a.parent.now a.base.now a.ext.now) };
+}
+
+/// How many bytes a piece takes in a name, with so many marks around it; none where it is empty.
+fn marked_length(piece: &[u8], marks: usize) -> usize
+    requires { length piece.now + marks < 2 ^ 64 }
+    ensures { result ≡ marked_length piece.now marks }
+{
+    if piece.is_empty() {
+        0
+    } else {
+        piece.len() + marks
+    }
+}
+
+/// Takes the bytes of `front` from some bytes; false where they don't begin with it, and then some of
+/// them are taken.
+fn takes_front(bytes: &mut NameBytes, front: &[u8]) -> bool
+    ensures yes { IsTrue result → bytes.old ≡ front.now ++ bytes.new }
+    ensures no { IsFalse result → (rest : List ℕ) → bytes.old ≢ front.now ++ rest }
+{
+    for byte in front {
+        if bytes.next() != Some(*byte) {
+            return false;
+        }
+    }
+    true
+}
+
+impl<'a> NameView<'a> {
+    /// The name that the pieces make.
+    pub(crate) fn of(pieces: &Pieces<'a>) -> NameView<'a>
+        requires { ShortPieces (cut_of pieces.now) }
+        ensures { result ≡ join (cut_of pieces.now) }
+    {
+        NameView {
+            module: pieces.module,
+            parent: pieces.parent,
+            base: pieces.base,
+            ext: pieces.ext,
+        }
+    }
+
+    /// How many bytes it has.
+    pub fn len(&self) -> usize
+        ensures { result ≡ length self.now }
+    {
+        marked_length(self.module, 2)
+            + marked_length(self.parent, 1)
+            + self.base.len()
+            + marked_length(self.ext, 1)
+    }
+
+    /// The name is `name`, byte by byte.
+    pub fn equals(&self, name: &[u8]) -> bool
+        ensures { IsTrue result ↔ (self.now ≡ name.now) }
+    {
+        let mut bytes = self.bytes();
+        takes_front(&mut bytes, name) && bytes.next().is_none()
+    }
+
+    /// The name begins with `front`.
+    fn begins_with(&self, front: &[u8]) -> bool
+        ensures { result ≡ starts_with nat_eq self.now front.now }
+    {
+        takes_front(&mut self.bytes(), front)
+    }
+
+    /// Whether it is a name of one of the two trees' nodes (JEP 220): `/modules`, `/packages`, and what
+    /// begins with one of these and a slash.
+    pub fn is_node(&self) -> bool
+        ensures { result ≡ is_node self.now }
+    {
+        self.equals(b"/modules")
+            || self.equals(b"/packages")
+            || self.begins_with(b"/modules/")
+            || self.begins_with(b"/packages/")
+    }
+
+    /// Its bytes, one after the other.
+    pub fn bytes(&self) -> NameBytes<'a>
+        ensures { result ≡ self.now }
+    {
+        NameBytes::of(&Pieces {
+            module: self.module,
+            parent: self.parent,
+            base: self.base,
+            ext: self.ext,
+        })
+    }
+
+    /// A text of its own with the same bytes.
+    pub fn to_text(&self, alloc: Global) -> Result<Text, NoMemory>
+        ensures { IfOk result (λ text. text ≡ self.now) }
+    {
+        let mut text = Text::new(alloc);
+        for byte in self.bytes() {
+            text.push(byte)?;
+        }
+        Ok(text)
+    }
+}
