@@ -1,1 +1,3 @@
-pub mod Endings
+pub mod Gotten
+pub mod RunLaws
+pub mod StepLaws

@@ -1,3 +1,8 @@
-pub mod CatWords
-pub mod Ending
+pub mod Cat
+pub mod Outcome
+pub mod Run
+pub mod Sinks
 pub mod StatusValue
+pub mod Stops
+pub mod Texts
+pub mod Words

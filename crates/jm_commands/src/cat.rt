@@ -1,7 +1,8 @@
-ghost use Rattle.std.specs.Prelude.{◌≡◌, ◌+◌, ◌≤◌, ◌<◌, ◌++◌, true, false, IfOk, OnOk, OnErr, IsErrOf, is_some, length, option_map};
-ghost use Rattle.jm_form.specs.Damages.{look};
-ghost use Rattle.jm_outside.specs.Outcome.{PutsFront, Rose, Told};
-ghost use Rattle.jm_commands.specs.Ending.{bytes_output};
+ghost use Rattle.std.specs.Prelude.{◌≡◌, ◌+◌, length};
+ghost use Rattle.jm_bytes.specs.Metered.{CostsAtMost, RisesAtMost};
+ghost use Rattle.jm_form.specs.Validity.{look};
+ghost use Rattle.jm_commands.specs.Cat.{content_of, CatDoes};
+ghost use Rattle.jm_commands.specs.Sinks.{seen};
 
 use jm_bytes::{Meter, Steps};
 use jm_outside::{Sink, SinkError};
@@ -13,8 +14,8 @@ use std::sync::ledger::Ledger;
 /// Puts the content of the entry of that name, by one `put`, and answers true; answers false, with
 /// nothing put, where no entry has the name.
 ///
-/// It costs at most two hashes, and at most the name's bytes, 76 more and those of the content. After
-/// `Failed` a prefix of the content was put, after `Memory` nothing.
+/// It costs at most two hashes, and at most the name's bytes, 76 more and those of the content.
+/// After `Failed` a prefix of the content was put, after `Memory` nothing.
 pub fn cat_command<O: Sink, H: Ledger, R: Ledger>(
     alloc: Global,
     image: &Image,
@@ -24,17 +25,12 @@ pub fn cat_command<O: Sink, H: Ledger, R: Ledger>(
     reads: &mut Meter<R>,
 ) -> Result<bool, SinkError>
     requires { reads.old.bytes ≡ image.now }
-    ensures there { IfOk result (λ there. there ≡ is_some (look image.now name.now)) }
-    ensures put { OnOk result (O.content out.new ≡ option_map (λ put. put ++ bytes_output image.now name.now) (O.content out.old)) }
-    ensures none { result ≡ Ok false → O.content out.new ≡ O.content out.old }
-    ensures err { OnErr result (Told (O.content out.old) (O.content out.new) (λ old new. PutsFront old new (bytes_output image.now name.now))) }
-    ensures found { OnErr result (is_some (look image.now name.now) ≡ true) }
-    ensures memory { IsErrOf result SinkError.Memory → O.content out.new ≡ O.content out.old }
-    ensures count { O.faults out.old ≤ O.faults out.new }
-    ensures failed { IsErrOf result SinkError.Failed → Rose (O.faults out.old) (O.faults out.new) }
-    ensures hashes { (hashes.old ≤ hashes.new) × (hashes.new ≤ hashes.old + 2) }
-    ensures bytes { reads.new.bytes ≡ reads.old.bytes }
-    ensures reads { (reads.old.count ≤ reads.new.count) × (reads.new.count ≤ reads.old.count + length name.now + 76 + length (bytes_output image.now name.now)) }
+    ensures does { CatDoes (look image.now name.now) result
+        (seen (O.content out.old) (O.faults out.old))
+        (seen (O.content out.new) (O.faults out.new)) }
+    ensures hashes { RisesAtMost hashes.old hashes.new 2 }
+    ensures reads { CostsAtMost reads.old reads.new
+        (length name.now + 76 + length (content_of (look image.now name.now))) }
 {
     let Some(found) = find(image, name, hashes, reads) else {
         return Ok(false);

@@ -2,15 +2,15 @@
 #![tactic(auto)]
 
 mod cat;
-mod lines;
-mod outcome;
-mod printing;
+mod complaint;
+mod image_file;
+mod program;
 mod status;
+mod stop;
 #[cfg(test)]
 mod tests;
-mod top;
 mod words;
 
 pub use cat::cat_command;
+pub use program::run;
 pub use status::Status;
-pub use top::run;

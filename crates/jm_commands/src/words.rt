@@ -1,5 +1,8 @@
-ghost use Rattle.std.specs.Prelude.{◌≡◌, None, map, string_bytes};
-ghost use Rattle.jm_commands.specs.CatWords.{cat_of, cat_words, is_option};
+ghost use Rattle.std.specs.Prelude.{◌≡◌, Some, map, string_bytes};
+ghost use Rattle.jm_commands.specs.Texts.{fault_text, kind_text};
+ghost use Rattle.jm_commands.specs.Words.{asked_in, asked_of, is_option, fault_at};
+
+use std::fmt;
 
 /// The words of `cat IMAGE NAME` behind the command.
 #[derive(Clone, Copy, Debug)]
@@ -27,11 +30,36 @@ pub enum WordsKind {
     Missing,
 }
 
+impl fmt::Display for WordsKind {
+    ghost output = { λ kind. Some (kind_text kind) };
+
+    fn fmt<W: fmt::Write>(&self, f: &mut fmt::Formatter<W>) -> fmt::Result {
+        match self {
+            WordsKind::NoCommand => write!(f, "NoCommand"),
+            WordsKind::UnknownCommand => write!(f, "UnknownCommand"),
+            WordsKind::UnknownOption => write!(f, "UnknownOption"),
+            WordsKind::BadValue => write!(f, "BadValue"),
+            WordsKind::TooManyArguments => write!(f, "TooManyArguments"),
+            WordsKind::Missing => write!(f, "Missing"),
+        }
+    }
+}
+
 /// The first fault of the words, with the number of its word from 1, or that of all words.
 #[derive(Clone, Copy, Debug)]
 pub struct WordsFault {
     pub kind: WordsKind,
     pub at: usize,
+}
+
+impl fmt::Display for WordsFault {
+    ghost output = { λ fault. Some (fault_text fault) };
+
+    fn fmt<W: fmt::Write>(&self, f: &mut fmt::Formatter<W>) -> fmt::Result {
+        let kind = self.kind;
+        let at = self.at;
+        write!(f, "{kind} at {at}")
+    }
 }
 
 /// Whether a word is an option.
@@ -42,15 +70,15 @@ fn is_option(word: &str) -> bool
 }
 
 fn fault<'a>(kind: WordsKind, at: usize) -> Result<CatWords<'a>, WordsFault>
-    ensures { cat_words result ≡ None }
+    ensures { asked_in result ≡ fault_at kind at }
 {
     Err(WordsFault { kind, at })
 }
 
-/// Reads the words behind the program's name. The only command is `cat IMAGE NAME`, without options;
-/// IMAGE is not empty.
+/// Reads the words behind the program's name. The only command is `cat IMAGE NAME`, without
+/// options; IMAGE is not empty.
 pub fn read_words(words: &[String]) -> Result<CatWords<'_>, WordsFault>
-    ensures { cat_words result ≡ cat_of (map string_bytes words.now) }
+    ensures { asked_in result ≡ asked_of (map string_bytes words.now) }
 {
     match words {
         [] => fault(WordsKind::NoCommand, 0),

@@ -1,0 +1,15 @@
+-- What a failed call of the outside is to a command (this project's rule).
+use Rattle.jm_outside.specs.declared.shelf.ShelfError.{ShelfError}
+use Rattle.jm_outside.specs.declared.shelf.ShelfError.TheVariants as shelf_error
+use Rattle.jm_outside.specs.declared.streams.SinkError.{SinkError}
+use Rattle.jm_outside.specs.declared.streams.SinkError.TheVariants as sink_error
+use Rattle.jm_commands.specs.declared.stop.Stop.{Stop}
+use Rattle.jm_commands.specs.declared.stop.Stop.TheVariants as stop
+
+abbrev pub stop_of_shelf : ShelfError → Stop
+stop_of_shelf shelf_error.Failed = stop.Outside
+stop_of_shelf shelf_error.Memory = stop.Memory
+
+abbrev pub stop_of_sink : SinkError → Stop
+stop_of_sink sink_error.Failed = stop.Outside
+stop_of_sink sink_error.Memory = stop.Memory

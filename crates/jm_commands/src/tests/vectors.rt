@@ -1,0 +1,46 @@
+//! Small images, byte for byte.
+
+/// One entry, `/m/a`, that holds `hi`.
+pub fn tiny() -> &'static [u8] {
+    &[
+        0xDA, 0xDA, 0xFE, 0xCA, 0, 0, 1, 0, 0, 0, 0, 0, 1, 0, 0, 0, 1, 0, 0, 0, 8, 0, 0, 0, 11, 0,
+        0, 0, 0xFF, 0xFF, 0xFF, 0xFF, 1, 0, 0, 0, 0, 8, 7, 24, 9, 56, 2, 0, 0, 99, 108, 97, 115,
+        115, 0, 109, 0, 97, 0, 104, 105,
+    ]
+}
+
+/// The same with the highest byte first in all words.
+pub fn big_tiny() -> &'static [u8] {
+    &[
+        0xCA, 0xFE, 0xDA, 0xDA, 0, 1, 0, 0, 0, 0, 0, 0, 0, 0, 0, 1, 0, 0, 0, 1, 0, 0, 0, 8, 0, 0,
+        0, 11, 0xFF, 0xFF, 0xFF, 0xFF, 0, 0, 0, 1, 0, 8, 7, 24, 9, 56, 2, 0, 0, 99, 108, 97, 115,
+        115, 0, 109, 0, 97, 0, 104, 105,
+    ]
+}
+
+/// The same with the redirect word 0x7FFFFFFF, a seed.
+pub fn seeded_tiny() -> &'static [u8] {
+    &[
+        0xDA, 0xDA, 0xFE, 0xCA, 0, 0, 1, 0, 0, 0, 0, 0, 1, 0, 0, 0, 1, 0, 0, 0, 8, 0, 0, 0, 11, 0,
+        0, 0, 0xFF, 0xFF, 0xFF, 0x7F, 1, 0, 0, 0, 0, 8, 7, 24, 9, 56, 2, 0, 0, 99, 108, 97, 115,
+        115, 0, 109, 0, 97, 0, 104, 105,
+    ]
+}
+
+/// `/m/b` in slot 0 and `/m/a` in slot 1, both on the same two bytes.
+pub fn overlapping() -> &'static [u8] {
+    &[
+        0xDA, 0xDA, 0xFE, 0xCA, 0, 0, 1, 0, 0, 0, 0, 0, 2, 0, 0, 0, 2, 0, 0, 0, 15, 0, 0, 0, 13, 0,
+        0, 0, 0xFF, 0xFF, 0xFF, 0xFF, 0xFE, 0xFF, 0xFF, 0xFF, 1, 0, 0, 0, 8, 0, 0, 0, 0, 8, 7, 24,
+        11, 56, 2, 0, 8, 7, 24, 9, 56, 2, 0, 0, 99, 108, 97, 115, 115, 0, 109, 0, 97, 0, 98, 0,
+        104, 105,
+    ]
+}
+
+/// No slot.
+pub fn no_entries() -> &'static [u8] {
+    &[
+        0xDA, 0xDA, 0xFE, 0xCA, 0, 0, 1, 0, 0, 0, 0, 0, 0, 0, 0, 0, 0, 0, 0, 0, 0, 0, 0, 0, 0, 0,
+        0, 0,
+    ]
+}
