@@ -1,0 +1,49 @@
+-- Worked cases of words, computed from the definitions.
+use Rattle.std.proofs.Common.{◌≡◌, false, [], ◌∷◌, Ok, None, refl}
+use Rattle.std.specs.Prelude.{codes}
+use Rattle.jm_bytes.specs.declared.words.Order.TheVariants.{Little}
+use Rattle.jm_plugins.specs.declared.Plugin.TheVariants as plugin
+use Rattle.jm_words.specs.declared.commands.Command.TheVariants as command
+use Rattle.jm_words.specs.declared.errors.WordsKind.TheVariants as kind
+use Rattle.jm_words.specs.Reading.{fault_at}
+use Rattle.jm_words.specs.Commands.{command_in}
+
+no_word : command_in [] ≡ fault_at 0 kind.NoCommand
+no_word = refl
+
+no_command : command_in (codes "zap" ∷ []) ≡ fault_at 1 kind.UnknownCommand
+no_command = refl
+
+no_name : command_in (codes "cat" ∷ codes "img" ∷ []) ≡ fault_at 2 kind.Missing
+no_name = refl
+
+three_arguments : command_in (codes "cat" ∷ codes "a" ∷ codes "b" ∷ codes "c" ∷ []) ≡ fault_at 4 kind.TooManyArguments
+three_arguments = refl
+
+no_jobs : command_in (codes "cat" ∷ codes "a" ∷ codes "b" ∷ codes "--jobs" ∷ codes "0" ∷ []) ≡ fault_at 5 kind.BadValue
+no_jobs = refl
+
+output_twice : command_in (codes "link" ∷ codes "--output" ∷ codes "a" ∷ codes "--output" ∷ codes "b" ∷ []) ≡ fault_at 4 kind.Repeated
+output_twice = refl
+
+no_value : command_in (codes "cat" ∷ codes "--jobs" ∷ []) ≡ fault_at 2 kind.NoValue
+no_value = refl
+
+no_option : command_in (codes "cat" ∷ codes "--zap" ∷ []) ≡ fault_at 2 kind.UnknownOption
+no_option = refl
+
+help_with_argument : command_in (codes "--help" ∷ codes "x" ∷ []) ≡ fault_at 2 kind.TooManyArguments
+help_with_argument = refl
+
+two_sources : command_in (codes "link" ∷ codes "--module-path=m" ∷ codes "--from-image" ∷ []) ≡ fault_at 3 kind.Repeated
+two_sources = refl
+
+value_before_option : command_in (codes "cat" ∷ codes "--jobs" ∷ codes "--zap" ∷ []) ≡ fault_at 3 kind.BadValue
+value_before_option = refl
+
+cat_with_jobs : command_in (codes "cat" ∷ codes "--jobs=2" ∷ codes "img" ∷ codes "/m/a" ∷ []) ≡ Ok (command.Cat (codes "img") (codes "/m/a") 2)
+cat_with_jobs = refl
+
+link_from_folders : command_in (codes "link" ∷ codes "--module-path=x/:y" ∷ codes "--output" ∷ codes "o" ∷ codes "--compact-pool" ∷ codes "--add-modules=a,b" ∷ [])
+    ≡ Ok (command.Link (codes "x" ∷ codes "y" ∷ []) (codes "a" ∷ codes "b" ∷ []) (codes "o") (plugin.Compact ∷ []) Little false None 1)
+link_from_folders = refl

@@ -1,0 +1,6 @@
+pub mod Commands
+pub mod FaultText
+pub mod Reading
+pub mod Rows
+pub mod Tables
+pub mod Values

@@ -1,0 +1,16 @@
+//! The words of the command line: which command they make, or what is wrong with them (this
+//! project's rule).
+#![tactic(auto)]
+
+mod commands;
+mod errors;
+mod forms;
+mod reading;
+mod tables;
+mod values;
+
+pub use commands::{Command, read_words};
+pub use errors::{WordsError, WordsKind};
+
+#[cfg(test)]
+mod tests;
