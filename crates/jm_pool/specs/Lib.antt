@@ -1,0 +1,2 @@
+pub mod PairView
+pub mod Pairs

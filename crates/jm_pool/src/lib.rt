@@ -1,0 +1,10 @@
+//! The pool of resources: names and their bytes, in an order, each name once.
+#![tactic(auto)]
+
+mod pairs;
+mod pool;
+
+pub use pool::{Pool, PushError};
+
+#[cfg(test)]
+mod tests;

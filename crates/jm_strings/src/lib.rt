@@ -1,0 +1,9 @@
+//! The strings section of an image that is written: each text once, with its place.
+#![tactic(auto)]
+
+mod strings;
+
+pub use strings::{Strings, StringsError};
+
+#[cfg(test)]
+mod tests;
