@@ -279,7 +279,7 @@ fn is_made(number: usize, command: &Command) -> bool {
         ) => {
             is_text(dir, "/d")
                 && *modules == 256
-                && *classes == 0
+                && *classes == 1
                 && *seed == 18446744073709551615
                 && *jobs == 10
         }
@@ -311,7 +311,7 @@ fn all_commands(rt: HostRuntime) -> Result<(), Fail> {
             "--modules",
             "256",
             "--jobs=10",
-            "--classes=0",
+            "--classes=1",
         ],
         &["describe", "f/"],
         &["--help", "--jobs", "2"],
