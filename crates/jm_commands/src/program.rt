@@ -54,7 +54,8 @@ fn do_command<'w, T: Threads + Sync, S: Shelf, O: Sink, G: Gate + Sync>(
 }
 
 /// Does all that the program does: reads the words behind the program's name, does the command,
-/// puts its output to `out` and a line on what is wrong to `err`, and gives the status. No file changes.
+/// puts its output to `out` and a line on what is wrong to `err`, and gives the status. No file
+/// changes.
 ///
 /// The only command is `cat IMAGE NAME` yet. Nothing is read from `input`.
 pub fn run<T: Threads + Sync, S: Shelf, I: Source, O: Sink, E: Sink, G: Gate + Sync>(
