@@ -1,12 +1,14 @@
-ghost use Rattle.std.specs.Prelude.{◌≡◌, None, IsErrOf};
+ghost use Rattle.std.specs.Prelude.{◌≡◌, None, Ok, IfOk, IsErrOf};
 ghost use Rattle.jm_outside.specs.Outcome.{CountsFaults};
 
 use crate::contents::{append_to, create_at, read_at};
+use crate::file_error::FileError;
 use crate::folders::names_in;
 use crate::shelf::{Shelf, ShelfError};
 use jm_bytes::{List, Text};
 use std::alloc::Global;
 use std::rt::Files;
+use std::str;
 
 /// The shelf of the file system, which tells no files. A path is the system's: one that begins with
 /// no slash goes from the folder in which the program runs.
@@ -16,6 +18,13 @@ use std::rt::Files;
 pub struct FileShelf<'a, R: Files + AllocGlobal> {
     rt: &'a R,
     faults: u64,
+    last_failure: Option<String>,
+}
+
+/// A path and what went wrong there; None where no memory was found for it.
+fn failure_at(alloc: Global, path: &[u8], error: &FileError) -> Option<String> {
+    let path = str::from_utf8(path).ok()?;
+    format!(in alloc; "{path}: {error}").ok()
 }
 
 impl<'a, R: Files + AllocGlobal> FileShelf<'a, R> {
@@ -23,19 +32,42 @@ impl<'a, R: Files + AllocGlobal> FileShelf<'a, R> {
     pub fn new(rt: &'a R) -> FileShelf<'a, R>
         ensures { ⟦<FileShelf<'a, R> as Shelf>⟧.faults result ≡ 0 }
     {
-        FileShelf { rt, faults: 0 }
+        FileShelf {
+            rt,
+            faults: 0,
+            last_failure: None,
+        }
     }
 
-    /// Hands on what a call answers, and counts a fault where it failed.
-    fn count_failure<T: Drop>(&mut self, answer: Result<T, ShelfError>) -> Result<T, ShelfError>
-        ensures answer { result ≡ answer }
+    /// For a user: the path of the last call that answered `Failed`, a colon, and what the system
+    /// said. None where none did, and where no memory was found for it.
+    pub fn last_failure(&self) -> Option<&str> {
+        match &self.last_failure {
+            Some(text) => Some(text.as_str()),
+            None => None,
+        }
+    }
+
+    /// Hands on what a call answered. Where it failed, it counts a fault and keeps what failed.
+    fn judge<T: Drop>(
+        &mut self,
+        alloc: Global,
+        path: &[u8],
+        answer: Result<T, FileError>,
+    ) -> Result<T, ShelfError>
+        ensures answer { IfOk result (λ value. answer ≡ Ok value) }
         ensures faults { CountsFaults self.old.faults self.new.faults
             (IsErrOf result ShelfError.Failed) }
     {
-        if let Err(ShelfError::Failed) = &answer {
-            self.faults = self.faults.saturating_add(1);
+        match answer {
+            Ok(value) => Ok(value),
+            Err(FileError::Memory) => Err(ShelfError::Memory),
+            Err(error) => {
+                self.faults = self.faults.saturating_add(1);
+                self.last_failure = failure_at(alloc, path, &error);
+                Err(ShelfError::Failed)
+            }
         }
-        answer
     }
 }
 
@@ -52,26 +84,26 @@ impl<'a, R: Files + AllocGlobal> Shelf for FileShelf<'a, R> {
     /// folder that isn't there has no names.
     fn names(&mut self, alloc: Global, dir: &[u8]) -> Result<List<Text>, ShelfError> {
         let answer = names_in(self.rt, alloc, dir);
-        self.count_failure(answer)
+        self.judge(alloc, dir, answer)
     }
 
     /// None where the path, or a folder of it, isn't there, or a folder of it is a file. A folder
     /// in the place of the file is a fault, and so are more than 4,294,967,296 bytes.
     fn read(&mut self, alloc: Global, path: &[u8]) -> Result<Option<Text>, ShelfError> {
         let answer = read_at(self.rt, alloc, path);
-        self.count_failure(answer)
+        self.judge(alloc, path, answer)
     }
 
     /// Makes the folders of the path that are missing.
-    fn create(&mut self, _alloc: Global, path: &[u8]) -> Result<(), ShelfError> {
+    fn create(&mut self, alloc: Global, path: &[u8]) -> Result<(), ShelfError> {
         let answer = create_at(self.rt, path);
-        self.count_failure(answer)
+        self.judge(alloc, path, answer)
     }
 
     /// Makes no folder: one that is missing is a fault.
-    fn append(&mut self, _alloc: Global, path: &[u8], bytes: &[u8]) -> Result<(), ShelfError> {
+    fn append(&mut self, alloc: Global, path: &[u8], bytes: &[u8]) -> Result<(), ShelfError> {
         let answer = append_to(self.rt, path, bytes);
-        self.count_failure(answer)
+        self.judge(alloc, path, answer)
     }
 
     ghost sound = { λ _. tt };

@@ -2,14 +2,14 @@
 ghost use Rattle.std.specs.Prelude.{◌∷◌, ◌++◌, [], All, IsUtf8, IfOk, IsTrue};
 ghost use Rattle.jm_outside.specs.Files.{Rising};
 
-use crate::contents::is_absence;
-use crate::shelf::ShelfError;
+use crate::contents::{is_absence, text_of};
+use crate::file_error::FileError;
 use jm_bytes::{List, NoMemory, Text};
 use std::alloc::Global;
 use std::io::ErrorKind;
 use std::path::Path;
 use std::rt::Files;
-use std::{fs, io, str};
+use std::{fs, io};
 
 /// The most files and folders that may stand below a folder.
 const MOST_ENTRIES: u32 = 16_777_216;
@@ -28,13 +28,11 @@ pub fn names_in<R: Files + AllocGlobal>(
     rt: &R,
     alloc: Global,
     folder: &[u8],
-) -> Result<List<Text>, ShelfError>
+) -> Result<List<Text>, FileError>
     ensures rising { IfOk result Rising }
     ensures texts { IfOk result (All IsUtf8) }
 {
-    let Ok(folder) = str::from_utf8(folder) else {
-        return Err(ShelfError::Failed);
-    };
+    let folder = text_of(folder)?;
     let mut tree = Tree {
         names: Vec::new(alloc),
         folders: Vec::new(alloc),
@@ -49,7 +47,7 @@ pub fn names_in<R: Files + AllocGlobal>(
             break;
         };
         if !list(rt, alloc, folder, inner.as_str(), &mut tree)? {
-            return Err(ShelfError::Failed);
+            return Err(FileError::Vanished);
         }
     }
     in_order(alloc, tree.names)
@@ -62,12 +60,12 @@ fn list<R: Files + AllocGlobal>(
     root: &str,
     inner: &str,
     tree: &mut Tree,
-) -> Result<bool, ShelfError> {
+) -> Result<bool, FileError> {
     let path = format!(in alloc; "{root}/{inner}")?;
     let entries = match fs::read_dir(&rt, path.as_str()) {
         Ok(entries) => entries,
         Err(e) if is_absence(e.kind()) => return Ok(false),
-        Err(e) => return Err(ShelfError::from(e)),
+        Err(e) => return Err(FileError::from(e)),
     };
     for entry in entries {
         let entry = entry?;
@@ -84,9 +82,9 @@ fn add_entry(
     name: &str,
     kind: Kind,
     tree: &mut Tree,
-) -> Result<(), ShelfError> {
+) -> Result<(), FileError> {
     if tree.entry_count >= MOST_ENTRIES {
-        return Err(ShelfError::Failed);
+        return Err(FileError::TooMany);
     }
     tree.entry_count += 1;
     match kind {
@@ -127,7 +125,7 @@ fn leads_to_file<R: Files>(rt: &R, path: Path<'_>) -> io::Result<bool> {
 }
 
 /// The names in byte order, each once.
-fn in_order(alloc: Global, names: Vec<String>) -> Result<List<Text>, ShelfError>
+fn in_order(alloc: Global, names: Vec<String>) -> Result<List<Text>, FileError>
     ensures rising { IfOk result Rising }
     ensures texts { IfOk result (All IsUtf8) }
 {

@@ -5,6 +5,7 @@
 
 mod calls;
 mod contents;
+mod file_error;
 mod file_map;
 mod file_shelf;
 mod folders;

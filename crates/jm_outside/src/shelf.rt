@@ -4,8 +4,6 @@ ghost use Rattle.jm_outside.specs.Outcome.{Shows, Told, AsBeforeOrEmpty, AddsFro
 
 use jm_bytes::{List, NoMemory, Text};
 use std::alloc::{AllocError, AllocFailed, Global};
-use std::io;
-use std::io::ErrorKind;
 use thiserror::Error;
 
 /// Why a call of a shelf gave up.
@@ -47,21 +45,6 @@ impl<T: Drop> From<AllocFailed<T>> for ShelfError {
 
     fn from(_: AllocFailed<T>) -> ShelfError {
         ShelfError::Memory
-    }
-}
-
-/// What the system answered: `Memory` where it found none, and else `Failed`.
-impl From<io::Error> for ShelfError {
-    ghost use Rattle.std.specs.IoError.{error_kind};
-    ghost use Rattle.jm_outside.specs.Answers.{shelf_error_of};
-
-    ghost from_gives = { λ error e. e ≡ shelf_error_of (error_kind error) };
-
-    fn from(error: io::Error) -> ShelfError {
-        match error.kind() {
-            ErrorKind::OutOfMemory => ShelfError::Memory,
-            _ => ShelfError::Failed,
-        }
     }
 }
 

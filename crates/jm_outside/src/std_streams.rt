@@ -2,6 +2,7 @@ ghost use Rattle.std.specs.Prelude.{◌≡◌, None};
 
 use crate::streams::{Failed, Sink, SinkError, Source};
 use std::alloc::Global;
+use std::io;
 use std::io::{ErrorKind, Read, Write};
 
 /// The source of the bytes that a stream of the system gives, as the standard input: it tells no
@@ -10,14 +11,25 @@ use std::io::{ErrorKind, Read, Write};
 pub struct StdSource<R: Read + Drop> {
     input: R,
     faults: u64,
+    last_failure: Option<io::Error>,
 }
 
 /// The sink of a stream of the system, as the standard output or error: it tells no content. It
-/// goes on after a write that took only a part, and flushes what it has put.
+/// goes on after a write that took only a part, and flushes what it has put. It answers `Memory`
+/// where the system found none.
 #[derive(Drop)]
 pub struct StdSink<W: Write + Drop> {
     output: W,
     faults: u64,
+    last_failure: Option<io::Error>,
+}
+
+/// The kind of an error, if there is one.
+fn kind_of(error: &Option<io::Error>) -> Option<ErrorKind> {
+    match error {
+        Some(error) => Some(error.kind()),
+        None => None,
+    }
 }
 
 impl<R: Read + Drop> StdSource<R> {
@@ -25,7 +37,16 @@ impl<R: Read + Drop> StdSource<R> {
     pub fn new(input: R) -> StdSource<R>
         ensures { ⟦<StdSource<R> as Source>⟧.faults result ≡ 0 }
     {
-        StdSource { input, faults: 0 }
+        StdSource {
+            input,
+            faults: 0,
+            last_failure: None,
+        }
+    }
+
+    /// For a user: what the system said in the last call that answered `Failed`.
+    pub fn last_failure(&self) -> Option<ErrorKind> {
+        kind_of(&self.last_failure)
     }
 }
 
@@ -39,7 +60,10 @@ impl<R: Read + Drop> Source for StdSource<R> {
             match self.input.read(into) {
                 Ok(count) => return Ok(count),
                 Err(e) if e.kind() == ErrorKind::Interrupted => {}
-                Err(_) => break,
+                Err(e) => {
+                    self.last_failure = Some(e);
+                    break;
+                }
             }
         }
         self.faults = self.faults.saturating_add(1);
@@ -52,7 +76,24 @@ impl<W: Write + Drop> StdSink<W> {
     pub fn new(output: W) -> StdSink<W>
         ensures { ⟦<StdSink<W> as Sink>⟧.faults result ≡ 0 }
     {
-        StdSink { output, faults: 0 }
+        StdSink {
+            output,
+            faults: 0,
+            last_failure: None,
+        }
+    }
+
+    /// For a user: what the system said in the last call that answered `Failed`.
+    pub fn last_failure(&self) -> Option<ErrorKind> {
+        kind_of(&self.last_failure)
+    }
+
+    /// Writes all bytes and hands them on to the system.
+    fn write(&mut self, bytes: &[u8]) -> io::Result<()>
+        ensures { self.new.faults ≡ self.old.faults }
+    {
+        self.output.write_all(bytes)?;
+        self.output.flush()
     }
 }
 
@@ -62,10 +103,14 @@ impl<W: Write + Drop> Sink for StdSink<W> {
     ghost faults = { λ sink. sink.faults };
 
     fn put(&mut self, _alloc: Global, bytes: &[u8]) -> Result<(), SinkError> {
-        if self.output.write_all(bytes).is_ok() && self.output.flush().is_ok() {
-            return Ok(());
+        match self.write(bytes) {
+            Ok(()) => Ok(()),
+            Err(e) if e.kind() == ErrorKind::OutOfMemory => Err(SinkError::Memory),
+            Err(e) => {
+                self.faults = self.faults.saturating_add(1);
+                self.last_failure = Some(e);
+                Err(SinkError::Failed)
+            }
         }
-        self.faults = self.faults.saturating_add(1);
-        Err(SinkError::Failed)
     }
 }

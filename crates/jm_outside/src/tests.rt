@@ -175,6 +175,10 @@ fn a_shelf_of_the_system_keeps_a_tree(rt: HostRuntime) -> Result<(), Fail> {
     assert!(rt; keeps_a_tree(rt.alloc(), &mut shelf));
     make_links(&rt)?;
     assert!(rt; keeps_links(rt.alloc(), &mut shelf));
+    assert!(rt; shelf.last_failure() == Some("e/a: entity not found"));
+    assert!(rt; names_mark(rt.alloc(), &mut shelf, "d/a b") == b'.');
+    assert!(rt; read_mark(rt.alloc(), &mut shelf, "d/empty") == b'!');
+    assert!(rt; shelf.last_failure() == Some("d/empty: is a directory"));
     fs::remove_dir_all(&rt, own)?;
     Ok(())
 }
@@ -344,4 +348,6 @@ fn streams_that_halt_are_faults(rt: HostRuntime) {
     assert!(rt; gives(rt.alloc(), &mut source, 2, b"x|!|"));
     let mut sink = StdSink::new(Halting { turn: 0 });
     assert!(rt; put_marks(rt.alloc(), &mut sink) == *b".!!");
+    assert!(rt; source.last_failure() == Some(ErrorKind::PermissionDenied));
+    assert!(rt; sink.last_failure() == Some(ErrorKind::WriteZero));
 }
