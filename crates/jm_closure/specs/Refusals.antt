@@ -1,0 +1,103 @@
+-- What a closure of modules is refused for (this project's rule), each with the least values that
+-- show it. `Chosen` says which modules the closure has, by their places.
+use Rattle.std.specs.Prelude.{ℕ, ◌+◌, ◌≡◌, ◌≢◌, ◌↔◌, List, Some, Contains, IsTrue, Result, Ok, Err, slice_get}
+use Rattle.std.specs.Cmp.Lexicographic.{slice_cmp}
+use Rattle.std.specs.Ordering.{is_le, is_lt, nat_cmp}
+use Rattle.jm_closure.specs.declared.candidate.Candidate.{Candidate}
+use Rattle.jm_closure.specs.declared.error.CloseError.{CloseError}
+use Rattle.jm_closure.specs.declared.error.CloseError.TheVariants as refusal
+use Rattle.jm_closure.specs.Modules.{name_of, HasName, HasPackage, IsFound, ReachesItself, RequiresName}
+
+-- in byte order, a proper prefix first
+abbrev pub IsAtMost : List ℕ → List ℕ → Type 0
+IsAtMost a b = IsTrue (is_le (slice_cmp nat_cmp a b))
+
+-- the least text of those with a property
+abbrev pub IsLeast : (List ℕ → Type 0) → List ℕ → Type 0
+IsLeast P text = P text × ((other : List ℕ) → P other → IsAtMost text other)
+
+-- no text has it
+abbrev pub IsNone : (List ℕ → Type 0) → Type 0
+IsNone P = (text : List ℕ) → ¬ P text
+
+-- 1: a root isn't found
+
+abbrev pub IsLostRoot : List Candidate → List (List ℕ) → List ℕ → Type 0
+IsLostRoot found roots name = Contains roots name × ¬ IsFound found name
+
+-- 2: a chosen module requires without `static` what isn't found
+
+abbrev pub Lacks : List Candidate → (ℕ → Type 0) → List ℕ → List ℕ → Type 0
+Lacks found Chosen name by =
+    (i : ℕ) × Chosen i × HasName found i by × RequiresName found i name × ¬ IsFound found name
+
+abbrev pub IsLacking : List Candidate → (ℕ → Type 0) → List ℕ → Type 0
+IsLacking found Chosen name = (by : List ℕ) × Lacks found Chosen name by
+
+-- 3: a chosen module reaches itself
+
+abbrev pub IsOnCycle : List Candidate → (ℕ → Type 0) → List ℕ → Type 0
+IsOnCycle found Chosen name =
+    (i : ℕ) × Chosen i × HasName found i name × ReachesItself found i
+
+-- 4: two chosen modules have the same class package
+
+abbrev pub Holds : List Candidate → (ℕ → Type 0) → List ℕ → List ℕ → Type 0
+Holds found Chosen shared name =
+    (i : ℕ) × Chosen i × HasName found i name × HasPackage found i shared
+
+-- a module of this name and one of another name hold it
+abbrev pub IsShared : List Candidate → (ℕ → Type 0) → List ℕ → List ℕ → Type 0
+IsShared found Chosen shared name =
+    (other : List ℕ) × (name ≢ other)
+    × Holds found Chosen shared name × Holds found Chosen shared other
+
+abbrev pub IsSplit : List Candidate → (ℕ → Type 0) → List ℕ → Type 0
+IsSplit found Chosen shared = (name : List ℕ) × IsShared found Chosen shared name
+
+-- the package, and the two least modules that hold it
+pub record SplitsAt (found : List Candidate) (Chosen : ℕ → Type 0)
+    (shared first second : List ℕ) : Type 0 where
+  pub least : IsLeast (IsSplit found Chosen) shared
+  pub holder : IsLeast (Holds found Chosen shared) first
+  pub another : IsLeast (λ name. (name ≢ first) × Holds found Chosen shared name) second
+
+-- none of the four, each by itself
+
+abbrev pub RootsFound : List Candidate → List (List ℕ) → Type 0
+RootsFound found roots = IsNone (IsLostRoot found roots)
+
+abbrev pub NeedsFound : List Candidate → (ℕ → Type 0) → Type 0
+NeedsFound found Chosen = IsNone (IsLacking found Chosen)
+
+abbrev pub IsAcyclic : List Candidate → (ℕ → Type 0) → Type 0
+IsAcyclic found Chosen = IsNone (IsOnCycle found Chosen)
+
+abbrev pub IsUnsplit : List Candidate → (ℕ → Type 0) → Type 0
+IsUnsplit found Chosen = IsNone (IsSplit found Chosen)
+
+-- these are the places of exactly the chosen modules, rising by name
+pub record AreChosen (found : List Candidate) (Chosen : ℕ → Type 0) (places : List ℕ) : Type 0 where
+  pub exactly : (i : ℕ) → Contains places i ↔ Chosen i
+  pub rising : (k : ℕ) (i j : ℕ) (a b : Candidate)
+      → slice_get places k ≡ Some i → slice_get places (k + 1) ≡ Some j
+      → slice_get found i ≡ Some a → slice_get found j ≡ Some b
+      → IsTrue (is_lt (slice_cmp nat_cmp (name_of a) (name_of b)))
+
+-- the answer: the places, or the first refusal that holds, with its least values; want of memory says
+-- nothing
+abbrev pub Closes : List Candidate → List (List ℕ) → (ℕ → Type 0)
+    → Result (List ℕ) CloseError → Type 0
+Closes found roots Chosen (Ok places) =
+    RootsFound found roots × NeedsFound found Chosen × IsAcyclic found Chosen
+    × IsUnsplit found Chosen × AreChosen found Chosen places
+Closes found roots Chosen (Err (refusal.NoRoot name)) = IsLeast (IsLostRoot found roots) name
+Closes found roots Chosen (Err (refusal.Missing name by)) =
+    RootsFound found roots
+    × IsLeast (IsLacking found Chosen) name × IsLeast (Lacks found Chosen name) by
+Closes found roots Chosen (Err (refusal.Cycle name)) =
+    RootsFound found roots × NeedsFound found Chosen × IsLeast (IsOnCycle found Chosen) name
+Closes found roots Chosen (Err (refusal.SplitPackage shared first second)) =
+    RootsFound found roots × NeedsFound found Chosen × IsAcyclic found Chosen
+    × SplitsAt found Chosen shared first second
+Closes found roots Chosen (Err refusal.Memory) = Unit {0}

@@ -1,0 +1,32 @@
+ghost use Rattle.std.specs.Prelude.{◌≡◌};
+
+use jm_bytes::{NoMemory, Text};
+
+/// Why some modules can't be linked, with the least names that show it.
+#[derive(Debug, Drop)]
+pub enum CloseError {
+    /// No module of this name is found, and it is a root.
+    NoRoot(Text),
+    /// No module of this name is found, and the module `by` requires it without `static`.
+    Missing { name: Text, by: Text },
+    /// This module reaches itself by one or more requires without `static`.
+    Cycle(Text),
+    /// Two modules have classes in this package.
+    SplitPackage {
+        package: Text,
+        first: Text,
+        second: Text,
+    },
+    /// No memory was found.
+    Memory,
+}
+
+impl From<NoMemory> for CloseError {
+    ghost use Rattle.jm_closure.specs.declared.error.CloseError.TheVariants.{Memory};
+
+    ghost from_gives = { λ _ e. e ≡ Memory };
+
+    fn from(_: NoMemory) -> CloseError {
+        CloseError::Memory
+    }
+}

@@ -1,0 +1,67 @@
+ghost use Rattle.std.specs.Prelude.{◌≡◌};
+ghost use Rattle.jm_modinfo.specs.Flags.{is_static};
+
+use jm_bytes::{List, Text};
+
+/// What a module's descriptor says. Names are the texts that its constants hold, in Modified UTF-8.
+#[derive(Debug, Drop)]
+pub struct Descriptor {
+    /// The module's name.
+    pub name: Text,
+    /// Its version, if it has one.
+    pub version: Option<Text>,
+    /// Its flags: 0x0020 for an open module.
+    pub flags: u16,
+    /// The modules that it requires, in the order in which they stand.
+    pub needs: List<Need>,
+    /// The packages that it exports.
+    pub exports: List<Opened>,
+    /// The packages that it opens.
+    pub opens: List<Opened>,
+    /// The services that it uses.
+    pub uses: List<Text>,
+    /// The services that it provides.
+    pub provides: List<Provides>,
+    /// Its main class, if it has one.
+    pub main: Option<Text>,
+}
+
+/// A module that another one requires.
+#[derive(Debug, Drop)]
+pub struct Need {
+    /// The name of the module that is required.
+    pub name: Text,
+    /// 0x0020 transitive, 0x0040 static, 0x1000 synthetic, 0x8000 mandated.
+    pub flags: u16,
+    /// The version that it was compiled with, if that is known.
+    pub version: Option<Text>,
+}
+
+impl Need {
+    /// The module is required where it is there, and may be missing (`requires static`).
+    pub fn is_static(&self) -> bool
+        ensures { result ≡ is_static self.now.flags }
+    {
+        self.flags & 0x0040 != 0
+    }
+}
+
+/// A package that a module exports or opens.
+#[derive(Debug, Drop)]
+pub struct Opened {
+    /// The package, with slashes between its parts.
+    pub package: Text,
+    /// 0x1000 synthetic, 0x8000 mandated.
+    pub flags: u16,
+    /// The modules to which alone it is exported or opened; none for all.
+    pub to: List<Text>,
+}
+
+/// A service that a module provides.
+#[derive(Debug, Drop)]
+pub struct Provides {
+    /// The service, the name of a class with slashes between its parts.
+    pub service: Text,
+    /// The classes that provide it.
+    pub classes: List<Text>,
+}
