@@ -1,6 +1,7 @@
 -- The definitions at examples: they compute.
-use Rattle.std.proofs.Common.{◌≡◌, ◌∷◌, [], Ok, Err, refl}
+use Rattle.std.proofs.Common.{◌≡◌, ◌∷◌, [], true, false, Ok, Err, refl}
 use Rattle.std.specs.Prelude.{codes}
+use Rattle.jm_pattern.specs.ComputedMatching.{matches}
 use Rattle.jm_pattern.specs.ComputedReading.{pattern_of}
 use Rattle.jm_pattern.specs.Items.{items_of, list_of}
 use Rattle.jm_pattern.specs.declared.signs.Sign.TheVariants.{AnyRun, Run, One, Byte}
@@ -28,3 +29,13 @@ refused = refl
 
 glob-once : list_of (codes "glob:@,\\,") ≡ Ok ((Byte 64 ∷ []) ∷ (Byte 44 ∷ []) ∷ [])
 glob-once = refl
+
+-- `**/x*y/?` at two names
+runs-matched : matches (AnyRun ∷ Byte 47 ∷ Byte 120 ∷ Run ∷ Byte 121 ∷ Byte 47 ∷ One ∷ []) (codes "/x/xy/xwy/z") ≡ true
+runs-matched = refl
+
+slash-left : matches (AnyRun ∷ Byte 47 ∷ Byte 120 ∷ Run ∷ Byte 121 ∷ Byte 47 ∷ One ∷ []) (codes "/x/xw/y/z") ≡ false
+slash-left = refl
+
+nothing-matched : matches [] [] ≡ true
+nothing-matched = refl

@@ -1,3 +1,4 @@
+pub mod ComputedMatchingLaws
 pub mod ComputedReadingLaws
 pub mod Examples
 pub mod FirstItem

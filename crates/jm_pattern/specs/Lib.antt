@@ -1,3 +1,4 @@
+pub mod ComputedMatching
 pub mod ComputedReading
 pub mod Items
 pub mod Matching

@@ -1,5 +1,6 @@
 ghost use Rattle.std.specs.Prelude.{◌≡◌, ◌↔◌, IsTrue, IfOk, All, codes};
 ghost use Rattle.jm_pattern.specs.Matching.{Match, MatchesOnly, MatchesAll};
+ghost use Rattle.jm_pattern.specs.ComputedMatching.{matches};
 ghost use Rattle.jm_pattern.specs.ComputedReading.{UnlessMemory, pattern_of};
 ghost use Rattle.jm_pattern.specs.Reading.{IsPlain};
 
@@ -79,7 +80,8 @@ impl Pattern {
 
     /// Whether the whole of `name` is a concatenation of what the signs stand for.
     pub fn matches(&self, name: &[u8]) -> bool
-        ensures { IsTrue result ↔ Match self.now name.now }
+        ensures rule { IsTrue result ↔ Match self.now name.now }
+        ensures value { result ≡ matches self.now name.now }
     {
         is_match(self.signs.as_slice(), name)
     }
