@@ -1,3 +1,5 @@
+pub mod PathLaws
 pub mod ReadingLaws
+pub mod TextLaws
 pub mod ValueLaws
 pub mod Vectors

@@ -1,5 +1,6 @@
 pub mod Commands
 pub mod FaultText
+pub mod Paths
 pub mod Reading
 pub mod Rows
 pub mod Tables

@@ -1,10 +1,11 @@
-ghost use Rattle.std.specs.Prelude.{◌≡◌, ◌≤◌, ◌-◌, ◌^◌, codes, map, option_map, string_bytes, IfOk};
+ghost use Rattle.std.specs.Prelude.{◌≡◌, ◌<◌, ◌≤◌, ◌-◌, ◌^◌, codes, map, option_map, string_bytes, IfOk};
 ghost use Rattle.std.specs.List.{filter_map, find};
 ghost use Rattle.std.specs.Str.{bytes_eq};
 ghost use Rattle.jm_words.specs.Tables.{verb_name};
 ghost use Rattle.jm_words.specs.Values.{without_slashes};
 ghost use Rattle.jm_names.specs.UtfForms.{modified};
 ghost use Rattle.jm_words.specs.Commands.{command_in, command_of, include_of, jobs_of, look, module_path, number_or_low, plugin_of, text_of, verb_named};
+ghost use Rattle.jm_words.specs.Paths.{FilePathsAreText, jobs_in};
 ghost use Rattle.jm_words.specs.Reading.{UnlessMemory};
 
 use crate::errors::{WordsError, WordsKind};
@@ -87,7 +88,9 @@ pub enum Command {
 /// Reads the words behind the program's name: the command that they make, or their first fault. A
 /// fault has the number of its word, from 1; a missing argument or option has that of all words.
 pub fn read_words(alloc: Global, words: &[String]) -> Result<Command, WordsError>
-    ensures { UnlessMemory result (command_in (map string_bytes words.now)) }
+    ensures command { UnlessMemory result (command_in (map string_bytes words.now)) }
+    ensures paths { IfOk result FilePathsAreText }
+    ensures jobs { IfOk result (λ command. 0 < jobs_in command) }
 {
     let (name, behind) = match words.split_first() {
         Some((name, behind)) => (name, behind),
