@@ -1,3 +1,4 @@
 pub mod Gotten
+pub mod Made
 pub mod RunLaws
 pub mod StepLaws

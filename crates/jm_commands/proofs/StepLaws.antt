@@ -1,6 +1,7 @@
 -- What a step does, from what its calls answered.
-use Rattle.std.proofs.Common.{◌≡◌, ◌≤◌, ℕ, Bool, true, false, List, Option, Some, None, is_some, Result, Ok, Err, inl, refl, ap, IsErrAnd, IsErrOf}
+use Rattle.std.proofs.Common.{◌≡◌, ◌≤◌, ℕ, Bool, true, false, List, [], Option, Some, None, is_some, Result, Ok, Err, inl, inr, refl, sym, ap, ◌∙◌, subst, IsErrAnd, IsErrOf}
 use Rattle.jm_form.specs.declared.rows.Row.{Row}
+use Rattle.jm_names.specs.UtfForms.{utf}
 use Rattle.jm_outside.specs.Files.{Files, file}
 use Rattle.jm_outside.specs.Outcome.{Rose}
 use Rattle.jm_bytes.specs.declared.texts.Text.{Text}
@@ -8,53 +9,175 @@ use Rattle.jm_outside.specs.declared.shelf.ShelfError.{ShelfError}
 use Rattle.jm_outside.specs.declared.shelf.ShelfError.TheVariants as shelf_error
 use Rattle.jm_outside.specs.declared.streams.SinkError.{SinkError}
 use Rattle.jm_outside.specs.declared.streams.SinkError.TheVariants as sink_error
+use Rattle.jm_words.specs.declared.commands.Command.{Command}
+use Rattle.jm_words.specs.declared.errors.WordsError.{WordsError}
+use Rattle.jm_words.specs.declared.errors.WordsError.TheVariants as error
+use Rattle.jm_words.specs.declared.errors.WordsKind.{WordsKind}
+use Rattle.jm_words.specs.Reading.{UnlessMemory}
 use Rattle.jm_commands.specs.declared.complaint.Complaint.{Complaint}
+use Rattle.jm_commands.specs.declared.complaint.Complaint.TheVariants as complaint
 use Rattle.jm_commands.specs.declared.stop.Stop.{Stop}
 use Rattle.jm_commands.specs.declared.stop.Stop.TheVariants as stop
 use Rattle.jm_commands.specs.Cat.{content_of}
-use Rattle.jm_commands.specs.Outcome.{Outcome, entry_outcome, not_there}
-use Rattle.jm_commands.specs.Run.{HasFile, PutDoes, StepDoes, outcome_of}
+use Rattle.jm_commands.specs.Outcome.{Outcome, built_outcome, cat_outcome, command_outcome, done, faulty, file_outcome, image_path, is_built, not_there, plain_outcome, unbuilt}
+use Rattle.jm_commands.specs.Run.{AnswersAll, CommandComesTo, ComesTo, HasFile, PutDoes, ReadDoes, StepDoes, outcome_of, status_of}
 use Rattle.jm_commands.specs.Sinks.{Gets, GetsFront, Seen}
-use Rattle.jm_commands.proofs.Gotten.{front_of_nothing}
-use Rattle.jm_commands.specs.Stops.{stop_of_shelf, stop_of_sink}
-
--- the content was put
-pub content_put : (found : Option (Row × List ℕ)) (name : List ℕ) (out new_out : Seen (List ℕ)) → true ≡ is_some found → Gets (content_of found) out new_out → out.faults ≤ new_out.faults → PutDoes (entry_outcome name found) (Ok tt) out new_out
-content_put None name out new_out there put count = cc
-content_put (Some found) name out new_out there put count = record { answers = refl; output = put; count = count; outside = λ failed. cc }
-
--- there is no content to put
-pub nothing_put : (found : Option (Row × List ℕ)) (name : List ℕ) (complaint : Complaint) (out new_out : Seen (List ℕ)) → false ≡ is_some found → not_there name ≡ outcome_of complaint → new_out.told ≡ out.told → out.faults ≤ new_out.faults → PutDoes (entry_outcome name found) (Err (stop.Complaint complaint)) out new_out
-nothing_put None name complaint out new_out there is unput count = record { answers = is; output = unput; count = count; outside = λ failed. cc }
-nothing_put (Some found) name complaint out new_out there is unput count = cc
+use Rattle.jm_commands.specs.Stops.{stop_of_shelf, stop_of_sink, unbuilt_stop}
+use Rattle.jm_commands.specs.Texts.{line_of}
+use Rattle.jm_commands.specs.Writes.{Makes}
+use Rattle.jm_commands.proofs.Gotten.{front_of_nothing, gets_nothing}
+use Rattle.jm_commands.proofs.Made.{front_of_none, makes_nothing}
 
 -- an error of a step, by what it was made of
 pub from_stop : (answer : Result (Unit {0}) Stop) (is : Stop) → IsErrAnd answer (λ stop. stop ≡ is) → answer ≡ Err is
 from_stop (Ok _) is gives = absurd gives
 from_stop (Err stop) is gives = ap (λ s. Err s) gives
 
-abbrev pub failed_put : SinkError → Result Bool SinkError
-failed_put error = Err error
+-- Steps that only put
 
--- a put of the content failed
-pub put_failed : (found : Option (Row × List ℕ)) (name : List ℕ) (error : SinkError) (out new_out : Seen (List ℕ)) → is_some found ≡ true → GetsFront (content_of found) out new_out → out.faults ≤ new_out.faults → (IsErrOf (failed_put error) sink_error.Failed → Rose out.faults new_out.faults) → PutDoes (entry_outcome name found) (Err (stop_of_sink error)) out new_out
-put_failed None name error out new_out there put count rose = cc
-put_failed (Some found) name sink_error.Failed out new_out there put count rose = record { answers = tt; output = put; count = count; outside = λ failed. rose refl }
-put_failed (Some found) name sink_error.Memory out new_out there put count rose = record { answers = tt; output = put; count = count; outside = λ failed. cc }
+-- nothing was put for want of memory
+pub no_memory : (due : Outcome) (out new_out : Seen (List ℕ)) → new_out.told ≡ out.told → PutDoes due (Err stop.Memory) out new_out
+no_memory due out new_out unput = record { answers = tt; output = front_of_nothing due.output out new_out unput; outside = λ failed. cc }
+
+no_output : (given : Complaint) → (outcome_of given).output ≡ []
+no_output (complaint.Words fault) = refl
+no_output (complaint.Damaged damage) = refl
+no_output (complaint.NotThere text) = refl
+
+-- nothing was put, and a complaint is all
+pub complained : (due : Outcome) (given : Complaint) (out new_out : Seen (List ℕ)) → due ≡ outcome_of given → new_out.told ≡ out.told → PutDoes due (Err (stop.Complaint given)) out new_out
+complained due given out new_out is unput = record {
+  answers = is;
+  output = subst (λ (text : List ℕ). Gets text out new_out) (sym (ap (λ o. o.output) is ∙ no_output given)) (gets_nothing out new_out unput);
+  outside = λ failed. cc;
+}
+
+-- `cat`
+
+-- the content was put
+pub content_put : (found : Option (Row × List ℕ)) (name : List ℕ) (out new_out : Seen (List ℕ)) → true ≡ is_some found → Gets (content_of found) out new_out → PutDoes (cat_outcome name found) (Ok tt) out new_out
+content_put None name out new_out there put = cc
+content_put (Some found) name out new_out there put = record { answers = refl; output = put; outside = λ failed. cc }
+
+-- there is no content to put
+pub nothing_found : (found : Option (Row × List ℕ)) (name : List ℕ) → false ≡ is_some found → cat_outcome name found ≡ not_there (utf name)
+nothing_found None name there = refl
+nothing_found (Some found) name there = cc
+
+-- Steps that read
 
 -- what a shelf has at a path, whether it tells its files or not
-abbrev pub told_file : Option Files → List ℕ → Option (List ℕ)
+abbrev pub told_file : Option Files → Option (List ℕ) → Option (List ℕ)
 told_file None path = None
-told_file (Some files) path = file files path
+told_file (Some files) None = None
+told_file (Some files) (Some path) = file files path
 
-pub has_told_file : (told : Option Files) (path : List ℕ) → HasFile told path (told_file told path)
-has_told_file None path = tt
-has_told_file (Some files) path = refl
-
-abbrev pub failed_read : ShelfError → Result (Option Text) ShelfError
-failed_read error = Err error
+pub has_told_file : (told : Option Files) (path : Option (List ℕ)) → HasFile told path (told_file told path)
+has_told_file told None = tt
+has_told_file None (Some path) = tt
+has_told_file (Some files) (Some path) = refl
 
 -- a read failed; nothing was put
-pub read_failed : (due : Outcome) (error : ShelfError) (shelf new_shelf : Seen Files) (out : Seen (List ℕ)) → new_shelf.told ≡ shelf.told → (IsErrOf (failed_read error) shelf_error.Failed → Rose shelf.faults new_shelf.faults) → StepDoes due (Err (stop_of_shelf error)) shelf new_shelf out out
+pub read_failed : (due : Outcome) (error : ShelfError) (shelf new_shelf : Seen Files) (out : Seen (List ℕ)) → new_shelf.told ≡ shelf.told → (error ≡ shelf_error.Failed → Rose shelf.faults new_shelf.faults) → ReadDoes due (Err (stop_of_shelf error)) shelf new_shelf out out
 read_failed due shelf_error.Failed shelf new_shelf out files rose = record { answers = tt; output = front_of_nothing due.output out out refl; files = files; outside = λ failed. inl (rose refl) }
 read_failed due shelf_error.Memory shelf new_shelf out files rose = record { answers = tt; output = front_of_nothing due.output out out refl; files = files; outside = λ failed. cc }
+
+-- a put behind a read
+pub read_and_put : (due : Outcome) (answer : Result (Unit {0}) Stop) (shelf new_shelf : Seen Files) (out new_out : Seen (List ℕ)) → new_shelf.told ≡ shelf.told → PutDoes due answer out new_out → ReadDoes due answer shelf new_shelf out new_out
+read_and_put due answer shelf new_shelf out new_out files put = record { answers = put.answers; output = put.output; files = files; outside = λ failed. inr (put.outside failed) }
+
+-- Any step
+
+complaint_status : (given : Complaint) → (outcome_of given).status ≡ status_of given
+complaint_status (complaint.Words fault) = refl
+complaint_status (complaint.Damaged damage) = refl
+complaint_status (complaint.NotThere text) = refl
+
+complaint_line : (given : Complaint) → (outcome_of given).line ≡ line_of given
+complaint_line (complaint.Words fault) = refl
+complaint_line (complaint.Damaged damage) = refl
+complaint_line (complaint.NotThere text) = refl
+
+complaint_writes : (given : Complaint) → (outcome_of given).writes ≡ []
+complaint_writes (complaint.Words fault) = refl
+complaint_writes (complaint.Damaged damage) = refl
+complaint_writes (complaint.NotThere text) = refl
+
+-- a step that makes no file
+pub step_of_read : (due : Outcome) (answer : Result (Unit {0}) Stop) (shelf new_shelf : Seen Files) (out new_out : Seen (List ℕ)) → ReadDoes due answer shelf new_shelf out new_out → StepDoes due answer shelf new_shelf out new_out
+step_of_read due (Ok _) shelf new_shelf out new_out read = record {
+  answers = (ap (λ o. o.status) read.answers, ap (λ o. o.line) read.answers);
+  output = read.output;
+  files = subst (λ (writes : List (List ℕ × List ℕ)). Makes writes shelf new_shelf) (sym (ap (λ o. o.writes) read.answers)) (makes_nothing shelf new_shelf read.files);
+  outside = read.outside;
+}
+step_of_read due (Err (stop.Complaint given)) shelf new_shelf out new_out read = record {
+  answers = (ap (λ o. o.status) read.answers ∙ complaint_status given, ap (λ o. o.line) read.answers ∙ complaint_line given);
+  output = read.output;
+  files = subst (λ (writes : List (List ℕ × List ℕ)). Makes writes shelf new_shelf) (sym (ap (λ o. o.writes) read.answers ∙ complaint_writes given)) (makes_nothing shelf new_shelf read.files);
+  outside = read.outside;
+}
+step_of_read due (Err stop.Outside) shelf new_shelf out new_out read = record { answers = tt; output = read.output; files = front_of_none due.writes shelf new_shelf read.files; outside = read.outside }
+step_of_read due (Err stop.Memory) shelf new_shelf out new_out read = record { answers = tt; output = read.output; files = front_of_none due.writes shelf new_shelf read.files; outside = read.outside }
+
+-- What a command comes to
+
+-- a step does what its command comes to
+abbrev pub CommandDoes : Command → Result (Unit {0}) Stop → (shelf new_shelf : Seen Files) → (out new_out : Seen (List ℕ)) → Type 0
+CommandDoes command answer shelf new_shelf out new_out =
+    (due : Outcome) × CommandComesTo shelf.told command due × StepDoes due answer shelf new_shelf out new_out
+
+module _ (command : Command) (answer : Result (Unit {0}) Stop) (shelf new_shelf : Seen Files) (out new_out : Seen (List ℕ)) where
+  -- from the file that was found, and what is due then
+  step_with : (found : Option (List ℕ)) → HasFile shelf.told (image_path command) found → ReadDoes (command_outcome command found) answer shelf new_shelf out new_out → CommandDoes command answer shelf new_shelf out new_out
+  step_with found has does = (command_outcome command found, (found, has, refl), step_of_read (command_outcome command found) answer shelf new_shelf out new_out does)
+
+  pub image_step : (path : List ℕ) (found : Option (List ℕ)) → is_built command ≡ true → image_path command ≡ Some path → HasFile shelf.told (Some path) found → ReadDoes (file_outcome command path found) answer shelf new_shelf out new_out → CommandDoes command answer shelf new_shelf out new_out
+  image_step path found built is has does =
+      let due : command_outcome command found ≡ file_outcome command path found = rw built (ap (λ p. built_outcome command p found) is) in
+      step_with found (rw is has) (rw due does)
+
+  pub plain_step : is_built command ≡ true → image_path command ≡ None → new_shelf.told ≡ shelf.told → PutDoes (plain_outcome command) answer out new_out → CommandDoes command answer shelf new_shelf out new_out
+  plain_step built is files does =
+      let found = told_file shelf.told (image_path command) in
+      let due : command_outcome command found ≡ plain_outcome command = rw built (ap (λ p. built_outcome command p found) is) in
+      step_with found (has_told_file shelf.told (image_path command)) (rw due (read_and_put (plain_outcome command) answer shelf new_shelf out new_out files does))
+
+  pub unbuilt_step : is_built command ≡ false → answer ≡ Err unbuilt_stop → new_shelf.told ≡ shelf.told → new_out.told ≡ out.told → CommandDoes command answer shelf new_shelf out new_out
+  unbuilt_step fails is files unput =
+      let found = told_file shelf.told (image_path command) in
+      let due : command_outcome command found ≡ unbuilt = rw fails refl in
+      step_with found (has_told_file shelf.told (image_path command)) (rw (due, is) (read_and_put unbuilt (Err unbuilt_stop) shelf new_shelf out new_out files (complained unbuilt _ out new_out refl unput)))
+
+-- All words
+
+abbrev pub WordsDo : Result Command WordsError → Result (Unit {0}) Stop → (shelf new_shelf : Seen Files) → (out new_out : Seen (List ℕ)) → Type 0
+WordsDo asked answer shelf new_shelf out new_out =
+    (due : Outcome) × ComesTo shelf.told asked due × StepDoes due answer shelf new_shelf out new_out
+
+-- words make no command
+pub words_faulty : (asked : Result Command WordsError) (at : ℕ) (kind : WordsKind) (shelf : Seen Files) (out : Seen (List ℕ)) → UnlessMemory (Err (error.Fault at kind)) asked → WordsDo asked (Err (stop.Complaint (complaint.Words (error.Fault at kind)))) shelf shelf out out
+words_faulty asked at kind shelf out (inl memory) = cc
+words_faulty asked at kind shelf out (inr read) = subst (λ (a : Result Command WordsError). WordsDo a answer shelf shelf out out) read (due, refl, step_of_read due answer shelf shelf out out (read_and_put due answer shelf shelf out out refl (complained due given out out refl refl)))
+  where
+    given : Complaint
+    given = complaint.Words (error.Fault at kind)
+
+    due : Outcome
+    due = faulty (error.Fault at kind)
+
+    answer : Result (Unit {0}) Stop
+    answer = Err (stop.Complaint given)
+
+-- no memory was found for the command
+pub words_unread : (asked : Result Command WordsError) (shelf : Seen Files) (out : Seen (List ℕ)) → WordsDo asked (Err stop.Memory) shelf shelf out out
+words_unread asked shelf out = go asked
+  where
+    does : (due : Outcome) → StepDoes due (Err stop.Memory) shelf shelf out out
+    does due = step_of_read due (Err stop.Memory) shelf shelf out out (read_and_put due (Err stop.Memory) shelf shelf out out refl (no_memory due out out refl))
+
+    go : (asked : Result Command WordsError) → WordsDo asked (Err stop.Memory) shelf shelf out out
+    go (Ok command) =
+        let found = told_file shelf.told (image_path command) in
+        (command_outcome command found, (found, has_told_file shelf.told (image_path command), refl), does (command_outcome command found))
+    go (Err fault) = (faulty fault, refl, does (faulty fault))

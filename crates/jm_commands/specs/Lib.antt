@@ -1,8 +1,11 @@
 pub mod Cat
+pub mod HelpText
+pub mod InfoText
 pub mod Outcome
 pub mod Run
 pub mod Sinks
 pub mod StatusValue
 pub mod Stops
 pub mod Texts
-pub mod Words
+pub mod VerifyText
+pub mod Writes

@@ -1,62 +1,105 @@
--- What a command comes to: plain data, a function of the words and of the file that they name (this
+-- What a command comes to: plain data, a function of the command and of the file that it names (this
 -- project's rule).
-use Rattle.std.specs.Prelude.{ℕ, List, [], ◌∷◌, ◌++◌, Option, Some, None, Result, Ok, Err, codes}
+use Rattle.std.specs.Prelude.{ℕ, Bool, true, false, List, [], ◌∷◌, ◌++◌, Option, Some, None, Result, Ok, Err, if◌then◌else◌, codes}
 use Rattle.jm_form.specs.declared.damage.Damage.{Damage}
 use Rattle.jm_form.specs.declared.rows.Row.{Row}
 use Rattle.jm_form.specs.DamageText.{damage_text}
 use Rattle.jm_form.specs.Damages.{first_damage}
 use Rattle.jm_form.specs.Validity.{look}
+use Rattle.jm_names.specs.UtfForms.{utf}
+use Rattle.jm_words.specs.declared.commands.Command.{Command}
+use Rattle.jm_words.specs.declared.commands.Command.TheVariants as command
+use Rattle.jm_words.specs.declared.errors.WordsError.{WordsError}
+use Rattle.jm_words.specs.declared.errors.WordsError.TheVariants as error
+use Rattle.jm_words.specs.declared.errors.WordsKind.TheVariants as kind
+use Rattle.jm_words.specs.FaultText.{error_text}
 use Rattle.jm_commands.specs.declared.status.Status.{Status}
 use Rattle.jm_commands.specs.declared.status.Status.TheVariants as status
-use Rattle.jm_commands.specs.declared.words.WordsFault.{WordsFault}
-use Rattle.jm_commands.specs.Texts.{fault_text}
-use Rattle.jm_commands.specs.Words.{Asked, asked_of}
+use Rattle.jm_commands.specs.HelpText.{help_text, version_text}
+use Rattle.jm_commands.specs.InfoText.{info_text}
+use Rattle.jm_commands.specs.VerifyText.{verify_text}
 
--- the status, what the output gets, and the line that the error sink gets
+-- the status, what the output gets, the line that the error sink gets, and the files that are
+-- made, each a path and its bytes, one after another
 pub record Outcome : Type 0 where
   pub status : Status
   pub output : List ℕ
   pub line : List ℕ
+  pub writes : List (List ℕ × List ℕ)
 
 abbrev pub done : List ℕ → Outcome
-done output = record { status = status.Done; output = output; line = [] }
+done output = record { status = status.Done; output = output; line = []; writes = [] }
 
 abbrev pub refused : Status → List ℕ → Outcome
-refused status text = record { status = status; output = []; line = text ++ 10 ∷ [] }
+refused status text =
+    record { status = status; output = []; line = text ++ 10 ∷ []; writes = [] }
 
-abbrev pub faulty : WordsFault → Outcome
-faulty fault = refused status.Words (codes "words: " ++ fault_text fault)
+abbrev pub faulty : WordsError → Outcome
+faulty fault = refused status.Words (codes "words: " ++ error_text fault)
 
 abbrev pub damaged : Damage → Outcome
 damaged damage = refused status.Damaged (codes "damaged: " ++ damage_text damage)
 
 abbrev pub not_there : List ℕ → Outcome
-not_there name = refused status.NotThere (codes "not there: " ++ name)
+not_there text = refused status.NotThere (codes "not there: " ++ text)
 
--- `cat`: the content of the entry of that name
+-- The commands
 
-abbrev pub entry_outcome : List ℕ → Option (Row × List ℕ) → Outcome
-entry_outcome name None = not_there name
-entry_outcome name (Some found) = done found.1
+-- `cat`: the content of the entry of that name, by what the look-up found
+abbrev pub cat_outcome : List ℕ → Option (Row × List ℕ) → Outcome
+cat_outcome name None = not_there (utf name)
+cat_outcome name (Some found) = done found.1
 
-abbrev pub image_outcome : List ℕ → List ℕ → Option Damage → Outcome
-image_outcome b name None = entry_outcome name (look b name)
-image_outcome b name (Some damage) = damaged damage
+-- which commands are built yet; another one is as unknown as its name
+abbrev pub is_built : Command → Bool
+is_built (command.Cat image name jobs) = true
+is_built (command.Info image jobs) = true
+is_built (command.Verify image jobs) = true
+is_built (command.Help jobs) = true
+is_built (command.Version jobs) = true
+is_built _ = false
 
-abbrev pub cat_outcome : Asked → Option (List ℕ) → Outcome
-cat_outcome asked None = not_there asked.image
-cat_outcome asked (Some b) = image_outcome b asked.name (first_damage b)
+abbrev pub unbuilt : Outcome
+unbuilt = faulty (error.Fault 1 kind.UnknownCommand)
 
--- Every run: what the words ask for, over what the file that they name holds, if it is there
+-- a command on an image, by the bytes of its file, which have no damage
+abbrev pub image_outcome : Command → List ℕ → Outcome
+image_outcome (command.Cat image name jobs) b = cat_outcome name (look b name)
+image_outcome (command.Info image jobs) b = done (info_text b)
+image_outcome (command.Verify image jobs) b = done (verify_text b)
+image_outcome _ b = unbuilt
 
-abbrev pub asked_outcome : Option (List ℕ) → Result Asked WordsFault → Outcome
-asked_outcome file (Ok asked) = cat_outcome asked file
-asked_outcome file (Err fault) = faulty fault
+abbrev pub opened_outcome : Command → List ℕ → Option Damage → Outcome
+opened_outcome command b None = image_outcome command b
+opened_outcome command b (Some damage) = damaged damage
 
-abbrev pub run_outcome : List (List ℕ) → Option (List ℕ) → Outcome
-run_outcome words file = asked_outcome file (asked_of words)
+-- a command on the image of a path, by its file, if it is there
+abbrev pub file_outcome : Command → List ℕ → Option (List ℕ) → Outcome
+file_outcome command path None = not_there path
+file_outcome command path (Some b) = opened_outcome command b (first_damage b)
 
--- the path of the file that the words name; without a command there is none to read
-abbrev pub asked_path : Result Asked WordsFault → List ℕ
-asked_path (Ok asked) = asked.image
-asked_path (Err fault) = []
+-- the path of the image that a command reads, if it reads one
+abbrev pub image_path : Command → Option (List ℕ)
+image_path (command.Cat image name jobs) = Some image
+image_path (command.List image include jobs) = Some image
+image_path (command.Ls image path jobs) = Some image
+image_path (command.Info image jobs) = Some image
+image_path (command.Extract image dir include jobs) = Some image
+image_path (command.Verify image jobs) = Some image
+image_path (command.Serve image jobs) = Some image
+image_path _ = None
+
+-- a command that reads no image
+abbrev pub plain_outcome : Command → Outcome
+plain_outcome (command.Help jobs) = done help_text
+plain_outcome (command.Version jobs) = done version_text
+plain_outcome _ = unbuilt
+
+-- a command that is built, by the path of its image, and the file there, if it reads one
+abbrev pub built_outcome : Command → Option (List ℕ) → Option (List ℕ) → Outcome
+built_outcome command None file = plain_outcome command
+built_outcome command (Some path) file = file_outcome command path file
+
+abbrev pub command_outcome : Command → Option (List ℕ) → Outcome
+command_outcome command file =
+    if is_built command then built_outcome command (image_path command) file else unbuilt

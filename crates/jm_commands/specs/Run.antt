@@ -1,54 +1,102 @@
 -- What a run did to the outside, said by what its command comes to (this project's rule).
-use Rattle.std.specs.Prelude.{ℕ, ◌≡◌, ◌≤◌, ◌⊎◌, List, Option, Result, Ok, Err}
+use Rattle.std.specs.Prelude.{ℕ, ◌≡◌, ◌≤◌, ◌⊎◌, List, [], Option, Some, None, Result, Ok, Err}
 use Rattle.jm_outside.specs.Files.{Files, file}
 use Rattle.jm_outside.specs.Outcome.{Rose, Shows}
+use Rattle.jm_words.specs.declared.commands.Command.{Command}
+use Rattle.jm_words.specs.declared.errors.WordsError.{WordsError}
 use Rattle.jm_commands.specs.declared.complaint.Complaint.{Complaint}
 use Rattle.jm_commands.specs.declared.complaint.Complaint.TheVariants as complaint
 use Rattle.jm_commands.specs.declared.status.Status.{Status}
-use Rattle.jm_commands.specs.declared.status.Status.TheVariants as ending
+use Rattle.jm_commands.specs.declared.status.Status.TheVariants as status
 use Rattle.jm_commands.specs.declared.stop.Stop.{Stop}
 use Rattle.jm_commands.specs.declared.stop.Stop.TheVariants as stop
+use Rattle.jm_commands.specs.Outcome.{Outcome, command_outcome, damaged, done, faulty, image_path, not_there}
 use Rattle.jm_commands.specs.Sinks.{Seen, Gets, GetsFront}
-use Rattle.jm_commands.specs.Outcome.{Outcome, damaged, done, faulty, not_there}
+use Rattle.jm_commands.specs.Texts.{line_of}
+use Rattle.jm_commands.specs.Writes.{Makes, MakesFront}
 
--- the file of a path, where the files are told
-abbrev pub HasFile : Option Files → List ℕ → Option (List ℕ) → Type 0
-HasFile told path found = Shows told (λ files. found ≡ file files path)
+-- What the words come to
+
+-- the file of a path, where the files are told and there is a path
+abbrev pub HasFile : Option Files → Option (List ℕ) → Option (List ℕ) → Type 0
+HasFile told None found = Unit {0}
+HasFile told (Some path) found = Shows told (λ files. found ≡ file files path)
+
+-- A command that reads one file comes to one outcome, whether the shelf tells its files or not: of a
+-- shelf that tells nothing, to that of some file. A command that reads many files joins here with a
+-- line of its own, over the told files alone.
+abbrev pub CommandComesTo : Option Files → Command → Outcome → Type 0
+CommandComesTo told command due =
+    (found : Option (List ℕ)) × HasFile told (image_path command) found
+    × (due ≡ command_outcome command found)
+
+-- what all words come to: their command, or their first fault
+abbrev pub ComesTo : Option Files → Result Command WordsError → Outcome → Type 0
+ComesTo told (Ok command) due = CommandComesTo told command due
+ComesTo told (Err fault) due = due ≡ faulty fault
 
 -- A step of a run
 
--- what a complaint comes to
-abbrev pub outcome_of : Complaint → Outcome
-outcome_of (complaint.Words fault) = faulty fault
-outcome_of (complaint.Damaged damage) = damaged damage
-outcome_of (complaint.NotThere name) = not_there name.now
+abbrev pub status_of : Complaint → Status
+status_of (complaint.Words fault) = status.Words
+status_of (complaint.Damaged damage) = status.Damaged
+status_of (complaint.NotThere text) = status.NotThere
 
--- the step's answer is the outcome's, unless the outside failed or no memory was found
+-- the step's answer is that of the outcome, unless the outside failed or no memory was found
 abbrev pub Answers : Outcome → Result (Unit {0}) Stop → Type 0
-Answers due (Ok _) = due ≡ done due.output
-Answers due (Err (stop.Complaint complaint)) = due ≡ outcome_of complaint
+Answers due (Ok _) = (due.status ≡ status.Done) × (due.line ≡ [])
+Answers due (Err (stop.Complaint complaint)) =
+    (due.status ≡ status_of complaint) × (due.line ≡ line_of complaint)
 Answers due (Err stop.Outside) = Unit {0}
 Answers due (Err stop.Memory) = Unit {0}
 
--- the output is whole where the step did its work, and a front of it where it stopped
+-- the output is whole, but a front of it where the outside failed or no memory was found
 abbrev pub Outputs : Result (Unit {0}) Stop → List ℕ → Seen (List ℕ) → Seen (List ℕ) → Type 0
 Outputs (Ok _) output old new = Gets output old new
-Outputs (Err (stop.Complaint complaint)) output old new = new.told ≡ old.told
+Outputs (Err (stop.Complaint complaint)) output old new = Gets output old new
 Outputs (Err stop.Outside) output old new = GetsFront output old new
 Outputs (Err stop.Memory) output old new = GetsFront output old new
 
--- a step that puts to the output alone, where this is what the command comes to
-pub record PutDoes (due : Outcome) (answer : Result (Unit {0}) Stop)
-    (out new_out : Seen (List ℕ)) : Type 0 where
-  pub answers : Answers due answer
-  pub output : Outputs answer due.output out new_out
-  pub count : out.faults ≤ new_out.faults
-  pub outside : answer ≡ Err stop.Outside → Rose out.faults new_out.faults
+-- so are the files that are made
+abbrev pub Writes : Result (Unit {0}) Stop → List (List ℕ × List ℕ) → Seen Files → Seen Files → Type 0
+Writes (Ok _) writes old new = Makes writes old new
+Writes (Err (stop.Complaint complaint)) writes old new = Makes writes old new
+Writes (Err stop.Outside) writes old new = MakesFront writes old new
+Writes (Err stop.Memory) writes old new = MakesFront writes old new
 
--- a step that reads the shelf besides; no file changes
+-- any step, where this is what the command comes to
 pub record StepDoes (due : Outcome) (answer : Result (Unit {0}) Stop)
     (shelf new_shelf : Seen Files) (out new_out : Seen (List ℕ)) : Type 0 where
   pub answers : Answers due answer
+  pub output : Outputs answer due.output out new_out
+  pub files : Writes answer due.writes shelf new_shelf
+  pub outside : answer ≡ Err stop.Outside →
+      (Rose shelf.faults new_shelf.faults) ⊎ (Rose out.faults new_out.faults)
+
+-- what a complaint comes to by itself
+abbrev pub outcome_of : Complaint → Outcome
+outcome_of (complaint.Words fault) = faulty fault
+outcome_of (complaint.Damaged damage) = damaged damage
+outcome_of (complaint.NotThere text) = not_there text
+
+-- the answer of a command that makes no file is the whole outcome
+abbrev pub AnswersAll : Outcome → Result (Unit {0}) Stop → Type 0
+AnswersAll due (Ok _) = due ≡ done due.output
+AnswersAll due (Err (stop.Complaint complaint)) = due ≡ outcome_of complaint
+AnswersAll due (Err stop.Outside) = Unit {0}
+AnswersAll due (Err stop.Memory) = Unit {0}
+
+-- a step that only puts to the output
+pub record PutDoes (due : Outcome) (answer : Result (Unit {0}) Stop)
+    (out new_out : Seen (List ℕ)) : Type 0 where
+  pub answers : AnswersAll due answer
+  pub output : Outputs answer due.output out new_out
+  pub outside : answer ≡ Err stop.Outside → Rose out.faults new_out.faults
+
+-- a step that reads the shelf besides; no file changes
+pub record ReadDoes (due : Outcome) (answer : Result (Unit {0}) Stop)
+    (shelf new_shelf : Seen Files) (out new_out : Seen (List ℕ)) : Type 0 where
+  pub answers : AnswersAll due answer
   pub output : Outputs answer due.output out new_out
   pub files : new_shelf.told ≡ shelf.told
   pub outside : answer ≡ Err stop.Outside →
@@ -56,27 +104,37 @@ pub record StepDoes (due : Outcome) (answer : Result (Unit {0}) Stop)
 
 -- A run
 
--- the status is that of the outcome, unless the outside failed or no memory was found
-abbrev pub EndsAs : Outcome → Status → Type 0
-EndsAs due is = (is ≡ due.status) ⊎ ((is ≡ ending.Outside) ⊎ (is ≡ ending.Memory))
+-- the report of a complaint: its line with its status, and else a front of it
+abbrev pub ReportDoes : Complaint → Status → Seen (List ℕ) → Seen (List ℕ) → Type 0
+ReportDoes complaint status.Outside err new_err =
+    GetsFront (line_of complaint) err new_err × Rose err.faults new_err.faults
+ReportDoes complaint status.Memory err new_err = GetsFront (line_of complaint) err new_err
+ReportDoes complaint is err new_err =
+    (is ≡ status_of complaint) × Gets (line_of complaint) err new_err
 
--- the report of a complaint: its line, or a front of it where the status isn't the complaint's
-pub record ReportDoes (due : Outcome) (is : Status) (err new_err : Seen (List ℕ)) : Type 0 where
-  pub status : EndsAs due is
-  pub line : is ≡ due.status → Gets due.line err new_err
-  pub front : GetsFront due.line err new_err
-  pub outside : is ≡ ending.Outside → Rose err.faults new_err.faults
-
--- a whole run: with the outcome's status the sinks got its texts, and else a front of each; no file
--- changes; and where the outside failed a count rose
-pub record RunDoes (due : Outcome) (is : Status) (shelf new_shelf : Seen Files)
+-- all was done: the sinks got their texts, and the files were made
+pub record DoesAll (due : Outcome) (shelf new_shelf : Seen Files)
     (out new_out err new_err : Seen (List ℕ)) : Type 0 where
-  pub status : EndsAs due is
-  pub output : is ≡ due.status → Gets due.output out new_out
-  pub line : is ≡ due.status → Gets due.line err new_err
-  pub output_front : GetsFront due.output out new_out
-  pub line_front : GetsFront due.line err new_err
-  pub files : new_shelf.told ≡ shelf.told
-  pub outside : is ≡ ending.Outside →
-      (Rose shelf.faults new_shelf.faults)
-      ⊎ ((Rose out.faults new_out.faults) ⊎ (Rose err.faults new_err.faults))
+  pub output : Gets due.output out new_out
+  pub line : Gets due.line err new_err
+  pub files : Makes due.writes shelf new_shelf
+
+-- a front of it was done
+pub record DoesFront (due : Outcome) (shelf new_shelf : Seen Files)
+    (out new_out err new_err : Seen (List ℕ)) : Type 0 where
+  pub output : GetsFront due.output out new_out
+  pub line : GetsFront due.line err new_err
+  pub files : MakesFront due.writes shelf new_shelf
+
+-- a whole run: with the outcome's status all was done; else the status is `Outside`, and a count
+-- rose, or `Memory`, and a front was done
+abbrev pub RunDoes : Outcome → Status → (shelf new_shelf : Seen Files)
+    → (out new_out err new_err : Seen (List ℕ)) → Type 0
+RunDoes due status.Outside shelf new_shelf out new_out err new_err =
+    DoesFront due shelf new_shelf out new_out err new_err
+    × ((Rose shelf.faults new_shelf.faults)
+    ⊎ ((Rose out.faults new_out.faults) ⊎ (Rose err.faults new_err.faults)))
+RunDoes due status.Memory shelf new_shelf out new_out err new_err =
+    DoesFront due shelf new_shelf out new_out err new_err
+RunDoes due is shelf new_shelf out new_out err new_err =
+    (is ≡ due.status) × DoesAll due shelf new_shelf out new_out err new_err

@@ -1,10 +1,15 @@
--- What a failed call of the outside is to a command (this project's rule).
+-- Why a command stops (this project's rule).
 use Rattle.jm_outside.specs.declared.shelf.ShelfError.{ShelfError}
 use Rattle.jm_outside.specs.declared.shelf.ShelfError.TheVariants as shelf_error
 use Rattle.jm_outside.specs.declared.streams.SinkError.{SinkError}
 use Rattle.jm_outside.specs.declared.streams.SinkError.TheVariants as sink_error
+use Rattle.jm_words.specs.declared.errors.WordsError.TheVariants as error
+use Rattle.jm_words.specs.declared.errors.WordsKind.TheVariants as kind
+use Rattle.jm_commands.specs.declared.complaint.Complaint.TheVariants as complaint
 use Rattle.jm_commands.specs.declared.stop.Stop.{Stop}
 use Rattle.jm_commands.specs.declared.stop.Stop.TheVariants as stop
+
+-- a failed call of the outside
 
 abbrev pub stop_of_shelf : ShelfError → Stop
 stop_of_shelf shelf_error.Failed = stop.Outside
@@ -13,3 +18,7 @@ stop_of_shelf shelf_error.Memory = stop.Memory
 abbrev pub stop_of_sink : SinkError → Stop
 stop_of_sink sink_error.Failed = stop.Outside
 stop_of_sink sink_error.Memory = stop.Memory
+
+-- a command that isn't built yet
+abbrev pub unbuilt_stop : Stop
+unbuilt_stop = stop.Complaint (complaint.Words (error.Fault 1 kind.UnknownCommand))

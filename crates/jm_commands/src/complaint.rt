@@ -1,28 +1,28 @@
-ghost use Rattle.std.specs.Prelude.{◌≡◌, Some, IfOk, string_bytes};
-ghost use Rattle.jm_commands.specs.Run.{outcome_of};
-ghost use Rattle.jm_commands.specs.Texts.{complaint_text, line_of};
+ghost use Rattle.std.specs.Prelude.{◌≡◌, ◌∷◌, ◌++◌, [], codes, IfOk};
+ghost use Rattle.jm_commands.specs.Run.{status_of};
+ghost use Rattle.jm_commands.specs.Texts.{line_of};
 
 use crate::status::Status;
-use crate::words::WordsFault;
+use jm_bytes::Text;
 use jm_form::Damage;
+use jm_words::WordsError;
 use std::alloc::{AllocError, Global};
-use std::fmt;
 
 /// What a run ends with in place of its output; it has a line that says so.
-#[derive(Clone, Copy, Debug)]
-pub enum Complaint<'a> {
+#[derive(Debug, Drop)]
+pub enum Complaint {
     /// The words make no command.
-    Words(WordsFault),
+    Words(WordsError),
     /// The image has this first damage.
     Damaged(Damage),
-    /// This path or name isn't there.
-    NotThere(&'a str),
+    /// This path, or this name in UTF-8, isn't there.
+    NotThere(Text),
 }
 
-impl<'a> Complaint<'a> {
+impl Complaint {
     /// The status that a run with this complaint ends with.
     pub fn status(&self) -> Status
-        ensures { result ≡ (outcome_of self.now).status }
+        ensures { result ≡ status_of self.now }
     {
         match self {
             Complaint::Words(_) => Status::Words,
@@ -32,21 +32,25 @@ impl<'a> Complaint<'a> {
     }
 
     /// Its line, with the newline that ends it.
-    pub fn line(&self, alloc: Global) -> Result<String, AllocError>
-        ensures { IfOk result (λ line. string_bytes line ≡ line_of self.now) }
+    pub fn line(&self, alloc: Global) -> Result<Vec<u8>, AllocError>
+        ensures { IfOk result (λ line. line.items ≡ line_of self.now) }
     {
-        format!(in alloc; "{self}\n")
+        match self {
+            Complaint::Words(fault) => Ok(format!(in alloc; "words: {fault}\n")?.into_bytes()),
+            Complaint::Damaged(damage) => {
+                Ok(format!(in alloc; "damaged: {damage}\n")?.into_bytes())
+            }
+            Complaint::NotThere(text) => not_there_line(alloc, text.as_slice()),
+        }
     }
 }
 
-impl<'a> fmt::Display for Complaint<'a> {
-    ghost output = { λ complaint. Some (complaint_text complaint) };
-
-    fn fmt<W: fmt::Write>(&self, f: &mut fmt::Formatter<W>) -> fmt::Result {
-        match self {
-            Complaint::Words(fault) => write!(f, "words: {fault}"),
-            Complaint::Damaged(damage) => write!(f, "damaged: {damage}"),
-            Complaint::NotThere(name) => write!(f, "not there: {name}"),
-        }
-    }
+/// The line on a text that isn't there.
+fn not_there_line(alloc: Global, text: &[u8]) -> Result<Vec<u8>, AllocError>
+    ensures { IfOk result (λ line. line.items ≡ codes "not there: " ++ text.now ++ 10 ∷ []) }
+{
+    let mut line = Vec::from_slice(alloc, b"not there: ")?;
+    line.extend_from_slice(text)?;
+    line.extend_from_slice(b"\n")?;
+    Ok(line)
 }

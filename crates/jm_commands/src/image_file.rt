@@ -1,20 +1,23 @@
-ghost use Rattle.std.specs.Prelude.{◌≡◌, ◌<◌, List, ℕ, Option};
+ghost use Rattle.std.specs.Prelude.{◌≡◌, ◌<◌, List, ℕ, Option, Some, IsUtf8};
 ghost use Rattle.jm_form.specs.Damages.{first_damage};
 ghost use Rattle.jm_form.specs.Validity.{look};
 ghost use Rattle.jm_commands.specs.Cat.{CatDoes};
-ghost use Rattle.jm_commands.specs.Outcome.{cat_outcome, image_outcome};
-ghost use Rattle.jm_commands.specs.Run.{HasFile, PutDoes, StepDoes};
+ghost use Rattle.jm_commands.specs.Outcome.{cat_outcome, file_outcome, image_outcome, opened_outcome};
+ghost use Rattle.jm_commands.specs.Run.{HasFile, PutDoes, ReadDoes};
 ghost use Rattle.jm_commands.specs.Sinks.{seen};
-ghost use Rattle.jm_commands.specs.Words.{asked_by};
+ghost use Rattle.jm_commands.specs.Stops.{unbuilt_stop};
 
 use crate::cat::cat_command;
 use crate::complaint::Complaint;
-use crate::stop::Stop;
-use crate::words::CatWords;
-use jm_bytes::{Meter, Steps};
+use crate::info::info_command;
+use crate::stop::{Stop, unbuilt};
+use crate::verify::verify_command;
+use jm_bytes::{Meter, Steps, Text};
 use jm_halves::Gate;
+use jm_names::to_utf8;
 use jm_outside::{Shelf, Sink, SinkError};
 use jm_valid::{Image, OpenError, open_image};
+use jm_words::Command;
 use std::alloc::Global;
 use std::marker::Brand;
 use std::sync::ledger::{Blank, Ledger};
@@ -46,58 +49,95 @@ fn cat_counted<O: Sink, H: Ledger, R: Ledger>(
     cat_command(alloc, image, name, out, &mut hashes, &mut reads)
 }
 
-/// Puts the content of the entry of that name of the image that these bytes are.
-fn cat_bytes<'w, T: Threads + Sync, O: Sink, G: Gate + Sync>(
-    rt: &T,
+/// `cat`: the content of the entry of a name of the image that these bytes are.
+fn cat_step<O: Sink>(
     alloc: Global,
+    image: &Image,
     bytes: &[u8],
-    name: &'w str,
+    name: &[u8],
     out: &mut O,
-    gate: &G,
-) -> Result<(), Stop<'w>>
-    ensures { PutDoes (image_outcome bytes.now name.now (first_damage bytes.now)) result
+) -> Result<(), Stop>
+    requires { image.now ≡ bytes.now }
+    ensures { PutDoes (cat_outcome name.now (look bytes.now name.now)) result
         (seen (O.content out.old) (O.faults out.old))
         (seen (O.content out.new) (O.faults out.new)) }
 {
-    let image = match open_image(rt, alloc, 1, bytes, gate) {
-        Ok(image) => image,
-        Err(OpenError::Damaged(damage)) => return Err(Stop::Complaint(Complaint::Damaged(damage))),
-        Err(OpenError::Memory) => return Err(Stop::Memory),
-    };
-    let there = cat_counted::<O, Brand, Brand>(
-        alloc,
-        &image,
-        bytes,
-        name.as_bytes(),
-        out,
-        Blank::new(1),
-        Blank::new(1),
-    )?;
+    let (hashes, reads) = (Blank::new(1), Blank::new(1));
+    let there = cat_counted::<O, Brand, Brand>(alloc, image, bytes, name, out, hashes, reads)?;
     if there {
-        Ok(())
-    } else {
-        Err(Stop::Complaint(Complaint::NotThere(name)))
+        return Ok(());
+    }
+    let text = to_utf8(alloc, name)?;
+    Err(Stop::Complaint(Complaint::NotThere(text)))
+}
+
+/// Does the work of a command on an image, which these bytes are.
+fn do_on_image<O: Sink>(
+    alloc: Global,
+    command: &Command,
+    image: &Image,
+    bytes: &[u8],
+    out: &mut O,
+) -> Result<(), Stop>
+    requires { image.now ≡ bytes.now }
+    ensures { PutDoes (image_outcome command.now bytes.now) result
+        (seen (O.content out.old) (O.faults out.old))
+        (seen (O.content out.new) (O.faults out.new)) }
+{
+    match command {
+        Command::Cat { name, .. } => cat_step(alloc, image, bytes, name.as_slice(), out),
+        Command::Info { .. } => info_command(alloc, image, out),
+        Command::Verify { .. } => verify_command(alloc, image, out),
+        _ => Err(unbuilt()),
     }
 }
 
-/// Reads the image's file and puts the content of the entry of that name. No file changes.
-pub fn cat_file<'w, T: Threads + Sync, S: Shelf, O: Sink, G: Gate + Sync>(
+/// Opens the image that these bytes are, and does the work of a command on it.
+fn do_on_bytes<T: Threads + Sync, O: Sink, G: Gate + Sync>(
     rt: &T,
     alloc: Global,
-    cat: CatWords<'w>,
+    command: &Command,
+    jobs: u32,
+    bytes: &[u8],
+    out: &mut O,
+    gate: &G,
+) -> Result<(), Stop>
+    requires { 0 < jobs }
+    ensures { PutDoes (opened_outcome command.now bytes.now (first_damage bytes.now)) result
+        (seen (O.content out.old) (O.faults out.old))
+        (seen (O.content out.new) (O.faults out.new)) }
+{
+    match open_image(rt, alloc, jobs, bytes, gate) {
+        Ok(image) => do_on_image(alloc, command, &image, bytes, out),
+        Err(OpenError::Damaged(damage)) => Err(Stop::Complaint(Complaint::Damaged(damage))),
+        Err(OpenError::Memory) => Err(Stop::Memory),
+    }
+}
+
+/// Reads the file of an image, and does the work of a command on it. No file changes.
+pub fn do_on_file<T: Threads + Sync, S: Shelf, O: Sink, G: Gate + Sync>(
+    rt: &T,
+    alloc: Global,
+    command: &Command,
+    path: &[u8],
+    jobs: u32,
     shelf: &mut S,
     out: &mut O,
     gate: &G,
-) -> Result<(), Stop<'w>>
-    ensures { (file : Option (List ℕ)) × HasFile (S.files shelf.old) cat.entry.image.now file
-        × StepDoes (cat_outcome (asked_by cat.entry) file) result
+) -> Result<(), Stop>
+    requires path { IsUtf8 path.now }
+    requires jobs { 0 < jobs }
+    ensures { (found : Option (List ℕ)) × HasFile (S.files shelf.old) (Some path.now) found
+        × ReadDoes (file_outcome command.now path.now found) result
         (seen (S.files shelf.old) (S.faults shelf.old))
         (seen (S.files shelf.new) (S.faults shelf.new))
         (seen (O.content out.old) (O.faults out.old))
         (seen (O.content out.new) (O.faults out.new)) }
 {
-    match shelf.read(alloc, cat.image.as_bytes())? {
-        Some(bytes) => cat_bytes(rt, alloc, bytes.as_slice(), cat.name, out, gate),
-        None => Err(Stop::Complaint(Complaint::NotThere(cat.image))),
-    }
+    let found = shelf.read(alloc, path)?;
+    let Some(bytes) = found else {
+        let text = Text::copy_of(alloc, path)?;
+        return Err(Stop::Complaint(Complaint::NotThere(text)));
+    };
+    do_on_bytes(rt, alloc, command, jobs, bytes.as_slice(), out, gate)
 }

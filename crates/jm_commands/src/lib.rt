@@ -3,13 +3,17 @@
 
 mod cat;
 mod complaint;
+mod help;
 mod image_file;
+mod info;
+mod output;
 mod program;
 mod status;
 mod stop;
 #[cfg(test)]
 mod tests;
-mod words;
+mod verify;
+mod version;
 
 pub use cat::cat_command;
 pub use program::run;

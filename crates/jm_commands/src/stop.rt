@@ -1,24 +1,27 @@
 ghost use Rattle.std.specs.Prelude.{◌≡◌};
-ghost use Rattle.jm_commands.specs.Stops.{stop_of_shelf, stop_of_sink};
+ghost use Rattle.jm_commands.specs.Stops.{stop_of_shelf, stop_of_sink, unbuilt_stop};
 
 use crate::complaint::Complaint;
+use jm_bytes::NoMemory;
 use jm_outside::{ShelfError, SinkError};
+use jm_words::{WordsError, WordsKind};
+use std::alloc::AllocError;
 
 /// Why a command has not put its whole output.
-#[derive(Clone, Copy, Debug)]
-pub enum Stop<'a> {
-    /// There is none to put, and this is why.
-    Complaint(Complaint<'a>),
+#[derive(Debug, Drop)]
+pub enum Stop {
+    /// It ends with this complaint.
+    Complaint(Complaint),
     /// A call of the outside failed.
     Outside,
     /// No memory was found.
     Memory,
 }
 
-impl<'a> From<ShelfError> for Stop<'a> {
+impl From<ShelfError> for Stop {
     ghost from_gives = { λ error stop. stop ≡ stop_of_shelf error };
 
-    fn from(error: ShelfError) -> Stop<'a> {
+    fn from(error: ShelfError) -> Stop {
         match error {
             ShelfError::Failed => Stop::Outside,
             ShelfError::Memory => Stop::Memory,
@@ -26,13 +29,43 @@ impl<'a> From<ShelfError> for Stop<'a> {
     }
 }
 
-impl<'a> From<SinkError> for Stop<'a> {
+impl From<SinkError> for Stop {
     ghost from_gives = { λ error stop. stop ≡ stop_of_sink error };
 
-    fn from(error: SinkError) -> Stop<'a> {
+    fn from(error: SinkError) -> Stop {
         match error {
             SinkError::Failed => Stop::Outside,
             SinkError::Memory => Stop::Memory,
         }
     }
+}
+
+impl From<NoMemory> for Stop {
+    ghost use Rattle.jm_commands.specs.declared.stop.Stop.TheVariants as stop;
+
+    ghost from_gives = { λ _ is. is ≡ stop.Memory };
+
+    fn from(_: NoMemory) -> Stop {
+        Stop::Memory
+    }
+}
+
+impl From<AllocError> for Stop {
+    ghost use Rattle.jm_commands.specs.declared.stop.Stop.TheVariants as stop;
+
+    ghost from_gives = { λ _ is. is ≡ stop.Memory };
+
+    fn from(_: AllocError) -> Stop {
+        Stop::Memory
+    }
+}
+
+/// How a command ends that isn't built yet: as if its name were unknown.
+pub fn unbuilt() -> Stop
+    ensures { result ≡ unbuilt_stop }
+{
+    Stop::Complaint(Complaint::Words(WordsError::Fault {
+        at: 1,
+        kind: WordsKind::UnknownCommand,
+    }))
 }

@@ -1,17 +1,13 @@
-ghost use Rattle.std.specs.Prelude.{◌<◌};
-
 mod vectors;
 
 use super::*;
 use jm_bytes::{List, Text, copy_of};
-use jm_form::{Damage, HeaderFault};
 use jm_halves::NoGate;
 use jm_outside::{MemShelf, MemSink, MemSource};
-use jm_valid::{OpenError, open_image};
-use std::alloc::{AllocError, Global};
+use std::alloc::Global;
 use std::test::Fail;
 use std::thread::Threads;
-use vectors::{big_tiny, no_entries, overlapping, seeded_tiny, tiny};
+use vectors::{above_ffff, apart, big_tiny, far, no_entries, overlapping, seeded_tiny, tiny};
 
 /// The number of the call that fails on the shelf, the output and the error sink.
 #[derive(Clone, Copy)]
@@ -35,12 +31,16 @@ fn numbers(alloc: Global, number: Option<u64>) -> Result<List<u64>, Fail> {
     Ok(numbers)
 }
 
-fn words_of(alloc: Global, words: &[&str]) -> Result<Vec<String>, Fail> {
-    let mut all = Vec::new(alloc);
-    for word in words {
-        all.push(String::from_str(alloc, word)?)?;
+/// The words of a line, which a space parts; an empty line has none.
+fn words_of(alloc: Global, line: &str) -> Result<Vec<String>, Fail> {
+    let mut words = Vec::new(alloc);
+    if line.is_empty() {
+        return Ok(words);
     }
-    Ok(all)
+    for word in line.split(' ') {
+        words.push(String::from_str(alloc, word)?)?;
+    }
+    Ok(words)
 }
 
 /// The first bytes, at most so many, with some of them changed.
@@ -81,7 +81,7 @@ fn run_on<T: Threads + Sync>(
     alloc: Global,
     image: &[u8],
     fails: Fails,
-    words: &[&str],
+    words: &str,
 ) -> Result<Vec<u8>, Fail> {
     let mut shelf = shelf_of(alloc, image, fails.shelf)?;
     let mut input = MemSource::new(Text::new(alloc), List::new(alloc));
@@ -99,174 +99,191 @@ fn run_on<T: Threads + Sync>(
     Ok(given)
 }
 
-/// Whether a run on the first bytes, at most so many, of an image gives this.
+/// Whether a run on an image gives this.
 fn gives<T: Threads + Sync>(
     rt: &T,
     alloc: Global,
-    (image, most): (&[u8], usize),
+    image: &[u8],
     fails: Fails,
-    words: &[&str],
+    words: &str,
     want: &str,
 ) -> Result<bool, Fail> {
-    let (image, _) = image.split_at(most.min(image.len()));
     let given = run_on(rt, alloc, image, fails, words)?;
     Ok(given.as_slice() == want.as_bytes())
 }
 
+/// Whether a run on the first bytes, at most so many, of an image with some of them changed gives
+/// this.
+fn changed_gives<T: Threads + Sync>(
+    rt: &T,
+    alloc: Global,
+    (image, most, changes): (&[u8], usize, [(usize, u8); 4]),
+    words: &str,
+    want: &str,
+) -> Result<bool, Fail> {
+    let bytes = changed(alloc, image, most, changes)?;
+    gives(rt, alloc, bytes.as_slice(), NO_FAILS, words, want)
+}
+
 #[test]
 fn cat_puts_the_entry_or_says_why_not(rt: HostRuntime) -> Result<(), Fail> {
-    let (tiny, big, seeded, none) = (tiny(), big_tiny(), seeded_tiny(), no_entries());
-    for (image, most, path, name, given) in [
-        (tiny, 57, "img", "/m/a", "0|hi|"),
-        (big, 57, "img", "/m/a", "0|hi|"),
-        (seeded, 57, "img", "/m/a", "0|hi|"),
-        (tiny, 57, "img", "/m/b", "5||not there: /m/b\n"),
-        (tiny, 57, "img", "/m/a.", "5||not there: /m/a.\n"),
-        (tiny, 57, "img", "/m", "5||not there: /m\n"),
-        (tiny, 57, "img", "", "5||not there: \n"),
-        (tiny, 57, "other", "/m/a", "5||not there: other\n"),
-        (none, 28, "img", "/m/a", "5||not there: /m/a\n"),
-        (tiny, 56, "img", "/m/a", "4||damaged: Range 0\n"),
-        (tiny, 54, "img", "/m/a", "4||damaged: Header Sizes\n"),
-        (tiny, 27, "img", "/m/a", "4||damaged: Header Short\n"),
-        (tiny, 0, "img", "/m/a", "4||damaged: Header Short\n"),
-        (tiny, 57, "", "", "2||words: BadValue at 2\n"),
-        (tiny, 57, "img", "--a", "2||words: UnknownOption at 3\n"),
-        (tiny, 57, "--a", "b", "2||words: UnknownOption at 2\n"),
+    for (image, words, want) in [
+        (tiny(), "cat img /m/a", "0|hi|"),
+        (big_tiny(), "cat img /m/a", "0|hi|"),
+        (seeded_tiny(), "cat img /m/a", "0|hi|"),
+        (tiny(), "cat img /m/b", "5||not there: /m/b\n"),
+        (tiny(), "cat img /m/a.", "5||not there: /m/a.\n"),
+        (tiny(), "cat img ", "5||not there: \n"),
+        (tiny(), "cat other /m/a", "5||not there: other\n"),
+        (no_entries(), "cat img /m/a", "5||not there: /m/a\n"),
+        (above_ffff(), "cat img /a/\u{1F600}", "0|hi|"),
+        (
+            above_ffff(),
+            "cat img /a/\u{1F601}",
+            "5||not there: /a/\u{1F601}\n",
+        ),
     ] {
-        let words = ["cat", path, name];
-        let holds = gives(&rt, rt.alloc(), (image, most), NO_FAILS, &words, given)?;
-        assert!(rt; holds, "{given}");
+        let holds = gives(&rt, rt.alloc(), image, NO_FAILS, words, want)?;
+        assert!(rt; holds, "{words}");
     }
     Ok(())
 }
 
 #[test]
-fn other_numbers_of_words_are_named(rt: HostRuntime) -> Result<(), Fail> {
-    let words = ["cat", "img", "/m/a", "c"];
-    for (count, given) in [
-        (0, "2||words: NoCommand at 0\n"),
-        (1, "2||words: Missing at 1\n"),
-        (2, "2||words: Missing at 2\n"),
-        (3, "0|hi|"),
-        (4, "2||words: TooManyArguments at 4\n"),
+fn cat_judges_the_image_first(rt: HostRuntime) -> Result<(), Fail> {
+    let same = [(0, 0xDA); 4];
+    let nameless = [(38, 0), (40, 0), (38, 0), (40, 0)];
+    for (most, changes, words, want) in [
+        (56, same, "cat img /m/a", "4||damaged: Range 0\n"),
+        (54, same, "cat img /m/a", "4||damaged: Header Sizes\n"),
+        (27, same, "cat img /m/b", "4||damaged: Header Short\n"),
+        (57, nameless, "cat img ", "0|hi|"),
     ] {
-        let (words, _) = words.split_at(count);
-        let holds = gives(&rt, rt.alloc(), (tiny(), 57), NO_FAILS, words, given)?;
-        assert!(rt; holds, "{given}");
+        let image = (tiny(), most, changes);
+        let holds = changed_gives(&rt, rt.alloc(), image, words, want)?;
+        assert!(rt; holds, "{words}");
     }
+    Ok(())
+}
+
+#[test]
+fn faulty_words_are_named(rt: HostRuntime) -> Result<(), Fail> {
+    for (words, want) in [
+        ("", "2||words: NoCommand at 0\n"),
+        ("zap", "2||words: UnknownCommand at 1\n"),
+        ("cat img", "2||words: Missing at 2\n"),
+        ("cat a b c", "2||words: TooManyArguments at 4\n"),
+        ("cat a b --jobs 0", "2||words: BadValue at 5\n"),
+        ("link --output a --output b", "2||words: Repeated at 4\n"),
+        ("cat --jobs", "2||words: NoValue at 2\n"),
+        ("cat --zap", "2||words: UnknownOption at 2\n"),
+        ("--help x", "2||words: TooManyArguments at 2\n"),
+        ("cat --help", "2||words: UnknownOption at 2\n"),
+        ("serve img", "2||words: UnknownCommand at 1\n"),
+    ] {
+        let holds = gives(&rt, rt.alloc(), tiny(), NO_FAILS, words, want)?;
+        assert!(rt; holds, "{words}");
+    }
+    Ok(())
+}
+
+#[test]
+fn other_commands_print(rt: HostRuntime) -> Result<(), Fail> {
+    let info = "0|order little\nversion 1.0\nflags 0\nentries 1\nslots 1\nlocations 8\nstrings 11
+index 55\ncontents 2\n|";
+    for (image, words, want) in [
+        (tiny(), "info img", info),
+        (tiny(), "info other", "5||not there: other\n"),
+        (tiny(), "verify img", "0|valid 1\n|"),
+        (no_entries(), "verify img", "0|valid 0\n|"),
+        (tiny(), "verify other", "5||not there: other\n"),
+        (tiny(), "--version", "0|jm_tool 0.1.0\n|"),
+    ] {
+        let holds = gives(&rt, rt.alloc(), image, NO_FAILS, words, want)?;
+        assert!(rt; holds, "{words}");
+    }
+    Ok(())
+}
+
+#[test]
+fn help_reads_no_file(rt: HostRuntime) -> Result<(), Fail> {
+    let fails = Fails {
+        shelf: Some(0),
+        out: None,
+        err: Some(0),
+    };
+    let given = run_on(&rt, rt.alloc(), tiny(), fails, "--help")?;
+    assert!(rt; given.as_slice().starts_with(b"0|usage: jm_tool COMMAND ..\n"));
     Ok(())
 }
 
 #[test]
 fn calls_that_fail_end_the_run(rt: HostRuntime) -> Result<(), Fail> {
-    for (shelf, out, err, name, given) in [
-        (Some(0), None, None, "/m/a", "6||"),
-        (None, Some(0), None, "/m/a", "6|h|"),
-        (None, None, Some(0), "/m/b", "6||not ther"),
-        (Some(1), Some(1), Some(0), "/m/a", "0|hi|"),
+    for (shelf, out, err, words, want) in [
+        (Some(0), None, None, "cat img /m/a", "6||"),
+        (None, Some(0), None, "cat img /m/a", "6|h|"),
+        (None, Some(0), None, "verify img", "6|vali|"),
+        (None, Some(0), None, "--version", "6|jm_tool|"),
+        (None, None, Some(0), "cat img /m/b", "6||not ther"),
+        (None, None, Some(0), "zap", "6||words: UnknownC"),
+        (Some(1), Some(1), Some(0), "cat img /m/a", "0|hi|"),
     ] {
         let fails = Fails { shelf, out, err };
-        let words = ["cat", "img", name];
-        let holds = gives(&rt, rt.alloc(), (tiny(), 57), fails, &words, given)?;
-        assert!(rt; holds, "{given}");
+        let holds = gives(&rt, rt.alloc(), tiny(), fails, words, want)?;
+        assert!(rt; holds, "{words}");
     }
     Ok(())
 }
 
-/// The first damage of bytes, with some number of jobs.
-fn damage_of<T: Threads + Sync>(
+/// Whether `verify` gives this on the first bytes, at most so many, of an image with some of them
+/// changed, with 1, 2 and 64 jobs.
+fn verifies<T: Threads + Sync>(
     rt: &T,
     alloc: Global,
-    jobs: u32,
-    bytes: &[u8],
-) -> Result<Option<Damage>, Fail>
-    requires { 0 < jobs }
-{
-    match open_image(rt, alloc, jobs, bytes, &NoGate) {
-        Ok(_) => Ok(None),
-        Err(OpenError::Damaged(damage)) => Ok(Some(damage)),
-        Err(OpenError::Memory) => Err(Fail::from(AllocError)),
-    }
-}
-
-/// Whether this is the first damage of the first bytes, at most so many, of an image with some of
-/// them changed, with 1, 2 and 64 jobs.
-fn has_damage<T: Threads + Sync>(
-    rt: &T,
-    alloc: Global,
-    image: &[u8],
-    most: usize,
-    changes: [(usize, u8); 4],
-    damage: Option<Damage>,
+    image: (&[u8], usize, [(usize, u8); 4]),
+    want: &str,
 ) -> Result<bool, Fail> {
-    let bytes = changed(alloc, image, most, changes)?;
-    let bytes = bytes.as_slice();
-    Ok(
-        damage_of(rt, alloc, 1, bytes)? == damage
-            && damage_of(rt, alloc, 2, bytes)? == damage
-            && damage_of(rt, alloc, 64, bytes)? == damage,
-    )
+    Ok(changed_gives(rt, alloc, image, "verify img", want)?
+        && changed_gives(rt, alloc, image, "verify img --jobs 2", want)?
+        && changed_gives(rt, alloc, image, "verify --jobs=64 img", want)?)
 }
 
 #[test]
 fn damages_are_found_with_each_number_of_jobs(rt: HostRuntime) -> Result<(), Fail> {
-    let count = |stated, found| Some(Damage::Count { stated, found });
-    let text = |kind| Some(Damage::Text { slot: 0, kind });
-    let header = |fault| Some(Damage::Header(fault));
-    let overlap = Some(Damage::Overlap {
-        first: 0,
-        second: 1,
-    });
     let (tiny, two) = (tiny(), overlapping());
-    for (image, most, changes, damage) in [
-        (tiny, 57, [(0, 0xDA); 4], None),
-        (tiny, 57, [(39, 8); 4], Some(Damage::Row(0))),
-        (tiny, 57, [(41, 0x3F); 4], Some(Damage::Row(0))),
-        (tiny, 57, [(43, 8); 4], Some(Damage::Row(0))),
-        (tiny, 57, [(43, 7); 4], None),
-        (tiny, 57, [(41, 0x30); 4], Some(Damage::Compressed(0))),
-        (tiny, 57, [(42, 0xFF); 4], Some(Damage::Range(0))),
-        (tiny, 57, [(38, 11); 4], text(1)),
-        (tiny, 57, [(54, 0x61); 4], text(3)),
-        (
-            tiny,
-            57,
-            [(28, 0), (29, 0), (30, 0), (31, 0x80)],
-            count(1, 0),
-        ),
-        (
-            tiny,
-            57,
-            [(28, 0xFF), (29, 0xFF), (30, 0xFF), (31, 0x7F)],
-            None,
-        ),
-        (tiny, 57, [(32, 8); 4], Some(Damage::Offset(0))),
-        (tiny, 57, [(32, 0); 4], count(1, 0)),
-        (tiny, 57, [(12, 2); 4], count(2, 1)),
-        (tiny, 57, [(4, 1); 4], header(HeaderFault::Version(65537))),
-        (tiny, 57, [(0, 0); 4], header(HeaderFault::Magic)),
-        (
-            tiny,
-            57,
-            [(16, 0xFF), (17, 0xFF), (18, 0xFF), (19, 0xFF)],
-            header(HeaderFault::Sizes),
-        ),
-        (tiny, 57, [(38, 0), (40, 0), (38, 0), (40, 0)], None),
-        (tiny, 56, [(0, 0xDA); 4], Some(Damage::Range(0))),
-        (two, 74, [(0, 0xDA); 4], overlap),
-        (
-            two,
-            74,
-            [(47, 8), (56, 0x30), (47, 8), (56, 0x30)],
-            Some(Damage::Row(0)),
-        ),
-        (two, 74, [(56, 0x30); 4], Some(Damage::Compressed(1))),
-        (two, 74, [(48, 9); 4], count(2, 1)),
-        (two, 74, [(48, 9), (12, 1), (48, 9), (12, 1)], None),
+    let nowhere = [(28, 0), (29, 0), (30, 0), (31, 0x80)];
+    let seed = [(28, 0xFF), (29, 0xFF), (30, 0xFF), (31, 0x7F)];
+    let sizes = [(16, 0xFF), (17, 0xFF), (18, 0xFF), (19, 0xFF)];
+    for (image, most, changes, want) in [
+        (tiny, 57, [(0, 0xDA); 4], "0|valid 1\n|"),
+        (tiny, 57, [(39, 8); 4], "4||damaged: Row 0\n"),
+        (tiny, 57, [(41, 0x3F); 4], "4||damaged: Row 0\n"),
+        (tiny, 57, [(43, 8); 4], "4||damaged: Row 0\n"),
+        (tiny, 57, [(43, 7); 4], "0|valid 1\n|"),
+        (tiny, 57, [(41, 0x30); 4], "4||damaged: Compressed 0\n"),
+        (tiny, 57, [(42, 0xFF); 4], "4||damaged: Range 0\n"),
+        (tiny, 57, [(38, 11); 4], "4||damaged: Text 0 1\n"),
+        (tiny, 57, [(54, 0x61); 4], "4||damaged: Text 0 3\n"),
+        (tiny, 57, nowhere, "4||damaged: Count 1 0\n"),
+        (tiny, 57, seed, "0|valid 1\n|"),
+        (tiny, 57, [(32, 8); 4], "4||damaged: Offset 0\n"),
+        (tiny, 57, [(32, 0); 4], "4||damaged: Count 1 0\n"),
+        (tiny, 57, [(12, 2); 4], "4||damaged: Count 2 1\n"),
+        (tiny, 57, [(4, 1); 4], "4||damaged: Header Version 65537\n"),
+        (tiny, 57, [(0, 0); 4], "4||damaged: Header Magic\n"),
+        (tiny, 57, sizes, "4||damaged: Header Sizes\n"),
+        (tiny, 57, [(38, 0), (40, 0), (38, 0), (40, 0)], "0|valid 1\n|"),
+        (tiny, 56, [(0, 0xDA); 4], "4||damaged: Range 0\n"),
+        (two, 74, [(0, 0xDA); 4], "4||damaged: Overlap 0 1\n"),
+        (two, 74, [(47, 8), (56, 0x30), (47, 8), (56, 0x30)], "4||damaged: Row 0\n"),
+        (two, 74, [(56, 0x30); 4], "4||damaged: Compressed 1\n"),
+        (two, 74, [(48, 9); 4], "4||damaged: Count 2 1\n"),
+        (two, 74, [(48, 9), (12, 1), (48, 9), (12, 1)], "0|valid 1\n|"),
+        (apart(), 70, [(0, 0xDA); 4], "0|valid 2\n|"),
+        (far(), 66, [(0, 0xDA); 4], "4||damaged: Range 0\n"),
     ] {
-        let holds = has_damage(&rt, rt.alloc(), image, most, changes, damage)?;
-        assert!(rt; holds, "{damage:?}");
+        let holds = verifies(&rt, rt.alloc(), (image, most, changes), want)?;
+        assert!(rt; holds, "{want}");
     }
     Ok(())
 }

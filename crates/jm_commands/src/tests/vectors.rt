@@ -44,3 +44,22 @@ pub fn no_entries() -> &'static [u8] {
         0, 0,
     ]
 }
+
+/// One entry, `/a/` and U+1F600, a character of two surrogates, that holds `hi`.
+pub fn above_ffff() -> &'static [u8] {
+    &[
+        0xDA, 0xDA, 0xFE, 0xCA, 0, 0, 1, 0, 0, 0, 0, 0, 1, 0, 0, 0, 1, 0, 0, 0, 8, 0, 0, 0, 16, 0,
+        0, 0, 0xFF, 0xFF, 0xFF, 0xFF, 1, 0, 0, 0, 0, 8, 7, 24, 9, 56, 2, 0, 0, 99, 108, 97, 115,
+        115, 0, 97, 0, 0xED, 0xA0, 0xBD, 0xED, 0xB8, 0x80, 0, 104, 105,
+    ]
+}
+
+/// `/m/b` and `/m/a` with contents of no byte.
+pub fn apart() -> &'static [u8] {
+    &[0xDA, 0xDA, 0xFE, 0xCA, 0, 0, 1, 0, 0, 0, 0, 0, 2, 0, 0, 0, 2, 0, 0, 0, 11, 0, 0, 0, 13, 0, 0, 0, 0xFF, 0xFF, 0xFF, 0xFF, 0xFE, 0xFF, 0xFF, 0xFF, 1, 0, 0, 0, 6, 0, 0, 0, 0, 8, 7, 24, 11, 0, 8, 7, 24, 9, 0, 0, 99, 108, 97, 115, 115, 0, 109, 0, 97, 0, 98, 0, 104, 105]
+}
+
+/// The entry of `tiny` with the greatest offset there is.
+pub fn far() -> &'static [u8] {
+    &[0xDA, 0xDA, 0xFE, 0xCA, 0, 0, 1, 0, 0, 0, 0, 0, 1, 0, 0, 0, 1, 0, 0, 0, 17, 0, 0, 0, 11, 0, 0, 0, 0xFF, 0xFF, 0xFF, 0xFF, 1, 0, 0, 0, 0, 8, 7, 24, 9, 47, 0xFF, 0xFF, 0xFF, 0xFF, 0xFF, 0xFF, 0xFF, 0xFF, 56, 2, 0, 0, 99, 108, 97, 115, 115, 0, 109, 0, 97, 0, 104, 105]
+}

@@ -1,13 +1,12 @@
-use Rattle.std.proofs.Common.{map, refl, sym, ap}
-use Rattle.std.specs.Prelude.{string_bytes}
-use Rattle.jm_commands.specs.Outcome.{asked_outcome, asked_path}
-use Rattle.jm_commands.specs.Words.{asked_of}
-use Rattle.jm_commands.proofs.StepLaws.{told_file, has_told_file}
+use Rattle.std.proofs.Common.{Err, refl, sym, ap, ◌∙◌}
+use Rattle.jm_commands.proofs.StepLaws.{image_step, unbuilt_step}
 use Rattle.jm_commands.proofs.program.do_command.Goals as goal
 
-pub returns-in-Err : goal.returns-in-Err
-returns-in-Err g c =
-    let told = g.S.Shelf.files c.args.shelf.now in
-    let path = asked_path (asked_of (map string_bytes c.args.words.now)) in
-    let file = told_file told path in
-    (file, has_told_file told path, record { answers = ap (asked_outcome file) (sym c.in-Err.ensures); output = refl; files = refl; outside = λ failed. cc })
+pub returns-then-not-is_built : goal.returns-then-not-is_built
+returns-then-not-is_built g c =
+    unbuilt_step c.args.command.now _ _ _ _ _ (sym c.is_built.ensures ∙ c.if-not-is_built.true) (ap (λ stop. Err stop) c.unbuilt.ensures) refl refl
+
+pub returns-in-Some : goal.returns-in-Some
+returns-in-Some g c =
+    let does = c.do_on_file.ensures in
+    image_step c.args.command.now _ _ _ _ _ c.in-Some.path.now does.0 (sym c.is_built.ensures ∙ c.if-not-is_built.false) (sym c.in-Some.ensures.path) does.1 does.2

@@ -1,4 +1,4 @@
-use Rattle.jm_commands.proofs.image_file.cat_bytes.Given as goal
+use Rattle.jm_commands.proofs.image_file.cat_step.Given as goal
 
 abbrev pub ghosts-cat_counted-H-Ledger : goal.ghosts-cat_counted-H-Ledger
 ghosts-cat_counted-H-Ledger g a = record { name = a.hashes.name; parts = a.hashes.parts }

@@ -1,0 +1,25 @@
+use Rattle.std.proofs.Common.{Ok, refl, sym, ap, ◌∙◌}
+use Rattle.jm_form.specs.Validity.{look}
+use Rattle.jm_names.specs.UtfForms.{utf}
+use Rattle.jm_commands.specs.Outcome.{not_there}
+use Rattle.jm_commands.specs.declared.stop.Stop.TheVariants as stop
+use Rattle.jm_commands.specs.declared.complaint.Complaint.TheVariants as complaint
+use Rattle.jm_commands.proofs.StepLaws.{complained, content_put, from_stop, no_memory, nothing_found}
+use Rattle.jm_commands.proofs.image_file.cat_step.Goals as goal
+
+pub returns-then-there : goal.returns-then-there
+returns-then-there g c =
+    let put = c.in_ok-there.ensures in
+    content_put (look c.args.bytes.now c.args.name.now) c.args.name.now _ _ (sym c.if-there.true ∙ put.there) put.put
+
+pub returns-in_err-text : goal.returns-in_err-text
+returns-in_err-text g c =
+    let put = c.in_ok-there.ensures in
+    let is = from_stop c.from_residual-in_err-text.result stop.Memory c.from_residual-in_err-text.ensures.1 in
+    rw is (no_memory _ _ _ (put.nothing (ap (λ there. Ok there) c.if-there.false)))
+
+pub returns : goal.returns
+returns g c =
+    let put = c.in_ok-there.ensures in
+    let found = nothing_found (look c.args.bytes.now c.args.name.now) c.args.name.now (sym c.if-there.false ∙ put.there) in
+    rw (found, c.in_ok-text.ensures) (complained (not_there (utf c.args.name.now)) (complaint.NotThere (utf c.args.name.now)) _ _ refl (put.nothing (ap (λ there. Ok there) c.if-there.false)))

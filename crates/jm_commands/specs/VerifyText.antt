@@ -1,0 +1,8 @@
+-- What `verify` prints of an image without a damage (this project's rule).
+use Rattle.std.specs.Prelude.{ℕ, List, ◌++◌, length, codes}
+use Rattle.std.specs.Fmt.{decimal}
+use Rattle.jm_reader.specs.Walk.{entries_of}
+
+-- the number of its entries
+abbrev pub verify_text : List ℕ → List ℕ
+verify_text b = codes "valid " ++ decimal (length (entries_of b)) ++ codes "\n"

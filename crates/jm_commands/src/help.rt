@@ -1,0 +1,81 @@
+ghost use Rattle.std.specs.Prelude.{◌≡◌};
+ghost use Rattle.jm_commands.specs.HelpText.{help_text};
+ghost use Rattle.jm_commands.specs.Outcome.{done};
+ghost use Rattle.jm_commands.specs.Run.{PutDoes};
+ghost use Rattle.jm_commands.specs.Sinks.{seen};
+
+use crate::output::put_output;
+use crate::stop::Stop;
+use jm_outside::Sink;
+use std::alloc::Global;
+
+const HELP: &str = "\
+usage: jm_tool COMMAND ..
+
+commands:
+  link --module-path DIRS --add-modules NAMES --output FILE [options] [plug-ins]
+      links the modules NAMES and all that they require into one image (not built yet)
+  link --from-image FILE --add-modules NAMES --output FILE [options] [plug-ins]
+      the same with the modules of another image (not built yet)
+  cat IMAGE NAME
+      puts the bytes of the entry of that name
+  list IMAGE [--include PATTERNS]
+      puts the size and the name of each resource (not built yet)
+  ls IMAGE PATH
+      puts what a folder of the image holds (not built yet)
+  info IMAGE
+      puts what the header says
+  extract IMAGE --dir DIR [--include PATTERNS]
+      writes each resource to a file below DIR (not built yet)
+  verify IMAGE
+      checks the image and puts the number of its entries
+  serve IMAGE
+      answers the lines of the input (not built yet)
+  gen DIR --modules N --classes N --seed N
+      makes modules below DIR and links them (not built yet)
+  describe FILE
+      puts what a module-info.class says (not built yet)
+  --help
+      puts this text
+  --version
+      puts the version of the program
+
+options:
+  --jobs N
+      works in N pieces, from 1 to 64, with each command; no answer changes
+  --endian ORDER
+      the order of bytes of the image of link: little, or big
+  --bind-services
+      takes in the modules that provide services which the linked ones use
+  --include PATTERNS
+      takes only the resources with a name that a pattern of the list matches
+
+plug-ins:
+  --exclude-resources PATTERNS
+      leaves out the resources with a name that a pattern matches
+  --order-resources PATTERNS
+      puts the resources in the order of the patterns that match their names
+  --strip-java-debug-attributes
+      drops what a class says for debuggers
+  --compact-pool
+      drops what a class holds and doesn't use
+
+statuses:
+  0 the output was put
+  2 the words make no command
+  3 the command refuses its input
+  4 the image is damaged
+  5 the image, the file or the name isn't there
+  6 a file or a stream failed
+  7 no memory was found
+  8 a session broke its limits
+";
+
+/// `--help`: every command with its words, the options, the plug-ins and the statuses.
+pub fn help_command<O: Sink>(alloc: Global, out: &mut O) -> Result<(), Stop>
+    ensures { PutDoes (done help_text) result
+        (seen (O.content out.old) (O.faults out.old))
+        (seen (O.content out.new) (O.faults out.new)) }
+{
+    put_output(alloc, HELP.as_bytes(), out)
+}
