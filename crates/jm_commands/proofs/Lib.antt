@@ -1,3 +1,6 @@
 pub mod Gotten
+pub mod ListingLaws
+mod ListingVectors
+pub mod Rising
 pub mod RunLaws
 pub mod StepLaws

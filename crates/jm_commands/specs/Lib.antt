@@ -4,5 +4,6 @@ pub mod Run
 pub mod Sinks
 pub mod StatusValue
 pub mod Stops
+pub mod Taken
 pub mod Texts
 pub mod Words

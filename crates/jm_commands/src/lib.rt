@@ -4,6 +4,7 @@
 mod cat;
 mod complaint;
 mod image_file;
+mod listing;
 mod program;
 mod status;
 mod stop;
