@@ -18,7 +18,7 @@ commands_text =
     ++ codes "  cat IMAGE NAME\n"
     ++ codes "      puts the bytes of the entry of that name\n"
     ++ codes "  list IMAGE [--include PATTERNS]\n"
-    ++ codes "      puts the size and the name of each resource (not built yet)\n"
+    ++ codes "      puts the size and the name of each resource\n"
     ++ codes "  ls IMAGE PATH\n"
     ++ codes "      puts what a folder of the image holds (not built yet)\n"
     ++ codes "  info IMAGE\n"

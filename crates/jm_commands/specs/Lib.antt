@@ -6,6 +6,7 @@ pub mod Run
 pub mod Sinks
 pub mod StatusValue
 pub mod Stops
+pub mod Taken
 pub mod Texts
 pub mod VerifyText
 pub mod Writes

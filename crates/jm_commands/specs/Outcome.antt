@@ -17,6 +17,7 @@ use Rattle.jm_commands.specs.declared.status.Status.{Status}
 use Rattle.jm_commands.specs.declared.status.Status.TheVariants as status
 use Rattle.jm_commands.specs.HelpText.{help_text, version_text}
 use Rattle.jm_commands.specs.InfoText.{info_text}
+use Rattle.jm_commands.specs.Taken.{list_text}
 use Rattle.jm_commands.specs.VerifyText.{verify_text}
 
 -- the status, what the output gets, the line that the error sink gets, and the files that are
@@ -53,6 +54,7 @@ cat_outcome name (Some found) = done found.1
 -- which commands are built yet; another one is as unknown as its name
 abbrev pub is_built : Command → Bool
 is_built (command.Cat image name jobs) = true
+is_built (command.List image include jobs) = true
 is_built (command.Info image jobs) = true
 is_built (command.Verify image jobs) = true
 is_built (command.Help jobs) = true
@@ -65,6 +67,7 @@ unbuilt = faulty (error.Fault 1 kind.UnknownCommand)
 -- a command on an image, by the bytes of its file, which have no damage
 abbrev pub image_outcome : Command → List ℕ → Outcome
 image_outcome (command.Cat image name jobs) b = cat_outcome name (look b name)
+image_outcome (command.List image include jobs) b = done (list_text b include)
 image_outcome (command.Info image jobs) b = done (info_text b)
 image_outcome (command.Verify image jobs) b = done (verify_text b)
 image_outcome _ b = unbuilt

@@ -20,7 +20,7 @@ commands:
   cat IMAGE NAME
       puts the bytes of the entry of that name
   list IMAGE [--include PATTERNS]
-      puts the size and the name of each resource (not built yet)
+      puts the size and the name of each resource
   ls IMAGE PATH
       puts what a folder of the image holds (not built yet)
   info IMAGE

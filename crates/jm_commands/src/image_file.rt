@@ -10,6 +10,7 @@ ghost use Rattle.jm_commands.specs.Stops.{unbuilt_stop};
 use crate::cat::cat_command;
 use crate::complaint::Complaint;
 use crate::info::info_command;
+use crate::listing::list_command;
 use crate::stop::{Stop, unbuilt};
 use crate::verify::verify_command;
 use jm_bytes::{Meter, Steps, Text};
@@ -86,6 +87,7 @@ fn do_on_image<O: Sink>(
 {
     match command {
         Command::Cat { name, .. } => cat_step(alloc, image, bytes, name.as_slice(), out),
+        Command::List { include, .. } => list_command(alloc, image, bytes, include, out),
         Command::Info { .. } => info_command(alloc, image, out),
         Command::Verify { .. } => verify_command(alloc, image, out),
         _ => Err(unbuilt()),

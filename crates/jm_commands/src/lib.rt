@@ -6,6 +6,7 @@ mod complaint;
 mod help;
 mod image_file;
 mod info;
+mod listing;
 mod output;
 mod program;
 mod status;

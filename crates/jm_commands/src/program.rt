@@ -39,6 +39,7 @@ fn is_built(command: &Command) -> bool
 {
     match command {
         Command::Cat { .. }
+        | Command::List { .. }
         | Command::Info { .. }
         | Command::Verify { .. }
         | Command::Help { .. }
