@@ -31,10 +31,7 @@ fn front_text(alloc: Global, header: &Header) -> Result<String, AllocError>
     let flags = header.flags;
     let count = header.count;
     let slots = header.length;
-    format!(
-        in alloc;
-        "order {order}\nversion 1.0\nflags {flags}\nentries {count}\nslots {slots}\n"
-    )
+    format!(in alloc; "order {order}\nversion 1.0\nflags {flags}\nentries {count}\nslots {slots}\n")
 }
 
 /// The lines on the lengths of the parts, with so many bytes of contents.
@@ -44,8 +41,7 @@ fn lengths_text(alloc: Global, header: &Header, contents: usize) -> Result<Strin
     let locations = header.locations;
     let strings = header.strings;
     let index = header.contents_place();
-    format!(
-        in alloc;
+    format!(in alloc;
         "locations {locations}\nstrings {strings}\nindex {index}\ncontents {contents}\n"
     )
 }
