@@ -1,9 +1,6 @@
 -- What a run does, from what its step did.
-use Rattle.std.proofs.Common.{◌≡◌, inl, inr, ℕ, List, [], Result, Ok, Err, refl, sym, ap, ◌∙◌, subst}
+use Rattle.std.proofs.Common.{◌≡◌, inl, inr, ℕ, List, Ok, Err, refl, sym, ◌∙◌, subst}
 use Rattle.jm_outside.specs.Files.{Files}
-use Rattle.jm_outside.specs.Outcome.{Rose}
-use Rattle.jm_outside.specs.declared.streams.SinkError.{SinkError}
-use Rattle.jm_outside.specs.declared.streams.SinkError.TheVariants as sink_error
 use Rattle.jm_commands.specs.declared.complaint.Complaint.{Complaint}
 use Rattle.jm_commands.specs.declared.complaint.Complaint.TheVariants as complaint
 use Rattle.jm_commands.specs.declared.status.Status.{Status}

@@ -1,6 +1,7 @@
 ghost use Rattle.std.specs.Prelude.{◌≡◌, ◌-◌, length, IfOk, string_bytes};
 ghost use Rattle.jm_form.specs.Head.{index_length};
-ghost use Rattle.jm_commands.specs.InfoText.{front_text, header_text, info_text, lengths_text, order_text};
+ghost use Rattle.jm_commands.specs.InfoText.{front_text, header_text, info_text};
+ghost use Rattle.jm_commands.specs.InfoText.{lengths_text, order_text};
 ghost use Rattle.jm_commands.specs.Outcome.{done};
 ghost use Rattle.jm_commands.specs.Run.{PutDoes};
 ghost use Rattle.jm_commands.specs.Sinks.{seen};

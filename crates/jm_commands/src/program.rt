@@ -1,8 +1,10 @@
-ghost use Rattle.std.specs.Prelude.{◌≡◌, ◌<◌, IfSome, IsUtf8, List, ℕ, Option, map, option_map, string_bytes};
+ghost use Rattle.std.specs.Prelude.{◌≡◌, ◌<◌, List, ℕ, Option, IfSome, IsUtf8};
+ghost use Rattle.std.specs.Prelude.{map, option_map, string_bytes};
 ghost use Rattle.jm_words.specs.Commands.{command_in};
 ghost use Rattle.jm_words.specs.Paths.{FilePathsAreText, jobs_in};
 ghost use Rattle.jm_commands.specs.Outcome.{Outcome, image_path, is_built, plain_outcome};
-ghost use Rattle.jm_commands.specs.Run.{CommandComesTo, ComesTo, PutDoes, ReportDoes, RunDoes, StepDoes};
+ghost use Rattle.jm_commands.specs.Run.{CommandComesTo, ComesTo, PutDoes};
+ghost use Rattle.jm_commands.specs.Run.{ReportDoes, RunDoes, StepDoes};
 ghost use Rattle.jm_commands.specs.Sinks.{seen};
 
 use crate::complaint::Complaint;

@@ -74,8 +74,8 @@ fn sink_of(alloc: Global, fails: Option<u64>) -> Result<MemSink, Fail> {
     Ok(sink)
 }
 
-/// What a run gives: the digit of its status, the output and the error sink's text, with a bar between
-/// them.
+/// What a run gives: the digit of its status, the output and the error sink's text, with a bar
+/// between them.
 fn run_on<T: Threads + Sync>(
     rt: &T,
     alloc: Global,
