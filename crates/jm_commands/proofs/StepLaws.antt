@@ -16,7 +16,7 @@ use Rattle.jm_commands.specs.declared.complaint.Complaint.TheVariants as complai
 use Rattle.jm_commands.specs.declared.stop.Stop.{Stop}
 use Rattle.jm_commands.specs.declared.stop.Stop.TheVariants as stop
 use Rattle.jm_commands.specs.Cat.{content_of}
-use Rattle.jm_commands.specs.Outcome.{Outcome, built_outcome, cat_outcome, command_outcome, faulty, file_outcome, image_path, is_built, not_there, plain_outcome, unbuilt}
+use Rattle.jm_commands.specs.Outcome.{Outcome, built_outcome, cat_outcome, command_outcome, faulty, file_outcome, read_path, is_built, not_there, plain_outcome, unbuilt}
 use Rattle.jm_commands.specs.Run.{CommandComesTo, ComesTo, HasFile, PutDoes, StepDoes, outcome_of, status_of}
 use Rattle.jm_commands.specs.Sinks.{Gets, Seen}
 use Rattle.jm_commands.specs.Stops.{stop_of_shelf, unbuilt_stop}
@@ -126,25 +126,25 @@ CommandDoes command answer shelf new_shelf out new_out =
 
 module _ (command : Command) (answer : Result (Unit {0}) Stop) (shelf new_shelf : Seen Files) (out new_out : Seen (List ℕ)) where
   -- from the file that was found, and what is due then
-  step_with : (found : Option (List ℕ)) → HasFile shelf.told (image_path command) found → StepDoes (command_outcome command found) answer shelf new_shelf out new_out → CommandDoes command answer shelf new_shelf out new_out
+  step_with : (found : Option (List ℕ)) → HasFile shelf.told (read_path command) found → StepDoes (command_outcome command found) answer shelf new_shelf out new_out → CommandDoes command answer shelf new_shelf out new_out
   step_with found has does = (command_outcome command found, (found, has, refl), does)
 
-  pub image_step : (path : List ℕ) (found : Option (List ℕ)) → is_built command ≡ true → image_path command ≡ Some path → HasFile shelf.told (Some path) found → StepDoes (file_outcome command path found) answer shelf new_shelf out new_out → CommandDoes command answer shelf new_shelf out new_out
-  image_step path found built is has does =
+  pub file_step : (path : List ℕ) (found : Option (List ℕ)) → is_built command ≡ true → read_path command ≡ Some path → HasFile shelf.told (Some path) found → StepDoes (file_outcome command path found) answer shelf new_shelf out new_out → CommandDoes command answer shelf new_shelf out new_out
+  file_step path found built is has does =
       let due : command_outcome command found ≡ file_outcome command path found = rw built (ap (λ p. built_outcome command p found) is) in
       step_with found (rw is has) (rw due does)
 
-  pub plain_step : is_built command ≡ true → image_path command ≡ None → new_shelf.told ≡ shelf.told → PutDoes (plain_outcome command) answer out new_out → CommandDoes command answer shelf new_shelf out new_out
+  pub plain_step : is_built command ≡ true → read_path command ≡ None → new_shelf.told ≡ shelf.told → PutDoes (plain_outcome command) answer out new_out → CommandDoes command answer shelf new_shelf out new_out
   plain_step built is files does =
-      let found = told_file shelf.told (image_path command) in
+      let found = told_file shelf.told (read_path command) in
       let due : command_outcome command found ≡ plain_outcome command = rw built (ap (λ p. built_outcome command p found) is) in
-      step_with found (has_told_file shelf.told (image_path command)) (rw due (put_step (plain_outcome command) shelf new_shelf out new_out files answer does))
+      step_with found (has_told_file shelf.told (read_path command)) (rw due (put_step (plain_outcome command) shelf new_shelf out new_out files answer does))
 
   pub unbuilt_step : is_built command ≡ false → answer ≡ Err unbuilt_stop → new_shelf.told ≡ shelf.told → new_out.told ≡ out.told → CommandDoes command answer shelf new_shelf out new_out
   unbuilt_step fails is files unput =
-      let found = told_file shelf.told (image_path command) in
+      let found = told_file shelf.told (read_path command) in
       let due : command_outcome command found ≡ unbuilt = rw fails refl in
-      step_with found (has_told_file shelf.told (image_path command)) (rw (due, is) (put_step unbuilt shelf new_shelf out new_out files (Err unbuilt_stop) (complained unbuilt _ out new_out refl unput)))
+      step_with found (has_told_file shelf.told (read_path command)) (rw (due, is) (put_step unbuilt shelf new_shelf out new_out files (Err unbuilt_stop) (complained unbuilt _ out new_out refl unput)))
 
 -- All words
 
@@ -175,6 +175,6 @@ words_unread asked shelf out = go asked
 
     go : (asked : Result Command WordsError) → WordsDo asked (Err stop.Memory) shelf shelf out out
     go (Ok command) =
-        let found = told_file shelf.told (image_path command) in
-        (command_outcome command found, (found, has_told_file shelf.told (image_path command), refl), does (command_outcome command found))
+        let found = told_file shelf.told (read_path command) in
+        (command_outcome command found, (found, has_told_file shelf.told (read_path command), refl), does (command_outcome command found))
     go (Err fault) = (faulty fault, refl, does (faulty fault))

@@ -10,7 +10,7 @@ use Rattle.jm_commands.specs.declared.status.Status.{Status}
 use Rattle.jm_commands.specs.declared.status.Status.TheVariants as status
 use Rattle.jm_commands.specs.declared.stop.Stop.{Stop}
 use Rattle.jm_commands.specs.declared.stop.Stop.TheVariants as stop
-use Rattle.jm_commands.specs.Outcome.{Outcome, command_outcome, damaged, done, faulty, image_path, not_there}
+use Rattle.jm_commands.specs.Outcome.{Outcome, command_outcome, damaged, done, faulty, not_there, read_path}
 use Rattle.jm_commands.specs.Sinks.{Seen, Gets, GetsFront}
 use Rattle.jm_commands.specs.Texts.{line_of}
 use Rattle.jm_commands.specs.Writes.{Makes, MakesFront}
@@ -27,7 +27,7 @@ HasFile told (Some path) found = Shows told (λ files. found ≡ file files path
 -- a line of its own: over told files it comes to their outcome, and over others to any.
 abbrev pub CommandComesTo : Option Files → Command → Outcome → Type 0
 CommandComesTo told command due =
-    (found : Option (List ℕ)) × HasFile told (image_path command) found
+    (found : Option (List ℕ)) × HasFile told (read_path command) found
     × (due ≡ command_outcome command found)
 
 -- what all words come to: their command, or their first fault
