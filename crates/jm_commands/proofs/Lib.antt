@@ -2,6 +2,8 @@ pub mod Gotten
 pub mod ListingLaws
 mod ListingVectors
 pub mod Made
+pub mod OutcomeLaws
 pub mod Rising
 pub mod RunLaws
 pub mod StepLaws
+mod Vectors

@@ -1,5 +1,5 @@
 -- Files that are made.
-use Rattle.std.proofs.Common.{◌≡◌, inl, inr, ℕ, List, [], ◌∷◌, Option, Some, None, option_map, refl, sym, ap, ◌∙◌, subst}
+use Rattle.std.proofs.Common.{◌≡◌, inl, inr, ℕ, List, [], ◌∷◌, Option, Some, None, option_map, refl, sym, ◌∙◌, subst}
 use Rattle.jm_bytes.proofs.Choice.{same_some}
 use Rattle.jm_outside.specs.Files.{Files, put}
 use Rattle.jm_outside.specs.Outcome.{Told}

@@ -1,9 +1,6 @@
 -- What a run does, from what its step did.
-use Rattle.std.proofs.Common.{◌≡◌, inl, inr, ℕ, List, [], Result, Ok, Err, refl, sym, ap, ◌∙◌, subst}
+use Rattle.std.proofs.Common.{◌≡◌, inl, inr, ℕ, List, Ok, Err, refl, sym, ◌∙◌, subst}
 use Rattle.jm_outside.specs.Files.{Files}
-use Rattle.jm_outside.specs.Outcome.{Rose}
-use Rattle.jm_outside.specs.declared.streams.SinkError.{SinkError}
-use Rattle.jm_outside.specs.declared.streams.SinkError.TheVariants as sink_error
 use Rattle.jm_commands.specs.declared.complaint.Complaint.{Complaint}
 use Rattle.jm_commands.specs.declared.complaint.Complaint.TheVariants as complaint
 use Rattle.jm_commands.specs.declared.status.Status.{Status}
@@ -28,11 +25,14 @@ reported given is err new_err same put = subst (λ (s : Status). ReportDoes give
 module _ (due : Outcome) (shelf new_shelf : Seen Files) (out new_out : Seen (List ℕ)) where
   -- the step did its work
   pub ran_done : (err : Seen (List ℕ)) → StepDoes due (Ok tt) shelf new_shelf out new_out → RunDoes due status.Done shelf new_shelf out new_out err err
-  ran_done err step = (sym step.answers.0, record {
-    output = step.output;
-    line = subst (λ (text : List ℕ). Gets text err err) (sym step.answers.1) (gets_nothing err err refl);
-    files = step.files;
-  })
+  ran_done err step = (
+    sym step.answers.0,
+    record {
+      output = step.output;
+      line = subst (λ (text : List ℕ). Gets text err err) (sym step.answers.1) (gets_nothing err err refl);
+      files = step.files;
+    },
+  )
 
   -- the outside failed
   pub ran_outside : (err : Seen (List ℕ)) → StepDoes due (Err stop.Outside) shelf new_shelf out new_out → RunDoes due status.Outside shelf new_shelf out new_out err err

@@ -1,14 +1,11 @@
 -- What a step does, from what its calls answered.
-use Rattle.std.proofs.Common.{◌≡◌, ◌≤◌, ℕ, Bool, true, false, List, [], Option, Some, None, is_some, Result, Ok, Err, inl, inr, refl, sym, ap, ◌∙◌, subst, IsErrAnd, IsErrOf}
+use Rattle.std.proofs.Common.{◌≡◌, ℕ, true, false, List, [], Option, Some, None, is_some, Result, Ok, Err, inl, inr, refl, sym, ap, ◌∙◌, subst, IsErrAnd}
 use Rattle.jm_form.specs.declared.rows.Row.{Row}
 use Rattle.jm_names.specs.UtfForms.{utf}
 use Rattle.jm_outside.specs.Files.{Files, file}
 use Rattle.jm_outside.specs.Outcome.{Rose}
-use Rattle.jm_bytes.specs.declared.texts.Text.{Text}
 use Rattle.jm_outside.specs.declared.shelf.ShelfError.{ShelfError}
 use Rattle.jm_outside.specs.declared.shelf.ShelfError.TheVariants as shelf_error
-use Rattle.jm_outside.specs.declared.streams.SinkError.{SinkError}
-use Rattle.jm_outside.specs.declared.streams.SinkError.TheVariants as sink_error
 use Rattle.jm_words.specs.declared.commands.Command.{Command}
 use Rattle.jm_words.specs.declared.errors.WordsError.{WordsError}
 use Rattle.jm_words.specs.declared.errors.WordsError.TheVariants as error
@@ -19,10 +16,10 @@ use Rattle.jm_commands.specs.declared.complaint.Complaint.TheVariants as complai
 use Rattle.jm_commands.specs.declared.stop.Stop.{Stop}
 use Rattle.jm_commands.specs.declared.stop.Stop.TheVariants as stop
 use Rattle.jm_commands.specs.Cat.{content_of}
-use Rattle.jm_commands.specs.Outcome.{Outcome, built_outcome, cat_outcome, command_outcome, done, faulty, file_outcome, image_path, is_built, not_there, plain_outcome, unbuilt}
-use Rattle.jm_commands.specs.Run.{AnswersAll, CommandComesTo, ComesTo, HasFile, PutDoes, ReadDoes, StepDoes, outcome_of, status_of}
-use Rattle.jm_commands.specs.Sinks.{Gets, GetsFront, Seen}
-use Rattle.jm_commands.specs.Stops.{stop_of_shelf, stop_of_sink, unbuilt_stop}
+use Rattle.jm_commands.specs.Outcome.{Outcome, built_outcome, cat_outcome, command_outcome, faulty, file_outcome, read_path, is_built, not_there, plain_outcome, unbuilt}
+use Rattle.jm_commands.specs.Run.{CommandComesTo, ComesTo, HasFile, PutDoes, StepDoes, outcome_of, status_of}
+use Rattle.jm_commands.specs.Sinks.{Gets, Seen}
+use Rattle.jm_commands.specs.Stops.{stop_of_shelf, unbuilt_stop}
 use Rattle.jm_commands.specs.Texts.{line_of}
 use Rattle.jm_commands.specs.Writes.{Makes}
 use Rattle.jm_commands.proofs.Gotten.{front_of_nothing, gets_nothing}
@@ -78,13 +75,9 @@ has_told_file None (Some path) = tt
 has_told_file (Some files) (Some path) = refl
 
 -- a read failed; nothing was put
-pub read_failed : (due : Outcome) (error : ShelfError) (shelf new_shelf : Seen Files) (out : Seen (List ℕ)) → new_shelf.told ≡ shelf.told → (error ≡ shelf_error.Failed → Rose shelf.faults new_shelf.faults) → ReadDoes due (Err (stop_of_shelf error)) shelf new_shelf out out
-read_failed due shelf_error.Failed shelf new_shelf out files rose = record { answers = tt; output = front_of_nothing due.output out out refl; files = files; outside = λ failed. inl (rose refl) }
-read_failed due shelf_error.Memory shelf new_shelf out files rose = record { answers = tt; output = front_of_nothing due.output out out refl; files = files; outside = λ failed. cc }
-
--- a put behind a read
-pub read_and_put : (due : Outcome) (answer : Result (Unit {0}) Stop) (shelf new_shelf : Seen Files) (out new_out : Seen (List ℕ)) → new_shelf.told ≡ shelf.told → PutDoes due answer out new_out → ReadDoes due answer shelf new_shelf out new_out
-read_and_put due answer shelf new_shelf out new_out files put = record { answers = put.answers; output = put.output; files = files; outside = λ failed. inr (put.outside failed) }
+pub read_failed : (due : Outcome) (error : ShelfError) (shelf new_shelf : Seen Files) (out : Seen (List ℕ)) → new_shelf.told ≡ shelf.told → (error ≡ shelf_error.Failed → Rose shelf.faults new_shelf.faults) → StepDoes due (Err (stop_of_shelf error)) shelf new_shelf out out
+read_failed due shelf_error.Failed shelf new_shelf out files rose = record { answers = tt; output = front_of_nothing due.output out out refl; files = front_of_none due.writes shelf new_shelf files; outside = λ failed. inl (rose refl) }
+read_failed due shelf_error.Memory shelf new_shelf out files rose = record { answers = tt; output = front_of_nothing due.output out out refl; files = front_of_none due.writes shelf new_shelf files; outside = λ failed. cc }
 
 -- Any step
 
@@ -103,22 +96,26 @@ complaint_writes (complaint.Words fault) = refl
 complaint_writes (complaint.Damaged damage) = refl
 complaint_writes (complaint.NotThere text) = refl
 
--- a step that makes no file
-pub step_of_read : (due : Outcome) (answer : Result (Unit {0}) Stop) (shelf new_shelf : Seen Files) (out new_out : Seen (List ℕ)) → ReadDoes due answer shelf new_shelf out new_out → StepDoes due answer shelf new_shelf out new_out
-step_of_read due (Ok _) shelf new_shelf out new_out read = record {
-  answers = (ap (λ o. o.status) read.answers, ap (λ o. o.line) read.answers);
-  output = read.output;
-  files = subst (λ (writes : List (List ℕ × List ℕ)). Makes writes shelf new_shelf) (sym (ap (λ o. o.writes) read.answers)) (makes_nothing shelf new_shelf read.files);
-  outside = read.outside;
-}
-step_of_read due (Err (stop.Complaint given)) shelf new_shelf out new_out read = record {
-  answers = (ap (λ o. o.status) read.answers ∙ complaint_status given, ap (λ o. o.line) read.answers ∙ complaint_line given);
-  output = read.output;
-  files = subst (λ (writes : List (List ℕ × List ℕ)). Makes writes shelf new_shelf) (sym (ap (λ o. o.writes) read.answers ∙ complaint_writes given)) (makes_nothing shelf new_shelf read.files);
-  outside = read.outside;
-}
-step_of_read due (Err stop.Outside) shelf new_shelf out new_out read = record { answers = tt; output = read.output; files = front_of_none due.writes shelf new_shelf read.files; outside = read.outside }
-step_of_read due (Err stop.Memory) shelf new_shelf out new_out read = record { answers = tt; output = read.output; files = front_of_none due.writes shelf new_shelf read.files; outside = read.outside }
+-- a put, behind calls that changed no file
+module _ (due : Outcome) (shelf new_shelf : Seen Files) (out new_out : Seen (List ℕ)) (files : new_shelf.told ≡ shelf.told) where
+  unmade : due.writes ≡ [] → Makes due.writes shelf new_shelf
+  unmade none = subst (λ (writes : List (List ℕ × List ℕ)). Makes writes shelf new_shelf) (sym none) (makes_nothing shelf new_shelf files)
+
+  pub put_step : (answer : Result (Unit {0}) Stop) → PutDoes due answer out new_out → StepDoes due answer shelf new_shelf out new_out
+  put_step (Ok _) put = record {
+    answers = (ap (λ o. o.status) put.answers, ap (λ o. o.line) put.answers);
+    output = put.output;
+    files = unmade (ap (λ o. o.writes) put.answers);
+    outside = λ failed. cc;
+  }
+  put_step (Err (stop.Complaint given)) put = record {
+    answers = (ap (λ o. o.status) put.answers ∙ complaint_status given, ap (λ o. o.line) put.answers ∙ complaint_line given);
+    output = put.output;
+    files = unmade (ap (λ o. o.writes) put.answers ∙ complaint_writes given);
+    outside = λ failed. cc;
+  }
+  put_step (Err stop.Outside) put = record { answers = tt; output = put.output; files = front_of_none due.writes shelf new_shelf files; outside = λ failed. inr (put.outside failed) }
+  put_step (Err stop.Memory) put = record { answers = tt; output = put.output; files = front_of_none due.writes shelf new_shelf files; outside = λ failed. cc }
 
 -- What a command comes to
 
@@ -129,25 +126,25 @@ CommandDoes command answer shelf new_shelf out new_out =
 
 module _ (command : Command) (answer : Result (Unit {0}) Stop) (shelf new_shelf : Seen Files) (out new_out : Seen (List ℕ)) where
   -- from the file that was found, and what is due then
-  step_with : (found : Option (List ℕ)) → HasFile shelf.told (image_path command) found → ReadDoes (command_outcome command found) answer shelf new_shelf out new_out → CommandDoes command answer shelf new_shelf out new_out
-  step_with found has does = (command_outcome command found, (found, has, refl), step_of_read (command_outcome command found) answer shelf new_shelf out new_out does)
+  step_with : (found : Option (List ℕ)) → HasFile shelf.told (read_path command) found → StepDoes (command_outcome command found) answer shelf new_shelf out new_out → CommandDoes command answer shelf new_shelf out new_out
+  step_with found has does = (command_outcome command found, (found, has, refl), does)
 
-  pub image_step : (path : List ℕ) (found : Option (List ℕ)) → is_built command ≡ true → image_path command ≡ Some path → HasFile shelf.told (Some path) found → ReadDoes (file_outcome command path found) answer shelf new_shelf out new_out → CommandDoes command answer shelf new_shelf out new_out
-  image_step path found built is has does =
+  pub file_step : (path : List ℕ) (found : Option (List ℕ)) → is_built command ≡ true → read_path command ≡ Some path → HasFile shelf.told (Some path) found → StepDoes (file_outcome command path found) answer shelf new_shelf out new_out → CommandDoes command answer shelf new_shelf out new_out
+  file_step path found built is has does =
       let due : command_outcome command found ≡ file_outcome command path found = rw built (ap (λ p. built_outcome command p found) is) in
       step_with found (rw is has) (rw due does)
 
-  pub plain_step : is_built command ≡ true → image_path command ≡ None → new_shelf.told ≡ shelf.told → PutDoes (plain_outcome command) answer out new_out → CommandDoes command answer shelf new_shelf out new_out
+  pub plain_step : is_built command ≡ true → read_path command ≡ None → new_shelf.told ≡ shelf.told → PutDoes (plain_outcome command) answer out new_out → CommandDoes command answer shelf new_shelf out new_out
   plain_step built is files does =
-      let found = told_file shelf.told (image_path command) in
+      let found = told_file shelf.told (read_path command) in
       let due : command_outcome command found ≡ plain_outcome command = rw built (ap (λ p. built_outcome command p found) is) in
-      step_with found (has_told_file shelf.told (image_path command)) (rw due (read_and_put (plain_outcome command) answer shelf new_shelf out new_out files does))
+      step_with found (has_told_file shelf.told (read_path command)) (rw due (put_step (plain_outcome command) shelf new_shelf out new_out files answer does))
 
   pub unbuilt_step : is_built command ≡ false → answer ≡ Err unbuilt_stop → new_shelf.told ≡ shelf.told → new_out.told ≡ out.told → CommandDoes command answer shelf new_shelf out new_out
   unbuilt_step fails is files unput =
-      let found = told_file shelf.told (image_path command) in
+      let found = told_file shelf.told (read_path command) in
       let due : command_outcome command found ≡ unbuilt = rw fails refl in
-      step_with found (has_told_file shelf.told (image_path command)) (rw (due, is) (read_and_put unbuilt (Err unbuilt_stop) shelf new_shelf out new_out files (complained unbuilt _ out new_out refl unput)))
+      step_with found (has_told_file shelf.told (read_path command)) (rw (due, is) (put_step unbuilt shelf new_shelf out new_out files (Err unbuilt_stop) (complained unbuilt _ out new_out refl unput)))
 
 -- All words
 
@@ -158,7 +155,7 @@ WordsDo asked answer shelf new_shelf out new_out =
 -- words make no command
 pub words_faulty : (asked : Result Command WordsError) (at : ℕ) (kind : WordsKind) (shelf : Seen Files) (out : Seen (List ℕ)) → UnlessMemory (Err (error.Fault at kind)) asked → WordsDo asked (Err (stop.Complaint (complaint.Words (error.Fault at kind)))) shelf shelf out out
 words_faulty asked at kind shelf out (inl memory) = cc
-words_faulty asked at kind shelf out (inr read) = subst (λ (a : Result Command WordsError). WordsDo a answer shelf shelf out out) read (due, refl, step_of_read due answer shelf shelf out out (read_and_put due answer shelf shelf out out refl (complained due given out out refl refl)))
+words_faulty asked at kind shelf out (inr read) = subst (λ (a : Result Command WordsError). WordsDo a answer shelf shelf out out) read (due, refl, put_step due shelf shelf out out refl answer (complained due given out out refl refl))
   where
     given : Complaint
     given = complaint.Words (error.Fault at kind)
@@ -174,10 +171,10 @@ pub words_unread : (asked : Result Command WordsError) (shelf : Seen Files) (out
 words_unread asked shelf out = go asked
   where
     does : (due : Outcome) → StepDoes due (Err stop.Memory) shelf shelf out out
-    does due = step_of_read due (Err stop.Memory) shelf shelf out out (read_and_put due (Err stop.Memory) shelf shelf out out refl (no_memory due out out refl))
+    does due = put_step due shelf shelf out out refl (Err stop.Memory) (no_memory due out out refl)
 
     go : (asked : Result Command WordsError) → WordsDo asked (Err stop.Memory) shelf shelf out out
     go (Ok command) =
-        let found = told_file shelf.told (image_path command) in
-        (command_outcome command found, (found, has_told_file shelf.told (image_path command), refl), does (command_outcome command found))
+        let found = told_file shelf.told (read_path command) in
+        (command_outcome command found, (found, has_told_file shelf.told (read_path command), refl), does (command_outcome command found))
     go (Err fault) = (faulty fault, refl, does (faulty fault))

@@ -12,7 +12,7 @@ abbrev pub commands_text : List ℕ
 commands_text =
     codes "commands:\n"
     ++ codes "  link --module-path DIRS --add-modules NAMES --output FILE [options] [plug-ins]\n"
-    ++ codes "      links the modules NAMES and all that they require into one image (not built yet)\n"
+    ++ codes "      links modules and all that they require into one image (not built yet)\n"
     ++ codes "  link --from-image FILE --add-modules NAMES --output FILE [options] [plug-ins]\n"
     ++ codes "      the same with the modules of another image (not built yet)\n"
     ++ codes "  cat IMAGE NAME\n"

@@ -1,6 +1,6 @@
--- What a command comes to: plain data, a function of the command and of the file that it names (this
--- project's rule).
-use Rattle.std.specs.Prelude.{ℕ, Bool, true, false, List, [], ◌∷◌, ◌++◌, Option, Some, None, Result, Ok, Err, if◌then◌else◌, codes}
+-- What a command comes to: plain data, a function of the command and of the file that it names
+-- (this project's rule).
+use Rattle.std.specs.Prelude.{ℕ, Bool, true, false, List, [], ◌∷◌, ◌++◌, Option, Some, None, if◌then◌else◌, codes}
 use Rattle.jm_form.specs.declared.damage.Damage.{Damage}
 use Rattle.jm_form.specs.declared.rows.Row.{Row}
 use Rattle.jm_form.specs.DamageText.{damage_text}
@@ -76,33 +76,34 @@ abbrev pub opened_outcome : Command → List ℕ → Option Damage → Outcome
 opened_outcome command b None = image_outcome command b
 opened_outcome command b (Some damage) = damaged damage
 
--- a command on the image of a path, by its file, if it is there
+-- a command on the file of a path, if it is there
 abbrev pub file_outcome : Command → List ℕ → Option (List ℕ) → Outcome
 file_outcome command path None = not_there path
 file_outcome command path (Some b) = opened_outcome command b (first_damage b)
 
--- the path of the image that a command reads, if it reads one
-abbrev pub image_path : Command → Option (List ℕ)
-image_path (command.Cat image name jobs) = Some image
-image_path (command.List image include jobs) = Some image
-image_path (command.Ls image path jobs) = Some image
-image_path (command.Info image jobs) = Some image
-image_path (command.Extract image dir include jobs) = Some image
-image_path (command.Verify image jobs) = Some image
-image_path (command.Serve image jobs) = Some image
-image_path _ = None
+-- the path of the one file that a command reads, if it reads one
+abbrev pub read_path : Command → Option (List ℕ)
+read_path (command.Cat image name jobs) = Some image
+read_path (command.List image include jobs) = Some image
+read_path (command.Ls image path jobs) = Some image
+read_path (command.Info image jobs) = Some image
+read_path (command.Extract image dir include jobs) = Some image
+read_path (command.Verify image jobs) = Some image
+read_path (command.Serve image jobs) = Some image
+read_path (command.Describe file jobs) = Some file
+read_path _ = None
 
--- a command that reads no image
+-- a command that reads no file
 abbrev pub plain_outcome : Command → Outcome
 plain_outcome (command.Help jobs) = done help_text
 plain_outcome (command.Version jobs) = done version_text
 plain_outcome _ = unbuilt
 
--- a command that is built, by the path of its image, and the file there, if it reads one
+-- a command that is built, by the path that it reads, and the file there
 abbrev pub built_outcome : Command → Option (List ℕ) → Option (List ℕ) → Outcome
 built_outcome command None file = plain_outcome command
 built_outcome command (Some path) file = file_outcome command path file
 
 abbrev pub command_outcome : Command → Option (List ℕ) → Outcome
 command_outcome command file =
-    if is_built command then built_outcome command (image_path command) file else unbuilt
+    if is_built command then built_outcome command (read_path command) file else unbuilt

@@ -1,5 +1,5 @@
 -- What a run did to the outside, said by what its command comes to (this project's rule).
-use Rattle.std.specs.Prelude.{ℕ, ◌≡◌, ◌≤◌, ◌⊎◌, List, [], Option, Some, None, Result, Ok, Err}
+use Rattle.std.specs.Prelude.{ℕ, ◌≡◌, ◌⊎◌, List, [], Option, Some, None, Result, Ok, Err}
 use Rattle.jm_outside.specs.Files.{Files, file}
 use Rattle.jm_outside.specs.Outcome.{Rose, Shows}
 use Rattle.jm_words.specs.declared.commands.Command.{Command}
@@ -10,7 +10,7 @@ use Rattle.jm_commands.specs.declared.status.Status.{Status}
 use Rattle.jm_commands.specs.declared.status.Status.TheVariants as status
 use Rattle.jm_commands.specs.declared.stop.Stop.{Stop}
 use Rattle.jm_commands.specs.declared.stop.Stop.TheVariants as stop
-use Rattle.jm_commands.specs.Outcome.{Outcome, command_outcome, damaged, done, faulty, image_path, not_there}
+use Rattle.jm_commands.specs.Outcome.{Outcome, command_outcome, damaged, done, faulty, not_there, read_path}
 use Rattle.jm_commands.specs.Sinks.{Seen, Gets, GetsFront}
 use Rattle.jm_commands.specs.Texts.{line_of}
 use Rattle.jm_commands.specs.Writes.{Makes, MakesFront}
@@ -22,12 +22,12 @@ abbrev pub HasFile : Option Files → Option (List ℕ) → Option (List ℕ) �
 HasFile told None found = Unit {0}
 HasFile told (Some path) found = Shows told (λ files. found ≡ file files path)
 
--- A command that reads one file comes to one outcome, whether the shelf tells its files or not: of a
--- shelf that tells nothing, to that of some file. A command that reads many files joins here with a
--- line of its own, over the told files alone.
+-- A command that reads one file comes to one outcome, whether the shelf tells its files or not: over
+-- a shelf that tells nothing, to that of some file. A command that reads many files joins here with
+-- a line of its own: over told files it comes to their outcome, and over others to any.
 abbrev pub CommandComesTo : Option Files → Command → Outcome → Type 0
 CommandComesTo told command due =
-    (found : Option (List ℕ)) × HasFile told (image_path command) found
+    (found : Option (List ℕ)) × HasFile told (read_path command) found
     × (due ≡ command_outcome command found)
 
 -- what all words come to: their command, or their first fault
@@ -58,18 +58,19 @@ Outputs (Err stop.Outside) output old new = GetsFront output old new
 Outputs (Err stop.Memory) output old new = GetsFront output old new
 
 -- so are the files that are made
-abbrev pub Writes : Result (Unit {0}) Stop → List (List ℕ × List ℕ) → Seen Files → Seen Files → Type 0
-Writes (Ok _) writes old new = Makes writes old new
-Writes (Err (stop.Complaint complaint)) writes old new = Makes writes old new
-Writes (Err stop.Outside) writes old new = MakesFront writes old new
-Writes (Err stop.Memory) writes old new = MakesFront writes old new
+abbrev pub FilesMade : Result (Unit {0}) Stop → List (List ℕ × List ℕ) → Seen Files → Seen Files
+    → Type 0
+FilesMade (Ok _) writes old new = Makes writes old new
+FilesMade (Err (stop.Complaint complaint)) writes old new = Makes writes old new
+FilesMade (Err stop.Outside) writes old new = MakesFront writes old new
+FilesMade (Err stop.Memory) writes old new = MakesFront writes old new
 
 -- any step, where this is what the command comes to
 pub record StepDoes (due : Outcome) (answer : Result (Unit {0}) Stop)
     (shelf new_shelf : Seen Files) (out new_out : Seen (List ℕ)) : Type 0 where
   pub answers : Answers due answer
   pub output : Outputs answer due.output out new_out
-  pub files : Writes answer due.writes shelf new_shelf
+  pub files : FilesMade answer due.writes shelf new_shelf
   pub outside : answer ≡ Err stop.Outside →
       (Rose shelf.faults new_shelf.faults) ⊎ (Rose out.faults new_out.faults)
 
@@ -92,15 +93,6 @@ pub record PutDoes (due : Outcome) (answer : Result (Unit {0}) Stop)
   pub answers : AnswersAll due answer
   pub output : Outputs answer due.output out new_out
   pub outside : answer ≡ Err stop.Outside → Rose out.faults new_out.faults
-
--- a step that reads the shelf besides; no file changes
-pub record ReadDoes (due : Outcome) (answer : Result (Unit {0}) Stop)
-    (shelf new_shelf : Seen Files) (out new_out : Seen (List ℕ)) : Type 0 where
-  pub answers : AnswersAll due answer
-  pub output : Outputs answer due.output out new_out
-  pub files : new_shelf.told ≡ shelf.told
-  pub outside : answer ≡ Err stop.Outside →
-      (Rose shelf.faults new_shelf.faults) ⊎ (Rose out.faults new_out.faults)
 
 -- A run
 

@@ -14,7 +14,7 @@ usage: jm_tool COMMAND ..
 
 commands:
   link --module-path DIRS --add-modules NAMES --output FILE [options] [plug-ins]
-      links the modules NAMES and all that they require into one image (not built yet)
+      links modules and all that they require into one image (not built yet)
   link --from-image FILE --add-modules NAMES --output FILE [options] [plug-ins]
       the same with the modules of another image (not built yet)
   cat IMAGE NAME

@@ -2,10 +2,10 @@ ghost use Rattle.std.specs.Prelude.{◌≡◌, ◌<◌, List, ℕ, Option, Some,
 ghost use Rattle.jm_form.specs.Damages.{first_damage};
 ghost use Rattle.jm_form.specs.Validity.{look};
 ghost use Rattle.jm_commands.specs.Cat.{CatDoes};
-ghost use Rattle.jm_commands.specs.Outcome.{cat_outcome, file_outcome, image_outcome, opened_outcome};
-ghost use Rattle.jm_commands.specs.Run.{HasFile, PutDoes, ReadDoes};
+ghost use Rattle.jm_commands.specs.Outcome.{cat_outcome, file_outcome};
+ghost use Rattle.jm_commands.specs.Outcome.{image_outcome, opened_outcome};
+ghost use Rattle.jm_commands.specs.Run.{HasFile, PutDoes, StepDoes};
 ghost use Rattle.jm_commands.specs.Sinks.{seen};
-ghost use Rattle.jm_commands.specs.Stops.{unbuilt_stop};
 
 use crate::cat::cat_command;
 use crate::complaint::Complaint;
@@ -116,7 +116,7 @@ fn do_on_bytes<T: Threads + Sync, O: Sink, G: Gate + Sync>(
     }
 }
 
-/// Reads the file of an image, and does the work of a command on it. No file changes.
+/// Reads the file of an image, and does the work of a command on it.
 pub fn do_on_file<T: Threads + Sync, S: Shelf, O: Sink, G: Gate + Sync>(
     rt: &T,
     alloc: Global,
@@ -130,7 +130,7 @@ pub fn do_on_file<T: Threads + Sync, S: Shelf, O: Sink, G: Gate + Sync>(
     requires path { IsUtf8 path.now }
     requires jobs { 0 < jobs }
     ensures { (found : Option (List ℕ)) × HasFile (S.files shelf.old) (Some path.now) found
-        × ReadDoes (file_outcome command.now path.now found) result
+        × StepDoes (file_outcome command.now path.now found) result
         (seen (S.files shelf.old) (S.faults shelf.old))
         (seen (S.files shelf.new) (S.faults shelf.new))
         (seen (O.content out.old) (O.faults out.old))

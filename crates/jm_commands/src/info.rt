@@ -1,6 +1,7 @@
 ghost use Rattle.std.specs.Prelude.{◌≡◌, ◌-◌, length, IfOk, string_bytes};
 ghost use Rattle.jm_form.specs.Head.{index_length};
-ghost use Rattle.jm_commands.specs.InfoText.{front_text, header_text, info_text, lengths_text, order_text};
+ghost use Rattle.jm_commands.specs.InfoText.{front_text, header_text, info_text};
+ghost use Rattle.jm_commands.specs.InfoText.{lengths_text, order_text};
 ghost use Rattle.jm_commands.specs.Outcome.{done};
 ghost use Rattle.jm_commands.specs.Run.{PutDoes};
 ghost use Rattle.jm_commands.specs.Sinks.{seen};
@@ -31,10 +32,7 @@ fn front_text(alloc: Global, header: &Header) -> Result<String, AllocError>
     let flags = header.flags;
     let count = header.count;
     let slots = header.length;
-    format!(
-        in alloc;
-        "order {order}\nversion 1.0\nflags {flags}\nentries {count}\nslots {slots}\n"
-    )
+    format!(in alloc; "order {order}\nversion 1.0\nflags {flags}\nentries {count}\nslots {slots}\n")
 }
 
 /// The lines on the lengths of the parts, with so many bytes of contents.
@@ -44,8 +42,7 @@ fn lengths_text(alloc: Global, header: &Header, contents: usize) -> Result<Strin
     let locations = header.locations;
     let strings = header.strings;
     let index = header.contents_place();
-    format!(
-        in alloc;
+    format!(in alloc;
         "locations {locations}\nstrings {strings}\nindex {index}\ncontents {contents}\n"
     )
 }

@@ -1,8 +1,10 @@
-ghost use Rattle.std.specs.Prelude.{◌≡◌, ◌<◌, IfSome, IsUtf8, List, ℕ, Option, map, option_map, string_bytes};
+ghost use Rattle.std.specs.Prelude.{◌≡◌, ◌<◌, List, ℕ, Option, IfSome, IsUtf8};
+ghost use Rattle.std.specs.Prelude.{map, option_map, string_bytes};
 ghost use Rattle.jm_words.specs.Commands.{command_in};
 ghost use Rattle.jm_words.specs.Paths.{FilePathsAreText, jobs_in};
-ghost use Rattle.jm_commands.specs.Outcome.{Outcome, image_path, is_built, plain_outcome};
-ghost use Rattle.jm_commands.specs.Run.{CommandComesTo, ComesTo, PutDoes, ReportDoes, RunDoes, StepDoes};
+ghost use Rattle.jm_commands.specs.Outcome.{Outcome, is_built, plain_outcome, read_path};
+ghost use Rattle.jm_commands.specs.Run.{CommandComesTo, ComesTo, PutDoes};
+ghost use Rattle.jm_commands.specs.Run.{ReportDoes, RunDoes, StepDoes};
 ghost use Rattle.jm_commands.specs.Sinks.{seen};
 
 use crate::complaint::Complaint;
@@ -48,13 +50,13 @@ fn is_built(command: &Command) -> bool
     }
 }
 
-/// The path of the image that a command reads, and its number of jobs, if it reads one.
-fn image_of(command: &Command) -> Option<(&[u8], u32)>
+/// The path of the one file that a command reads, and its number of jobs, if it reads one.
+fn file_of(command: &Command) -> Option<(&[u8], u32)>
     requires paths { FilePathsAreText command.now }
     requires jobs { 0 < jobs_in command.now }
-    ensures path { option_map (λ image. image.0.now) result ≡ image_path command.now }
-    ensures text { IfSome result (λ image. IsUtf8 image.0.now) }
-    ensures jobs { IfSome result (λ image. 0 < image.1) }
+    ensures path { option_map (λ file. file.0.now) result ≡ read_path command.now }
+    ensures text { IfSome result (λ file. IsUtf8 file.0.now) }
+    ensures jobs { IfSome result (λ file. 0 < file.1) }
 {
     match command {
         Command::Cat { image, jobs, .. }
@@ -64,11 +66,12 @@ fn image_of(command: &Command) -> Option<(&[u8], u32)>
         | Command::Extract { image, jobs, .. }
         | Command::Verify { image, jobs }
         | Command::Serve { image, jobs } => Some((image.as_slice(), *jobs)),
+        Command::Describe { file, jobs } => Some((file.as_slice(), *jobs)),
         _ => None,
     }
 }
 
-/// Does a command that reads no image.
+/// Does a command that reads no file.
 fn do_plain<O: Sink>(alloc: Global, command: &Command, out: &mut O) -> Result<(), Stop>
     ensures { PutDoes (plain_outcome command.now) result
         (seen (O.content out.old) (O.faults out.old))
@@ -102,7 +105,7 @@ fn do_command<T: Threads + Sync, S: Shelf, O: Sink, G: Gate + Sync>(
     if !is_built(command) {
         return Err(unbuilt());
     }
-    match image_of(command) {
+    match file_of(command) {
         Some((path, jobs)) => do_on_file(rt, alloc, command, path, jobs, shelf, out, gate),
         None => do_plain(alloc, command, out),
     }

@@ -74,8 +74,8 @@ fn sink_of(alloc: Global, fails: Option<u64>) -> Result<MemSink, Fail> {
     Ok(sink)
 }
 
-/// What a run gives: the digit of its status, the output and the error sink's text, with a bar between
-/// them.
+/// What a run gives: the digit of its status, the output and the error sink's text, with a bar
+/// between them.
 fn run_on<T: Threads + Sync>(
     rt: &T,
     alloc: Global,
@@ -213,7 +213,11 @@ fn help_reads_no_file(rt: HostRuntime) -> Result<(), Fail> {
         err: Some(0),
     };
     let given = run_on(&rt, rt.alloc(), tiny(), fails, "--help")?;
-    assert!(rt; given.as_slice().starts_with(b"0|usage: jm_tool COMMAND ..\n"));
+    assert!(rt;
+        given
+            .as_slice()
+            .starts_with(b"0|usage: jm_tool COMMAND ..\n")
+    );
     Ok(())
 }
 
@@ -225,7 +229,7 @@ fn calls_that_fail_end_the_run(rt: HostRuntime) -> Result<(), Fail> {
         (None, Some(0), None, "verify img", "6|vali|"),
         (None, Some(0), None, "--version", "6|jm_tool|"),
         (None, None, Some(0), "cat img /m/b", "6||not ther"),
-        (None, None, Some(0), "zap", "6||words: UnknownC"),
+        (None, None, Some(0), "zap", "6||words: Unknow"),
         (Some(1), Some(1), Some(0), "cat img /m/a", "0|hi|"),
     ] {
         let fails = Fails { shelf, out, err };
@@ -243,9 +247,11 @@ fn verifies<T: Threads + Sync>(
     image: (&[u8], usize, [(usize, u8); 4]),
     want: &str,
 ) -> Result<bool, Fail> {
-    Ok(changed_gives(rt, alloc, image, "verify img", want)?
-        && changed_gives(rt, alloc, image, "verify img --jobs 2", want)?
-        && changed_gives(rt, alloc, image, "verify --jobs=64 img", want)?)
+    Ok(
+        changed_gives(rt, alloc, image, "verify img", want)?
+            && changed_gives(rt, alloc, image, "verify img --jobs 2", want)?
+            && changed_gives(rt, alloc, image, "verify --jobs=64 img", want)?,
+    )
 }
 
 #[test]
@@ -272,13 +278,28 @@ fn damages_are_found_with_each_number_of_jobs(rt: HostRuntime) -> Result<(), Fai
         (tiny, 57, [(4, 1); 4], "4||damaged: Header Version 65537\n"),
         (tiny, 57, [(0, 0); 4], "4||damaged: Header Magic\n"),
         (tiny, 57, sizes, "4||damaged: Header Sizes\n"),
-        (tiny, 57, [(38, 0), (40, 0), (38, 0), (40, 0)], "0|valid 1\n|"),
+        (
+            tiny,
+            57,
+            [(38, 0), (40, 0), (38, 0), (40, 0)],
+            "0|valid 1\n|",
+        ),
         (tiny, 56, [(0, 0xDA); 4], "4||damaged: Range 0\n"),
         (two, 74, [(0, 0xDA); 4], "4||damaged: Overlap 0 1\n"),
-        (two, 74, [(47, 8), (56, 0x30), (47, 8), (56, 0x30)], "4||damaged: Row 0\n"),
+        (
+            two,
+            74,
+            [(47, 8), (56, 0x30), (47, 8), (56, 0x30)],
+            "4||damaged: Row 0\n",
+        ),
         (two, 74, [(56, 0x30); 4], "4||damaged: Compressed 1\n"),
         (two, 74, [(48, 9); 4], "4||damaged: Count 2 1\n"),
-        (two, 74, [(48, 9), (12, 1), (48, 9), (12, 1)], "0|valid 1\n|"),
+        (
+            two,
+            74,
+            [(48, 9), (12, 1), (48, 9), (12, 1)],
+            "0|valid 1\n|",
+        ),
         (apart(), 70, [(0, 0xDA); 4], "0|valid 2\n|"),
         (far(), 66, [(0, 0xDA); 4], "4||damaged: Range 0\n"),
     ] {

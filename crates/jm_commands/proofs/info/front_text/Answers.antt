@@ -1,4 +1,3 @@
-use Rattle.std.proofs.Common.{rules}
 use Rattle.jm_commands.proofs.info.front_text.Goals as goal
 
 pub returns : goal.returns

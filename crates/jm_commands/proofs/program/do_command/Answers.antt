@@ -1,5 +1,5 @@
 use Rattle.std.proofs.Common.{Err, refl, sym, ap, ◌∙◌}
-use Rattle.jm_commands.proofs.StepLaws.{image_step, unbuilt_step}
+use Rattle.jm_commands.proofs.StepLaws.{file_step, unbuilt_step}
 use Rattle.jm_commands.proofs.program.do_command.Goals as goal
 
 pub returns-then-not-is_built : goal.returns-then-not-is_built
@@ -9,4 +9,4 @@ returns-then-not-is_built g c =
 pub returns-in-Some : goal.returns-in-Some
 returns-in-Some g c =
     let does = c.do_on_file.ensures in
-    image_step c.args.command.now _ _ _ _ _ c.in-Some.path.now does.0 (sym c.is_built.ensures ∙ c.if-not-is_built.false) (sym c.in-Some.ensures.path) does.1 does.2
+    file_step c.args.command.now _ _ _ _ _ c.in-Some.path.now does.0 (sym c.is_built.ensures ∙ c.if-not-is_built.false) (sym c.in-Some.ensures.path) does.1 does.2
