@@ -14,6 +14,7 @@ cat_writes name (Some found) = refl
 
 image_writes : (given : Command) (b : List ℕ) → (image_outcome given b).writes ≡ []
 image_writes (command.Cat image name jobs) b = cat_writes name (look b name)
+image_writes (command.List image include jobs) b = refl
 image_writes (command.Info image jobs) b = refl
 image_writes (command.Verify image jobs) b = refl
 image_writes _ b = refl

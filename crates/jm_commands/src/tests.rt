@@ -2,12 +2,16 @@ mod vectors;
 
 use super::*;
 use jm_bytes::{List, Text, copy_of};
-use jm_halves::NoGate;
+use jm_halves::{Gate, NoGate};
 use jm_outside::{MemShelf, MemSink, MemSource};
 use std::alloc::Global;
+use std::hint::spin_loop;
+use std::sync::atomic::{AtomicBool, Ordering};
 use std::test::Fail;
 use std::thread::Threads;
-use vectors::{above_ffff, apart, big_tiny, far, no_entries, overlapping, seeded_tiny, tiny};
+use vectors::{
+    above_ffff, apart, bad_node, big_tiny, far, no_entries, overlapping, seeded_tiny, tiny,
+};
 
 /// The number of the call that fails on the shelf, the output and the error sink.
 #[derive(Clone, Copy)]
@@ -76,12 +80,13 @@ fn sink_of(alloc: Global, fails: Option<u64>) -> Result<MemSink, Fail> {
 
 /// What a run gives: the digit of its status, the output and the error sink's text, with a bar
 /// between them.
-fn run_on<T: Threads + Sync>(
+fn run_on<T: Threads + Sync, G: Gate + Sync>(
     rt: &T,
     alloc: Global,
     image: &[u8],
     fails: Fails,
     words: &str,
+    gate: &G,
 ) -> Result<Vec<u8>, Fail> {
     let mut shelf = shelf_of(alloc, image, fails.shelf)?;
     let mut input = MemSource::new(Text::new(alloc), List::new(alloc));
@@ -90,7 +95,7 @@ fn run_on<T: Threads + Sync>(
     let words = words_of(alloc, words)?;
     let words = words.as_slice();
     let status = run(
-        rt, alloc, words, &mut shelf, &mut input, &mut out, &mut err, &NoGate,
+        rt, alloc, words, &mut shelf, &mut input, &mut out, &mut err, gate,
     );
     let mut given = vec![in alloc; b'0'.wrapping_add(status.value()), b'|']?;
     given.extend_from_slice(out.bytes())?;
@@ -108,7 +113,7 @@ fn gives<T: Threads + Sync>(
     words: &str,
     want: &str,
 ) -> Result<bool, Fail> {
-    let given = run_on(rt, alloc, image, fails, words)?;
+    let given = run_on(rt, alloc, image, fails, words, &NoGate)?;
     Ok(given.as_slice() == want.as_bytes())
 }
 
@@ -150,7 +155,7 @@ fn cat_puts_the_entry_or_says_why_not(rt: HostRuntime) -> Result<(), Fail> {
 }
 
 #[test]
-fn cat_judges_the_image_first(rt: HostRuntime) -> Result<(), Fail> {
+fn an_image_is_judged_first(rt: HostRuntime) -> Result<(), Fail> {
     let same = [(0, 0xDA); 4];
     let nameless = [(38, 0), (40, 0), (38, 0), (40, 0)];
     for (most, changes, words, want) in [
@@ -158,6 +163,8 @@ fn cat_judges_the_image_first(rt: HostRuntime) -> Result<(), Fail> {
         (54, same, "cat img /m/a", "4||damaged: Header Sizes\n"),
         (27, same, "cat img /m/b", "4||damaged: Header Short\n"),
         (57, nameless, "cat img ", "0|hi|"),
+        (57, nameless, "list img", "0|2 \n|"),
+        (54, same, "list img", "4||damaged: Header Sizes\n"),
     ] {
         let image = (tiny(), most, changes);
         let holds = changed_gives(&rt, rt.alloc(), image, words, want)?;
@@ -198,6 +205,14 @@ index 55\ncontents 2\n|";
         (no_entries(), "verify img", "0|valid 0\n|"),
         (tiny(), "verify other", "5||not there: other\n"),
         (tiny(), "--version", "0|jm_tool 0.1.0\n|"),
+        (tiny(), "list other", "5||not there: other\n"),
+        (no_entries(), "list img", "0||"),
+        (bad_node(), "list img", "0||"),
+        (apart(), "list img", "0|0 /m/a\n0 /m/b\n|"),
+        (apart(), "list img --include /m/a", "0|0 /m/a\n|"),
+        (apart(), "list --include=*a,/m/? img", "0|0 /m/a\n0 /m/b\n|"),
+        (apart(), "list img --include ?", "0||"),
+        (above_ffff(), "list img", "0|2 /a/\u{1F600}\n|"),
     ] {
         let holds = gives(&rt, rt.alloc(), image, NO_FAILS, words, want)?;
         assert!(rt; holds, "{words}");
@@ -212,12 +227,64 @@ fn help_reads_no_file(rt: HostRuntime) -> Result<(), Fail> {
         out: None,
         err: Some(0),
     };
-    let given = run_on(&rt, rt.alloc(), tiny(), fails, "--help")?;
+    let given = run_on(&rt, rt.alloc(), tiny(), fails, "--help", &NoGate)?;
     assert!(rt;
         given
             .as_slice()
             .starts_with(b"0|usage: jm_tool COMMAND ..\n")
     );
+    Ok(())
+}
+
+#[test]
+fn a_spare_slot_is_not_listed(rt: HostRuntime) -> Result<(), Fail> {
+    let image = (overlapping(), 74, [(48, 9), (12, 1), (48, 9), (12, 1)]);
+    assert!(rt; changed_gives(&rt, rt.alloc(), image, "list img", "0|2 /m/a\n|")?);
+    Ok(())
+}
+
+/// How often a flag is looked for.
+const LOOKS: u32 = 200_000_000;
+
+/// A gate at which each of two pieces raises its flag and looks for the other's.
+#[derive(Drop)]
+struct Meeting {
+    flags: [AtomicBool; 2],
+    missed: AtomicBool,
+}
+
+/// Looks for a flag until it is up, and says whether it was ever seen.
+fn sees(flag: &AtomicBool) -> bool {
+    for _ in 0..LOOKS {
+        if flag.load(Ordering::SeqCst) {
+            return true;
+        }
+        spin_loop();
+    }
+    false
+}
+
+impl Gate for Meeting {
+    fn enter(&self, piece: usize) {
+        let [first, second] = &self.flags;
+        let (own, other) = if piece == 0 { (first, second) } else { (second, first) };
+        own.store(true, Ordering::SeqCst);
+        if !sees(other) {
+            self.missed.store(true, Ordering::SeqCst);
+        }
+    }
+}
+
+#[test]
+fn both_pieces_meet(rt: HostRuntime) -> Result<(), Fail> {
+    let gate = Meeting {
+        flags: [AtomicBool::new(false), AtomicBool::new(false)],
+        missed: AtomicBool::new(false),
+    };
+    let given = run_on(&rt, rt.alloc(), apart(), NO_FAILS, "verify img --jobs 2", &gate)?;
+    assert!(rt; given.as_slice() == b"0|valid 2\n|");
+    assert!(rt; !gate.missed.load(Ordering::SeqCst), "the pieces met at the gate");
+    assert!(rt; gate.flags[0].load(Ordering::SeqCst) && gate.flags[1].load(Ordering::SeqCst));
     Ok(())
 }
 

@@ -71,3 +71,12 @@ pub fn far() -> &'static [u8] {
         0xFF, 0xFF, 0xFF, 56, 2, 0, 0, 99, 108, 97, 115, 115, 0, 109, 0, 97, 0, 104, 105,
     ]
 }
+
+/// One entry, `/packages`, a node, whose content `hi` is no list of words.
+pub fn bad_node() -> &'static [u8] {
+    &[
+        0xDA, 0xDA, 0xFE, 0xCA, 0, 0, 1, 0, 0, 0, 0, 0, 1, 0, 0, 0, 1, 0, 0, 0, 6, 0, 0, 0, 17, 0,
+        0, 0, 0xFF, 0xFF, 0xFF, 0xFF, 1, 0, 0, 0, 0, 24, 7, 56, 2, 0, 0, 99, 108, 97, 115, 115, 0,
+        47, 112, 97, 99, 107, 97, 103, 101, 115, 0, 104, 105,
+    ]
+}

@@ -3,7 +3,7 @@ use Rattle.jm_commands.specs.declared.stop.Stop.TheVariants as stop
 use Rattle.jm_commands.proofs.StepLaws.{from_stop, no_memory}
 use Rattle.jm_commands.proofs.listing.list_command.Goals as goal
 
-pub returns-in_err-list_text : goal.returns-in_err-list_text
-returns-in_err-list_text g c =
+pub returns-in_err-text : goal.returns-in_err-text
+returns-in_err-text g c =
     let is = from_stop c.from_residual.result stop.Memory c.from_residual.ensures.1 in
     rw is (no_memory _ _ _ refl)
