@@ -282,7 +282,7 @@ fn both_pieces_meet(rt: HostRuntime) -> Result<(), Fail> {
         missed: AtomicBool::new(false),
     };
     let given = run_on(&rt, rt.alloc(), apart(), NO_FAILS, "verify img --jobs 2", &gate)?;
-    assert!(rt; given.as_slice() == b"0|valid 2\n|");
+    assert!(rt; given.as_slice() == b"0|valid 2\n|".as_slice());
     assert!(rt; !gate.missed.load(Ordering::SeqCst), "the pieces met at the gate");
     assert!(rt; gate.flags[0].load(Ordering::SeqCst) && gate.flags[1].load(Ordering::SeqCst));
     Ok(())
