@@ -1,5 +1,6 @@
 pub mod ComputedRowsLaws
 pub mod EntryLaws
+mod GreedyVectors
 pub mod HeadLaws
 pub mod LookLaws
 pub mod OverlapLaws

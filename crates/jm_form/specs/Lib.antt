@@ -3,6 +3,7 @@ pub mod ComputedRows
 pub mod DamageText
 pub mod Damages
 pub mod Entries
+pub mod Greedy
 pub mod Head
 pub mod Overlap
 pub mod Places
