@@ -1,5 +1,7 @@
+pub mod BucketLaws
 pub mod ComputedRowsLaws
 pub mod EntryLaws
+pub mod FreeLaws
 mod GreedyVectors
 pub mod HeadLaws
 pub mod LookLaws
@@ -7,6 +9,7 @@ pub mod OverlapLaws
 pub mod OverlapNone
 mod OverlapVectors
 pub mod SectionLaws
+pub mod ServesLaws
 pub mod SlotLaws
 pub mod StandsLaws
 pub mod TextLaws

@@ -1,6 +1,6 @@
 -- The greedy table of names (jimage 1.0): which redirect each bucket gets, and so which slot each
 -- name. It speaks of buckets and slots alone: no seed that fails leaves anything.
-use Rattle.std.specs.Prelude.{ℕ, zero, suc, ◌+◌, ◌%◌, ◌==◌, Bool, true, not, ◌&&◌, if◌then◌else◌}
+use Rattle.std.specs.Prelude.{ℕ, zero, suc, ◌+◌, ◌-◌, ◌%◌, ◌^◌, ◌==◌, Bool, true, not, ◌&&◌, if◌then◌else◌}
 use Rattle.std.specs.Prelude.{List, [], ◌∷◌, ◌++◌, length, map, filter, find}
 use Rattle.std.specs.Prelude.{Option, Some, None, option_map, option_and_then, unwrap_or}
 use Rattle.std.specs.List.{filter_map, list_any, list_all, range_with_len}
@@ -135,3 +135,11 @@ abbrev pub greedy_among : List (List ℕ) → List ℕ → Option GreedyTable
 greedy_among names [] = None
 greedy_among names (slots ∷ lengths) =
     option_or (greedy names slots) (greedy_among names lengths)
+
+-- Words
+
+-- a redirect as a number of 32 bits, in which -1 less the slot wraps
+abbrev pub word_of : Redirect → ℕ
+word_of redirect.Nowhere = 0
+word_of (redirect.Slot slot) = 2 ^ 32 - 1 - slot
+word_of (redirect.Seed seed) = seed

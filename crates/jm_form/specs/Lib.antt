@@ -8,6 +8,7 @@ pub mod Head
 pub mod Overlap
 pub mod Places
 pub mod Rows
+pub mod Serves
 pub mod Table
 pub mod Texts
 pub mod Validity
