@@ -1,11 +1,15 @@
+pub mod BucketLaws
 pub mod ComputedRowsLaws
 pub mod EntryLaws
+pub mod FreeLaws
+mod GreedyVectors
 pub mod HeadLaws
 pub mod LookLaws
 pub mod OverlapLaws
 pub mod OverlapNone
 mod OverlapVectors
 pub mod SectionLaws
+pub mod ServesLaws
 pub mod SlotLaws
 pub mod StandsLaws
 pub mod TextLaws

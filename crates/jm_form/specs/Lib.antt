@@ -3,10 +3,12 @@ pub mod ComputedRows
 pub mod DamageText
 pub mod Damages
 pub mod Entries
+pub mod Greedy
 pub mod Head
 pub mod Overlap
 pub mod Places
 pub mod Rows
+pub mod Serves
 pub mod Table
 pub mod Texts
 pub mod Validity

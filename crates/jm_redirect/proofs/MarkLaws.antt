@@ -1,0 +1,107 @@
+-- Flags of slots: one name more that is sent, and marks that are set and taken away.
+use Rattle.std.proofs.Common.{◌≡◌, ◌≢◌, ℕ, zero, suc, ◌+◌, ◌-◌, ◌%◌, ◌==◌, ◌<◌, ◌≤◌, ◌⊎◌, inl, inr, Bool, true, false, not, cond, ◌||◌, List, [], ◌∷◌, ◌++◌, Option, Some, length, map, set, take, drop, get_or, refl, sym, ap, ◌∙◌, subst, arith}
+use Rattle.std.proofs.lemmas.Bool.{cond-true, cond-false, or_from, or_left, or_right, or_parts, cases_eq, eq-eqb, ne_eqb, lt-ltb}
+use Rattle.std.proofs.lemmas.List.{take_more, drop_more, take-append-drop, get_or-set_same, get_or-set_other, length-set, map-append}
+use Rattle.std.proofs.lemmas.List.Elements.{filter_map-append}
+use Rattle.std.specs.List.{find, filter_map, range_with_len}
+use Rattle.std.specs.Prelude.{slice_index_or}
+use Rattle.jm_names.specs.Hash.{hash}
+use Rattle.jm_form.specs.declared.table.Redirect.TheVariants as redirect
+use Rattle.jm_form.specs.Greedy.{is_among, are_free, slots_led}
+use Rattle.jm_form.specs.Table.{slot_of, slot_below}
+use Rattle.jm_form.proofs.FreeLaws.{among_append, free_untaken}
+use Rattle.jm_redirect.specs.declared.turns.Turn.{Turn}
+use Rattle.jm_redirect.specs.Marks.{Marks, names_at, slots_sent}
+
+-- the slot to which a seed sends one name
+sent_one : (slots seed : ℕ) (name : List ℕ) → 0 < slots → slots_led slots (redirect.Seed seed) (name ∷ []) ≡ (hash seed name % slots) ∷ []
+sent_one slots seed name some =
+    let below : hash seed name % slots < slots = omega arith in
+    rw (lt-ltb (hash seed name % slots) slots below) refl
+
+-- one name more is sent
+pub sent_more : (names : List (List ℕ)) (slots seed : ℕ) (turns : List Turn) (i : ℕ) (d : Turn) → 0 < slots → i < length turns → slots_sent names slots seed (take (i + 1) turns) ≡ slots_sent names slots seed (take i turns) ++ (hash seed (get_or names (get_or turns i d).place []) % slots) ∷ []
+sent_more names slots seed turns i d some inside =
+    let one = get_or turns i d in
+    let name = get_or names one.place [] in
+    ap (slots_sent names slots seed) (take_more turns i d inside) ∙ ap (slots_led slots (redirect.Seed seed)) (map-append (λ turn. get_or names turn.place []) (take i turns) (one ∷ [])) ∙ filter_map-append (λ n. slot_of slots n (redirect.Seed seed)) (names_at names (take i turns)) (name ∷ []) ∙ ap (λ l. slots_sent names slots seed (take i turns) ++ l) (sent_one slots seed name some)
+
+-- one mark less, at a slot
+pub unmarked_more : (flags now : List Bool) (sent : List ℕ) (gone slot : ℕ) → gone < length now → get_or now slot false ≡ cond (is_among sent slot) false (get_or flags slot false) → get_or (set now gone false) slot false ≡ cond (is_among (sent ++ gone ∷ []) slot) false (get_or flags slot false)
+unmarked_more flags now sent gone slot inside so_far =
+    elim (cases_eq gone slot) [
+      | inl same ↦
+          let there = among_append sent (gone ∷ []) slot ∙ or_right (is_among sent slot) (is_among (gone ∷ []) slot) (or_left (gone == slot) false (eq-eqb gone slot same)) in
+          rw there (ap (λ s. get_or (set now gone false) s false) (sym same) ∙ get_or-set_same now gone false false inside)
+      | inr other ↦
+          let out : is_among (gone ∷ []) slot ≡ false = or_from (gone == slot) false (ne_eqb gone slot other) refl in
+          get_or-set_other now gone slot false false (λ e. other (sym e)) ∙ so_far ∙ ap (λ b. cond b false (get_or flags slot false)) (sym (stays (is_among sent slot) (is_among (gone ∷ []) slot) out) ∙ sym (among_append sent (gone ∷ []) slot))
+    ]
+  where
+    stays : (a b : Bool) → b ≡ false → (a || b) ≡ a
+    stays true b out = refl
+    stays false b out = out
+
+-- the marks with one slot more
+pub marks_more : (flags : List Bool) (taken : List ℕ) (slot : ℕ) → slot < length flags → Marks flags taken → Marks (set flags slot true) (slot ∷ taken)
+marks_more flags taken slot inside marks = record {
+  at = λ other below.
+      let long = length-set flags slot true in
+      elim (cases_eq slot other) [
+        | inl same ↦ rw (eq-eqb slot other same) (ap (λ s. get_or (set flags slot true) s false) (sym same) ∙ get_or-set_same flags slot true false inside)
+        | inr apart ↦ rw (ne_eqb slot other apart) (get_or-set_other flags slot other true false (λ e. apart (sym e)) ∙ marks.at other (omega arith))
+      ];
+}
+
+-- the same slots in another order
+pub marks_moved : (flags : List Bool) (taken other : List ℕ) → ((slot : ℕ) → is_among taken slot ≡ is_among other slot) → Marks flags taken → Marks flags other
+marks_moved flags taken other same marks = record { at = λ slot below. marks.at slot below ∙ same slot }
+
+among_pushed : (sent taken : List ℕ) (slot other : ℕ) → is_among (slot ∷ (sent ++ taken)) other ≡ is_among ((sent ++ slot ∷ []) ++ taken) other
+among_pushed sent taken slot other =
+    ap (λ b. (slot == other) || b) (among_append sent taken other) ∙ turned (slot == other) (is_among sent other) (is_among taken other) ∙ ap (λ b. b || is_among taken other) (sym (among_append sent (slot ∷ []) other)) ∙ sym (among_append (sent ++ slot ∷ []) taken other)
+  where
+    turned : (a b c : Bool) → (a || (b || c)) ≡ ((b || (a || false)) || c)
+    turned true true c = refl
+    turned true false c = refl
+    turned false true c = refl
+    turned false false c = refl
+
+-- the marks with one slot more behind those that were sent
+pub marks_pushed : (flags : List Bool) (sent taken : List ℕ) (slot : ℕ) → slot < length flags → Marks flags (sent ++ taken) → Marks (set flags slot true) ((sent ++ slot ∷ []) ++ taken)
+marks_pushed flags sent taken slot inside marks =
+    marks_moved (set flags slot true) (slot ∷ (sent ++ taken)) ((sent ++ slot ∷ []) ++ taken) (among_pushed sent taken slot) (marks_more flags (sent ++ taken) slot inside marks)
+
+-- the marks of slots that were free are taken away
+pub marks_back : (flags after : List Bool) (sent taken : List ℕ) → length after ≡ length flags → Marks flags (sent ++ taken) → are_free taken sent ≡ true → ((slot : ℕ) → slot < length flags → get_or after slot false ≡ cond (is_among sent slot) false (get_or flags slot false)) → Marks after taken
+marks_back flags after sent taken size marks free gone = record {
+  at = λ slot below.
+      let inside : slot < length flags = omega arith in
+      gone slot inside ∙ ap (cond (is_among sent slot) false) (marks.at slot inside ∙ among_append sent taken slot) ∙ go (is_among sent slot) (is_among taken slot) (free_untaken taken sent slot free);
+}
+  where
+    go : (s t : Bool) → (s ≡ true → t ≡ false) → cond s false (s || t) ≡ t
+    go true t free = sym (free refl)
+    go false t free = refl
+
+-- a number that doesn't pass is passed over
+pub find_next : (p : ℕ → Bool) (i n : ℕ) → i < n → p i ≡ false → find p (range_with_len i (n - i)) ≡ find p (range_with_len (i + 1) (n - (i + 1)))
+find_next p i n below fails =
+    let left : n - i ≡ suc (n - (i + 1)) = omega arith in
+    ap (λ m. find p (range_with_len i m)) left ∙ ap (λ b. cond b (Some i) (find p (range_with_len (i + 1) (n - (i + 1))))) fails
+
+-- a number that passes is the first
+pub find_here : (p : ℕ → Bool) (i n : ℕ) → i < n → p i ≡ true → find p (range_with_len i (n - i)) ≡ Some i
+find_here p i n below passes =
+    let left : n - i ≡ suc (n - (i + 1)) = omega arith in
+    ap (λ m. find p (range_with_len i m)) left ∙ ap (λ b. cond b (Some i) (find p (range_with_len (i + 1) (n - (i + 1))))) passes
+
+-- the slots of all names, around the one at a place
+pub sent_split : (names : List (List ℕ)) (slots seed : ℕ) (turns : List Turn) (i : ℕ) (d : Turn) → 0 < slots → i < length turns → slots_sent names slots seed turns ≡ slots_sent names slots seed (take i turns) ++ (hash seed (get_or names (get_or turns i d).place []) % slots) ∷ slots_sent names slots seed (drop (i + 1) turns)
+sent_split names slots seed turns i d some inside =
+    let one = get_or turns i d in
+    let name = get_or names one.place [] in
+    let send : List (List ℕ) → List ℕ = slots_led slots (redirect.Seed seed) in
+    let named : List Turn → List (List ℕ) = names_at names in
+    let whole : turns ≡ take i turns ++ one ∷ drop (i + 1) turns = sym (take-append-drop i turns) ∙ ap (λ l. take i turns ++ l) (drop_more turns i d inside) in
+    ap (slots_sent names slots seed) whole ∙ ap send (map-append (λ turn. get_or names turn.place []) (take i turns) (one ∷ drop (i + 1) turns)) ∙ filter_map-append (λ n. slot_of slots n (redirect.Seed seed)) (named (take i turns)) (name ∷ named (drop (i + 1) turns)) ∙ ap (λ l. send (named (take i turns)) ++ l) (filter_map-append (λ n. slot_of slots n (redirect.Seed seed)) (name ∷ []) (named (drop (i + 1) turns)) ∙ ap (λ l. l ++ send (named (drop (i + 1) turns))) (sent_one slots seed name some))

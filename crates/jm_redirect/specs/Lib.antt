@@ -1,0 +1,4 @@
+pub mod Built
+pub mod Marks
+pub mod Reached
+pub mod Turns

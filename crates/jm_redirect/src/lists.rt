@@ -1,0 +1,47 @@
+//! Lists of a known length.
+ghost use Rattle.std.specs.Prelude.{◌≡◌, [], false, IfOk, replicate};
+ghost use Rattle.jm_form.specs.declared.table.Redirect.TheVariants.{Nowhere};
+
+use jm_bytes::{List, NoMemory};
+use jm_form::Redirect;
+use std::alloc::Global;
+
+/// A list of no item, with room for so many.
+pub fn room_for<T>(alloc: Global, count: usize) -> Result<List<T>, NoMemory>
+    ensures { IfOk result (λ list. list ≡ []) }
+{
+    match Vec::with_capacity(alloc, count) {
+        Ok(items) => Ok(List::from_vec(items)),
+        Err(_) => Err(NoMemory),
+    }
+}
+
+/// So many zeros.
+pub fn zeros(alloc: Global, count: usize) -> Result<Vec<u32>, NoMemory>
+    ensures { IfOk result (λ zeros. zeros.items ≡ replicate count 0) }
+{
+    match vec![in alloc; 0; count] {
+        Ok(zeros) => Ok(zeros),
+        Err(_) => Err(NoMemory),
+    }
+}
+
+/// So many flags that aren't set.
+pub fn flags(alloc: Global, count: usize) -> Result<Vec<bool>, NoMemory>
+    ensures { IfOk result (λ flags. flags.items ≡ replicate count false) }
+{
+    match vec![in alloc; false; count] {
+        Ok(flags) => Ok(flags),
+        Err(_) => Err(NoMemory),
+    }
+}
+
+/// So many redirects that lead nowhere.
+pub fn nowhere(alloc: Global, count: usize) -> Result<Vec<Redirect>, NoMemory>
+    ensures { IfOk result (λ redirects. redirects.items ≡ replicate count Nowhere) }
+{
+    match vec![in alloc; Redirect::Nowhere; count] {
+        Ok(redirects) => Ok(redirects),
+        Err(_) => Err(NoMemory),
+    }
+}
