@@ -1,4 +1,5 @@
-ghost use Rattle.std.specs.Prelude.{◌≡◌, ◌+◌, ◌^◌, ◌<◌, ◌++◌, ◌∷◌, [], length, flat_map, IfOk, OnOk, IsOkAnd};
+ghost use Rattle.std.specs.Prelude.{◌≡◌, ◌+◌, ◌^◌, ◌<◌, ◌++◌, ◌∷◌, [], length, flat_map};
+ghost use Rattle.std.specs.Prelude.{IfOk, OnOk, IsOkAnd};
 ghost use Rattle.std.specs.List.{range_with_len};
 ghost use Rattle.jm_form.specs.Overlap.{ranges_of};
 ghost use Rattle.jm_valid.specs.Parts.{part_slots, ContentsAt, Joins};
@@ -125,7 +126,8 @@ fn contents_of_parts<R: Threads + Sync, G: Gate + Sync>(
     Ok(all)
 }
 
-/// The entries of an image none of whose slots has a fault, looked for in parts that the jobs share.
+/// The entries of an image none of whose slots has a fault, looked for in parts that the jobs
+/// share.
 pub fn contents_of<R: Threads + Sync, G: Gate + Sync>(
     rt: &R,
     alloc: Global,

@@ -67,8 +67,8 @@ fn body_damage<R: Threads + Sync, G: Gate + Sync>(
 
 /// The image that these bytes are, or their first damage (jimage 1.0, uncompressed).
 ///
-/// The slots are checked, and their entries' names looked up, in pieces that the jobs share; no number
-/// of jobs changes the answer.
+/// The slots are checked, and their entries' names looked up, in pieces that the jobs share; no
+/// number of jobs changes the answer.
 /// Memory is taken for the entries' places, and `Memory` is answered where none is found.
 pub fn open_image<'a, R: Threads + Sync, G: Gate + Sync>(
     rt: &R,
