@@ -116,3 +116,11 @@ pub parts_all : (s : Sections) (firsts : List ℕ) (parts : List (Result Content
 parts_all s firsts parts i all zipped end contents =
     let count = zip_length (IsPart s) firsts parts zipped in
     subst (λ fs. ContentsAt s (flat_map (part_slots s.header.length) fs) all) (take_all i firsts (omega (arith, count, end))) contents
+
+-- Evaluated
+
+part_whole : part_slots 3 0 ≡ 0 ∷ 1 ∷ 2 ∷ []
+part_whole = refl
+
+part_last : part_slots 4098 4096 ≡ 4096 ∷ 4097 ∷ []
+part_last = refl
