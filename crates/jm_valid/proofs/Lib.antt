@@ -1,4 +1,5 @@
 pub mod EntryRows
 pub mod LeastRanges
+pub mod PartLaws
 pub mod Sorting
 pub mod Sweeping

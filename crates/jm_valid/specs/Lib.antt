@@ -1,4 +1,5 @@
 pub mod Opened
+pub mod Parts
 pub mod Ranges
 pub mod Sections
 pub mod Sweep

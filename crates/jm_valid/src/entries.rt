@@ -1,15 +1,23 @@
-ghost use Rattle.std.specs.Prelude.{◌≡◌, ◌+◌, ◌^◌, ◌<◌, ◌++◌, ◌∷◌, [], length, IfOk, OnOk};
+ghost use Rattle.std.specs.Prelude.{◌≡◌, ◌+◌, ◌^◌, ◌<◌, ◌++◌, ◌∷◌, [], length, flat_map};
+ghost use Rattle.std.specs.Prelude.{IfOk, OnOk, IsOkAnd};
+ghost use Rattle.std.specs.List.{range_with_len};
 ghost use Rattle.jm_form.specs.Overlap.{ranges_of};
+ghost use Rattle.jm_valid.specs.Parts.{part_slots, ContentsAt, Joins};
 ghost use Rattle.jm_valid.specs.Ranges.{ranges_with_bytes};
 ghost use Rattle.jm_valid.specs.Sections.{entries_in, IsSound};
 
 use crate::sections::Sections;
 use crate::table::entry_row;
-use jm_bytes::NoMemory;
+use jm_bytes::{List, NoMemory};
 use jm_form::Range;
+use jm_halves::{Gate, map_halves};
 use std::alloc::Global;
+use std::thread::Threads;
 
-/// The entries of an image: how many there are, and where their contents lie.
+/// How many slots are looked through at one time, in parts that the jobs share.
+const PART: u32 = 4096;
+
+/// The entries of some slots: how many there are, and where their contents lie.
 #[derive(Drop)]
 pub struct Contents {
     /// How many entries there are.
@@ -32,12 +40,11 @@ fn add_entry(contents: &mut Contents, range: Range) -> Result<(), NoMemory>
     Ok(())
 }
 
-/// The entries of an image none of whose slots has a fault.
-pub fn contents_of(alloc: Global, sections: &Sections) -> Result<Contents, NoMemory>
+/// The entries of the part that begins at this slot.
+fn contents_of_part(alloc: Global, sections: &Sections, first: u32) -> Result<Contents, NoMemory>
     requires sound { IsSound sections.now }
-    ensures count { IfOk result (λ c. c.count ≡ length (entries_in sections.now)) }
-    ensures ranges { IfOk result (λ c. c.ranges.items
-        ≡ ranges_with_bytes (ranges_of (entries_in sections.now))) }
+    ensures { IfOk result
+        (ContentsAt sections.now (part_slots sections.now.header.length first)) }
 {
     let mut contents = Contents {
         count: 0,
@@ -45,7 +52,8 @@ pub fn contents_of(alloc: Global, sections: &Sections) -> Result<Contents, NoMem
     };
     // A range ends within the contents, whose length has 64 bits.
     let _size = sections.size();
-    for slot in 0..sections.header.length {
+    let end = first.saturating_add(PART).min(sections.header.length);
+    for slot in first..end.max(first) {
         if let Some(row) = entry_row(sections, slot) {
             let range = Range {
                 start: row.offset,
@@ -56,4 +64,83 @@ pub fn contents_of(alloc: Global, sections: &Sections) -> Result<Contents, NoMem
         }
     }
     Ok(contents)
+}
+
+/// The first slots of the parts of a table of this length.
+fn parts_of(alloc: Global, length: u32) -> Result<List<u32>, NoMemory>
+    ensures { IfOk result
+        (λ firsts. flat_map (part_slots length) firsts ≡ range_with_len 0 length) }
+{
+    let mut firsts = List::new(alloc);
+    let mut first = 0u32;
+    while first < length {
+        firsts.push(first)?;
+        first = first.saturating_add(PART);
+    }
+    Ok(firsts)
+}
+
+/// Puts the entries of a part behind those of the parts before it.
+fn add_part(all: &mut Contents, part: &Result<Contents, NoMemory>) -> Result<(), NoMemory>
+    requires { IfOk part.now (λ p. all.old.count + p.count < 2 ^ 32) }
+    ensures { OnOk result (IsOkAnd part.now (Joins all.old all.new)) }
+{
+    let Ok(part) = part else {
+        return Err(NoMemory);
+    };
+    if all
+        .ranges
+        .extend_from_slice(part.ranges.as_slice())
+        .is_err()
+    {
+        return Err(NoMemory);
+    }
+    all.count += part.count;
+    Ok(())
+}
+
+/// The entries of the parts that begin at these slots, one part behind the other.
+fn contents_of_parts<R: Threads + Sync, G: Gate + Sync>(
+    rt: &R,
+    alloc: Global,
+    jobs: u32,
+    sections: &Sections,
+    firsts: &[u32],
+    gate: &G,
+) -> Result<Contents, NoMemory>
+    requires jobs { 0 < jobs }
+    requires sound { IsSound sections.now }
+    requires few { length (flat_map (part_slots sections.now.header.length) firsts.now) < 2 ^ 32 }
+    ensures { IfOk result (ContentsAt sections.now
+        (flat_map (part_slots sections.now.header.length) firsts.now)) }
+{
+    let look = |first: &u32| contents_of_part(alloc, sections, *first);
+    let parts = map_halves(rt, alloc, jobs, firsts, &look, gate)?;
+    let mut all = Contents {
+        count: 0,
+        ranges: Vec::new(alloc),
+    };
+    for part in parts.as_slice() {
+        add_part(&mut all, part)?;
+    }
+    Ok(all)
+}
+
+/// The entries of an image none of whose slots has a fault, looked for in parts that the jobs
+/// share.
+pub fn contents_of<R: Threads + Sync, G: Gate + Sync>(
+    rt: &R,
+    alloc: Global,
+    jobs: u32,
+    sections: &Sections,
+    gate: &G,
+) -> Result<Contents, NoMemory>
+    requires jobs { 0 < jobs }
+    requires sound { IsSound sections.now }
+    ensures count { IfOk result (λ c. c.count ≡ length (entries_in sections.now)) }
+    ensures ranges { IfOk result (λ c. c.ranges.items
+        ≡ ranges_with_bytes (ranges_of (entries_in sections.now))) }
+{
+    let firsts = parts_of(alloc, sections.header.length)?;
+    contents_of_parts(rt, alloc, jobs, sections, firsts.as_slice(), gate)
 }

@@ -29,11 +29,18 @@ fn count_damage(stated: u32, found: u32) -> Option<Damage>
 
 /// What is wrong with the entries of an image none of whose slots has a fault: their number, or two
 /// contents with a byte in common.
-fn entries_damage(alloc: Global, sections: &Sections) -> Result<Option<Damage>, NoMemory>
-    requires { IsSound sections.now }
+fn entries_damage<R: Threads + Sync, G: Gate + Sync>(
+    rt: &R,
+    alloc: Global,
+    jobs: u32,
+    sections: &Sections,
+    gate: &G,
+) -> Result<Option<Damage>, NoMemory>
+    requires jobs { 0 < jobs }
+    requires sound { IsSound sections.now }
     ensures { IfOk result (λ damage. damage ≡ entries_damage_in sections.now) }
 {
-    let mut contents = contents_of(alloc, sections)?;
+    let mut contents = contents_of(rt, alloc, jobs, sections, gate)?;
     if let Some(damage) = count_damage(sections.header.count, contents.count) {
         return Ok(Some(damage));
     }
@@ -55,12 +62,13 @@ fn body_damage<R: Threads + Sync, G: Gate + Sync>(
     if let Some(damage) = least_fault(rt, jobs, sections, gate) {
         return Ok(Some(damage));
     }
-    entries_damage(alloc, sections)
+    entries_damage(rt, alloc, jobs, sections, gate)
 }
 
 /// The image that these bytes are, or their first damage (jimage 1.0, uncompressed).
 ///
-/// The slots are checked in pieces, as many as there are jobs; no number of jobs changes the answer.
+/// The slots are checked, and their entries' names looked up, in pieces that the jobs share; no
+/// number of jobs changes the answer.
 /// Memory is taken for the entries' places, and `Memory` is answered where none is found.
 pub fn open_image<'a, R: Threads + Sync, G: Gate + Sync>(
     rt: &R,

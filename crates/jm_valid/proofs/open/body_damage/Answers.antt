@@ -12,8 +12,8 @@ returns-in-Some g c =
     let h = c.args.sections.now.header in
     sym (first_fault_append_some (slot_faults b h) (entries_checks h.count (entries b h)) c.in-Some.damage (sym c.in-Some.ensures))
 
-pub entries_damage-requires : goal.entries_damage-requires
-entries_damage-requires g c = slots_sound c.args.sections.now.bytes.now c.args.sections.now.header (sym c.in_default.ensures)
+pub entries_damage-requires-clause-sound : goal.entries_damage-requires-clause-sound
+entries_damage-requires-clause-sound g c κs within = slots_sound c.args.sections.now.bytes.now c.args.sections.now.header (sym c.in_default.ensures)
 
 pub returns : goal.returns
 returns g c =

@@ -22,15 +22,15 @@ entries_overlap : (stated : ℕ) (es : List Entry) → fault_if (not (stated == 
 entries_overlap stated es counted = rw counted (only_check (overlap_damage (first_overlap (ranges_of es))))
 
 pub first_overlap-requires-clause-rising : goal.first_overlap-requires-clause-rising
-first_overlap-requires-clause-rising c =
+first_overlap-requires-clause-rising g c =
     rw (c.as_mut_slice.ensures.value ∙ c.in_ok-contents.ensures.ranges) (ranges_rise c.args.sections.now.bytes.now c.args.sections.now.header)
 
 pub first_overlap-requires-clause-some : goal.first_overlap-requires-clause-some
-first_overlap-requires-clause-some c =
+first_overlap-requires-clause-some g c =
     rw (c.as_mut_slice.ensures.value ∙ c.in_ok-contents.ensures.ranges) (ranges_some (ranges_of (entries c.args.sections.now.bytes.now c.args.sections.now.header)))
 
 pub returns : goal.returns
-returns c =
+returns g c =
     let es = entries c.args.sections.now.bytes.now c.args.sections.now.header in
     let listed = c.as_mut_slice.ensures.value ∙ c.in_ok-contents.ensures.ranges in
     c.first_overlap.ensures ∙ ap overlap_damage (ap first_overlap listed ∙ first_overlap-bytes (ranges_of es))

@@ -1,0 +1,126 @@
+-- The parts of a table, and the entries of one part behind those of others.
+use Rattle.std.proofs.Common.{◌≡◌, ℕ, zero, suc, ◌+◌, ◌-◌, ◌<◌, ◌^◌, min, List, [], ◌∷◌, ◌++◌, length, take, get_or, flat_map, Result, Ok, Err, IfOk, IsOkAnd, refl, sym, ap, subst, ◌∙◌, arith, length-append, append-nil}
+use Rattle.std.proofs.lemmas.Grind.{flat_map-append}
+use Rattle.std.proofs.lemmas.List.{map-append, take_all, take_more}
+use Rattle.std.proofs.lemmas.List.Elements.{filter-append}
+use Rattle.std.proofs.lemmas.List.Folds.{length-flat_map-take}
+use Rattle.std.specs.Borrow.{Bor}
+use Rattle.std.specs.Fn.{FnReturns, FnReturnsAt}
+use Rattle.std.specs.List.{AllZip, range_with_len}
+use Rattle.std.specs.Prelude.{nat_lt}
+use denote.Param.Members.{Shared}
+use Rattle.jm_bytes.specs.declared.texts.NoMemory.{NoMemory}
+use Rattle.jm_form.specs.declared.ranges.Range.{Range}
+use Rattle.jm_form.specs.Entries.{Entry}
+use Rattle.jm_form.specs.Overlap.{range_of, ranges_of}
+use Rattle.jm_halves.proofs.Zipped.{zip_weaker}
+use Rattle.jm_valid.specs.declared.entries.Contents.{Contents}
+use Rattle.jm_valid.specs.declared.sections.Sections.{Sections}
+use Rattle.jm_valid.specs.Parts.{ContentsAt, Joins, entries_at, part_slots}
+use Rattle.jm_valid.specs.Ranges.{ranges_with_bytes}
+use Rattle.jm_valid.proofs.EntryRows.{entries_append, length-entries_at}
+
+-- Numbers one after another
+
+pub range_with_len-append : (i m n : ℕ) → range_with_len i (m + n) ≡ range_with_len i m ++ range_with_len (i + m) n
+range_with_len-append i zero n =
+    let none : zero + n ≡ n = omega arith in
+    let here : i + zero ≡ i = omega arith in
+    ap (range_with_len i) none ∙ ap (λ (k : ℕ). range_with_len k n) (sym here)
+range_with_len-append i (suc m) n =
+    let more : suc m + n ≡ suc (m + n) = omega arith in
+    let on : (i + 1) + m ≡ i + suc m = omega arith in
+    ap (range_with_len i) more ∙ ap (λ ks. i ∷ ks) (range_with_len-append (i + 1) m n)
+    ∙ ap (λ (k : ℕ). i ∷ (range_with_len (i + 1) m ++ range_with_len k n)) on
+
+flat_map-push : (f : ℕ → List ℕ) (xs : List ℕ) (x : ℕ) → flat_map f (xs ++ x ∷ []) ≡ flat_map f xs ++ f x
+flat_map-push f xs x = flat_map-append f xs (x ∷ []) ∙ ap (λ ys. flat_map f xs ++ ys) (append-nil (f x))
+
+-- one part more, up to the next one's first slot or the end
+pub parts_more : (all : ℕ) (firsts : List ℕ) (first next : ℕ) → first < all → min next all ≡ min (first + 4096) all → flat_map (part_slots all) firsts ≡ range_with_len 0 (min first all) → flat_map (part_slots all) (firsts ++ first ∷ []) ≡ range_with_len 0 (min next all)
+parts_more all firsts first next below end before =
+    let here : min first all ≡ first = omega arith in
+    let more = min (first + 4096) all - first in
+    let count : first + more ≡ min next all = omega arith in
+    let start : 0 + first ≡ first = omega arith in
+    flat_map-push (part_slots all) firsts first ∙ ap (λ ks. ks ++ part_slots all first) (before ∙ ap (range_with_len 0) here)
+    ∙ sym (range_with_len-append 0 first more ∙ ap (λ (k : ℕ). range_with_len 0 first ++ range_with_len k more) start)
+    ∙ ap (range_with_len 0) count
+
+-- Answers beside the items
+
+pub zip_at : {A B : Type 0} (R : A → B → Type 0) (xs : List A) (ys : List B) (i : ℕ) (d : A) (e : B) → AllZip R xs ys → i < length ys → (i < length xs) × R (get_or xs i d) (get_or ys i e)
+zip_at R [] [] i d e zipped inside = absurd (omega arith)
+zip_at R [] (y ∷ ys) i d e zipped inside = absurd zipped
+zip_at R (x ∷ xs) [] i d e zipped inside = absurd zipped
+zip_at R (x ∷ xs) (y ∷ ys) zero d e zipped inside = (omega arith, zipped.0)
+zip_at R (x ∷ xs) (y ∷ ys) (suc i) d e zipped inside =
+    let later = zip_at R xs ys i d e zipped.1 (omega arith) in (omega (arith, later.0), later.1)
+
+pub zip_length : {A B : Type 0} (R : A → B → Type 0) (xs : List A) (ys : List B) → AllZip R xs ys → length xs ≡ length ys
+zip_length R [] [] zipped = refl
+zip_length R [] (y ∷ ys) zipped = absurd zipped
+zip_length R (x ∷ xs) [] zipped = absurd zipped
+zip_length R (x ∷ xs) (y ∷ ys) zipped = ap (λ (n : ℕ). suc n) (zip_length R xs ys zipped.1)
+
+-- for a caller of `map_halves`: each answer meets what is said of any answer to the item
+pub zipped_each : {F A B : Type 0} (g : Shared F (Bor A × Unit {0}) B) (f : F) (Q : A → B → Type 0) (xs : List A) (ys : List B) → ((x : Bor A) (b : B) → FnReturns g f (x, tt) b → Q x.now b) → AllZip (FnReturnsAt g f) xs ys → AllZip Q xs ys
+zipped_each g f Q xs ys answers zipped =
+    zip_weaker (FnReturnsAt g f) Q xs ys (λ x y says. subst (λ z. Q z y) says.shows (answers says.shown y says.says)) zipped
+
+-- Parts
+
+-- what is made of a part, unless no memory was found
+abbrev pub IsPart : Sections → ℕ → Result Contents NoMemory → Type 0
+IsPart s first part = IfOk part (ContentsAt s (part_slots s.header.length first))
+
+ranges_append : (es fs : List Entry) → ranges_with_bytes (ranges_of (es ++ fs)) ≡ ranges_with_bytes (ranges_of es) ++ ranges_with_bytes (ranges_of fs)
+ranges_append es fs = ap ranges_with_bytes (map-append range_of es fs) ∙ filter-append (λ (r : Range). nat_lt r.start r.end) (ranges_of es) (ranges_of fs)
+
+joined : (s : Sections) (is js : List ℕ) (old new part : Contents) → ContentsAt s is old → ContentsAt s js part → Joins old new part → ContentsAt s (is ++ js) new
+joined s is js old new part front back joins =
+    let whole = entries_append s is js in
+    let sum = length-append (entries_at s is) (entries_at s js) in
+    record {
+      count = joins.count ∙ ap (λ (n : ℕ). n + part.count) front.count ∙ ap (λ (n : ℕ). length (entries_at s is) + n) back.count ∙ sym sum ∙ sym (ap length whole);
+      ranges =
+          joins.ranges ∙ ap (λ rs. rs ++ part.ranges.items) front.ranges ∙ ap (λ rs. ranges_with_bytes (ranges_of (entries_at s is)) ++ rs) back.ranges
+          ∙ sym (ranges_append (entries_at s is) (entries_at s js)) ∙ sym (ap (λ es. ranges_with_bytes (ranges_of es)) whole);
+    }
+
+-- the slots of the first parts, with one part more
+slots_more : (s : Sections) (firsts : List ℕ) (i : ℕ) → i < length firsts → flat_map (part_slots s.header.length) (take (i + 1) firsts) ≡ flat_map (part_slots s.header.length) (take i firsts) ++ part_slots s.header.length (get_or firsts i 0)
+slots_more s firsts i inside = ap (flat_map (part_slots s.header.length)) (take_more firsts i 0 inside) ∙ flat_map-push (part_slots s.header.length) (take i firsts) (get_or firsts i 0)
+
+pub part_joined : (s : Sections) (firsts : List ℕ) (parts : List (Result Contents NoMemory)) (i : ℕ) (part : Result Contents NoMemory) (old new : Contents) → AllZip (IsPart s) firsts parts → i < length parts → part ≡ get_or parts i part → ContentsAt s (flat_map (part_slots s.header.length) (take i firsts)) old → IsOkAnd part (Joins old new) → ContentsAt s (flat_map (part_slots s.header.length) (take (i + 1) firsts)) new
+part_joined s firsts parts i (Err none) old new zipped inside is before joins = absurd joins
+part_joined s firsts parts i (Ok part) old new zipped inside is before joins =
+    let here = zip_at (IsPart s) firsts parts i 0 (Ok part) zipped inside in
+    let own : IsPart s (get_or firsts i 0) (Ok part) = subst (IsPart s (get_or firsts i 0)) (sym is) here.1 in
+    subst (λ slots. ContentsAt s slots new) (sym (slots_more s firsts i here.0))
+    (joined s (flat_map (part_slots s.header.length) (take i firsts)) (part_slots s.header.length (get_or firsts i 0)) old new part before own joins)
+
+-- there is room for the count of one part more
+pub part_room : (s : Sections) (firsts : List ℕ) (parts : List (Result Contents NoMemory)) (i : ℕ) (part : Result Contents NoMemory) (old : Contents) → AllZip (IsPart s) firsts parts → i < length parts → part ≡ get_or parts i part → ContentsAt s (flat_map (part_slots s.header.length) (take i firsts)) old → length (flat_map (part_slots s.header.length) firsts) < 2 ^ 32 → IfOk part (λ p. old.count + p.count < 2 ^ 32)
+part_room s firsts parts i (Err none) old zipped inside is before few = tt
+part_room s firsts parts i (Ok part) old zipped inside is before few =
+    let here = zip_at (IsPart s) firsts parts i 0 (Ok part) zipped inside in
+    let own : IsPart s (get_or firsts i 0) (Ok part) = subst (IsPart s (get_or firsts i 0)) (sym is) here.1 in
+    let front = length-entries_at s (flat_map (part_slots s.header.length) (take i firsts)) in
+    let back = length-entries_at s (part_slots s.header.length (get_or firsts i 0)) in
+    let sum = length-flat_map-take (part_slots s.header.length) firsts i 0 here.0 in
+    omega (arith, before.count, own.count, front, back, sum, few)
+
+-- the parts are all
+pub parts_all : (s : Sections) (firsts : List ℕ) (parts : List (Result Contents NoMemory)) (i : ℕ) (all : Contents) → AllZip (IsPart s) firsts parts → i ≡ length parts → ContentsAt s (flat_map (part_slots s.header.length) (take i firsts)) all → ContentsAt s (flat_map (part_slots s.header.length) firsts) all
+parts_all s firsts parts i all zipped end contents =
+    let count = zip_length (IsPart s) firsts parts zipped in
+    subst (λ fs. ContentsAt s (flat_map (part_slots s.header.length) fs) all) (take_all i firsts (omega (arith, count, end))) contents
+
+-- Evaluated
+
+part_whole : part_slots 3 0 ≡ 0 ∷ 1 ∷ 2 ∷ []
+part_whole = refl
+
+part_last : part_slots 4098 4096 ≡ 4096 ∷ 4097 ∷ []
+part_last = refl

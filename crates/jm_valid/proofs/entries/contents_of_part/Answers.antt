@@ -1,0 +1,60 @@
+use Rattle.std.proofs.Common.{◌≡◌, ◌+◌, ◌-◌, ◌<◌, ◌++◌, ◌∷◌, [], length, min, sym, ap, ◌∙◌, arith, subst}
+use Rattle.std.proofs.lemmas.List.{length_push}
+use Rattle.std.proofs.lemmas.List.FromFn.{length-range_with_len}
+use Rattle.std.specs.List.{range_with_len}
+use Rattle.jm_form.specs.Entries.{entry_of}
+use Rattle.jm_form.specs.Overlap.{range_of, ranges_of}
+use Rattle.jm_form.proofs.SlotLaws.{sound_row}
+use Rattle.jm_valid.specs.Parts.{ContentsAt, entries_at}
+use Rattle.jm_valid.specs.Ranges.{ranges_with_bytes}
+use Rattle.jm_valid.proofs.EntryRows.{entry_more, entry_same, length-entries_at, ranges_more, row_reached, slots_next}
+use Rattle.jm_valid.proofs.entries.contents_of_part.Goals as goal
+use Rattle.jm_valid.proofs.entries.contents_of_part.Goals.{in-Some+in_ok-add_entry, in_default}
+
+pub add_entry-requires : goal.add_entry-requires
+add_entry-requires c =
+    let slots = range_with_len c.args.first (c.loop-slot.slot - c.args.first) in
+    let few = length-entries_at c.args.sections.now slots in
+    let count = length-range_with_len c.args.first (c.loop-slot.slot - c.args.first) in
+    record { room = omega (arith, few, count, c.loop-slot.invariant.count) }
+
+pub overflow_add-range : goal.overflow_add-range
+overflow_add-range c =
+    let s = c.args.sections.now in
+    let there = row_reached s c.loop-slot.slot c.in-Some.row (sym c.in-Some.ensures) in
+    let below : c.loop-slot.slot < s.header.length = omega arith in
+    let sound = sound_row s.bytes.now s.header c.loop-slot.slot c.in-Some.row (c.requires.sound c.loop-slot.slot below) there.0 in
+    let fits = sound.within in
+    omega arith
+
+pub loop-slot-preserved : goal.loop-slot-preserved
+loop-slot-preserved c =
+    let s = c.args.sections.now in
+    let i = c.loop-slot.slot in
+    let slots = range_with_len c.args.first (i - c.args.first) in
+    let before = entries_at s slots in
+    let next = slots_next c.args.first i (omega arith) in
+    elim c.match-entry_row.branch [
+      | in-Some+in_ok-add_entry w ↦
+          let row = w.in-Some.row in
+          let e = entry_of s.bytes.now s.header i row in
+          let more = ap (entries_at s) next ∙ entry_more s slots i row (sym w.in-Some.ensures) in
+          let done = w.in_ok-add_entry.ensures in
+          let same = w.contents-is in
+          record {
+            count = ap (λ x. x.count) same ∙ done.count ∙ ap (λ n. n + 1) c.loop-slot.invariant.count ∙ sym (ap length more ∙ length_push before e);
+            ranges = ap (λ x. x.ranges.items) same ∙ done.ranges ∙ ap (λ rs. rs ++ ranges_with_bytes (range_of e ∷ [])) c.loop-slot.invariant.ranges ∙ sym (ap (λ es. ranges_with_bytes (ranges_of es)) more ∙ ranges_more before e);
+          }
+      | in_default w ↦
+          let none = ap (entries_at s) next ∙ entry_same s slots i (sym w.in_default.ensures) in
+          let same = w.contents-is in
+          record {
+            count = ap (λ x. x.count) same ∙ c.loop-slot.invariant.count ∙ sym (ap length none);
+            ranges = ap (λ x. x.ranges.items) same ∙ c.loop-slot.invariant.ranges ∙ sym (ap (λ es. ranges_with_bytes (ranges_of es)) none);
+          }
+    ]
+
+pub returns : goal.returns
+returns c =
+    let count : c.loop-slot.slot - c.args.first ≡ min (c.args.first + 4096) c.args.sections.now.header.length - c.args.first = omega arith in
+    subst (λ n. ContentsAt c.args.sections.now (range_with_len c.args.first n) c.loop-slot.contents) count c.loop-slot.invariant
