@@ -1,0 +1,4 @@
+pub mod Classes
+pub mod Fields
+pub mod Readings
+pub mod Views
