@@ -1,1 +1,3 @@
+pub mod ListReadings
 mod Vectors
+pub mod Stops

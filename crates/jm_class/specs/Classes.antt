@@ -2,7 +2,7 @@
 -- tags are taken, and that a Code is taken apart, is this project's rule).
 use Rattle.std.specs.Prelude.{◌≡◌, ◌⊎◌, ℕ, ◌+◌, ◌-◌, ◌*◌, ◌/◌, ◌%◌, ◌^◌, ◌<◌, ◌≤◌, nat_lt, nat_le, Bool, true, false, ◌==◌, ◌&&◌, ◌||◌, List, [], ◌∷◌, ◌++◌, length, Option, Some, None, is_some, option_and_then, slice_get, if◌then◌else◌, All, codes}
 use Rattle.std.specs.List.{flat_map}
-use Rattle.std.specs.Int.{w16, w32, to_be_bytes}
+use Rattle.std.specs.Int.{w8, w16, w32, to_be_bytes}
 use Rattle.std.specs.Str.{bytes_eq}
 
 -- a number of the constant pool: a constant, whose body is without the length of a Utf8, or the
@@ -50,7 +50,15 @@ pub record ClassData : Type 0 where
 
 -- The bytes of a class
 
--- numbers of two and of four bytes, the highest first
+-- parts one behind another
+abbrev pub joined : List (List ℕ) → List ℕ
+joined [] = []
+joined (part ∷ parts) = part ++ joined parts
+
+-- numbers of one, two and four bytes, the highest first
+abbrev pub u1 : ℕ → List ℕ
+u1 n = to_be_bytes w8 n
+
 abbrev pub u2 : ℕ → List ℕ
 u2 n = to_be_bytes w16 n
 
@@ -59,52 +67,58 @@ u4 n = to_be_bytes w32 n
 
 -- the number of the items in two bytes, and the items
 abbrev pub counted_text : {A : Type 0} → (A → List ℕ) → List A → List ℕ
-counted_text text items = u2 (length items) ++ flat_map text items
+counted_text text items = joined (u2 (length items) ∷ flat_map text items ∷ [])
 
 -- the number of the bytes in four bytes, and the bytes
 abbrev pub sized_text : List ℕ → List ℕ
-sized_text bytes = u4 (length bytes) ++ bytes
+sized_text bytes = joined (u4 (length bytes) ∷ bytes ∷ [])
 
--- 1 is Utf8
+-- 1 is Utf8, which has its length in two bytes
 abbrev pub body_text : ℕ → List ℕ → List ℕ
-body_text tag body = if tag == 1 then u2 (length body) ++ body else body
+body_text tag body = if tag == 1 then joined (u2 (length body) ∷ body ∷ []) else body
 
 abbrev pub slot_text : SlotData → List ℕ
-slot_text (Constant tag body) = tag ∷ body_text tag body
+slot_text (Constant tag body) = joined (u1 tag ∷ body_text tag body ∷ [])
 slot_text Hole = []
 
 abbrev pub opaque_text : OpaqueData → List ℕ
-opaque_text a = u2 a.name ++ sized_text a.bytes
+opaque_text a = joined (u2 a.name ∷ sized_text a.bytes ∷ [])
+
+-- 8 bytes for each handler, behind their number
+abbrev pub rows_text : List ℕ → List ℕ
+rows_text rows = joined (u2 (length rows / 8) ∷ rows ∷ [])
 
 abbrev pub code_text : CodeData → List ℕ
-code_text c =
-    u2 c.max_stack ++ u2 c.max_locals ++ sized_text c.code
-    ++ u2 (length c.handlers / 8) ++ c.handlers ++ counted_text opaque_text c.attributes
+code_text c = joined (
+    u2 c.max_stack ∷ u2 c.max_locals ∷ sized_text c.code ∷ rows_text c.handlers
+    ∷ counted_text opaque_text c.attributes ∷ [])
 
 abbrev pub held_text : BodyData → List ℕ
 held_text (Opaque bytes) = bytes
 held_text (Coded code) = code_text code
 
 abbrev pub attribute_text : AttributeData → List ℕ
-attribute_text a = u2 a.name ++ sized_text (held_text a.body)
+attribute_text a = joined (u2 a.name ∷ sized_text (held_text a.body) ∷ [])
 
 abbrev pub member_text : MemberData → List ℕ
-member_text m =
-    u2 m.access ++ u2 m.name ++ u2 m.descriptor ++ counted_text attribute_text m.attributes
+member_text m = joined (
+    u2 m.access ∷ u2 m.name ∷ u2 m.descriptor ∷ counted_text attribute_text m.attributes ∷ [])
 
 -- 0xCAFEBABE
 abbrev pub magic : ℕ
 magic = 3405691582
 
+-- one number more than the pool has, and its constants
+abbrev pub pool_text : List SlotData → List ℕ
+pool_text pool = joined (u2 (length pool + 1) ∷ flat_map slot_text pool ∷ [])
+
 abbrev pub class_text : ClassData → List ℕ
-class_text c =
-    u4 magic ++ u2 c.minor ++ u2 c.major
-    ++ u2 (length c.pool + 1) ++ flat_map slot_text c.pool
-    ++ u2 c.access ++ u2 c.this_class ++ u2 c.super_class
-    ++ counted_text u2 c.interfaces
-    ++ counted_text member_text c.fields
-    ++ counted_text member_text c.methods
-    ++ counted_text attribute_text c.attributes
+class_text c = joined (
+    u4 magic ∷ u2 c.minor ∷ u2 c.major ∷ pool_text c.pool
+    ∷ u2 c.access ∷ u2 c.this_class ∷ u2 c.super_class
+    ∷ counted_text u2 c.interfaces
+    ∷ counted_text member_text c.fields ∷ counted_text member_text c.methods
+    ∷ counted_text attribute_text c.attributes ∷ [])
 
 -- Constants
 
