@@ -1,3 +1,4 @@
 pub mod ListReadings
-mod Vectors
 pub mod Stops
+mod Vectors
+pub mod WholeReadings

@@ -80,13 +80,17 @@ opaque_field short pool =
     and_then (name_field short pool)
     (λ name. and_then (sized short) (λ bytes. value (record { name = name; bytes = bytes })))
 
+-- the handlers of a Code: their number, and 8 bytes for each
+abbrev pub rows_field : (ℕ → ClassFault) → Reading ClassFault (List ℕ)
+rows_field short = and_then (number short w16) (λ count. part short (8 * count))
+
 -- the parts of a Code; one that doesn't fit has the fault of the whole
 abbrev pub code_fields : (ℕ → ClassFault) → List SlotData → Reading ClassFault CodeData
 code_fields short pool =
     and_then (number short w16) (λ max_stack.
     and_then (number short w16) (λ max_locals.
     and_then (sized short) (λ code.
-    and_then (and_then (number short w16) (λ count. part short (8 * count))) (λ handlers.
+    and_then (rows_field short) (λ handlers.
     and_then (list_of short (opaque_field short pool)) (λ attributes.
     value (record {
       max_stack = max_stack;

@@ -59,12 +59,16 @@ ended rest reading left =
     continued (reading left)
     (λ a next. if length next.bytes == 0 then Ok (a, next) else Err (rest next.place))
 
+-- the next n bytes by themselves, with their places
+abbrev pub inner_part : {F : Type 0} → (ℕ → F) → ℕ → Reading F Left
+inner_part short n left =
+    and_then (part short n) (λ bytes. value (record { place = left.place; bytes = bytes })) left
+
 -- n bytes, which a reading takes whole
 abbrev pub whole : {F A : Type 0} → (ℕ → F) → (ℕ → F) → ℕ → Reading F A → Reading F A
-whole short rest n reading left =
-    continued (part short n left)
-    (λ bytes next. continued (ended rest reading (record { place = left.place; bytes = bytes }))
-        (λ a end. Ok (a, next)))
+whole short rest n reading =
+    and_then (inner_part short n)
+    (λ inner next. continued (ended rest reading inner) (λ a end. Ok (a, next)))
 
 -- n bytes are taken from the front
 pub record Takes (n : ℕ) (old : Left) (taken : List ℕ) (new : Left) : Type 0 where

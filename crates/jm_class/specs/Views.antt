@@ -16,6 +16,7 @@ use Rattle.jm_class.specs.declared.class.Slot.TheVariants as slot
 use Rattle.jm_class.specs.declared.fields.Missing.{Missing}
 use Rattle.jm_class.specs.declared.fields.Missing.TheVariants.{Here, Within}
 use Rattle.jm_class.specs.Classes.{SlotData, Constant, Hole, OpaqueData, CodeData, BodyData, Opaque, Coded, AttributeData, MemberData, ClassData}
+use Rattle.jm_class.specs.Fields.{class_of}
 use Rattle.jm_class.specs.Readings.{Left, Outcome}
 
 abbrev pub slot_of : Slot → SlotData
@@ -78,3 +79,9 @@ abbrev pub Gives : {T A : Type 0} → (T → A) → Outcome ClassFault A → Res
 Gives data_of outcome (Ok v) left = outcome ≡ Ok (data_of v, left)
 Gives data_of outcome (Err (Fault fault)) left = outcome ≡ Err fault
 Gives data_of outcome (Err Memory) left = Unit {0}
+
+-- the class that the bytes read as, or their first fault, unless no memory is found
+abbrev pub ReadsClass : List ℕ → Result Class ReadError → Type 0
+ReadsClass bytes (Ok class) = class_of bytes ≡ Ok (plain class)
+ReadsClass bytes (Err (Fault fault)) = class_of bytes ≡ Err fault
+ReadsClass bytes (Err Memory) = Unit {0}

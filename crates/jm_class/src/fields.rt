@@ -1,7 +1,7 @@
 ghost use Rattle.std.specs.Prelude.{◌≡◌};
 ghost use Rattle.std.specs.Int.{w8, w16, w32};
 ghost use Rattle.jm_class.specs.Fields.{sized};
-ghost use Rattle.jm_class.specs.Readings.{number, part};
+ghost use Rattle.jm_class.specs.Readings.{number, part, inner_part};
 ghost use Rattle.jm_class.specs.Views.{fault_at, Gives};
 
 use crate::class::{ClassFault, ReadError};
@@ -66,4 +66,17 @@ pub fn sized<'a>(cursor: &mut Cursor<'a>, missing: Missing) -> Result<&'a [u8], 
 {
     let size = number32(cursor, missing)?;
     part(cursor, size as usize, missing)
+}
+
+/// So many bytes as a cursor of their own.
+pub fn inner<'a>(
+    cursor: &mut Cursor<'a>,
+    n: usize,
+    missing: Missing,
+) -> Result<Cursor<'a>, ReadError>
+    ensures { Gives (λ inner. inner) (inner_part (fault_at missing) n cursor.old)
+        result cursor.new }
+{
+    let at = cursor.place();
+    cursor.inner(n).ok_or(missing.fault(at))
 }

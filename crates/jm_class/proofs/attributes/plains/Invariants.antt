@@ -1,0 +1,10 @@
+use Rattle.std.proofs.Common.{◌≡◌, ◌-◌, map}
+use Rattle.jm_class.specs.declared.class.ClassFault.TheVariants.{Short}
+use Rattle.jm_class.specs.Fields.{list_of, opaque_field, attribute_field, member_field, short_number}
+use Rattle.jm_class.specs.Readings.{counted}
+use Rattle.jm_class.specs.Views.{fault_at, pool_of, opaque_of, attribute_of, member_of}
+use Rattle.jm_class.proofs.ListReadings.{prefixed}
+use Rattle.jm_class.proofs.attributes.plains.Given as goal
+
+abbrev pub invariant-loop-k : goal.invariant-loop-k
+invariant-loop-k l = list_of (fault_at l.missing) (opaque_field (fault_at l.missing) (pool_of l.pool)) l.fn.cursor ≡ prefixed (map opaque_of l.attributes) (counted (l.count - l.k) (opaque_field (fault_at l.missing) (pool_of l.pool)) l.cursor)
