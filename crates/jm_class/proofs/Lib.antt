@@ -1,4 +1,5 @@
 pub mod ListReadings
+pub mod ReadingLaws
 pub mod Stops
 mod Vectors
 pub mod WholeReadings
