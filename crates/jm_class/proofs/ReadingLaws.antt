@@ -1,6 +1,6 @@
 -- One law for each form of a reading: what it reads is fit and its text stands there, and the text
 -- of what is fit is read back.
-use Rattle.std.proofs.Common.{◌≡◌, ℕ, zero, suc, ◌+◌, ◌-◌, ◌*◌, ◌^◌, ◌<◌, ◌≤◌, ◌⊎◌, inl, inr, Bool, true, false, cond, List, [], ◌∷◌, ◌++◌, get_or, length, take, drop, Option, Some, Result, Ok, Err, refl, sym, ap, ◌∙◌, subst, arith, append_assoc}
+use Rattle.std.proofs.Common.{◌≡◌, ℕ, zero, suc, ◌+◌, ◌-◌, ◌*◌, ◌%◌, ◌^◌, ◌<◌, ◌≤◌, ◌⊎◌, inl, inr, Bool, true, false, cond, List, [], ◌∷◌, ◌++◌, get_or, length, take, drop, Option, Some, Result, Ok, Err, refl, sym, ap, ◌∙◌, subst, arith, append_assoc}
 use Rattle.std.proofs.lemmas.Bool.{leb-true, le-leb, eq-eqb, eqb-true}
 use Rattle.std.proofs.lemmas.List.{append-nil, take-append-drop, take_at, drop_at, length-append, length-take-le, nil_from_length}
 use Rattle.std.proofs.lemmas.List.Elements.{All-nil, All-cons, All-head, All-tail, All-take, All-drop}
@@ -11,26 +11,29 @@ use Rattle.std.specs.Prelude.{All, nat_le, nat_eq}
 use Rattle.jm_bytes.proofs.Choice.{chosen, same_ok}
 use Rattle.jm_class.specs.Readings.{Left, behind, Outcome, Reading, value, continued, and_then, part, number, counted, checked, ended, inner_part, whole}
 
+abbrev Byte : ℕ → Type 0
+Byte b = b < 256
+
 -- a list of bytes
 abbrev pub IsBytes : List ℕ → Type 0
 IsBytes xs = All (λ b. b < 256) xs
 
 pub bytes_all : (xs : List ℕ) → ((i : ℕ) → get_or xs i 0 < 256) → IsBytes xs
-bytes_all [] below = All-nil
-bytes_all (x ∷ xs) below = All-cons x xs (below 0) (bytes_all xs (λ i. below (suc i)))
+bytes_all [] below = All-nil Byte
+bytes_all (x ∷ xs) below = All-cons Byte x xs (below 0) (bytes_all xs (λ i. below (suc i)))
 
 bytes_at : (xs : List ℕ) → IsBytes xs → (i : ℕ) → get_or xs i 0 < 256
 bytes_at [] all i = omega arith
-bytes_at (x ∷ xs) all zero = All-head x xs all
-bytes_at (x ∷ xs) all (suc i) = bytes_at xs (All-tail x xs all) i
+bytes_at (x ∷ xs) all zero = All-head Byte x xs all
+bytes_at (x ∷ xs) all (suc i) = bytes_at xs (All-tail Byte x xs all) i
 
 bytes_behind : (xs ys : List ℕ) → IsBytes (xs ++ ys) → IsBytes ys
 bytes_behind [] ys all = all
-bytes_behind (x ∷ xs) ys all = bytes_behind xs ys (All-tail x (xs ++ ys) all)
+bytes_behind (x ∷ xs) ys all = bytes_behind xs ys (All-tail Byte x (xs ++ ys) all)
 
 bytes_front : (xs ys : List ℕ) → IsBytes (xs ++ ys) → IsBytes xs
-bytes_front [] ys all = All-nil
-bytes_front (x ∷ xs) ys all = All-cons x xs (All-head x (xs ++ ys) all) (bytes_front xs ys (All-tail x (xs ++ ys) all))
+bytes_front [] ys all = All-nil Byte
+bytes_front (x ∷ xs) ys all = All-cons Byte x xs (All-head Byte x (xs ++ ys) all) (bytes_front xs ys (All-tail Byte x (xs ++ ys) all))
 
 -- what a reading gave, and what is read behind it
 pub record Passed {F A B : Type 0} (outcome : Outcome F A) (next : A → Reading F B) (b : B) (after : Left) : Type 0 where
@@ -70,7 +73,7 @@ module _ {F A : Type 0} where
       ap (λ (r : A × Left). r.1) (same_ok {E = F} x y e)
 
   -- a value that takes no bytes
-  pub value-lawful : (Fits : A → Type 0) (a : A) → Fits a → ((b : A) → Fits b → b ≡ a) → Lawful {F} (value a) (λ _. []) Fits
+  pub value-lawful : (Fits : A → Type 0) (a : A) → Fits a → ((b : A) → Fits b → b ≡ a) → Lawful {F = F} (value a) (λ _. []) Fits
   value-lawful Fits a fits only = record {
     back = λ left next b bytes e. record { fits = subst Fits (same_value a b left next e) fits; bytes = ap (λ (l : Left). l.bytes) (same_left a b left next e) };
     forth = λ place b rest fit. (place, rw (only b fit) refl);
@@ -115,12 +118,12 @@ module _ {F : Type 0} (short : ℕ → F) where
   }
     where
       back : (left next : Left) (a : List ℕ) → ((nat_le n (length left.bytes) ≡ true) × ◌≡◌ {A = Outcome F (List ℕ)} (Ok (take n left.bytes, behind n left)) (Ok (a, next))) ⊎ ((nat_le n (length left.bytes) ≡ false) × ◌≡◌ {A = Outcome F (List ℕ)} (Err (short left.place)) (Ok (a, next))) → Took (λ xs. xs) (λ xs. length xs ≡ n) left a next
-      back left next a (inr no) = let e = no.1 in cc
-      back left next a (inl yes) =
-          let taken = same_value {F} (take n left.bytes) a (behind n left) next yes.1 in
-          let rest : drop n left.bytes ≡ next.bytes = ap (λ (l : Left). l.bytes) (same_left {F} (take n left.bytes) a (behind n left) next yes.1) in
+      back left next a (inr fails) = let e = fails.1 in cc
+      back left next a (inl holds) =
+          let taken = same_value {F = F} (take n left.bytes) a (behind n left) next holds.1 in
+          let rest : drop n left.bytes ≡ next.bytes = ap (λ (l : Left). l.bytes) (same_left {F = F} (take n left.bytes) a (behind n left) next holds.1) in
           record {
-            fits = ap length (sym taken) ∙ length-take-le n left.bytes (leb-true n (length left.bytes) yes.0);
+            fits = ap length (sym taken) ∙ length-take-le n left.bytes (leb-true n (length left.bytes) holds.0);
             bytes = sym (take-append-drop n left.bytes) ∙ rw (taken, rest) refl;
           }
 
@@ -142,8 +145,8 @@ module _ {F : Type 0} (short : ℕ → F) where
       back left next n bytes got =
           let took = (part-lawful short (byte_len w)).back left got.middle got.first bytes got.is in
           let fit = written got.first took.fits (bytes_front got.first got.middle.bytes (subst IsBytes took.bytes bytes)) in
-          let number = same_value {F} (from_be_bytes w got.first) n got.middle next got.rest in
-          let after = same_left {F} (from_be_bytes w got.first) n got.middle next got.rest in
+          let number = same_value {F = F} (from_be_bytes w got.first) n got.middle next got.rest in
+          let after = same_left {F = F} (from_be_bytes w got.first) n got.middle next got.rest in
           record {
             fits = subst (λ n. n < limit) number fit.0;
             bytes = took.bytes ∙ rw (sym number, fit.1, after) refl;
@@ -158,7 +161,7 @@ module _ {F : Type 0} (short : ℕ → F) where
       written : (bs : List ℕ) → length bs ≡ 1 → IsBytes bs → (from_be_bytes w8 bs < 2 ^ 8) × (to_be_bytes w8 (from_be_bytes w8 bs) ≡ bs)
       written [] size all = absurd (omega (arith, size))
       written (b ∷ []) size all =
-          let below = All-head b [] all in
+          let below = All-head Byte b [] all in
           let same : b % 256 ≡ b = omega (arith, below) in
           (omega (arith, below), ap (λ (n : ℕ). n ∷ []) same)
       written (b ∷ c ∷ bs) size all = absurd (omega (arith, size))
@@ -225,8 +228,8 @@ module _ {F A : Type 0} (reading : Reading F A) (text : A → List ℕ) (Fits : 
   pub counted-lawful : (n : ℕ) → Lawful (counted n reading) (flat_map text) (λ xs. (length xs ≡ n) × All Fits xs)
   counted-lawful zero = record {
     back = λ left next xs bytes e.
-        let none = same_value {F} [] xs left next e in
-        record { fits = subst (Many 0) none (refl, All-nil); bytes = rw (sym none) (ap (λ (l : Left). l.bytes) (same_left {F} [] xs left next e)) };
+        let none = same_value {F = F} [] xs left next e in
+        record { fits = subst (Many 0) none (refl, All-nil Fits); bytes = rw (sym none) (ap (λ (l : Left). l.bytes) (same_left {F = F} [] xs left next e)) };
     forth = λ place xs rest fits. let none : xs ≡ [] = nil_from_length xs fits.0 in (place, rw none refl);
   }
   counted-lawful (suc n) = record { back = back (counted-lawful n); forth = forth (counted-lawful n) }
@@ -241,20 +244,22 @@ module _ {F A : Type 0} (reading : Reading F A) (text : A → List ℕ) (Fits : 
           let first = law.back left one.middle one.first bytes one.is in
           let behind = bytes_behind (text one.first) one.middle.bytes (subst IsBytes first.bytes bytes) in
           let rest = more.back one.middle two.middle two.first behind two.is in
-          let same = same_value {F} (one.first ∷ two.first) xs two.middle next two.rest in
-          let after = same_left {F} (one.first ∷ two.first) xs two.middle next two.rest in
+          let same = same_value {F = F} (one.first ∷ two.first) xs two.middle next two.rest in
+          let after = same_left {F = F} (one.first ∷ two.first) xs two.middle next two.rest in
           let size : suc (length two.first) ≡ suc n = ap suc rest.fits.0 in
           record {
-            fits = subst (Many (suc n)) same (size, All-cons one.first two.first first.fits rest.fits.1);
-            bytes = first.bytes ∙ rw (sym same, rest.bytes, after) (sym (append_assoc (text one.first) (flat_map text two.first) next.bytes));
+            fits = subst (Many (suc n)) same (size, All-cons Fits one.first two.first first.fits rest.fits.1);
+            bytes =
+                first.bytes ∙ ap (λ m. text one.first ++ m) (rest.bytes ∙ ap (λ (l : Left). flat_map text two.first ++ l.bytes) after)
+                ∙ sym (append_assoc (text one.first) (flat_map text two.first) next.bytes) ∙ ap (λ xs. flat_map text xs ++ next.bytes) same;
           }
 
       forth : Lawful (counted n reading) (flat_map text) (Many n) → (place : ℕ) (xs : List A) (rest : List ℕ) → Many (suc n) xs → ReadBack (counted (suc n) reading) place (flat_map text xs) xs rest
       forth more place [] rest fits = absurd (omega (arith, fits.0))
       forth more place (x ∷ xs) rest fits =
           let size : length xs ≡ n = omega (arith, fits.0) in
-          let one = law.forth place x (flat_map text xs ++ rest) (All-head x xs fits.1) in
-          let two = more.forth one.0 xs rest (size, All-tail x xs fits.1) in
+          let one = law.forth place x (flat_map text xs ++ rest) (All-head Fits x xs fits.1) in
+          let two = more.forth one.0 xs rest (size, All-tail Fits x xs fits.1) in
           (two.0, rw (append_assoc (text x) (flat_map text xs) rest, one.1, two.1) refl)
 
 -- no byte is left, and a part that is read whole
@@ -265,11 +270,11 @@ module _ {F A : Type 0} (rest : ℕ → F) (reading : Reading F A) (text : A →
       tested got.first got.middle (law.back left got.middle got.first bytes got.is) (chosen (nat_eq (length got.middle.bytes) 0) (Ok (got.first, got.middle)) (Err (rest got.middle.place)) (Ok (a, next)) got.rest)
     where
       tested : (b : A) (middle : Left) → Took text Fits left b middle → ((nat_eq (length middle.bytes) 0 ≡ true) × ◌≡◌ {A = Outcome F A} (Ok (b, middle)) (Ok (a, next))) ⊎ ((nat_eq (length middle.bytes) 0 ≡ false) × ◌≡◌ {A = Outcome F A} (Err (rest middle.place)) (Ok (a, next))) → Fits a × (text a ≡ left.bytes)
-      tested b middle took (inl yes) =
-          let same = same_value {F} b a middle next yes.1 in
-          let none : middle.bytes ≡ [] = nil_from_length middle.bytes (eqb-true (length middle.bytes) 0 yes.0) in
+      tested b middle took (inl holds) =
+          let same = same_value {F = F} b a middle next holds.1 in
+          let none : middle.bytes ≡ [] = nil_from_length middle.bytes (eqb-true (length middle.bytes) 0 holds.0) in
           (subst Fits same took.fits, sym (took.bytes ∙ rw (none, same) (append-nil (text a))))
-      tested b middle took (inr no) = let e = no.1 in cc
+      tested b middle took (inr fails) = let e = fails.1 in cc
 
   pub ended-forth : (place : ℕ) (a : A) → Fits a → (end : ℕ) × (ended rest reading (record { place = place; bytes = text a }) ≡ Ok (a, record { place = end; bytes = [] }))
   ended-forth place a fits =
@@ -285,9 +290,9 @@ module _ {F A : Type 0} (rest : ℕ → F) (reading : Reading F A) (text : A →
           let cut = passed (part short n left) (λ bytes. value (record { place = left.place; bytes = bytes })) one.first one.middle one.is in
           let two = passed (ended rest reading one.first) (λ a end. Ok (a, one.middle)) a next one.rest in
           let took = (part-lawful short n).back left cut.middle cut.first bytes cut.is in
-          let inner : cut.first ≡ one.first.bytes = ap (λ (l : Left). l.bytes) (same_value {F} (record { place = left.place; bytes = cut.first }) one.first cut.middle one.middle cut.rest) in
-          let after : cut.middle ≡ next = same_left {F} (record { place = left.place; bytes = cut.first }) one.first cut.middle one.middle cut.rest ∙ same_left {F} two.first a one.middle next two.rest in
-          let same = same_value {F} two.first a one.middle next two.rest in
+          let inner : cut.first ≡ one.first.bytes = ap (λ (l : Left). l.bytes) (same_value {F = F} (record { place = left.place; bytes = cut.first }) one.first cut.middle one.middle cut.rest) in
+          let after : cut.middle ≡ next = same_left {F = F} (record { place = left.place; bytes = cut.first }) one.first cut.middle one.middle cut.rest ∙ same_left {F = F} two.first a one.middle next two.rest in
+          let same = same_value {F = F} two.first a one.middle next two.rest in
           let inside = subst IsBytes inner (bytes_front cut.first cut.middle.bytes (subst IsBytes took.bytes bytes)) in
           let held = ended-back one.first two.middle two.first inside two.is in
           let words : text a ≡ cut.first = ap text (sym same) ∙ held.1 ∙ sym inner in
