@@ -1,3 +1,4 @@
+pub mod FieldLaws
 pub mod ListReadings
 pub mod ReadingLaws
 pub mod Stops

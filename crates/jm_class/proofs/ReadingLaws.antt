@@ -79,6 +79,10 @@ module _ {F A : Type 0} where
     forth = λ place b rest fit. (place, rw (only b fit) refl);
   }
 
+  -- the value that a sequence makes: the one with the parts that were read
+  pub made-lawful : (E : A → Type 0) (a : A) → E a → ((b : A) → E b → b ≡ a) → Lawful {F = F} (value a) (λ _. []) (λ b. E b × Unit {0})
+  made-lawful E a parts only = value-lawful (λ b. E b × Unit {0}) a (parts, tt) (λ b fits. only b fits.0)
+
   -- the same, said in other words
   pub said-lawful : {reading : Reading F A} (text words : A → List ℕ) (Fits Says : A → Type 0) → Lawful reading text Fits → ((a : A) → Fits a → Says a) → ((a : A) → Says a → Fits a) → ((a : A) → Fits a → text a ≡ words a) → Lawful reading words Says
   said-lawful {reading} text words Fits Says law says fits same = record {
