@@ -74,7 +74,7 @@ module _ (short : ℕ → ClassFault) where
       (λ c fits. refl)
 
 -- a reading whose faults speak of the place where it begins
-placed-lawful : {A : Type 0} (reading : ℕ → Reading ClassFault A) (text : A → List ℕ) (Fits : A → Type 0) → ((place : ℕ) → Lawful (reading place) text Fits) → Lawful (λ left. reading left.place left) text Fits
+pub placed-lawful : {A : Type 0} (reading : ℕ → Reading ClassFault A) (text : A → List ℕ) (Fits : A → Type 0) → ((place : ℕ) → Lawful (reading place) text Fits) → Lawful (λ left. reading left.place left) text Fits
 placed-lawful reading text Fits law = record {
   back = λ left next a bytes e. (law left.place).back left next a bytes e;
   forth = λ place a rest fits. (law place).forth place a rest fits;

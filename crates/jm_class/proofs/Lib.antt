@@ -1,5 +1,6 @@
 pub mod FieldLaws
 pub mod ListReadings
+pub mod PoolLaws
 pub mod ReadingLaws
 pub mod Stops
 mod Vectors

@@ -27,7 +27,7 @@ bytes_at [] all i = omega arith
 bytes_at (x ∷ xs) all zero = All-head Byte x xs all
 bytes_at (x ∷ xs) all (suc i) = bytes_at xs (All-tail Byte x xs all) i
 
-bytes_behind : (xs ys : List ℕ) → IsBytes (xs ++ ys) → IsBytes ys
+pub bytes_behind : (xs ys : List ℕ) → IsBytes (xs ++ ys) → IsBytes ys
 bytes_behind [] ys all = all
 bytes_behind (x ∷ xs) ys all = bytes_behind xs ys (All-tail Byte x (xs ++ ys) all)
 
@@ -42,7 +42,7 @@ pub record Passed {F A B : Type 0} (outcome : Outcome F A) (next : A → Reading
   pub is : outcome ≡ Ok (first, middle)
   pub rest : next first middle ≡ Ok (b, after)
 
-passed : {F A B : Type 0} (outcome : Outcome F A) (next : A → Reading F B) (b : B) (after : Left) → continued outcome next ≡ Ok (b, after) → Passed outcome next b after
+pub passed : {F A B : Type 0} (outcome : Outcome F A) (next : A → Reading F B) (b : B) (after : Left) → continued outcome next ≡ Ok (b, after) → Passed outcome next b after
 passed (Ok r) next b after e = record { first = r.0; middle = r.1; is = refl; rest = e }
 passed (Err fault) next b after e = cc
 
@@ -60,13 +60,13 @@ pub record Lawful {F A : Type 0} (reading : Reading F A) (text : A → List ℕ)
   pub forth : (place : ℕ) (a : A) (rest : List ℕ) → Fits a → ReadBack reading place (text a) a rest
 
 module _ {F A : Type 0} where
-  same_value : (a b : A) (left next : Left) → ◌≡◌ {A = Outcome F A} (Ok (a, left)) (Ok (b, next)) → a ≡ b
+  pub same_value : (a b : A) (left next : Left) → ◌≡◌ {A = Outcome F A} (Ok (a, left)) (Ok (b, next)) → a ≡ b
   same_value a b left next e =
       let x : A × Left = (a, left) in
       let y : A × Left = (b, next) in
       ap (λ (r : A × Left). r.0) (same_ok {E = F} x y e)
 
-  same_left : (a b : A) (left next : Left) → ◌≡◌ {A = Outcome F A} (Ok (a, left)) (Ok (b, next)) → left ≡ next
+  pub same_left : (a b : A) (left next : Left) → ◌≡◌ {A = Outcome F A} (Ok (a, left)) (Ok (b, next)) → left ≡ next
   same_left a b left next e =
       let x : A × Left = (a, left) in
       let y : A × Left = (b, next) in
