@@ -134,3 +134,85 @@ slot-lawful true more = said-lawful (λ _. []) slot_text (IsSlot true more) (IsS
     same : (s : SlotData) → IsSlot true more s → [] ≡ slot_text s
     same Hole is = refl
     same (Constant tag body) is = absurd is
+
+-- The numbers of a pool
+
+-- a hole is due only where a number is left
+abbrev Due : Bool → ℕ → Type 0
+Due due n = due ≡ true → 0 < n
+
+due_behind : (due : Bool) (n : ℕ) (slot : SlotData) → IsSlot due (nat_lt 0 n) slot → Due (is_wide_slot slot) n
+due_behind true n Hole is wide = cc
+due_behind false n Hole is wide = absurd is
+due_behind true n (Constant tag body) is wide = absurd is
+due_behind false n (Constant tag body) is wide = ltb-true 0 n (sym (ap (λ b. cond b (nat_lt 0 n) true) wide) ∙ is.1)
+
+pool_cons : (due more : Bool) (slot : SlotData) (slots : List SlotData) → IsSlot due more slot → IsPoolFrom (is_wide_slot slot) slots → IsPoolFrom due (slot ∷ slots)
+pool_cons true more Hole slots is rest = rest
+pool_cons false more Hole slots is rest = absurd is
+pool_cons true more (Constant tag body) slots is rest = absurd is
+pool_cons false more (Constant tag body) slots is rest = (is.0, rest)
+
+-- behind a Long or a Double a hole stands
+room : (b : Bool) (n : ℕ) (slots : List SlotData) → length slots ≡ n → IsPoolFrom b slots → cond b (nat_lt 0 n) true ≡ true
+room false n slots size pool = refl
+room true n [] size pool = cc
+room true n (slot ∷ slots) size pool = lt-ltb 0 n (omega (arith, size))
+
+pool_head : (due : Bool) (n : ℕ) (slot : SlotData) (slots : List SlotData) → length slots ≡ n → IsPoolFrom due (slot ∷ slots) → IsSlot due (nat_lt 0 n) slot × IsPoolFrom (is_wide_slot slot) slots
+pool_head true n Hole slots size pool = (tt, pool)
+pool_head false n Hole slots size pool = absurd pool
+pool_head true n (Constant tag body) slots size pool = absurd pool
+pool_head false n (Constant tag body) slots size pool = ((pool.0, room (is_wide tag) n slots size pool.1), pool.1)
+
+abbrev Numbers : ℕ → Bool → List SlotData → Type 0
+Numbers n due xs = (length xs ≡ n) × IsPoolFrom due xs
+
+pub slots-lawful : (n : ℕ) (due : Bool) → (due ≡ true → 0 < n) → Lawful (slots n due) (flat_map slot_text) (λ xs. (length xs ≡ n) × IsPoolFrom due xs)
+slots-lawful zero true room = absurd (let none = room refl in omega (arith, none))
+slots-lawful zero false room = record {
+  back = λ left next xs bytes e.
+      let none = same_value {F = ClassFault} [] xs left next e in
+      record { fits = subst (Numbers 0 false) none (refl, refl); bytes = rw (sym none) (ap (λ (l : Left). l.bytes) (same_left {F = ClassFault} [] xs left next e)) };
+  forth = λ place xs rest fits. let none : xs ≡ [] = nil_from_length xs fits.0 in (place, rw none refl);
+}
+slots-lawful (suc n) due room = record { back = back (slots-lawful n); forth = forth (slots-lawful n) }
+  where
+    back : ((d : Bool) → (d ≡ true → 0 < n) → Lawful (slots n d) (flat_map slot_text) (Numbers n d)) → (left next : Left) (xs : List SlotData) → IsBytes left.bytes → slots (suc n) due left ≡ Ok (xs, next) → Took (flat_map slot_text) (Numbers (suc n) due) left xs next
+    back more left next xs bytes e =
+        let one = passed (slot_field due (nat_lt 0 n) left) (λ slot. and_then (slots n (is_wide_slot slot)) (λ slots. value (slot ∷ slots))) xs next e in
+        let two = passed (slots n (is_wide_slot one.first) one.middle) (λ slots. value (one.first ∷ slots)) xs next one.rest in
+        let first = (slot-lawful due (nat_lt 0 n)).back left one.middle one.first bytes one.is in
+        let behind = bytes_behind (slot_text one.first) one.middle.bytes (subst IsBytes first.bytes bytes) in
+        let rest = (more (is_wide_slot one.first) (due_behind due n one.first first.fits)).back one.middle two.middle two.first behind two.is in
+        let same = same_value {F = ClassFault} (one.first ∷ two.first) xs two.middle next two.rest in
+        let after = same_left {F = ClassFault} (one.first ∷ two.first) xs two.middle next two.rest in
+        let size : suc (length two.first) ≡ suc n = ap suc rest.fits.0 in
+        record {
+          fits = subst (Numbers (suc n) due) same (size, pool_cons due (nat_lt 0 n) one.first two.first first.fits rest.fits.1);
+          bytes =
+              first.bytes ∙ ap (λ m. slot_text one.first ++ m) (rest.bytes ∙ ap (λ (l : Left). flat_map slot_text two.first ++ l.bytes) after)
+              ∙ sym (append_assoc (slot_text one.first) (flat_map slot_text two.first) next.bytes) ∙ ap (λ xs. flat_map slot_text xs ++ next.bytes) same;
+        }
+
+    forth : ((d : Bool) → (d ≡ true → 0 < n) → Lawful (slots n d) (flat_map slot_text) (Numbers n d)) → (place : ℕ) (xs : List SlotData) (rest : List ℕ) → Numbers (suc n) due xs → ReadBack (slots (suc n) due) place (flat_map slot_text xs) xs rest
+    forth more place [] rest fits = absurd (omega (arith, fits.0))
+    forth more place (x ∷ xs) rest fits =
+        let size : length xs ≡ n = omega (arith, fits.0) in
+        let parts = pool_head due n x xs size fits.1 in
+        let one = (slot-lawful due (nat_lt 0 n)).forth place x (flat_map slot_text xs ++ rest) parts.0 in
+        let two = (more (is_wide_slot x) (due_behind due n x parts.0)).forth one.0 xs rest (size, parts.1) in
+        (two.0, rw (append_assoc (slot_text x) (flat_map slot_text xs) rest, one.1, two.1) refl)
+
+-- the pool with its count, which is one more than its numbers
+pub pool-lawful : Lawful pool_field pool_text (λ pool. (length pool < 65535) × IsPoolFrom false pool)
+pool-lawful =
+    said-lawful _ pool_text _ (λ pool. (length pool < 65535) × IsPoolFrom false pool)
+    (and_then-lawful _ _ u2 _ (λ pool. length pool + 1) (flat_map slot_text) Always (λ _ pool. IsPoolFrom false pool)
+        (checked-lawful (λ count. nat_lt 0 count) (λ at count. Index at) _ _ _ (number16-lawful Short))
+        (λ count fits. said-lawful _ _ _ _ (slots-lawful (count - 1) false (λ e. cc))
+            (λ xs is. ((tt, let some = ltb-true 0 count fits.1 in let size = is.0 in omega (arith, some, size)), is.1))
+            (λ xs is. (let size = is.0.1 in omega (arith, size), is.1)) (λ xs is. refl)))
+    (λ pool fits. (let size = fits.1.0.0 in omega (arith, size), fits.1.1))
+    (λ pool fits. (tt, ((let size = fits.0 in omega (arith, size), lt-ltb 0 (length pool + 1) (omega arith)), fits.1)))
+    (λ pool fits. ap (λ t. u2 (length pool + 1) ++ t) (sym (append-nil (flat_map slot_text pool))))
