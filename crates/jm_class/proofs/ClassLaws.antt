@@ -1,13 +1,17 @@
 -- The class that `class_of` computes is the one that `ReadsAs` rules: both ways, and there is one.
 use Rattle.std.proofs.Common.{◌≡◌, ℕ, ◌^◌, ◌<◌, ◌≤◌, Bool, true, false, List, [], ◌++◌, Option, Some, None, Result, Ok, Err, refl, sym, ap, ◌∙◌, subst, arith}
 use Rattle.std.proofs.lemmas.Bool.{and_parts, and_from, leb-true, le-leb, eqb-true, eq-eqb}
-use Rattle.std.specs.Prelude.{nat_le, nat_eq}
+use Rattle.std.specs.Prelude.{nat_le, nat_eq, IfOk, OnOk}
 use Rattle.jm_bytes.proofs.Choice.{same_ok}
 use Rattle.jm_class.specs.declared.class.ClassFault.{ClassFault}
 use Rattle.jm_class.specs.declared.class.ClassFault.TheVariants.{Magic, Version, Short, Rest}
+use Rattle.jm_class.specs.declared.class.Class.{Class}
+use Rattle.jm_class.specs.declared.class.ReadError.{ReadError}
+use Rattle.jm_class.specs.declared.class.ReadError.TheVariants.{Fault, Memory}
 use Rattle.jm_class.specs.Classes.{SlotData, ClassData, u2, u4, magic, counted_text, member_text, attribute_text, pool_text, class_text, is_major, IsPoolFrom, IsMember, IsAttribute, FitsCounted, IsClass, ReadsAs}
 use Rattle.jm_class.specs.Fields.{magic_field, major_field, class_fields, value_of, class_of, fault_of, class_fault}
 use Rattle.jm_class.specs.Readings.{Left, Outcome, ended}
+use Rattle.jm_class.specs.Views.{ReadsClass, plain}
 use Rattle.jm_class.proofs.FieldLaws.{list_of-lawful, attribute-lawful, member-lawful}
 use Rattle.jm_class.proofs.PoolLaws.{pool-lawful}
 use Rattle.jm_class.proofs.ReadingLaws.{Lawful, IsBytes, said-lawful, made-lawful, checked-lawful, and_then-lawful, ended-back, ended-forth, number16-lawful, number32-lawful}
@@ -106,3 +110,22 @@ no_fault-reads bytes all none = go (class_of bytes) refl none
     go : (result : Result ClassData ClassFault) → class_of bytes ≡ result → fault_of result ≡ None → (c : ClassData) × ReadsAs bytes c
     go (Ok c) is none = (c, class_of-reads bytes c all is)
     go (Err fault) is none = cc
+
+-- What the code read
+
+pub class_ok : (bytes : List ℕ) (result : Result Class ReadError) → IsBytes bytes → ReadsClass bytes result → IfOk result (λ class. ReadsAs bytes (plain class))
+class_ok bytes (Ok class) all reads = class_of-reads bytes (plain class) all reads
+class_ok bytes (Err error) all reads = tt
+
+pub class_only : (bytes : List ℕ) (result : Result Class ReadError) → ReadsClass bytes result → IfOk result (λ class. (other : ClassData) → ReadsAs bytes other → other ≡ plain class)
+class_only bytes (Ok class) reads = λ other also. same_ok {E = ClassFault} other (plain class) (sym (reads-class_of bytes other also) ∙ reads)
+class_only bytes (Err error) reads = tt
+
+pub class_no_fault : (bytes : List ℕ) (result : Result Class ReadError) → ReadsClass bytes result → OnOk result (class_fault bytes ≡ None)
+class_no_fault bytes (Ok class) reads = ap fault_of reads
+class_no_fault bytes (Err error) reads = tt
+
+pub class_refused : (bytes : List ℕ) (result : Result Class ReadError) (fault : ClassFault) → ReadsClass bytes result → result ≡ Err (Fault fault) → class_fault bytes ≡ Some fault
+class_refused bytes (Ok class) fault reads is = cc
+class_refused bytes (Err Memory) fault reads is = cc
+class_refused bytes (Err (Fault found)) fault reads is = let same : found ≡ fault = cc in ap fault_of reads ∙ ap (λ f. Some f) same

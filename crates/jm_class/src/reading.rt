@@ -1,6 +1,7 @@
-ghost use Rattle.std.specs.Prelude.{◌≡◌, option_map};
-ghost use Rattle.jm_class.specs.Classes.{utf8_at};
-ghost use Rattle.jm_class.specs.Fields.{magic_field, major_field, class_fields, class_of};
+ghost use Rattle.std.specs.Prelude.{◌≡◌, None, Some, Err, option_map, IfOk, OnOk};
+ghost use Rattle.jm_class.specs.Classes.{ClassData, ReadsAs, utf8_at};
+ghost use Rattle.jm_class.specs.Fields.{magic_field, major_field, class_fields, class_fault};
+ghost use Rattle.jm_class.specs.declared.class.ReadError.TheVariants.{Fault};
 ghost use Rattle.jm_class.specs.Views.{Gives, ReadsClass, pool_of, plain};
 
 use crate::attributes::attributes;
@@ -64,9 +65,8 @@ fn class<'a>(alloc: Global, cursor: &mut Cursor<'a>) -> Result<Class<'a>, ReadEr
     })
 }
 
-/// Reads a class file. A fault is the first from left to right, by JVMS 4 and the rules of this
-/// project.
-pub fn read<'a>(alloc: Global, bytes: &'a [u8]) -> Result<Class<'a>, ReadError>
+/// The fields of a class, and nothing behind them.
+fn whole<'a>(alloc: Global, bytes: &'a [u8]) -> Result<Class<'a>, ReadError>
     ensures { ReadsClass bytes.now result }
 {
     let mut cursor = Cursor::new(bytes);
@@ -75,6 +75,20 @@ pub fn read<'a>(alloc: Global, bytes: &'a [u8]) -> Result<Class<'a>, ReadError>
         return Err(ReadError::Fault(ClassFault::Rest(cursor.place())));
     }
     Ok(class)
+}
+
+/// Reads a class file. A fault is the first from left to right, by JVMS 4 and the rules of this
+/// project.
+pub fn read<'a>(alloc: Global, bytes: &'a [u8]) -> Result<Class<'a>, ReadError>
+    ensures class { IfOk result (λ class. ReadsAs bytes.now (plain class)) }
+    ensures only { IfOk result (λ class.
+        (other : ClassData) → ReadsAs bytes.now other → other ≡ plain class) }
+
+    // There is a fault exactly where the bytes read as no class.
+    ensures no_fault { OnOk result (class_fault bytes.now ≡ None) }
+    ensures fault { (fault : _) → result ≡ Err (Fault fault) → class_fault bytes.now ≡ Some fault }
+{
+    whole(alloc, bytes)
 }
 
 /// The bytes of the Utf8 of a number, from 1 on; none where the constant isn't one.

@@ -1,15 +1,11 @@
-use Rattle.std.proofs.Common.{ap}
-use Rattle.jm_class.specs.declared.class.ClassFault.TheVariants.{Rest}
-use Rattle.jm_class.specs.Fields.{class_fields, value_of}
-use Rattle.jm_class.specs.Views.{plain}
-use Rattle.jm_class.proofs.WholeReadings.{ended-rest, ended-all}
+use Rattle.jm_class.proofs.ClassLaws.{class_ok, class_only, class_no_fault, class_refused}
+use Rattle.jm_class.proofs.ReadingLaws.{bytes_all}
 use Rattle.jm_class.proofs.reading.read.Goals as goal
 
-pub returns-then-len-ne0 : goal.returns-then-len-ne0
-returns-then-len-ne0 c =
-    rw c.place.ensures
-    (ap value_of (ended-rest Rest class_fields (record { place = 0; bytes = c.args.bytes.now }) c.class.new.cursor (plain c.in_ok-class.class) c.len.result (rw c.new-cursor.ensures at c.in_ok-class.ensures) c.len.ensures c.if-len-ne0.true))
-
 pub returns : goal.returns
-returns c =
-    ap value_of (ended-all Rest class_fields (record { place = 0; bytes = c.args.bytes.now }) c.class.new.cursor (plain c.in_ok-class.class) c.len.result (rw c.new-cursor.ensures at c.in_ok-class.ensures) c.len.ensures c.if-len-ne0.false)
+returns c = record {
+  class = class_ok c.args.bytes.now c.whole.result (bytes_all c.args.bytes.now (λ i. (c.type_inv.bytes i).fits)) c.whole.ensures;
+  only = class_only c.args.bytes.now c.whole.result c.whole.ensures;
+  no_fault = class_no_fault c.args.bytes.now c.whole.result c.whole.ensures;
+  fault = λ fault is. class_refused c.args.bytes.now c.whole.result fault c.whole.ensures is;
+}
