@@ -12,3 +12,6 @@ mod reading;
 pub use class::{Attribute, Body, Class, ClassFault, Code, Member, Plain, ReadError, Slot};
 pub use cursor::Cursor;
 pub use reading::{read, utf8};
+
+#[cfg(test)]
+mod tests;
