@@ -1,0 +1,8 @@
+use Rattle.std.proofs.Common.{◌≡◌, ◌+◌, ◌++◌, length, drop}
+use Rattle.jm_class.specs.Classes.{u2, slot_text, opaque_text, attribute_text, member_text}
+use Rattle.jm_class.specs.Views.{slot_of, opaque_of, attribute_of, member_of}
+use Rattle.jm_classout.proofs.Loops.{texts}
+use Rattle.jm_classout.proofs.sizes.members_size.Given as goal
+
+abbrev pub invariant-loop-member : goal.invariant-loop-member
+invariant-loop-member l = l.size + length (texts member_of member_text (drop l.member-index l.members)) ≡ length (texts member_of member_text l.members)
