@@ -1,4 +1,4 @@
-pub mod ClassLaws
+pub mod ComputedClassLaws
 pub mod FieldLaws
 pub mod ListReadings
 pub mod PoolLaws

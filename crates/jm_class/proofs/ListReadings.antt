@@ -5,7 +5,7 @@ use Rattle.std.proofs.lemmas.List.{map-append, append-nil}
 use Rattle.std.specs.Prelude.{nat_lt}
 use Rattle.jm_class.specs.declared.class.ClassFault.{ClassFault}
 use Rattle.jm_class.specs.Classes.{SlotData}
-use Rattle.jm_class.specs.Fields.{slot_field, slots, is_wide_slot}
+use Rattle.jm_class.specs.ComputedClass.{slot_field, slots, is_wide_slot}
 use Rattle.jm_class.specs.Readings.{Left, Outcome, Reading, value, continued, and_then, counted}
 
 -- the items so far before those that a reading gives; a fault stays

@@ -46,6 +46,11 @@ pub passed : {F A B : Type 0} (outcome : Outcome F A) (next : A → Reading F B)
 passed (Ok r) next b after e = record { first = r.0; middle = r.1; is = refl; rest = e }
 passed (Err fault) next b after e = cc
 
+-- the first fault of a sequence is that of its first part that has one
+pub and_then-fault : {F A B : Type 0} (outcome : Outcome F A) (next : A → Reading F B) (fault : F) → continued outcome next ≡ Err fault → (outcome ≡ Err fault) ⊎ ((a : A) × (middle : Left) × (outcome ≡ Ok (a, middle)) × (next a middle ≡ Err fault))
+and_then-fault (Ok r) next fault e = inr (r.0, r.1, refl, e)
+and_then-fault (Err found) next fault e = let same : found ≡ fault = cc in inl (ap (λ f. Err f) same)
+
 -- what was read, and what is left behind it
 pub record Took {A : Type 0} (text : A → List ℕ) (Fits : A → Type 0) (left : Left) (a : A) (next : Left) : Type 0 where
   pub fits : Fits a

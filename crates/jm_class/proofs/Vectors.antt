@@ -4,7 +4,7 @@ use Rattle.std.specs.Prelude.{replicate}
 use Rattle.jm_class.specs.declared.class.ClassFault.{ClassFault}
 use Rattle.jm_class.specs.declared.class.ClassFault.TheVariants.{Magic, Version, Short, Tag, Index, CodeLength, Rest}
 use Rattle.jm_class.specs.Classes.{SlotData, Constant, Hole, ClassData, class_text}
-use Rattle.jm_class.specs.Fields.{class_of, class_fault}
+use Rattle.jm_class.specs.ComputedClass.{class_of, class_fault}
 
 abbrev zeros : ℕ → List ℕ
 zeros n = replicate n 0

@@ -5,7 +5,7 @@ use Rattle.std.specs.Int.{w32}
 use Rattle.jm_class.specs.declared.class.ClassFault.{ClassFault}
 use Rattle.jm_class.specs.declared.class.ClassFault.TheVariants.{Short, CodeLength}
 use Rattle.jm_class.specs.Classes.{SlotData, CodeData}
-use Rattle.jm_class.specs.Fields.{code_fields, code_field}
+use Rattle.jm_class.specs.ComputedClass.{code_fields, code_field}
 use Rattle.jm_class.specs.Readings.{Left, Outcome, Reading, value, continued, inner_part, number, ended}
 
 pub ended-all : {F A : Type 0} (rest : ℕ → F) (reading : Reading F A) (left next : Left) (a : A) (n : ℕ) → reading left ≡ Ok (a, next) → n ≡ length next.bytes → n ≡ 0 → ended rest reading left ≡ Ok (a, next)

@@ -1,4 +1,4 @@
 pub mod Classes
-pub mod Fields
+pub mod ComputedClass
 pub mod Readings
 pub mod Views

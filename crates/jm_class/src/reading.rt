@@ -1,8 +1,8 @@
 ghost use Rattle.std.specs.Prelude.{◌≡◌, None, Some, Err, option_map, IfOk, OnOk};
 ghost use Rattle.jm_class.specs.Classes.{ClassData, ReadsAs, utf8_at};
-ghost use Rattle.jm_class.specs.Fields.{magic_field, major_field, class_fields, class_fault};
+ghost use Rattle.jm_class.specs.ComputedClass.{magic_field, major_field, class_fields, class_fault};
 ghost use Rattle.jm_class.specs.declared.class.ReadError.TheVariants.{Fault};
-ghost use Rattle.jm_class.specs.Views.{Gives, ReadsClass, pool_of, plain};
+ghost use Rattle.jm_class.specs.Views.{Gives, ReadsClass, plain};
 
 use crate::attributes::attributes;
 use crate::class::{Class, ClassFault, ReadError};
@@ -83,17 +83,17 @@ pub fn read<'a>(alloc: Global, bytes: &'a [u8]) -> Result<Class<'a>, ReadError>
     ensures class { IfOk result (λ class. ReadsAs bytes.now (plain class)) }
     ensures only { IfOk result (λ class.
         (other : ClassData) → ReadsAs bytes.now other → other ≡ plain class) }
-
-    // There is a fault exactly where the bytes read as no class.
     ensures no_fault { OnOk result (class_fault bytes.now ≡ None) }
     ensures fault { (fault : _) → result ≡ Err (Fault fault) → class_fault bytes.now ≡ Some fault }
+    ensures no_class { (fault : _) → result ≡ Err (Fault fault)
+        → (c : ClassData) → ¬ ReadsAs bytes.now c }
 {
     whole(alloc, bytes)
 }
 
 /// The bytes of the Utf8 of a number, from 1 on; none where the constant isn't one.
 pub fn utf8<'a>(class: &Class<'a>, index: u16) -> Option<&'a [u8]>
-    ensures { option_map (λ text. text.now) result ≡ utf8_at (pool_of class.now.pool) index }
+    ensures { option_map (λ text. text.now) result ≡ utf8_at (plain class.now).pool index }
 {
     utf8_in(class.pool.as_slice(), index)
 }

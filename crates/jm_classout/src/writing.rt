@@ -1,5 +1,5 @@
 ghost use Rattle.std.specs.Prelude.{◌≡◌, ◌++◌, ◌/◌, ◌<◌, ◌^◌, length, map, All, IfOk, OnOk};
-ghost use Rattle.jm_class.specs.Classes.{u2, slot_text, opaque_text, rows_text, code_text, held_text, sized_text, attribute_text, member_text, pool_text, counted_text, class_text, IsPoolFrom, IsClass};
+ghost use Rattle.jm_class.specs.Classes.{u2, slot_text, opaque_text, rows_text, code_text, held_text, sized_text, attribute_text, member_text, pool_text, counted_text, class_text, ReadsAs, IsClass};
 ghost use Rattle.jm_class.specs.Views.{slot_of, pool_of, opaque_of, code_of, body_of, attribute_of, member_of, plain};
 ghost use Rattle.jm_classout.specs.Fits.{FitsSlot, OfSomeCode, SomeCode, SomeBody, SomeAttribute, SomeMember};
 
@@ -174,10 +174,13 @@ fn put_class(text: &mut Vec<u8>, class: &Class) -> Result<(), NoMemory>
     put_attributes(text, class.attributes.as_slice())
 }
 
-/// The text of a class, which reads back as that class.
+/// The text of a class.
 pub fn write(alloc: Global, class: &Class) -> Result<Text, NoMemory>
     requires { IsClass (plain class.now) }
-    ensures { IfOk result (λ text. text ≡ class_text (plain class.now)) }
+    ensures text { IfOk result (λ text. text ≡ class_text (plain class.now)) }
+    // These follow: it reads back as that class, and what was read is written as it was.
+    ensures reads_back { IfOk result (λ text. ReadsAs text (plain class.now)) }
+    ensures same { (bytes : _) → ReadsAs bytes (plain class.now) → IfOk result (λ text. text ≡ bytes) }
 {
     let mut text = Vec::new(alloc);
     put_class(&mut text, class)?;

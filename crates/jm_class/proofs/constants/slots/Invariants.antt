@@ -1,5 +1,5 @@
 use Rattle.std.proofs.Common.{◌≡◌, false, ◌-◌}
-use Rattle.jm_class.specs.Fields.{slots}
+use Rattle.jm_class.specs.ComputedClass.{slots}
 use Rattle.jm_class.specs.Views.{pool_of}
 use Rattle.jm_class.proofs.ListReadings.{prefixed}
 use Rattle.jm_class.proofs.constants.slots.Given as goal

@@ -1,6 +1,6 @@
 use Rattle.std.proofs.Common.{ap}
 use Rattle.jm_class.specs.declared.class.ClassFault.TheVariants.{Rest}
-use Rattle.jm_class.specs.Fields.{class_fields, value_of}
+use Rattle.jm_class.specs.ComputedClass.{class_fields, value_of}
 use Rattle.jm_class.specs.Views.{plain}
 use Rattle.jm_class.proofs.WholeReadings.{ended-rest, ended-all}
 use Rattle.jm_class.proofs.reading.whole.Goals as goal

@@ -9,7 +9,7 @@ use Rattle.jm_class.specs.declared.class.Class.{Class}
 use Rattle.jm_class.specs.declared.class.ReadError.{ReadError}
 use Rattle.jm_class.specs.declared.class.ReadError.TheVariants.{Fault, Memory}
 use Rattle.jm_class.specs.Classes.{SlotData, ClassData, u2, u4, magic, counted_text, member_text, attribute_text, pool_text, class_text, is_major, IsPoolFrom, IsMember, IsAttribute, FitsCounted, IsClass, ReadsAs}
-use Rattle.jm_class.specs.Fields.{magic_field, major_field, class_fields, value_of, class_of, fault_of, class_fault}
+use Rattle.jm_class.specs.ComputedClass.{magic_field, major_field, class_fields, value_of, class_of, fault_of, class_fault}
 use Rattle.jm_class.specs.Readings.{Left, Outcome, ended}
 use Rattle.jm_class.specs.Views.{ReadsClass, plain}
 use Rattle.jm_class.proofs.FieldLaws.{list_of-lawful, attribute-lawful, member-lawful}
@@ -129,3 +129,10 @@ pub class_refused : (bytes : List ℕ) (result : Result Class ReadError) (fault 
 class_refused bytes (Ok class) fault reads is = cc
 class_refused bytes (Err Memory) fault reads is = cc
 class_refused bytes (Err (Fault found)) fault reads is = let same : found ≡ fault = cc in ap fault_of reads ∙ ap (λ f. Some f) same
+
+pub class_none : (bytes : List ℕ) (result : Result Class ReadError) (fault : ClassFault) (c : ClassData) → ReadsClass bytes result → result ≡ Err (Fault fault) → ReadsAs bytes c → ⊥
+class_none bytes result fault c reads is other =
+    let refused = class_refused bytes result fault reads is in
+    let none = reads-no_fault bytes c other in
+    let both = sym none ∙ refused in
+    cc
