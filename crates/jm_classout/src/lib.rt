@@ -7,3 +7,6 @@ mod writing;
 
 pub use sizes::size;
 pub use writing::write;
+
+#[cfg(test)]
+mod tests;
