@@ -37,39 +37,60 @@ pub class-lawful : Lawful class_fields class_text IsClass
 class-lawful =
     said-lawful _ class_text _ IsClass
     (and_then-lawful _ _ _ _ (λ c. magic) _ Always _ magic-lawful (λ found f0.
-        and_then-lawful _ _ _ _ (λ c. c.minor) _ _ _ (number16-lawful Short) (λ minor f1.
-            and_then-lawful _ _ _ _ (λ c. c.major) _ _ _ major-lawful (λ major f2.
-                and_then-lawful _ _ _ _ (λ c. c.pool) _ _ (λ pool c. pool_rest pool c) pool-lawful (λ pool f3.
-                    and_then-lawful _ _ _ _ (λ c. c.access) _ _ _ (number16-lawful Short) (λ access f4.
-                        and_then-lawful _ _ _ _ (λ c. c.this_class) _ _ _ (number16-lawful Short) (λ this_class f5.
-                            and_then-lawful _ _ _ _ (λ c. c.super_class) _ _ _ (number16-lawful Short) (λ super_class f6.
-                                and_then-lawful _ _ _ _ (λ c. c.interfaces) _ _ _ (list_of-lawful Short _ _ _ (number16-lawful Short)) (λ interfaces f7.
-                                    and_then-lawful _ _ _ _ (λ c. c.fields) _ _ _ (list_of-lawful Short _ _ _ (member-lawful pool false)) (λ fields f8.
-                                        and_then-lawful _ _ _ _ (λ c. c.methods) _ _ _ (list_of-lawful Short _ _ _ (member-lawful pool true)) (λ methods f9.
-                                            and_then-lawful _ _ _ _ (λ c. c.attributes) _ _ _ (list_of-lawful Short _ _ _ (attribute-lawful pool false)) (λ attributes f10.
-                                                made-lawful _ (record {
-                                                  minor = minor; major = major; pool = pool; access = access; this_class = this_class; super_class = super_class;
-                                                  interfaces = interfaces; fields = fields; methods = methods; attributes = attributes;
-                                                }) (((((((((((tt, sym (eqb-true found magic f0.1)), refl), refl), refl), refl), refl), refl), refl), refl), refl), refl)
-                                                (λ c e. rw (sym e.0.0.0.0.0.0.0.0.0.1, sym e.0.0.0.0.0.0.0.0.1, sym e.0.0.0.0.0.0.0.1, sym e.0.0.0.0.0.0.1, sym e.0.0.0.0.0.1, sym e.0.0.0.0.1, sym e.0.0.0.1, sym e.0.0.1, sym e.0.1, sym e.1) refl)))))))))))))
+    and_then-lawful _ _ _ _ (λ c. c.minor) _ _ _ (number16-lawful Short) (λ minor f1.
+    and_then-lawful _ _ _ _ (λ c. c.major) _ _ _ major-lawful (λ major f2.
+    and_then-lawful _ _ _ _ (λ c. c.pool) _ _ (λ pool c. pool_rest pool c) pool-lawful (λ pool f3.
+    and_then-lawful _ _ _ _ (λ c. c.access) _ _ _ (number16-lawful Short) (λ access f4.
+    and_then-lawful _ _ _ _ (λ c. c.this_class) _ _ _ (number16-lawful Short) (λ this_class f5.
+    and_then-lawful _ _ _ _ (λ c. c.super_class) _ _ _ (number16-lawful Short) (λ super_class f6.
+    and_then-lawful _ _ _ _ (λ c. c.interfaces) _ _ _ (list_of-lawful Short _ _ _ (number16-lawful Short)) (λ interfaces f7.
+    and_then-lawful _ _ _ _ (λ c. c.fields) _ _ _ (list_of-lawful Short _ _ _ (member-lawful pool false)) (λ fields f8.
+    and_then-lawful _ _ _ _ (λ c. c.methods) _ _ _ (list_of-lawful Short _ _ _ (member-lawful pool true)) (λ methods f9.
+    and_then-lawful _ _ _ _ (λ c. c.attributes) _ _ _ (list_of-lawful Short _ _ _ (attribute-lawful pool false)) (λ attributes f10.
+    made-lawful _ (record {
+      minor = minor;
+      major = major;
+      pool = pool;
+      access = access;
+      this_class = this_class;
+      super_class = super_class;
+      interfaces = interfaces;
+      fields = fields;
+      methods = methods;
+      attributes = attributes;
+    }) (((((((((((tt, sym (eqb-true found magic f0.1)), refl), refl), refl), refl), refl), refl), refl), refl), refl), refl)
+    (λ c e. rw (sym e.0.0.0.0.0.0.0.0.0.1, sym e.0.0.0.0.0.0.0.0.1, sym e.0.0.0.0.0.0.0.1, sym e.0.0.0.0.0.0.1, sym e.0.0.0.0.0.1, sym e.0.0.0.0.1, sym e.0.0.0.1, sym e.0.0.1, sym e.0.1, sym e.1) refl)))))))))))))
     (λ c fits.
-        let (a, (b, (d, (p, rest)))) = fits.1 in
-        record {
-          minor = b;
-          major = major_parts c.major d.1;
-          slots = p.0;
-          pool = p.1;
-          access = rest.0;
-          this_class = rest.1.0;
-          super_class = rest.1.1.0;
-          interfaces = rest.1.1.1.0;
-          fields = rest.1.1.1.1.0;
-          methods = rest.1.1.1.1.1.0;
-          attributes = rest.1.1.1.1.1.1.0;
-        })
-    (λ c fits.
-        (tt, ((omega arith, eq-eqb magic magic refl), (fits.minor, ((omega (arith, fits.major.1), major_from c.major fits.major), ((fits.slots, fits.pool),
-        (fits.access, (fits.this_class, (fits.super_class, (fits.interfaces, (fits.fields, (fits.methods, (fits.attributes, tt)))))))))))))
+    let (a, (b, (d, (p, rest)))) = fits.1 in
+    record {
+      minor = b;
+      major = major_parts c.major d.1;
+      slots = p.0;
+      pool = p.1;
+      access = rest.0;
+      this_class = rest.1.0;
+      super_class = rest.1.1.0;
+      interfaces = rest.1.1.1.0;
+      fields = rest.1.1.1.1.0;
+      methods = rest.1.1.1.1.1.0;
+      attributes = rest.1.1.1.1.1.1.0;
+    })
+    (λ c fits. (
+      tt,
+      (
+        (omega arith, eq-eqb magic magic refl),
+        (
+          fits.minor,
+          (
+            (omega (arith, fits.major.1), major_from c.major fits.major),
+            (
+              (fits.slots, fits.pool),
+              (fits.access, (fits.this_class, (fits.super_class, (fits.interfaces, (fits.fields, (fits.methods, (fits.attributes, tt))))))),
+            ),
+          ),
+        ),
+      ),
+    ))
     (λ c fits. refl)
   where
     pool_rest : List SlotData → ClassData → Type 0

@@ -19,14 +19,14 @@ module _ (short : ℕ → ClassFault) where
   sized-lawful =
       said-lawful _ sized_text _ FitsSized
       (and_then-lawful _ _ u4 _ length (λ xs. xs) Always (λ _ _. Unit {0}) (number32-lawful short)
-          (λ size fits. said-lawful _ _ _ _ (part-lawful short size) (λ xs is. ((tt, is), tt)) (λ xs is. is.0.1) (λ xs is. refl)))
+      (λ size fits. said-lawful _ _ _ _ (part-lawful short size) (λ xs is. ((tt, is), tt)) (λ xs is. is.0.1) (λ xs is. refl)))
       (λ xs fits. fits.1.0) (λ xs fits. (tt, (fits, tt))) (λ xs fits. ap (λ t. u4 (length xs) ++ t) (sym (append-nil xs)))
 
   pub list_of-lawful : {A : Type 0} (item : Reading ClassFault A) (text : A → List ℕ) (Fits : A → Type 0) → Lawful item text Fits → Lawful (list_of short item) (counted_text text) (FitsCounted Fits)
   list_of-lawful item text Fits law =
       said-lawful _ (counted_text text) _ (FitsCounted Fits)
       (and_then-lawful _ _ u2 _ length (flat_map text) Always (λ _ xs. All Fits xs) (number16-lawful short)
-          (λ count fits. said-lawful _ _ _ _ (counted-lawful item text Fits law count) (λ xs is. ((tt, is.0), is.1)) (λ xs is. (is.0.1, is.1)) (λ xs is. refl)))
+      (λ count fits. said-lawful _ _ _ _ (counted-lawful item text Fits law count) (λ xs is. ((tt, is.0), is.1)) (λ xs is. (is.0.1, is.1)) (λ xs is. refl)))
       (λ xs fits. (fits.1.0, fits.1.1)) (λ xs fits. (tt, (fits.0, fits.1))) (λ xs fits. ap (λ t. u2 (length xs) ++ t) (sym (append-nil (flat_map text xs))))
 
   pub name-lawful : (pool : List SlotData) → Lawful (name_field short pool) u2 (NamesText pool)
@@ -36,8 +36,8 @@ module _ (short : ℕ → ClassFault) where
   opaque-lawful pool =
       said-lawful _ opaque_text _ (IsOpaque pool)
       (and_then-lawful _ _ _ _ (λ a. a.name) _ Always _ (name-lawful pool) (λ name named.
-          and_then-lawful _ _ _ _ (λ a. a.bytes) _ _ _ sized-lawful (λ bytes fit.
-              made-lawful _ (record { name = name; bytes = bytes }) ((tt, refl), refl) (λ a e. rw (sym e.0.1, sym e.1) refl))))
+      and_then-lawful _ _ _ _ (λ a. a.bytes) _ _ _ sized-lawful (λ bytes fit.
+      made-lawful _ (record { name = name; bytes = bytes }) ((tt, refl), refl) (λ a e. rw (sym e.0.1, sym e.1) refl))))
       (λ a fits. record { name = fits.1.0; bytes = fits.1.1.0 })
       (λ a fits. (tt, (fits.name, (fits.bytes, tt))))
       (λ a fits. refl)
@@ -46,7 +46,7 @@ module _ (short : ℕ → ClassFault) where
   rows-lawful =
       said-lawful _ rows_text _ (λ rows. (length rows / 8 < 2 ^ 16) × (length rows % 8 ≡ 0))
       (and_then-lawful _ _ u2 _ (λ rows. length rows / 8) (λ rows. rows) Always (λ count rows. length rows ≡ 8 * count) (number16-lawful short)
-          (λ count fits. said-lawful _ _ _ _ (part-lawful short (8 * count)) (λ rows is. ((tt, omega (arith, is)), is)) (λ rows is. is.1) (λ rows is. refl)))
+      (λ count fits. said-lawful _ _ _ _ (part-lawful short (8 * count)) (λ rows is. ((tt, omega (arith, is)), is)) (λ rows is. is.1) (λ rows is. refl)))
       (λ rows fits. (fits.1.0, let is = fits.1.1 in omega (arith, is)))
       (λ rows fits. (tt, (fits.0, let is = fits.1 in omega (arith, is))))
       (λ rows fits. ap (λ t. u2 (length rows / 8) ++ t) (sym (append-nil rows)))
@@ -55,21 +55,21 @@ module _ (short : ℕ → ClassFault) where
   code_fields-lawful pool =
       said-lawful _ code_text _ (IsCode pool)
       (and_then-lawful _ _ _ _ (λ c. c.max_stack) _ Always _ (number16-lawful short) (λ max_stack f1.
-          and_then-lawful _ _ _ _ (λ c. c.max_locals) _ _ _ (number16-lawful short) (λ max_locals f2.
-              and_then-lawful _ _ _ _ (λ c. c.code) _ _ _ sized-lawful (λ code f3.
-                  and_then-lawful _ _ _ _ (λ c. c.handlers) _ _ _ rows-lawful (λ handlers f4.
-                      and_then-lawful _ _ _ _ (λ c. c.attributes) _ _ _ (list_of-lawful _ _ _ (opaque-lawful pool)) (λ attributes f5.
-                          made-lawful _ (record { max_stack = max_stack; max_locals = max_locals; code = code; handlers = handlers; attributes = attributes })
-                          (((((tt, refl), refl), refl), refl), refl)
-                          (λ c e. rw (sym e.0.0.0.0.1, sym e.0.0.0.1, sym e.0.0.1, sym e.0.1, sym e.1) refl)))))))
+      and_then-lawful _ _ _ _ (λ c. c.max_locals) _ _ _ (number16-lawful short) (λ max_locals f2.
+      and_then-lawful _ _ _ _ (λ c. c.code) _ _ _ sized-lawful (λ code f3.
+      and_then-lawful _ _ _ _ (λ c. c.handlers) _ _ _ rows-lawful (λ handlers f4.
+      and_then-lawful _ _ _ _ (λ c. c.attributes) _ _ _ (list_of-lawful _ _ _ (opaque-lawful pool)) (λ attributes f5.
+      made-lawful _ (record { max_stack = max_stack; max_locals = max_locals; code = code; handlers = handlers; attributes = attributes })
+      (((((tt, refl), refl), refl), refl), refl)
+      (λ c e. rw (sym e.0.0.0.0.1, sym e.0.0.0.1, sym e.0.0.1, sym e.0.1, sym e.1) refl)))))))
       (λ c fits. record {
-          max_stack = fits.1.0;
-          max_locals = fits.1.1.0;
-          code = fits.1.1.1.0;
-          rows = fits.1.1.1.1.0.0;
-          handlers = fits.1.1.1.1.0.1;
-          attributes = fits.1.1.1.1.1.0;
-        })
+        max_stack = fits.1.0;
+        max_locals = fits.1.1.0;
+        code = fits.1.1.1.0;
+        rows = fits.1.1.1.1.0.0;
+        handlers = fits.1.1.1.1.0.1;
+        attributes = fits.1.1.1.1.1.0;
+      })
       (λ c fits. (tt, (fits.max_stack, (fits.max_locals, (fits.code, ((fits.rows, fits.handlers), (fits.attributes, tt)))))))
       (λ c fits. refl)
 
@@ -86,8 +86,8 @@ pub code-lawful : (pool : List SlotData) → Lawful (code_field pool) (λ c. siz
 code-lawful pool = placed-lawful (λ at. and_then (number Short w32) (λ size. whole Short (λ _. CodeLength at) size (code_fields (λ _. CodeLength at) pool))) _ _ (λ at.
     said-lawful _ (λ c. sized_text (code_text c)) _ (λ c. IsCode pool c × FitsSized (code_text c))
     (and_then-lawful _ _ u4 _ (λ c. length (code_text c)) code_text Always (λ _ c. IsCode pool c) (number32-lawful Short)
-        (λ size fits. said-lawful _ _ _ _ (whole-lawful (λ _. CodeLength at) _ code_text (IsCode pool) (code_fields-lawful (λ _. CodeLength at) pool) Short size)
-            (λ c is. ((tt, is.1), is.0)) (λ c is. (is.1, is.0.1)) (λ c is. refl)))
+    (λ size fits. said-lawful _ _ _ _ (whole-lawful (λ _. CodeLength at) _ code_text (IsCode pool) (code_fields-lawful (λ _. CodeLength at) pool) Short size)
+    (λ c is. ((tt, is.1), is.0)) (λ c is. (is.1, is.0.1)) (λ c is. refl)))
     (λ c fits. (fits.1.1, fits.1.0)) (λ c fits. (tt, (fits.1, fits.0))) (λ c fits. ap (λ t. u4 (length (code_text c)) ++ t) (sym (append-nil (code_text c)))))
 
 abbrev no_code : CodeData
@@ -137,8 +137,8 @@ pub attribute-lawful : (pool : List SlotData) (in_method : Bool) → Lawful (att
 attribute-lawful pool in_method =
     said-lawful _ attribute_text _ (IsAttribute pool in_method)
     (and_then-lawful _ _ _ _ (λ a. a.name) _ Always (λ name a. (IsBody pool (in_method && is_code_name (utf8_at pool name)) a.body × FitsSized (held_text a.body)) × Unit {0}) (name-lawful Short pool) (λ name named.
-        and_then-lawful _ _ _ _ (λ a. a.body) _ _ _ (held-lawful pool (in_method && is_code_name (utf8_at pool name))) (λ body fit.
-            made-lawful _ (record { name = name; body = body }) ((tt, refl), refl) (λ a e. rw (sym e.0.1, sym e.1) refl))))
+    and_then-lawful _ _ _ _ (λ a. a.body) _ _ _ (held-lawful pool (in_method && is_code_name (utf8_at pool name))) (λ body fit.
+    made-lawful _ (record { name = name; body = body }) ((tt, refl), refl) (λ a e. rw (sym e.0.1, sym e.1) refl))))
     (λ a fits. record { name = fits.1.0; body = fits.1.1.0.0; bytes = fits.1.1.0.1 })
     (λ a fits. (tt, (fits.name, ((fits.body, fits.bytes), tt))))
     (λ a fits. refl)
@@ -147,11 +147,11 @@ pub member-lawful : (pool : List SlotData) (in_method : Bool) → Lawful (member
 member-lawful pool in_method =
     said-lawful _ member_text _ (IsMember pool in_method)
     (and_then-lawful _ _ _ _ (λ m. m.access) _ Always _ (number16-lawful Short) (λ access f1.
-        and_then-lawful _ _ _ _ (λ m. m.name) _ _ _ (number16-lawful Short) (λ name f2.
-            and_then-lawful _ _ _ _ (λ m. m.descriptor) _ _ _ (number16-lawful Short) (λ descriptor f3.
-                and_then-lawful _ _ _ _ (λ m. m.attributes) _ _ _ (list_of-lawful Short _ _ _ (attribute-lawful pool in_method)) (λ attributes f4.
-                    made-lawful _ (record { access = access; name = name; descriptor = descriptor; attributes = attributes }) ((((tt, refl), refl), refl), refl)
-                    (λ m e. rw (sym e.0.0.0.1, sym e.0.0.1, sym e.0.1, sym e.1) refl))))))
+    and_then-lawful _ _ _ _ (λ m. m.name) _ _ _ (number16-lawful Short) (λ name f2.
+    and_then-lawful _ _ _ _ (λ m. m.descriptor) _ _ _ (number16-lawful Short) (λ descriptor f3.
+    and_then-lawful _ _ _ _ (λ m. m.attributes) _ _ _ (list_of-lawful Short _ _ _ (attribute-lawful pool in_method)) (λ attributes f4.
+    made-lawful _ (record { access = access; name = name; descriptor = descriptor; attributes = attributes }) ((((tt, refl), refl), refl), refl)
+    (λ m e. rw (sym e.0.0.0.1, sym e.0.0.1, sym e.0.1, sym e.1) refl))))))
     (λ m fits. record { access = fits.1.0; name = fits.1.1.0; descriptor = fits.1.1.1.0; attributes = fits.1.1.1.1.0 })
     (λ m fits. (tt, (fits.access, (fits.name, (fits.descriptor, (fits.attributes, tt))))))
     (λ m fits. refl)

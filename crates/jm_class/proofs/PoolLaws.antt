@@ -30,7 +30,7 @@ text-lawful : Lawful text_field (λ body. joined (u2 (length body) ∷ body ∷ 
 text-lawful = placed-lawful (λ at. and_then (number (λ _. Short at) w16) (λ size. part (λ _. Short at) size)) _ _ (λ at.
     said-lawful _ (λ body. joined (u2 (length body) ∷ body ∷ [])) _ (λ body. length body < 2 ^ 16)
     (and_then-lawful _ _ u2 _ length (λ xs. xs) Always (λ _ _. Unit {0}) (number16-lawful (λ _. Short at))
-        (λ size fits. said-lawful _ _ _ _ (part-lawful (λ _. Short at) size) (λ xs is. ((tt, is), tt)) (λ xs is. is.0.1) (λ xs is. refl)))
+    (λ size fits. said-lawful _ _ _ _ (part-lawful (λ _. Short at) size) (λ xs is. ((tt, is), tt)) (λ xs is. is.0.1) (λ xs is. refl)))
     (λ xs fits. fits.1.0) (λ xs fits. (tt, (fits, tt))) (λ xs fits. ap (λ t. u2 (length xs) ++ t) (sym (append-nil xs))))
 
 -- the tags of a size aren't that of a Utf8
@@ -101,10 +101,10 @@ constant-lawful : (more : Bool) → Lawful (constant more) slot_text (IsSlot fal
 constant-lawful more =
     said-lawful (λ s. u1 (tag_in s) ++ (body_text (tag_in s) (body_in s) ++ [])) slot_text _ (IsSlot false more)
     (and_then-lawful _ _ u1 _ tag_in (λ s. body_text (tag_in s) (body_in s) ++ []) IsConstant (λ tag s. FitsTag tag (body_in s)) (tag-lawful more) (λ tag fit.
-        said-lawful (λ s. body_text tag (body_in s) ++ []) (λ s. body_text (tag_in s) (body_in s) ++ []) _ _
-        (and_then-lawful _ _ _ _ body_in _ _ _ (body-lawful tag fit.0.1) (λ body fits. made-lawful (λ s. (IsConstant s × (tag_in s ≡ tag)) × (body_in s ≡ body)) (Constant tag body) ((tt, refl), refl) only))
-        (λ s fits. (fits.0, fits.1.0)) (λ s fits. (fits.0, (fits.1, tt)))
-        (λ s fits. ap (λ t. body_text t (body_in s) ++ []) (sym fits.0.1))))
+    said-lawful (λ s. body_text tag (body_in s) ++ []) (λ s. body_text (tag_in s) (body_in s) ++ []) _ _
+    (and_then-lawful _ _ _ _ body_in _ _ _ (body-lawful tag fit.0.1) (λ body fits. made-lawful (λ s. (IsConstant s × (tag_in s ≡ tag)) × (body_in s ≡ body)) (Constant tag body) ((tt, refl), refl) only))
+    (λ s fits. (fits.0, fits.1.0)) (λ s fits. (fits.0, (fits.1, tt)))
+    (λ s fits. ap (λ t. body_text t (body_in s) ++ []) (sym fits.0.1))))
     says fits same
   where
     only : {tag : ℕ} {body : List ℕ} (s : SlotData) → (IsConstant s × (tag_in s ≡ tag)) × (body_in s ≡ body) → s ≡ Constant tag body
@@ -209,10 +209,10 @@ pub pool-lawful : Lawful pool_field pool_text (λ pool. (length pool < 65535) ×
 pool-lawful =
     said-lawful _ pool_text _ (λ pool. (length pool < 65535) × IsPoolFrom false pool)
     (and_then-lawful _ _ u2 _ (λ pool. length pool + 1) (flat_map slot_text) Always (λ _ pool. IsPoolFrom false pool)
-        (checked-lawful (λ count. nat_lt 0 count) (λ at count. Index at) _ _ _ (number16-lawful Short))
-        (λ count fits. said-lawful _ _ _ _ (slots-lawful (count - 1) false (λ e. cc))
-            (λ xs is. ((tt, let some = ltb-true 0 count fits.1 in let size = is.0 in omega (arith, some, size)), is.1))
-            (λ xs is. (let size = is.0.1 in omega (arith, size), is.1)) (λ xs is. refl)))
+    (checked-lawful (λ count. nat_lt 0 count) (λ at count. Index at) _ _ _ (number16-lawful Short))
+    (λ count fits. said-lawful _ _ _ _ (slots-lawful (count - 1) false (λ e. cc))
+    (λ xs is. ((tt, let some = ltb-true 0 count fits.1 in let size = is.0 in omega (arith, some, size)), is.1))
+    (λ xs is. (let size = is.0.1 in omega (arith, size), is.1)) (λ xs is. refl)))
     (λ pool fits. (let size = fits.1.0.0 in omega (arith, size), fits.1.1))
     (λ pool fits. (tt, ((let size = fits.0 in omega (arith, size), lt-ltb 0 (length pool + 1) (omega arith)), fits.1)))
     (λ pool fits. ap (λ t. u2 (length pool + 1) ++ t) (sym (append-nil (flat_map slot_text pool))))

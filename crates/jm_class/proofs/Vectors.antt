@@ -23,8 +23,16 @@ smallest = begin ++ 0 ∷ 1 ∷ zeros 14
 
 abbrev smallest_class : ClassData
 smallest_class = record {
-  minor = 0; major = 52; pool = []; access = 0; this_class = 0; super_class = 0;
-  interfaces = []; fields = []; methods = []; attributes = [];
+  minor = 0;
+  major = 52;
+  pool = [];
+  access = 0;
+  this_class = 0;
+  super_class = 0;
+  interfaces = [];
+  fields = [];
+  methods = [];
+  attributes = [];
 }
 
 smallest-reads : class_of smallest ≡ Ok smallest_class

@@ -105,7 +105,7 @@ abbrev pub code_field : List SlotData → Reading ClassFault CodeData
 code_field pool left =
     and_then (number Short w32)
     (λ size. whole Short (λ at. CodeLength left.place) size
-        (code_fields (λ at. CodeLength left.place) pool))
+    (code_fields (λ at. CodeLength left.place) pool))
     left
 
 -- what an attribute holds, taken apart where it is a Code
@@ -117,7 +117,7 @@ abbrev pub attribute_field : List SlotData → Bool → Reading ClassFault Attri
 attribute_field pool in_method =
     and_then (name_field Short pool)
     (λ name. and_then (held_field pool (in_method && is_code_name (utf8_at pool name)))
-        (λ body. value (record { name = name; body = body })))
+    (λ body. value (record { name = name; body = body })))
 
 -- Members and the class
 

@@ -63,7 +63,7 @@ fn plains<'a>(
 {
     let count = number16(cursor, missing)?;
     let mut attributes = List::new(alloc);
-    for k in 0..count {
+    for _k in 0..count {
         let attribute = plain(cursor, pool, missing)?;
         attributes.push(attribute)?;
     }
@@ -104,11 +104,7 @@ fn code_parts<'a>(
 }
 
 /// A Code within its length. It is judged as a whole before its parts.
-fn code<'a>(
-    alloc: Global,
-    cursor: &mut Cursor<'a>,
-    pool: &[Slot],
-) -> Result<Code<'a>, ReadError>
+fn code<'a>(alloc: Global, cursor: &mut Cursor<'a>, pool: &[Slot]) -> Result<Code<'a>, ReadError>
     ensures { Gives code_of (code_field (pool_of pool.now) cursor.old) result cursor.new }
 {
     let wrong = ClassFault::CodeLength(cursor.place());
@@ -167,7 +163,7 @@ pub fn attributes<'a>(
 {
     let count = number16(cursor, Missing::Here)?;
     let mut attributes = List::new(alloc);
-    for k in 0..count {
+    for _k in 0..count {
         let attribute = attribute(alloc, cursor, pool, in_method)?;
         attributes.push(attribute)?;
     }

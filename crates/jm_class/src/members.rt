@@ -45,7 +45,7 @@ pub fn members<'a>(
 {
     let count = number16(cursor, Missing::Here)?;
     let mut members = List::new(alloc);
-    for k in 0..count {
+    for _k in 0..count {
         let member = member(alloc, cursor, pool, in_method)?;
         members.push(member)?;
     }
@@ -58,7 +58,7 @@ pub fn interfaces(alloc: Global, cursor: &mut Cursor) -> Result<List<u16>, ReadE
 {
     let count = number16(cursor, Missing::Here)?;
     let mut interfaces = List::new(alloc);
-    for k in 0..count {
+    for _k in 0..count {
         let interface = number16(cursor, Missing::Here)?;
         interfaces.push(interface)?;
     }

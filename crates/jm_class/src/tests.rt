@@ -41,7 +41,11 @@ fn one_byte_makes_a_fault(rt: HostRuntime) {
     ] {
         let mut bytes = SMALLEST;
         bytes[at] = byte;
-        assert_eq!(rt; refusal(rt.alloc(), &bytes), Some(ReadError::Fault(fault)), "{at}");
+        assert_eq!(rt;
+            refusal(rt.alloc(), &bytes),
+            Some(ReadError::Fault(fault)),
+            "{at}"
+        );
     }
     for (at, byte, fault) in [
         (9, 12, ClassFault::Index(112)),
@@ -56,10 +60,17 @@ fn one_byte_makes_a_fault(rt: HostRuntime) {
     ] {
         let mut bytes = GENERATED;
         bytes[at] = byte;
-        assert_eq!(rt; refusal(rt.alloc(), &bytes), Some(ReadError::Fault(fault)), "{at}");
+        assert_eq!(rt;
+            refusal(rt.alloc(), &bytes),
+            Some(ReadError::Fault(fault)),
+            "{at}"
+        );
     }
     assert_eq!(rt; refusal(rt.alloc(), &SMALLEST), None);
-    assert_eq!(rt; refusal(rt.alloc(), &SMALLEST[..3]), Some(ReadError::Fault(ClassFault::Short(0))));
+    assert_eq!(rt;
+        refusal(rt.alloc(), &SMALLEST[..3]),
+        Some(ReadError::Fault(ClassFault::Short(0)))
+    );
 }
 
 /// Whether the one method has one Code of these instructions.
@@ -81,7 +92,13 @@ fn a_class_has_its_parts(rt: HostRuntime) -> Result<(), Fail> {
     let class = read(rt.alloc(), &GENERATED)?;
     assert_eq!(rt; class.pool.len(), 12);
     assert!(rt; has_code(&class, &[0x14, 0, 0x0B, 0xAD]));
-    for (index, text) in [(5, Some(b"v".as_slice())), (0, None), (4, None), (12, None), (13, None)] {
+    for (index, text) in [
+        (5, Some(b"v".as_slice())),
+        (0, None),
+        (4, None),
+        (12, None),
+        (13, None),
+    ] {
         assert_eq!(rt; utf8(&class, index), text, "{index}");
     }
     Ok(())

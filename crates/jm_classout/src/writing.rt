@@ -3,7 +3,7 @@ ghost use Rattle.jm_class.specs.Classes.{u2, slot_text, opaque_text, rows_text, 
 ghost use Rattle.jm_class.specs.Views.{slot_of, pool_of, opaque_of, code_of, body_of, attribute_of, member_of, plain};
 ghost use Rattle.jm_classout.specs.Fits.{FitsSlot, OfSomeCode, SomeCode, SomeBody, SomeAttribute, SomeMember};
 
-use crate::parts::{put, put8, put16, put32, put_sized};
+use crate::parts::{put, put_sized, put8, put16, put32};
 use crate::sizes::code_size;
 use jm_bytes::{NoMemory, Text};
 use jm_class::{Attribute, Body, Class, Code, Member, Plain, Slot};

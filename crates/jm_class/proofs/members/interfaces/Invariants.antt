@@ -7,4 +7,4 @@ use Rattle.jm_class.proofs.ListReadings.{prefixed}
 use Rattle.jm_class.proofs.members.interfaces.Given as goal
 
 abbrev pub invariant-loop-k : goal.invariant-loop-k
-invariant-loop-k l = list_of Short (short_number) l.fn.cursor ≡ prefixed (l.interfaces) (counted (l.count - l.k) (short_number) l.cursor)
+invariant-loop-k l = list_of Short (short_number) l.fn.cursor ≡ prefixed (l.interfaces) (counted (l.count - l._k) (short_number) l.cursor)
