@@ -1,5 +1,5 @@
 -- The class that `class_of` computes is the one that `ReadsAs` rules: both ways, and there is one.
-use Rattle.std.proofs.Common.{◌≡◌, ℕ, ◌^◌, ◌<◌, ◌≤◌, Bool, true, false, List, [], ◌++◌, Option, Some, None, Result, Ok, Err, refl, sym, ap, ◌∙◌, subst, arith}
+use Rattle.std.proofs.Common.{◌≡◌, ℕ, ◌^◌, ◌<◌, ◌≤◌, true, false, List, Some, None, Result, Ok, Err, refl, sym, ap, ◌∙◌, subst, arith}
 use Rattle.std.proofs.lemmas.Bool.{and_parts, and_from, leb-true, le-leb, eqb-true, eq-eqb}
 use Rattle.std.specs.Prelude.{nat_le, nat_eq, IfOk, OnOk}
 use Rattle.jm_bytes.proofs.Choice.{same_ok}
@@ -8,9 +8,9 @@ use Rattle.jm_class.specs.declared.class.ClassFault.TheVariants.{Magic, Version,
 use Rattle.jm_class.specs.declared.class.Class.{Class}
 use Rattle.jm_class.specs.declared.class.ReadError.{ReadError}
 use Rattle.jm_class.specs.declared.class.ReadError.TheVariants.{Fault, Memory}
-use Rattle.jm_class.specs.Classes.{SlotData, ClassData, u2, u4, magic, counted_text, member_text, attribute_text, pool_text, class_text, is_major, IsPoolFrom, IsMember, IsAttribute, FitsCounted, IsClass, ReadsAs}
+use Rattle.jm_class.specs.Classes.{SlotData, ClassData, u2, u4, magic, class_text, is_major, IsMember, IsAttribute, FitsCounted, IsClass, ReadsAs}
 use Rattle.jm_class.specs.ComputedClass.{magic_field, major_field, class_fields, value_of, class_of, fault_of, class_fault}
-use Rattle.jm_class.specs.Readings.{Left, Outcome, ended}
+use Rattle.jm_class.specs.Readings.{Outcome, ended}
 use Rattle.jm_class.specs.Views.{ReadsClass, plain}
 use Rattle.jm_class.proofs.FieldLaws.{list_of-lawful, attribute-lawful, member-lawful}
 use Rattle.jm_class.proofs.PoolLaws.{pool-lawful}

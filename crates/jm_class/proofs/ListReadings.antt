@@ -1,12 +1,12 @@
 -- Lists that are read one item after another: what was read so far, before what is still to come.
-use Rattle.std.proofs.Common.{◌≡◌, ℕ, zero, suc, ◌+◌, ◌-◌, ◌<◌, ◌≤◌, Bool, true, false, List, [], ◌∷◌, ◌++◌, map, Result, Ok, Err, refl, sym, ap, ◌∙◌, arith, append_assoc}
+use Rattle.std.proofs.Common.{◌≡◌, ℕ, zero, suc, ◌+◌, ◌-◌, ◌<◌, Bool, List, [], ◌∷◌, ◌++◌, Ok, Err, refl, arith, append_assoc}
 use Rattle.std.proofs.lemmas.Bool.Decides.{nat_tests}
-use Rattle.std.proofs.lemmas.List.{map-append, append-nil}
+use Rattle.std.proofs.lemmas.List.{append-nil}
 use Rattle.std.specs.Prelude.{nat_lt}
 use Rattle.jm_class.specs.declared.class.ClassFault.{ClassFault}
 use Rattle.jm_class.specs.Classes.{SlotData}
 use Rattle.jm_class.specs.ComputedClass.{slot_field, slots, is_wide_slot}
-use Rattle.jm_class.specs.Readings.{Left, Outcome, Reading, value, continued, and_then, counted}
+use Rattle.jm_class.specs.Readings.{Left, Outcome, Reading, value, continued, counted}
 
 -- the items so far before those that a reading gives; a fault stays
 abbrev pub prefixed : {F A : Type 0} → List A → Outcome F (List A) → Outcome F (List A)

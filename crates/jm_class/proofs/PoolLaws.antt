@@ -1,16 +1,16 @@
 -- The constants of a pool are read exactly where their texts stand.
-use Rattle.std.proofs.Common.{◌≡◌, ℕ, zero, suc, ◌+◌, ◌-◌, ◌^◌, ◌<◌, ◌≤◌, ◌⊎◌, inl, inr, Bool, true, false, cond, ◌||◌, List, [], ◌∷◌, ◌++◌, length, Option, Some, None, Result, Ok, Err, refl, sym, ap, ◌∙◌, subst, arith, append_assoc}
-use Rattle.std.proofs.lemmas.Bool.{eqb-true, eqb-false, eq-eqb, ltb-true, lt-ltb, or_parts, or_right, false≢true}
+use Rattle.std.proofs.Common.{◌≡◌, ℕ, zero, suc, ◌+◌, ◌-◌, ◌^◌, ◌<◌, inl, inr, Bool, true, false, cond, ◌||◌, List, [], ◌∷◌, ◌++◌, length, Option, Some, None, Ok, refl, sym, ap, ◌∙◌, subst, arith, append_assoc}
+use Rattle.std.proofs.lemmas.Bool.{eqb-true, eq-eqb, ltb-true, lt-ltb, or_right, false≢true}
 use Rattle.std.proofs.lemmas.Bool.Decides.{nat_tests}
 use Rattle.std.proofs.lemmas.List.{append-nil, nil_from_length}
-use Rattle.std.specs.Int.{w8, w16}
+use Rattle.std.specs.Int.{w16}
 use Rattle.std.specs.List.{flat_map}
 use Rattle.std.specs.Prelude.{is_some, nat_eq, nat_lt}
 use Rattle.jm_class.specs.declared.class.ClassFault.{ClassFault}
 use Rattle.jm_class.specs.declared.class.ClassFault.TheVariants.{Short, Tag, Index}
 use Rattle.jm_class.specs.Classes.{SlotData, Constant, Hole, u1, u2, joined, body_text, slot_text, pool_text, body_size, is_tag, is_wide, FitsTag, IsPoolFrom}
-use Rattle.jm_class.specs.ComputedClass.{tag_field, text_field, body_of_size, body_field, constant, slot_field, is_wide_slot, slots, pool_field, short_number}
-use Rattle.jm_class.specs.Readings.{Left, Outcome, Reading, value, continued, and_then, part, number, checked}
+use Rattle.jm_class.specs.ComputedClass.{tag_field, text_field, body_of_size, body_field, constant, slot_field, is_wide_slot, slots, pool_field}
+use Rattle.jm_class.specs.Readings.{Left, value, and_then, part, number}
 use Rattle.jm_class.proofs.FieldLaws.{placed-lawful}
 use Rattle.jm_class.proofs.ReadingLaws.{Lawful, Took, ReadBack, IsBytes, passed, bytes_behind, same_value, same_left, value-lawful, said-lawful, made-lawful, checked-lawful, and_then-lawful, part-lawful, number8-lawful, number16-lawful}
 

@@ -1,5 +1,5 @@
 -- A reading that stops stops the whole.
-use Rattle.std.proofs.Common.{◌≡◌, List, [], ◌∷◌, ◌++◌, map, Result, Ok, Err, refl, ap, ◌∙◌, IsErrAnd}
+use Rattle.std.proofs.Common.{◌≡◌, List, [], ◌∷◌, ◌++◌, map, Result, Ok, Err, ap, ◌∙◌, IsErrAnd}
 use Rattle.std.proofs.lemmas.List.{map-append}
 use Rattle.jm_class.specs.declared.class.ClassFault.{ClassFault}
 use Rattle.jm_class.specs.declared.class.ReadError.{ReadError}

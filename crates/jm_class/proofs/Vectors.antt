@@ -3,7 +3,7 @@ use Rattle.std.proofs.Common.{◌≡◌, ℕ, List, [], ◌∷◌, ◌++◌, Opt
 use Rattle.std.specs.Prelude.{replicate}
 use Rattle.jm_class.specs.declared.class.ClassFault.{ClassFault}
 use Rattle.jm_class.specs.declared.class.ClassFault.TheVariants.{Magic, Version, Short, Tag, Index, CodeLength, Rest}
-use Rattle.jm_class.specs.Classes.{SlotData, Constant, Hole, ClassData, class_text}
+use Rattle.jm_class.specs.Classes.{Constant, Hole, ClassData, class_text}
 use Rattle.jm_class.specs.ComputedClass.{class_of, class_fault}
 
 abbrev zeros : ℕ → List ℕ

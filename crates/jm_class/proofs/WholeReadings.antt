@@ -1,12 +1,12 @@
 -- A part that a reading takes whole, and what is left behind a reading.
-use Rattle.std.proofs.Common.{◌≡◌, ◌≢◌, ℕ, ◌<◌, Bool, true, false, cond, List, length, Result, Ok, Err, refl, sym, ap, ◌∙◌, arith}
+use Rattle.std.proofs.Common.{◌≡◌, ◌≢◌, ℕ, List, length, Ok, Err, refl, sym, ◌∙◌}
 use Rattle.std.proofs.lemmas.Bool.{eq-eqb, ne_eqb}
 use Rattle.std.specs.Int.{w32}
 use Rattle.jm_class.specs.declared.class.ClassFault.{ClassFault}
 use Rattle.jm_class.specs.declared.class.ClassFault.TheVariants.{Short, CodeLength}
 use Rattle.jm_class.specs.Classes.{SlotData, CodeData}
 use Rattle.jm_class.specs.ComputedClass.{code_fields, code_field}
-use Rattle.jm_class.specs.Readings.{Left, Outcome, Reading, value, continued, inner_part, number, ended}
+use Rattle.jm_class.specs.Readings.{Left, Reading, continued, inner_part, number, ended}
 
 pub ended-all : {F A : Type 0} (rest : ℕ → F) (reading : Reading F A) (left next : Left) (a : A) (n : ℕ) → reading left ≡ Ok (a, next) → n ≡ length next.bytes → n ≡ 0 → ended rest reading left ≡ Ok (a, next)
 ended-all rest reading left next a n e size none = rw (e, eq-eqb (length next.bytes) 0 (sym size ∙ none)) refl

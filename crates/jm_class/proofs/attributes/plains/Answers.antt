@@ -1,8 +1,8 @@
 use Rattle.std.proofs.Common.{◌∙◌, map}
-use Rattle.jm_class.specs.ComputedClass.{opaque_field, attribute_field, member_field, short_number}
-use Rattle.jm_class.specs.Views.{fault_at, pool_of, opaque_of, attribute_of, member_of}
-use Rattle.jm_class.proofs.ListReadings.{counted-next, counted-stop}
-use Rattle.jm_class.proofs.Stops.{gives_stop, map_pushed}
+use Rattle.jm_class.specs.ComputedClass.{opaque_field}
+use Rattle.jm_class.specs.Views.{fault_at, pool_of, opaque_of}
+use Rattle.jm_class.proofs.ListReadings.{counted-next}
+use Rattle.jm_class.proofs.Stops.{map_pushed}
 use Rattle.jm_class.proofs.attributes.plains.Goals as goal
 
 pub loop-k-preserved : goal.loop-k-preserved

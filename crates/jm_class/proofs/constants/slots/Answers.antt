@@ -1,5 +1,4 @@
 use Rattle.std.proofs.Common.{◌∙◌}
-use Rattle.jm_class.specs.ComputedClass.{slot_field, slots}
 use Rattle.jm_class.specs.Views.{slot_of, pool_of}
 use Rattle.jm_class.proofs.ListReadings.{slots-next, slots-stop}
 use Rattle.jm_class.proofs.Stops.{gives_stop, map_pushed}

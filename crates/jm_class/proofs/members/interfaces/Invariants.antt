@@ -1,8 +1,7 @@
-use Rattle.std.proofs.Common.{◌≡◌, ◌-◌, map}
+use Rattle.std.proofs.Common.{◌≡◌, ◌-◌}
 use Rattle.jm_class.specs.declared.class.ClassFault.TheVariants.{Short}
-use Rattle.jm_class.specs.ComputedClass.{list_of, opaque_field, attribute_field, member_field, short_number}
+use Rattle.jm_class.specs.ComputedClass.{list_of, short_number}
 use Rattle.jm_class.specs.Readings.{counted}
-use Rattle.jm_class.specs.Views.{fault_at, pool_of, opaque_of, attribute_of, member_of}
 use Rattle.jm_class.proofs.ListReadings.{prefixed}
 use Rattle.jm_class.proofs.members.interfaces.Given as goal
 

@@ -1,6 +1,6 @@
-use Rattle.std.proofs.Common.{◌≡◌, ◌+◌, ◌++◌, length, drop}
-use Rattle.jm_class.specs.Classes.{u2, slot_text, opaque_text, attribute_text, member_text}
-use Rattle.jm_class.specs.Views.{slot_of, opaque_of, attribute_of, member_of}
+use Rattle.std.proofs.Common.{◌≡◌, ◌+◌, length, drop}
+use Rattle.jm_class.specs.Classes.{opaque_text}
+use Rattle.jm_class.specs.Views.{opaque_of}
 use Rattle.jm_classout.proofs.Loops.{texts}
 use Rattle.jm_classout.proofs.sizes.plains_size.Given as goal
 

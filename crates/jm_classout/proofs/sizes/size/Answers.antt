@@ -1,7 +1,6 @@
-use Rattle.std.proofs.Common.{◌≡◌, ◌+◌, ◌*◌, ◌<◌, ◌^◌, ℕ, length, map, arith, sym, ap, ◌∙◌}
-use Rattle.std.specs.List.{flat_map}
-use Rattle.jm_class.specs.Classes.{slot_text, member_text, attribute_text, class_text}
-use Rattle.jm_class.specs.Views.{slot_of, member_of, attribute_of, plain}
+use Rattle.std.proofs.Common.{◌≡◌, ◌+◌, ◌*◌, length, arith, sym}
+use Rattle.jm_class.specs.Classes.{class_text}
+use Rattle.jm_class.specs.Views.{plain}
 use Rattle.jm_classout.proofs.ClassTexts.{class_length}
 use Rattle.jm_classout.proofs.sizes.size.Goals as goal
 
