@@ -12,12 +12,9 @@ use Rattle.jm_class.specs.Classes.{SlotData, ClassData, u2, u4, magic, class_tex
 use Rattle.jm_class.specs.ComputedClass.{magic_field, major_field, class_fields, value_of, class_of, fault_of, class_fault}
 use Rattle.jm_class.specs.Readings.{Outcome, ended}
 use Rattle.jm_class.specs.Views.{ReadsClass, plain}
-use Rattle.jm_class.proofs.FieldLaws.{list_of-lawful, attribute-lawful, member-lawful}
+use Rattle.jm_class.proofs.FieldLaws.{attribute-lawful, member-lawful}
 use Rattle.jm_class.proofs.PoolLaws.{pool-lawful}
-use Rattle.jm_class.proofs.ReadingLaws.{Lawful, IsBytes, said-lawful, made-lawful, checked-lawful, and_then-lawful, ended-back, ended-forth, number16-lawful, number32-lawful}
-
-abbrev Always : {A : Type 0} → A → Type 0
-Always a = Unit {0}
+use Rattle.jm_class.proofs.ReadingLaws.{Always, list_of-lawful, Lawful, IsBytes, said-lawful, made-lawful, checked-lawful, and_then-lawful, ended-back, ended-forth, number16-lawful, number32-lawful}
 
 magic-lawful : Lawful magic_field u4 (λ n. (n < 2 ^ 32) × (nat_eq n magic ≡ true))
 magic-lawful = checked-lawful (λ found. nat_eq found magic) (λ at found. Magic) _ _ _ (number32-lawful Short)

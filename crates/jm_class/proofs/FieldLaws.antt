@@ -7,28 +7,11 @@ use Rattle.std.specs.Prelude.{All, is_some}
 use Rattle.jm_class.specs.declared.class.ClassFault.{ClassFault}
 use Rattle.jm_class.specs.declared.class.ClassFault.TheVariants.{Short, Index, CodeLength}
 use Rattle.jm_class.specs.Classes.{SlotData, CodeData, BodyData, Opaque, Coded, u2, u4, counted_text, sized_text, rows_text, opaque_text, code_text, held_text, attribute_text, member_text, utf8_at, is_code_name, NamesText, FitsCounted, FitsSized, IsOpaque, IsCode, IsBody, IsAttribute, IsMember}
-use Rattle.jm_class.specs.ComputedClass.{list_of, sized, name_field, opaque_field, rows_field, code_fields, code_field, held_field, attribute_field, member_field}
+use Rattle.jm_class.specs.ComputedClass.{name_field, opaque_field, rows_field, code_fields, code_field, held_field, attribute_field, member_field}
 use Rattle.jm_class.specs.Readings.{Reading, and_then, number, whole}
-use Rattle.jm_class.proofs.ReadingLaws.{Lawful, said-lawful, made-lawful, checked-lawful, and_then-lawful, counted-lawful, part-lawful, number16-lawful, number32-lawful, whole-lawful}
-
-abbrev Always : {A : Type 0} → A → Type 0
-Always a = Unit {0}
+use Rattle.jm_class.proofs.ReadingLaws.{Always, Lawful, placed-lawful, sized-lawful, list_of-lawful, said-lawful, made-lawful, checked-lawful, and_then-lawful, counted-lawful, part-lawful, number16-lawful, number32-lawful, whole-lawful}
 
 module _ (short : ℕ → ClassFault) where
-  pub sized-lawful : Lawful (sized short) sized_text FitsSized
-  sized-lawful =
-      said-lawful _ sized_text _ FitsSized
-      (and_then-lawful _ _ u4 _ length (λ xs. xs) Always (λ _ _. Unit {0}) (number32-lawful short)
-      (λ size fits. said-lawful _ _ _ _ (part-lawful short size) (λ xs is. ((tt, is), tt)) (λ xs is. is.0.1) (λ xs is. refl)))
-      (λ xs fits. fits.1.0) (λ xs fits. (tt, (fits, tt))) (λ xs fits. ap (λ t. u4 (length xs) ++ t) (sym (append-nil xs)))
-
-  pub list_of-lawful : {A : Type 0} (item : Reading ClassFault A) (text : A → List ℕ) (Fits : A → Type 0) → Lawful item text Fits → Lawful (list_of short item) (counted_text text) (FitsCounted Fits)
-  list_of-lawful item text Fits law =
-      said-lawful _ (counted_text text) _ (FitsCounted Fits)
-      (and_then-lawful _ _ u2 _ length (flat_map text) Always (λ _ xs. All Fits xs) (number16-lawful short)
-      (λ count fits. said-lawful _ _ _ _ (counted-lawful item text Fits law count) (λ xs is. ((tt, is.0), is.1)) (λ xs is. (is.0.1, is.1)) (λ xs is. refl)))
-      (λ xs fits. (fits.1.0, fits.1.1)) (λ xs fits. (tt, (fits.0, fits.1))) (λ xs fits. ap (λ t. u2 (length xs) ++ t) (sym (append-nil (flat_map text xs))))
-
   pub name-lawful : (pool : List SlotData) → Lawful (name_field short pool) u2 (NamesText pool)
   name-lawful pool = checked-lawful (λ name. is_some (utf8_at pool name)) (λ at name. Index at) _ _ _ (number16-lawful short)
 
@@ -36,7 +19,7 @@ module _ (short : ℕ → ClassFault) where
   opaque-lawful pool =
       said-lawful _ opaque_text _ (IsOpaque pool)
       (and_then-lawful _ _ _ _ (λ a. a.name) _ Always _ (name-lawful pool) (λ name named.
-      and_then-lawful _ _ _ _ (λ a. a.bytes) _ _ _ sized-lawful (λ bytes fit.
+      and_then-lawful _ _ _ _ (λ a. a.bytes) _ _ _ (sized-lawful short) (λ bytes fit.
       made-lawful _ (record { name = name; bytes = bytes }) ((tt, refl), refl) (λ a e. rw (sym e.0.1, sym e.1) refl))))
       (λ a fits. record { name = fits.1.0; bytes = fits.1.1.0 })
       (λ a fits. (tt, (fits.name, (fits.bytes, tt))))
@@ -56,9 +39,9 @@ module _ (short : ℕ → ClassFault) where
       said-lawful _ code_text _ (IsCode pool)
       (and_then-lawful _ _ _ _ (λ c. c.max_stack) _ Always _ (number16-lawful short) (λ max_stack f1.
       and_then-lawful _ _ _ _ (λ c. c.max_locals) _ _ _ (number16-lawful short) (λ max_locals f2.
-      and_then-lawful _ _ _ _ (λ c. c.code) _ _ _ sized-lawful (λ code f3.
+      and_then-lawful _ _ _ _ (λ c. c.code) _ _ _ (sized-lawful short) (λ code f3.
       and_then-lawful _ _ _ _ (λ c. c.handlers) _ _ _ rows-lawful (λ handlers f4.
-      and_then-lawful _ _ _ _ (λ c. c.attributes) _ _ _ (list_of-lawful _ _ _ (opaque-lawful pool)) (λ attributes f5.
+      and_then-lawful _ _ _ _ (λ c. c.attributes) _ _ _ (list_of-lawful short _ _ _ (opaque-lawful pool)) (λ attributes f5.
       made-lawful _ (record { max_stack = max_stack; max_locals = max_locals; code = code; handlers = handlers; attributes = attributes })
       (((((tt, refl), refl), refl), refl), refl)
       (λ c e. rw (sym e.0.0.0.0.1, sym e.0.0.0.1, sym e.0.0.1, sym e.0.1, sym e.1) refl)))))))
@@ -72,13 +55,6 @@ module _ (short : ℕ → ClassFault) where
       })
       (λ c fits. (tt, (fits.max_stack, (fits.max_locals, (fits.code, ((fits.rows, fits.handlers), (fits.attributes, tt)))))))
       (λ c fits. refl)
-
--- a reading whose faults speak of the place where it begins
-pub placed-lawful : {A : Type 0} (reading : ℕ → Reading ClassFault A) (text : A → List ℕ) (Fits : A → Type 0) → ((place : ℕ) → Lawful (reading place) text Fits) → Lawful (λ left. reading left.place left) text Fits
-placed-lawful reading text Fits law = record {
-  back = λ left next a bytes e. (law left.place).back left next a bytes e;
-  forth = λ place a rest fits. (law place).forth place a rest fits;
-}
 
 -- What an attribute holds
 

@@ -11,11 +11,7 @@ use Rattle.jm_class.specs.declared.class.ClassFault.TheVariants.{Short, Tag, Ind
 use Rattle.jm_class.specs.Classes.{SlotData, Constant, Hole, u1, u2, joined, body_text, slot_text, pool_text, body_size, is_tag, is_wide, FitsTag, IsPoolFrom}
 use Rattle.jm_class.specs.ComputedClass.{tag_field, text_field, body_of_size, body_field, constant, slot_field, is_wide_slot, slots, pool_field}
 use Rattle.jm_class.specs.Readings.{Left, value, and_then, part, number}
-use Rattle.jm_class.proofs.FieldLaws.{placed-lawful}
-use Rattle.jm_class.proofs.ReadingLaws.{Lawful, Took, ReadBack, IsBytes, passed, bytes_behind, same_value, same_left, value-lawful, said-lawful, made-lawful, checked-lawful, and_then-lawful, part-lawful, number8-lawful, number16-lawful}
-
-abbrev Always : {A : Type 0} → A → Type 0
-Always a = Unit {0}
+use Rattle.jm_class.proofs.ReadingLaws.{Always, placed-lawful, Lawful, Took, ReadBack, IsBytes, passed, bytes_behind, same_value, same_left, value-lawful, said-lawful, made-lawful, checked-lawful, and_then-lawful, part-lawful, number8-lawful, number16-lawful}
 
 -- a Long or a Double needs one number more
 abbrev HasRoom : Bool → ℕ → Type 0

@@ -9,7 +9,8 @@ use Rattle.std.specs.Int.{Width, w8, w16, w32, byte_len, from_be_bytes, to_be_by
 use Rattle.std.specs.List.{flat_map}
 use Rattle.std.specs.Prelude.{All, nat_le, nat_eq}
 use Rattle.jm_bytes.proofs.Choice.{chosen, same_ok}
-use Rattle.jm_class.specs.Readings.{Left, behind, Outcome, Reading, value, continued, and_then, part, number, counted, checked, ended, inner_part, whole}
+use Rattle.jm_class.specs.Classes.{u2, u4, counted_text, sized_text, FitsCounted, FitsSized}
+use Rattle.jm_class.specs.Readings.{Left, behind, Outcome, Reading, value, continued, and_then, part, number, counted, checked, ended, inner_part, whole, list_of, sized}
 
 abbrev Byte : ℕ → Type 0
 Byte b = b < 256
@@ -312,3 +313,29 @@ module _ {F A : Type 0} (rest : ℕ → F) (reading : Reading F A) (text : A →
           let cut = (part-lawful short n).forth place (text a) more fits.1 in
           let read = ended-forth place a fits.0 in
           (cut.0, rw (cut.1, read.1) refl)
+
+-- a reading whose faults speak of the place where it begins
+pub placed-lawful : {F A : Type 0} (reading : ℕ → Reading F A) (text : A → List ℕ) (Fits : A → Type 0) → ((place : ℕ) → Lawful (reading place) text Fits) → Lawful (λ left. reading left.place left) text Fits
+placed-lawful reading text Fits law = record {
+  back = λ left next a bytes e. (law left.place).back left next a bytes e;
+  forth = λ place a rest fits. (law place).forth place a rest fits;
+}
+
+abbrev pub Always : {A : Type 0} → A → Type 0
+Always a = Unit {0}
+
+-- a length, and so many bytes; a count, and so many of one kind
+module _ {F : Type 0} (short : ℕ → F) where
+  pub sized-lawful : Lawful (sized short) sized_text FitsSized
+  sized-lawful =
+      said-lawful _ sized_text _ FitsSized
+      (and_then-lawful _ _ u4 _ length (λ xs. xs) Always (λ _ _. Unit {0}) (number32-lawful short)
+      (λ size fits. said-lawful _ _ _ _ (part-lawful short size) (λ xs is. ((tt, is), tt)) (λ xs is. is.0.1) (λ xs is. refl)))
+      (λ xs fits. fits.1.0) (λ xs fits. (tt, (fits, tt))) (λ xs fits. ap (λ t. u4 (length xs) ++ t) (sym (append-nil xs)))
+
+  pub list_of-lawful : {A : Type 0} (item : Reading F A) (text : A → List ℕ) (Fits : A → Type 0) → Lawful item text Fits → Lawful (list_of short item) (counted_text text) (FitsCounted Fits)
+  list_of-lawful item text Fits law =
+      said-lawful _ (counted_text text) _ (FitsCounted Fits)
+      (and_then-lawful _ _ u2 _ length (flat_map text) Always (λ _ xs. All Fits xs) (number16-lawful short)
+      (λ count fits. said-lawful _ _ _ _ (counted-lawful item text Fits law count) (λ xs is. ((tt, is.0), is.1)) (λ xs is. (is.0.1, is.1)) (λ xs is. refl)))
+      (λ xs fits. (fits.1.0, fits.1.1)) (λ xs fits. (tt, (fits.0, fits.1))) (λ xs fits. ap (λ t. u2 (length xs) ++ t) (sym (append-nil (flat_map text xs))))

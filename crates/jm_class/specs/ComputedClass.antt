@@ -5,20 +5,11 @@ use Rattle.std.specs.Int.{w8, w16, w32}
 use Rattle.jm_class.specs.declared.class.ClassFault.{ClassFault}
 use Rattle.jm_class.specs.declared.class.ClassFault.TheVariants.{Magic, Version, Short, Tag, Index, CodeLength, Rest}
 use Rattle.jm_class.specs.Classes.{SlotData, Constant, Hole, OpaqueData, CodeData, BodyData, Opaque, Coded, AttributeData, MemberData, ClassData, magic, body_size, is_tag, is_wide, utf8_at, is_code_name, is_major}
-use Rattle.jm_class.specs.Readings.{Left, Reading, value, and_then, part, number, counted, checked, ended, whole}
+use Rattle.jm_class.specs.Readings.{Left, Reading, value, and_then, part, number, list_of, sized, checked, ended, whole}
 
 -- a field of two bytes in the file
 abbrev pub short_number : Reading ClassFault ℕ
 short_number = number Short w16
-
--- a count of two bytes, and so many of one kind
-abbrev pub list_of : {A : Type 0} → (ℕ → ClassFault) → Reading ClassFault A
-    → Reading ClassFault (List A)
-list_of short item = and_then (number short w16) (λ count. counted count item)
-
--- a length of four bytes, and so many bytes
-abbrev pub sized : (ℕ → ClassFault) → Reading ClassFault (List ℕ)
-sized short = and_then (number short w32) (λ size. part short size)
 
 -- Constants
 

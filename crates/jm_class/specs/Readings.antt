@@ -2,7 +2,7 @@
 -- A reading is made of a few forms: a number, a part, one behind another, so many of one kind, a
 -- check, a part that another reading takes whole.
 use Rattle.std.specs.Prelude.{◌≡◌, ℕ, zero, suc, ◌+◌, ◌≤◌, nat_le, Bool, ◌==◌, List, [], ◌∷◌, length, take, drop, Result, Ok, Err, if◌then◌else◌}
-use Rattle.std.specs.Int.{Width, byte_len, from_be_bytes}
+use Rattle.std.specs.Int.{Width, w16, w32, byte_len, from_be_bytes}
 
 -- the bytes that are left, and the place of the first one
 pub record Left : Type 0 where
@@ -47,6 +47,14 @@ abbrev pub counted : {F A : Type 0} → ℕ → Reading F A → Reading F (List 
 counted zero reading = value []
 counted (suc n) reading =
     and_then reading (λ item. and_then (counted n reading) (λ items. value (item ∷ items)))
+
+-- a count of two bytes, and so many of one kind
+abbrev pub list_of : {F A : Type 0} → (ℕ → F) → Reading F A → Reading F (List A)
+list_of short item = and_then (number short w16) (λ count. counted count item)
+
+-- a length of four bytes, and so many bytes
+abbrev pub sized : {F : Type 0} → (ℕ → F) → Reading F (List ℕ)
+sized short = and_then (number short w32) (λ size. part short size)
 
 -- a value that passes a test; the fault by its place and the value
 abbrev pub checked : {F A : Type 0} → (A → Bool) → (ℕ → A → F) → Reading F A → Reading F A

@@ -1,7 +1,6 @@
 ghost use Rattle.std.specs.Prelude.{◌≡◌};
 ghost use Rattle.std.specs.Int.{w8, w16, w32};
-ghost use Rattle.jm_class.specs.ComputedClass.{sized};
-ghost use Rattle.jm_class.specs.Readings.{number, part, inner_part};
+ghost use Rattle.jm_class.specs.Readings.{number, part, sized, inner_part};
 ghost use Rattle.jm_class.specs.Views.{fault_at, Gives};
 
 use crate::class::{ClassFault, ReadError};

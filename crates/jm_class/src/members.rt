@@ -1,6 +1,7 @@
 ghost use Rattle.std.specs.Prelude.{◌≡◌, map};
 ghost use Rattle.jm_class.specs.declared.class.ClassFault.TheVariants.{Short};
-ghost use Rattle.jm_class.specs.ComputedClass.{list_of, member_field, short_number};
+ghost use Rattle.jm_class.specs.ComputedClass.{member_field, short_number};
+ghost use Rattle.jm_class.specs.Readings.{list_of};
 ghost use Rattle.jm_class.specs.Views.{Gives, pool_of, member_of};
 
 use crate::attributes::attributes;

@@ -180,7 +180,8 @@ pub fn write(alloc: Global, class: &Class) -> Result<Text, NoMemory>
     ensures text { IfOk result (λ text. text ≡ class_text (plain class.now)) }
     // These follow: it reads back as that class, and what was read is written as it was.
     ensures reads_back { IfOk result (λ text. ReadsAs text (plain class.now)) }
-    ensures same { (bytes : _) → ReadsAs bytes (plain class.now) → IfOk result (λ text. text ≡ bytes) }
+    ensures same { (bytes : _) → ReadsAs bytes (plain class.now)
+        → IfOk result (λ text. text ≡ bytes) }
 {
     let mut text = Vec::new(alloc);
     put_class(&mut text, class)?;

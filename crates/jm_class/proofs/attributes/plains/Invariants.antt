@@ -1,6 +1,6 @@
 use Rattle.std.proofs.Common.{◌≡◌, ◌-◌, map}
-use Rattle.jm_class.specs.ComputedClass.{list_of, opaque_field}
-use Rattle.jm_class.specs.Readings.{counted}
+use Rattle.jm_class.specs.ComputedClass.{opaque_field}
+use Rattle.jm_class.specs.Readings.{counted, list_of}
 use Rattle.jm_class.specs.Views.{fault_at, pool_of, opaque_of}
 use Rattle.jm_class.proofs.ListReadings.{prefixed}
 use Rattle.jm_class.proofs.attributes.plains.Given as goal

@@ -1,7 +1,7 @@
 use Rattle.std.proofs.Common.{◌≡◌, ◌-◌}
 use Rattle.jm_class.specs.declared.class.ClassFault.TheVariants.{Short}
-use Rattle.jm_class.specs.ComputedClass.{list_of, short_number}
-use Rattle.jm_class.specs.Readings.{counted}
+use Rattle.jm_class.specs.ComputedClass.{short_number}
+use Rattle.jm_class.specs.Readings.{counted, list_of}
 use Rattle.jm_class.proofs.ListReadings.{prefixed}
 use Rattle.jm_class.proofs.members.interfaces.Given as goal
 

@@ -1,7 +1,7 @@
 use Rattle.std.proofs.Common.{◌≡◌, ◌-◌, map}
 use Rattle.jm_class.specs.declared.class.ClassFault.TheVariants.{Short}
-use Rattle.jm_class.specs.ComputedClass.{list_of, member_field}
-use Rattle.jm_class.specs.Readings.{counted}
+use Rattle.jm_class.specs.ComputedClass.{member_field}
+use Rattle.jm_class.specs.Readings.{counted, list_of}
 use Rattle.jm_class.specs.Views.{pool_of, member_of}
 use Rattle.jm_class.proofs.ListReadings.{prefixed}
 use Rattle.jm_class.proofs.members.members.Given as goal
