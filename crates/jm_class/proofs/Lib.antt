@@ -1,0 +1,8 @@
+pub mod ComputedClassLaws
+pub mod FieldLaws
+pub mod ListReadings
+pub mod PoolLaws
+pub mod ReadingLaws
+pub mod Stops
+mod Vectors
+pub mod WholeReadings

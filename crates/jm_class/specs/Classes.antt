@@ -1,0 +1,231 @@
+-- Class files as plain data: their bytes, and which are well formed (JVMS 4; which versions and
+-- tags are taken, and that a Code is taken apart, is this project's rule).
+use Rattle.std.specs.Prelude.{◌≡◌, ◌⊎◌, ℕ, ◌+◌, ◌-◌, ◌/◌, ◌%◌, ◌^◌, ◌<◌, ◌≤◌, nat_le, Bool, true, false, ◌==◌, ◌&&◌, ◌||◌, List, [], ◌∷◌, ◌++◌, length, Option, Some, None, is_some, option_and_then, slice_get, if◌then◌else◌, All, codes}
+use Rattle.std.specs.List.{flat_map}
+use Rattle.std.specs.Int.{w8, w16, w32, to_be_bytes}
+use Rattle.std.specs.Str.{bytes_eq}
+
+-- a number of the constant pool: a constant, whose body is without the length of a Utf8, or the
+-- second number of a Long or a Double
+pub data SlotData : Type 0 where
+  Constant : (tag : ℕ) (body : List ℕ) → SlotData
+  Hole : SlotData
+
+pub record OpaqueData : Type 0 where
+  pub name : ℕ
+  pub bytes : List ℕ
+
+pub record CodeData : Type 0 where
+  pub max_stack : ℕ
+  pub max_locals : ℕ
+  pub code : List ℕ
+  pub handlers : List ℕ
+  pub attributes : List OpaqueData
+
+pub data BodyData : Type 0 where
+  Opaque : (bytes : List ℕ) → BodyData
+  Coded : (code : CodeData) → BodyData
+
+pub record AttributeData : Type 0 where
+  pub name : ℕ
+  pub body : BodyData
+
+pub record MemberData : Type 0 where
+  pub access : ℕ
+  pub name : ℕ
+  pub descriptor : ℕ
+  pub attributes : List AttributeData
+
+pub record ClassData : Type 0 where
+  pub minor : ℕ
+  pub major : ℕ
+  pub pool : List SlotData
+  pub access : ℕ
+  pub this_class : ℕ
+  pub super_class : ℕ
+  pub interfaces : List ℕ
+  pub fields : List MemberData
+  pub methods : List MemberData
+  pub attributes : List AttributeData
+
+-- The bytes of a class
+
+-- parts one behind another
+abbrev pub joined : List (List ℕ) → List ℕ
+joined [] = []
+joined (part ∷ parts) = part ++ joined parts
+
+-- numbers of one, two and four bytes, the highest first
+abbrev pub u1 : ℕ → List ℕ
+u1 n = to_be_bytes w8 n
+
+abbrev pub u2 : ℕ → List ℕ
+u2 n = to_be_bytes w16 n
+
+abbrev pub u4 : ℕ → List ℕ
+u4 n = to_be_bytes w32 n
+
+-- the number of the items in two bytes, and the items
+abbrev pub counted_text : {A : Type 0} → (A → List ℕ) → List A → List ℕ
+counted_text text items = joined (u2 (length items) ∷ flat_map text items ∷ [])
+
+-- the number of the bytes in four bytes, and the bytes
+abbrev pub sized_text : List ℕ → List ℕ
+sized_text bytes = joined (u4 (length bytes) ∷ bytes ∷ [])
+
+-- 1 is Utf8, which has its length in two bytes
+abbrev pub body_text : ℕ → List ℕ → List ℕ
+body_text tag body = if tag == 1 then joined (u2 (length body) ∷ body ∷ []) else body
+
+abbrev pub slot_text : SlotData → List ℕ
+slot_text (Constant tag body) = joined (u1 tag ∷ body_text tag body ∷ [])
+slot_text Hole = []
+
+abbrev pub opaque_text : OpaqueData → List ℕ
+opaque_text a = joined (u2 a.name ∷ sized_text a.bytes ∷ [])
+
+-- 8 bytes for each handler, behind their number
+abbrev pub rows_text : List ℕ → List ℕ
+rows_text rows = joined (u2 (length rows / 8) ∷ rows ∷ [])
+
+abbrev pub code_text : CodeData → List ℕ
+code_text c = joined (
+    u2 c.max_stack ∷ u2 c.max_locals ∷ sized_text c.code ∷ rows_text c.handlers
+    ∷ counted_text opaque_text c.attributes ∷ [])
+
+abbrev pub held_text : BodyData → List ℕ
+held_text (Opaque bytes) = bytes
+held_text (Coded code) = code_text code
+
+abbrev pub attribute_text : AttributeData → List ℕ
+attribute_text a = joined (u2 a.name ∷ sized_text (held_text a.body) ∷ [])
+
+abbrev pub member_text : MemberData → List ℕ
+member_text m = joined (
+    u2 m.access ∷ u2 m.name ∷ u2 m.descriptor ∷ counted_text attribute_text m.attributes ∷ [])
+
+-- 0xCAFEBABE
+abbrev pub magic : ℕ
+magic = 3405691582
+
+-- one number more than the pool has, and its constants
+abbrev pub pool_text : List SlotData → List ℕ
+pool_text pool = joined (u2 (length pool + 1) ∷ flat_map slot_text pool ∷ [])
+
+abbrev pub class_text : ClassData → List ℕ
+class_text c = joined (
+    u4 magic ∷ u2 c.minor ∷ u2 c.major ∷ pool_text c.pool
+    ∷ u2 c.access ∷ u2 c.this_class ∷ u2 c.super_class
+    ∷ counted_text u2 c.interfaces
+    ∷ counted_text member_text c.fields ∷ counted_text member_text c.methods
+    ∷ counted_text attribute_text c.attributes ∷ [])
+
+-- Constants
+
+-- the bytes behind a tag other than that of a Utf8, or none where there is no such tag
+abbrev pub body_size : ℕ → Option ℕ
+body_size tag =
+    if tag == 3 || tag == 4 then Some 4
+    else if tag == 5 || tag == 6 then Some 8
+    else if tag == 7 || tag == 8 || tag == 16 || tag == 19 || tag == 20 then Some 2
+    else if tag == 9 || tag == 10 || tag == 11 || tag == 12 || tag == 17 || tag == 18 then Some 4
+    else if tag == 15 then Some 3
+    else None
+
+abbrev pub is_tag : ℕ → Bool
+is_tag tag = tag == 1 || is_some (body_size tag)
+
+-- a Long or a Double takes two numbers
+abbrev pub is_wide : ℕ → Bool
+is_wide tag = tag == 5 || tag == 6
+
+-- the body is as the tag says
+abbrev pub FitsTag : ℕ → List ℕ → Type 0
+FitsTag tag body = ((tag ≡ 1) × (length body < 2 ^ 16)) ⊎ (body_size tag ≡ Some (length body))
+
+-- a hole stands exactly where one is due: after each Long and Double
+abbrev pub IsPoolFrom : Bool → List SlotData → Type 0
+IsPoolFrom due [] = due ≡ false
+IsPoolFrom true (Hole ∷ slots) = IsPoolFrom false slots
+IsPoolFrom false (Constant tag body ∷ slots) = FitsTag tag body × IsPoolFrom (is_wide tag) slots
+IsPoolFrom _ _ = ⊥
+
+-- the constant of a number, from 1 on
+abbrev pub slot_at : List SlotData → ℕ → Option SlotData
+slot_at pool index = if index == 0 then None else slice_get pool (index - 1)
+
+abbrev pub utf8_of : SlotData → Option (List ℕ)
+utf8_of (Constant tag body) = if tag == 1 then Some body else None
+utf8_of Hole = None
+
+-- the bytes of the Utf8 of a number, or none where the constant isn't one
+abbrev pub utf8_at : List SlotData → ℕ → Option (List ℕ)
+utf8_at pool index = option_and_then utf8_of (slot_at pool index)
+
+-- Well-formed classes: numbers, counts and lengths fit their fields
+
+-- a number of two bytes that names a Utf8
+abbrev pub NamesText : List SlotData → ℕ → Type 0
+NamesText pool name = (name < 2 ^ 16) × (is_some (utf8_at pool name) ≡ true)
+
+-- at most so many as a count of two bytes says, each one fit
+abbrev pub FitsCounted : {A : Type 0} → (A → Type 0) → List A → Type 0
+FitsCounted fits items = (length items < 2 ^ 16) × All fits items
+
+abbrev pub FitsSized : List ℕ → Type 0
+FitsSized bytes = length bytes < 2 ^ 32
+
+pub record IsOpaque (pool : List SlotData) (a : OpaqueData) : Type 0 where
+  pub name : NamesText pool a.name
+  pub bytes : FitsSized a.bytes
+
+pub record IsCode (pool : List SlotData) (c : CodeData) : Type 0 where
+  pub max_stack : c.max_stack < 2 ^ 16
+  pub max_locals : c.max_locals < 2 ^ 16
+  pub code : FitsSized c.code
+  pub rows : length c.handlers / 8 < 2 ^ 16
+  pub handlers : length c.handlers % 8 ≡ 0
+  pub attributes : FitsCounted (IsOpaque pool) c.attributes
+
+abbrev pub is_code_name : Option (List ℕ) → Bool
+is_code_name None = false
+is_code_name (Some text) = bytes_eq text (codes "Code")
+
+-- a Code stands exactly where it has to
+abbrev pub IsBody : List SlotData → Bool → BodyData → Type 0
+IsBody pool false (Opaque bytes) = Unit {0}
+IsBody pool true (Coded code) = IsCode pool code
+IsBody pool _ _ = ⊥
+
+-- an attribute, in a method or not
+pub record IsAttribute (pool : List SlotData) (in_method : Bool) (a : AttributeData) : Type 0 where
+  pub name : NamesText pool a.name
+  pub body : IsBody pool (in_method && is_code_name (utf8_at pool a.name)) a.body
+  pub bytes : FitsSized (held_text a.body)
+
+pub record IsMember (pool : List SlotData) (in_method : Bool) (m : MemberData) : Type 0 where
+  pub access : m.access < 2 ^ 16
+  pub name : m.name < 2 ^ 16
+  pub descriptor : m.descriptor < 2 ^ 16
+  pub attributes : FitsCounted (IsAttribute pool in_method) m.attributes
+
+abbrev pub is_major : ℕ → Bool
+is_major major = nat_le 45 major && nat_le major 65
+
+pub record IsClass (c : ClassData) : Type 0 where
+  pub minor : c.minor < 2 ^ 16
+  pub major : (45 ≤ c.major) × (c.major ≤ 65)
+  pub slots : length c.pool < 65535
+  pub pool : IsPoolFrom false c.pool
+  pub access : c.access < 2 ^ 16
+  pub this_class : c.this_class < 2 ^ 16
+  pub super_class : c.super_class < 2 ^ 16
+  pub interfaces : FitsCounted (λ i. i < 2 ^ 16) c.interfaces
+  pub fields : FitsCounted (IsMember c.pool false) c.fields
+  pub methods : FitsCounted (IsMember c.pool true) c.methods
+  pub attributes : FitsCounted (IsAttribute c.pool false) c.attributes
+
+-- the rule: the bytes are those of a well-formed class
+pub record ReadsAs (bytes : List ℕ) (c : ClassData) : Type 0 where
+  pub well_formed : IsClass c
+  pub text : class_text c ≡ bytes

@@ -1,0 +1,4 @@
+pub mod Classes
+pub mod ComputedClass
+pub mod Readings
+pub mod Views

@@ -1,0 +1,171 @@
+ghost use Rattle.std.specs.Prelude.{◌≡◌, ◌*◌, map};
+ghost use Rattle.std.specs.Int.{w16};
+ghost use Rattle.jm_class.specs.Classes.{utf8_at, is_code_name};
+ghost use Rattle.jm_class.specs.ComputedClass.{name_field, opaque_field, rows_field, code_fields, code_field, held_field, attribute_field};
+ghost use Rattle.jm_class.specs.Readings.{number, part, list_of};
+ghost use Rattle.jm_class.specs.declared.class.ClassFault.TheVariants.{Short};
+ghost use Rattle.jm_class.specs.Views.{Gives, fault_at, pool_of, opaque_of, code_of, body_of, attribute_of};
+
+use crate::class::{Attribute, Body, ClassFault, Code, Plain, ReadError, Slot};
+use crate::constants::utf8_in;
+use crate::cursor::Cursor;
+use crate::fields::{Missing, inner, number16, number32, part, sized};
+use jm_bytes::List;
+use std::alloc::Global;
+
+/// Whether the constant of a number is the Utf8 `Code`.
+fn is_code(pool: &[Slot], name: u16) -> bool
+    ensures { result ≡ is_code_name (utf8_at (pool_of pool.now) name) }
+{
+    match utf8_in(pool, name) {
+        Some(text) => text == b"Code".as_slice(),
+        None => false,
+    }
+}
+
+/// The name of an attribute: the number of a Utf8.
+fn name(cursor: &mut Cursor, pool: &[Slot], missing: Missing) -> Result<u16, ReadError>
+    ensures { Gives (λ n. n) (name_field (fault_at missing) (pool_of pool.now) cursor.old)
+        result cursor.new }
+{
+    let at = cursor.place();
+    let name = number16(cursor, missing)?;
+    if utf8_in(pool, name).is_none() {
+        return Err(ReadError::Fault(ClassFault::Index(at)));
+    }
+    Ok(name)
+}
+
+/// An attribute of a Code.
+fn plain<'a>(
+    cursor: &mut Cursor<'a>,
+    pool: &[Slot],
+    missing: Missing,
+) -> Result<Plain<'a>, ReadError>
+    ensures { Gives opaque_of (opaque_field (fault_at missing) (pool_of pool.now) cursor.old)
+        result cursor.new }
+{
+    let name = name(cursor, pool, missing)?;
+    let bytes = sized(cursor, missing)?;
+    Ok(Plain { name, bytes })
+}
+
+/// The attributes of a Code.
+fn plains<'a>(
+    alloc: Global,
+    cursor: &mut Cursor<'a>,
+    pool: &[Slot],
+    missing: Missing,
+) -> Result<List<Plain<'a>>, ReadError>
+    ensures { Gives (map opaque_of)
+        (list_of (fault_at missing) (opaque_field (fault_at missing) (pool_of pool.now)) cursor.old)
+        result cursor.new }
+{
+    let count = number16(cursor, missing)?;
+    let mut attributes = List::new(alloc);
+    for _k in 0..count {
+        let attribute = plain(cursor, pool, missing)?;
+        attributes.push(attribute)?;
+    }
+    Ok(attributes)
+}
+
+/// The handlers of a Code: their number, and 8 bytes for each.
+fn rows<'a>(cursor: &mut Cursor<'a>, missing: Missing) -> Result<&'a [u8], ReadError>
+    ensures { Gives (λ rows. rows.now) (rows_field (fault_at missing) cursor.old)
+        result cursor.new }
+{
+    let count = number16(cursor, missing)?;
+    part(cursor, 8 * usize::from(count), missing)
+}
+
+/// The parts of a Code.
+fn code_parts<'a>(
+    alloc: Global,
+    cursor: &mut Cursor<'a>,
+    pool: &[Slot],
+    missing: Missing,
+) -> Result<Code<'a>, ReadError>
+    ensures { Gives code_of (code_fields (fault_at missing) (pool_of pool.now) cursor.old)
+        result cursor.new }
+{
+    let max_stack = number16(cursor, missing)?;
+    let max_locals = number16(cursor, missing)?;
+    let code = sized(cursor, missing)?;
+    let handlers = rows(cursor, missing)?;
+    let attributes = plains(alloc, cursor, pool, missing)?;
+    Ok(Code {
+        max_stack,
+        max_locals,
+        code,
+        handlers,
+        attributes,
+    })
+}
+
+/// A Code within its length. It is judged as a whole before its parts.
+fn code<'a>(alloc: Global, cursor: &mut Cursor<'a>, pool: &[Slot]) -> Result<Code<'a>, ReadError>
+    ensures { Gives code_of (code_field (pool_of pool.now) cursor.old) result cursor.new }
+{
+    let wrong = ClassFault::CodeLength(cursor.place());
+    let size = number32(cursor, Missing::Here)?;
+    let mut inner = inner(cursor, size as usize, Missing::Here)?;
+    let code = code_parts(alloc, &mut inner, pool, Missing::Within(wrong))?;
+    if inner.len() != 0 {
+        return Err(ReadError::Fault(wrong));
+    }
+    Ok(code)
+}
+
+/// What an attribute holds.
+fn held<'a>(
+    alloc: Global,
+    cursor: &mut Cursor<'a>,
+    pool: &[Slot],
+    coded: bool,
+) -> Result<Body<'a>, ReadError>
+    ensures { Gives body_of (held_field (pool_of pool.now) coded cursor.old) result cursor.new }
+{
+    if coded {
+        let code = code(alloc, cursor, pool)?;
+        Ok(Body::Code(code))
+    } else {
+        let bytes = sized(cursor, Missing::Here)?;
+        Ok(Body::Plain(bytes))
+    }
+}
+
+/// An attribute, in a method or not.
+fn attribute<'a>(
+    alloc: Global,
+    cursor: &mut Cursor<'a>,
+    pool: &[Slot],
+    in_method: bool,
+) -> Result<Attribute<'a>, ReadError>
+    ensures { Gives attribute_of (attribute_field (pool_of pool.now) in_method cursor.old)
+        result cursor.new }
+{
+    let name = name(cursor, pool, Missing::Here)?;
+    let body = held(alloc, cursor, pool, in_method && is_code(pool, name))?;
+    Ok(Attribute { name, body })
+}
+
+/// Attributes, in a method or not.
+pub fn attributes<'a>(
+    alloc: Global,
+    cursor: &mut Cursor<'a>,
+    pool: &[Slot],
+    in_method: bool,
+) -> Result<List<Attribute<'a>>, ReadError>
+    ensures { Gives (map attribute_of)
+        (list_of Short (attribute_field (pool_of pool.now) in_method) cursor.old)
+        result cursor.new }
+{
+    let count = number16(cursor, Missing::Here)?;
+    let mut attributes = List::new(alloc);
+    for _k in 0..count {
+        let attribute = attribute(alloc, cursor, pool, in_method)?;
+        attributes.push(attribute)?;
+    }
+    Ok(attributes)
+}

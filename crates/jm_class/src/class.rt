@@ -1,0 +1,132 @@
+ghost use Rattle.std.specs.Prelude.{◌≡◌};
+
+use jm_bytes::{List, NoMemory};
+
+/// A class file. Its opaque bytes are slices of the input.
+#[derive(Debug, Drop)]
+pub struct Class<'a> {
+    /// The minor version.
+    pub minor: u16,
+    /// The major version, 45 to 65.
+    pub major: u16,
+    /// The constants: the item of place k is constant k + 1.
+    pub pool: List<Slot<'a>>,
+    /// The access flags.
+    pub access: u16,
+    /// The constant that names the class.
+    pub this_class: u16,
+    /// The constant that names the class above, or 0.
+    pub super_class: u16,
+    /// The constants that name the interfaces.
+    pub interfaces: List<u16>,
+    /// The fields.
+    pub fields: List<Member<'a>>,
+    /// The methods.
+    pub methods: List<Member<'a>>,
+    /// The attributes of the class itself.
+    pub attributes: List<Attribute<'a>>,
+}
+
+/// A number of the constant pool.
+#[derive(Clone, Copy, Debug)]
+pub enum Slot<'a> {
+    /// A constant: its tag and what stands behind it, a Utf8 without its length.
+    Constant { tag: u8, body: &'a [u8] },
+    /// The second number that a Long or a Double takes.
+    Hole,
+}
+
+/// A field or a method.
+#[derive(Debug, Drop)]
+pub struct Member<'a> {
+    /// The access flags.
+    pub access: u16,
+    /// The constant of its name.
+    pub name: u16,
+    /// The constant of its descriptor.
+    pub descriptor: u16,
+    /// Its attributes.
+    pub attributes: List<Attribute<'a>>,
+}
+
+/// An attribute of a class, a field or a method.
+#[derive(Debug, Drop)]
+pub struct Attribute<'a> {
+    /// The constant of its name, a Utf8.
+    pub name: u16,
+    /// What it holds.
+    pub body: Body<'a>,
+}
+
+/// What an attribute holds.
+#[derive(Debug, Drop)]
+pub enum Body<'a> {
+    /// Bytes as they are.
+    Plain(&'a [u8]),
+    /// The code of a method: exactly in its attributes that are named `Code`.
+    Code(Code<'a>),
+}
+
+/// The code of a method.
+#[derive(Debug, Drop)]
+pub struct Code<'a> {
+    /// The depth of the operand stack.
+    pub max_stack: u16,
+    /// The number of local variables.
+    pub max_locals: u16,
+    /// The instructions.
+    pub code: &'a [u8],
+    /// The handlers of exceptions, 8 bytes each.
+    pub handlers: &'a [u8],
+    /// Its attributes.
+    pub attributes: List<Plain<'a>>,
+}
+
+/// An attribute of a Code.
+#[derive(Clone, Copy, Debug)]
+pub struct Plain<'a> {
+    /// The constant of its name, a Utf8.
+    pub name: u16,
+    /// Its bytes as they are.
+    pub bytes: &'a [u8],
+}
+
+/// The first thing from left to right that keeps bytes from being a class. Places are in bytes from
+/// the front of the file.
+#[derive(Clone, Copy, Debug, PartialEq, Eq)]
+pub enum ClassFault {
+    /// The first four bytes aren't the magic.
+    Magic,
+    /// The major version isn't 45 to 65.
+    Version(u16),
+    /// The field or body that begins here doesn't fit in the file.
+    Short(usize),
+    /// The tag here is none of a constant.
+    Tag(usize),
+    /// The count of constants here is 0, the Long or Double here has no second number, or the name
+    /// index of the attribute here isn't a Utf8.
+    Index(usize),
+    /// A part of the Code whose length field is here doesn't fit in it, or bytes of it are left.
+    CodeLength(usize),
+    /// Bytes follow the class, from here on.
+    Rest(usize),
+}
+
+/// Why bytes give no class.
+#[derive(Clone, Copy, Debug, PartialEq, Eq)]
+pub enum ReadError {
+    /// They are no class, by their first fault.
+    Fault(ClassFault),
+    /// No memory was found.
+    Memory,
+}
+
+impl From<NoMemory> for ReadError {
+    ghost use Rattle.jm_class.specs.declared.class.ReadError.TheVariants.{Memory};
+
+    ghost from_gives = { λ _ e. e ≡ Memory };
+
+    fn from(_none: NoMemory) -> ReadError {
+        ReadError::Memory
+    }
+}

@@ -1,0 +1,138 @@
+ghost use Rattle.std.specs.Prelude.{◌≡◌, false, option_map};
+ghost use Rattle.jm_class.specs.Classes.{body_size, is_tag, is_wide, utf8_at, is_code_name};
+ghost use Rattle.jm_class.specs.ComputedClass.{tag_field, body_field, constant, slot_field, slots, pool_field, is_wide_slot, text_field};
+ghost use Rattle.jm_class.specs.Views.{Gives, slot_of, pool_of};
+
+use crate::class::{ClassFault, ReadError, Slot};
+use crate::cursor::Cursor;
+use crate::fields::{Missing, number8, number16, part};
+use jm_bytes::List;
+use std::alloc::Global;
+
+const UTF8: u8 = 1;
+
+/// How many bytes stand behind a tag; none for a Utf8 and where there is no such tag.
+fn body_size(tag: u8) -> Option<usize>
+    ensures { result ≡ body_size tag }
+{
+    match tag {
+        3 | 4 => Some(4),
+        5 | 6 => Some(8),
+        7 | 8 | 16 | 19 | 20 => Some(2),
+        9 | 10 | 11 | 12 | 17 | 18 => Some(4),
+        15 => Some(3),
+        _ => None,
+    }
+}
+
+/// Whether a constant takes two numbers: a Long or a Double.
+fn is_wide(tag: u8) -> bool
+    ensures { result ≡ is_wide tag }
+{
+    tag == 5 || tag == 6
+}
+
+/// The tag of a constant. A Long or a Double needs one number more.
+fn tag(cursor: &mut Cursor, more: bool) -> Result<u8, ReadError>
+    ensures { Gives (λ tag. tag) (tag_field more cursor.old) result cursor.new }
+{
+    let at = cursor.place();
+    let tag = number8(cursor, Missing::Here)?;
+    if tag != UTF8 && body_size(tag).is_none() {
+        return Err(ReadError::Fault(ClassFault::Tag(at)));
+    }
+    if is_wide(tag) && !more {
+        return Err(ReadError::Fault(ClassFault::Index(at)));
+    }
+    Ok(tag)
+}
+
+/// What stands behind a tag. A Utf8 that doesn't fit is short at its length.
+fn body<'a>(cursor: &mut Cursor<'a>, tag: u8) -> Result<&'a [u8], ReadError>
+    ensures { Gives (λ body. body.now) (body_field tag cursor.old) result cursor.new }
+{
+    match body_size(tag) {
+        Some(size) => part(cursor, size, Missing::Here),
+        None => text(cursor),
+    }
+}
+
+/// A length of two bytes, and so many bytes.
+fn text<'a>(cursor: &mut Cursor<'a>) -> Result<&'a [u8], ReadError>
+    ensures { Gives (λ body. body.now) (text_field cursor.old) result cursor.new }
+{
+    let missing = Missing::Within(ClassFault::Short(cursor.place()));
+    let size = number16(cursor, missing)?;
+    part(cursor, size as usize, missing)
+}
+
+/// A constant.
+fn constant<'a>(cursor: &mut Cursor<'a>, more: bool) -> Result<Slot<'a>, ReadError>
+    ensures { Gives slot_of (constant more cursor.old) result cursor.new }
+{
+    let tag = tag(cursor, more)?;
+    let body = body(cursor, tag)?;
+    Ok(Slot::Constant { tag, body })
+}
+
+/// A number of the pool: a hole where one is due.
+fn slot<'a>(cursor: &mut Cursor<'a>, due: bool, more: bool) -> Result<Slot<'a>, ReadError>
+    ensures { Gives slot_of (slot_field due more cursor.old) result cursor.new }
+{
+    if due {
+        Ok(Slot::Hole)
+    } else {
+        constant(cursor, more)
+    }
+}
+
+/// Whether a hole is due behind a slot.
+fn is_wide_slot(slot: &Slot) -> bool
+    ensures { result ≡ is_wide_slot (slot_of slot.now) }
+{
+    match slot {
+        Slot::Constant { tag, .. } => is_wide(*tag),
+        Slot::Hole => false,
+    }
+}
+
+/// So many numbers of the pool.
+fn slots<'a>(
+    alloc: Global,
+    cursor: &mut Cursor<'a>,
+    count: u16,
+) -> Result<List<Slot<'a>>, ReadError>
+    ensures { Gives pool_of (slots count false cursor.old) result cursor.new }
+{
+    let mut slots = List::new(alloc);
+    let mut due = false;
+    for k in 0..count {
+        let slot = slot(cursor, due, k + 1 < count)?;
+        due = is_wide_slot(&slot);
+        slots.push(slot)?;
+    }
+    Ok(slots)
+}
+
+/// The constant pool.
+pub fn pool<'a>(alloc: Global, cursor: &mut Cursor<'a>) -> Result<List<Slot<'a>>, ReadError>
+    ensures { Gives pool_of (pool_field cursor.old) result cursor.new }
+{
+    let at = cursor.place();
+    let count = number16(cursor, Missing::Here)?;
+    if count == 0 {
+        return Err(ReadError::Fault(ClassFault::Index(at)));
+    }
+    slots(alloc, cursor, count - 1)
+}
+
+/// The bytes of the Utf8 of a number; none where the constant isn't one.
+pub fn utf8_in<'a>(pool: &[Slot<'a>], index: u16) -> Option<&'a [u8]>
+    ensures { option_map (λ text. text.now) result ≡ utf8_at (pool_of pool.now) index }
+{
+    let place = usize::from(index).checked_sub(1)?;
+    match pool.get(place)? {
+        Slot::Constant { tag: UTF8, body } => Some(*body),
+        _ => None,
+    }
+}

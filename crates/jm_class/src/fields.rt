@@ -1,0 +1,81 @@
+ghost use Rattle.std.specs.Prelude.{◌≡◌};
+ghost use Rattle.std.specs.Int.{w8, w16, w32};
+ghost use Rattle.jm_class.specs.Readings.{number, part, sized, inner_part};
+ghost use Rattle.jm_class.specs.Views.{fault_at, Gives};
+
+use crate::class::{ClassFault, ReadError};
+use crate::cursor::Cursor;
+
+/// What is said of a field that doesn't fit.
+#[derive(Clone, Copy, Debug)]
+pub enum Missing {
+    /// It is short, at its own place.
+    Here,
+    /// The part in which it stands has this fault.
+    Within(ClassFault),
+}
+
+impl Missing {
+    /// The fault of a field at a place.
+    pub fn fault(self, at: usize) -> ReadError
+        ensures { result ≡ ReadError.Fault (fault_at self at) }
+    {
+        match self {
+            Missing::Here => ReadError::Fault(ClassFault::Short(at)),
+            Missing::Within(fault) => ReadError::Fault(fault),
+        }
+    }
+}
+
+/// A byte.
+pub fn number8(cursor: &mut Cursor, missing: Missing) -> Result<u8, ReadError>
+    ensures { Gives (λ n. n) (number (fault_at missing) w8 cursor.old) result cursor.new }
+{
+    let at = cursor.place();
+    cursor.u8().ok_or(missing.fault(at))
+}
+
+/// A number of two bytes.
+pub fn number16(cursor: &mut Cursor, missing: Missing) -> Result<u16, ReadError>
+    ensures { Gives (λ n. n) (number (fault_at missing) w16 cursor.old) result cursor.new }
+{
+    let at = cursor.place();
+    cursor.u16().ok_or(missing.fault(at))
+}
+
+/// A number of four bytes.
+pub fn number32(cursor: &mut Cursor, missing: Missing) -> Result<u32, ReadError>
+    ensures { Gives (λ n. n) (number (fault_at missing) w32 cursor.old) result cursor.new }
+{
+    let at = cursor.place();
+    cursor.u32().ok_or(missing.fault(at))
+}
+
+/// So many bytes.
+pub fn part<'a>(cursor: &mut Cursor<'a>, n: usize, missing: Missing) -> Result<&'a [u8], ReadError>
+    ensures { Gives (λ p. p.now) (part (fault_at missing) n cursor.old) result cursor.new }
+{
+    let at = cursor.place();
+    cursor.part(n).ok_or(missing.fault(at))
+}
+
+/// A length of four bytes, and so many bytes.
+pub fn sized<'a>(cursor: &mut Cursor<'a>, missing: Missing) -> Result<&'a [u8], ReadError>
+    ensures { Gives (λ p. p.now) (sized (fault_at missing) cursor.old) result cursor.new }
+{
+    let size = number32(cursor, missing)?;
+    part(cursor, size as usize, missing)
+}
+
+/// So many bytes as a cursor of their own.
+pub fn inner<'a>(
+    cursor: &mut Cursor<'a>,
+    n: usize,
+    missing: Missing,
+) -> Result<Cursor<'a>, ReadError>
+    ensures { Gives (λ inner. inner) (inner_part (fault_at missing) n cursor.old)
+        result cursor.new }
+{
+    let at = cursor.place();
+    cursor.inner(n).ok_or(missing.fault(at))
+}

@@ -1,0 +1,17 @@
+//! Class files: their parts as slices of the input, and the first fault of bytes that are none.
+#![tactic(auto)]
+
+mod attributes;
+mod class;
+mod constants;
+mod cursor;
+mod fields;
+mod members;
+mod reading;
+
+pub use class::{Attribute, Body, Class, ClassFault, Code, Member, Plain, ReadError, Slot};
+pub use cursor::Cursor;
+pub use reading::{read, utf8};
+
+#[cfg(test)]
+mod tests;

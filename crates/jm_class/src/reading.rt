@@ -1,0 +1,99 @@
+ghost use Rattle.std.specs.Prelude.{◌≡◌, None, Some, Err, option_map, IfOk, OnOk};
+ghost use Rattle.jm_class.specs.Classes.{ClassData, ReadsAs, utf8_at};
+ghost use Rattle.jm_class.specs.ComputedClass.{magic_field, major_field, class_fields, class_fault};
+ghost use Rattle.jm_class.specs.declared.class.ReadError.TheVariants.{Fault};
+ghost use Rattle.jm_class.specs.Views.{Gives, ReadsClass, plain};
+
+use crate::attributes::attributes;
+use crate::class::{Class, ClassFault, ReadError};
+use crate::constants::{pool, utf8_in};
+use crate::cursor::Cursor;
+use crate::fields::{Missing, number16, number32};
+use crate::members::{interfaces, members};
+use std::alloc::Global;
+
+const MAGIC: u32 = 0xCAFE_BABE;
+
+/// The magic.
+fn magic(cursor: &mut Cursor) -> Result<u32, ReadError>
+    ensures { Gives (λ n. n) (magic_field cursor.old) result cursor.new }
+{
+    let found = number32(cursor, Missing::Here)?;
+    if found != MAGIC {
+        return Err(ReadError::Fault(ClassFault::Magic));
+    }
+    Ok(found)
+}
+
+/// The major version.
+fn major(cursor: &mut Cursor) -> Result<u16, ReadError>
+    ensures { Gives (λ n. n) (major_field cursor.old) result cursor.new }
+{
+    let major = number16(cursor, Missing::Here)?;
+    if major < 45 || 65 < major {
+        return Err(ReadError::Fault(ClassFault::Version(major)));
+    }
+    Ok(major)
+}
+
+/// The fields of a class.
+fn class<'a>(alloc: Global, cursor: &mut Cursor<'a>) -> Result<Class<'a>, ReadError>
+    ensures { Gives plain (class_fields cursor.old) result cursor.new }
+{
+    let _magic = magic(cursor)?;
+    let minor = number16(cursor, Missing::Here)?;
+    let major = major(cursor)?;
+    let pool = pool(alloc, cursor)?;
+    let access = number16(cursor, Missing::Here)?;
+    let this_class = number16(cursor, Missing::Here)?;
+    let super_class = number16(cursor, Missing::Here)?;
+    let interfaces = interfaces(alloc, cursor)?;
+    let fields = members(alloc, cursor, pool.as_slice(), false)?;
+    let methods = members(alloc, cursor, pool.as_slice(), true)?;
+    let attributes = attributes(alloc, cursor, pool.as_slice(), false)?;
+    Ok(Class {
+        minor,
+        major,
+        pool,
+        access,
+        this_class,
+        super_class,
+        interfaces,
+        fields,
+        methods,
+        attributes,
+    })
+}
+
+/// The fields of a class, and nothing behind them.
+fn whole<'a>(alloc: Global, bytes: &'a [u8]) -> Result<Class<'a>, ReadError>
+    ensures { ReadsClass bytes.now result }
+{
+    let mut cursor = Cursor::new(bytes);
+    let class = class(alloc, &mut cursor)?;
+    if cursor.len() != 0 {
+        return Err(ReadError::Fault(ClassFault::Rest(cursor.place())));
+    }
+    Ok(class)
+}
+
+/// Reads a class file. A fault is the first from left to right, by JVMS 4 and the rules of this
+/// project.
+pub fn read<'a>(alloc: Global, bytes: &'a [u8]) -> Result<Class<'a>, ReadError>
+    ensures class { IfOk result (λ class. ReadsAs bytes.now (plain class)) }
+    ensures only { IfOk result (λ class.
+        (other : ClassData) → ReadsAs bytes.now other → other ≡ plain class) }
+    ensures no_fault { OnOk result (class_fault bytes.now ≡ None) }
+    ensures fault { (fault : _) → result ≡ Err (Fault fault) → class_fault bytes.now ≡ Some fault }
+    ensures no_class { (fault : _) → result ≡ Err (Fault fault)
+        → (c : ClassData) → ¬ ReadsAs bytes.now c }
+{
+    whole(alloc, bytes)
+}
+
+/// The bytes of the Utf8 of a number, from 1 on; none where the constant isn't one.
+pub fn utf8<'a>(class: &Class<'a>, index: u16) -> Option<&'a [u8]>
+    ensures { option_map (λ text. text.now) result ≡ utf8_at (plain class.now).pool index }
+{
+    utf8_in(class.pool.as_slice(), index)
+}

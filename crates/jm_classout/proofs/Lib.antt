@@ -1,0 +1,2 @@
+pub mod ClassTexts
+pub mod Loops

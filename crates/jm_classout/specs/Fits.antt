@@ -1,0 +1,31 @@
+-- Parts of some well-formed class (JVMS 4): their counts and lengths fit their fields.
+use Rattle.std.specs.Prelude.{Bool, List}
+use Rattle.jm_class.specs.Classes.{SlotData, Constant, Hole, OpaqueData, CodeData, BodyData, AttributeData, MemberData, FitsTag, FitsSized, IsOpaque, IsCode, IsBody, IsAttribute, IsMember, held_text}
+
+-- a constant's body is as its tag says
+abbrev pub FitsSlot : SlotData → Type 0
+FitsSlot (Constant tag body) = FitsTag tag body
+FitsSlot Hole = Unit {0}
+
+abbrev pub OfSomeCode : OpaqueData → Type 0
+OfSomeCode a = (pool : List SlotData) × IsOpaque pool a
+
+abbrev pub SomeCode : CodeData → Type 0
+SomeCode c = (pool : List SlotData) × IsCode pool c
+
+-- what some attribute holds
+pub record SomeBody (b : BodyData) : Type 0 where
+  pub pool : List SlotData
+  pub coded : Bool
+  pub body : IsBody pool coded b
+  pub bytes : FitsSized (held_text b)
+
+pub record SomeAttribute (a : AttributeData) : Type 0 where
+  pub pool : List SlotData
+  pub in_method : Bool
+  pub attribute : IsAttribute pool in_method a
+
+pub record SomeMember (m : MemberData) : Type 0 where
+  pub pool : List SlotData
+  pub in_method : Bool
+  pub member : IsMember pool in_method m

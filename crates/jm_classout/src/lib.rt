@@ -1,0 +1,12 @@
+//! Class files written: the text of a class, and its length.
+#![tactic(auto)]
+
+mod parts;
+mod sizes;
+mod writing;
+
+pub use sizes::size;
+pub use writing::write;
+
+#[cfg(test)]
+mod tests;
