@@ -1,9 +1,9 @@
 -- Laws of the buckets of a table, in the order in which they are taken.
-use Rattle.std.proofs.Common.{◌≡◌, ◌≢◌, ℕ, zero, suc, ◌+◌, ◌==◌, ◌<◌, ◌≤◌, ◌⊎◌, inl, inr, List, [], ◌∷◌, ◌++◌, length, get_or, All, AllPairs, Contains, refl, sym, ap, ◌∙◌, arith}
+use Rattle.std.proofs.Common.{◌≡◌, ◌≢◌, ℕ, zero, suc, ◌==◌, ◌<◌, ◌≤◌, ◌⊎◌, inl, inr, List, [], ◌∷◌, ◌++◌, length, get_or, AllPairs, Contains, refl, sym, ap, ◌∙◌, arith}
 use Rattle.std.proofs.lemmas.Bool.{eqb-true, eq-eqb, cases_eq}
 use Rattle.std.proofs.lemmas.List.Elements.{All-append, Contains-append_left, Contains-append_right, Contains-append_cases, Contains-get_or}
 use Rattle.std.proofs.lemmas.List.Kept.{AllPairs-cons, AllPairs-filter}
-use Rattle.std.specs.List.{filter, range_with_len}
+use Rattle.std.specs.List.{range_with_len}
 use Rattle.jm_bytes.proofs.Members.{contains_none, contains_filter, from_filter, contains_range, from_range, length_filter, all_from_contains}
 use Rattle.jm_bytes.proofs.Pairs.{pairs_none, pairs_head, pairs_tail, range_rises}
 use Rattle.jm_form.specs.Greedy.{bucket_of, names_in, buckets_of_size, buckets_up_to, buckets_in_turn}
@@ -76,9 +76,9 @@ up_to_in_turn names slots (suc size) =
     let front = pairs_among (λ a b. a < b) (TakenBefore names slots) here (λ a b in_a in_b below. inr ((of_size names slots (suc size) a in_a).1 ∙ sym (of_size names slots (suc size) b in_b).1, below)) rising in
     pairs_append (TakenBefore names slots) here (buckets_up_to names slots size) front (up_to_in_turn names slots size)
     (λ a b in_a in_b.
-        let of = of_size names slots (suc size) a in_a in
-        let rest = from_up_to names slots size b in_b in
-        inl (omega (arith, of.1, rest.within)))
+    let of = of_size names slots (suc size) a in_a in
+    let rest = from_up_to names slots size b in_b in
+    inl (omega (arith, of.1, rest.within)))
 
 -- what is taken, and in which order
 pub from_turn : (names : List (List ℕ)) (slots bucket : ℕ) → Contains (buckets_in_turn names slots) bucket → IsBucket names slots (length names) bucket

@@ -1,9 +1,8 @@
 -- Laws of slots that differ and aren't taken.
-use Rattle.std.proofs.Common.{◌≡◌, ℕ, ◌==◌, ◌⊎◌, inl, inr, Bool, true, false, not, ◌&&◌, ◌||◌, List, [], ◌∷◌, ◌++◌, Contains, refl, sym, ap, ◌∙◌, subst}
+use Rattle.std.proofs.Common.{◌≡◌, ℕ, ◌==◌, inl, inr, Bool, true, false, not, ◌||◌, List, [], ◌∷◌, ◌++◌, refl, sym, ap, ◌∙◌}
 use Rattle.std.proofs.lemmas.Bool.{and_parts, and_from, and_left, and_right, or_cases, or_parts, or_from, or_left, or_right, not-true, not_from_true, not_from_false, eqb-true, ne_eqb, eqb-false, eq-eqb}
 use Rattle.std.proofs.lemmas.List.Folds.{list_any-append, list_all-append}
-use Rattle.std.specs.List.{list_any, list_all}
-use Rattle.jm_bytes.proofs.Members.{any_contains, from_any, contains_here, contains_later}
+use Rattle.std.specs.List.{list_all}
 use Rattle.jm_form.specs.Greedy.{is_among, differ, are_free}
 
 pub among_append : (xs ys : List ℕ) (slot : ℕ) → is_among (xs ++ ys) slot ≡ (is_among xs slot || is_among ys slot)
@@ -34,7 +33,7 @@ differ_more (s ∷ slots) slot differs new =
     let parts = and_parts (not (is_among slots s)) (differ slots) differs in
     let news = or_parts (s == slot) (is_among slots slot) new in
     let apart : is_among (slots ++ slot ∷ []) s ≡ false =
-        among_append slots (slot ∷ []) s ∙ or_from (is_among slots s) (is_among (slot ∷ []) s) (not-true (is_among slots s) parts.0) (or_from (slot == s) false (flips s slot news.0) refl) in
+    among_append slots (slot ∷ []) s ∙ or_from (is_among slots s) (is_among (slot ∷ []) s) (not-true (is_among slots s) parts.0) (or_from (slot == s) false (flips s slot news.0) refl) in
     and_from (not (is_among (slots ++ slot ∷ []) s)) (differ (slots ++ slot ∷ [])) (not_from_false (is_among (slots ++ slot ∷ []) s) apart) (differ_more slots slot parts.1 news.1)
 
 pub free_more : (taken slots : List ℕ) (slot : ℕ) → are_free taken slots ≡ true → is_among (slots ++ taken) slot ≡ false → are_free taken (slots ++ slot ∷ []) ≡ true
@@ -53,7 +52,7 @@ differ_twice (s ∷ front) back slot there =
     elim (or_cases (s == slot) (is_among front slot) there) [
       | inl here ↦
           let again : is_among rest s ≡ true =
-              among_append front (slot ∷ back) s ∙ or_right (is_among front s) (is_among (slot ∷ back) s) (or_left (slot == s) (is_among back s) (eq-eqb slot s (sym (eqb-true s slot here)))) in
+          among_append front (slot ∷ back) s ∙ or_right (is_among front s) (is_among (slot ∷ back) s) (or_left (slot == s) (is_among back s) (eq-eqb slot s (sym (eqb-true s slot here)))) in
           and_left (not (is_among rest s)) (differ rest) (not_from_true (is_among rest s) again)
       | inr later ↦ and_right (not (is_among rest s)) (differ rest) (differ_twice front back slot later)
     ]

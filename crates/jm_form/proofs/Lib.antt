@@ -1,6 +1,7 @@
 pub mod BucketLaws
 pub mod ComputedRowsLaws
 pub mod EntryLaws
+pub mod FitsLaws
 pub mod FreeLaws
 mod GreedyVectors
 pub mod HeadLaws

@@ -1,13 +1,12 @@
 -- A greedy table serves its names.
-use Rattle.std.proofs.Common.{◌≡◌, ◌≢◌, ℕ, zero, suc, ◌+◌, ◌-◌, ◌%◌, ◌^◌, ◌==◌, ◌<◌, ◌≤◌, ◌⊎◌, inl, inr, Bool, true, false, not, cond, ◌&&◌, ◌||◌, List, [], ◌∷◌, ◌++◌, Option, Some, None, length, map, get_or, All, AllPairs, Contains, option_map, refl, sym, ap, ◌∙◌, subst, arith}
+use Rattle.std.proofs.Common.{◌≡◌, ◌≢◌, ℕ, zero, suc, ◌-◌, ◌%◌, ◌^◌, ◌==◌, ◌<◌, ◌≤◌, ◌⊎◌, inl, inr, Bool, true, false, not, cond, ◌||◌, List, [], ◌∷◌, ◌++◌, Option, Some, None, length, map, get_or, All, AllPairs, Contains, option_map, refl, sym, ap, ◌∙◌, subst, arith}
 use Rattle.std.specs.Option.{option_and_then}
-use Rattle.std.proofs.lemmas.Bool.{false≢true, and_parts, not-true, cases_eq, cases_Bool, eqb-true, eqb-false, eq-eqb, ne_eqb, lt-ltb, le-ltb, or_left, or_right}
-use Rattle.std.proofs.lemmas.Bool.Decides.{nat_tests}
+use Rattle.std.proofs.lemmas.Bool.{false≢true, and_parts, not-true, cases_eq, eqb-true, eq-eqb, ne_eqb, lt-ltb, le-ltb, or_left, or_right}
 use Rattle.std.proofs.lemmas.List.{get_or-map, length-map}
 use Rattle.std.proofs.lemmas.List.Elements.{All-contains, All-map, All-nil, Contains-get_or}
 use Rattle.std.proofs.lemmas.List.FromFn.{length-range_with_len, length-map-range_with_len, get_or-map-range_with_len}
 use Rattle.std.proofs.lemmas.List.Kept.{AllPairs-cons}
-use Rattle.std.specs.List.{filter, filter_map, cons_option, find, range_with_len, list_all}
+use Rattle.std.specs.List.{filter, filter_map, cons_option, range_with_len, list_all}
 use Rattle.jm_bytes.proofs.Choice.{same_some}
 use Rattle.jm_bytes.proofs.Finds.{find_found}
 use Rattle.jm_bytes.proofs.Members.{contains_none, contains_here, contains_later, contains_cases, contains_filter, contains_filter_map, from_range, any_contains, all_from_contains}
@@ -15,10 +14,10 @@ use Rattle.jm_bytes.proofs.Pairs.{pairs_none, pairs_head, pairs_tail, pairs_filt
 use Rattle.jm_names.specs.Hash.{hash}
 use Rattle.jm_form.specs.declared.table.Redirect.{Redirect}
 use Rattle.jm_form.specs.declared.table.Redirect.TheVariants as redirect
-use Rattle.jm_form.specs.Greedy.{GreedyTable, greedy, given_in_turn, buckets_in_turn, names_in, bucket_of, redirect_in, redirect_for, slots_led, is_among, differ, are_free, fits, least_seed, least_free, seeds, table_of, word_of}
+use Rattle.jm_form.specs.Greedy.{GreedyTable, greedy, given_in_turn, buckets_in_turn, names_in, bucket_of, redirect_in, redirect_for, slots_led, is_among, differ, fits, least_seed, least_free, seeds, table_of, word_of}
 use Rattle.jm_form.specs.Serves.{Serves}
-use Rattle.jm_form.specs.Table.{redirect_of, slot_of, slot_below}
-use Rattle.jm_form.proofs.BucketLaws.{pairs_among, size_in, contains_turn, turns_differ}
+use Rattle.jm_form.specs.Table.{redirect_of, slot_of}
+use Rattle.jm_form.proofs.BucketLaws.{size_in, contains_turn, turns_differ}
 use Rattle.jm_form.proofs.FreeLaws.{among_append, free_untaken}
 
 -- Words
@@ -127,10 +126,10 @@ pairs_from_differ g (x ∷ xs) differs = go (g x) refl differs (λ rest. pairs_f
         let new = not-true (is_among (filter_map g xs) s) parts.0 in
         AllPairs-cons (Apart g) x xs
         (all_from_contains (Apart g x) xs
-          (λ y there a b ga gb same.
-              let own : s ≡ b = same_some s a (sym e ∙ ga) ∙ same in
-              let again = among_led g xs y b there gb in
-              false≢true (sym new ∙ ap (is_among (filter_map g xs)) own ∙ again)))
+        (λ y there a b ga gb same.
+        let own : s ≡ b = same_some s a (sym e ∙ ga) ∙ same in
+        let again = among_led g xs y b there gb in
+        false≢true (sym new ∙ ap (is_among (filter_map g xs)) own ∙ again)))
         (rest parts.1)
 
 -- a relation of the elements that pass
@@ -258,11 +257,11 @@ kept_all names slots taken given final done [] some few is kept pairs new = reco
 kept_all names slots taken given final done (k ∷ buckets) some few is kept pairs new =
     go (redirect_for slots taken (names_in names slots k)) refl is
     (λ r next got.
-        kept_all names slots (slots_led slots r (names_in names slots k) ++ taken) ((k, r) ∷ given) final (k ∷ done) buckets some few next (kept_next names slots taken given done k r kept got (new k (contains_here k buckets))) (pairs_tail (λ a b. a ≢ b) k buckets pairs)
-        (λ b there in_done. elim (contains_cases k done b in_done) [
-          | inl same ↦ All-contains (λ x. k ≢ x) buckets b (pairs_head (λ a c. a ≢ c) k buckets pairs) there same
-          | inr later ↦ new b (contains_later k buckets b there) later
-        ]))
+    kept_all names slots (slots_led slots r (names_in names slots k) ++ taken) ((k, r) ∷ given) final (k ∷ done) buckets some few next (kept_next names slots taken given done k r kept got (new k (contains_here k buckets))) (pairs_tail (λ a b. a ≢ b) k buckets pairs)
+    (λ b there in_done. elim (contains_cases k done b in_done) [
+      | inl same ↦ All-contains (λ x. k ≢ x) buckets b (pairs_head (λ a c. a ≢ c) k buckets pairs) there same
+      | inr later ↦ new b (contains_later k buckets b there) later
+    ]))
   where
     after : Redirect → Option (List (ℕ × Redirect))
     after r = given_in_turn names slots (slots_led slots r (names_in names slots k) ++ taken) ((k, r) ∷ given) buckets

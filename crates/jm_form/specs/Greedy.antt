@@ -1,7 +1,9 @@
 -- The greedy table of names (jimage 1.0): which redirect each bucket gets, and so which slot each
 -- name. It speaks of buckets and slots alone: no seed that fails leaves anything.
-use Rattle.std.specs.Prelude.{ℕ, zero, suc, ◌+◌, ◌-◌, ◌%◌, ◌^◌, ◌==◌, Bool, true, not, ◌&&◌, if◌then◌else◌}
+use Rattle.std.specs.Prelude.{ℕ, zero, suc, ◌+◌, ◌-◌, ◌%◌, ◌^◌, ◌==◌, Bool, true, not, ◌&&◌}
+use Rattle.std.specs.Prelude.{if◌then◌else◌}
 use Rattle.std.specs.Prelude.{List, [], ◌∷◌, ◌++◌, length, map, filter, find}
+use Rattle.std.specs.Prelude.{◌<◌, ◌≢◌, All, AllPairs, Contains}
 use Rattle.std.specs.Prelude.{Option, Some, None, option_map, option_and_then, unwrap_or}
 use Rattle.std.specs.List.{filter_map, list_any, list_all, range_with_len}
 use Rattle.std.specs.Option.{option_or}
@@ -71,7 +73,13 @@ slots_led slots given names = filter_map (λ name. slot_of slots name given) nam
 abbrev pub are_free : List ℕ → List ℕ → Bool
 are_free taken slots = differ slots && list_all (λ slot. not (is_among taken slot)) slots
 
--- the seed sends the names to slots that differ and aren't taken
+-- the rule: the seed sends the names to slots below the length that differ and aren't taken
+pub record Fits (names : List (List ℕ)) (slots seed : ℕ) (taken : List ℕ) : Type 0 where
+  pub below : All (λ name. hash seed name % slots < slots) names
+  pub differ : AllPairs (λ one other. hash seed one % slots ≢ hash seed other % slots) names
+  pub free : All (λ name. ¬ Contains taken (hash seed name % slots)) names
+
+-- the same as a test
 abbrev pub fits : ℕ → List ℕ → List (List ℕ) → ℕ → Bool
 fits slots taken names seed = are_free taken (slots_led slots (redirect.Seed seed) names)
 
@@ -104,7 +112,7 @@ given_in_turn names slots taken given [] = Some given
 given_in_turn names slots taken given (bucket ∷ buckets) =
     option_and_then
     (λ r. given_in_turn names slots
-        (slots_led slots r (names_in names slots bucket) ++ taken) ((bucket, r) ∷ given) buckets)
+    (slots_led slots r (names_in names slots bucket) ++ taken) ((bucket, r) ∷ given) buckets)
     (redirect_for slots taken (names_in names slots bucket))
 
 -- what a bucket got, or nothing
@@ -128,7 +136,8 @@ table_of names slots given = record {
 -- the greedy table of the names at a length, or none
 abbrev pub greedy : List (List ℕ) → ℕ → Option GreedyTable
 greedy names slots =
-    option_map (table_of names slots) (given_in_turn names slots [] [] (buckets_in_turn names slots))
+    option_map (table_of names slots)
+    (given_in_turn names slots [] [] (buckets_in_turn names slots))
 
 -- the greedy table at the first of some lengths that has one, or none
 abbrev pub greedy_among : List (List ℕ) → List ℕ → Option GreedyTable

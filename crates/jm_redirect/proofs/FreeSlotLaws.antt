@@ -1,6 +1,6 @@
 -- The least slot that isn't taken, looked for from a place on in front of which all are.
-use Rattle.std.proofs.Common.{◌≡◌, ℕ, zero, suc, ◌+◌, ◌-◌, ◌<◌, ◌≤◌, ◌⊎◌, inl, inr, Bool, true, false, not, cond, List, [], ◌∷◌, ◌++◌, Option, Some, None, length, get_or, refl, sym, ap, ◌∙◌, subst, arith}
-use Rattle.std.proofs.lemmas.Bool.{false≢true, not-true, not-false, not_from_true, not_from_false, lt-ltb, cases_lt}
+use Rattle.std.proofs.Common.{◌≡◌, ℕ, zero, suc, ◌+◌, ◌-◌, ◌<◌, ◌≤◌, ◌⊎◌, inl, inr, Bool, true, false, not, cond, List, [], ◌∷◌, Some, length, get_or, refl, sym, ap, ◌∙◌, arith}
+use Rattle.std.proofs.lemmas.Bool.{not-false, not_from_true, lt-ltb, cases_lt}
 use Rattle.std.specs.List.{find, range_with_len}
 use Rattle.jm_bytes.proofs.Choice.{same_some}
 use Rattle.jm_form.specs.declared.table.Redirect.TheVariants as redirect

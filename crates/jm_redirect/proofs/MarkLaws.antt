@@ -1,14 +1,13 @@
 -- Flags of slots: one name more that is sent, and marks that are set and taken away.
-use Rattle.std.proofs.Common.{◌≡◌, ◌≢◌, ℕ, zero, suc, ◌+◌, ◌-◌, ◌%◌, ◌==◌, ◌<◌, ◌≤◌, ◌⊎◌, inl, inr, Bool, true, false, not, cond, ◌||◌, List, [], ◌∷◌, ◌++◌, Option, Some, length, map, set, take, drop, get_or, refl, sym, ap, ◌∙◌, subst, arith}
-use Rattle.std.proofs.lemmas.Bool.{cond-true, cond-false, or_from, or_left, or_right, or_parts, cases_eq, eq-eqb, ne_eqb, lt-ltb}
+use Rattle.std.proofs.Common.{◌≡◌, ℕ, suc, ◌+◌, ◌-◌, ◌%◌, ◌==◌, ◌<◌, inl, inr, Bool, true, false, cond, ◌||◌, List, [], ◌∷◌, ◌++◌, Some, length, set, take, drop, get_or, refl, sym, ap, ◌∙◌, arith}
+use Rattle.std.proofs.lemmas.Bool.{or_from, or_left, or_right, cases_eq, eq-eqb, ne_eqb, lt-ltb}
 use Rattle.std.proofs.lemmas.List.{take_more, drop_more, take-append-drop, get_or-set_same, get_or-set_other, length-set, map-append}
 use Rattle.std.proofs.lemmas.List.Elements.{filter_map-append}
-use Rattle.std.specs.List.{find, filter_map, range_with_len}
-use Rattle.std.specs.Prelude.{slice_index_or}
+use Rattle.std.specs.List.{find, range_with_len}
 use Rattle.jm_names.specs.Hash.{hash}
 use Rattle.jm_form.specs.declared.table.Redirect.TheVariants as redirect
 use Rattle.jm_form.specs.Greedy.{is_among, are_free, slots_led}
-use Rattle.jm_form.specs.Table.{slot_of, slot_below}
+use Rattle.jm_form.specs.Table.{slot_of}
 use Rattle.jm_form.proofs.FreeLaws.{among_append, free_untaken}
 use Rattle.jm_redirect.specs.declared.turns.Turn.{Turn}
 use Rattle.jm_redirect.specs.Marks.{Marks, names_at, slots_sent}
@@ -89,12 +88,6 @@ pub find_next : (p : ℕ → Bool) (i n : ℕ) → i < n → p i ≡ false → f
 find_next p i n below fails =
     let left : n - i ≡ suc (n - (i + 1)) = omega arith in
     ap (λ m. find p (range_with_len i m)) left ∙ ap (λ b. cond b (Some i) (find p (range_with_len (i + 1) (n - (i + 1))))) fails
-
--- a number that passes is the first
-pub find_here : (p : ℕ → Bool) (i n : ℕ) → i < n → p i ≡ true → find p (range_with_len i (n - i)) ≡ Some i
-find_here p i n below passes =
-    let left : n - i ≡ suc (n - (i + 1)) = omega arith in
-    ap (λ m. find p (range_with_len i m)) left ∙ ap (λ b. cond b (Some i) (find p (range_with_len (i + 1) (n - (i + 1))))) passes
 
 -- the slots of all names, around the one at a place
 pub sent_split : (names : List (List ℕ)) (slots seed : ℕ) (turns : List Turn) (i : ℕ) (d : Turn) → 0 < slots → i < length turns → slots_sent names slots seed turns ≡ slots_sent names slots seed (take i turns) ++ (hash seed (get_or names (get_or turns i d).place []) % slots) ∷ slots_sent names slots seed (drop (i + 1) turns)

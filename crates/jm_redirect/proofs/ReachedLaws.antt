@@ -1,22 +1,22 @@
 -- One bucket more is given its redirect.
-use Rattle.std.proofs.Common.{◌≡◌, ◌≢◌, ℕ, zero, suc, ◌+◌, ◌-◌, ◌==◌, ◌<◌, ◌≤◌, ◌⊎◌, inl, inr, Bool, true, false, cond, List, [], ◌∷◌, ◌++◌, Option, Some, None, length, map, set, take, drop, get_or, replicate, All, Contains, option_map, refl, sym, ap, ◌∙◌, subst, arith}
+use Rattle.std.proofs.Common.{◌≡◌, ℕ, ◌-◌, ◌<◌, ◌≤◌, inl, inr, Bool, false, List, [], ◌∷◌, ◌++◌, Option, Some, None, length, map, set, take, drop, get_or, replicate, All, Contains, option_map, refl, sym, ap, ◌∙◌, subst, arith}
 use Rattle.std.specs.Option.{option_and_then}
 use Rattle.std.proofs.lemmas.Bool.{cases_eq, eq-eqb, ne_eqb, or_right}
-use Rattle.std.proofs.lemmas.List.{length-set, length-append, length-replicate, get_or-replicate, get_or-set_same, get_or-set_other, take-append-le, get_or_append_left}
+use Rattle.std.proofs.lemmas.List.{length-set, length-append, length-replicate, get_or-replicate, get_or-set_same, get_or-set_other, get_or_append_left}
 use Rattle.std.proofs.lemmas.List.Elements.{All-head, All-tail}
 use Rattle.std.proofs.lemmas.List.FromFn.{fill_by_all, length-map-range_with_len, get_or-map-range_with_len}
 use Rattle.std.proofs.Math.Seq.{drop-append_seam}
 use Rattle.std.specs.List.{flat_map, range_with_len}
-use Rattle.jm_bytes.proofs.Members.{contains_here, all_from_contains}
+use Rattle.jm_bytes.proofs.Members.{all_from_contains}
 use Rattle.jm_form.specs.declared.table.Redirect.{Redirect}
 use Rattle.jm_form.specs.declared.table.Redirect.TheVariants as redirect
 use Rattle.jm_form.specs.Greedy.{greedy, given_in_turn, buckets_in_turn, names_in, redirect_in, redirect_for, slots_led, is_among, table_of}
 use Rattle.jm_form.proofs.BucketLaws.{size_in, size_le, from_turn}
 use Rattle.jm_form.proofs.FreeLaws.{among_append}
 use Rattle.jm_redirect.specs.declared.turns.Turn.{Turn}
-use Rattle.jm_redirect.specs.Marks.{Marks, TakenBelow, AllWithin, names_at}
+use Rattle.jm_redirect.specs.Marks.{Marks, TakenBelow, AllWithin}
 use Rattle.jm_redirect.specs.Reached.{Reached, HasNames, turns_in}
-use Rattle.jm_redirect.proofs.TurnLaws.{names_of_turns, length-turns_in, from_turns_in}
+use Rattle.jm_redirect.proofs.TurnLaws.{length-turns_in, from_turns_in}
 
 -- the first of the buckets whose turns are left
 pub record First (names : List (List ℕ)) (slots : ℕ) (turns : List Turn) (buckets : List ℕ) : Type 0 where

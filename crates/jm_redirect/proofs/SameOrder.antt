@@ -1,5 +1,5 @@
 -- Lists of the same elements in the same strict order, and lists joined end to end.
-use Rattle.std.proofs.Common.{◌≡◌, ℕ, suc, ◌<◌, ◌⊎◌, inl, inr, Bool, true, false, cond, List, [], ◌∷◌, ◌++◌, length, map, All, AllPairs, Contains, refl, sym, ap, ◌∙◌, subst, arith}
+use Rattle.std.proofs.Common.{◌≡◌, ◌⊎◌, inl, inr, Bool, true, false, cond, List, [], ◌∷◌, map, All, AllPairs, Contains, refl, sym, ap, ◌∙◌, subst}
 use Rattle.std.proofs.lemmas.List.Elements.{All-contains, All-head, All-tail, Contains-append_left, Contains-append_right, Contains-append_cases}
 use Rattle.std.specs.List.{filter, flat_map}
 use Rattle.jm_bytes.proofs.Members.{contains_none, contains_here, contains_later, contains_cases}
@@ -62,8 +62,8 @@ pairs_flat_map S R f each across [] pairs = pairs_none R
 pairs_flat_map S R f each across (x ∷ xs) pairs =
     pairs_append R (f x) (flat_map f xs) (each x) (pairs_flat_map S R f each across xs (pairs_tail S x xs pairs))
     (λ a b in_a in_b.
-        let from = from_flat_map f xs b in_b in
-        across x from.0 (All-contains (S x) xs from.0 (pairs_head S x xs pairs) from.1) a b in_a from.2)
+    let from = from_flat_map f xs b in_b in
+    across x from.0 (All-contains (S x) xs from.0 (pairs_head S x xs pairs) from.1) a b in_a from.2)
 
 -- Filtered and mapped lists
 

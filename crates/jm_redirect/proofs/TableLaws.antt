@@ -1,21 +1,20 @@
 -- A greedy table and its parts, as they are built one after the other.
-use Rattle.std.proofs.Common.{◌≡◌, ℕ, ◌+◌, ◌%◌, ◌^◌, ◌<◌, ◌≤◌, List, [], ◌∷◌, ◌++◌, Option, Some, None, length, map, take, get_or, All, option_map, refl, sym, ap, ◌∙◌, subst, arith}
-use Rattle.std.proofs.lemmas.List.{take_more, get_or-map}
+use Rattle.std.proofs.Common.{◌≡◌, ℕ, ◌+◌, ◌^◌, ◌<◌, ◌≤◌, List, [], ◌∷◌, ◌++◌, Option, Some, None, length, map, take, get_or, All, option_map, refl, sym, ap, ◌∙◌, subst, arith}
+use Rattle.std.proofs.lemmas.List.{take_more}
 use Rattle.std.proofs.lemmas.List.Elements.{filter_map-append, All-head, All-tail}
 use Rattle.std.proofs.lemmas.List.FromFn.{length-map-range_with_len, get_or-map-range_with_len}
 use Rattle.std.proofs.lemmas.Int.{of_z-to_z}
-use Rattle.std.specs.Int.{w32, cast_signed, cast_unsigned}
+use Rattle.std.specs.Int.{w32, cast_unsigned}
 use Rattle.std.specs.List.{filter_map, cons_option, range_with_len}
 use Rattle.std.specs.Option.{option_to_list}
 use Rattle.std.specs.Prelude.{ℤ}
 use Rattle.jm_bytes.proofs.Choice.{same_some}
-use Rattle.jm_names.specs.Hash.{hash, default_seed}
 use Rattle.jm_form.specs.declared.table.Redirect.{Redirect}
 use Rattle.jm_form.specs.declared.table.Redirect.TheVariants as redirect
 use Rattle.jm_form.specs.Greedy.{GreedyTable, greedy, greedy_among, given_in_turn, buckets_in_turn, bucket_of, redirect_in, table_of, word_of}
 use Rattle.jm_form.specs.Serves.{Serves}
 use Rattle.jm_form.specs.Table.{slot_of}
-use Rattle.jm_form.proofs.ServesLaws.{Served, greedy_serves}
+use Rattle.jm_form.proofs.ServesLaws.{greedy_serves}
 use Rattle.jm_redirect.specs.declared.building.Table.{Table}
 use Rattle.jm_redirect.specs.Built.{words_of, with_words, first_table, ServesNames}
 use Rattle.jm_redirect.proofs.LengthLaws.{lengths_left, among_here}
@@ -46,8 +45,8 @@ slots_of_table (first ∷ names) slots given enough =
     let long = length-map-range_with_len (redirect_in given) 0 slots in
     filter_map_same (slot_by redirects) (λ name. slot_of slots name (redirect_in given (bucket_of slots name))) (first ∷ names)
     (λ name.
-        let below : bucket_of slots name < slots = omega arith in
-        ap (λ n. slot_of n name (get_or redirects (bucket_of n name) redirect.Nowhere)) long ∙ ap (slot_of slots name) (get_or-map-range_with_len (redirect_in given) 0 slots (bucket_of slots name) (bucket_of slots name) redirect.Nowhere below (omega arith)))
+    let below : bucket_of slots name < slots = omega arith in
+    ap (λ n. slot_of n name (get_or redirects (bucket_of n name) redirect.Nowhere)) long ∙ ap (slot_of slots name) (get_or-map-range_with_len (redirect_in given) 0 slots (bucket_of slots name) (bucket_of slots name) redirect.Nowhere below (omega arith)))
 
 -- the table of these redirects
 pub record IsTableOf (names : List (List ℕ)) (slots : ℕ) (redirects : List Redirect) : Type 0 where

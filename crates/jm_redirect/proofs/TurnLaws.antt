@@ -1,6 +1,6 @@
 -- The turns of names in order are those of the buckets in turn.
-use Rattle.std.proofs.Common.{◌≡◌, ◌≢◌, ℕ, zero, suc, ◌+◌, ◌-◌, ◌%◌, ◌==◌, ◌<◌, ◌≤◌, ◌⊎◌, inl, inr, Bool, true, false, List, [], ◌∷◌, ◌++◌, length, map, get_or, take, drop, All, AllPairs, Contains, IsPermutation, IsSorted, refl, sym, ap, ◌∙◌, subst, arith}
-use Rattle.std.proofs.lemmas.Bool.{eqb-true, eq-eqb, cases_eq, cases_order}
+use Rattle.std.proofs.Common.{◌≡◌, ◌≢◌, ℕ, ◌+◌, ◌-◌, ◌%◌, ◌==◌, ◌<◌, ◌≤◌, ◌⊎◌, inl, inr, Bool, false, List, [], length, map, get_or, AllPairs, Contains, IsPermutation, IsSorted, refl, sym, ap, ◌∙◌, arith}
+use Rattle.std.proofs.lemmas.Bool.{eqb-true, eq-eqb, cases_eq}
 use Rattle.std.proofs.lemmas.Bool.Decides.{nat_tests}
 use Rattle.std.proofs.lemmas.Cmp.{on_total, then_total, nat_cmp_total}
 use Rattle.std.proofs.lemmas.List.{length-map, get_or-map}
@@ -12,10 +12,10 @@ use Rattle.std.specs.Cmp.{IsTotalOrder}
 use Rattle.std.specs.List.{filter, flat_map, range_with_len}
 use Rattle.std.specs.Ordering.{is_lt}
 use Rattle.jm_names.specs.Hash.{hash, default_seed}
-use Rattle.jm_bytes.proofs.Members.{contains_filter, from_filter, contains_map, from_map, contains_range, from_range}
+use Rattle.jm_bytes.proofs.Members.{contains_filter, from_filter, from_map, from_range}
 use Rattle.jm_bytes.proofs.Pairs.{pairs_map, range_rises}
 use Rattle.jm_form.specs.Greedy.{bucket_of, names_in, buckets_in_turn}
-use Rattle.jm_form.proofs.BucketLaws.{pairs_among, size_in, TakenBefore, size_le, from_turn, contains_turn, taken_in_turn}
+use Rattle.jm_form.proofs.BucketLaws.{pairs_among, size_in, TakenBefore, size_le, contains_turn, taken_in_turn}
 use Rattle.jm_redirect.specs.declared.turns.Turn.{Turn}
 use Rattle.jm_redirect.specs.Marks.{names_at}
 use Rattle.jm_redirect.specs.Reached.{turns_in}
@@ -107,10 +107,13 @@ not_after_place a b not_below others bucket = grind (arith, nat_tests)
 
 before_from : (a b : Turn) → is_lt (turn_cmp b a) ≡ false → a.place ≢ b.place → Before a b
 before_from a b not_below apart = elim (cases_eq a.others b.others) [
-  | inl others ↦ inr (others, elim (cases_eq a.bucket b.bucket) [
+  | inl others ↦ inr (
+    others,
+    elim (cases_eq a.bucket b.bucket) [
       | inl bucket ↦ let place = not_after_place a b not_below others bucket in inr (bucket, omega arith)
       | inr other ↦ let bucket = not_after_bucket a b not_below others in inl (omega arith)
-    ])
+    ],
+  )
   | inr other ↦ let others = not_after_others a b not_below in inl (omega arith)
 ]
 
@@ -147,9 +150,9 @@ one_bucket names slots bucket =
     let rising = AllPairs-filter (λ (a b : Turn). a.place < b.place) (λ (t : Turn). t.bucket == bucket) (turns_of (hashes_of names) slots) (places_rise (hashes_of names) slots) in
     pairs_among (λ (a b : Turn). a.place < b.place) Before (turns_in names slots bucket)
     (λ a b in_a in_b below.
-        let ta = from_turns_in names slots bucket a in_a in
-        let tb = from_turns_in names slots bucket b in_b in
-        inr (ta.others_is ∙ sym tb.others_is, inr (ta.bucket_is ∙ sym tb.bucket_is, below)))
+    let ta = from_turns_in names slots bucket a in_a in
+    let tb = from_turns_in names slots bucket b in_b in
+    inr (ta.others_is ∙ sym tb.others_is, inr (ta.bucket_is ∙ sym tb.bucket_is, below)))
     rising
 
 two_buckets : (names : List (List ℕ)) (slots j k : ℕ) → TakenBefore names slots j k → (a b : Turn) → Contains (turns_in names slots j) a → Contains (turns_in names slots k) b → Before a b
@@ -172,15 +175,15 @@ sorted_in_turn names slots ts some moved sorted =
     let size : length hashes ≡ length names = simp length-map refl in
     same_order Before strict ts (flat_map (turns_in names slots) buckets) (sorted_before hashes slots ts moved sorted) (pairs_flat_map (TakenBefore names slots) Before (turns_in names slots) (one_bucket names slots) (two_buckets names slots) buckets (taken_in_turn names slots))
     (λ t there.
-        let of_all = Contains-permutation ts all t (IsPermutation-sym all ts moved) there in
-        let at = from_map (turn_at hashes slots) (range_with_len 0 (length hashes)) t of_all in
-        let range = from_range 0 (length hashes) at.0 at.1 in
-        let positive : 0 < slots = some (omega (arith, range.1, size)) in
-        let own : t.bucket ≡ get_or hashes at.0 0 % slots = ap (λ (x : Turn). x.bucket) (sym at.2) in
-        let below : t.bucket < slots = omega (arith, own, positive) in
-        let here = contains_filter (λ (x : Turn). x.bucket == t.bucket) all t of_all (eq-eqb t.bucket t.bucket refl) in
-        let many : 0 < size_in names slots t.bucket = omega (arith, here.1, length-turns_in names slots t.bucket) in
-        contains_flat_map (turns_in names slots) buckets t.bucket t (contains_turn names slots t.bucket below many) here)
+    let of_all = Contains-permutation ts all t (IsPermutation-sym all ts moved) there in
+    let at = from_map (turn_at hashes slots) (range_with_len 0 (length hashes)) t of_all in
+    let range = from_range 0 (length hashes) at.0 at.1 in
+    let positive : 0 < slots = some (omega (arith, range.1, size)) in
+    let own : t.bucket ≡ get_or hashes at.0 0 % slots = ap (λ (x : Turn). x.bucket) (sym at.2) in
+    let below : t.bucket < slots = omega (arith, own, positive) in
+    let here = contains_filter (λ (x : Turn). x.bucket == t.bucket) all t of_all (eq-eqb t.bucket t.bucket refl) in
+    let many : 0 < size_in names slots t.bucket = omega (arith, here.1, length-turns_in names slots t.bucket) in
+    contains_flat_map (turns_in names slots) buckets t.bucket t (contains_turn names slots t.bucket below many) here)
     (λ t there.
-        let from = from_flat_map (turns_in names slots) buckets t there in
-        Contains-permutation all ts t moved (from_filter (λ (x : Turn). x.bucket == from.0) all t from.2).0)
+    let from = from_flat_map (turns_in names slots) buckets t there in
+    Contains-permutation all ts t moved (from_filter (λ (x : Turn). x.bucket == from.0) all t from.2).0)

@@ -1,5 +1,6 @@
 -- The flags of the slots that are taken, as the code keeps them (this project's rule).
-use Rattle.std.specs.Prelude.{ℕ, ◌≡◌, ◌<◌, Bool, true, false, List, [], length, map, All, slice_index_or}
+use Rattle.std.specs.Prelude.{ℕ, ◌≡◌, ◌<◌, Bool, true, false, List, [], length, map, All}
+use Rattle.std.specs.Prelude.{slice_index_or}
 use Rattle.jm_form.specs.declared.table.Redirect.TheVariants as redirect
 use Rattle.jm_form.specs.Greedy.{is_among, slots_led}
 use Rattle.jm_redirect.specs.declared.turns.Turn.{Turn}

@@ -33,4 +33,4 @@ pub record Reached (names : List (List ℕ)) (slots : ℕ) (flags : List Bool)
   pub left : turns ≡ flat_map (turns_in names slots) buckets
   pub sound : All (HasNames names slots) buckets
   pub leads : given_in_turn names slots [] [] (buckets_in_turn names slots) ≡
-    given_in_turn names slots taken given buckets
+      given_in_turn names slots taken given buckets

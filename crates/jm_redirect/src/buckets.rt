@@ -1,5 +1,6 @@
 //! The redirects that buckets get, in turn.
-ghost use Rattle.std.specs.Prelude.{◌≡◌, ◌<◌, ◌≤◌, ◌^◌, ◌++◌, ℕ, List, Some, None, map, length, option_map, option_to_list, IfOk, IfSome, IfNone};
+ghost use Rattle.std.specs.Prelude.{◌≡◌, ◌<◌, ◌≤◌, ◌^◌, ◌++◌, ℕ, List, Some, None, map, length};
+ghost use Rattle.std.specs.Prelude.{option_map, option_to_list, IfOk, IfSome, IfNone};
 ghost use Rattle.std.specs.Bool.{OnTrue, OnFalse};
 ghost use Rattle.jm_names.specs.Hash.{hash, default_seed};
 ghost use Rattle.jm_form.specs.Greedy.{greedy, least_seed, least_free, redirect_for, slots_led};
@@ -13,7 +14,7 @@ use jm_bytes::{List, NoMemory, Text};
 use jm_form::Redirect;
 use std::alloc::Global;
 
-/// The greatest seed that is tried (jimage 1.0 leaves it open; this project's rule).
+/// The greatest seed that is tried, as in the JDK (jimage 1.0).
 const LAST_SEED: u32 = 1000;
 
 /// The least seed that sends the names to slots which differ and aren't taken. They are marked.
@@ -87,8 +88,8 @@ fn give_first<'a>(
 ) -> Option<&'a [Turn]>
     requires some { 0 < length turns.now }
     requires few { length redirects.old < 2 ^ 32 }
-    requires reached {
-        Reached names.now (length redirects.old) taken.old redirects.old free.old turns.now }
+    requires reached { Reached names.now (length redirects.old)
+        taken.old redirects.old free.old turns.now }
     ensures reached { IfSome result (λ others.
         Reached names.now (length redirects.old) taken.new redirects.new free.new others.now) }
     ensures shorter { IfSome result (λ others. length others.now < length turns.now) }
@@ -102,15 +103,10 @@ fn give_first<'a>(
 }
 
 /// Gives the buckets of the turns their redirects, in turn, or answers that one of them gets none.
-fn give_all(
-    names: &[Text],
-    turns: &[Turn],
-    taken: &mut [bool],
-    redirects: &mut [Redirect],
-) -> bool
+fn give_all(names: &[Text], turns: &[Turn], taken: &mut [bool], redirects: &mut [Redirect]) -> bool
     requires few { length redirects.old < 2 ^ 32 }
-    requires reached {
-        Reached names.now (length redirects.old) taken.old redirects.old 0 turns.now }
+    requires reached { Reached names.now (length redirects.old)
+        taken.old redirects.old 0 turns.now }
     ensures all { OnTrue result (option_map (λ table. table.redirects)
         (greedy names.now (length redirects.old)) ≡ Some redirects.new) }
     ensures none { OnFalse result (greedy names.now (length redirects.old) ≡ None) }

@@ -1,11 +1,13 @@
-ghost use Rattle.std.specs.Prelude.{◌≡◌, ◌+◌, ◌<◌, ◌≤◌, ◌^◌, ◌++◌, Some, map, length, option_map, slice_index_or, option_to_list, IfOk, IfErr, OnOk};
+ghost use Rattle.std.specs.Prelude.{◌≡◌, ◌+◌, ◌<◌, ◌≤◌, ◌^◌, ◌++◌, Some, map, length, option_map};
+ghost use Rattle.std.specs.Prelude.{slice_index_or, option_to_list, IfOk, IfErr, OnOk};
 ghost use Rattle.std.specs.Int.{w32, cast_signed};
 ghost use Rattle.std.specs.List.{filter_map};
 ghost use Rattle.jm_names.specs.Hash.{hash, default_seed};
 ghost use Rattle.jm_form.specs.declared.table.Redirect.TheVariants.{Nowhere};
 ghost use Rattle.jm_form.specs.Greedy.{greedy, bucket_of, next_length, word_of};
 ghost use Rattle.jm_form.specs.Table.{slot_of};
-ghost use Rattle.jm_redirect.specs.Built.{words_of, with_words, first_table, IsRefusal, ServesNames};
+ghost use Rattle.jm_redirect.specs.Built.{words_of, with_words, first_table, IsRefusal};
+ghost use Rattle.jm_redirect.specs.Built.{ServesNames};
 
 use crate::buckets::redirects_at;
 use crate::hashes::{default_hashes, slot_of};
@@ -14,7 +16,7 @@ use jm_bytes::{List, NoMemory, Text};
 use jm_form::Redirect;
 use std::alloc::Global;
 
-/// How many lengths are tried.
+/// How many lengths are tried (this project's rule).
 const LENGTHS: u32 = 64;
 
 /// Why no table is built.
@@ -82,7 +84,7 @@ fn slots_of(
     requires few { length redirects.now < 2 ^ 32 }
     ensures { IfOk result (λ slots. slots ≡ filter_map
         (λ name. slot_of (length redirects.now) name
-            (slice_index_or redirects.now (bucket_of (length redirects.now) name) Nowhere))
+        (slice_index_or redirects.now (bucket_of (length redirects.now) name) Nowhere))
         names.now) }
 {
     let mut slots = room_for(alloc, names.len())?;
@@ -134,7 +136,8 @@ fn next_length(length: u32) -> u32
 /// on.
 pub fn build(alloc: Global, names: &[Text]) -> Result<Table, BuildError>
     requires { length names.now ≤ 1048576 }
-    ensures table { IfOk result (λ table. option_map with_words (first_table names.now) ≡ Some table) }
+    ensures table { IfOk result
+        (λ table. option_map with_words (first_table names.now) ≡ Some table) }
     ensures serves { IfOk result (ServesNames names.now) }
     ensures refused { IfErr result (IsRefusal names.now) }
 {

@@ -1,5 +1,6 @@
 //! The flags of the slots that are taken, while seeds are tried.
-ghost use Rattle.std.specs.Prelude.{◌≡◌, ◌<◌, ◌-◌, ◌%◌, ◌++◌, [], ℕ, List, Bool, true, false, not, All, find, length, slice_index_or, if◌then◌else◌};
+ghost use Rattle.std.specs.Prelude.{◌≡◌, ◌<◌, ◌-◌, ◌%◌, ◌++◌, [], ℕ, List, Bool, true, false, not};
+ghost use Rattle.std.specs.Prelude.{All, find, length, slice_index_or, if◌then◌else◌};
 ghost use Rattle.std.specs.List.{range_with_len};
 ghost use Rattle.jm_names.specs.Hash.{hash};
 ghost use Rattle.jm_form.specs.Greedy.{is_among, are_free};
@@ -25,7 +26,7 @@ fn unmark(names: &[Text], turns: &[Turn], seed: u32, slots: u32, taken: &mut [bo
     requires size { length taken.old ≡ slots }
     ensures { (slot : ℕ) → slot < slots → slice_index_or taken.new slot false ≡
         (if is_among (slots_sent names.now slots seed turns.now) slot then false
-            else slice_index_or taken.old slot false) }
+        else slice_index_or taken.old slot false) }
 {
     for turn in turns {
         taken[slot_with(names, turn, seed, slots) as usize] = false;

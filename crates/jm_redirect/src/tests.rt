@@ -12,18 +12,45 @@ fn texts_of(alloc: Global, names: &[&str]) -> Result<Vec<Text>, Fail> {
     Ok(texts)
 }
 
+/// Whether the table of the names has this length, these redirect words and these slots.
+fn has_table(
+    alloc: Global,
+    names: &[&str],
+    length: u32,
+    redirect: &[i32],
+    slots: &[u32],
+) -> Result<bool, Fail> {
+    let texts = texts_of(alloc, names)?;
+    if texts.len() > 1_048_576 {
+        return Ok(false);
+    }
+    let table = build(alloc, texts.as_slice())?;
+    Ok(
+        table.length == length
+            && table.redirect.as_slice() == redirect
+            && table.slot_of.as_slice() == slots,
+    )
+}
+
 #[test]
 fn a_few_names_have_their_tables(rt: HostRuntime) -> Result<(), Fail> {
-    let names = texts_of(rt.alloc(), &["a", "b", "c"])?;
-    for (count, length, redirect, slots) in [
-        (0, 0, [].as_slice(), [].as_slice()),
-        (1, 1, [-1].as_slice(), [0].as_slice()),
-        (3, 3, [0, -3, 1].as_slice(), [1, 0, 2].as_slice()),
+    for (names, length, redirect, slots) in [
+        ([].as_slice(), 0, [].as_slice(), [].as_slice()),
+        (["a"].as_slice(), 1, [-1].as_slice(), [0].as_slice()),
+        (
+            ["a", "b", "c"].as_slice(),
+            3,
+            [0, -3, 1].as_slice(),
+            [1, 0, 2].as_slice(),
+        ),
+        (
+            ["/packages", "/modules"].as_slice(),
+            3,
+            [-1, -2, 0].as_slice(),
+            [1, 0].as_slice(),
+        ),
     ] {
-        let table = build(rt.alloc(), &names[..count])?;
-        assert_eq!(rt; table.length, length);
-        assert_eq!(rt; table.redirect.as_slice(), redirect);
-        assert_eq!(rt; table.slot_of.as_slice(), slots);
+        assert!(rt; has_table(rt.alloc(), names, length, redirect, slots)?);
     }
     Ok(())
 }

@@ -34,12 +34,7 @@ fn bucket_sizes(alloc: Global, hashes: &[u32], slots: u32) -> Result<Vec<u32>, N
 }
 
 /// The turns of the names with these hashes, by rising place.
-fn turns_of(
-    alloc: Global,
-    hashes: &[u32],
-    slots: u32,
-    sizes: &[u32],
-) -> Result<Vec<Turn>, NoMemory>
+fn turns_of(alloc: Global, hashes: &[u32], slots: u32, sizes: &[u32]) -> Result<Vec<Turn>, NoMemory>
     requires some { 0 < length hashes.now → 0 < slots }
     requires few { length hashes.now < 2 ^ 32 }
     requires sizes { sizes.now ≡ map (size_of hashes.now slots) (range_with_len 0 slots) }
@@ -58,11 +53,7 @@ fn turns_of(
 }
 
 /// The turns of the names with these hashes, in order, in a table of so many slots.
-pub fn turns_in_order(
-    alloc: Global,
-    hashes: &[u32],
-    slots: u32,
-) -> Result<Vec<Turn>, NoMemory>
+pub fn turns_in_order(alloc: Global, hashes: &[u32], slots: u32) -> Result<Vec<Turn>, NoMemory>
     requires some { 0 < length hashes.now → 0 < slots }
     requires few { length hashes.now < 2 ^ 32 }
     ensures moved { IfOk result (λ turns. IsPermutation (turns_of hashes.now slots) turns.items) }

@@ -1,4 +1,4 @@
-use Rattle.std.proofs.Common.{◌≡◌, length, sym, ap, ◌∙◌, arith}
+use Rattle.std.proofs.Common.{length, sym}
 use Rattle.std.proofs.lemmas.Bool.{eqb-true}
 use Rattle.jm_redirect.proofs.ReachedLaws.{reached_all}
 use Rattle.jm_redirect.proofs.buckets.give_all.Goals as goal

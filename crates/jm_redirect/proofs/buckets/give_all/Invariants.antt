@@ -1,4 +1,4 @@
-use Rattle.std.proofs.Common.{◌≡◌, length}
+use Rattle.std.proofs.Common.{length}
 use Rattle.jm_redirect.specs.Reached.{Reached}
 use Rattle.jm_redirect.proofs.buckets.give_all.Given as goal
 

@@ -1,10 +1,9 @@
-use Rattle.std.proofs.Common.{◌≡◌, ◌-◌, ◌<◌, ◌≤◌, ◌++◌, ℕ, List, length, take, drop, get_or, sym, subst, ap, ◌∙◌, arith}
-use Rattle.jm_form.specs.Greedy.{names_in, redirect_for, slots_led}
+use Rattle.std.proofs.Common.{◌++◌, length, sym, subst, ap, ◌∙◌, arith}
+use Rattle.jm_form.specs.Greedy.{redirect_for, slots_led}
 use Rattle.jm_redirect.specs.Marks.{Marks, AllWithin, names_at}
-use Rattle.jm_redirect.specs.Reached.{Reached, turns_in}
 use Rattle.jm_redirect.specs.declared.turns.Turn.{Turn}
 use Rattle.jm_redirect.proofs.ReachedLaws.{first_of, first_says, turns_within, reached_next, reached_none}
-use Rattle.jm_redirect.proofs.TurnLaws.{names_of_turns, length-turns_in}
+use Rattle.jm_redirect.proofs.TurnLaws.{names_of_turns}
 use Rattle.jm_redirect.proofs.buckets.give_first.Goals as goal
 
 abbrev no_turn : Turn

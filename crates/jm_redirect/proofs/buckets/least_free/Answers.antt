@@ -1,4 +1,4 @@
-use Rattle.std.proofs.Common.{◌≡◌, ◌<◌, length, sym, ◌∙◌, arith}
+use Rattle.std.proofs.Common.{sym, ◌∙◌, arith}
 use Rattle.jm_redirect.proofs.FreeSlotLaws.{least_free_from, free_found, taken_below_found}
 use Rattle.jm_redirect.proofs.buckets.least_free.Goals as goal
 

@@ -1,4 +1,4 @@
-use Rattle.std.proofs.Common.{◌≡◌, ◌<◌, ◌++◌, ℕ, List, true, false, cond, sym, subst, ap, ◌∙◌, arith}
+use Rattle.std.proofs.Common.{◌≡◌, ◌++◌, cond, sym, subst, ap, ◌∙◌, arith}
 use Rattle.std.specs.List.{find}
 use Rattle.jm_form.specs.Greedy.{fits}
 use Rattle.jm_redirect.specs.Marks.{Marks, names_at, slots_sent}

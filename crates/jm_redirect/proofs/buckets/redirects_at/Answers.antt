@@ -1,4 +1,4 @@
-use Rattle.std.proofs.Common.{◌≡◌, ◌<◌, length, IsPermutation, sym, subst, ap, ◌∙◌, arith}
+use Rattle.std.proofs.Common.{IsPermutation, subst, ◌∙◌, arith}
 use Rattle.std.proofs.lemmas.List.{length-replicate}
 use Rattle.jm_form.specs.declared.table.Redirect.TheVariants as redirect
 use Rattle.jm_redirect.specs.Turns.{turns_of}

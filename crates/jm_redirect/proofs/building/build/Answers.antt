@@ -1,5 +1,5 @@
-use Rattle.std.proofs.Common.{◌≡◌, ◌<◌, ◌≤◌, ◌+◌, ◌^◌, length, refl, sym, ap, ◌∙◌, arith}
-use Rattle.jm_form.specs.Greedy.{greedy_among, table_lengths, next_length}
+use Rattle.std.proofs.Common.{◌<◌, ◌+◌, ◌^◌, length, refl, sym, ap, ◌∙◌, arith}
+use Rattle.jm_form.specs.Greedy.{greedy_among, table_lengths}
 use Rattle.jm_redirect.proofs.LengthLaws.{lengths_left, lengths_all, lengths_none, among_later, among_none, next_within}
 use Rattle.jm_redirect.proofs.TableLaws.{built, built_serves, not_built}
 use Rattle.jm_redirect.proofs.building.build.Goals as goal

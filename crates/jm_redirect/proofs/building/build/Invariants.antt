@@ -1,4 +1,4 @@
-use Rattle.std.proofs.Common.{◌≡◌, ◌+◌, ◌*◌, ◌≤◌, length, None}
+use Rattle.std.proofs.Common.{◌≡◌, ◌+◌, ◌*◌, ◌≤◌, length}
 use Rattle.jm_form.specs.Greedy.{greedy_among}
 use Rattle.jm_redirect.specs.Built.{first_table}
 use Rattle.jm_redirect.proofs.LengthLaws.{lengths_left}

@@ -1,10 +1,10 @@
-use Rattle.std.proofs.Common.{◌≡◌, ◌%◌, ◌++◌, length, get_or, ap, ◌∙◌}
+use Rattle.std.proofs.Common.{◌%◌, ◌++◌, length, get_or, ap, ◌∙◌}
 use Rattle.std.proofs.lemmas.List.{get_or-map}
 use Rattle.std.specs.Option.{option_to_list}
 use Rattle.jm_names.specs.Hash.{hash, default_seed}
 use Rattle.jm_form.specs.declared.table.Redirect.TheVariants.{Nowhere}
 use Rattle.jm_form.specs.Table.{slot_of}
-use Rattle.jm_redirect.proofs.TableLaws.{slot_by, slots_more}
+use Rattle.jm_redirect.proofs.TableLaws.{slots_more}
 use Rattle.jm_redirect.proofs.building.slots_of.Goals as goal
 
 pub loop-place-preserved : goal.loop-place-preserved

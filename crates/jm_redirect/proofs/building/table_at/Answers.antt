@@ -1,5 +1,4 @@
-use Rattle.std.proofs.Common.{◌≡◌, ◌<◌, ◌≤◌, length, Some, sym, ap, ◌∙◌, option_map, arith}
-use Rattle.jm_form.specs.Greedy.{greedy}
+use Rattle.std.proofs.Common.{length, sym, ap, ◌∙◌, arith}
 use Rattle.std.specs.List.{filter_map}
 use Rattle.jm_redirect.specs.Built.{words_of}
 use Rattle.jm_redirect.proofs.TableLaws.{slot_by, table_with, table_made}

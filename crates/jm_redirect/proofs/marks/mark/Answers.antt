@@ -1,4 +1,4 @@
-use Rattle.std.proofs.Common.{◌≡◌, ◌<◌, ◌+◌, ◌++◌, ◌∷◌, [], true, false, List, ℕ, length, take, drop, set, sym, subst, ap, ◌∙◌, arith}
+use Rattle.std.proofs.Common.{◌<◌, ◌+◌, ◌++◌, ◌∷◌, [], true, length, take, drop, set, sym, subst, ap, ◌∙◌, arith}
 use Rattle.jm_form.specs.Greedy.{are_free}
 use Rattle.jm_form.proofs.FreeLaws.{free_more, not_free}
 use Rattle.jm_redirect.specs.Marks.{Marks, slots_sent}

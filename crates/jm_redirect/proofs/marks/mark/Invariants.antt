@@ -1,4 +1,4 @@
-use Rattle.std.proofs.Common.{◌≡◌, ℕ, ◌<◌, ◌++◌, true, List, take}
+use Rattle.std.proofs.Common.{◌≡◌, ℕ, ◌++◌, true, List, take}
 use Rattle.jm_form.specs.Greedy.{are_free}
 use Rattle.jm_redirect.specs.Marks.{Marks, slots_sent}
 use Rattle.jm_redirect.proofs.marks.mark.Given as goal

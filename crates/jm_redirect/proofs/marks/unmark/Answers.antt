@@ -1,4 +1,4 @@
-use Rattle.std.proofs.Common.{◌≡◌, ◌<◌, ◌++◌, ◌∷◌, [], false, cond, length, take, get_or, sym, ap, ◌∙◌, arith}
+use Rattle.std.proofs.Common.{◌<◌, ◌++◌, ◌∷◌, [], false, cond, length, take, get_or, sym, ap, ◌∙◌, arith}
 use Rattle.jm_form.specs.Greedy.{is_among}
 use Rattle.jm_redirect.specs.Marks.{slots_sent}
 use Rattle.jm_redirect.proofs.MarkLaws.{sent_more, unmarked_more}

@@ -1,4 +1,4 @@
-use Rattle.std.proofs.Common.{◌≡◌, ℕ, ◌<◌, false, take, length}
+use Rattle.std.proofs.Common.{◌≡◌, ℕ, ◌<◌, false, take}
 use Rattle.std.specs.Prelude.{slice_index_or, if◌then◌else◌}
 use Rattle.jm_form.specs.Greedy.{is_among}
 use Rattle.jm_redirect.specs.Marks.{slots_sent}

@@ -1,4 +1,4 @@
-use Rattle.std.proofs.Common.{◌≡◌, ◌-◌, ◌≤◌, false, not, length}
+use Rattle.std.proofs.Common.{◌≡◌, ◌-◌, false, not, length}
 use Rattle.std.specs.Prelude.{slice_index_or}
 use Rattle.std.specs.List.{find, range_with_len}
 use Rattle.jm_redirect.proofs.marks.unmarked_from.Given as goal

@@ -1,4 +1,4 @@
-use Rattle.std.proofs.Common.{◌≡◌, ◌<◌, ◌≤◌, ◌%◌, ◌+◌, set, length, get_or, refl, sym, ap, ◌∙◌, arith}
+use Rattle.std.proofs.Common.{◌<◌, ◌%◌, ◌+◌, set, length, get_or, refl, ap, ◌∙◌, arith}
 use Rattle.std.proofs.lemmas.List.{get_or_default}
 use Rattle.jm_redirect.proofs.SizeLaws.{length-sizes, sizes_none, sizes_fit, sizes_more}
 use Rattle.jm_redirect.proofs.turns.bucket_sizes.Goals as goal

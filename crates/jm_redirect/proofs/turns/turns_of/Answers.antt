@@ -1,5 +1,5 @@
-use Rattle.std.proofs.Common.{◌≡◌, ◌<◌, ◌≤◌, ◌%◌, ◌++◌, ◌∷◌, [], length, get_or, refl, sym, ap, ◌∙◌, arith, rules}
-use Rattle.jm_redirect.proofs.SizeLaws.{size_of_le, length-sizes, size_at, turns_more}
+use Rattle.std.proofs.Common.{◌<◌, ◌%◌, length, get_or, ap, ◌∙◌, arith}
+use Rattle.jm_redirect.proofs.SizeLaws.{size_of_le, size_at, turns_more}
 use Rattle.std.proofs.lemmas.List.FromFn.{length-map-range_with_len}
 use Rattle.jm_redirect.specs.Turns.{size_of}
 use Rattle.jm_redirect.proofs.turns.turns_of.Goals as goal
