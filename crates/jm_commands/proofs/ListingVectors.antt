@@ -1,5 +1,5 @@
 -- The text of `list`, evaluated on whole images.
-use Rattle.std.proofs.Common.{◌≡◌, ◌++◌, ◌∷◌, [], Some, None, refl}
+use Rattle.std.proofs.Common.{◌≡◌, ◌∷◌, [], Some, None, refl}
 use Rattle.std.specs.Fmt.{digits}
 use Rattle.std.specs.Prelude.{codes}
 use Rattle.jm_form.proofs.Vectors.{tiny, side_by_side, empty}
