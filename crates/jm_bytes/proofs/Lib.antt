@@ -6,3 +6,4 @@ pub mod Firsts
 pub mod Members
 pub mod MeterLaws
 pub mod Pairs
+pub mod SameOrder

@@ -1,11 +1,11 @@
 -- Lists whose elements all stand in a relation to the later ones, and numbers one after another.
-use Rattle.std.proofs.Common.{◌≡◌, ℕ, zero, suc, ◌+◌, ◌<◌, List, [], ◌∷◌, ◌++◌, length, map, take, get_or, Option, Some, None, All, AllPairs, refl, ap, ◌∙◌, arith}
+use Rattle.std.proofs.Common.{◌≡◌, ℕ, zero, suc, ◌+◌, ◌<◌, List, [], ◌∷◌, ◌++◌, length, map, take, get_or, Option, Some, None, All, AllPairs, Contains, refl, ap, ◌∙◌, arith}
 use Rattle.std.proofs.lemmas.List.{get_or-take, get_or_default, length-take-le}
-use Rattle.std.proofs.lemmas.List.Elements.{All-map}
+use Rattle.std.proofs.lemmas.List.Elements.{All-append, All-map, Contains-get_or}
 use Rattle.std.proofs.lemmas.List.FromFn.{length-range_with_len, get_or-range_with_len}
 use Rattle.std.proofs.lemmas.List.Kept.{AllPairs-cons}
 use Rattle.std.specs.List.{filter_map, cons_option, range_with_len}
-use Rattle.jm_bytes.proofs.Members.{all_filter_map}
+use Rattle.jm_bytes.proofs.Members.{all_filter_map, all_from_contains}
 
 pub pairs_none : {X : Type 0} (R : X → X → Type 0) → AllPairs R []
 pairs_none R i j d before below = absurd (omega arith)
@@ -56,3 +56,16 @@ range_more i (suc n) =
     let count : suc n + 1 ≡ suc (n + 1) = omega arith in
     let place : i + 1 + n ≡ i + suc n = omega arith in
     ap (range_with_len i) count ∙ ap (λ ks. i ∷ ks) (range_more (i + 1) n) ∙ ap (λ k. i ∷ (range_with_len (i + 1) n ++ k ∷ [])) place
+
+-- Lists in which all earlier elements are in a relation to all later ones
+
+pub pairs_append : {X : Type 0} (R : X → X → Type 0) (xs ys : List X) → AllPairs R xs → AllPairs R ys → ((x y : X) → Contains xs x → Contains ys y → R x y) → AllPairs R (xs ++ ys)
+pairs_append R [] ys front back across = back
+pairs_append R (x ∷ xs) ys front back across =
+    let head = All-append (R x) xs ys (pairs_head R x xs front) (all_from_contains (R x) ys (λ y there. across x y (0, omega arith, refl) there)) in
+    AllPairs-cons R x (xs ++ ys) head (pairs_append R xs ys (pairs_tail R x xs front) back (λ y z here there. across y z (suc here.0, omega (arith, here.1), here.2) there))
+
+-- a relation of elements of the list
+pub pairs_among : {X : Type 0} (R S : X → X → Type 0) (xs : List X) → ((x y : X) → Contains xs x → Contains xs y → R x y → S x y) → AllPairs R xs → AllPairs S xs
+pairs_among R S xs related pairs i j d before below =
+    related (get_or xs i d) (get_or xs j d) (Contains-get_or xs i d (omega arith)) (Contains-get_or xs j d below) (pairs i j d before below)

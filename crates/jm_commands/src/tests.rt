@@ -267,7 +267,11 @@ fn sees(flag: &AtomicBool) -> bool {
 impl Gate for Meeting {
     fn enter(&self, piece: usize) {
         let [first, second] = &self.flags;
-        let (own, other) = if piece == 0 { (first, second) } else { (second, first) };
+        let (own, other) = if piece == 0 {
+            (first, second)
+        } else {
+            (second, first)
+        };
         own.store(true, Ordering::SeqCst);
         if !sees(other) {
             self.missed.store(true, Ordering::SeqCst);
@@ -281,9 +285,19 @@ fn both_pieces_meet(rt: HostRuntime) -> Result<(), Fail> {
         flags: [AtomicBool::new(false), AtomicBool::new(false)],
         missed: AtomicBool::new(false),
     };
-    let given = run_on(&rt, rt.alloc(), apart(), NO_FAILS, "verify img --jobs 2", &gate)?;
+    let given = run_on(
+        &rt,
+        rt.alloc(),
+        apart(),
+        NO_FAILS,
+        "verify img --jobs 2",
+        &gate,
+    )?;
     assert!(rt; given.as_slice() == b"0|valid 2\n|".as_slice());
-    assert!(rt; !gate.missed.load(Ordering::SeqCst), "the pieces met at the gate");
+    assert!(rt;
+        !gate.missed.load(Ordering::SeqCst),
+        "the pieces met at the gate"
+    );
     assert!(rt; gate.flags[0].load(Ordering::SeqCst) && gate.flags[1].load(Ordering::SeqCst));
     Ok(())
 }

@@ -5,21 +5,8 @@ use Rattle.std.proofs.lemmas.List.Elements.{All-append, Contains-append_left, Co
 use Rattle.std.proofs.lemmas.List.Kept.{AllPairs-cons, AllPairs-filter}
 use Rattle.std.specs.List.{range_with_len}
 use Rattle.jm_bytes.proofs.Members.{contains_none, contains_filter, from_filter, contains_range, from_range, length_filter, all_from_contains}
-use Rattle.jm_bytes.proofs.Pairs.{pairs_none, pairs_head, pairs_tail, range_rises}
+use Rattle.jm_bytes.proofs.Pairs.{pairs_none, pairs_head, pairs_tail, pairs_append, pairs_among, range_rises}
 use Rattle.jm_form.specs.Greedy.{bucket_of, names_in, buckets_of_size, buckets_up_to, buckets_in_turn}
-
--- Lists in which all earlier elements are in a relation to all later ones
-
-pub pairs_append : {X : Type 0} (R : X → X → Type 0) (xs ys : List X) → AllPairs R xs → AllPairs R ys → ((x y : X) → Contains xs x → Contains ys y → R x y) → AllPairs R (xs ++ ys)
-pairs_append R [] ys front back across = back
-pairs_append R (x ∷ xs) ys front back across =
-    let head = All-append (R x) xs ys (pairs_head R x xs front) (all_from_contains (R x) ys (λ y there. across x y (0, omega arith, refl) there)) in
-    AllPairs-cons R x (xs ++ ys) head (pairs_append R xs ys (pairs_tail R x xs front) back (λ y z here there. across y z (suc here.0, omega (arith, here.1), here.2) there))
-
--- a relation of elements of the list
-pub pairs_among : {X : Type 0} (R S : X → X → Type 0) (xs : List X) → ((x y : X) → Contains xs x → Contains xs y → R x y → S x y) → AllPairs R xs → AllPairs S xs
-pairs_among R S xs related pairs i j d before below =
-    related (get_or xs i d) (get_or xs j d) (Contains-get_or xs i d (omega arith)) (Contains-get_or xs j d below) (pairs i j d before below)
 
 -- The buckets in turn
 

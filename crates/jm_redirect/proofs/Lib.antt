@@ -2,7 +2,6 @@ pub mod FreeSlotLaws
 pub mod LengthLaws
 pub mod MarkLaws
 pub mod ReachedLaws
-pub mod SameOrder
 pub mod SeedLaws
 pub mod SizeLaws
 pub mod TableLaws

@@ -15,12 +15,13 @@ use Rattle.jm_names.specs.Hash.{hash, default_seed}
 use Rattle.jm_bytes.proofs.Members.{contains_filter, from_filter, from_map, from_range}
 use Rattle.jm_bytes.proofs.Pairs.{pairs_map, range_rises}
 use Rattle.jm_form.specs.Greedy.{bucket_of, names_in, buckets_in_turn}
-use Rattle.jm_form.proofs.BucketLaws.{pairs_among, size_in, TakenBefore, size_le, contains_turn, taken_in_turn}
+use Rattle.jm_form.proofs.BucketLaws.{size_in, TakenBefore, size_le, contains_turn, taken_in_turn}
 use Rattle.jm_redirect.specs.declared.turns.Turn.{Turn}
 use Rattle.jm_redirect.specs.Marks.{names_at}
 use Rattle.jm_redirect.specs.Reached.{turns_in}
 use Rattle.jm_redirect.specs.Turns.{size_of, turn_at, turns_of, turn_cmp}
-use Rattle.jm_redirect.proofs.SameOrder.{same_order, contains_flat_map, from_flat_map, pairs_flat_map, filter_mapped, filter_same, mapped_twice}
+use Rattle.jm_bytes.proofs.Pairs.{pairs_among}
+use Rattle.jm_bytes.proofs.SameOrder.{same_order, contains_flat_map, from_flat_map, pairs_flat_map, filter_mapped, filter_same, mapped_twice}
 
 abbrev hashes_of : List (List ℕ) → List ℕ
 hashes_of names = map (hash default_seed) names

@@ -3,8 +3,7 @@ use Rattle.std.proofs.Common.{◌≡◌, ◌⊎◌, inl, inr, Bool, true, false,
 use Rattle.std.proofs.lemmas.List.Elements.{All-contains, All-head, All-tail, Contains-append_left, Contains-append_right, Contains-append_cases}
 use Rattle.std.specs.List.{filter, flat_map}
 use Rattle.jm_bytes.proofs.Members.{contains_none, contains_here, contains_later, contains_cases}
-use Rattle.jm_bytes.proofs.Pairs.{pairs_none, pairs_head, pairs_tail}
-use Rattle.jm_form.proofs.BucketLaws.{pairs_append}
+use Rattle.jm_bytes.proofs.Pairs.{pairs_none, pairs_head, pairs_tail, pairs_append}
 
 -- two lists of the same elements in the same strict order are equal
 pub same_order : {X : Type 0} (R : X → X → Type 0) → ((x y : X) → R x y → R y x → ⊥) → (xs ys : List X) → AllPairs R xs → AllPairs R ys → ((x : X) → Contains xs x → Contains ys x) → ((x : X) → Contains ys x → Contains xs x) → xs ≡ ys
