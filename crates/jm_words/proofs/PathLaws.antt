@@ -1,5 +1,5 @@
 -- Words that are text make a command whose paths are text.
-use Rattle.std.proofs.Common.{◌≡◌, ℕ, ◌+◌, ◌<◌, ◌≤◌, ◌&&◌, not, nat_le, Bool, true, false, cond, List, [], ◌∷◌, ◌++◌, length, get_or, map, string_bytes, String, inl, inr, Option, Some, None, Result, Ok, Err, IfOk, IfSome, All, IsUtf8, refl, sym, ap, ◌∙◌, subst, arith}
+use Rattle.std.proofs.Common.{◌≡◌, ℕ, ◌+◌, ◌<◌, ◌&&◌, not, nat_le, Bool, true, false, cond, List, [], ◌∷◌, ◌++◌, length, get_or, map, string_bytes, String, inl, inr, Option, Some, None, Result, Ok, Err, IfOk, IfSome, All, IsUtf8, refl, sym, subst, arith}
 use Rattle.std.specs.Prelude.{codes, option_map, unwrap_or}
 use Rattle.std.specs.List.{after_first, before_first, find, list_any}
 use Rattle.std.specs.Str.{bytes_eq}
@@ -18,8 +18,8 @@ use Rattle.jm_words.specs.declared.tables.Verb.TheVariants as verb_is
 use Rattle.jm_words.specs.Commands.{command_after, command_in, command_of, command_unless_fault, jobs_of, look, module_path, number_or_low, text_of, verb_named}
 use Rattle.jm_words.specs.Paths.{FilePathsAreText, jobs_in}
 use Rattle.jm_words.specs.Reading.{GivenText, Standing, UnlessMemory, after_argument, after_choice, after_option, after_plain_word, after_word, after_words, before_words, given_texts, is_chosen, is_equals, is_flag, is_missing, is_option, option_named, texts_at_end, texts_unless_fault, value_behind, with_checked_text}
-use Rattle.jm_words.specs.Tables.{argument_row, arguments, option_row, options}
-use Rattle.jm_words.specs.Values.{decimal_from, is_numeral, is_of_form, number_of, without_slashes}
+use Rattle.jm_words.specs.Tables.{argument_row, option_row, options}
+use Rattle.jm_words.specs.Values.{decimal_from, is_numeral, is_of_form}
 use Rattle.jm_words.proofs.TextLaws.{behind_is_text, folders_are_text, without_slashes_is_text}
 
 -- all that was given is text

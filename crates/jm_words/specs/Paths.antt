@@ -1,5 +1,5 @@
 -- What is known of a command whose words are text (this project's rule).
-use Rattle.std.specs.Prelude.{ℕ, List, IfSome, All, IsUtf8}
+use Rattle.std.specs.Prelude.{ℕ, IfSome, All, IsUtf8}
 use Rattle.jm_words.specs.declared.commands.Command.{Command}
 use Rattle.jm_words.specs.declared.commands.Command.TheVariants as command
 
