@@ -2,7 +2,10 @@
 use Rattle.std.proofs.Common.{◌≡◌, [], ◌∷◌, Some, None, refl}
 use Rattle.std.specs.Prelude.{codes}
 use Rattle.jm_form.specs.declared.table.Redirect.TheVariants as redirect
-use Rattle.jm_form.specs.Greedy.{greedy, buckets_in_turn, seeds}
+use Rattle.jm_form.specs.Greedy.{lengths_from, greedy, buckets_in_turn, seeds}
+
+lengths_of_two : lengths_from 4 2 ≡ 2 ∷ 3 ∷ 5 ∷ 7 ∷ []
+lengths_of_two = refl
 
 three_in_turn : buckets_in_turn (codes "a" ∷ codes "b" ∷ codes "c" ∷ []) 3 ≡ 2 ∷ 1 ∷ []
 three_in_turn = refl

@@ -13,7 +13,7 @@ loop-tried-init c = record {
 
 pub returns-in-Ok-Some-clause-table : goal.returns-in-Ok-Some-clause-table
 returns-in-Ok-Some-clause-table c =
-    built c.args.names.now c.loop-tried._tried c.loop-tried.length c.in-Ok-Some.table c.loop-tried-test.true (sym c.in-Ok-Some.ensures ∙ c.in-Ok-Some.field-0-is) c.loop-tried.invariant.left
+    built c.args.names.now c.loop-tried._tried c.loop-tried.length c.in-Ok-Some.table (omega arith) (sym c.in-Ok-Some.ensures ∙ c.in-Ok-Some.field-0-is) c.loop-tried.invariant.left
 
 pub returns-in-Ok-Some-clause-serves : goal.returns-in-Ok-Some-clause-serves
 returns-in-Ok-Some-clause-serves c =
@@ -29,7 +29,7 @@ loop-tried-preserved c =
     record {
       enough = omega (arith, i.enough, next, steps.0);
       few = omega (arith, i.few, next, steps.1);
-      left = i.left ∙ among_later c.args.names.now c.loop-tried._tried c.loop-tried.length c.loop-tried-test.true none ∙ ap (λ n. greedy_among c.args.names.now (lengths_left (c.loop-tried._tried + 1) n)) (sym next);
+      left = i.left ∙ among_later c.args.names.now c.loop-tried._tried c.loop-tried.length (omega arith) none ∙ ap (λ n. greedy_among c.args.names.now (lengths_left (c.loop-tried._tried + 1) n)) (sym next);
     }
 
 pub returns-clause-refused : goal.returns-clause-refused

@@ -10,8 +10,8 @@ returns-then-taken-slot-clause-fits c = λ before marks.
     let i = c.loop-at.at in
     let sent = slots_sent c.args.names.now c.args.slots c.args.seed (take i c.args.turns.now) in
     let slot = c.slot_with-slot.result in
-    let split = sent_split c.args.names.now c.args.slots c.args.seed c.args.turns.now i _ c.requires.some c.loop-at-test.true in
     let inside : slot < length c.loop-at.taken = omega arith in
+    let split = sent_split c.args.names.now c.args.slots c.args.seed c.args.turns.now i _ c.requires.some c.loop-at-test.true in
     let there = sym ((c.loop-at.invariant.marks before marks).at slot inside) ∙ c.if-taken-slot.true in
     sym (ap (are_free before) (split ∙ ap (λ g. sent ++ g ∷ slots_sent c.args.names.now c.args.slots c.args.seed (drop (i + 1) c.args.turns.now)) (sym c.slot_with-slot.ensures)) ∙ not_free before sent _ slot there)
 
