@@ -22,9 +22,9 @@ abbrev pub HasFile : Option Files → Option (List ℕ) → Option (List ℕ) �
 HasFile told None found = Unit {0}
 HasFile told (Some path) found = Shows told (λ files. found ≡ file files path)
 
--- A command that reads one file comes to one outcome, whether the shelf tells its files or not: over
--- a shelf that tells nothing, to that of some file. A command that reads many files joins here with
--- a line of its own: over told files it comes to their outcome, and over others to any.
+-- A command that reads one file comes to one outcome, whether the shelf tells its files or not:
+-- over a shelf that tells nothing, to that of some file. A command that reads many files joins here
+-- with a line of its own: over told files it comes to their outcome, and over others to any.
 abbrev pub CommandComesTo : Option Files → Command → Outcome → Type 0
 CommandComesTo told command due =
     (found : Option (List ℕ)) × HasFile told (read_path command) found
