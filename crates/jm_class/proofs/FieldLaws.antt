@@ -2,14 +2,13 @@
 use Rattle.std.proofs.Common.{◌≡◌, ℕ, ◌*◌, ◌/◌, ◌%◌, ◌^◌, ◌<◌, Bool, true, false, ◌&&◌, List, [], ◌++◌, length, refl, sym, ap, arith}
 use Rattle.std.proofs.lemmas.List.{append-nil}
 use Rattle.std.specs.Int.{w32}
-use Rattle.std.specs.List.{flat_map}
-use Rattle.std.specs.Prelude.{All, is_some}
+use Rattle.std.specs.Prelude.{is_some}
 use Rattle.jm_class.specs.declared.class.ClassFault.{ClassFault}
 use Rattle.jm_class.specs.declared.class.ClassFault.TheVariants.{Short, Index, CodeLength}
-use Rattle.jm_class.specs.Classes.{SlotData, CodeData, BodyData, Opaque, Coded, u2, u4, counted_text, sized_text, rows_text, opaque_text, code_text, held_text, attribute_text, member_text, utf8_at, is_code_name, NamesText, FitsCounted, FitsSized, IsOpaque, IsCode, IsBody, IsAttribute, IsMember}
+use Rattle.jm_class.specs.Classes.{SlotData, CodeData, BodyData, Opaque, Coded, u2, u4, sized_text, rows_text, opaque_text, code_text, held_text, attribute_text, member_text, utf8_at, is_code_name, NamesText, FitsSized, IsOpaque, IsCode, IsBody, IsAttribute, IsMember}
 use Rattle.jm_class.specs.ComputedClass.{name_field, opaque_field, rows_field, code_fields, code_field, held_field, attribute_field, member_field}
-use Rattle.jm_class.specs.Readings.{Reading, and_then, number, whole}
-use Rattle.jm_class.proofs.ReadingLaws.{Always, Lawful, placed-lawful, sized-lawful, list_of-lawful, said-lawful, made-lawful, checked-lawful, and_then-lawful, counted-lawful, part-lawful, number16-lawful, number32-lawful, whole-lawful}
+use Rattle.jm_class.specs.Readings.{and_then, number, whole}
+use Rattle.jm_class.proofs.ReadingLaws.{Always, Lawful, placed-lawful, sized-lawful, list_of-lawful, said-lawful, made-lawful, checked-lawful, and_then-lawful, part-lawful, number16-lawful, number32-lawful, whole-lawful}
 
 module _ (short : ℕ → ClassFault) where
   pub name-lawful : (pool : List SlotData) → Lawful (name_field short pool) u2 (NamesText pool)
