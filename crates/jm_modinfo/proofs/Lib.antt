@@ -1,0 +1,7 @@
+pub mod BodiesLaws
+pub mod FieldTells
+pub mod InfoLaws
+pub mod Stops
+pub mod TellsLaws
+pub mod WrittenLaws
+pub mod WrittenLoops
