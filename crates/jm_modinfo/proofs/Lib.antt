@@ -3,5 +3,6 @@ pub mod FieldTells
 pub mod InfoLaws
 pub mod Stops
 pub mod TellsLaws
+mod Vectors
 pub mod WrittenLaws
 pub mod WrittenLoops
