@@ -4,6 +4,7 @@ ghost use Rattle.jm_modinfo.specs.ComputedInfo.{info_of};
 ghost use Rattle.jm_commands.specs.Outcome.{describe_outcome, descriptor_outcome};
 ghost use Rattle.jm_commands.specs.Run.{PutDoes};
 ghost use Rattle.jm_commands.specs.Sinks.{seen};
+ghost use Rattle.jm_commands.specs.Stops.{Refuses};
 
 use crate::complaint::Complaint;
 use crate::describe_text::describe_text;
@@ -17,7 +18,9 @@ use jm_outside::Sink;
 use std::alloc::Global;
 
 /// The refusal of the file at a path, which doesn't read as the class of a module.
-fn refuse(alloc: Global, path: &[u8], fault: DescriptorFault) -> Stop {
+fn refuse(alloc: Global, path: &[u8], fault: DescriptorFault) -> Stop
+    ensures { Refuses path.now fault result }
+{
     match Text::copy_of(alloc, path) {
         Ok(path) => Stop::Complaint(Complaint::Refused(Refusal::BadInfo { path, fault })),
         Err(_) => Stop::Memory,
