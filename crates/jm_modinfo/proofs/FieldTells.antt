@@ -1,21 +1,18 @@
 -- The fields of the Module attribute are read exactly where the bytes say them.
-use Rattle.std.proofs.Common.{◌≡◌, ℕ, List, [], Option, Some, None, Result, Ok, Err, refl, sym, ap, ◌∙◌}
+use Rattle.std.proofs.Common.{◌≡◌, ℕ, List, Option, None, Ok, Err, refl, sym, ap, ◌∙◌}
 use Rattle.jm_bytes.proofs.Choice.{same_ok}
 use Rattle.jm_class.proofs.ReadingLaws.{IsBytes}
 use Rattle.jm_class.specs.Classes.{SlotData}
 use Rattle.jm_class.specs.Readings.{Outcome, ended}
-use Rattle.jm_modinfo.proofs.TellsLaws.{Tells, number-tells, said-tells, checked-tells, resolved-tells, and_then-tells, last-tells, list_of-tells, value-tells, ended-said, said-ended}
+use Rattle.jm_modinfo.proofs.TellsLaws.{Tells, number-tells, said-tells, checked-tells, resolved-tells, and_then-tells, last-tells, list_of-tells, ended-said, said-ended}
 use Rattle.jm_modinfo.specs.ComputedInfo.{short_number, index_field, named_field, version_field, names_field, need_field, opened_field, provides_field, module_field, value_of, body_info}
 use Rattle.jm_modinfo.specs.Constants.{named_at, version_at, is_allowed}
 use Rattle.jm_modinfo.specs.declared.constants.Kind.{Kind}
 use Rattle.jm_modinfo.specs.declared.constants.Kind.TheVariants.{Class, Module, Package}
 use Rattle.jm_modinfo.specs.declared.descriptor.Descriptor.{Descriptor}
-use Rattle.jm_modinfo.specs.declared.descriptor.Need.{Need}
-use Rattle.jm_modinfo.specs.declared.descriptor.Opened.{Opened}
-use Rattle.jm_modinfo.specs.declared.descriptor.Provides.{Provides}
 use Rattle.jm_modinfo.specs.declared.faults.InfoFault.{InfoFault}
 use Rattle.jm_modinfo.specs.declared.faults.InfoFault.TheVariants.{Index, Short, Rest, Name}
-use Rattle.jm_modinfo.specs.Descriptors.{IsNumber, IsIndex, Counted, IsNamed, IsVersion, IsNeed, IsOpened, IsProvides, IsModule, Each, Then}
+use Rattle.jm_modinfo.specs.Descriptors.{IsNumber, IsIndex, Counted, IsNamed, IsVersion, IsNeed, IsOpened, IsProvides, IsModuleBody}
 
 abbrev Always : {A : Type 0} → A → Type 0
 Always a = Unit {0}
@@ -72,7 +69,7 @@ provides-tells pool =
 abbrev NoMain : Descriptor → Type 0
 NoMain d = d.main ≡ None
 
-pub module-tells : (pool : List SlotData) → Tells (module_field pool) (λ d t. (d.main ≡ None) × IsModule pool d t)
+pub module-tells : (pool : List SlotData) → Tells (module_field pool) (λ d t. (d.main ≡ None) × IsModuleBody pool d t)
 module-tells pool =
     and_then-tells _ _ (IsNamed pool Module) (λ d. d.name) NoMain _ (named-tells pool Module) (λ name.
     and_then-tells _ _ IsNumber (λ d. d.flags) _ _ short-tells (λ flags.
@@ -102,18 +99,18 @@ module-tells pool =
 -- The whole body
 
 -- what is read of a whole body is what it says
-pub body-said : (pool : List SlotData) (body : List ℕ) (d : Descriptor) → IsBytes body → body_info pool body ≡ Ok d → (d.main ≡ None) × IsModule pool d body
+pub body-said : (pool : List SlotData) (body : List ℕ) (d : Descriptor) → IsBytes body → body_info pool body ≡ Ok d → (d.main ≡ None) × IsModuleBody pool d body
 body-said pool body d bytes e = go (ended Rest (module_field pool) (record { place = 0; bytes = body })) refl e
   where
-    go : (outcome : Outcome InfoFault Descriptor) → ended Rest (module_field pool) (record { place = 0; bytes = body }) ≡ outcome → value_of outcome ≡ Ok d → (d.main ≡ None) × IsModule pool d body
+    go : (outcome : Outcome InfoFault Descriptor) → ended Rest (module_field pool) (record { place = 0; bytes = body }) ≡ outcome → value_of outcome ≡ Ok d → (d.main ≡ None) × IsModuleBody pool d body
     go (Ok r) is e =
         let same : r.0 ≡ d = same_ok {E = InfoFault} r.0 d e in
-        let law = ended-said Rest (module_field pool) (λ d t. (d.main ≡ None) × IsModule pool d t) (module-tells pool) in
+        let law = ended-said Rest (module_field pool) (λ d t. (d.main ≡ None) × IsModuleBody pool d t) (module-tells pool) in
         law (record { place = 0; bytes = body }) r.1 d bytes (is ∙ ap (λ (x : Descriptor). Ok (x, r.1)) same)
     go (Err fault) is e = cc
 
 -- what a body says is read of it
-pub said-body : (pool : List SlotData) (body : List ℕ) (d : Descriptor) → d.main ≡ None → IsModule pool d body → body_info pool body ≡ Ok d
+pub said-body : (pool : List SlotData) (body : List ℕ) (d : Descriptor) → d.main ≡ None → IsModuleBody pool d body → body_info pool body ≡ Ok d
 said-body pool body d none says =
-    let law = said-ended Rest (module_field pool) (λ d t. (d.main ≡ None) × IsModule pool d t) (module-tells pool) in
+    let law = said-ended Rest (module_field pool) (λ d t. (d.main ≡ None) × IsModuleBody pool d t) (module-tells pool) in
     ap value_of (law 0 d body (none, says)).1

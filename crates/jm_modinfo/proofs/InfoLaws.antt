@@ -1,9 +1,9 @@
 -- The descriptor that `info_of` computes is the one that `InfoOf` rules, and its fault is the first
 -- one of the checks.
-use Rattle.std.proofs.Common.{◌≡◌, ◌≢◌, ℕ, ◌^◌, ◌<◌, ◌≤◌, Bool, true, false, List, [], ◌∷◌, length, Option, Some, None, Result, Ok, Err, refl, sym, ap, ◌∙◌, arith}
+use Rattle.std.proofs.Common.{◌≡◌, ◌≢◌, ℕ, ◌^◌, ◌<◌, ◌≤◌, Bool, true, false, List, [], ◌∷◌, Option, Some, None, Result, Ok, Err, refl, sym, ap, ◌∙◌}
 use Rattle.std.proofs.lemmas.Bool.{ne_eqb, le-ltb}
 use Rattle.std.proofs.lemmas.Nat.{from_be_bytes-to_be_bytes_2}
-use Rattle.std.specs.Prelude.{not, is_some, bit_and, nat_eq, nat_lt, option_and_then, if◌then◌else◌, IfOk, OnOk, IfNone}
+use Rattle.std.specs.Prelude.{not, is_some, bit_and, nat_lt, option_and_then, if◌then◌else◌, IfOk, OnOk, IfNone}
 use Rattle.jm_bytes.proofs.Choice.{same_ok}
 use Rattle.jm_bytes.specs.Checks.{fault_if, first_fault}
 use Rattle.jm_class.specs.Classes.{SlotData, ClassData, u2}
@@ -16,7 +16,7 @@ use Rattle.jm_modinfo.specs.declared.faults.InfoFault.{InfoFault}
 use Rattle.jm_modinfo.specs.declared.faults.InfoFault.TheVariants.{NotModule, OldVersion}
 use Rattle.jm_modinfo.specs.declared.faults.InfoError.{InfoError}
 use Rattle.jm_modinfo.specs.declared.faults.InfoError.TheVariants.{Fault, Memory}
-use Rattle.jm_modinfo.specs.Descriptors.{IsIndex, IsModule, IsMain, module_bodies, main_bodies, InfoOf}
+use Rattle.jm_modinfo.specs.Descriptors.{IsIndex, IsModuleBody, IsMain, module_bodies, main_bodies, InfoOf}
 use Rattle.jm_modinfo.specs.Faults.{fault_of, body_fault, info_fault}
 use Rattle.jm_modinfo.specs.Flags.{is_module}
 use Rattle.jm_modinfo.specs.Views.{Answers}
@@ -49,7 +49,7 @@ one_body [] body e = cc
 one_body (one ∷ []) body e = let same = same_ok {E = InfoFault} one body e in ap (λ (x : List ℕ). x ∷ []) same
 one_body (one ∷ other ∷ more) body e = cc
 
-pub parts-info : (c : ClassData) (d : Descriptor) (main : Option (List ℕ)) (body : List ℕ) → bit_and c.access 0x8000 ≢ 0 → 53 ≤ c.major → only_body (module_bodies c) ≡ Ok body → IsModule c.pool d body → IsMain c.pool (main_bodies c) main → InfoOf c (record d { main = main })
+pub parts-info : (c : ClassData) (d : Descriptor) (main : Option (List ℕ)) (body : List ℕ) → bit_and c.access 0x8000 ≢ 0 → 53 ≤ c.major → only_body (module_bodies c) ≡ Ok body → IsModuleBody c.pool d body → IsMain c.pool (main_bodies c) main → InfoOf c (record d { main = main })
 parts-info c d main body access major only says is = record {
   access = flagged c.access access;
   major = major;

@@ -1,13 +1,12 @@
 -- The definitions, evaluated on the small classes of the format's cases.
 use Rattle.std.proofs.Common.{◌≡◌, ℕ, List, [], ◌∷◌, ◌++◌, Option, Some, None, Result, Ok, Err, refl, take, drop, length}
-use Rattle.std.specs.Prelude.{codes, slice_set, replicate}
+use Rattle.std.specs.Prelude.{codes, replicate}
 use Rattle.std.specs.Fmt.{digits}
 use Rattle.jm_class.specs.Classes.{ClassData}
 use Rattle.jm_class.specs.ComputedClass.{class_of}
 use Rattle.jm_class.specs.declared.class.ClassFault.{ClassFault}
 use Rattle.jm_class.specs.declared.class.ClassFault.TheVariants as class
 use Rattle.jm_modinfo.specs.ComputedInfo.{info_of}
-use Rattle.jm_modinfo.specs.declared.descriptor.Descriptor.{Descriptor}
 use Rattle.jm_modinfo.specs.declared.descriptor.Need.{Need}
 use Rattle.jm_modinfo.specs.declared.faults.DescriptorFault.TheVariants as fault
 use Rattle.jm_modinfo.specs.declared.faults.InfoFault.{InfoFault}

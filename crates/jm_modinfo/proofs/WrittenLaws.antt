@@ -1,13 +1,13 @@
 -- The class of a module that only requires others is well formed, and its descriptor has its name
 -- and its needs.
-use Rattle.std.proofs.Common.{◌≡◌, ℕ, zero, suc, ◌+◌, ◌-◌, ◌*◌, ◌^◌, ◌<◌, ◌≤◌, inl, inr, true, false, List, [], ◌∷◌, ◌++◌, length, Some, None, Result, Ok, Err, OnOk, IfOk, refl, sym, ap, ◌∙◌, subst, arith, append_assoc, length-append}
+use Rattle.std.proofs.Common.{◌≡◌, ℕ, suc, ◌+◌, ◌-◌, ◌*◌, ◌^◌, ◌<◌, ◌≤◌, inl, inr, true, false, List, [], ◌∷◌, ◌++◌, length, Some, Result, Ok, Err, OnOk, IfOk, refl, sym, ap, ◌∙◌, subst, arith, append_assoc, length-append}
 use Rattle.std.proofs.lemmas.Bool.{ne_eqb}
 use Rattle.std.proofs.lemmas.List.{append-nil}
 use Rattle.std.proofs.lemmas.List.Elements.{All-nil, All-cons, All-head, All-tail}
 use Rattle.std.proofs.lemmas.Nat.{from_be_bytes-to_be_bytes_2}
 use Rattle.std.specs.Prelude.{All, nat_eq, slice_get, option_and_then}
-use Rattle.jm_class.specs.Classes.{SlotData, Constant, Opaque, AttributeData, u2, slot_at, utf8_at, IsPoolFrom, IsAttribute, IsMember, IsClass, ReadsAs}
-use Rattle.jm_modinfo.specs.Constants.{number_in, named_by, named_at}
+use Rattle.jm_class.specs.Classes.{SlotData, Constant, Opaque, u2, slot_at, utf8_at, IsPoolFrom, IsAttribute, IsMember, IsClass, ReadsAs}
+use Rattle.jm_modinfo.specs.Constants.{named_by, named_at}
 use Rattle.jm_modinfo.specs.declared.constants.Kind.TheVariants.{Module}
 use Rattle.jm_modinfo.specs.declared.descriptor.Need.{Need}
 use Rattle.jm_modinfo.specs.Descriptors.{Each, IsNeed, InfoOf}
@@ -53,8 +53,8 @@ info_class-fits name needs named all count = record {
   attributes = (
     omega arith,
     All-cons (IsAttribute (info_pool name needs) false) (record { name = 3; body = Opaque (info_body needs) }) []
-    (record { name = (omega arith, refl); body = tt; bytes = let size = length-body needs in omega (arith, size, count) })
-    (All-nil (IsAttribute (info_pool name needs) false)),
+        (record { name = (omega arith, refl); body = tt; bytes = let size = length-body needs in omega (arith, size, count) })
+        (All-nil (IsAttribute (info_pool name needs) false)),
   );
 }
 
@@ -85,8 +85,7 @@ placed pool front number (n ∷ needs) is at =
     let one : pool ≡ (front ++ utf8 n.name ∷ []) ++ Constant 19 (u2 number) ∷ rest = is ∙ sym (append_assoc front (utf8 n.name ∷ []) (Constant 19 (u2 number) ∷ rest)) in
     let both : pool ≡ (front ++ utf8 n.name ∷ Constant 19 (u2 number) ∷ []) ++ rest = is ∙ sym (append_assoc front (utf8 n.name ∷ Constant 19 (u2 number) ∷ []) rest) in
     let size_one = length-append front (utf8 n.name ∷ []) in
-    let size_both = length-append front (utf8 n.name ∷ Constant 19 (u2 number) ∷ []) in
-    (
+    let size_both = length-append front (utf8 n.name ∷ Constant 19 (u2 number) ∷ []) in (
       slot_there pool front (Constant 19 (u2 number) ∷ rest) (utf8 n.name) number is at,
       slot_there pool (front ++ utf8 n.name ∷ []) rest (Constant 19 (u2 number)) (number + 1) one (omega (arith, at, size_one)),
       placed pool (front ++ utf8 n.name ∷ Constant 19 (u2 number) ∷ []) (number + 2) needs both (omega (arith, at, size_both)),
@@ -110,8 +109,7 @@ needs-said pool number (n ∷ needs) all flags (name, constant, rest) below =
     let index : number + 1 < 2 ^ 16 = omega (arith, below) in
     let next : number + 1 + 2 ≡ number + 2 + 1 = omega arith in
     let none = append-nil (needs_text (number + 1 + 2) needs) in
-    let more = needs-said pool (number + 2) needs (All-tail IsWritable n needs all) (All-tail (λ n. n.flags < 2 ^ 16) n needs flags) rest (omega (arith, below)) in
-    (
+    let more = needs-said pool (number + 2) needs (All-tail IsWritable n needs all) (All-tail (λ n. n.flags < 2 ^ 16) n needs flags) rest (omega (arith, below)) in (
       u2 (number + 1) ++ (u2 n.flags ++ u2 0),
       needs_text (number + 1 + 2) needs ++ [],
       refl,
@@ -136,14 +134,47 @@ info_class-info name needs named all flags count =
       body = info_body needs;
       only = refl;
       says = (
-        u2 5, _, refl, (named.0, (5, refl, (omega arith, refl))),
-        (u2 0, _, refl, zero_number,
-        (u2 0, _, refl, (0, refl, zero_number),
-        (u2 (length needs) ++ needs_text 7 needs, _, refl, (u2 (length needs), needs_text 7 needs, refl, (omega (arith, count), refl), needs-said pool 6 needs all flags there (omega (arith, count))),
-        (u2 0, _, refl, (u2 0, [], refl, zero_number, refl),
-        (u2 0, _, refl, (u2 0, [], refl, zero_number, refl),
-        (u2 0, _, refl, (u2 0, [], refl, zero_number, refl),
-        (u2 0, [], refl, zero_number, refl)))))))
+        u2 5,
+        _,
+        refl,
+        (named.0, (5, refl, (omega arith, refl))),
+        (
+          u2 0,
+          _,
+          refl,
+          zero_number,
+          (
+            u2 0,
+            _,
+            refl,
+            (0, refl, zero_number),
+            (
+              u2 (length needs) ++ needs_text 7 needs,
+              _,
+              refl,
+              (u2 (length needs), needs_text 7 needs, refl, (omega (arith, count), refl), needs-said pool 6 needs all flags there (omega (arith, count))),
+              (
+                u2 0,
+                _,
+                refl,
+                (u2 0, [], refl, zero_number, refl),
+                (
+                  u2 0,
+                  _,
+                  refl,
+                  (u2 0, [], refl, zero_number, refl),
+                  (
+                    u2 0,
+                    _,
+                    refl,
+                    (u2 0, [], refl, zero_number, refl),
+                    (u2 0, [], refl, zero_number, refl),
+                  ),
+                ),
+              ),
+            ),
+          ),
+        ),
       );
       main = refl;
     }

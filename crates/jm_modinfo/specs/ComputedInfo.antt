@@ -1,9 +1,9 @@
 -- The fields of the Module attribute in their order (JVMS 4.7.25), each with its fault (this
 -- project's rule): the computed form of `InfoOf`. Places are in bytes from the front of the body.
-use Rattle.std.specs.Prelude.{ℕ, nat_lt, Bool, List, [], ◌∷◌, Option, Some, None, option_and_then, Result, Ok, Err, if◌then◌else◌, not}
+use Rattle.std.specs.Prelude.{ℕ, nat_lt, List, [], ◌∷◌, Option, Some, None, option_and_then, Result, Ok, Err, if◌then◌else◌, not}
 use Rattle.std.specs.Int.{w16}
 use Rattle.jm_class.specs.Classes.{SlotData, ClassData}
-use Rattle.jm_class.specs.Readings.{Left, Outcome, Reading, value, continued, and_then, number, list_of, checked, ended}
+use Rattle.jm_class.specs.Readings.{Outcome, Reading, value, continued, and_then, number, list_of, checked, ended}
 use Rattle.jm_modinfo.specs.Constants.{number_in, named_at, version_at, is_allowed}
 use Rattle.jm_modinfo.specs.declared.constants.Kind.{Kind}
 use Rattle.jm_modinfo.specs.declared.constants.Kind.TheVariants.{Class, Module, Package}

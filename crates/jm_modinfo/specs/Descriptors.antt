@@ -1,10 +1,10 @@
 -- What the class of a module says: the Module attribute, field by field, and the main class (JVMS
 -- 4.7.25, 4.7.27).
-use Rattle.std.specs.Prelude.{◌≡◌, ◌⊎◌, ℕ, ◌^◌, ◌<◌, ◌≤◌, Bool, true, false, List, [], ◌∷◌, ◌++◌, length, Option, Some, None, option_and_then, if◌then◌else◌, codes}
+use Rattle.std.specs.Prelude.{◌≡◌, ℕ, ◌^◌, ◌<◌, ◌≤◌, Bool, true, false, List, [], ◌∷◌, ◌++◌, length, Option, Some, None, if◌then◌else◌, codes}
 use Rattle.std.specs.List.{filter_map}
 use Rattle.std.specs.Str.{bytes_eq}
 use Rattle.jm_class.specs.Classes.{SlotData, BodyData, Opaque, Coded, AttributeData, ClassData, u2, utf8_at}
-use Rattle.jm_modinfo.specs.Constants.{number_in, named_at, version_at, is_allowed}
+use Rattle.jm_modinfo.specs.Constants.{named_at, version_at, is_allowed}
 use Rattle.jm_modinfo.specs.declared.constants.Kind.{Kind}
 use Rattle.jm_modinfo.specs.declared.constants.Kind.TheVariants.{Class, Module, Package}
 use Rattle.jm_modinfo.specs.declared.descriptor.Descriptor.{Descriptor}
@@ -39,7 +39,8 @@ Counted IsItem items = Then (IsNumber (length items)) (Each IsItem items)
 
 -- the index of a constant of a kind, which stands for this text; a module's name is legal
 abbrev pub IsNamed : List SlotData → Kind → List ℕ → List ℕ → Type 0
-IsNamed pool kind text bytes = (is_allowed kind text ≡ true) × IsIndex (named_at pool kind) text bytes
+IsNamed pool kind text bytes =
+    (is_allowed kind text ≡ true) × IsIndex (named_at pool kind) text bytes
 
 abbrev pub IsVersion : List SlotData → Option (List ℕ) → List ℕ → Type 0
 IsVersion pool = IsIndex (version_at pool)
@@ -61,8 +62,8 @@ IsProvides pool p =
     Then (IsNamed pool Class p.service) (Counted (IsNamed pool Class) p.classes)
 
 -- the body of the attribute
-abbrev pub IsModule : List SlotData → Descriptor → List ℕ → Type 0
-IsModule pool d =
+abbrev pub IsModuleBody : List SlotData → Descriptor → List ℕ → Type 0
+IsModuleBody pool d =
     Then (IsNamed pool Module d.name)
     (Then (IsNumber d.flags)
     (Then (IsVersion pool d.version)
@@ -110,5 +111,5 @@ pub record InfoOf (c : ClassData) (d : Descriptor) : Type 0 where
   pub major : 53 ≤ c.major
   pub body : List ℕ
   pub only : module_bodies c ≡ body ∷ []
-  pub says : IsModule c.pool d body
+  pub says : IsModuleBody c.pool d body
   pub main : IsMain c.pool (main_bodies c) d.main

@@ -1,6 +1,6 @@
 -- The first fault of a class as a descriptor (this project's rule): checks in their order, of which
 -- the first that finds a fault decides.
-use Rattle.std.specs.Prelude.{ℕ, nat_lt, Bool, List, [], ◌∷◌, Option, Some, None, Result, Ok, Err, not}
+use Rattle.std.specs.Prelude.{ℕ, nat_lt, List, [], ◌∷◌, Option, Some, None, Result, Ok, Err, not}
 use Rattle.jm_bytes.specs.Checks.{fault_if, first_fault}
 use Rattle.jm_class.specs.Classes.{SlotData, ClassData}
 use Rattle.jm_modinfo.specs.ComputedInfo.{only_body, body_info, main_of}

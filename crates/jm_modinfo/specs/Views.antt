@@ -1,9 +1,6 @@
 -- What the readings of a descriptor give.
 use Rattle.std.specs.Prelude.{◌≡◌, Result, Ok, Err}
-use Rattle.jm_class.specs.Classes.{ClassData}
 use Rattle.jm_class.specs.Readings.{Left, Outcome}
-use Rattle.jm_modinfo.specs.ComputedInfo.{info_of}
-use Rattle.jm_modinfo.specs.declared.descriptor.Descriptor.{Descriptor}
 use Rattle.jm_modinfo.specs.declared.faults.InfoFault.{InfoFault}
 use Rattle.jm_modinfo.specs.declared.faults.InfoError.{InfoError}
 use Rattle.jm_modinfo.specs.declared.faults.InfoError.TheVariants.{Fault, Memory}

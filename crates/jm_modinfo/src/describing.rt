@@ -4,7 +4,7 @@ ghost use Rattle.jm_class.specs.Views.{plain};
 ghost use Rattle.jm_modinfo.specs.declared.descriptor.Descriptor.{Descriptor};
 ghost use Rattle.jm_modinfo.specs.declared.faults.InfoError.TheVariants.{Fault};
 ghost use Rattle.jm_modinfo.specs.ComputedInfo.{body_info, info_of};
-ghost use Rattle.jm_modinfo.specs.Descriptors.{InfoOf, IsModule};
+ghost use Rattle.jm_modinfo.specs.Descriptors.{InfoOf, IsModuleBody};
 ghost use Rattle.jm_modinfo.specs.Faults.{info_fault};
 ghost use Rattle.jm_modinfo.specs.Views.{Answers};
 
@@ -18,7 +18,7 @@ use std::alloc::Global;
 /// The fields of the Module attribute, and nothing behind them.
 fn whole_module(alloc: Global, class: &Class, body: &[u8]) -> Result<Descriptor, InfoError>
     ensures info { Answers (λ d. d) (body_info (plain class.now).pool body.now) result }
-    ensures says { IfOk result (λ d. IsModule (plain class.now).pool d body.now) }
+    ensures says { IfOk result (λ d. IsModuleBody (plain class.now).pool d body.now) }
     ensures main { IfOk result (λ d. d.main ≡ None) }
 {
     let mut cursor = Cursor::new(body);

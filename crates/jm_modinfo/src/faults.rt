@@ -5,8 +5,8 @@ use jm_bytes::NoMemory;
 use jm_class::ClassFault;
 use std::fmt;
 
-/// The first thing that keeps a class from being a module's descriptor, by JVMS 4.7.25 and the rules
-/// of this project. Places are in bytes from the front of the body of the Module attribute.
+/// The first thing that keeps a class from being a module's descriptor, by JVMS 4.7.25 and the
+/// rules of this project. Places are in bytes from the front of the body of the Module attribute.
 #[derive(Clone, Copy, Debug, PartialEq, Eq)]
 pub enum InfoFault {
     /// The class isn't flagged as a module.

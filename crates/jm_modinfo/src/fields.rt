@@ -21,12 +21,7 @@ fn number(cursor: &mut Cursor) -> Result<u16, InfoError>
 }
 
 /// The index of a constant of a kind, as the text for which it stands.
-fn name(
-    alloc: Global,
-    cursor: &mut Cursor,
-    class: &Class,
-    kind: Kind,
-) -> Result<Text, InfoError>
+fn name(alloc: Global, cursor: &mut Cursor, class: &Class, kind: Kind) -> Result<Text, InfoError>
     ensures { Gives (λ text. text) (named_field (plain class.now).pool kind cursor.old)
         result cursor.new }
 {

@@ -28,7 +28,7 @@ fn refusal(alloc: Global, parts: &[&[u8]]) -> Option<InfoError> {
     }
 }
 
-/// The parts of the class with a ModuleMainClass of these bytes, two of them; constant 2 is a class.
+/// The parts of the class with a ModuleMainClass of these two bytes. Constant 2 is a class.
 fn with_main<'a>(index: &'a [u8]) -> [&'a [u8]; 7] {
     [
         &ALONE[..11],
@@ -53,13 +53,27 @@ fn the_first_fault_is_told(rt: HostRuntime) {
         (39, 0x2C, InfoFault::Name(0)),
     ] {
         let parts = [&ALONE[..at], &[byte], &ALONE[at + 1..]];
-        assert_eq!(rt; refusal(rt.alloc(), &parts), Some(InfoError::Fault(fault)), "{at}");
+        assert_eq!(rt;
+            refusal(rt.alloc(), &parts),
+            Some(InfoError::Fault(fault)),
+            "{at}"
+        );
     }
     let two = [&ALONE[..55], &[0, 2], &ALONE[57..], &[0, 3, 0, 0, 0, 0]];
-    assert_eq!(rt; refusal(rt.alloc(), &two), Some(InfoError::Fault(InfoFault::TwoModule)));
+    assert_eq!(rt;
+        refusal(rt.alloc(), &two),
+        Some(InfoError::Fault(InfoFault::TwoModule))
+    );
     let more = [&ALONE[..62], &[18], &ALONE[63..], &[0, 0]];
-    assert_eq!(rt; refusal(rt.alloc(), &more), Some(InfoError::Fault(InfoFault::Rest(16))));
-    assert_eq!(rt; refusal(rt.alloc(), &with_main(&[0, 3])), Some(InfoError::Fault(InfoFault::Main)));
+    assert_eq!(rt;
+        refusal(rt.alloc(), &more),
+        Some(InfoError::Fault(InfoFault::Rest(16)))
+    );
+    let other = with_main(&[0, 3]);
+    assert_eq!(rt;
+        refusal(rt.alloc(), &other),
+        Some(InfoError::Fault(InfoFault::Main))
+    );
     assert_eq!(rt; refusal(rt.alloc(), &with_main(&[0, 2])), None);
     assert_eq!(rt; refusal(rt.alloc(), &[&ALONE]), None);
 }

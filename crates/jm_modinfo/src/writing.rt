@@ -11,7 +11,7 @@ use jm_classout::write;
 use std::alloc::Global;
 
 /// Puts a number of two bytes at the end, the highest first.
-fn put(text: &mut Vec<u8>, n: u16) -> Result<(), NoMemory>
+fn put16(text: &mut Vec<u8>, n: u16) -> Result<(), NoMemory>
     ensures text { OnOk result (text.new.items ≡ text.old.items ++ u2 n) }
     ensures fits { n < 2 ^ 16 }
 {
@@ -28,7 +28,7 @@ fn name_numbers(alloc: Global, count: u16) -> Result<Vec<u8>, NoMemory>
 {
     let mut numbers = Vec::new(alloc);
     for k in 0..count {
-        put(&mut numbers, 6 + 2 * k)?;
+        put16(&mut numbers, 6 + 2 * k)?;
     }
     Ok(numbers)
 }
@@ -41,9 +41,9 @@ fn put_needs(text: &mut Vec<u8>, needs: &[Need]) -> Result<(), NoMemory>
 {
     let mut number = 7;
     for need in needs {
-        put(text, number)?;
-        put(text, need.flags)?;
-        put(text, 0)?;
+        put16(text, number)?;
+        put16(text, need.flags)?;
+        put16(text, 0)?;
         number += 2;
     }
     Ok(())
@@ -56,15 +56,15 @@ fn body(alloc: Global, needs: &[Need]) -> Result<Vec<u8>, NoMemory>
     ensures flags { OnOk result (All (λ n. n.flags < 2 ^ 16) needs.now) }
 {
     let mut text = Vec::new(alloc);
-    put(&mut text, 5)?;
-    put(&mut text, 0)?;
-    put(&mut text, 0)?;
-    put(&mut text, needs.len() as u16)?;
+    put16(&mut text, 5)?;
+    put16(&mut text, 0)?;
+    put16(&mut text, 0)?;
+    put16(&mut text, needs.len() as u16)?;
     put_needs(&mut text, needs)?;
-    put(&mut text, 0)?;
-    put(&mut text, 0)?;
-    put(&mut text, 0)?;
-    put(&mut text, 0)?;
+    put16(&mut text, 0)?;
+    put16(&mut text, 0)?;
+    put16(&mut text, 0)?;
+    put16(&mut text, 0)?;
     Ok(text)
 }
 
@@ -88,7 +88,10 @@ fn push_needs<'a>(
     for need in needs {
         let (number, behind) = rest.split_at(2);
         pool.push(utf8(need.name.as_slice()))?;
-        pool.push(Slot::Constant { tag: 19, body: number })?;
+        pool.push(Slot::Constant {
+            tag: 19,
+            body: number,
+        })?;
         rest = behind;
     }
     Ok(())
@@ -106,10 +109,16 @@ fn pool<'a>(
 {
     let mut pool = List::new(alloc);
     pool.push(utf8(b"module-info"))?;
-    pool.push(Slot::Constant { tag: 7, body: &[0, 1] })?;
+    pool.push(Slot::Constant {
+        tag: 7,
+        body: &[0, 1],
+    })?;
     pool.push(utf8(b"Module"))?;
     pool.push(utf8(name))?;
-    pool.push(Slot::Constant { tag: 19, body: &[0, 4] })?;
+    pool.push(Slot::Constant {
+        tag: 19,
+        body: &[0, 4],
+    })?;
     push_needs(&mut pool, needs, numbers)?;
     Ok(pool)
 }

@@ -1,7 +1,7 @@
-use Rattle.std.proofs.Common.{sym, ◌∙◌, map}
-use Rattle.jm_class.specs.Views.{pool_of, plain, attribute_of}
-use Rattle.jm_modinfo.proofs.InfoLaws.{main-found, main-said, none_there}
-use Rattle.jm_modinfo.specs.Descriptors.{bodies, main_bodies}
+use Rattle.std.proofs.Common.{sym, ◌∙◌}
+use Rattle.jm_class.specs.Views.{pool_of, plain}
+use Rattle.jm_modinfo.proofs.InfoLaws.{main-found, none_there}
+use Rattle.jm_modinfo.specs.Descriptors.{main_bodies}
 use Rattle.jm_modinfo.proofs.attributes.main_class.Goals as goal
 
 pub returns-in_ok-copy_of-in-Some-main_named-clause-main :
