@@ -1,4 +1,5 @@
 pub mod Classes
 pub mod ComputedClass
+pub mod FaultText
 pub mod Readings
 pub mod Views

@@ -1,6 +1,8 @@
-ghost use Rattle.std.specs.Prelude.{◌≡◌};
+ghost use Rattle.std.specs.Prelude.{◌≡◌, Some};
+ghost use Rattle.jm_class.specs.FaultText.{class_fault_text};
 
 use jm_bytes::{List, NoMemory};
+use std::fmt;
 
 /// A class file. Its opaque bytes are slices of the input.
 #[derive(Debug, Drop)]
@@ -110,6 +112,23 @@ pub enum ClassFault {
     CodeLength(usize),
     /// Bytes follow the class, from here on.
     Rest(usize),
+}
+
+/// The fault's name, and its number behind a space, as `Short 22`.
+impl fmt::Display for ClassFault {
+    ghost output = { λ f. Some (class_fault_text f) };
+
+    fn fmt<W: fmt::Write>(&self, f: &mut fmt::Formatter<W>) -> fmt::Result {
+        match *self {
+            ClassFault::Magic => write!(f, "Magic"),
+            ClassFault::Version(major) => write!(f, "Version {major}"),
+            ClassFault::Short(at) => write!(f, "Short {at}"),
+            ClassFault::Tag(at) => write!(f, "Tag {at}"),
+            ClassFault::Index(at) => write!(f, "Index {at}"),
+            ClassFault::CodeLength(at) => write!(f, "CodeLength {at}"),
+            ClassFault::Rest(at) => write!(f, "Rest {at}"),
+        }
+    }
 }
 
 /// Why bytes give no class.

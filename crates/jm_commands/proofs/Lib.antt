@@ -1,3 +1,4 @@
+pub mod DescribeLaws
 pub mod Gotten
 pub mod ListingLaws
 mod ListingVectors

@@ -1,12 +1,18 @@
 -- What all commands that are built have in common.
-use Rattle.std.proofs.Common.{◌≡◌, Bool, true, false, cond, ℕ, List, [], Option, Some, None, refl, ap}
+use Rattle.std.proofs.Common.{◌≡◌, Bool, true, false, cond, ℕ, List, [], Option, Some, None, Result, Ok, Err, refl, ap}
 use Rattle.jm_form.specs.declared.damage.Damage.{Damage}
 use Rattle.jm_form.specs.declared.rows.Row.{Row}
 use Rattle.jm_form.specs.Damages.{first_damage}
 use Rattle.jm_form.specs.Validity.{look}
 use Rattle.jm_words.specs.declared.commands.Command.{Command}
 use Rattle.jm_words.specs.declared.commands.Command.TheVariants as command
-use Rattle.jm_commands.specs.Outcome.{built_outcome, cat_outcome, command_outcome, file_outcome, image_outcome, read_path, is_built, opened_outcome, plain_outcome, unbuilt}
+use Rattle.jm_class.specs.declared.class.ClassFault.{ClassFault}
+use Rattle.jm_class.specs.Classes.{ClassData}
+use Rattle.jm_class.specs.ComputedClass.{class_of}
+use Rattle.jm_modinfo.specs.declared.descriptor.Descriptor.{Descriptor}
+use Rattle.jm_modinfo.specs.declared.faults.InfoFault.{InfoFault}
+use Rattle.jm_modinfo.specs.ComputedInfo.{info_of}
+use Rattle.jm_commands.specs.Outcome.{built_outcome, cat_outcome, class_outcome, command_outcome, describe_outcome, descriptor_outcome, file_outcome, reads_class, image_outcome, read_path, is_built, opened_outcome, plain_outcome, unbuilt}
 
 cat_writes : (name : List ℕ) (found : Option (Row × List ℕ)) → (cat_outcome name found).writes ≡ []
 cat_writes name None = refl
@@ -28,9 +34,21 @@ plain_writes (command.Help jobs) = refl
 plain_writes (command.Version jobs) = refl
 plain_writes _ = refl
 
+descriptor_writes : (path : List ℕ) (d : Result Descriptor InfoFault) → (descriptor_outcome path d).writes ≡ []
+descriptor_writes path (Ok d) = refl
+descriptor_writes path (Err fault) = refl
+
+class_writes : (path : List ℕ) (c : Result ClassData ClassFault) → (class_outcome path c).writes ≡ []
+class_writes path (Ok c) = descriptor_writes path (info_of c)
+class_writes path (Err fault) = refl
+
 file_writes : (given : Command) (path : List ℕ) (found : Option (List ℕ)) → (file_outcome given path found).writes ≡ []
 file_writes given path None = refl
-file_writes given path (Some b) = opened_writes given b (first_damage b)
+file_writes given path (Some b) = go (reads_class given)
+  where
+    go : (class : Bool) → (cond class (describe_outcome path b) (opened_outcome given b (first_damage b))).writes ≡ []
+    go true = class_writes path (class_of b)
+    go false = opened_writes given b (first_damage b)
 
 built_writes : (given : Command) (path found : Option (List ℕ)) → (built_outcome given path found).writes ≡ []
 built_writes given None found = plain_writes given
@@ -82,9 +100,13 @@ module _ (n : ℕ) where
   opened-with_jobs given b None = image-with_jobs given b
   opened-with_jobs given b (Some damage) = refl
 
+  class-with_jobs : (given : Command) → reads_class (with_jobs n given) ≡ reads_class given
+  class-with_jobs (command.Describe file jobs) = refl
+  class-with_jobs _ = refl
+
   file-with_jobs : (given : Command) (path : List ℕ) (found : Option (List ℕ)) → file_outcome (with_jobs n given) path found ≡ file_outcome given path found
   file-with_jobs given path None = refl
-  file-with_jobs given path (Some b) = opened-with_jobs given b (first_damage b)
+  file-with_jobs given path (Some b) = rw (class-with_jobs given) (ap (λ due. cond (reads_class given) (describe_outcome path b) due) (opened-with_jobs given b (first_damage b)))
 
   outcome-with_jobs : (given : Command) (path found : Option (List ℕ)) → built_outcome (with_jobs n given) path found ≡ built_outcome given path found
   outcome-with_jobs given None found = plain-with_jobs given

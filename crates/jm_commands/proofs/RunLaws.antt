@@ -21,6 +21,7 @@ reported given is err new_err same put = subst (λ (s : Status). ReportDoes give
     go (complaint.Words fault) put = (refl, put)
     go (complaint.Damaged damage) put = (refl, put)
     go (complaint.NotThere text) put = (refl, put)
+    go (complaint.Refused refusal) put = (refl, put)
 
 module _ (due : Outcome) (shelf new_shelf : Seen Files) (out new_out : Seen (List ℕ)) where
   -- the step did its work

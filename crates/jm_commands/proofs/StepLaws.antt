@@ -40,6 +40,7 @@ no_output : (given : Complaint) → (outcome_of given).output ≡ []
 no_output (complaint.Words fault) = refl
 no_output (complaint.Damaged damage) = refl
 no_output (complaint.NotThere text) = refl
+no_output (complaint.Refused refusal) = refl
 
 -- nothing was put, and a complaint is all
 pub complained : (due : Outcome) (given : Complaint) (out new_out : Seen (List ℕ)) → due ≡ outcome_of given → new_out.told ≡ out.told → PutDoes due (Err (stop.Complaint given)) out new_out
@@ -85,16 +86,19 @@ complaint_status : (given : Complaint) → (outcome_of given).status ≡ status_
 complaint_status (complaint.Words fault) = refl
 complaint_status (complaint.Damaged damage) = refl
 complaint_status (complaint.NotThere text) = refl
+complaint_status (complaint.Refused refusal) = refl
 
 complaint_line : (given : Complaint) → (outcome_of given).line ≡ line_of given
 complaint_line (complaint.Words fault) = refl
 complaint_line (complaint.Damaged damage) = refl
 complaint_line (complaint.NotThere text) = refl
+complaint_line (complaint.Refused refusal) = refl
 
 complaint_writes : (given : Complaint) → (outcome_of given).writes ≡ []
 complaint_writes (complaint.Words fault) = refl
 complaint_writes (complaint.Damaged damage) = refl
 complaint_writes (complaint.NotThere text) = refl
+complaint_writes (complaint.Refused refusal) = refl
 
 -- a put, behind calls that changed no file
 module _ (due : Outcome) (shelf new_shelf : Seen Files) (out new_out : Seen (List ℕ)) (files : new_shelf.told ≡ shelf.told) where

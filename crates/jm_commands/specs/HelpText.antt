@@ -32,7 +32,7 @@ commands_text =
     ++ codes "  gen DIR --modules N --classes N --seed N\n"
     ++ codes "      makes modules below DIR and links them (not built yet)\n"
     ++ codes "  describe FILE\n"
-    ++ codes "      puts what a module-info.class says (not built yet)\n"
+    ++ codes "      puts what a module-info.class says\n"
     ++ codes "  --help\n"
     ++ codes "      puts this text\n"
     ++ codes "  --version\n"

@@ -1,7 +1,9 @@
 pub mod Cat
+pub mod DescribeText
 pub mod HelpText
 pub mod InfoText
 pub mod Outcome
+pub mod RefusalText
 pub mod Run
 pub mod Sinks
 pub mod StatusValue

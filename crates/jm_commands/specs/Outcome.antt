@@ -1,6 +1,6 @@
 -- What a command comes to: plain data, a function of the command and of the file that it names
 -- (this project's rule).
-use Rattle.std.specs.Prelude.{ℕ, Bool, true, false, List, [], ◌∷◌, ◌++◌, Option, Some, None, if◌then◌else◌, codes}
+use Rattle.std.specs.Prelude.{ℕ, Bool, true, false, List, [], ◌∷◌, ◌++◌, Option, Some, None, Result, Ok, Err, if◌then◌else◌, codes}
 use Rattle.jm_form.specs.declared.damage.Damage.{Damage}
 use Rattle.jm_form.specs.declared.rows.Row.{Row}
 use Rattle.jm_form.specs.DamageText.{damage_text}
@@ -13,6 +13,18 @@ use Rattle.jm_words.specs.declared.errors.WordsError.{WordsError}
 use Rattle.jm_words.specs.declared.errors.WordsError.TheVariants as error
 use Rattle.jm_words.specs.declared.errors.WordsKind.TheVariants as kind
 use Rattle.jm_words.specs.FaultText.{error_text}
+use Rattle.jm_class.specs.declared.class.ClassFault.{ClassFault}
+use Rattle.jm_class.specs.Classes.{ClassData}
+use Rattle.jm_class.specs.ComputedClass.{class_of}
+use Rattle.jm_modinfo.specs.declared.descriptor.Descriptor.{Descriptor}
+use Rattle.jm_modinfo.specs.declared.faults.DescriptorFault.{DescriptorFault}
+use Rattle.jm_modinfo.specs.declared.faults.DescriptorFault.TheVariants as fault_of
+use Rattle.jm_modinfo.specs.declared.faults.InfoFault.{InfoFault}
+use Rattle.jm_modinfo.specs.ComputedInfo.{info_of}
+use Rattle.jm_commands.specs.declared.refusal.Refusal.{Refusal}
+use Rattle.jm_commands.specs.declared.refusal.Refusal.TheVariants as refusal
+use Rattle.jm_commands.specs.DescribeText.{describe_text}
+use Rattle.jm_commands.specs.RefusalText.{refusal_text}
 use Rattle.jm_commands.specs.declared.status.Status.{Status}
 use Rattle.jm_commands.specs.declared.status.Status.TheVariants as status
 use Rattle.jm_commands.specs.HelpText.{help_text, version_text}
@@ -44,6 +56,9 @@ damaged damage = refused status.Damaged (codes "damaged: " ++ damage_text damage
 abbrev pub not_there : List ℕ → Outcome
 not_there text = refused status.NotThere (codes "not there: " ++ text)
 
+abbrev pub refusing : Refusal → Outcome
+refusing refusal = refused status.Refused (codes "refused: " ++ refusal_text refusal)
+
 -- The commands
 
 -- `cat`: the content of the entry of that name, by what the look-up found
@@ -51,12 +66,29 @@ abbrev pub cat_outcome : List ℕ → Option (Row × List ℕ) → Outcome
 cat_outcome name None = not_there (utf name)
 cat_outcome name (Some found) = done found.1
 
+-- `describe`: what the class of a module says, by the class that the file's bytes read as
+
+abbrev pub bad_info : List ℕ → DescriptorFault → Outcome
+bad_info path fault = refusing (refusal.BadInfo path fault)
+
+abbrev pub descriptor_outcome : List ℕ → Result Descriptor InfoFault → Outcome
+descriptor_outcome path (Ok d) = done (describe_text d)
+descriptor_outcome path (Err fault) = bad_info path (fault_of.Info fault)
+
+abbrev pub class_outcome : List ℕ → Result ClassData ClassFault → Outcome
+class_outcome path (Ok c) = descriptor_outcome path (info_of c)
+class_outcome path (Err fault) = bad_info path (fault_of.Class fault)
+
+abbrev pub describe_outcome : List ℕ → List ℕ → Outcome
+describe_outcome path b = class_outcome path (class_of b)
+
 -- which commands are built yet; another one is as unknown as its name
 abbrev pub is_built : Command → Bool
 is_built (command.Cat image name jobs) = true
 is_built (command.List image include jobs) = true
 is_built (command.Info image jobs) = true
 is_built (command.Verify image jobs) = true
+is_built (command.Describe file jobs) = true
 is_built (command.Help jobs) = true
 is_built (command.Version jobs) = true
 is_built _ = false
@@ -76,10 +108,17 @@ abbrev pub opened_outcome : Command → List ℕ → Option Damage → Outcome
 opened_outcome command b None = image_outcome command b
 opened_outcome command b (Some damage) = damaged damage
 
+-- the file that the command reads is a class and no image
+abbrev pub reads_class : Command → Bool
+reads_class (command.Describe file jobs) = true
+reads_class _ = false
+
 -- a command on the file of a path, if it is there
 abbrev pub file_outcome : Command → List ℕ → Option (List ℕ) → Outcome
 file_outcome command path None = not_there path
-file_outcome command path (Some b) = opened_outcome command b (first_damage b)
+file_outcome command path (Some b) =
+    if reads_class command then describe_outcome path b
+    else opened_outcome command b (first_damage b)
 
 -- the path of the one file that a command reads, if it reads one
 abbrev pub read_path : Command → Option (List ℕ)

@@ -10,7 +10,7 @@ use Rattle.jm_commands.specs.declared.status.Status.{Status}
 use Rattle.jm_commands.specs.declared.status.Status.TheVariants as status
 use Rattle.jm_commands.specs.declared.stop.Stop.{Stop}
 use Rattle.jm_commands.specs.declared.stop.Stop.TheVariants as stop
-use Rattle.jm_commands.specs.Outcome.{Outcome, command_outcome, damaged, done, faulty, not_there, read_path}
+use Rattle.jm_commands.specs.Outcome.{Outcome, command_outcome, damaged, done, faulty, not_there, read_path, refusing}
 use Rattle.jm_commands.specs.Sinks.{Seen, Gets, GetsFront}
 use Rattle.jm_commands.specs.Texts.{line_of}
 use Rattle.jm_commands.specs.Writes.{Makes, MakesFront}
@@ -41,6 +41,7 @@ abbrev pub status_of : Complaint → Status
 status_of (complaint.Words fault) = status.Words
 status_of (complaint.Damaged damage) = status.Damaged
 status_of (complaint.NotThere text) = status.NotThere
+status_of (complaint.Refused refusal) = status.Refused
 
 -- the step's answer is that of the outcome, unless the outside failed or no memory was found
 abbrev pub Answers : Outcome → Result (Unit {0}) Stop → Type 0
@@ -79,6 +80,7 @@ abbrev pub outcome_of : Complaint → Outcome
 outcome_of (complaint.Words fault) = faulty fault
 outcome_of (complaint.Damaged damage) = damaged damage
 outcome_of (complaint.NotThere text) = not_there text
+outcome_of (complaint.Refused refusal) = refusing refusal
 
 -- the answer of a command that makes no file is the whole outcome
 abbrev pub AnswersAll : Outcome → Result (Unit {0}) Stop → Type 0

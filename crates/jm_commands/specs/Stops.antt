@@ -1,11 +1,14 @@
 -- Why a command stops (this project's rule).
+use Rattle.std.specs.Prelude.{ℕ, ◌≡◌, List}
 use Rattle.jm_outside.specs.declared.shelf.ShelfError.{ShelfError}
 use Rattle.jm_outside.specs.declared.shelf.ShelfError.TheVariants as shelf_error
 use Rattle.jm_outside.specs.declared.streams.SinkError.{SinkError}
 use Rattle.jm_outside.specs.declared.streams.SinkError.TheVariants as sink_error
 use Rattle.jm_words.specs.declared.errors.WordsError.TheVariants as error
 use Rattle.jm_words.specs.declared.errors.WordsKind.TheVariants as kind
+use Rattle.jm_modinfo.specs.declared.faults.DescriptorFault.{DescriptorFault}
 use Rattle.jm_commands.specs.declared.complaint.Complaint.TheVariants as complaint
+use Rattle.jm_commands.specs.declared.refusal.Refusal.TheVariants as refusal
 use Rattle.jm_commands.specs.declared.stop.Stop.{Stop}
 use Rattle.jm_commands.specs.declared.stop.Stop.TheVariants as stop
 
@@ -22,3 +25,10 @@ stop_of_sink sink_error.Memory = stop.Memory
 -- a command that isn't built yet
 abbrev pub unbuilt_stop : Stop
 unbuilt_stop = stop.Complaint (complaint.Words (error.Fault 1 kind.UnknownCommand))
+
+-- how `describe` stops where the file at a path is refused, unless no memory is found
+abbrev pub Refuses : List ℕ → DescriptorFault → Stop → Type 0
+Refuses path fault (stop.Complaint given) =
+    given ≡ complaint.Refused (refusal.BadInfo path fault)
+Refuses path fault stop.Outside = ⊥
+Refuses path fault stop.Memory = Unit {0}

@@ -2,6 +2,7 @@
 use Rattle.std.specs.Prelude.{ℕ, List, [], ◌∷◌, ◌++◌, codes}
 use Rattle.jm_form.specs.DamageText.{damage_text}
 use Rattle.jm_words.specs.FaultText.{error_text}
+use Rattle.jm_commands.specs.RefusalText.{refusal_text}
 use Rattle.jm_commands.specs.declared.complaint.Complaint.{Complaint}
 use Rattle.jm_commands.specs.declared.complaint.Complaint.TheVariants as complaint
 
@@ -9,6 +10,7 @@ abbrev pub complaint_text : Complaint → List ℕ
 complaint_text (complaint.Words fault) = codes "words: " ++ error_text fault
 complaint_text (complaint.Damaged damage) = codes "damaged: " ++ damage_text damage
 complaint_text (complaint.NotThere text) = codes "not there: " ++ text
+complaint_text (complaint.Refused refusal) = codes "refused: " ++ refusal_text refusal
 
 -- a line ends with one newline byte
 abbrev pub line_of : Complaint → List ℕ

@@ -1,7 +1,9 @@
 ghost use Rattle.std.specs.Prelude.{◌≡◌, ◌∷◌, ◌++◌, [], codes, IfOk};
+ghost use Rattle.jm_commands.specs.RefusalText.{refusal_text};
 ghost use Rattle.jm_commands.specs.Run.{status_of};
 ghost use Rattle.jm_commands.specs.Texts.{line_of};
 
+use crate::refusal::Refusal;
 use crate::status::Status;
 use jm_bytes::Text;
 use jm_form::Damage;
@@ -17,6 +19,8 @@ pub enum Complaint {
     Damaged(Damage),
     /// This path, or this name in UTF-8, isn't there.
     NotThere(Text),
+    /// The command refuses its input.
+    Refused(Refusal),
 }
 
 impl Complaint {
@@ -28,6 +32,7 @@ impl Complaint {
             Complaint::Words(_) => Status::Words,
             Complaint::Damaged(_) => Status::Damaged,
             Complaint::NotThere(_) => Status::NotThere,
+            Complaint::Refused(_) => Status::Refused,
         }
     }
 
@@ -41,6 +46,7 @@ impl Complaint {
                 Ok(format!(in alloc; "damaged: {damage}\n")?.into_bytes())
             }
             Complaint::NotThere(text) => not_there_line(alloc, text.as_slice()),
+            Complaint::Refused(refusal) => refused_line(alloc, refusal),
         }
     }
 }
@@ -51,6 +57,18 @@ fn not_there_line(alloc: Global, text: &[u8]) -> Result<Vec<u8>, AllocError>
 {
     let mut line = Vec::from_slice(alloc, b"not there: ")?;
     line.extend_from_slice(text)?;
+    line.extend_from_slice(b"\n")?;
+    Ok(line)
+}
+
+/// The line on what is refused.
+fn refused_line(alloc: Global, refusal: &Refusal) -> Result<Vec<u8>, AllocError>
+    ensures { IfOk result
+        (λ line. line.items ≡ codes "refused: " ++ refusal_text refusal.now ++ 10 ∷ []) }
+{
+    let text = refusal.text(alloc)?;
+    let mut line = Vec::from_slice(alloc, b"refused: ")?;
+    line.extend_from_slice(text.as_slice())?;
     line.extend_from_slice(b"\n")?;
     Ok(line)
 }

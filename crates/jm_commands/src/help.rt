@@ -34,7 +34,7 @@ commands:
   gen DIR --modules N --classes N --seed N
       makes modules below DIR and links them (not built yet)
   describe FILE
-      puts what a module-info.class says (not built yet)
+      puts what a module-info.class says
   --help
       puts this text
   --version

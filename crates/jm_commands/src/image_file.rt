@@ -2,13 +2,14 @@ ghost use Rattle.std.specs.Prelude.{◌≡◌, ◌<◌, List, ℕ, Option, Some,
 ghost use Rattle.jm_form.specs.Damages.{first_damage};
 ghost use Rattle.jm_form.specs.Validity.{look};
 ghost use Rattle.jm_commands.specs.Cat.{CatDoes};
-ghost use Rattle.jm_commands.specs.Outcome.{cat_outcome, file_outcome};
+ghost use Rattle.jm_commands.specs.Outcome.{cat_outcome, file_outcome, reads_class};
 ghost use Rattle.jm_commands.specs.Outcome.{image_outcome, opened_outcome};
 ghost use Rattle.jm_commands.specs.Run.{HasFile, PutDoes, StepDoes};
 ghost use Rattle.jm_commands.specs.Sinks.{seen};
 
 use crate::cat::cat_command;
 use crate::complaint::Complaint;
+use crate::describe::describe_command;
 use crate::info::info_command;
 use crate::listing::list_command;
 use crate::stop::{Stop, unbuilt};
@@ -116,7 +117,37 @@ fn do_on_bytes<T: Threads + Sync, O: Sink, G: Gate + Sync>(
     }
 }
 
-/// Reads the file of an image, and does the work of a command on it.
+/// The file that the command reads is a class and no image.
+fn reads_class(command: &Command) -> bool
+    ensures { result ≡ reads_class command.now }
+{
+    matches!(command, Command::Describe { .. })
+}
+
+/// Does the work of a command on the bytes of the file at a path.
+fn do_on_found<T: Threads + Sync, O: Sink, G: Gate + Sync>(
+    rt: &T,
+    alloc: Global,
+    command: &Command,
+    path: &[u8],
+    jobs: u32,
+    bytes: &[u8],
+    out: &mut O,
+    gate: &G,
+) -> Result<(), Stop>
+    requires { 0 < jobs }
+    ensures { PutDoes (file_outcome command.now path.now (Some bytes.now)) result
+        (seen (O.content out.old) (O.faults out.old))
+        (seen (O.content out.new) (O.faults out.new)) }
+{
+    if reads_class(command) {
+        describe_command(alloc, path, bytes, out)
+    } else {
+        do_on_bytes(rt, alloc, command, jobs, bytes, out, gate)
+    }
+}
+
+/// Reads the file of a command, and does its work on it.
 pub fn do_on_file<T: Threads + Sync, S: Shelf, O: Sink, G: Gate + Sync>(
     rt: &T,
     alloc: Global,
@@ -141,5 +172,5 @@ pub fn do_on_file<T: Threads + Sync, S: Shelf, O: Sink, G: Gate + Sync>(
         let text = Text::copy_of(alloc, path)?;
         return Err(Stop::Complaint(Complaint::NotThere(text)));
     };
-    do_on_bytes(rt, alloc, command, jobs, bytes.as_slice(), out, gate)
+    do_on_found(rt, alloc, command, path, jobs, bytes.as_slice(), out, gate)
 }

@@ -3,12 +3,15 @@
 
 mod cat;
 mod complaint;
+mod describe;
+mod describe_text;
 mod help;
 mod image_file;
 mod info;
 mod listing;
 mod output;
 mod program;
+mod refusal;
 mod status;
 mod stop;
 #[cfg(test)]

@@ -8,7 +8,7 @@ ghost use Rattle.jm_commands.specs.Sinks.{seen};
 ghost use Rattle.jm_commands.specs.Taken.{is_included, list_line, list_text, taken, taken_alone};
 ghost use Rattle.jm_commands.specs.Taken.{taken_among, taken_as, NeverFalls, RisesByName};
 
-use crate::output::put_output;
+use crate::output::{extend, put_output};
 use crate::stop::Stop;
 use itoa::Buffer;
 use jm_bytes::{List, Meter, NoMemory, Text};
@@ -115,16 +115,6 @@ pub fn taken<'a, R: Ledger>(
 {
     let entries = taken_by_slot(alloc, image, include, reads)?;
     Ok(sorted_by_name(entries))
-}
-
-/// Puts bytes at the end.
-fn extend(text: &mut Vec<u8>, bytes: &[u8]) -> Result<(), NoMemory>
-    ensures { OnOk result (text.new.items ≡ text.old.items ++ bytes.now) }
-{
-    match text.extend_from_slice(bytes) {
-        Ok(()) => Ok(()),
-        Err(_) => Err(NoMemory),
-    }
 }
 
 /// Puts the line of an entry at the end: its size in bytes, a space, its name in UTF-8.

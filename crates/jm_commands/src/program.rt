@@ -44,6 +44,7 @@ fn is_built(command: &Command) -> bool
         | Command::List { .. }
         | Command::Info { .. }
         | Command::Verify { .. }
+        | Command::Describe { .. }
         | Command::Help { .. }
         | Command::Version { .. } => true,
         _ => false,

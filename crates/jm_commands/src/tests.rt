@@ -10,7 +10,8 @@ use std::sync::atomic::{AtomicBool, Ordering};
 use std::test::Fail;
 use std::thread::Threads;
 use vectors::{
-    above_ffff, apart, bad_node, big_tiny, far, no_entries, overlapping, seeded_tiny, tiny,
+    above_ffff, apart, bad_node, big_tiny, far, module_a, no_entries, overlapping, seeded_tiny,
+    smallest_class, tiny,
 };
 
 /// The number of the call that fails on the shelf, the output and the error sink.
@@ -206,6 +207,18 @@ index 55\ncontents 2\n|";
         (tiny(), "verify other", "5||not there: other\n"),
         (tiny(), "--version", "0|jm_tool 0.1.0\n|"),
         (tiny(), "list other", "5||not there: other\n"),
+        (
+            module_a(),
+            "describe img",
+            "0|module a\nrequires b\nrequires java.base\n|",
+        ),
+        (
+            smallest_class(),
+            "describe img",
+            "3||refused: BadInfo img Info NotModule\n",
+        ),
+        (tiny(), "describe img", "3||refused: BadInfo img Class Magic\n"),
+        (tiny(), "describe other", "5||not there: other\n"),
         (no_entries(), "list img", "0||"),
         (bad_node(), "list img", "0||"),
         (apart(), "list img", "0|0 /m/a\n0 /m/b\n|"),

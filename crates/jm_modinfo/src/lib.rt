@@ -1,6 +1,18 @@
-//! Module descriptors (JVMS 4.7.25), as data.
+//! Module descriptors (JVMS 4.7.25), as data: read from a class, and written as one.
 #![tactic(auto)]
 
+mod attributes;
+mod constants;
+mod describing;
 mod descriptor;
+mod faults;
+mod fields;
+mod writing;
 
+pub use describing::describe;
 pub use descriptor::{Descriptor, Need, Opened, Provides};
+pub use faults::{DescriptorFault, InfoError, InfoFault};
+pub use writing::write_info;
+
+#[cfg(test)]
+mod tests;

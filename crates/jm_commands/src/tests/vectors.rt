@@ -80,3 +80,21 @@ pub fn bad_node() -> &'static [u8] {
         47, 112, 97, 99, 107, 97, 103, 101, 115, 0, 104, 105,
     ]
 }
+
+/// A class of no constant, which is none of a module.
+pub fn smallest_class() -> &'static [u8] {
+    &[
+        0xCA, 0xFE, 0xBA, 0xBE, 0, 0, 0, 52, 0, 1, 0, 0, 0, 0, 0, 0, 0, 0, 0, 0, 0, 0, 0, 0,
+    ]
+}
+
+/// The class of the module `a`, which requires `b` and `java.base`.
+pub fn module_a() -> &'static [u8] {
+    &[
+        0xCA, 0xFE, 0xBA, 0xBE, 0, 0, 0, 53, 0, 10, 1, 0, 11, 0x6D, 0x6F, 0x64, 0x75, 0x6C, 0x65,
+        45, 0x69, 0x6E, 0x66, 0x6F, 7, 0, 1, 1, 0, 6, 0x4D, 0x6F, 0x64, 0x75, 0x6C, 0x65, 1, 0, 1,
+        0x61, 19, 0, 4, 1, 0, 1, 0x62, 19, 0, 6, 1, 0, 9, 0x6A, 0x61, 0x76, 0x61, 46, 0x62, 0x61,
+        0x73, 0x65, 19, 0, 8, 0x80, 0, 0, 2, 0, 0, 0, 0, 0, 0, 0, 0, 0, 1, 0, 3, 0, 0, 0, 28, 0, 5,
+        0, 0, 0, 0, 0, 2, 0, 7, 0, 0, 0, 0, 0, 9, 0, 0, 0, 0, 0, 0, 0, 0, 0, 0, 0, 0,
+    ]
+}

@@ -16,4 +16,4 @@ returns-in_err-found g c =
 
 pub returns : goal.returns
 returns g c =
-    (Some c.as_slice.result.now, search rules, put_step _ _ _ _ _ c.in_ok-found.ensures.files _ c.do_on_bytes.ensures)
+    (Some c.as_slice.result.now, search rules, put_step _ _ _ _ _ c.in_ok-found.ensures.files _ c.do_on_found.ensures)

@@ -1,0 +1,8 @@
+pub mod BodiesLaws
+pub mod FieldTells
+pub mod InfoLaws
+pub mod Stops
+pub mod TellsLaws
+mod Vectors
+pub mod WrittenLaws
+pub mod WrittenLoops

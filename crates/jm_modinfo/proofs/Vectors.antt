@@ -1,0 +1,108 @@
+-- The definitions, evaluated on the small classes of the format's cases.
+use Rattle.std.proofs.Common.{◌≡◌, ℕ, List, [], ◌∷◌, ◌++◌, Option, Some, None, Result, Ok, Err, refl, take, drop, length}
+use Rattle.std.specs.Prelude.{codes, replicate}
+use Rattle.std.specs.Fmt.{digits}
+use Rattle.jm_class.specs.Classes.{ClassData}
+use Rattle.jm_class.specs.ComputedClass.{class_of}
+use Rattle.jm_class.specs.declared.class.ClassFault.{ClassFault}
+use Rattle.jm_class.specs.declared.class.ClassFault.TheVariants as class
+use Rattle.jm_modinfo.specs.ComputedInfo.{info_of}
+use Rattle.jm_modinfo.specs.declared.descriptor.Need.{Need}
+use Rattle.jm_modinfo.specs.declared.faults.DescriptorFault.TheVariants as fault
+use Rattle.jm_modinfo.specs.declared.faults.InfoFault.{InfoFault}
+use Rattle.jm_modinfo.specs.declared.faults.InfoFault.TheVariants.{NotModule, OldVersion, NoModule, TwoModule, Index, Short, Rest, Name, Main}
+use Rattle.jm_modinfo.specs.Faults.{info_fault}
+use Rattle.jm_modinfo.specs.FaultText.{descriptor_fault_text}
+use Rattle.jm_modinfo.specs.Written.{info_class, info_text, plain_descriptor}
+
+-- a module a that requires nothing
+abbrev alone : List ℕ
+alone =
+    202 ∷ 254 ∷ 186 ∷ 190 ∷ 0 ∷ 0 ∷ 0 ∷ 53 ∷ 0 ∷ 6 ∷ 1 ∷ 0 ∷ 11 ∷ 109 ∷ 111 ∷ 100 ∷ 117 ∷ 108 ∷
+    101 ∷ 45 ∷ 105 ∷ 110 ∷ 102 ∷ 111 ∷ 7 ∷ 0 ∷ 1 ∷ 1 ∷ 0 ∷ 6 ∷ 77 ∷ 111 ∷ 100 ∷ 117 ∷ 108 ∷
+    101 ∷ 1 ∷ 0 ∷ 1 ∷ 97 ∷ 19 ∷ 0 ∷ 4 ∷ 128 ∷ 0 ∷ 0 ∷ 2 ∷ 0 ∷ 0 ∷ 0 ∷ 0 ∷ 0 ∷ 0 ∷ 0 ∷ 0 ∷ 0 ∷
+    1 ∷ 0 ∷ 3 ∷ 0 ∷ 0 ∷ 0 ∷ 16 ∷ 0 ∷ 5 ∷ 0 ∷ 0 ∷ 0 ∷ 0 ∷ 0 ∷ 0 ∷ 0 ∷ 0 ∷ 0 ∷ 0 ∷ 0 ∷ 0 ∷ 0 ∷ 0 ∷ []
+
+-- a module a that requires b and java.base
+abbrev two_needs : List Need
+two_needs =
+    record { name = codes "b"; flags = 0; version = None }
+    ∷ record { name = codes "java.base"; flags = 0x8000; version = None } ∷ []
+
+alone_text : info_text (codes "a") [] ≡ alone
+alone_text = refl
+
+two_needs_size : length (info_text (codes "a") two_needs) ≡ 113
+two_needs_size = refl
+
+alone_info : info_of (info_class (codes "a") []) ≡ Ok (plain_descriptor (codes "a") [])
+alone_info = refl
+
+two_needs_info : info_of (info_class (codes "a") two_needs) ≡ Ok (plain_descriptor (codes "a") two_needs)
+two_needs_info = refl
+
+-- The faults
+
+abbrev fault_of_class : Result ClassData ClassFault → Option InfoFault
+fault_of_class (Ok c) = info_fault c
+fault_of_class (Err fault) = None
+
+abbrev fault_in : List ℕ → Option InfoFault
+fault_in bytes = fault_of_class (class_of bytes)
+
+-- bytes in place of n bytes from a place on
+abbrev spliced : ℕ → ℕ → List ℕ → List ℕ → List ℕ
+spliced at n new bytes = take at bytes ++ new ++ drop n (drop at bytes)
+
+no_fault : fault_in alone ≡ None
+no_fault = refl
+
+-- the 24 bytes of a class without anything
+smallest : fault_in (take 7 alone ++ 52 ∷ 0 ∷ 1 ∷ replicate 14 0) ≡ Some NotModule
+smallest = refl
+
+old : fault_in (spliced 7 1 (52 ∷ []) alone) ≡ Some (OldVersion 52)
+old = refl
+
+other_name : fault_in (spliced 30 1 (78 ∷ []) alone) ≡ Some NoModule
+other_name = refl
+
+two : fault_in (spliced 55 2 (0 ∷ 2 ∷ []) alone ++ 0 ∷ 3 ∷ 0 ∷ 0 ∷ 0 ∷ 0 ∷ []) ≡ Some TwoModule
+two = refl
+
+other_kind : fault_in (spliced 64 1 (4 ∷ []) alone) ≡ Some (Index 0)
+other_kind = refl
+
+no_version : fault_in (spliced 68 1 (5 ∷ []) alone) ≡ Some (Index 4)
+no_version = refl
+
+one_more : fault_in (spliced 78 1 (1 ∷ []) alone) ≡ Some (Short 16)
+one_more = refl
+
+left_over : fault_in (spliced 62 1 (18 ∷ []) alone ++ 0 ∷ 0 ∷ []) ≡ Some (Rest 16)
+left_over = refl
+
+comma : fault_in (spliced 39 1 (44 ∷ []) alone) ≡ Some (Name 0)
+comma = refl
+
+-- the main class that constant 2 names, and one that constant 3 doesn't
+abbrev main_attribute : ℕ → List ℕ
+main_attribute index = 0 ∷ 1 ∷ 0 ∷ 0 ∷ 0 ∷ 2 ∷ 0 ∷ index ∷ []
+
+abbrev with_main : ℕ → List ℕ
+with_main index =
+    take 11 alone ++ 0 ∷ 15 ∷ codes "ModuleMainClass" ++ take 31 (drop 24 alone) ++ 0 ∷ 2 ∷ drop 57 alone
+    ++ main_attribute index
+
+a_main_class : fault_in (with_main 2) ≡ None
+a_main_class = refl
+
+no_main_class : fault_in (with_main 3) ≡ Some Main
+no_main_class = refl
+
+printed : descriptor_fault_text (fault.Class (class.Short 22)) ≡ codes "Class Short 22"
+unfolding digits
+printed = refl
+
+info_printed : descriptor_fault_text (fault.Info NotModule) ≡ codes "Info NotModule"
+info_printed = refl

@@ -1,0 +1,115 @@
+-- What the class of a module says: the Module attribute, field by field, and the main class (JVMS
+-- 4.7.25, 4.7.27).
+use Rattle.std.specs.Prelude.{◌≡◌, ℕ, ◌^◌, ◌<◌, ◌≤◌, Bool, true, false, List, [], ◌∷◌, ◌++◌, length, Option, Some, None, if◌then◌else◌, codes}
+use Rattle.std.specs.List.{filter_map}
+use Rattle.std.specs.Str.{bytes_eq}
+use Rattle.jm_class.specs.Classes.{SlotData, BodyData, Opaque, Coded, AttributeData, ClassData, u2, utf8_at}
+use Rattle.jm_modinfo.specs.Constants.{named_at, version_at, is_allowed}
+use Rattle.jm_modinfo.specs.declared.constants.Kind.{Kind}
+use Rattle.jm_modinfo.specs.declared.constants.Kind.TheVariants.{Class, Module, Package}
+use Rattle.jm_modinfo.specs.declared.descriptor.Descriptor.{Descriptor}
+use Rattle.jm_modinfo.specs.declared.descriptor.Need.{Need}
+use Rattle.jm_modinfo.specs.declared.descriptor.Opened.{Opened}
+use Rattle.jm_modinfo.specs.declared.descriptor.Provides.{Provides}
+use Rattle.jm_modinfo.specs.Flags.{is_module}
+
+-- Bytes as fields
+
+-- bytes in two parts, one behind the other
+abbrev pub Then : (List ℕ → Type 0) → (List ℕ → Type 0) → List ℕ → Type 0
+Then First Second bytes =
+    (front : List ℕ) × (rest : List ℕ) × (bytes ≡ front ++ rest) × First front × Second rest
+
+-- a number in two bytes
+abbrev pub IsNumber : ℕ → List ℕ → Type 0
+IsNumber n bytes = (n < 2 ^ 16) × (bytes ≡ u2 n)
+
+-- an index in two bytes, by which this value is found
+abbrev pub IsIndex : {A : Type 0} → (ℕ → Option A) → A → List ℕ → Type 0
+IsIndex found value bytes = (index : ℕ) × (found index ≡ Some value) × IsNumber index bytes
+
+-- items one behind another
+abbrev pub Each : {A : Type 0} → (A → List ℕ → Type 0) → List A → List ℕ → Type 0
+Each IsItem [] bytes = bytes ≡ []
+Each IsItem (item ∷ items) bytes = Then (IsItem item) (Each IsItem items) bytes
+
+-- a count in two bytes, and so many items
+abbrev pub Counted : {A : Type 0} → (A → List ℕ → Type 0) → List A → List ℕ → Type 0
+Counted IsItem items = Then (IsNumber (length items)) (Each IsItem items)
+
+-- the index of a constant of a kind, which stands for this text; a module's name is legal
+abbrev pub IsNamed : List SlotData → Kind → List ℕ → List ℕ → Type 0
+IsNamed pool kind text bytes =
+    (is_allowed kind text ≡ true) × IsIndex (named_at pool kind) text bytes
+
+abbrev pub IsVersion : List SlotData → Option (List ℕ) → List ℕ → Type 0
+IsVersion pool = IsIndex (version_at pool)
+
+-- The Module attribute
+
+abbrev pub IsNeed : List SlotData → Need → List ℕ → Type 0
+IsNeed pool n =
+    Then (IsNamed pool Module n.name) (Then (IsNumber n.flags) (IsVersion pool n.version))
+
+-- a package that is exported or opened
+abbrev pub IsOpened : List SlotData → Opened → List ℕ → Type 0
+IsOpened pool p =
+    Then (IsNamed pool Package p.package)
+    (Then (IsNumber p.flags) (Counted (IsNamed pool Module) p.to))
+
+abbrev pub IsProvides : List SlotData → Provides → List ℕ → Type 0
+IsProvides pool p =
+    Then (IsNamed pool Class p.service) (Counted (IsNamed pool Class) p.classes)
+
+-- the body of the attribute
+abbrev pub IsModuleBody : List SlotData → Descriptor → List ℕ → Type 0
+IsModuleBody pool d =
+    Then (IsNamed pool Module d.name)
+    (Then (IsNumber d.flags)
+    (Then (IsVersion pool d.version)
+    (Then (Counted (IsNeed pool) d.needs)
+    (Then (Counted (IsOpened pool) d.exports)
+    (Then (Counted (IsOpened pool) d.opens)
+    (Then (Counted (IsNamed pool Class) d.uses)
+    (Counted (IsProvides pool) d.provides)))))))
+
+-- The attributes of the class itself
+
+abbrev pub plain_bytes : BodyData → Option (List ℕ)
+plain_bytes (Opaque bytes) = Some bytes
+plain_bytes (Coded code) = None
+
+abbrev pub is_named : List ℕ → Option (List ℕ) → Bool
+is_named name (Some text) = bytes_eq text name
+is_named name None = false
+
+-- the bytes of an attribute, if it has this name
+abbrev pub bytes_named : List SlotData → List ℕ → AttributeData → Option (List ℕ)
+bytes_named pool name a =
+    if is_named name (utf8_at pool a.name) then plain_bytes a.body else None
+
+-- the bytes of each attribute of a name
+abbrev pub bodies : List SlotData → List ℕ → List AttributeData → List (List ℕ)
+bodies pool name attributes = filter_map (bytes_named pool name) attributes
+
+abbrev pub module_bodies : ClassData → List (List ℕ)
+module_bodies c = bodies c.pool (codes "Module") c.attributes
+
+abbrev pub main_bodies : ClassData → List (List ℕ)
+main_bodies c = bodies c.pool (codes "ModuleMainClass") c.attributes
+
+-- the main class that the ModuleMainClass attributes name: none, or one by the one there is
+abbrev pub IsMain : List SlotData → List (List ℕ) → Option (List ℕ) → Type 0
+IsMain pool [] main = main ≡ None
+IsMain pool (body ∷ []) main =
+    (text : List ℕ) × (main ≡ Some text) × IsIndex (named_at pool Class) text body
+IsMain pool (body ∷ other ∷ more) main = ⊥
+
+-- the rule: the class is a module's, and its descriptor says this
+pub record InfoOf (c : ClassData) (d : Descriptor) : Type 0 where
+  pub access : is_module c.access ≡ true
+  pub major : 53 ≤ c.major
+  pub body : List ℕ
+  pub only : module_bodies c ≡ body ∷ []
+  pub says : IsModuleBody c.pool d body
+  pub main : IsMain c.pool (main_bodies c) d.main

@@ -1,0 +1,92 @@
+ghost use Rattle.std.specs.Prelude.{◌≡◌, option_map, IfSome};
+ghost use Rattle.std.specs.List.{list_all};
+ghost use Rattle.jm_class.specs.Views.{plain};
+ghost use Rattle.jm_modinfo.specs.Descriptors.{IsNumber};
+ghost use Rattle.jm_modinfo.specs.Constants.{number_in, tag_of, named_at, version_at, is_legal_byte, is_legal, is_allowed};
+
+use jm_class::{Class, Slot, utf8};
+
+/// A kind of constant that stands for a text.
+#[derive(Clone, Copy, Debug)]
+pub enum Kind {
+    /// The name of a class, with slashes between its parts.
+    Class,
+    /// The name of a module.
+    Module,
+    /// The name of a package, with slashes between its parts.
+    Package,
+}
+
+impl Kind {
+    /// The tag of the constants of this kind.
+    pub fn tag(self) -> u8
+        ensures { result ≡ tag_of self }
+    {
+        match self {
+            Kind::Class => 7,
+            Kind::Module => 19,
+            Kind::Package => 20,
+        }
+    }
+}
+
+/// The number in two bytes, the highest first; none where there are more or fewer.
+pub fn number_in(bytes: &[u8]) -> Option<u16>
+    ensures number { result ≡ number_in bytes.now }
+    ensures bytes { IfSome result (λ n. IsNumber n bytes.now) }
+{
+    let (number, rest) = bytes.split_first_chunk::<2>()?;
+    if rest.is_empty() {
+        Some(u16::from_be_bytes(*number))
+    } else {
+        None
+    }
+}
+
+/// The text for which the constant of a number stands; none where it isn't of this kind.
+pub fn named<'a>(class: &Class<'a>, kind: Kind, index: u16) -> Option<&'a [u8]>
+    ensures { option_map (λ text. text.now) result ≡ named_at (plain class.now).pool kind index }
+{
+    let place = usize::from(index).checked_sub(1)?;
+    match class.pool.as_slice().get(place)? {
+        Slot::Constant { tag, body } => {
+            if *tag == kind.tag() {
+                utf8(class, number_in(body)?)
+            } else {
+                None
+            }
+        }
+        Slot::Hole => None,
+    }
+}
+
+/// Whether a byte may stand in the name of a module.
+fn is_legal_byte(byte: u8) -> bool
+    ensures { result ≡ is_legal_byte byte }
+{
+    0x20 <= byte && !matches!(byte, b'/' | b'\\' | b':' | b'@' | b',')
+}
+
+/// Whether each byte may stand in the name of a module.
+fn has_legal_bytes(name: &[u8]) -> bool
+    ensures { result ≡ list_all is_legal_byte name.now }
+{
+    name.iter().all(|byte| is_legal_byte(*byte))
+}
+
+/// Whether a name is legal for a module, by the rule of this project.
+pub fn is_legal(name: &[u8]) -> bool
+    ensures { result ≡ is_legal name.now }
+{
+    !name.is_empty() && has_legal_bytes(name)
+}
+
+/// Whether a text may stand where a constant of a kind does.
+pub fn is_allowed(kind: Kind, text: &[u8]) -> bool
+    ensures { result ≡ is_allowed kind text.now }
+{
+    match kind {
+        Kind::Module => is_legal(text),
+        Kind::Class | Kind::Package => true,
+    }
+}
