@@ -3,6 +3,8 @@
 
 mod candidate;
 mod error;
+mod graph;
 
 pub use candidate::Candidate;
 pub use error::CloseError;
+pub use graph::Graph;
