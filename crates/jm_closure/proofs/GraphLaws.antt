@@ -1,9 +1,8 @@
 -- Edges of a graph, one more of them.
-use Rattle.std.proofs.Common.{◌≡◌, ◌<◌, ◌∷◌, ◌++◌, [], ℕ, List, length, map, slice_index_or, slice_set, refl, sym, ◌∙◌, ap}
+use Rattle.std.proofs.Common.{◌≡◌, ◌<◌, ◌∷◌, ◌++◌, [], ℕ, List, length, map, slice_index_or, slice_set, refl}
 use Rattle.std.proofs.Math.Seq.{map-set_same}
 use Rattle.std.proofs.lemmas.List.{map-set}
-use Rattle.std.proofs.lemmas.List.FromFn.{get_or-map-range_with_len}
-use Rattle.jm_closure.specs.Graphs.{ends_at, with_edge}
+use Rattle.jm_closure.specs.Graphs.{with_edge}
 use Rattle.std.proofs.lemmas.List as lists
 
 -- a row that grew by an edge, in the list that shows the rows

@@ -35,6 +35,26 @@ impl Graph {
         Ok(Graph { edges })
     }
 
+    /// No node.
+    pub fn empty(alloc: Global) -> Graph
+        ensures { result ≡ [] }
+    {
+        Graph {
+            edges: Vec::new(alloc),
+        }
+    }
+
+    /// Adds a node with the nodes to which it has an edge.
+    pub fn push(&mut self, ends: Vec<usize>) -> Result<(), NoMemory>
+        ensures ok { OnOk result (self.new ≡ self.old ++ ends.items ∷ []) }
+        ensures err { OnErr result (self.new ≡ self.old) }
+    {
+        match self.edges.push(ends) {
+            Ok(()) => Ok(()),
+            Err(_) => Err(NoMemory),
+        }
+    }
+
     /// How many nodes there are.
     pub fn len(&self) -> usize
         ensures { result ≡ length self.now }
@@ -61,7 +81,7 @@ impl Graph {
 }
 
 /// Puts a node at the end of some.
-fn push(nodes: &mut Vec<usize>, node: usize) -> Result<(), NoMemory>
+pub fn push(nodes: &mut Vec<usize>, node: usize) -> Result<(), NoMemory>
     ensures ok { OnOk result (nodes.new.items ≡ nodes.old.items ++ node ∷ []) }
     ensures err { OnErr result (nodes.new.items ≡ nodes.old.items) }
 {
