@@ -1,0 +1,11 @@
+pub mod ClosureLaws
+pub mod CycleLaws
+pub mod GraphLaws
+pub mod HolderLaws
+pub mod JudgeLaws
+pub mod LeastLaws
+pub mod NameLaws
+pub mod OrderLaws
+pub mod PlaceLaws
+pub mod ReachLaws
+pub mod RefusalLaws

@@ -1,2 +1,9 @@
+pub mod ComputedLeast
+pub mod Cycles
+pub mod Graphs
+pub mod Holders
+pub mod Least
 pub mod Modules
+pub mod Names
+pub mod Places
 pub mod Refusals

@@ -8,10 +8,13 @@ use Rattle.jm_closure.specs.declared.candidate.Candidate.{Candidate}
 abbrev pub name_of : Candidate → List ℕ
 name_of c = c.descriptor.name
 
+-- the names that are required without `static`
+abbrev pub needed_by : List Need → List (List ℕ)
+needed_by needs = map (λ need. need.name) (filter (λ need. not (is_static need.flags)) needs)
+
 -- the names that a module requires without `static`
 abbrev pub required_by : Candidate → List (List ℕ)
-required_by c =
-    map (λ need. need.name) (filter (λ need. not (is_static need.flags)) c.descriptor.needs)
+required_by c = needed_by c.descriptor.needs
 
 -- a module of this name is found
 abbrev pub IsFound : List Candidate → List ℕ → Type 0
@@ -39,8 +42,8 @@ abbrev pub Leads : (ℕ → ℕ → Type 0) → ℕ → List ℕ → ℕ → Typ
 Leads Step i [] j = i ≡ j
 Leads Step i (k ∷ places) j = Step i k × Leads Step k places j
 
--- there is a list of modules that begins with a root and ends at place j, in which each requires the
--- next without `static`
+-- there is a list of modules that begins with a root and ends at place j, in which each requires
+-- the next without `static`
 abbrev pub Reached : List Candidate → List (List ℕ) → ℕ → Type 0
 Reached found roots j =
     (i : ℕ) × (places : List ℕ) × IsRoot found roots i × Leads (Requires found) i places j

@@ -76,6 +76,31 @@ IsAcyclic found Chosen = IsNone (IsOnCycle found Chosen)
 abbrev pub IsUnsplit : List Candidate → (ℕ → Type 0) → Type 0
 IsUnsplit found Chosen = IsNone (IsSplit found Chosen)
 
+-- the refusal is the one of its kind, with its least values, or want of memory
+
+abbrev pub RefusesNeeds : List Candidate → (ℕ → Type 0) → CloseError → Type 0
+RefusesNeeds found Chosen (refusal.NoRoot name) = ⊥
+RefusesNeeds found Chosen (refusal.Missing name by) =
+    IsLeast (IsLacking found Chosen) name × IsLeast (Lacks found Chosen name) by
+RefusesNeeds found Chosen (refusal.Cycle name) = ⊥
+RefusesNeeds found Chosen (refusal.SplitPackage shared first second) = ⊥
+RefusesNeeds found Chosen refusal.Memory = Unit {0}
+
+abbrev pub RefusesCycle : List Candidate → (ℕ → Type 0) → CloseError → Type 0
+RefusesCycle found Chosen (refusal.NoRoot name) = ⊥
+RefusesCycle found Chosen (refusal.Missing name by) = ⊥
+RefusesCycle found Chosen (refusal.Cycle name) = IsLeast (IsOnCycle found Chosen) name
+RefusesCycle found Chosen (refusal.SplitPackage shared first second) = ⊥
+RefusesCycle found Chosen refusal.Memory = Unit {0}
+
+abbrev pub RefusesSplit : List Candidate → (ℕ → Type 0) → CloseError → Type 0
+RefusesSplit found Chosen (refusal.NoRoot name) = ⊥
+RefusesSplit found Chosen (refusal.Missing name by) = ⊥
+RefusesSplit found Chosen (refusal.Cycle name) = ⊥
+RefusesSplit found Chosen (refusal.SplitPackage shared first second) =
+    SplitsAt found Chosen shared first second
+RefusesSplit found Chosen refusal.Memory = Unit {0}
+
 -- these are the places of exactly the chosen modules, rising by name
 pub record AreChosen (found : List Candidate) (Chosen : ℕ → Type 0) (places : List ℕ) : Type 0 where
   pub exactly : (i : ℕ) → Contains places i ↔ Chosen i
@@ -84,8 +109,8 @@ pub record AreChosen (found : List Candidate) (Chosen : ℕ → Type 0) (places 
       → slice_get found i ≡ Some a → slice_get found j ≡ Some b
       → IsTrue (is_lt (slice_cmp nat_cmp (name_of a) (name_of b)))
 
--- the answer: the places, or the first refusal that holds, with its least values; want of memory says
--- nothing
+-- the answer: the places, or the first refusal that holds, with its least values; want of memory
+-- says nothing
 abbrev pub Closes : List Candidate → List (List ℕ) → (ℕ → Type 0)
     → Result (List ℕ) CloseError → Type 0
 Closes found roots Chosen (Ok places) =

@@ -8,7 +8,10 @@ pub enum CloseError {
     /// No module of this name is found, and it is a root.
     NoRoot(Text),
     /// No module of this name is found, and the module `by` requires it without `static`.
-    Missing { name: Text, by: Text },
+    Missing {
+        name: Text,
+        by: Text,
+    },
     /// This module reaches itself by one or more requires without `static`.
     Cycle(Text),
     /// Two modules have classes in this package.

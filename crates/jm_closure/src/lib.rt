@@ -2,7 +2,27 @@
 #![tactic(auto)]
 
 mod candidate;
+mod closing;
+mod cycle;
 mod error;
+mod graph;
+mod judging;
+mod least;
+mod missing;
+mod names;
+mod places;
+mod reach;
+mod split;
+mod walk;
 
 pub use candidate::Candidate;
+pub use closing::close;
 pub use error::CloseError;
+pub use graph::Graph;
+pub use judging::judge;
+pub use names::names_differ;
+pub use places::Places;
+pub use reach::reached;
+
+#[cfg(test)]
+mod tests;

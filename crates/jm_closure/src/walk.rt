@@ -1,0 +1,95 @@
+//! The order in which a walk through a graph, depth first, leaves its nodes.
+ghost use Rattle.std.specs.Prelude.{◌≡◌, ◌<◌, length, vec_len};
+
+use crate::graph::Graph;
+use jm_bytes::NoMemory;
+use std::alloc::Global;
+
+/// What a walk does next.
+#[derive(Clone, Copy, Debug)]
+enum Step {
+    Enter(usize),
+    Leave(usize),
+}
+
+/// A walk: the nodes that it entered, what is still to be done, the last first, and the nodes that
+/// it left.
+#[derive(Debug, Drop)]
+struct Walk {
+    entered: Vec<bool>,
+    steps: Vec<Step>,
+    left: Vec<usize>,
+}
+
+impl Walk {
+    fn put(&mut self, step: Step) -> Result<(), NoMemory> {
+        match self.steps.push(step) {
+            Ok(()) => Ok(()),
+            Err(_) => Err(NoMemory),
+        }
+    }
+
+    /// Enters a node, unless it was entered: its ends are entered next, and then it is left.
+    fn enter(&mut self, graph: &Graph, node: usize) -> Result<(), NoMemory> {
+        if node >= graph.len() || node >= self.entered.len() || self.entered[node] {
+            return Ok(());
+        }
+        self.entered[node] = true;
+        self.put(Step::Leave(node))?;
+        for end in graph.ends(node) {
+            self.put(Step::Enter(*end))?;
+        }
+        Ok(())
+    }
+
+    fn leave(&mut self, node: usize) -> Result<(), NoMemory> {
+        match self.left.push(node) {
+            Ok(()) => Ok(()),
+            Err(_) => Err(NoMemory),
+        }
+    }
+}
+
+/// The nodes that a walk leaves, the last one first, so each in front of those to which it leads,
+/// cycles apart. No clause speaks of this order: with any other one a cycle is found as well, but
+/// not in linear time.
+pub fn last_left_first(alloc: Global, graph: &Graph) -> Result<Vec<usize>, NoMemory> {
+    let mut walk = begin(alloc, graph)?;
+    for _ in 0..most_steps(graph) {
+        match walk.steps.pop() {
+            Some(Step::Enter(node)) => walk.enter(graph, node)?,
+            Some(Step::Leave(node)) => walk.leave(node)?,
+            None => break,
+        }
+    }
+    let Walk { mut left, .. } = walk;
+    left.reverse();
+    Ok(left)
+}
+
+/// A walk that is to enter each node.
+fn begin(alloc: Global, graph: &Graph) -> Result<Walk, NoMemory> {
+    let entered = match Vec::from_elem(alloc, false, graph.len()) {
+        Ok(entered) => entered,
+        Err(_) => return Err(NoMemory),
+    };
+    let mut walk = Walk {
+        entered,
+        steps: Vec::new(alloc),
+        left: Vec::new(alloc),
+    };
+    for node in 0..graph.len() {
+        walk.put(Step::Enter(node))?;
+    }
+    Ok(walk)
+}
+
+/// The most steps that a walk takes: each node is to be entered at the beginning and from each edge
+/// to it, and is left once.
+fn most_steps(graph: &Graph) -> usize {
+    let mut steps = graph.len().saturating_mul(2);
+    for node in 0..graph.len() {
+        steps = steps.saturating_add(graph.ends(node).len());
+    }
+    steps
+}
