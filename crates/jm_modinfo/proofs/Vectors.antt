@@ -2,7 +2,8 @@
 use Rattle.std.proofs.Common.{◌≡◌, ℕ, List, [], ◌∷◌, ◌++◌, Option, Some, None, Result, Ok, Err, refl, take, drop, length}
 use Rattle.std.specs.Prelude.{codes, replicate}
 use Rattle.std.specs.Fmt.{digits}
-use Rattle.jm_class.specs.Classes.{ClassData}
+use Rattle.std.specs.List.{flat_map}
+use Rattle.jm_class.specs.Classes.{SlotData, Constant, Opaque, ClassData, u2}
 use Rattle.jm_class.specs.ComputedClass.{class_of}
 use Rattle.jm_class.specs.declared.class.ClassFault.{ClassFault}
 use Rattle.jm_class.specs.declared.class.ClassFault.TheVariants as class
@@ -13,7 +14,7 @@ use Rattle.jm_modinfo.specs.declared.faults.InfoFault.{InfoFault}
 use Rattle.jm_modinfo.specs.declared.faults.InfoFault.TheVariants.{NotModule, OldVersion, NoModule, TwoModule, Index, Short, Rest, Name, Main}
 use Rattle.jm_modinfo.specs.Faults.{info_fault}
 use Rattle.jm_modinfo.specs.FaultText.{descriptor_fault_text}
-use Rattle.jm_modinfo.specs.Written.{info_class, info_text, plain_descriptor}
+use Rattle.jm_modinfo.specs.Written.{utf8, info_pool, info_class, info_text, plain_descriptor}
 
 -- a module a that requires nothing
 abbrev alone : List ℕ
@@ -99,6 +100,62 @@ a_main_class = refl
 
 no_main_class : fault_in (with_main 3) ≡ Some Main
 no_main_class = refl
+
+-- A descriptor with all of its parts
+
+-- constants 6 to 15 of the class of a module a
+abbrev all_pool : List SlotData
+all_pool =
+    info_pool (codes "a") []
+    ++ utf8 (codes "p") ∷ Constant 20 (u2 6) ∷ utf8 (codes "S") ∷ Constant 7 (u2 8)
+    ∷ utf8 (codes "b") ∷ Constant 19 (u2 10) ∷ utf8 (codes "1") ∷ utf8 (codes "ModuleMainClass")
+    ∷ utf8 (codes "x,y") ∷ Constant 19 (u2 14) ∷ []
+
+-- a body whose export has this target, and some bytes behind it; a main class of this number
+abbrev all_class : ℕ → List ℕ → ℕ → ClassData
+all_class target rest main =
+    record (info_class (codes "a") []) {
+      pool = all_pool;
+      attributes =
+          record { name = 13; body = Opaque (u2 main) }
+          ∷ record {
+            name = 3;
+            body = Opaque (
+                flat_map u2 (
+                5 ∷ 32 ∷ 12 ∷ 1 ∷ 11 ∷ 64 ∷ 12 ∷ 1 ∷ 7 ∷ 0 ∷ 1 ∷ target ∷ 1 ∷ 7 ∷ 4096 ∷ 0
+                ∷ 1 ∷ 9 ∷ 1 ∷ 9 ∷ 2 ∷ 9 ∷ 9 ∷ [])
+                ++ rest);
+          }
+          ∷ [];
+    }
+
+all_info : info_of (all_class 11 [] 9) ≡ Ok (record {
+  name = codes "a";
+  version = Some (codes "1");
+  flags = 32;
+  needs = record { name = codes "b"; flags = 64; version = Some (codes "1") } ∷ [];
+  exports = record { «package» = codes "p"; flags = 0; to = codes "b" ∷ [] } ∷ [];
+  opens = record { «package» = codes "p"; flags = 4096; to = [] } ∷ [];
+  uses = codes "S" ∷ [];
+  provides = record { service = codes "S"; classes = codes "S" ∷ codes "S" ∷ [] } ∷ [];
+  main = Some (codes "S");
+})
+all_info = refl
+
+target_name : info_fault (all_class 15 [] 9) ≡ Some (Name 22)
+target_name = refl
+
+-- a Utf8 whose text isn't legal either
+target_kind : info_fault (all_class 14 [] 9) ≡ Some (Index 22)
+target_kind = refl
+
+rest_before_main : info_fault (all_class 11 (0 ∷ []) 8) ≡ Some (Rest 46)
+rest_before_main = refl
+
+main_kind : info_fault (all_class 11 [] 8) ≡ Some Main
+main_kind = refl
+
+-- In print
 
 printed : descriptor_fault_text (fault.Class (class.Short 22)) ≡ codes "Class Short 22"
 unfolding digits

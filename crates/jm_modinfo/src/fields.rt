@@ -1,4 +1,3 @@
-ghost use Rattle.std.specs.Prelude.{◌≡◌, map};
 ghost use Rattle.jm_class.specs.Readings.{list_of};
 ghost use Rattle.jm_class.specs.Views.{plain};
 ghost use Rattle.jm_modinfo.specs.ComputedInfo.{short_number, named_field, names_field, version_field, need_field, opened_field, provides_field, module_field};
