@@ -168,11 +168,7 @@ fn extend_uses(alloc: Global, text: &mut Vec<u8>, services: &[Text]) -> Result<(
 }
 
 /// Puts the line on a service at the end that is provided.
-fn extend_provided(
-    alloc: Global,
-    text: &mut Vec<u8>,
-    provides: &Provides,
-) -> Result<(), NoMemory>
+fn extend_provided(alloc: Global, text: &mut Vec<u8>, provides: &Provides) -> Result<(), NoMemory>
     ensures { OnOk result (text.new.items ≡ text.old.items ++ provides_line provides.now) }
 {
     extend(text, b"provides ")?;
@@ -183,11 +179,7 @@ fn extend_provided(
 }
 
 /// Puts the lines on the services at the end that are provided.
-fn extend_provides(
-    alloc: Global,
-    text: &mut Vec<u8>,
-    provides: &[Provides],
-) -> Result<(), NoMemory>
+fn extend_provides(alloc: Global, text: &mut Vec<u8>, provides: &[Provides]) -> Result<(), NoMemory>
     ensures { OnOk result
         (text.new.items ≡ text.old.items ++ flat_map provides_line provides.now) }
 {

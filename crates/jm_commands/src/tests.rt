@@ -217,7 +217,11 @@ index 55\ncontents 2\n|";
             "describe img",
             "3||refused: BadInfo img Info NotModule\n",
         ),
-        (tiny(), "describe img", "3||refused: BadInfo img Class Magic\n"),
+        (
+            tiny(),
+            "describe img",
+            "3||refused: BadInfo img Class Magic\n",
+        ),
         (tiny(), "describe other", "5||not there: other\n"),
         (no_entries(), "list img", "0||"),
         (bad_node(), "list img", "0||"),
