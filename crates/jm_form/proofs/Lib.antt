@@ -1,14 +1,15 @@
+mod GreedyVectors
+mod OverlapVectors
 pub mod BucketLaws
 pub mod ComputedRowsLaws
 pub mod EntryLaws
 pub mod FitsLaws
 pub mod FreeLaws
-mod GreedyVectors
 pub mod HeadLaws
+mod LayoutVectors
 pub mod LookLaws
 pub mod OverlapLaws
 pub mod OverlapNone
-mod OverlapVectors
 pub mod SectionLaws
 pub mod ServesLaws
 pub mod SlotLaws

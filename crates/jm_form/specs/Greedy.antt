@@ -145,6 +145,10 @@ greedy_among names [] = None
 greedy_among names (slots ∷ lengths) =
     option_or (greedy names slots) (greedy_among names lengths)
 
+-- the greedy table at the first of the 64 lengths that has one, or none
+abbrev pub first_table : List (List ℕ) → Option GreedyTable
+first_table names = greedy_among names (table_lengths (length names))
+
 -- Words
 
 -- a redirect as a number of 32 bits, in which -1 less the slot wraps

@@ -5,10 +5,15 @@ pub mod Damages
 pub mod Entries
 pub mod Greedy
 pub mod Head
+pub mod Layout
+pub mod Nodes
 pub mod Overlap
 pub mod Places
+pub mod Rising
 pub mod Rows
 pub mod Serves
 pub mod Table
 pub mod Texts
+pub mod TreeView
+pub mod Trees
 pub mod Validity

@@ -11,6 +11,7 @@ mod spelling;
 mod table;
 #[cfg(test)]
 mod tests;
+mod trees;
 
 pub use container::{Header, HeaderFault, read_header};
 pub use damage::Damage;
@@ -19,3 +20,4 @@ pub use rows::{Row, read_row};
 pub use slots::{SlotRow, row_of_slot};
 pub use spelling::write_row;
 pub use table::{Redirect, redirect_at};
+pub use trees::{Holds, Owner, TreeNode};

@@ -11,12 +11,12 @@ use Rattle.std.specs.Prelude.{ℤ}
 use Rattle.jm_bytes.proofs.Choice.{same_some}
 use Rattle.jm_form.specs.declared.table.Redirect.{Redirect}
 use Rattle.jm_form.specs.declared.table.Redirect.TheVariants as redirect
-use Rattle.jm_form.specs.Greedy.{GreedyTable, greedy, greedy_among, given_in_turn, buckets_in_turn, bucket_of, redirect_in, table_of, word_of}
+use Rattle.jm_form.specs.Greedy.{GreedyTable, greedy, greedy_among, first_table, given_in_turn, buckets_in_turn, bucket_of, redirect_in, table_of, word_of}
 use Rattle.jm_form.specs.Serves.{Serves}
 use Rattle.jm_form.specs.Table.{slot_of}
 use Rattle.jm_form.proofs.ServesLaws.{greedy_serves}
 use Rattle.jm_redirect.specs.declared.building.Table.{Table}
-use Rattle.jm_redirect.specs.Built.{words_of, with_words, first_table, ServesNames}
+use Rattle.jm_redirect.specs.Built.{words_of, with_words, ServesNames}
 use Rattle.jm_redirect.proofs.LengthLaws.{lengths_left, among_here}
 
 -- the slot of a name, by the redirect of its bucket

@@ -2,7 +2,7 @@
 use Rattle.std.specs.Prelude.{ℕ, ◌≡◌, ℤ, List, length, map, All, Option, None}
 use Rattle.std.specs.Int.{w32, cast_signed, cast_unsigned}
 use Rattle.jm_form.specs.declared.table.Redirect.{Redirect}
-use Rattle.jm_form.specs.Greedy.{GreedyTable, greedy, greedy_among, table_lengths, word_of}
+use Rattle.jm_form.specs.Greedy.{GreedyTable, greedy, table_lengths, word_of}
 use Rattle.jm_form.specs.Serves.{Serves}
 use Rattle.jm_redirect.specs.declared.building.BuildError.{BuildError}
 use Rattle.jm_redirect.specs.declared.building.BuildError.TheVariants.{NoTable, Memory}
@@ -19,10 +19,6 @@ with_words table = record {
   redirect = words_of table.redirects;
   slot_of = table.slots;
 }
-
--- the greedy table at the first of the 64 lengths that has one, or none
-abbrev pub first_table : List (List ℕ) → Option GreedyTable
-first_table names = greedy_among names (table_lengths (length names))
 
 -- none of the 64 lengths has a table; want of memory says nothing
 abbrev pub IsRefusal : List (List ℕ) → BuildError → Type 0

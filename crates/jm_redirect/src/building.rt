@@ -4,9 +4,9 @@ ghost use Rattle.std.specs.Int.{w32, cast_signed};
 ghost use Rattle.std.specs.List.{filter_map};
 ghost use Rattle.jm_names.specs.Hash.{hash, default_seed};
 ghost use Rattle.jm_form.specs.declared.table.Redirect.TheVariants.{Nowhere};
-ghost use Rattle.jm_form.specs.Greedy.{greedy, bucket_of, next_length, word_of};
+ghost use Rattle.jm_form.specs.Greedy.{greedy, bucket_of, first_table, next_length, word_of};
 ghost use Rattle.jm_form.specs.Table.{slot_of};
-ghost use Rattle.jm_redirect.specs.Built.{words_of, with_words, first_table, IsRefusal};
+ghost use Rattle.jm_redirect.specs.Built.{words_of, with_words, IsRefusal};
 ghost use Rattle.jm_redirect.specs.Built.{ServesNames};
 
 use crate::buckets::redirects_at;

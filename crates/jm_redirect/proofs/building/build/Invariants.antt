@@ -1,6 +1,5 @@
 use Rattle.std.proofs.Common.{◌≡◌, ◌+◌, ◌*◌, ◌≤◌, length}
-use Rattle.jm_form.specs.Greedy.{greedy_among}
-use Rattle.jm_redirect.specs.Built.{first_table}
+use Rattle.jm_form.specs.Greedy.{first_table, greedy_among}
 use Rattle.jm_redirect.proofs.LengthLaws.{lengths_left}
 use Rattle.jm_redirect.proofs.building.build.Given as goal
 

@@ -1,0 +1,17 @@
+-- Texts in byte order, which compares unsigned bytes and puts a proper prefix first (this project's
+-- rule for all that rises by name).
+use Rattle.std.specs.Prelude.{ℕ, List, [], ◌∷◌}
+use Rattle.std.specs.Cmp.Lexicographic.{slice_cmp}
+use Rattle.std.specs.Ordering.{nat_cmp, match_ordering}
+
+-- rising texts with one more; one that is there isn't put again
+abbrev pub with_placed : List ℕ → List (List ℕ) → List (List ℕ)
+with_placed text [] = text ∷ []
+with_placed text (first ∷ texts) =
+    match_ordering (slice_cmp nat_cmp text first)
+    (text ∷ first ∷ texts) (first ∷ texts) (first ∷ with_placed text texts)
+
+-- the texts, each once, rising
+abbrev pub rising : List (List ℕ) → List (List ℕ)
+rising [] = []
+rising (text ∷ texts) = with_placed text (rising texts)
