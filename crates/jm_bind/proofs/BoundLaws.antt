@@ -19,9 +19,6 @@ module _ (found : List Candidate) (names : List (List ℕ × ℕ)) (roots : List
     (services : List (List ℕ × ℕ)) (graph : List (List ℕ))
     (indexed : Indexes found names)
     (drawn : IsDrawn found (UsesService found) (ProvidesService found) services graph) where
-  abbrev starts : List ℕ
-  starts = places_among names roots
-
   -- the set of the modules that the roots lead to is closed
   abbrev pub IsLed : ℕ → Type 0
   IsLed i = (i < length found) × LedFrom graph (places_among names roots) i

@@ -25,7 +25,8 @@ UsesOf found i j =
 
 -- a set of places is closed: it has every root; with each module each found module that it requires
 -- without `static`; and with each module each found module that provides a service which it uses
-pub record IsClosed (found : List Candidate) (roots : List (List ℕ)) (Has : ℕ → Type 0) : Type 0 where
+pub record IsClosed (found : List Candidate) (roots : List (List ℕ))
+    (Has : ℕ → Type 0) : Type 0 where
   pub rooted : (i : ℕ) → IsRoot found roots i → Has i
   pub required : (i j : ℕ) → Has i → Requires found i j → Has j
   pub used : (i j : ℕ) → Has i → UsesOf found i j → Has j

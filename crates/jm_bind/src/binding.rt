@@ -1,6 +1,7 @@
 //! The modules that root modules bind.
 ghost use Rattle.std.specs.Prelude.{◌≡◌, ◌↔◌, length, vec_len, IfOk, ℕ};
 ghost use Rattle.jm_bind.specs.Binding.{Bound};
+ghost use Rattle.jm_closure.specs.Cycles.{IsGraphOf};
 ghost use Rattle.jm_closure.specs.Graphs.{IsMarked};
 ghost use Rattle.jm_closure.specs.Names.{Indexes, NamesDiffer};
 ghost use Rattle.jm_closure.specs.Refusals.{Closes};
@@ -8,7 +9,7 @@ ghost use Rattle.jm_closure.specs.Refusals.{Closes};
 use crate::nodes::graph_of_all;
 use jm_bytes::{List, NoMemory, Text};
 use jm_closure::{
-    Candidate, CloseError, Places, edges_of, judge, least_lost_root, names_of, places_among,
+    Candidate, CloseError, Graph, Places, edges_of, judge, least_lost_root, names_of, places_among,
     reached,
 };
 use std::alloc::Global;
@@ -18,14 +19,16 @@ fn bound(
     alloc: Global,
     names: &Places,
     found: &[Candidate],
+    required: &Graph,
     roots: &[Text],
 ) -> Result<Vec<bool>, NoMemory>
-    requires { Indexes found.now names.now }
+    requires names { Indexes found.now names.now }
+    requires graph { IsGraphOf found.now required.now }
     ensures size { IfOk result (λ flags. vec_len flags ≡ length found.now) }
     ensures exactly { IfOk result
         (λ flags. (i : ℕ) → IsMarked flags.items i ↔ Bound found.now roots.now i) }
 {
-    let graph = graph_of_all(alloc, names, found)?;
+    let graph = graph_of_all(alloc, found, required)?;
     let starts = places_among(alloc, names, roots)?;
     let mut flags = reached(alloc, &graph, starts.as_slice())?;
     flags.truncate(found.len());
@@ -49,7 +52,7 @@ pub fn bind(alloc: Global, found: &[Candidate], roots: &[Text]) -> Result<List<u
     if let Some(name) = least_lost_root(&names, roots) {
         return Err(CloseError::NoRoot(Text::copy_of(alloc, name)?));
     }
-    let chosen = bound(alloc, &names, found, roots)?;
-    let graph = edges_of(alloc, &names, found)?;
-    judge(alloc, found, &names, &graph, chosen.as_slice())
+    let required = edges_of(alloc, &names, found)?;
+    let chosen = bound(alloc, &names, found, &required, roots)?;
+    judge(alloc, found, &names, &required, chosen.as_slice())
 }

@@ -2,11 +2,11 @@
 ghost use Rattle.std.specs.Prelude.{◌≡◌, ◌+◌, ◌<◌, Some, length, IfOk, OnOk};
 ghost use Rattle.jm_bind.specs.Binding.{ProvidesService, UsesService};
 ghost use Rattle.jm_bind.specs.Nodes.{Below, HasNode, IsDrawn, IsGraphOfAll};
-ghost use Rattle.jm_closure.specs.Names.{Indexes};
+ghost use Rattle.jm_closure.specs.Cycles.{IsGraphOf};
 ghost use Rattle.jm_closure.specs.Places.{place_in};
 
 use jm_bytes::NoMemory;
-use jm_closure::{Candidate, Graph, Places, edges_of};
+use jm_closure::{Candidate, Graph, Places};
 use std::alloc::Global;
 
 /// The node of a service; one more where it has none yet.
@@ -71,14 +71,36 @@ fn add_provides(
     Ok(())
 }
 
+/// These nodes, in a vector of their own.
+fn nodes_of(alloc: Global, nodes: &[usize]) -> Result<Vec<usize>, NoMemory>
+    ensures { IfOk result (λ copy. copy.items ≡ nodes.now) }
+{
+    let mut copy = Vec::new(alloc);
+    match copy.extend_from_slice(nodes) {
+        Ok(()) => Ok(copy),
+        Err(_) => Err(NoMemory),
+    }
+}
+
+/// A graph with the same edges.
+fn copy_of(alloc: Global, graph: &Graph) -> Result<Graph, NoMemory>
+    ensures { IfOk result (λ copy. copy ≡ graph.now) }
+{
+    let mut copy = Graph::empty(alloc);
+    for node in 0..graph.len() {
+        copy.push(nodes_of(alloc, graph.ends(node))?)?;
+    }
+    Ok(copy)
+}
+
 /// The graph of the found modules and the services: a module leads to what it requires without
 /// `static` and to the services that it uses, and a service leads to the modules that provide it.
-pub fn graph_of_all(alloc: Global, names: &Places, found: &[Candidate]) -> Result<Graph, NoMemory>
-    requires { Indexes found.now names.now }
+pub fn graph_of_all(alloc: Global, found: &[Candidate], required: &Graph) -> Result<Graph, NoMemory>
+    requires { IsGraphOf found.now required.now }
     ensures { IfOk result (IsGraphOfAll found.now) }
 {
     let mut services = Places::new(alloc);
-    let mut graph = edges_of(alloc, names, found)?;
+    let mut graph = copy_of(alloc, required)?;
     for place in 0..found.len() {
         add_uses(alloc, &mut services, &mut graph, found, place)?;
         add_provides(alloc, &mut services, &mut graph, found, place)?;

@@ -18,11 +18,11 @@ reached-requires-clause-starts c =
     rw (c.as_slice.ensures.value, c.in_ok-starts.ensures)
     (All-weaker (λ node. node < length c.args.found.now) (λ node. node < length c.in_ok-graph.graph)
     (λ node below. omega arith) (places_among c.args.names.now c.args.roots.now)
-    (among_within c.args.found.now c.args.names.now c.args.roots.now c.requires))
+    (among_within c.args.found.now c.args.names.now c.args.roots.now c.requires.names))
 
 pub returns-clause-exactly : goal.returns-clause-exactly
 returns-clause-exactly c = λ i.
     rw c.truncate.ensures.items
     (marked_bound c.args.found.now c.args.names.now c.args.roots.now c.in_ok-graph.ensures.0 c.in_ok-graph.graph
-    c.in_ok-flags.flags.items c.requires c.in_ok-graph.ensures.1
+    c.in_ok-flags.flags.items c.requires.names c.in_ok-graph.ensures.1
     (rw (c.as_slice.ensures.value, c.in_ok-starts.ensures) at c.in_ok-flags.ensures.exactly) i)

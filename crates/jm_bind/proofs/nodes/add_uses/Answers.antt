@@ -8,28 +8,37 @@ use Rattle.jm_bind.proofs.nodes.add_uses.Goals as goal
 
 pub loop-service-init : goal.loop-service-init
 loop-service-init c =
-    uses_begin c.args.found.now (Below c.args.place (UsesService c.args.found.now))
-    (Below c.args.place (ProvidesService c.args.found.now)) c.args.services.now c.args.graph.now c.args.place c.requires.drawn
+    let found = c.args.found.now in
+    let Uses = Below c.args.place (UsesService found) in
+    let Provides = Below c.args.place (ProvidesService found) in
+    uses_begin found Uses Provides c.args.services.now c.args.graph.now c.args.place c.requires.drawn
 
 pub loop-service-preserved : goal.loop-service-preserved
 loop-service-preserved c =
-    let Uses = Below c.args.place (UsesService c.args.found.now) in
-    let Provides = Below c.args.place (ProvidesService c.args.found.now) in
+    let found = c.args.found.now in
+    let Uses = Below c.args.place (UsesService found) in
+    let Provides = Below c.args.place (ProvidesService found) in
     let texts = c.as_slice-service-items.result.now in
-    let front = take c.loop-service.service-index texts in
-    rw (c.in_ok-add.ensures.ok, take_more texts c.loop-service.service-index c.service-item.result c.loop-service-test.true, ← c.service-item.is)
-    (uses_more c.args.found.now Uses Provides c.node_of.new.services c.node_of.new.graph c.args.place front
-    c.service-item.result c.in_ok-node.node c.requires.place (rw c.as_slice.ensures at c.in_ok-node.ensures.node)
-    (drawn_has c.args.found.now (With Uses c.args.place front) Provides c.loop-service.services c.node_of.new.services
-    c.loop-service.graph c.node_of.new.graph c.service-item.result
+    let at = c.loop-service.service-index in
+    let x = c.service-item.result in
+    let services = c.node_of.new.services in
+    let graph = c.node_of.new.graph in
+    rw (c.in_ok-add.ensures.ok, take_more texts at x c.loop-service-test.true, ← c.service-item.is)
+    (uses_more found Uses Provides services graph c.args.place (take at texts) x c.in_ok-node.node
+    c.requires.place (rw c.as_slice.ensures at c.in_ok-node.ensures.node)
+    (drawn_has found (With Uses c.args.place (take at texts)) Provides
+    c.loop-service.services services c.loop-service.graph graph x
     (rw c.as_slice.ensures at c.in_ok-node.ensures.has) c.loop-service.invariant))
 
 pub returns : goal.returns
 returns c =
-    let Uses = Below c.args.place (UsesService c.args.found.now) in
-    let Provides = Below c.args.place (ProvidesService c.args.found.now) in
-    uses_end c.args.found.now (UsesService c.args.found.now) Provides c.loop-service.services c.loop-service.graph
-    c.args.place c.index-found-place.result.descriptor.uses
-    (uses_of c.args.found.now c.args.place c.index-found-place.result
-    (found_at c.args.found.now c.args.place c.index-found-place.result c.requires.place c.index-found-place.is))
-    (rw (take_all c.loop-service.service-index c.as_slice-service-items.result.now c.loop-service-test.false, c.as_slice-service-items.ensures, ← c.index-found-place.is) at c.loop-service.invariant)
+    let found = c.args.found.now in
+    let one = c.index-found-place.result in
+    let texts = c.as_slice-service-items.result.now in
+    let all = take_all c.loop-service.service-index texts c.loop-service-test.false in
+    uses_end found (UsesService found) (Below c.args.place (ProvidesService found))
+    c.loop-service.services c.loop-service.graph c.args.place one.descriptor.uses
+    (uses_of found c.args.place one
+    (found_at found c.args.place one c.requires.place c.index-found-place.is))
+    (rw (all, c.as_slice-service-items.ensures, ← c.index-found-place.is)
+    at c.loop-service.invariant)
