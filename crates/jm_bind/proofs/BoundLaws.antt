@@ -38,7 +38,7 @@ module _ (found : List Candidate) (names : List (List ℕ × ℕ)) (roots : List
       within_found found j requires.2.0 requires.2.1,
       led_step i j led (inl requires),
     );
-    used = λ i j (below, led) (text, uses, provides).
+    served = λ i j (below, led) (text, uses, provides).
         (let node = (drawn.used i text uses).1 in (
           (drawn.provided j text provides).0,
           led_step node.0 j (led_step i node.0 led (inr (inl (text, uses, node.1)))) (inr (inr (text, provides, node.1))),
@@ -71,7 +71,7 @@ module _ (found : List Candidate) (names : List (List ℕ × ℕ)) (roots : List
         let same : other ≡ text = drawn.apart other text i at is in
         inl (
           (drawn.provided j other provides).0,
-          closed.used k j has (text, uses, subst (λ t. ProvidesService found j t) same provides),
+          closed.served k j has (text, uses, subst (λ t. ProvidesService found j t) same provides),
         )
 
     taken_way : (i : ℕ) (nodes : List ℕ) (j : ℕ) → IsTaken i → Leads (HasEdge graph) i nodes j → IsTaken j
@@ -110,39 +110,55 @@ closed_as : (found : List Candidate) (roots : List (List ℕ)) (P Q : ℕ → Ty
 closed_as found roots P Q same closed = record {
   rooted = λ i root. (same i).0 (closed.rooted i root);
   required = λ i j has requires. (same j).0 (closed.required i j ((same i).1 has) requires);
-  used = λ i j has uses. (same j).0 (closed.used i j ((same i).1 has) uses);
+  served = λ i j has uses. (same j).0 (closed.served i j ((same i).1 has) uses);
 }
 
-pub marked_bound : (found : List Candidate) (names : List (List ℕ × ℕ)) (roots : List (List ℕ))
+-- Of a graph that is drawn and the marks of what its roots lead to
+module _ (found : List Candidate) (names : List (List ℕ × ℕ)) (roots : List (List ℕ))
     (services : List (List ℕ × ℕ)) (graph : List (List ℕ)) (flags : List Bool)
-    → Indexes found names
-    → IsDrawn found (UsesService found) (ProvidesService found) services graph
-    → ((j : ℕ) → IsMarked flags j ↔ LedFrom graph (places_among names roots) j)
-    → (i : ℕ) → IsMarked (take (length found) flags) i ↔ Bound found roots i
-marked_bound found names roots services graph flags indexed drawn exactly i = (
-  (λ marked. λ places closed.
-      led_within found names roots services graph indexed drawn (Contains places) closed i (led i marked)),
-  (λ bound.
-      let there = bound places (closed_as found roots (IsLed found names roots services graph indexed drawn) (Contains places)
-      same (led_closed found names roots services graph indexed drawn)) in
-      let is = (same i).1 there in
-      (marked_front flags (length found) i).1 (is.0, (exactly i).1 is.1)),
-)
-  where
-    places : List ℕ
-    places = marked_places flags (length found)
+    (indexed : Indexes found names)
+    (drawn : IsDrawn found (UsesService found) (ProvidesService found) services graph)
+    (exactly : (j : ℕ) → IsMarked flags j ↔ LedFrom graph (places_among names roots) j) where
+  led_places : (i : ℕ)
+      → IsLed found names roots services graph indexed drawn i ↔ Contains (marked_places flags (length found)) i
+  led_places i =
+      let places = range_with_len 0 (length found) in (
+        (λ (below, led). contains_filter (λ k. slice_index_or flags k false) places i
+            (contains_range 0 (length found) i (omega arith) (omega arith)) ((exactly i).1 led)),
+        (λ there.
+            let one = from_filter (λ k. slice_index_or flags k false) places i there in
+            let below = (from_range 0 (length found) i one.0).1 in
+            (omega arith, (exactly i).0 one.1)),
+      )
 
-    led : (i : ℕ) → IsMarked (take (length found) flags) i → IsLed found names roots services graph indexed drawn i
-    led i marked =
+  bound_led : (i : ℕ) → Bound found roots i → IsLed found names roots services graph indexed drawn i
+  bound_led i bound =
+      let Led = IsLed found names roots services graph indexed drawn in
+      let places = marked_places flags (length found) in
+      (led_places i).1 (bound places (closed_as found roots Led (Contains places) led_places
+      (led_closed found names roots services graph indexed drawn)))
+
+  -- the marked modules are the bound ones
+  pub marked_bound : (i : ℕ) → IsMarked (take (length found) flags) i ↔ Bound found roots i
+  marked_bound i = (
+    (λ marked. λ places closed.
         let is = (marked_front flags (length found) i).0 marked in
-        (is.0, (exactly i).0 is.1)
+        led_within found names roots services graph indexed drawn (Contains places) closed i
+        (is.0, (exactly i).0 is.1)),
+    (λ bound.
+        let is = bound_led i bound in
+        (marked_front flags (length found) i).1 (is.0, (exactly i).1 is.1)),
+  )
 
-    same : (i : ℕ) → IsLed found names roots services graph indexed drawn i ↔ Contains places i
-    same i = (
-      (λ (below, led). contains_filter (λ k. slice_index_or flags k false) (range_with_len 0 (length found)) i
-          (contains_range 0 (length found) i (omega arith) (omega arith)) ((exactly i).1 led)),
-      (λ there.
-          let one = from_filter (λ k. slice_index_or flags k false) (range_with_len 0 (length found)) i there in
-          let below = (from_range 0 (length found) i one.0).1 in
-          (omega arith, (exactly i).0 one.1)),
-    )
+  -- a bound module is in each closed set, also in one that no list tells
+  pub bound_within : (Has : ℕ → Type 0) → IsClosed found roots Has → (i : ℕ) → Bound found roots i → Has i
+  bound_within Has closed i bound =
+      led_within found names roots services graph indexed drawn Has closed i (bound_led i bound)
+
+-- the set of the bound modules is closed itself, and so the least closed set
+pub bound_closed : (found : List Candidate) (roots : List (List ℕ)) → IsClosed found roots (Bound found roots)
+bound_closed found roots = record {
+  rooted = λ i root places closed. closed.rooted i root;
+  required = λ i j bound requires places closed. closed.required i j (bound places closed) requires;
+  served = λ i j bound serves places closed. closed.served i j (bound places closed) serves;
+}

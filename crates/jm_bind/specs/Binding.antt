@@ -19,8 +19,8 @@ ProvidesService found i service =
     (c : Candidate) × (slice_get found i ≡ Some c) × Contains (provided_by c) service
 
 -- the module at place i uses a service that the one at place j provides
-abbrev pub UsesOf : List Candidate → ℕ → ℕ → Type 0
-UsesOf found i j =
+abbrev pub IsServedBy : List Candidate → ℕ → ℕ → Type 0
+IsServedBy found i j =
     (service : List ℕ) × UsesService found i service × ProvidesService found j service
 
 -- a set of places is closed: it has every root; with each module each found module that it requires
@@ -29,7 +29,7 @@ pub record IsClosed (found : List Candidate) (roots : List (List ℕ))
     (Has : ℕ → Type 0) : Type 0 where
   pub rooted : (i : ℕ) → IsRoot found roots i → Has i
   pub required : (i j : ℕ) → Has i → Requires found i j → Has j
-  pub used : (i j : ℕ) → Has i → UsesOf found i j → Has j
+  pub served : (i j : ℕ) → Has i → IsServedBy found i j → Has j
 
 -- the module at place i is in every closed set of places
 abbrev pub Bound : List Candidate → List (List ℕ) → ℕ → Type 0
