@@ -189,9 +189,9 @@ fn answer(alloc: Global, lines: &str, words: &str) -> Result<Vec<u8>, NoMemory> 
     answered(alloc, found.as_slice(), roots.as_slice())
 }
 
-/// Graphs, roots and answers, these as a reader of the rules finds them.
+/// Graphs, roots and answers, these found by going through all sets of modules.
 const GRAPHS: [(&str, &str, &str); 35] = [
-    // The cases that are told in words: two rounds of binding, and what it is refused for.
+    // Two rounds of binding, and what they are refused for.
     ("a ?s/S,b !s/S c,c ?t/T,d !t/T,e !u/U", "a", "a b c d | a"),
     ("a ?s/S,b !s/S c,d !t/T,e !u/U", "a", "Missing c b | a"),
     ("a ?s/S,b !s/S c a,c ?t/T,d !t/T,e !u/U", "a", "a b c d | a"),
