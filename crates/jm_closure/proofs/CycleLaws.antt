@@ -1,38 +1,14 @@
 -- Edges the other way round, rounds against the edges, and the nodes of cycles.
-use Rattle.std.proofs.Common.{◌≡◌, ◌≢◌, ℕ, suc, ◌+◌, ◌<◌, ◌≤◌, ◌⊎◌, inl, inr, List, [], ◌∷◌, ◌++◌, length, All, Contains, sym, ◌∙◌, ap, subst, arith, drop, drop-cons, get_or, take, Some, get_or-set_same, get_or-set_other, length-set}
+use Rattle.std.proofs.Common.{◌≡◌, ◌≢◌, ℕ, suc, ◌+◌, ◌<◌, ◌≤◌, inl, inr, List, [], ◌∷◌, ◌++◌, length, All, Contains, sym, ◌∙◌, ap, subst, arith, drop, drop-cons, get_or, take, Some, length-set}
 use Rattle.std.proofs.lemmas.Bool.{cases_eq, cases_lt}
-use Rattle.std.proofs.lemmas.List.Elements.{All-push, Contains-push, Contains-push_cases, Contains-append_left}
+use Rattle.std.proofs.lemmas.List.Elements.{All-push, Contains-push_cases}
 use Rattle.std.proofs.lemmas.List.{take_more, take-append-drop}
 use Rattle.jm_closure.specs.Cycles.{IsFirstOf, LeavesRound, Turns}
 use Rattle.jm_closure.specs.Graphs.{ends_at, round_of, with_edge, EndsWithin, HasEdge, IsReached, IsReversed, IsRound, OnCycle, RoundsRise, RoundsSoFar}
 use Rattle.jm_closure.specs.Modules.{Leads}
+use Rattle.jm_closure.proofs.GraphLaws.{edge_cases, edge_kept, edge_new}
 
--- One edge more
-
-module _ (graph : List (List ℕ)) (from to : ℕ) (within : from < length graph) where
-  edge_new : HasEdge (with_edge graph from to) from to
-  edge_new =
-      rw (get_or-set_same graph from (ends_at graph from ++ to ∷ []) [] within)
-      (Contains-push (ends_at graph from) to)
-
-  edge_kept : (i j : ℕ) → HasEdge graph i j → HasEdge (with_edge graph from to) i j
-  edge_kept i j edge = elim (cases_eq i from) [
-    | inl same ↦ subst (λ k. HasEdge (with_edge graph from to) k j) (sym same)
-        (rw (get_or-set_same graph from (ends_at graph from ++ to ∷ []) [] within)
-        (Contains-append_left (ends_at graph from) (to ∷ []) j (subst (λ k. HasEdge graph k j) same edge)))
-    | inr other ↦ rw (get_or-set_other graph from i (ends_at graph from ++ to ∷ []) [] other) edge
-  ]
-
-  edge_cases : (i j : ℕ) → HasEdge (with_edge graph from to) i j → HasEdge graph i j ⊎ (to ≡ j)
-  edge_cases i j edge = elim (cases_eq i from) [
-    | inl same ↦
-        elim (Contains-push_cases (ends_at graph from) to j
-        (rw (same, get_or-set_same graph from (ends_at graph from ++ to ∷ []) [] within) at edge)) [
-          | inl old ↦ inl (subst (λ k. HasEdge graph k j) (sym same) old)
-          | inr is ↦ inr is
-        ]
-    | inr other ↦ inl (rw (get_or-set_other graph from i (ends_at graph from ++ to ∷ []) [] other) at edge)
-  ]
+-- Edges turned
 
 pub turns_more : (old mid : List (List ℕ)) (node x : ℕ) (front : List ℕ)
     → x < length mid → node < length mid
@@ -47,7 +23,7 @@ turns_more old mid node x front within inside turns = record {
   within = λ before i j edge. rw (length-set mid x (ends_at mid x ++ node ∷ []))
       (elim (edge_cases mid x node within i j edge) [
         | inl old ↦ turns.within before i j old
-        | inr same ↦ subst (λ k. k < length mid) same inside
+        | inr (_, same) ↦ subst (λ k. k < length mid) same inside
       ]);
 }
 

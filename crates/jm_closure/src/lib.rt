@@ -20,7 +20,8 @@ pub use closing::close;
 pub use error::CloseError;
 pub use graph::Graph;
 pub use judging::judge;
-pub use names::names_differ;
+pub use missing::least_lost_root;
+pub use names::{edges_of, names_differ, names_of, places_among};
 pub use places::Places;
 pub use reach::reached;
 

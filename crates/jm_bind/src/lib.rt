@@ -1,0 +1,11 @@
+//! Service binding: the closure of root modules under what they require and under the services
+//! that they use.
+#![tactic(auto)]
+
+mod binding;
+mod nodes;
+
+pub use binding::bind;
+
+#[cfg(test)]
+mod tests;

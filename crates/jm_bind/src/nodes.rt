@@ -1,0 +1,109 @@
+//! The found modules, and behind them the services, as the nodes of one graph.
+ghost use Rattle.std.specs.Prelude.{◌≡◌, ◌+◌, ◌<◌, Some, length, IfOk, OnOk};
+ghost use Rattle.jm_bind.specs.Binding.{ProvidesService, UsesService};
+ghost use Rattle.jm_bind.specs.Nodes.{Below, HasNode, IsDrawn, IsGraphOfAll};
+ghost use Rattle.jm_closure.specs.Cycles.{IsGraphOf};
+ghost use Rattle.jm_closure.specs.Places.{place_in};
+
+use jm_bytes::NoMemory;
+use jm_closure::{Candidate, Graph, Places};
+use std::alloc::Global;
+
+/// The node of a service; one more where it has none yet.
+fn node_of(
+    alloc: Global,
+    services: &mut Places,
+    graph: &mut Graph,
+    service: &[u8],
+) -> Result<usize, NoMemory>
+    ensures node { IfOk result (λ node. place_in services.new service.now ≡ Some node) }
+    ensures has { OnOk result
+        (HasNode services.old graph.old services.new graph.new service.now) }
+{
+    if let Some(node) = services.get(service) {
+        return Ok(node);
+    }
+    let node = graph.len();
+    services.put(alloc, service, node)?;
+    graph.push(Vec::new(alloc))?;
+    Ok(node)
+}
+
+/// Adds an edge from a module to each service that it uses.
+fn add_uses(
+    alloc: Global,
+    services: &mut Places,
+    graph: &mut Graph,
+    found: &[Candidate],
+    place: usize,
+) -> Result<(), NoMemory>
+    requires place { place < length found.now }
+    requires drawn { IsDrawn found.now (Below place (UsesService found.now))
+        (Below place (ProvidesService found.now)) services.old graph.old }
+    ensures { OnOk result (IsDrawn found.now (Below (place + 1) (UsesService found.now))
+        (Below place (ProvidesService found.now)) services.new graph.new) }
+{
+    for service in found[place].descriptor.uses.as_slice() {
+        let node = node_of(alloc, services, graph, service.as_slice())?;
+        graph.add(place, node)?;
+    }
+    Ok(())
+}
+
+/// Adds an edge to a module from each service that it provides.
+fn add_provides(
+    alloc: Global,
+    services: &mut Places,
+    graph: &mut Graph,
+    found: &[Candidate],
+    place: usize,
+) -> Result<(), NoMemory>
+    requires place { place < length found.now }
+    requires drawn { IsDrawn found.now (Below (place + 1) (UsesService found.now))
+        (Below place (ProvidesService found.now)) services.old graph.old }
+    ensures { OnOk result (IsDrawn found.now (Below (place + 1) (UsesService found.now))
+        (Below (place + 1) (ProvidesService found.now)) services.new graph.new) }
+{
+    for provided in found[place].descriptor.provides.as_slice() {
+        let node = node_of(alloc, services, graph, provided.service.as_slice())?;
+        graph.add(node, place)?;
+    }
+    Ok(())
+}
+
+/// These nodes, in a vector of their own.
+fn nodes_of(alloc: Global, nodes: &[usize]) -> Result<Vec<usize>, NoMemory>
+    ensures { IfOk result (λ copy. copy.items ≡ nodes.now) }
+{
+    let mut copy = Vec::new(alloc);
+    match copy.extend_from_slice(nodes) {
+        Ok(()) => Ok(copy),
+        Err(_) => Err(NoMemory),
+    }
+}
+
+/// A graph with the same edges.
+fn copy_of(alloc: Global, graph: &Graph) -> Result<Graph, NoMemory>
+    ensures { IfOk result (λ copy. copy ≡ graph.now) }
+{
+    let mut copy = Graph::empty(alloc);
+    for node in 0..graph.len() {
+        copy.push(nodes_of(alloc, graph.ends(node))?)?;
+    }
+    Ok(copy)
+}
+
+/// The graph of the found modules and the services: a module leads to what it requires without
+/// `static` and to the services that it uses, and a service leads to the modules that provide it.
+pub fn graph_of_all(alloc: Global, found: &[Candidate], required: &Graph) -> Result<Graph, NoMemory>
+    requires { IsGraphOf found.now required.now }
+    ensures { IfOk result (IsGraphOfAll found.now) }
+{
+    let mut services = Places::new(alloc);
+    let mut graph = copy_of(alloc, required)?;
+    for place in 0..found.len() {
+        add_uses(alloc, &mut services, &mut graph, found, place)?;
+        add_provides(alloc, &mut services, &mut graph, found, place)?;
+    }
+    Ok(graph)
+}
