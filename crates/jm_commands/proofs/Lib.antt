@@ -1,4 +1,5 @@
 pub mod DescribeLaws
+pub mod FrontLaws
 pub mod Gotten
 pub mod ListingLaws
 mod ListingVectors

@@ -1,5 +1,6 @@
 pub mod Cat
 pub mod DescribeText
+pub mod FrontNumber
 pub mod HelpText
 pub mod InfoText
 pub mod Outcome

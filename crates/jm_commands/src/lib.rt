@@ -14,6 +14,7 @@ mod program;
 mod refusal;
 mod status;
 mod stop;
+mod taken_name;
 #[cfg(test)]
 mod tests;
 mod verify;

@@ -10,6 +10,7 @@ ghost use Rattle.jm_commands.specs.Taken.{taken_among, taken_as, NeverFalls, Ris
 
 use crate::output::{extend, put_output};
 use crate::stop::Stop;
+use crate::taken_name::TakenName;
 use itoa::Buffer;
 use jm_bytes::{List, Meter, NoMemory, Text};
 use jm_names::to_utf8;
@@ -25,7 +26,7 @@ use std::sync::ledger::{Blank, Ledger};
 #[derive(Debug, Drop)]
 pub struct TakenEntry<'a> {
     /// Its name.
-    pub name: Text,
+    pub name: TakenName,
     /// Its content.
     pub bytes: &'a [u8],
 }
@@ -63,7 +64,7 @@ fn take_entry<'a>(
     let name = entry.name.to_text(alloc)?;
     if is_included(include, name.as_slice()) {
         list.push(TakenEntry {
-            name,
+            name: TakenName::of(name),
             bytes: entry.bytes,
         })?;
     }
@@ -96,7 +97,7 @@ fn sorted_by_name<'a>(entries: List<TakenEntry<'a>>) -> List<TakenEntry<'a>>
     ensures sorted { NeverFalls (map taken_as result) }
 {
     let mut sorted = entries.into_vec();
-    sorted.sort_unstable_by(|a, b| a.name.as_slice().cmp(b.name.as_slice()));
+    sorted.sort_unstable_by(|a, b| a.name.order(&b.name));
     List::from_vec(sorted)
 }
 
