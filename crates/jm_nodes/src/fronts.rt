@@ -1,0 +1,1 @@
+//! The folders that names stand in.
