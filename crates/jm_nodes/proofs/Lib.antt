@@ -1,3 +1,5 @@
+pub mod FilingLaws
+pub mod FrontLaws
+pub mod NameLaws
 pub mod OrderLaws
 pub mod RisingLaws
-pub mod FilingLaws

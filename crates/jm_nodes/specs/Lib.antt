@@ -1,2 +1,4 @@
 pub mod Filings
+pub mod Fronts
+pub mod FrontTrees
 pub mod Order

@@ -1,9 +1,16 @@
 //! The nodes of the two trees of an image, from the names of its resources.
 #![tactic(auto)]
 
+mod children;
 mod error;
 mod filed;
 mod fronts;
+mod names;
+
+mod packages;
 mod rising;
+mod texts;
 
 pub use error::NodesError;
+pub use jm_form::{Holds, Owner, TreeNode};
+
