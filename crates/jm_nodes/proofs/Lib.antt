@@ -1,5 +1,9 @@
+pub mod ChildLaws
 pub mod FilingLaws
+pub mod FolderLaws
 pub mod FrontLaws
+pub mod MadeLaws
 pub mod NameLaws
 pub mod OrderLaws
 pub mod RisingLaws
+pub mod SoundLaws

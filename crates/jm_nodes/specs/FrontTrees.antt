@@ -1,11 +1,14 @@
 -- The two trees by the fronts of names, computed; the rule is `tree_nodes` of jm_form, and
 -- proofs/TreeLaws ties the two together.
-use Rattle.std.specs.Prelude.{ℕ, Bool, true, false, not, ◌&&◌, List, [], ◌∷◌, ◌++◌, drop, map, Option, Some, None, codes, if◌then◌else◌}
-use Rattle.std.specs.List.{before_last, flat_map, list_any}
+use Rattle.std.specs.Prelude.{ℕ, Bool, true, false, not, ◌&&◌, ◌≡◌, List, [], ◌∷◌, ◌++◌, drop, map, reverse, Option, Some, None, codes, if◌then◌else◌}
+use Rattle.std.specs.List.{before_last, filter_map, flat_map, list_any}
 use Rattle.jm_names.specs.Names.{dotted, is_slash}
-use Rattle.jm_form.specs.Trees.{is_meta, module_of, path_of}
+use Rattle.jm_form.specs.Rising.{rising}
+use Rattle.jm_form.specs.Trees.{is_meta, module_of, package_node, path_of}
+use Rattle.jm_form.specs.declared.trees.Holds.TheVariants.{Children, Owners}
 use Rattle.jm_form.specs.declared.trees.Owner.{Owner}
-use Rattle.jm_nodes.specs.Filings.{filed_under, is_filed, Filing}
+use Rattle.jm_form.specs.declared.trees.TreeNode.{TreeNode}
+use Rattle.jm_nodes.specs.Filings.{filed_under, is_filed, FilesAll, Filing}
 use Rattle.jm_nodes.specs.declared.packages.PackageFolder.{PackageFolder}
 
 -- a resource, or a folder with the mark, under what it stands in
@@ -69,3 +72,40 @@ owner_alone owned filing =
 
 abbrev pub owners_of : List Filing → List ℕ → List Owner
 owners_of owned called = flat_map (owner_alone owned) (filed_under called owned)
+
+-- Nodes
+
+-- the node of a module or folder; that of all modules, for the front of no byte
+abbrev pub front_node : List Filing → List ℕ → TreeNode
+front_node table front =
+    record { name = codes "/modules" ++ front; holds = Children (children_of table front) }
+
+abbrev pub packages_node : List (List ℕ) → TreeNode
+packages_node packages =
+    record { name = codes "/packages"; holds = Children (map package_node packages) }
+
+-- the node of a package
+abbrev pub owners_node : List Filing → List ℕ → TreeNode
+owners_node owned called =
+    record { name = package_node called; holds = Owners (owners_of owned called) }
+
+-- all nodes, rising
+abbrev pub rising_nodes : List Filing → List (List ℕ) → List Filing → List (List ℕ) → List TreeNode
+rising_nodes table fronts owned packages =
+    front_node table []
+    ∷ map (front_node table) fronts
+    ++ packages_node packages
+    ∷ map (owners_node owned) packages
+
+-- the folders that make packages
+abbrev pub folders_among : List (List ℕ) → List Folder
+folders_among fronts = filter_map package_folder fronts
+
+-- the nodes are made of tables of the names and the fronts
+pub record IsMadeOf (names fronts : List (List ℕ)) (nodes : List TreeNode) : Type 0 where
+  pub table : List Filing
+  pub owned : List Filing
+  pub children : FilesAll (child_filings names fronts) table
+  pub owners : FilesAll (package_filings table (folders_among fronts)) owned
+  pub made : nodes
+      ≡ reverse (rising_nodes table fronts owned (rising (called_all (folders_among fronts))))

@@ -2,3 +2,4 @@ pub mod Filings
 pub mod Fronts
 pub mod FrontTrees
 pub mod Order
+pub mod Refusals

@@ -10,7 +10,7 @@ use jm_bytes::{List, NoMemory, Text};
 use std::alloc::Global;
 
 /// A resource or a folder under what it stands in, the mark for a folder.
-fn child<'a>(name: &'a [u8], is_folder: bool) -> Filed<'a>
+fn child<'a>(name: &'a [u8], is_folder: bool) -> Filed<'a, 'a>
     ensures { filing_of result ≡ child_filing is_folder name.now }
 {
     Filed {
@@ -22,7 +22,7 @@ fn child<'a>(name: &'a [u8], is_folder: bool) -> Filed<'a>
 
 /// Puts resources or folders at the end.
 fn put_children<'a>(
-    list: &mut List<Filed<'a>>,
+    list: &mut List<Filed<'a, 'a>>,
     names: &[&'a [u8]],
     are_folders: bool,
 ) -> Result<(), NoMemory>
@@ -40,7 +40,7 @@ pub fn child_table<'a>(
     alloc: Global,
     names: &[&'a [u8]],
     fronts: &[&'a [u8]],
-) -> Result<List<Filed<'a>>, NoMemory>
+) -> Result<List<Filed<'a, 'a>>, NoMemory>
     ensures { IfOk result (λ table. FilesAll
         (child_filings (map (λ name. name.now) names.now) (map (λ front. front.now) fronts.now))
         (map filing_of table)) }

@@ -12,15 +12,15 @@ use jm_bytes::List;
 
 /// A name that is filed under a text, with a mark.
 #[derive(Clone, Copy, Debug, PartialEq, Eq, PartialOrd, Ord)]
-pub struct Filed<'a> {
+pub struct Filed<'u, 'n> {
     /// What it is looked for by.
-    pub under: &'a [u8],
-    pub name: &'a [u8],
+    pub under: &'u [u8],
+    pub name: &'n [u8],
     pub mark: bool,
 }
 
 /// All that is filed, each once, by what it is filed under, then by name, then by mark.
-pub fn in_order<'a>(filed: List<Filed<'a>>) -> List<Filed<'a>>
+pub fn in_order<'u, 'n>(filed: List<Filed<'u, 'n>>) -> List<Filed<'u, 'n>>
     ensures { FilesAll (map filing_of filed.entry) (map filing_of result) }
 {
     let mut table = filed.into_vec();
@@ -44,7 +44,7 @@ fn is_under(filed: &Filed, text: &[u8]) -> bool
 }
 
 /// What is filed under a text, without looking at the others.
-pub fn filed_under<'a, 'b>(table: &'b [Filed<'a>], text: &[u8]) -> &'b [Filed<'a>]
+pub fn filed_under<'t, 'u, 'n>(table: &'t [Filed<'u, 'n>], text: &[u8]) -> &'t [Filed<'u, 'n>]
     requires { IsFiledInOrder (map filing_of table.now) }
     ensures { map filing_of result.now ≡ filed_under text.now (map filing_of table.now) }
 {

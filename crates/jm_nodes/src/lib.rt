@@ -10,7 +10,9 @@ mod names;
 mod packages;
 mod rising;
 mod texts;
+mod trees;
 
 pub use error::NodesError;
 pub use jm_form::{Holds, Owner, TreeNode};
+pub use trees::nodes;
 

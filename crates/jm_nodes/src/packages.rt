@@ -95,11 +95,11 @@ pub fn packages<'a>(alloc: Global, called: &'a [Text]) -> Result<List<&'a [u8]>,
 }
 
 /// A folder's module under the package, the mark where the folder has no resource.
-fn package_child<'a>(
+fn package_child<'u, 'n>(
     table: &[Filed],
-    folder: &PackageFolder<'a>,
-    called: &'a [u8],
-) -> Filed<'a>
+    folder: &PackageFolder<'n>,
+    called: &'u [u8],
+) -> Filed<'u, 'n>
     requires ordered { IsFiledInOrder (map filing_of table.now) }
     requires called { called.now ≡ dotted folder.now.path.now }
     ensures { filing_of result ≡ package_filing (map filing_of table.now) (folder_of folder.now) }
@@ -112,12 +112,12 @@ fn package_child<'a>(
 }
 
 /// Modules under their packages.
-pub fn package_table<'a>(
+pub fn package_table<'u, 'n>(
     alloc: Global,
     table: &[Filed],
-    folders: &[PackageFolder<'a>],
-    called: &'a [Text],
-) -> Result<List<Filed<'a>>, NoMemory>
+    folders: &[PackageFolder<'n>],
+    called: &'u [Text],
+) -> Result<List<Filed<'u, 'n>>, NoMemory>
     requires ordered { IsFiledInOrder (map filing_of table.now) }
     requires called { called.now ≡ called_all (map folder_of folders.now) }
     ensures { IfOk result (λ owned. FilesAll
