@@ -1,6 +1,7 @@
 -- The children of modules and folders are those of the table.
 use Rattle.std.proofs.Common.{◌≡◌, ◌≢◌, ℕ, suc, ◌+◌, ◌-◌, ◌<◌, ◌≤◌, ◌⊎◌, inl, inr, Bool, true, false, cond, not, ◌&&◌, ◌||◌, List, [], ◌∷◌, ◌++◌, length, map, take, drop, get_or, All, AllPairs, Contains, refl, sym, ap, ◌∙◌, subst, append_assoc, arith}
 use Rattle.std.specs.Prelude.{codes, filter}
+use Rattle.std.specs.Cmp.{tied_itself}
 use Rattle.std.specs.Cmp.Lexicographic.{slice_cmp}
 use Rattle.std.specs.List.{before_last, flat_map, list_any, suffix_len}
 use Rattle.std.specs.Ordering.{bool_cmp, is_lt, nat_cmp, ordering_then}
@@ -24,6 +25,7 @@ use Rattle.jm_form.specs.Trees.{children, entry_name, fronts, inner_nodes, is_ch
 use Rattle.jm_nodes.specs.Filings.{filed_under, filing_cmp, FilesAll, Filing}
 use Rattle.jm_nodes.specs.FrontTrees.{child_filing, child_filings, children_of, entry_of}
 use Rattle.jm_nodes.specs.Order.{SameElements}
+use Rattle.jm_nodes.proofs.FilingLaws.{filed_before, filed_from}
 use Rattle.jm_nodes.proofs.FolderLaws.{front_of, inner_from, inner_there}
 use Rattle.jm_nodes.proofs.OrderLaws.{strict}
 use Rattle.jm_nodes.proofs.RisingLaws.{contains_rising, from_rising, rising_rises, Before}
@@ -152,5 +154,81 @@ module _ (names listed risen : List (List ℕ)) (table : List Filing) (cut : (na
       ]
 
   module _ (apart : (name : List ℕ) → Contains names name → Contains (flat_map fronts names) name → ⊥) (front : List ℕ) where
-    found : List Filing
-    found = filed_under front table
+    -- only a folder has the mark
+    marks : (a b : Filing) → Contains table a → Contains table b → a.name ≡ b.name → a.mark ≡ false → b.mark ≡ true → ⊥
+    marks a b in_a in_b same plain mark =
+        elim (child_cases a in_a) [
+          | inr folder ↦ false≢true (sym plain ∙ sym (ap (λ (f : Filing). f.mark) folder.2))
+          | inl resource ↦
+              elim (child_cases b in_b) [
+                | inl other ↦ false≢true (ap (λ (f : Filing). f.mark) other.2 ∙ mark)
+                | inr folder ↦
+                    let one : resource.0 ≡ folder.0 = ap (λ (f : Filing). f.name) resource.2 ∙ same ∙ sym (ap (λ (f : Filing). f.name) folder.2) in
+                    apart resource.0 resource.1 (subst (Contains (flat_map fronts names)) (sym one) folder.1)
+              ]
+        ]
+
+    rises : (a b : Filing) → Contains (filed_under front table) a → Contains (filed_under front table) b → filing_cmp a b ≡ Less → Before (place a) (place b)
+    rises a b in_a in_b less =
+        let left = filed_from front table a in_a in
+        let right = filed_from front table b in_b in
+        elim (filed_before a b (left.1 ∙ sym right.1) less) [
+          | inl before ↦ before
+          | inr same ↦ absurd (marks a b left.0 right.0 same.0 same.1 same.2)
+        ]
+
+    places : map place (filed_under front table) ≡ filter (is_child (codes "/modules" ++ front)) (tree_places names)
+    places =
+        same_order Before (strict nat_list_cmp_total) (map place (filed_under front table)) (filter (is_child (codes "/modules" ++ front)) (tree_places names))
+        (pairs_map Before place (filed_under front table)
+        (pairs_among (λ a b. filing_cmp a b ≡ Less) (λ a b. Before (place a) (place b)) (filed_under front table) rises
+        (AllPairs-filter (λ a b. filing_cmp a b ≡ Less) (λ (f : Filing). bytes_eq f.under front) table files.ordered)))
+        (AllPairs-filter Before (is_child (codes "/modules" ++ front)) (tree_places names) (rising_rises (inner_nodes names ++ map tree_place names)))
+        (λ x there.
+        let from = from_map place (filed_under front table) x there in
+        let under = filed_from front table from.0 from.1 in
+        let slash = child_slash from.0 under.0 in
+        subst (Contains (filter (is_child (codes "/modules" ++ front)) (tree_places names))) from.2
+        (contains_filter (is_child (codes "/modules" ++ front)) (tree_places names) (place from.0) (place_there from.0 under.0)
+        (child_at front from.0.name slash.0 ∙ (bytes_eq-Decides front (before_last is_slash from.0.name)).1 (sym under.1 ∙ slash.1))))
+        (λ x there.
+        let passed = from_filter (is_child (codes "/modules" ++ front)) (tree_places names) x there in
+        let from = place_from x passed.0 in
+        let slash = child_slash from.0 from.1 in
+        let test : bytes_eq front (before_last is_slash from.0.name) ≡ true = sym (child_at front from.0.name slash.0) ∙ ap (is_child (codes "/modules" ++ front)) from.2 ∙ passed.1 in
+        let is : front ≡ from.0.under = (bytes_eq-Decides front (before_last is_slash from.0.name)).0 test ∙ sym slash.1 in
+        subst (Contains (map place (filed_under front table))) from.2
+        (contains_map place (filed_under front table) from.0
+        (contains_filter (λ (f : Filing). bytes_eq f.under front) table from.0 from.1 ((bytes_eq-Decides from.0.under front).1 (sym is)))))
+
+    entry : (child : Filing) → Contains table child → entry_of child ≡ entry_name names (place child)
+    entry child there =
+        elim (child_cases child there) [
+          | inl resource ↦
+              let known : list_any (λ name. bytes_eq (place child) (tree_place name)) names ≡ true =
+                  any_contains (λ name. bytes_eq (place child) (tree_place name)) names resource.0 resource.1
+                  ((bytes_eq-Decides (place child) (tree_place resource.0)).1 (sym (ap place resource.2)))
+              in
+              ap (λ b. cond b (place child) child.name) (sym (ap (λ (f : Filing). f.mark) resource.2))
+              ∙ ap (λ b. cond b (drop 8 (place child)) (place child)) (sym known)
+          | inr folder ↦
+              let none : list_any (λ name. bytes_eq (place child) (tree_place name)) names ≡ false = no_resource child folder.0 folder.1 folder.2 in
+              ap (λ b. cond b (place child) child.name) (sym (ap (λ (f : Filing). f.mark) folder.2))
+              ∙ ap (λ b. cond b (drop 8 (place child)) (place child)) (sym none)
+        ]
+      where
+        no_resource : (child : Filing) (inner : List ℕ) → Contains (flat_map fronts names) inner → child_filing true inner ≡ child → list_any (λ name. bytes_eq (place child) (tree_place name)) names ≡ false
+        no_resource child inner there is =
+            elim (cases_Bool (list_any (λ name. bytes_eq (place child) (tree_place name)) names)) [
+              | inl some ↦
+                  let name = from_any (λ name. bytes_eq (place child) (tree_place name)) names some in
+                  let same : inner ≡ name.0 = ap (λ (f : Filing). f.name) is ∙ ap (drop 8) ((bytes_eq-Decides (place child) (tree_place name.0)).0 name.2) in
+                  absurd (apart name.0 name.1 (subst (Contains (flat_map fronts names)) same there))
+              | inr none ↦ none
+            ]
+
+    pub children_same : children_of table front ≡ children names (codes "/modules" ++ front)
+    children_same =
+        map_same entry_of (λ child. entry_name names (place child)) (filed_under front table) (λ child there. entry child (filed_from front table child there).0)
+        ∙ sym (mapped_twice (entry_name names) place (filed_under front table))
+        ∙ ap (map (entry_name names)) places

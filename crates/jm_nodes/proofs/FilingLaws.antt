@@ -7,7 +7,7 @@ use Rattle.std.proofs.lemmas.Map.Lookups.{exact_bytes}
 use Rattle.std.proofs.lemmas.Slice.Eq.{bytes_eq-Decides}
 use Rattle.std.proofs.lemmas.Map.Text.{is_eq-slice_cmp}
 use mathlib.Core.Bool.{beq}
-use Rattle.std.specs.Cmp.{bool_cmp_total, both_tied, on_total, then_total, IsTotalOrder}
+use Rattle.std.specs.Cmp.{bool_cmp_total, both_tied, tied_itself, on_total, Equal-is, then_total, IsTotalOrder}
 use Rattle.std.specs.Cmp.Lexicographic.{slice_cmp, nat_list_cmp_total, texts_ties}
 use Rattle.std.specs.List.{filter, list_any, AllWithin}
 use Rattle.std.specs.List.Sorted.{IsPartitionPoint, IsPartitionedBy}
@@ -15,6 +15,7 @@ use Rattle.std.specs.Ordering.{bool_cmp, eq_by_cmp, is_eq, is_gt, is_lt, nat_cmp
 use Rattle.std.specs.Str.{bytes_eq}
 use Rattle.std.specs.declared.cmp.Ordering.{Ordering}
 use Rattle.std.specs.declared.cmp.Ordering.TheVariants.{Less, Equal, Greater}
+use Rattle.jm_bytes.proofs.Members.{any_contains, contains_filter, from_any, from_filter}
 use Rattle.jm_bytes.proofs.SameOrder.{filter_mapped}
 use Rattle.jm_nodes.proofs.OrderLaws.{filter_behind, filter_front}
 use Rattle.jm_nodes.specs.Filings.{filed_under, filing_cmp, filing_of, is_filed, Filing, IsFiledInOrder}
@@ -140,3 +141,44 @@ module _ (table : List Filed) (text : List ℕ) (up : IsFiledInOrder (map filing
           go Less e = sym (is_eq-slice_cmp a text) ∙ ap is_eq e
           go Equal e = absurd (false≢true (sym (ap is_lt e) ∙ less))
           go Greater e = absurd (false≢true (sym (ap is_lt e) ∙ less))
+
+-- Members
+
+pub filed_from : (front : List ℕ) (filings : List Filing) (filing : Filing) → Contains (filed_under front filings) filing → Contains filings filing × (filing.under ≡ front)
+filed_from front filings filing there =
+    let from = from_filter (λ (f : Filing). bytes_eq f.under front) filings filing there in
+    (from.0, (bytes_eq-Decides filing.under front).0 from.1)
+
+pub filed_there : (front : List ℕ) (filings : List Filing) (filing : Filing) → Contains filings filing → filing.under ≡ front → Contains (filed_under front filings) filing
+filed_there front filings filing there is = contains_filter (λ (f : Filing). bytes_eq f.under front) filings filing there ((bytes_eq-Decides filing.under front).1 is)
+
+pub is_filed_there : (filing : Filing) (filings : List Filing) → Contains filings filing → is_filed filing filings ≡ true
+is_filed_there filing filings there = any_contains (λ other. is_eq (filing_cmp other filing)) filings filing there (ap is_eq (tied_itself filing_total filing))
+
+pub is_filed_from : (filing : Filing) (filings : List Filing) → is_filed filing filings ≡ true → Contains filings filing
+is_filed_from filing filings some =
+    let one = from_any (λ other. is_eq (filing_cmp other filing)) filings some in
+    subst (Contains filings) (filing_exact one.0 filing ((Equal-is (filing_cmp one.0 filing)).0 one.2)) one.1
+
+-- of two that are filed under one text the first has the lesser name, or the same one without the mark
+pub filed_before : (a b : Filing) → a.under ≡ b.under → filing_cmp a b ≡ Less → (slice_cmp nat_cmp a.name b.name ≡ Less) ⊎ ((a.name ≡ b.name) × (a.mark ≡ false) × (b.mark ≡ true))
+filed_before a b same less = go (slice_cmp nat_cmp a.name b.name) refl
+  where
+    level : slice_cmp nat_cmp a.under b.under ≡ Equal
+    level = ap (slice_cmp nat_cmp a.under) (sym same) ∙ tied_itself nat_list_cmp_total a.under
+
+    behind : ordering_then (slice_cmp nat_cmp a.name b.name) (bool_cmp a.mark b.mark) ≡ Less
+    behind = ap (λ o. ordering_then o (ordering_then (slice_cmp nat_cmp a.name b.name) (bool_cmp a.mark b.mark))) (sym level) ∙ less
+
+    marked : (m n : Bool) → bool_cmp m n ≡ Less → (m ≡ false) × (n ≡ true)
+    marked false true e = (refl, refl)
+    marked false false e = absurd (false≢true (ap is_lt e))
+    marked true false e = absurd (false≢true (ap is_lt e))
+    marked true true e = absurd (false≢true (ap is_lt e))
+
+    go : (o : Ordering) → slice_cmp nat_cmp a.name b.name ≡ o → (slice_cmp nat_cmp a.name b.name ≡ Less) ⊎ ((a.name ≡ b.name) × (a.mark ≡ false) × (b.mark ≡ true))
+    go Less e = inl e
+    go Equal e =
+        let by_mark = marked a.mark b.mark (ap (λ o. ordering_then o (bool_cmp a.mark b.mark)) (sym e) ∙ behind) in
+        inr (exact_bytes a.name b.name e, by_mark.0, by_mark.1)
+    go Greater e = absurd (false≢true (ap is_lt (ap (λ o. ordering_then o (bool_cmp a.mark b.mark)) (sym e) ∙ behind)))
