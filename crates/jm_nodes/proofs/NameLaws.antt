@@ -1,7 +1,7 @@
 -- The names of a pool and what folders are called, one place at a time.
-use Rattle.std.proofs.Common.{◌≡◌, ℕ, zero, suc, ◌+◌, ◌<◌, List, [], ◌∷◌, ◌++◌, length, map, take, add-one, get_or, Option, Some, None, refl, sym, ap, ◌∙◌, arith, slice_get, Bor}
+use Rattle.std.proofs.Common.{◌≡◌, ℕ, zero, suc, ◌+◌, ◌<◌, List, [], ◌∷◌, ◌++◌, length, map, take, add-one, get_or, Option, Some, None, refl, sym, subst, All, ap, ◌∙◌, arith, slice_get, Bor}
 use Rattle.std.proofs.lemmas.List.{get_or-map, length-map, map_more, map_push}
-use Rattle.std.proofs.lemmas.List.Elements.{filter_map-append}
+use Rattle.std.proofs.lemmas.List.Elements.{filter_map-append, All-append, All-cons, All-nil}
 use Rattle.std.specs.List.{cons_option, filter_map}
 use Rattle.std.specs.Option.{option_to_list}
 use Rattle.jm_pool.specs.Pairs.{names_of}
@@ -14,6 +14,12 @@ taken_next : (pairs : List (List ℕ × List ℕ)) (place : ℕ) (name bytes : L
 taken_next [] place name bytes there = cc
 taken_next (pair ∷ pairs) zero name bytes there = ap (λ (p : List ℕ × List ℕ). p.0 ∷ []) (same_some pair (name, bytes) there)
 taken_next (pair ∷ pairs) (suc place) name bytes there = rw add-one (ap (λ l. pair.0 ∷ l) (rw add-one at (taken_next pairs place name bytes there)))
+
+-- what holds of all names of a pool, one more at a time
+pub all_next : (P : List ℕ → Type 0) (pairs : List (List ℕ × List ℕ)) (place : ℕ) (name bytes : List ℕ) → slice_get pairs place ≡ Some (name, bytes)
+    → All P (take place (names_of pairs)) → P name → All P (take (place + 1) (names_of pairs))
+all_next P pairs place name bytes there before one =
+    subst (All P) (sym (taken_next pairs place name bytes there)) (All-append P (take place (names_of pairs)) (name ∷ []) before (All-cons P name [] one (All-nil P)))
 
 -- one name more of a pool
 pub names_next : (pairs : List (List ℕ × List ℕ)) (place : ℕ) (before after : List (Bor (List ℕ))) (name : Bor (List ℕ)) (bytes : List ℕ) → slice_get pairs place ≡ Some (name.now, bytes)

@@ -16,3 +16,6 @@ pub use error::NodesError;
 pub use jm_form::{Holds, Owner, TreeNode};
 pub use trees::nodes;
 
+
+#[cfg(test)]
+mod tests;
