@@ -1,27 +1,22 @@
 -- The children of modules and folders are those of the table.
-use Rattle.std.proofs.Common.{◌≡◌, ◌≢◌, ℕ, suc, ◌+◌, ◌-◌, ◌<◌, ◌≤◌, ◌⊎◌, inl, inr, Bool, true, false, cond, not, ◌&&◌, ◌||◌, List, [], ◌∷◌, ◌++◌, length, map, take, drop, get_or, All, AllPairs, Contains, refl, sym, ap, ◌∙◌, subst, append_assoc, arith}
+use Rattle.std.proofs.Common.{◌≡◌, ℕ, suc, ◌+◌, ◌-◌, ◌<◌, ◌⊎◌, inl, inr, Bool, true, false, cond, not, ◌||◌, List, [], ◌∷◌, ◌++◌, length, map, take, drop, get_or, Contains, refl, sym, ap, ◌∙◌, subst, append_assoc, arith}
 use Rattle.std.specs.Prelude.{codes, filter}
-use Rattle.std.specs.Cmp.{tied_itself}
-use Rattle.std.specs.Cmp.Lexicographic.{slice_cmp}
 use Rattle.std.specs.List.{before_last, flat_map, list_any, suffix_len}
-use Rattle.std.specs.Ordering.{bool_cmp, is_lt, nat_cmp, ordering_then}
 use Rattle.std.specs.Str.{bytes_eq}
-use Rattle.std.specs.declared.cmp.Ordering.{Ordering}
-use Rattle.std.specs.declared.cmp.Ordering.TheVariants.{Less, Equal, Greater}
+use Rattle.std.specs.declared.cmp.Ordering.TheVariants.{Less}
 use Rattle.std.specs.Cmp.Lexicographic.{nat_list_cmp_total}
-use Rattle.std.proofs.lemmas.Bool.{and_parts, cases_Bool, eqb-true, false≢true}
+use Rattle.std.proofs.lemmas.Bool.{cases_Bool, eqb-true, false≢true}
 use Rattle.std.proofs.lemmas.List.{get_or-append_right, get_or_at, length-append, take_at}
-use Rattle.std.proofs.lemmas.List.Elements.{All-contains, Contains-append_left, Contains-append_right, Contains-append_cases}
+use Rattle.std.proofs.lemmas.List.Elements.{Contains-append_left, Contains-append_right, Contains-append_cases}
 use Rattle.std.proofs.lemmas.List.Folds.{list_any_at}
 use Rattle.std.proofs.lemmas.List.Kept.{AllPairs-filter}
 use Rattle.std.proofs.lemmas.List.Sums.{suffix_len_is}
-use Rattle.std.proofs.lemmas.Map.Lookups.{exact_bytes}
 use Rattle.std.proofs.lemmas.Slice.Eq.{bytes_eq-Decides}
 use Rattle.jm_bytes.proofs.Members.{any_contains, contains_filter, contains_here, contains_later, contains_map, from_any, from_filter, from_map}
 use Rattle.jm_bytes.proofs.Pairs.{pairs_among, pairs_map}
 use Rattle.jm_bytes.proofs.SameOrder.{mapped_twice, same_order}
 use Rattle.jm_names.specs.Names.{is_slash}
-use Rattle.jm_form.specs.Trees.{children, entry_name, fronts, inner_nodes, is_child, module_of, path_of, tree_place, tree_places}
+use Rattle.jm_form.specs.Trees.{children, entry_name, fronts, inner_nodes, is_child, tree_place, tree_places}
 use Rattle.jm_nodes.specs.Filings.{filed_under, filing_cmp, FilesAll, Filing}
 use Rattle.jm_nodes.specs.FrontTrees.{child_filing, child_filings, children_of, entry_of}
 use Rattle.jm_nodes.specs.Order.{SameElements}
@@ -29,7 +24,7 @@ use Rattle.jm_nodes.proofs.FilingLaws.{filed_before, filed_from}
 use Rattle.jm_nodes.proofs.FolderLaws.{front_of, inner_from, inner_there}
 use Rattle.jm_nodes.proofs.OrderLaws.{strict}
 use Rattle.jm_nodes.proofs.RisingLaws.{contains_rising, from_rising, rising_rises, Before}
-use Rattle.jm_nodes.proofs.SoundLaws.{any_behind, IsCut}
+use Rattle.jm_nodes.proofs.SoundLaws.{IsCut}
 
 -- Cut at the last slash
 
@@ -206,8 +201,8 @@ module _ (names listed risen : List (List ℕ)) (table : List Filing) (cut : (na
         elim (child_cases child there) [
           | inl resource ↦
               let known : list_any (λ name. bytes_eq (place child) (tree_place name)) names ≡ true =
-                  any_contains (λ name. bytes_eq (place child) (tree_place name)) names resource.0 resource.1
-                  ((bytes_eq-Decides (place child) (tree_place resource.0)).1 (sym (ap place resource.2)))
+              any_contains (λ name. bytes_eq (place child) (tree_place name)) names resource.0 resource.1
+              ((bytes_eq-Decides (place child) (tree_place resource.0)).1 (sym (ap place resource.2)))
               in
               ap (λ b. cond b (place child) child.name) (sym (ap (λ (f : Filing). f.mark) resource.2))
               ∙ ap (λ b. cond b (drop 8 (place child)) (place child)) (sym known)

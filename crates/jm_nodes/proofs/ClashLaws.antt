@@ -1,5 +1,5 @@
 -- The least name that is also that of another's folder is the first that is a front.
-use Rattle.std.proofs.Common.{◌≡◌, ℕ, ◌⊎◌, inl, inr, Bool, true, false, cond, List, [], ◌∷◌, ◌++◌, map, drop, Option, Some, None, AllPairs, Contains, refl, sym, ap, ◌∙◌, subst, slice_get}
+use Rattle.std.proofs.Common.{◌≡◌, ℕ, inl, inr, Bool, true, false, cond, List, [], ◌∷◌, ◌++◌, drop, Some, None, Contains, refl, sym, ap, ◌∙◌, subst, slice_get}
 use Rattle.std.specs.Prelude.{filter}
 use Rattle.std.specs.Cmp.{both_ways}
 use Rattle.std.specs.List.{find, flat_map, list_any}
@@ -11,7 +11,7 @@ use Rattle.jm_bytes.proofs.Finds.{find_nowhere}
 use Rattle.jm_bytes.proofs.Members.{any_contains, contains_filter, contains_here, contains_later, from_any, from_filter}
 use Rattle.jm_names.specs.Names.{is_slash}
 use Rattle.jm_form.specs.Rising.{rising}
-use Rattle.jm_form.specs.Trees.{first_clash, folder_name, folders, fronts, is_folder, module_of, path_of, ModuleFolder}
+use Rattle.jm_form.specs.Trees.{first_clash, folder_name, folders, fronts, is_folder, module_of, path_of}
 use Rattle.jm_nodes.specs.Order.{SameElements}
 use Rattle.jm_nodes.proofs.FolderLaws.{front_of, front_there_of}
 use Rattle.jm_nodes.proofs.RisingLaws.{contains_rising, from_rising, rising_only, rising_rises, Before}

@@ -1,5 +1,5 @@
 -- What `nodes` answers, from what its steps say.
-use Rattle.std.proofs.Common.{◌≡◌, ℕ, List, map, All, Contains, Option, None, refl, sym, ap, ◌∙◌, subst}
+use Rattle.std.proofs.Common.{◌≡◌, ℕ, List, All, Contains, Option, None, ap, ◌∙◌, subst}
 use Rattle.std.specs.List.{find, flat_map}
 use Rattle.std.proofs.lemmas.List.Elements.{All-contains}
 use Rattle.jm_bytes.proofs.SameOrder.{contains_flat_map, from_flat_map}

@@ -1,8 +1,8 @@
 -- Modules and folders as fronts of sound names, and the folders that are packages.
-use Rattle.std.proofs.Common.{◌≡◌, ℕ, ◌⊎◌, inl, inr, Bool, true, false, cond, not, ◌&&◌, List, [], ◌∷◌, ◌++◌, map, drop, Option, Some, None, Contains, refl, sym, ap, ◌∙◌, subst}
-use Rattle.std.specs.Prelude.{codes, filter}
-use Rattle.std.specs.List.{filter_map, flat_map, list_any}
-use Rattle.std.proofs.lemmas.Bool.{and_parts, false≢true}
+use Rattle.std.proofs.Common.{◌≡◌, ℕ, ◌⊎◌, inl, inr, Bool, true, false, cond, not, ◌&&◌, List, ◌∷◌, ◌++◌, map, drop, Some, None, Contains, refl, sym, ap, ◌∙◌, subst}
+use Rattle.std.specs.Prelude.{codes}
+use Rattle.std.specs.List.{flat_map, list_any}
+use Rattle.std.proofs.lemmas.Bool.{false≢true}
 use Rattle.std.proofs.lemmas.List.Elements.{Contains-append_left, Contains-append_right, Contains-append_cases}
 use Rattle.jm_bytes.proofs.Choice.{same_some}
 use Rattle.jm_bytes.proofs.Members.{contains_filter, contains_filter_map, contains_map, from_filter, from_filter_map, from_map}
@@ -10,7 +10,7 @@ use Rattle.jm_bytes.proofs.SameOrder.{contains_flat_map, from_flat_map}
 use Rattle.jm_names.specs.Names.{is_slash}
 use Rattle.jm_form.specs.Rising.{rising}
 use Rattle.jm_form.specs.Trees.{folder_name, folder_node, folders, folders_of, fronts, inner_nodes, is_meta, module_node, module_of, modules, package_folders, package_of, packages, path_of, ModuleFolder}
-use Rattle.jm_nodes.specs.FrontTrees.{called_all, folders_among, is_package, package_folder, Folder}
+use Rattle.jm_nodes.specs.FrontTrees.{called_all, folders_among, package_folder, Folder}
 use Rattle.jm_nodes.specs.Order.{SameElements}
 use Rattle.jm_nodes.proofs.RisingLaws.{contains_rising, from_rising, rising_same}
 use Rattle.jm_nodes.proofs.SoundLaws.{any_behind, folder_front, front_cases, module_again, module_front, path_again, IsCut}

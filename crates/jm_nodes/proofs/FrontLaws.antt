@@ -1,5 +1,5 @@
 -- The fronts of names, one name after another.
-use Rattle.std.proofs.Common.{◌≡◌, ℕ, zero, suc, ◌+◌, ◌-◌, ◌<◌, ◌≤◌, ◌⊎◌, inl, inr, Bool, true, false, cond, ◌&&◌, List, [], ◌∷◌, ◌++◌, length, map, take, get_or, Contains, refl, sym, ap, ◌∙◌, subst, arith, slice_index_or, Bor}
+use Rattle.std.proofs.Common.{◌≡◌, ℕ, ◌+◌, ◌-◌, ◌<◌, ◌≤◌, inl, inr, Bool, true, false, cond, ◌&&◌, List, [], ◌∷◌, ◌++◌, length, map, take, get_or, Contains, refl, sym, ap, ◌∙◌, subst, arith, slice_index_or, Bor}
 use Rattle.std.specs.Prelude.{filter, nat_lt}
 use Rattle.std.specs.List.{flat_map, range_with_len}
 use Rattle.std.proofs.lemmas.Bool.{cases_lt, lt-ltb, ltb-true}
@@ -44,13 +44,15 @@ pub from_between : (start count : ℕ) (name front : List ℕ) → start + count
 from_between start count name front fits there =
     let taken = from_map (λ n. take n name) _ front there in
     let passed = from_filter (λ n. nat_lt 0 n && is_slash (slice_index_or name n 0)) (range_with_len start count) taken.0 taken.1 in
-    let place = from_range start count taken.0 passed.0 in
-    (taken.0, record {
-      some = ltb-true 0 taken.0 (first (nat_lt 0 taken.0) (is_slash (slice_index_or name taken.0 0)) passed.1);
-      within = omega (arith, place.1);
-      slash = second (nat_lt 0 taken.0) (is_slash (slice_index_or name taken.0 0)) passed.1;
-      is = sym taken.2;
-    })
+    let place = from_range start count taken.0 passed.0 in (
+      taken.0,
+      record {
+        some = ltb-true 0 taken.0 (first (nat_lt 0 taken.0) (is_slash (slice_index_or name taken.0 0)) passed.1);
+        within = omega (arith, place.1);
+        slash = second (nat_lt 0 taken.0) (is_slash (slice_index_or name taken.0 0)) passed.1;
+        is = sym taken.2;
+      },
+    )
 
 pub front_there : (name : List ℕ) (at : ℕ) → 0 < at → at < length name → is_slash (slice_index_or name at 0) ≡ true → Contains (fronts name) (take at name)
 front_there name at some within slash = between_there 0 (length name) name at (omega arith) (omega arith) some slash
@@ -100,7 +102,7 @@ before_known names place start d some below inside fits same =
     let long = length-map names (λ (name : Bor (List ℕ)). name.now) in
     let cut = length-take-le place plain (omega arith) in
     let other : Contains (take place plain) (get_or names (place - 1) d).now =
-        subst (Contains (take place plain)) (get_or-take place plain (place - 1) [] (omega arith) ∙ there) (Contains-get_or (take place plain) (place - 1) [] (omega arith))
+    subst (Contains (take place plain)) (get_or-take place plain (place - 1) [] (omega arith) ∙ there) (Contains-get_or (take place plain) (place - 1) [] (omega arith))
     in
     rw here
     (same_fronts start (get_or names place d).now (get_or names (place - 1) d).now (flat_map fronts (take place plain)) inside fits same

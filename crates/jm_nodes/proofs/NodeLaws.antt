@@ -1,9 +1,7 @@
 -- The nodes that are made of the tables are those of the definition.
-use Rattle.std.proofs.Common.{◌≡◌, ℕ, ◌⊎◌, inl, inr, Bool, true, false, cond, List, [], ◌∷◌, ◌++◌, map, reverse, All, AllPairs, Contains, refl, sym, ap, ◌∙◌, subst}
+use Rattle.std.proofs.Common.{◌≡◌, ℕ, inl, inr, List, [], ◌∷◌, ◌++◌, map, reverse, All, Contains, refl, sym, ap, ◌∙◌, subst}
 use Rattle.std.specs.Prelude.{codes}
-use Rattle.std.specs.Cmp.Lexicographic.{slice_cmp}
 use Rattle.std.specs.List.{flat_map}
-use Rattle.std.specs.Ordering.{nat_cmp}
 use mathlib.Core.List.{reverse_aux}
 use Rattle.std.proofs.lemmas.List.{map-append}
 use Rattle.std.proofs.lemmas.List.Elements.{Contains-append_left, Contains-append_right, Contains-append_cases}
@@ -12,11 +10,11 @@ use Rattle.jm_bytes.proofs.Members.{all_from_contains, contains_cases, contains_
 use Rattle.jm_bytes.proofs.Pairs.{pairs_append, pairs_map}
 use Rattle.jm_bytes.proofs.SameOrder.{mapped_twice}
 use Rattle.jm_form.specs.Rising.{rising}
-use Rattle.jm_form.specs.Trees.{children, folder_name, fronts, holds_of, inner_nodes, module_of, node_names, owners, package_folders, package_node, package_nodes, package_of, packages, tree_nodes}
+use Rattle.jm_form.specs.Trees.{fronts, holds_of, inner_nodes, module_of, node_names, package_folders, package_node, package_nodes, package_of, packages, tree_nodes}
 use Rattle.jm_form.specs.declared.trees.Holds.TheVariants.{Children, Owners}
 use Rattle.jm_form.specs.declared.trees.TreeNode.{TreeNode}
 use Rattle.jm_nodes.specs.Filings.{FilesAll, Filing}
-use Rattle.jm_nodes.specs.FrontTrees.{called_all, child_filings, children_of, folders_among, front_node, owners_node, owners_of, package_filings, packages_node, rising_nodes, IsMadeOf}
+use Rattle.jm_nodes.specs.FrontTrees.{called_all, child_filings, folders_among, front_node, owners_node, package_filings, packages_node, rising_nodes, IsMadeOf}
 use Rattle.jm_nodes.specs.Order.{IsRising, SameElements}
 use Rattle.jm_nodes.proofs.ChildLaws.{children_same, map_same}
 use Rattle.jm_nodes.proofs.FolderLaws.{front_of, inner_from, inner_there, packages_same}

@@ -1,31 +1,25 @@
 -- The owners of packages are those of the table.
-use Rattle.std.proofs.Common.{◌≡◌, ◌≢◌, ℕ, ◌⊎◌, inl, inr, Bool, true, false, cond, not, ◌&&◌, List, [], ◌∷◌, ◌++◌, map, take, drop, All, AllPairs, Contains, refl, sym, ap, ◌∙◌, subst, append_assoc}
-use Rattle.std.specs.Prelude.{codes, filter}
-use Rattle.std.specs.Cmp.{both_ways, tied_itself}
-use Rattle.std.specs.Cmp.Lexicographic.{slice_cmp, nat_list_cmp_total}
+use Rattle.std.proofs.Common.{◌≡◌, ℕ, inl, inr, Bool, true, false, cond, not, ◌&&◌, List, [], ◌∷◌, ◌++◌, map, drop, AllPairs, Contains, refl, sym, ap, ◌∙◌, subst, append_assoc}
+use Rattle.std.specs.Prelude.{filter}
+use Rattle.std.specs.Cmp.{both_ways}
 use Rattle.std.specs.List.{before_last, flat_map, list_any}
-use Rattle.std.specs.Ordering.{bool_cmp, is_eq, is_lt, nat_cmp, ordering_then}
 use Rattle.std.specs.Str.{bytes_eq}
-use Rattle.std.specs.declared.cmp.Ordering.{Ordering}
-use Rattle.std.specs.declared.cmp.Ordering.TheVariants.{Less, Equal, Greater}
+use Rattle.std.specs.declared.cmp.Ordering.TheVariants.{Less}
 use Rattle.std.proofs.lemmas.Bool.{and_parts, cases_Bool, false≢true}
 use Rattle.std.proofs.lemmas.List.Kept.{AllPairs-filter}
-use Rattle.std.proofs.lemmas.Map.Lookups.{exact_bytes}
 use Rattle.std.proofs.lemmas.Slice.Eq.{bytes_eq-Decides}
 use Rattle.jm_bytes.proofs.Members.{any_contains, contains_filter, contains_filter_map, contains_map, from_any, from_filter, from_filter_map, from_map}
 use Rattle.jm_bytes.proofs.Pairs.{pairs_among, pairs_map}
 use Rattle.jm_bytes.proofs.SameOrder.{mapped_twice}
 use Rattle.jm_names.specs.Names.{is_slash}
-use Rattle.jm_form.specs.Rising.{rising}
 use Rattle.jm_form.specs.Trees.{folder_name, folders, folders_called, fronts, is_empty_in, is_meta, module_of, owners, package_folders, package_of, path_of, stands_in, ModuleFolder}
-use Rattle.jm_form.specs.declared.trees.Owner.{Owner}
 use Rattle.jm_nodes.specs.Filings.{filed_under, filing_cmp, is_filed, FilesAll, Filing}
-use Rattle.jm_nodes.specs.FrontTrees.{child_filing, child_filings, folders_among, is_bare, owner_alone, owners_of, package_filing, package_filings, package_folder, Folder}
+use Rattle.jm_nodes.specs.FrontTrees.{child_filing, child_filings, folders_among, is_bare, owners_of, package_filing, package_filings, package_folder}
 use Rattle.jm_nodes.specs.Order.{SameElements}
-use Rattle.jm_nodes.proofs.ChildLaws.{before_last_behind, before_last_slash, child_cases, last_slash, map_same, resource_filed}
+use Rattle.jm_nodes.proofs.ChildLaws.{before_last_behind, before_last_slash, child_cases, map_same, resource_filed}
 use Rattle.jm_nodes.proofs.FilingLaws.{filed_before, filed_from, filed_there, is_filed_from, is_filed_there}
 use Rattle.jm_nodes.proofs.FolderLaws.{front_there_of, module_plain, package_from, package_there, Found}
-use Rattle.jm_nodes.proofs.RisingLaws.{contains_rising, from_rising, rising_only, Before}
+use Rattle.jm_nodes.proofs.RisingLaws.{rising_only, Before}
 use Rattle.jm_nodes.proofs.SoundLaws.{any_behind, module_again, path_again, IsCut}
 
 -- A resource stands in the folder that is its name up to the last slash
@@ -62,7 +56,7 @@ stands_there name folder cut plain is =
     elim (cases_Bool (list_any is_slash (path_of name))) [
       | inl some ↦
           let same : 47 ∷ module_of name ++ 47 ∷ before_last is_slash (path_of name) ≡ 47 ∷ folder.module ++ 47 ∷ folder.path =
-              sym (deep (module_of name) (path_of name) some) ∙ ap (before_last is_slash) (sym cut.whole) ∙ is
+          sym (deep (module_of name) (path_of name) some) ∙ ap (before_last is_slash) (sym cut.whole) ∙ is
           in
           let home : folder.module ≡ module_of name = sym (module_again folder.module folder.path plain) ∙ ap module_of (sym same) ∙ module_again (module_of name) (before_last is_slash (path_of name)) cut.plain in
           let path : folder.path ≡ before_last is_slash (path_of name) = sym (path_again folder.module folder.path plain) ∙ ap path_of (sym same) ∙ path_again (module_of name) (before_last is_slash (path_of name)) cut.plain in
@@ -70,7 +64,7 @@ stands_there name folder cut plain is =
           ((bytes_eq-Decides folder.module (module_of name)).1 home) some ((bytes_eq-Decides folder.path (before_last is_slash (path_of name))).1 path)
       | inr none ↦
           let same : 47 ∷ module_of name ≡ 47 ∷ folder.module ++ 47 ∷ folder.path =
-              sym (before_last_slash (47 ∷ module_of name) (path_of name) none) ∙ ap (before_last is_slash) (sym cut.whole) ∙ is
+          sym (before_last_slash (47 ∷ module_of name) (path_of name) none) ∙ ap (before_last is_slash) (sym cut.whole) ∙ is
           in
           absurd (false≢true (sym cut.plain ∙ ap (λ t. list_any is_slash (drop 1 t)) same ∙ any_behind folder.module folder.path))
     ]
@@ -212,7 +206,7 @@ module _ (names listed risen : List (List ℕ)) (table owned : List Filing) (cut
                 | inr bare_one ↦ mark ∙ ap not bare_one ∙ ap not (sym none)
                 | inl some ↦
                     let in_package = contains_filter (λ (f : ModuleFolder). bytes_eq called (package_of f)) (package_folders names) folder.0 folder.1
-                        ((bytes_eq-Decides called (package_of folder.0)).1 (sym (ap (λ (f : Filing). f.under) folder.2 ∙ from.1)))
+                    ((bytes_eq-Decides called (package_of folder.0)).1 (sym (ap (λ (f : Filing). f.under) folder.2 ∙ from.1)))
                     in
                     absurd (false≢true (sym none ∙ any_contains (λ (f : ModuleFolder). bytes_eq filing.name f.module && list_any (λ name. stands_in name f) names) (folders_called names called) folder.0 in_package
                     (both_true (bytes_eq filing.name folder.0.module) (list_any (λ name. stands_in name folder.0) names) ((bytes_eq-Decides filing.name folder.0.module).1 (sym (ap (λ (f : Filing). f.name) folder.2))) some)))

@@ -1,6 +1,6 @@
 -- A sound name is a slash, its module, a slash and its path; what its fronts are.
-use Rattle.std.proofs.Common.{◌≡◌, ℕ, zero, suc, ◌+◌, ◌-◌, ◌<◌, ◌≤◌, ◌⊎◌, inl, inr, Bool, true, false, cond, not, ◌&&◌, ◌||◌, List, [], ◌∷◌, ◌++◌, length, take, drop, get_or, Contains, refl, sym, ap, ◌∙◌, subst, append_assoc, arith, slice_index_or}
-use Rattle.std.specs.List.{after_first, before_first, before_last, list_any, onto_first, position_or_len, slice_split}
+use Rattle.std.proofs.Common.{◌≡◌, ℕ, zero, suc, ◌+◌, ◌-◌, ◌<◌, ◌≤◌, ◌⊎◌, inl, inr, Bool, true, false, cond, not, ◌||◌, List, [], ◌∷◌, ◌++◌, length, take, drop, get_or, Contains, refl, sym, ap, ◌∙◌, subst, append_assoc, arith, slice_index_or}
+use Rattle.std.specs.List.{after_first, before_first, list_any, onto_first, position_or_len, slice_split}
 use Rattle.std.proofs.lemmas.Bool.{and_parts, cases_order, eqb-true, false≢true}
 use Rattle.std.proofs.lemmas.List.{append_cancel_left, get_or-append-add, get_or-take, get_or_append_left, get_or_at, length-append, length-take-le, take-append-drop, take_at}
 use Rattle.std.proofs.lemmas.List.Folds.{list_any_at}
@@ -164,8 +164,7 @@ front_cases text path front plain begins there =
               let place : j ≡ length text + suc k = omega arith in
               let read : is_slash (slice_index_or path k 0) ≡ true = ap is_slash (sym (get_or-append-add text (47 ∷ path) (suc k) 0)) ∙ ap (λ n. is_slash (slice_index_or (text ++ 47 ∷ path) n 0)) (sym place) ∙ slash in
               let below : k < length path = omega arith in
-              inr
-              (
+              inr (
                 take k path,
                 front_there path k (in_path k below read) below read,
                 is ∙ ap (λ n. 47 ∷ take n (text ++ 47 ∷ path)) place ∙ ap (λ t. 47 ∷ t) (taken_behind text path k (omega arith)),

@@ -1,6 +1,6 @@
 -- Names that are filed under other texts: the children of a folder under the folder, the owners of
 -- a package under the package (this project's rule).
-use Rattle.std.specs.Prelude.{ℕ, ◌≡◌, Bool, List, map, filter, AllPairs}
+use Rattle.std.specs.Prelude.{ℕ, ◌≡◌, Bool, List, filter, AllPairs}
 use Rattle.std.specs.Cmp.Lexicographic.{slice_cmp}
 use Rattle.std.specs.List.{list_any}
 use Rattle.std.specs.Ordering.{bool_cmp, is_eq, nat_cmp, ordering_then}

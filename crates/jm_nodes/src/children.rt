@@ -48,7 +48,7 @@ pub fn child_table<'a>(
     let mut list = List::new(alloc);
     put_children(&mut list, names, false)?;
     put_children(&mut list, fronts, true)?;
-    Ok(in_order(list))
+    in_order(list)
 }
 
 /// The name of a child's entry.

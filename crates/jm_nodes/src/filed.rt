@@ -1,14 +1,18 @@
 //! Names that are filed under other texts.
-ghost use Rattle.std.specs.Prelude.{◌≡◌, map};
+ghost use Rattle.std.specs.Prelude.{◌≡◌, map, IfOk};
 ghost use Rattle.std.specs.Cmp.Lexicographic.{slice_cmp};
 ghost use Rattle.std.specs.Ordering.{is_lt, nat_cmp};
 ghost use Rattle.std.specs.List.{list_any};
 ghost use Rattle.std.specs.Str.{bytes_eq};
 ghost use Rattle.jm_nodes.specs.Filings.{
-    filed_under, filing_of, is_filed, IsFiledInOrder, FilesAll
+  filed_under,
+  filing_of,
+  is_filed,
+  IsFiledInOrder,
+  FilesAll,
 };
 
-use jm_bytes::List;
+use jm_bytes::{List, NoMemory};
 
 /// A name that is filed under a text, with a mark.
 #[derive(Clone, Copy, Debug, PartialEq, Eq, PartialOrd, Ord)]
@@ -20,13 +24,17 @@ pub struct Filed<'u, 'n> {
 }
 
 /// All that is filed, each once, by what it is filed under, then by name, then by mark.
-pub fn in_order<'u, 'n>(filed: List<Filed<'u, 'n>>) -> List<Filed<'u, 'n>>
-    ensures { FilesAll (map filing_of filed.entry) (map filing_of result) }
+pub fn in_order<'u, 'n>(filed: List<Filed<'u, 'n>>) -> Result<List<Filed<'u, 'n>>, NoMemory>
+    ensures { IfOk result (λ table. FilesAll (map filing_of filed.entry) (map filing_of table)) }
 {
     let mut table = filed.into_vec();
-    table.sort_unstable();
-    table.dedup();
-    List::from_vec(table)
+    match table.sort() {
+        Ok(()) => {
+            table.dedup();
+            Ok(List::from_vec(table))
+        }
+        Err(_) => Err(NoMemory),
+    }
 }
 
 /// It is filed under a lesser text.

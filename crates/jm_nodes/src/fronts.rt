@@ -49,11 +49,7 @@ fn put_front<'a>(list: &mut List<&'a [u8]>, name: &'a [u8], at: usize) -> Result
 }
 
 /// Puts the fronts of a name at the end, from a length on.
-fn put_fronts<'a>(
-    list: &mut List<&'a [u8]>,
-    name: &'a [u8],
-    start: usize,
-) -> Result<(), NoMemory>
+fn put_fronts<'a>(list: &mut List<&'a [u8]>, name: &'a [u8], start: usize) -> Result<(), NoMemory>
     requires { start ≤ length name.now }
     ensures { OnOk result (map (λ front. front.now) list.new ≡ map (λ front. front.now) list.old
         ++ fronts_between start (length name.now - start) name.now) }

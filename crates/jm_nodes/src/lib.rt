@@ -6,7 +6,6 @@ mod error;
 mod filed;
 mod fronts;
 mod names;
-
 mod packages;
 mod rising;
 mod texts;
@@ -15,7 +14,6 @@ mod trees;
 pub use error::NodesError;
 pub use jm_form::{Holds, Owner, TreeNode};
 pub use trees::nodes;
-
 
 #[cfg(test)]
 mod tests;

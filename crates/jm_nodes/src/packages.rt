@@ -6,7 +6,13 @@ ghost use Rattle.jm_form.specs.Rising.{rising};
 ghost use Rattle.jm_names.specs.Names.{dotted};
 ghost use Rattle.jm_nodes.specs.Filings.{filing_of, IsFiledInOrder, FilesAll};
 ghost use Rattle.jm_nodes.specs.FrontTrees.{
-    called_all, folder_of, owner_alone, owners_of, package_filing, package_filings, package_folder
+  called_all,
+  folder_of,
+  owner_alone,
+  owners_of,
+  package_filing,
+  package_filings,
+  package_folder,
 };
 
 use crate::children::is_bare;
@@ -128,7 +134,7 @@ pub fn package_table<'u, 'n>(
     for place in 0..folders.len() {
         list.push(package_child(table, &folders[place], called[place].as_slice()))?;
     }
-    Ok(in_order(list))
+    in_order(list)
 }
 
 /// Puts an owner at the end; where a module has one folder of the package with a resource and one

@@ -98,11 +98,7 @@ fn are_told(nodes: &[TreeNode], told: &[(&str, &[&str])]) -> bool {
 }
 
 /// Resources of these names have these nodes.
-fn have_nodes(
-    alloc: Global,
-    names: &[&str],
-    told: &[(&str, &[&str])],
-) -> Result<bool, Fail> {
+fn have_nodes(alloc: Global, names: &[&str], told: &[(&str, &[&str])]) -> Result<bool, Fail> {
     let pool = pool_of(alloc, names)?;
     if !are_fit(&pool) {
         return Ok(false);
@@ -201,7 +197,10 @@ fn nodes_fall_by_name(rt: HostRuntime) -> Result<(), Fail> {
                 ("/modules/b", &["/b/module-info.class", "/modules/b/q"]),
                 ("/modules/a/p", &["/a/p/A.class"]),
                 ("/modules/a", &["/a/module-info.class", "/modules/a/p"]),
-                ("/modules", &["/modules/a", "/modules/b", "/modules/java.base"]),
+                (
+                    "/modules",
+                    &["/modules/a", "/modules/b", "/modules/java.base"],
+                ),
             ],
         ),
     ];
@@ -215,7 +214,10 @@ fn nodes_fall_by_name(rt: HostRuntime) -> Result<(), Fail> {
 fn the_least_name_of_a_folder_is_refused(rt: HostRuntime) -> Result<(), Fail> {
     let told: [(&[&str], &str); 2] = [
         (&["/m/a", "/m/a/b"], "/m/a"),
-        (&["/m/c", "/m/c/d", "/m/b", "/m/a", "/m/b/c/x", "/m/b/c"], "/m/b"),
+        (
+            &["/m/c", "/m/c/d", "/m/b", "/m/a", "/m/b/c/x", "/m/b/c"],
+            "/m/b",
+        ),
     ];
     for (names, clash) in told {
         assert!(rt; clash_at(rt.alloc(), names, clash)?);

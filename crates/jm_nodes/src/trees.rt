@@ -7,7 +7,11 @@ ghost use Rattle.jm_names.specs.Names.{is_node};
 ghost use Rattle.jm_pool.specs.Pairs.{names_of};
 ghost use Rattle.jm_nodes.specs.Filings.{filing_of, IsFiledInOrder};
 ghost use Rattle.jm_nodes.specs.FrontTrees.{
-    front_node, owners_node, packages_node, rising_nodes, IsMadeOf
+  front_node,
+  owners_node,
+  packages_node,
+  rising_nodes,
+  IsMadeOf,
 };
 ghost use Rattle.jm_nodes.specs.Refusals.{Refuses};
 

@@ -1,4 +1,4 @@
-use Rattle.std.proofs.Common.{ℕ, List, [], ◌+◌, ◌<◌, length, arith, map, take, get_or, Bor}
+use Rattle.std.proofs.Common.{ℕ, List, [], ◌<◌, length, arith, map, take, get_or, Bor}
 use Rattle.std.proofs.lemmas.List.{get_or-map, length-map, take_more}
 use Rattle.jm_nodes.proofs.FrontLaws.{fronts_next}
 use Rattle.jm_nodes.proofs.fronts.put_new_fronts.Goals as goal

@@ -1,4 +1,3 @@
-use Rattle.std.proofs.Common.{◌≡◌}
 use Rattle.jm_nodes.proofs.NameLaws.{names_next}
 use Rattle.jm_nodes.proofs.names.names_in_order.Goals as goal
 

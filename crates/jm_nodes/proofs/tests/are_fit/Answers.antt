@@ -1,4 +1,4 @@
-use Rattle.std.proofs.Common.{◌≡◌, ◌≤◌, ℕ, List, All, false, map, refl, subst, length, arith}
+use Rattle.std.proofs.Common.{◌≡◌, ◌≤◌, ℕ, List, All, false, refl, subst, length, arith}
 use Rattle.std.proofs.lemmas.List.{length-map, take_all}
 use Rattle.jm_names.specs.NameFaults.{IsSound}
 use Rattle.jm_names.specs.Names.{is_node}
@@ -8,8 +8,7 @@ use Rattle.jm_nodes.proofs.tests.are_fit.Goals as goal
 
 pub loop-place-preserved : goal.loop-place-preserved
 loop-place-preserved c =
-    let before = c.loop-place.invariant in
-    (
+    let before = c.loop-place.invariant in (
       all_next IsSound c.args.pool.now c.loop-place.place c.at.result.0.now c.at.result.1.now c.at.ensures before.0 (c.if-not-is_fit.ensures.sound refl),
       all_next (λ name. is_node name ≡ false) c.args.pool.now c.loop-place.place c.at.result.0.now c.at.result.1.now c.at.ensures before.1 (c.if-not-is_fit.ensures.resource refl),
     )

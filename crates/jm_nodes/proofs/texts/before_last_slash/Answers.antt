@@ -1,4 +1,4 @@
-use Rattle.std.proofs.Common.{◌≡◌, ◌+◌, ◌-◌, not, length, arith, ap, sym, ◌∙◌, take}
+use Rattle.std.proofs.Common.{◌≡◌, ◌-◌, not, length, arith, ap, sym, ◌∙◌, take}
 use Rattle.std.specs.List.{suffix_len}
 use Rattle.jm_bytes.proofs.Cuts.{before_last_none}
 use Rattle.jm_names.specs.Names.{is_slash}

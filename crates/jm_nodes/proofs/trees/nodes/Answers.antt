@@ -1,4 +1,4 @@
-use Rattle.std.proofs.Common.{◌≡◌, ◌∙◌, ℕ, List, None, Some, ap, map, sym}
+use Rattle.std.proofs.Common.{◌∙◌, ℕ, List, None, Some, ap, map, sym}
 use Rattle.std.specs.List.{flat_map}
 use Rattle.jm_form.specs.Trees.{fronts}
 use Rattle.jm_pool.specs.Pairs.{names_of}
