@@ -12,7 +12,7 @@ use Rattle.jm_bytes.proofs.Members.{any_contains, contains_filter, contains_here
 use Rattle.jm_names.specs.Names.{is_slash}
 use Rattle.jm_form.specs.Rising.{rising}
 use Rattle.jm_form.specs.Trees.{first_clash, folder_name, folders, fronts, is_folder, module_of, path_of}
-use Rattle.jm_nodes.specs.Order.{SameElements}
+use Rattle.jm_nodes.specs.Order.{is_among, SameElements}
 use Rattle.jm_nodes.proofs.FolderLaws.{front_of, front_there_of}
 use Rattle.jm_nodes.proofs.RisingLaws.{contains_rising, from_rising, rising_only, rising_rises, Before}
 use Rattle.jm_nodes.proofs.SoundLaws.{any_behind, IsCut}
@@ -40,23 +40,19 @@ filter_rising p texts =
       only = λ x there. let from = from_filter p (rising texts) x there in contains_filter p texts x (from_rising texts x from.0) from.1;
     })
 
--- the text is one of these fronts
-abbrev pub is_front : List (List ℕ) → List ℕ → Bool
-is_front risen name = list_any (λ front. bytes_eq front name) risen
-
 module _ (names risen : List (List ℕ)) (cut : (name : List ℕ) → Contains names name → IsCut name) (same_fronts : SameElements (flat_map fronts names) risen) where
-  front_from : (name : List ℕ) → is_front risen name ≡ true → Contains (flat_map fronts names) name
+  front_from : (name : List ℕ) → is_among name risen ≡ true → Contains (flat_map fronts names) name
   front_from name some =
       let one = from_any (λ front. bytes_eq front name) risen some in
       same_fronts.only name (subst (Contains risen) ((bytes_eq-Decides one.0 name).0 one.2) one.1)
 
-  front_to : (name : List ℕ) → Contains (flat_map fronts names) name → is_front risen name ≡ true
+  front_to : (name : List ℕ) → Contains (flat_map fronts names) name → is_among name risen ≡ true
   front_to name there = any_contains (λ front. bytes_eq front name) risen name (same_fronts.has name there) ((bytes_eq-Decides name name).1 refl)
 
   -- a name that is a front is that of a folder
-  is_folder_same : (name : List ℕ) → Contains names name → is_front risen name ≡ is_folder names name
+  is_folder_same : (name : List ℕ) → Contains names name → is_among name risen ≡ is_folder names name
   is_folder_same name there =
-      both_ways (is_front risen name) (is_folder names name)
+      both_ways (is_among name risen) (is_folder names name)
       (λ some.
       elim (front_of names cut name (front_from name some)) [
         | inl of_module ↦
@@ -69,13 +65,13 @@ module _ (names risen : List (List ℕ)) (cut : (name : List ℕ) → Contains n
       let one = from_any (λ folder. bytes_eq name (folder_name folder)) (folders names) some in
       front_to name (subst (Contains (flat_map fronts names)) (sym ((bytes_eq-Decides name (folder_name one.0)).0 one.2)) (front_there_of names cut one.0 one.1)))
 
-  pub clash_found : find (is_front risen) (rising names) ≡ first_clash names
+  pub clash_found : find (λ name. is_among name risen) (rising names) ≡ first_clash names
   clash_found =
-      find_same (is_front risen) (is_folder names) (rising names) (λ name there. is_folder_same name (from_rising names name there))
+      find_same (λ name. is_among name risen) (is_folder names) (rising names) (λ name there. is_folder_same name (from_rising names name there))
       ∙ sym (first_found (is_folder names) (rising names))
       ∙ ap (λ texts. slice_get texts 0) (filter_rising (is_folder names) names)
 
   -- where no name is found, none is a front
-  pub apart_from : find (is_front risen) (rising names) ≡ None → (name : List ℕ) → Contains names name → Contains (flat_map fronts names) name → ⊥
+  pub apart_from : find (λ name. is_among name risen) (rising names) ≡ None → (name : List ℕ) → Contains names name → Contains (flat_map fronts names) name → ⊥
   apart_from none name there front =
-      false≢true (sym (find_nowhere (is_front risen) (rising names) none name (contains_rising names name there)) ∙ front_to name front)
+      false≢true (sym (find_nowhere (λ name. is_among name risen) (rising names) none name (contains_rising names name there)) ∙ front_to name front)

@@ -8,8 +8,8 @@ use Rattle.jm_form.specs.Trees.{first_clash, fronts, tree_nodes}
 use Rattle.jm_form.specs.declared.trees.TreeNode.{TreeNode}
 use Rattle.jm_names.specs.NameFaults.{IsSound}
 use Rattle.jm_nodes.specs.FrontTrees.{IsMadeOf}
-use Rattle.jm_nodes.specs.Order.{SameElements}
-use Rattle.jm_nodes.proofs.ClashLaws.{apart_from, clash_found, is_front}
+use Rattle.jm_nodes.specs.Order.{is_among, SameElements}
+use Rattle.jm_nodes.proofs.ClashLaws.{apart_from, clash_found}
 use Rattle.jm_nodes.proofs.NodeLaws.{nodes_same}
 use Rattle.jm_nodes.proofs.RisingLaws.{contains_rising, from_rising, rising_rises}
 use Rattle.jm_nodes.proofs.SoundLaws.{sound_cut, IsCut}
@@ -38,10 +38,10 @@ module _ (names : Texts) (sound : All IsSound names) where
   }
 
   pub clash_is : (ns seen known fs shown : Texts) (found : Option (List ℕ)) → ns ≡ rising names → known ≡ ns → fs ≡ rising (flat_map fronts known) → seen ≡ ns → shown ≡ fs
-      → found ≡ find (is_front shown) seen → found ≡ first_clash names
+      → found ≡ find (λ name. is_among name shown) seen → found ≡ first_clash names
   clash_is ns seen known fs shown found names_are same_known fronts_are same_seen same_shown is =
       is
-      ∙ (λ i. find (is_front ((same_shown ∙ fronts_are ∙ ap (λ n. rising (flat_map fronts n)) (same_known ∙ names_are)) i)) ((same_seen ∙ names_are) i))
+      ∙ (λ i. find (λ name. is_among name ((same_shown ∙ fronts_are ∙ ap (λ n. rising (flat_map fronts n)) (same_known ∙ names_are)) i)) ((same_seen ∙ names_are) i))
       ∙ clash_found names risen cut same_fronts
 
   pub nodes_are : (ns seen known fs shown : Texts) (nodes : List TreeNode) → ns ≡ rising names → known ≡ ns → fs ≡ rising (flat_map fronts known) → seen ≡ ns → shown ≡ fs

@@ -1,6 +1,7 @@
 -- The two trees by the fronts of names, computed; the rule is `tree_nodes` of jm_form, and
--- proofs/TreeLaws ties the two together.
-use Rattle.std.specs.Prelude.{ℕ, Bool, true, false, not, ◌&&◌, ◌≡◌, List, [], ◌∷◌, ◌++◌, drop, map, reverse, Option, Some, None, codes, if◌then◌else◌}
+-- proofs/NodeLaws ties the two together.
+use Rattle.std.specs.Prelude.{ℕ, Bool, true, false, not, ◌&&◌, ◌≡◌, List, [], ◌∷◌, ◌++◌}
+use Rattle.std.specs.Prelude.{drop, map, reverse, Option, Some, None, codes, if◌then◌else◌}
 use Rattle.std.specs.List.{before_last, filter_map, flat_map, list_any}
 use Rattle.jm_names.specs.Names.{dotted, is_slash}
 use Rattle.jm_form.specs.Rising.{rising}

@@ -1,6 +1,7 @@
--- The modules and folders of resources as fronts of the names: `/m` and `/m/f`, behind which a slash
--- stands (this project's rule).
-use Rattle.std.specs.Prelude.{ℕ, ◌≡◌, ◌<◌, true, nat_lt, ◌&&◌, List, [], ◌∷◌, if◌then◌else◌, Contains, take, map, filter, slice_index_or}
+-- The modules and folders of resources as fronts of the names: `/m` and `/m/f`, behind which a
+-- slash stands (this project's rule).
+use Rattle.std.specs.Prelude.{ℕ, ◌≡◌, ◌<◌, true, nat_lt, ◌&&◌, List, [], ◌∷◌, Contains}
+use Rattle.std.specs.Prelude.{take, map, filter, slice_index_or, if◌then◌else◌}
 use Rattle.std.specs.List.{range_with_len}
 use Rattle.jm_names.specs.Names.{is_slash}
 

@@ -1,10 +1,9 @@
 //! The names of resources, and whether one is that of another's folder.
 ghost use Rattle.std.specs.Prelude.{◌≡◌, IfOk, map, option_map};
-ghost use Rattle.std.specs.List.{find, list_any};
-ghost use Rattle.std.specs.Str.{bytes_eq};
+ghost use Rattle.std.specs.List.{find};
 ghost use Rattle.jm_form.specs.Rising.{rising};
 ghost use Rattle.jm_pool.specs.Pairs.{names_of};
-ghost use Rattle.jm_nodes.specs.Order.{IsRising};
+ghost use Rattle.jm_nodes.specs.Order.{is_among, IsRising};
 
 use crate::rising::{is_among, rising};
 use jm_bytes::{List, NoMemory};
@@ -33,7 +32,7 @@ pub fn rising_names<'a>(alloc: Global, pool: &'a Pool) -> Result<List<&'a [u8]>,
 pub fn first_front<'a>(names: &[&'a [u8]], fronts: &[&[u8]]) -> Option<&'a [u8]>
     requires { IsRising (map (λ front. front.now) fronts.now) }
     ensures { option_map (λ name. name.now) result
-        ≡ find (λ name. list_any (λ front. bytes_eq front name) (map (λ front. front.now) fronts.now))
+        ≡ find (λ name. is_among name (map (λ front. front.now) fronts.now))
         (map (λ name. name.now) names.now) }
 {
     for name in names {

@@ -1,5 +1,5 @@
 //! All nodes of the two trees.
-ghost use Rattle.std.specs.Prelude.{◌≡◌, ◌++◌, All, None, false, map, flat_map, reverse, IfOk, IfErr, OnOk};
+ghost use Rattle.std.specs.Prelude.{◌≡◌, ◌++◌, All, None, false, map, reverse, IfOk, IfErr, OnOk};
 ghost use Rattle.jm_form.specs.Rising.{rising};
 ghost use Rattle.jm_form.specs.Trees.{first_clash, fronts, package_node, tree_nodes};
 ghost use Rattle.jm_names.specs.NameFaults.{IsSound};
