@@ -11,3 +11,4 @@ pub mod OrderLaws
 pub mod OwnerLaws
 pub mod RisingLaws
 pub mod SoundLaws
+mod Vectors

@@ -3,7 +3,11 @@ ghost use Rattle.std.specs.Prelude.{◌≡◌, ◌++◌, map, not, IfOk, OnOk};
 ghost use Rattle.std.specs.List.{list_any};
 ghost use Rattle.jm_nodes.specs.Filings.{filed_under, filing_of, IsFiledInOrder, FilesAll};
 ghost use Rattle.jm_nodes.specs.FrontTrees.{
-    child_filing, child_filings, children_of, entry_of, is_bare
+  child_filing,
+  child_filings,
+  children_of,
+  entry_of,
+  is_bare,
 };
 
 use crate::filed::{Filed, filed_under, in_order};

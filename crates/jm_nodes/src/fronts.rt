@@ -1,7 +1,13 @@
 //! The modules and folders that names stand in, as fronts of the names.
 ghost use Rattle.std.specs.Prelude.{◌≡◌, ◌++◌, [], ◌+◌, ◌-◌, ◌<◌, ◌≤◌};
 ghost use Rattle.std.specs.Prelude.{
-    length, take, map, flat_map, slice_index_or, IfOk, OnOk
+  length,
+  take,
+  map,
+  flat_map,
+  slice_index_or,
+  IfOk,
+  OnOk,
 };
 ghost use Rattle.jm_names.specs.Names.{is_slash};
 ghost use Rattle.jm_form.specs.Rising.{rising};
