@@ -1,0 +1,9 @@
+use Rattle.std.proofs.Common.{◌≡◌, map, drop}
+use Rattle.std.specs.List.{find}
+use Rattle.jm_nodes.specs.Order.{is_among}
+use Rattle.jm_nodes.proofs.names.first_front.Given as goal
+
+abbrev pub invariant-loop-name : goal.invariant-loop-name
+invariant-loop-name l =
+    find (λ name. is_among name (map (λ front. front.now) l.fronts)) (map (λ name. name.now) l.names)
+    ≡ find (λ name. is_among name (map (λ front. front.now) l.fronts)) (map (λ name. name.now) (drop l.name-index l.names))
