@@ -1,0 +1,5 @@
+pub mod ListLaws
+pub mod NameLaws
+pub mod SlotLaws
+pub mod StringLaws
+pub mod WriteLaws

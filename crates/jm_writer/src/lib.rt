@@ -1,0 +1,16 @@
+//! The image of a pool: its plan, and how it is written to a file.
+#![tactic(auto)]
+
+mod draft;
+mod entries;
+mod index;
+mod interning;
+mod lists;
+mod locations;
+mod names;
+mod rows;
+mod tail;
+mod writing;
+
+pub use draft::{Draft, PlanError};
+pub use writing::write;
