@@ -1,6 +1,7 @@
 -- Rows that are put into their slots, one after another.
 use Rattle.std.proofs.Common.{◌≡◌, ◌≢◌, ℕ, zero, suc, ◌+◌, ◌<◌, ◌≤◌, ◌==◌, Bool, true, false, cond, List, [], ◌∷◌, ◌++◌, length, map, take, drop, get_or, set, Option, Some, None, All, AllPairs, refl, sym, ap, ◌∙◌, subst, arith, ◌⊎◌, inl, inr, get_or-set_other, get_or-set_same}
 use Rattle.std.proofs.lemmas.Bool.{eqb-true, eqb-false, cases_lt}
+use Rattle.std.proofs.lemmas.List.{get_or_past, length-set}
 use Rattle.std.specs.List.{zip, range_with_len}
 use Rattle.std.specs.Map.{lookup}
 use Rattle.std.specs.Option.{option_or}
@@ -29,7 +30,7 @@ placed_none slots rows count = record {
     none : (slot : ℕ) → get_or (rows_in_slots [] [] count) slot None ≡ None
     none slot = elim (cases_lt slot count) [
       | inl below ↦ get_or-map-range_with_len (row_at [] []) 0 count slot slot None below (omega arith)
-      | inr above ↦ get_or-past (rows_in_slots [] [] count) slot None (let long = length-map-range_with_len (row_at [] []) 0 count in omega arith)
+      | inr above ↦ get_or_past (rows_in_slots [] [] count) slot None (let long = length-map-range_with_len (row_at [] []) 0 count in omega arith)
     ]
 
 -- one row more

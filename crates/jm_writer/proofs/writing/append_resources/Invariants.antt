@@ -6,6 +6,6 @@ use Rattle.jm_writer.proofs.writing.append_resources.Given as goal
 
 abbrev pub invariant-loop-place : goal.invariant-loop-place
 invariant-loop-place g l = record {
-  files : (base : Option Files) (front : List ℕ) → Holds base l.path front (g.S.files l.fn.shelf) → Holds base l.path (front ++ contents_text (take l.place l.pool)) (g.S.files l.shelf);
-  count : g.S.faults l.fn.shelf ≤ g.S.faults l.shelf;
+  files : (base : Option Files) (front : List ℕ) → Holds base l.path front (g.S.Shelf.files l.fn.shelf) → Holds base l.path (front ++ contents_text (take l.place l.pool)) (g.S.Shelf.files l.shelf);
+  count : g.S.Shelf.faults l.fn.shelf ≤ g.S.Shelf.faults l.shelf;
 }
