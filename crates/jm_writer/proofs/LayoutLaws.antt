@@ -1,5 +1,5 @@
 -- The layout by its parts: names and sizes of all entries are known before the contents of the nodes.
-use Rattle.std.proofs.Common.{◌≡◌, ℕ, ◌+◌, ◌*◌, List, [], ◌∷◌, ◌++◌, length, map, take, drop, slice_get, Some, refl, sym, ap, ◌∙◌, arith, append_assoc, length-append}
+use Rattle.std.proofs.Common.{◌≡◌, ℕ, ◌+◌, ◌*◌, ◌<◌, get_or, List, [], ◌∷◌, ◌++◌, length, map, take, drop, slice_get, Some, refl, sym, ap, ◌∙◌, arith, append_assoc, length-append}
 use Rattle.std.specs.Prelude.{sum}
 use Rattle.std.specs.List.{flat_map, range_with_len}
 use Rattle.std.proofs.lemmas.List.{append-nil, map-append, length-map, take-append-drop}
@@ -19,7 +19,7 @@ use Rattle.jm_form.specs.Layout.{index_text, index_words, layout_index, layout_w
 use Rattle.jm_form.specs.Layout.{name_place, node_words, owner_words, row_place, sized, sized_node, written_node, written_nodes, all_names}
 use Rattle.jm_form.specs.Nodes.{words_text}
 use Rattle.jm_form.specs.Trees.{tree_nodes}
-use Rattle.jm_writer.proofs.ListLaws.{take_there}
+use Rattle.jm_writer.proofs.ListLaws.{drop_at_index, take_there}
 
 -- The contents of nodes
 
@@ -35,6 +35,12 @@ words_length order (word ∷ words) =
     let rest = words_length order words in
     let all = length-append (word_bytes order word) (words_text order words) in
     omega (arith, one, rest, all)
+
+-- one word more is put
+pub word_put : {A : Type 0} (order : Order) (f : A → ℕ) (xs : List A) (i : ℕ) (d : A) (text : List ℕ) → i < length xs → (text ++ word_bytes order (f (get_or xs i d))) ++ words_text order (map f (drop (i + 1) xs)) ≡ text ++ words_text order (map f (drop i xs))
+word_put order f xs i d text below =
+    append_assoc text (word_bytes order (f (get_or xs i d))) (words_text order (map f (drop (i + 1) xs)))
+    ∙ ap (λ l. text ++ words_text order (map f l)) (sym (drop_at_index xs i d below))
 
 owners_length : (index : Index) (owners : List Owner) → length (flat_map (owner_words index) owners) ≡ 2 * length owners
 owners_length index [] = refl

@@ -1,7 +1,7 @@
 -- Rows that are put into their slots, one after another.
-use Rattle.std.proofs.Common.{◌≡◌, ◌≢◌, ℕ, zero, suc, ◌+◌, ◌<◌, ◌≤◌, ◌==◌, Bool, true, false, cond, List, [], ◌∷◌, ◌++◌, length, map, take, drop, get_or, set, Option, Some, None, All, AllPairs, refl, sym, ap, ◌∙◌, subst, arith, ◌⊎◌, inl, inr, get_or-set_other, get_or-set_same}
+use Rattle.std.proofs.Common.{◌≡◌, ◌≢◌, ℕ, zero, suc, ◌+◌, ◌<◌, ◌≤◌, ◌==◌, Bool, true, false, cond, List, [], ◌∷◌, ◌++◌, length, map, take, drop, get_or, set, Option, Some, None, All, AllPairs, refl, sym, ap, ◌∙◌, subst, arith, ◌⊎◌, inl, inr, get_or-set_other, get_or-set_same, replicate}
 use Rattle.std.proofs.lemmas.Bool.{eqb-true, eqb-false, cases_lt}
-use Rattle.std.proofs.lemmas.List.{get_or_past, length-set}
+use Rattle.std.proofs.lemmas.List.{get_or_past, get_or-replicate, length-replicate, length-set}
 use Rattle.std.specs.List.{zip, range_with_len}
 use Rattle.std.specs.Map.{lookup}
 use Rattle.std.specs.Option.{option_or}
@@ -20,17 +20,17 @@ pub record Placed (slots : List ℕ) (rows : List Row) (count place : ℕ) (foun
   pub left : (slot : ℕ) → slot < count → option_or (get_or found slot None) (row_at (drop place slots) (drop place rows) slot) ≡ row_at slots rows slot
   pub free : (later : ℕ) → place ≤ later → later < length slots → get_or found (get_or slots later 0) None ≡ None
 
-pub placed_none : (slots : List ℕ) (rows : List Row) (count : ℕ) → Placed slots rows count 0 (rows_in_slots [] [] count)
+pub placed_none : (slots : List ℕ) (rows : List Row) (count : ℕ) → Placed slots rows count 0 (replicate count None)
 placed_none slots rows count = record {
-  long = length-map-range_with_len (row_at [] []) 0 count;
+  long = length-replicate count None;
   left = λ slot below. ap (λ o. option_or o (row_at slots rows slot)) (none slot);
   free = λ later from below. none (get_or slots later 0);
 }
   where
-    none : (slot : ℕ) → get_or (rows_in_slots [] [] count) slot None ≡ None
+    none : (slot : ℕ) → ◌≡◌ {A = Option Row} (get_or (replicate count None) slot None) None
     none slot = elim (cases_lt slot count) [
-      | inl below ↦ get_or-map-range_with_len (row_at [] []) 0 count slot slot None below (omega arith)
-      | inr above ↦ get_or_past (rows_in_slots [] [] count) slot None (let long = length-map-range_with_len (row_at [] []) 0 count in omega arith)
+      | inl below ↦ get_or-replicate count slot None None below
+      | inr above ↦ get_or_past (replicate count None) slot None (let long = length-replicate {A = Option Row} count None in omega arith)
     ]
 
 -- one row more
@@ -40,7 +40,7 @@ placed_next slots rows count place found d same inside below differ placed = rec
   left = λ slot within. go slot within (slot == own) refl;
   free = λ later from within.
       let apart : own ≢ get_or slots later 0 = differ place later 0 (omega arith) within in
-      get_or-set_other found own (Some row) (get_or slots later 0) None (λ e. apart (sym e)) ∙ placed.free later (omega arith) within;
+      get_or-set_other found own (get_or slots later 0) (Some row) None (λ e. apart (sym e)) ∙ placed.free later (omega arith) within;
 }
   where
     own : ℕ
@@ -55,18 +55,27 @@ placed_next slots rows count place found d same inside below differ placed = rec
     first : (slot : ℕ) → row_at (drop place slots) (drop place rows) slot ≡ cond (slot == own) (Some row) (rest slot)
     first slot = rw (drop_at_index slots place 0 inside, drop_at_index rows place d (omega arith)) refl
 
+    taken : (b : Bool) (o : Option Row) → b ≡ true → cond b (Some row) o ≡ Some row
+    taken true o is = refl
+    taken false o is = cc
+
+    passed : (b : Bool) (o : Option Row) → b ≡ false → cond b (Some row) o ≡ o
+    passed true o is = cc
+    passed false o is = refl
+
     go : (slot : ℕ) → slot < count → (b : Bool) → (slot == own) ≡ b → option_or (get_or (set found own (Some row)) slot None) (rest slot) ≡ row_at slots rows slot
     go slot within true test =
         let is : slot ≡ own = eqb-true slot own test in
-        let old : option_or (get_or found slot None) (cond (slot == own) (Some row) (rest slot)) ≡ row_at slots rows slot = sym (ap (option_or (get_or found slot None)) (first slot)) ∙ placed.left slot within in
         let free : get_or found slot None ≡ None = ap (λ n. get_or found n None) is ∙ placed.free place (omega arith) inside in
+        let here : row_at (drop place slots) (drop place rows) slot ≡ Some row = first slot ∙ taken (slot == own) (rest slot) test in
+        let old : Some row ≡ row_at slots rows slot = sym (ap (λ o. option_or o (row_at (drop place slots) (drop place rows) slot)) free ∙ here) ∙ placed.left slot within in
         let new : get_or (set found own (Some row)) slot None ≡ Some row = ap (λ n. get_or (set found own (Some row)) n None) is ∙ get_or-set_same found own (Some row) None (let long = placed.long in omega arith) in
-        ap (λ o. option_or o (rest slot)) new ∙ sym (ap (λ o. option_or o (cond (slot == own) (Some row) (rest slot))) free ∙ ap (λ b. cond b (Some row) (rest slot)) test) ∙ old
+        ap (λ o. option_or o (rest slot)) new ∙ old
     go slot within false test =
         let other : slot ≢ own = eqb-false slot own test in
-        ap (λ o. option_or o (rest slot)) (get_or-set_other found own (Some row) slot None other)
-        ∙ ap (λ b. option_or (get_or found slot None) (cond b (Some row) (rest slot))) (sym test)
-        ∙ sym (ap (option_or (get_or found slot None)) (first slot)) ∙ placed.left slot within
+        let here : row_at (drop place slots) (drop place rows) slot ≡ rest slot = first slot ∙ passed (slot == own) (rest slot) test in
+        ap (λ o. option_or o (rest slot)) (get_or-set_other found own slot (Some row) None other)
+        ∙ sym (ap (option_or (get_or found slot None)) here) ∙ placed.left slot within
 
 -- all rows
 pub placed_all : (slots : List ℕ) (rows : List Row) (count : ℕ) (found : List (Option Row)) → Placed slots rows count (length slots) found → found ≡ rows_in_slots slots rows count

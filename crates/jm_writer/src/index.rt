@@ -19,13 +19,20 @@ pub fn put_words(text: &mut Vec<u8>, order: Order, words: &[u32]) -> Result<(), 
     Ok(())
 }
 
+/// A redirect word as it stands in the file.
+fn unsigned(word: i32) -> u32
+    ensures { result ≡ cast_unsigned w32 word }
+{
+    word.cast_unsigned()
+}
+
 /// Puts redirect words at the end.
 fn put_redirect(text: &mut Vec<u8>, order: Order, redirect: &[i32]) -> Result<(), NoMemory>
     ensures { OnOk result (text.new.items ≡
         text.old.items ++ words_text order (map (cast_unsigned w32) redirect.now)) }
 {
     for word in redirect {
-        put(text, &put_word(order, word.cast_unsigned()))?;
+        put(text, &put_word(order, unsigned(*word)))?;
     }
     Ok(())
 }

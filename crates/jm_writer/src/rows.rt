@@ -1,5 +1,5 @@
 //! The rows of all entries, by entry and by slot.
-ghost use Rattle.std.specs.Prelude.{◌≡◌, ◌≢◌, ◌<◌, [], length, sum, All, AllPairs, IfOk};
+ghost use Rattle.std.specs.Prelude.{◌≡◌, ◌≢◌, ◌<◌, None, length, replicate, sum, All, AllPairs, IfOk};
 ghost use Rattle.jm_names.specs.Names.{split};
 ghost use Rattle.jm_form.specs.Layout.{row_with, rows_from, text_place};
 ghost use Rattle.jm_writer.specs.Parts.{rows_in_slots, sized_as};
@@ -60,7 +60,7 @@ pub fn rows_of(
 
 /// So many slots without a row.
 fn no_rows(alloc: Global, count: u32) -> Result<Vec<Option<Row>>, NoMemory>
-    ensures { IfOk result (λ rows. rows.items ≡ rows_in_slots [] [] count) }
+    ensures { IfOk result (λ rows. rows.items ≡ replicate count None) }
 {
     match vec![in alloc; None; count as usize] {
         Ok(rows) => Ok(rows),

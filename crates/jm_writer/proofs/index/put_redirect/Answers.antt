@@ -1,5 +1,15 @@
-use Rattle.std.proofs.Common.{◌∷◌, [], sym, ap, ◌∙◌}
+use Rattle.std.proofs.Common.{◌≡◌, ◌+◌, ◌++◌, length, map, drop, sym, ap, ◌∙◌, arith}
+use Rattle.std.specs.Int.{w32, cast_unsigned}
+use Rattle.jm_bytes.specs.Word.{word_bytes}
+use Rattle.jm_form.specs.Nodes.{words_text}
+use Rattle.jm_writer.proofs.LayoutLaws.{word_put}
 use Rattle.jm_writer.proofs.index.put_redirect.Goals as goal
 
 pub loop-word-preserved : goal.loop-word-preserved
-loop-word-preserved c = ?
+loop-word-preserved c =
+    let redirect = c.args.redirect.now in
+    let i = c.loop-word.word-index in
+    let text = c.loop-word.text.items in
+    ap (λ l. l ++ words_text c.args.order (map (cast_unsigned w32) (drop (i + 1) redirect)))
+    (c.in_ok-put.ensures ∙ ap (λ b. text ++ b) (c.put_word.ensures.bytes ∙ ap (word_bytes c.args.order) c.unsigned.ensures))
+    ∙ word_put c.args.order (cast_unsigned w32) redirect i _ text (omega arith) ∙ c.loop-word.invariant
