@@ -2,7 +2,9 @@ pub mod DraftLaws
 pub mod LayoutLaws
 pub mod ListLaws
 pub mod NameLaws
+pub mod PlanLaws
 pub mod ResultLaws
 pub mod SlotLaws
 pub mod StringLaws
+pub mod TableLaws
 pub mod WriteLaws

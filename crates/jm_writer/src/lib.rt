@@ -5,12 +5,15 @@ mod draft;
 mod entries;
 mod index;
 mod interning;
+mod laying;
 mod lists;
 mod locations;
 mod names;
+mod planning;
 mod rows;
 mod tail;
 mod writing;
 
 pub use draft::{Draft, PlanError};
+pub use planning::plan_with;
 pub use writing::write;
