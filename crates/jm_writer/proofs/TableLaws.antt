@@ -76,7 +76,7 @@ all_below : (names : List (List ℕ)) (slots : ℕ) (words given : List ℕ) →
 all_below names slots words given serves k d inside =
     let long = serves.given_length in
     let name = get_or names k [] in
-    subst (λ s. s < slots) (get_or_default_zero given k d inside)
+    subst (λ s. s < slots) (sym (get_or_default_zero given k d inside))
     (led_below slots name (redirect_of (get_or words (bucket_of slots name) 0)) (get_or given k 0) (serves.led k (omega arith)))
 
 of_greedy : (names : List (List ℕ)) (greedy_table : GreedyTable) → length names ≤ 1048576 → first_table names ≡ Some greedy_table → IsTable names (with_words greedy_table)
