@@ -243,3 +243,10 @@ plan_large order pool entries table refusal.Memory of_entries tabled lays apart 
 plan_large order pool entries table (refusal.Clash name) of_entries tabled lays apart few = absurd lays
 plan_large order pool entries table (refusal.TooMany number) of_entries tabled lays apart few = absurd lays
 plan_large order pool entries table (refusal.NoTable lengths) of_entries tabled lays apart few = absurd lays
+
+-- how many entries there are
+pub count_sized : (pool : List Written) (nodes : List TreeNode) → nodes ≡ tree_nodes (names_of pool) → length (all_sized pool) ≡ length pool + length nodes
+count_sized pool nodes is =
+    length-append (map sized pool) (map sized_node (tree_nodes (names_of pool)))
+    ∙ ap (λ n. n + length (map sized_node (tree_nodes (names_of pool)))) (length-map pool sized)
+    ∙ ap (λ n. length pool + n) (length-map (tree_nodes (names_of pool)) sized_node ∙ ap length (sym is))
