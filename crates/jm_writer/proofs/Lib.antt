@@ -1,6 +1,6 @@
 pub mod DraftLaws
 pub mod LayoutLaws
-pub mod ListLaws
+pub mod ItemLaws
 pub mod NameLaws
 pub mod PlanLaws
 pub mod ResultLaws

@@ -7,7 +7,7 @@ use Rattle.std.specs.Map.{lookup}
 use Rattle.std.specs.Option.{option_or}
 use Rattle.std.specs.Str.{bytes_eq}
 use Rattle.jm_writer.specs.Parts.{slot_in, slot_if, IsAdded}
-use Rattle.jm_writer.proofs.ListLaws.{drop_at_index}
+use Rattle.jm_writer.proofs.ItemLaws.{drop_at_index}
 
 module _ {K : Type 0} (key : K → List ℕ) where
   pub lookup-shown : (name : List ℕ) (es : List (K × ℕ)) → lookup (λ k. bytes_eq name (key k)) es ≡ slot_in (map (λ e. (key e.0, e.1)) es) name

@@ -89,8 +89,8 @@ module _ (index : Index) where
   below_next slot =
       let row : ℕ → List ℕ = λ below. location_of (row_in index below) in
       let more : flat_map row (range_with_len 0 (slot + 1)) ≡ flat_map row (range_with_len 0 slot) ++ row slot =
-          ap (flat_map row) (range_more 0 slot) ∙ flat_push row (range_with_len 0 slot) (0 + slot)
-          ∙ ap (λ (n : ℕ). flat_map row (range_with_len 0 slot) ++ row n) (let same : 0 + slot ≡ slot = omega arith in same) in
+      ap (flat_map row) (range_more 0 slot) ∙ flat_push row (range_with_len 0 slot) (0 + slot)
+      ∙ ap (λ (n : ℕ). flat_map row (range_with_len 0 slot) ++ row n) (let same : 0 + slot ≡ slot = omega arith in same) in
       let size = ap length more in
       let both = length-append (flat_map row (range_with_len 0 slot)) (row slot) in
       omega (arith, size, both)
@@ -234,11 +234,12 @@ plan_drafted order pool entries table laid nodes draft of_entries tabled lay dra
 
 -- an image that is too large
 pub plan_large : (order : Order) (pool : List Written) (entries : Entries) (table : Table) (why : PlanError) → IsOfEntries (all_sized pool) entries → IsTable entries.names table → Lays entries table (Err why) → first_clash (names_of pool) ≡ None → length (all_sized pool) ≤ 1048576 → Plans order pool (Err why)
-plan_large order pool entries table (refusal.TooLarge number) of_entries tabled lays apart few =
-    (record { apart = apart; few = few },
-    subst (λ (e : Entries). IsTable e.names table → Lays e table (Err (refusal.TooLarge number)) → IsLarge order pool number)
-    (sym (entries_are (all_sized pool) entries of_entries))
-    (λ t l. large order pool table t number l) tabled lays)
+plan_large order pool entries table (refusal.TooLarge number) of_entries tabled lays apart few = (
+  record { apart = apart; few = few },
+  subst (λ (e : Entries). IsTable e.names table → Lays e table (Err (refusal.TooLarge number)) → IsLarge order pool number)
+      (sym (entries_are (all_sized pool) entries of_entries))
+      (λ t l. large order pool table t number l) tabled lays,
+)
 plan_large order pool entries table refusal.Memory of_entries tabled lays apart few = tt
 plan_large order pool entries table (refusal.Clash name) of_entries tabled lays apart few = absurd lays
 plan_large order pool entries table (refusal.TooMany number) of_entries tabled lays apart few = absurd lays

@@ -8,7 +8,7 @@ use Rattle.std.specs.Option.{option_or}
 use Rattle.std.proofs.lemmas.List.FromFn.{length-range_with_len, length-map-range_with_len, get_or-map-range_with_len}
 use Rattle.jm_form.specs.declared.rows.Row.{Row}
 use Rattle.jm_writer.specs.Parts.{rows_in_slots}
-use Rattle.jm_writer.proofs.ListLaws.{drop_at_index, drop_none, same_items}
+use Rattle.jm_writer.proofs.ItemLaws.{drop_at_index, drop_none, same_items}
 
 -- the row of a slot among rows beside their slots
 abbrev pub row_at : List ℕ → List Row → ℕ → Option Row

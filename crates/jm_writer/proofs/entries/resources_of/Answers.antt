@@ -1,6 +1,6 @@
 use Rattle.std.proofs.Common.{◌≡◌, ◌++◌, ◌∷◌, [], List, ℕ, map, drop, sym, ap, ◌∙◌, append_assoc, length}
 use Rattle.jm_form.specs.Layout.{sized}
-use Rattle.jm_writer.proofs.ListLaws.{drop_there}
+use Rattle.jm_writer.proofs.ItemLaws.{drop_there}
 use Rattle.jm_writer.proofs.entries.resources_of.Goals as goal
 
 pub loop-place-preserved : goal.loop-place-preserved

@@ -5,7 +5,7 @@ use Rattle.jm_form.specs.Layout.{pieces, texts_of, with_texts}
 use Rattle.jm_strings.specs.Texts.{limit, section_of}
 use Rattle.jm_strings.specs.declared.strings.StringsError.TheVariants.{Full}
 use Rattle.jm_writer.proofs.StringLaws.{full_more}
-use Rattle.jm_writer.proofs.ListLaws.{drop_at_index}
+use Rattle.jm_writer.proofs.ItemLaws.{drop_at_index}
 use Rattle.jm_writer.proofs.interning.strings_of.Goals as goal
 
 pub returns-in_err-intern_pieces-clause-full : goal.returns-in_err-intern_pieces-clause-full
@@ -17,7 +17,7 @@ returns-in_err-intern_pieces-clause-full c = λ is.
     let name = c.as_slice.result.now in
     let rest = flat_map (λ n. pieces (split n)) (drop (i + 1) names) in
     let there : drop i names ≡ name ∷ drop (i + 1) names =
-        drop_at_index names i c.name-item.result (omega arith) ∙ ap (λ n. n ∷ drop (i + 1) names) (sym (c.as_slice.ensures ∙ c.name-item.is)) in
+    drop_at_index names i c.name-item.result (omega arith) ∙ ap (λ n. n ∷ drop (i + 1) names) (sym (c.as_slice.ensures ∙ c.name-item.is)) in
     let all : with_texts c.loop-name.strings (pieces (split name) ++ rest) ≡ texts_of names =
-        sym (ap (λ l. with_texts c.loop-name.strings (flat_map (λ n. pieces (split n)) l)) there) ∙ c.loop-name.invariant in
+    sym (ap (λ l. with_texts c.loop-name.strings (flat_map (λ n. pieces (split n)) l)) there) ∙ c.loop-name.invariant in
     subst (λ l. limit < length (section_of l)) all (full_more c.loop-name.strings (pieces (split name)) rest full)

@@ -4,7 +4,7 @@ use Rattle.jm_outside.specs.Files.{Files}
 use Rattle.jm_form.specs.Layout.{contents_text}
 use Rattle.jm_writer.specs.Writes.{Holds, HoldsPart}
 use Rattle.jm_writer.proofs.LayoutLaws.{contents-append, contents_more, contents_ends}
-use Rattle.jm_writer.proofs.ListLaws.{take_there, drop_there}
+use Rattle.jm_writer.proofs.ItemLaws.{take_there, drop_there}
 use Rattle.jm_writer.proofs.ResultLaws.{on_err}
 use Rattle.jm_writer.proofs.WriteLaws.{holds_more, part_added, part_of_more}
 use Rattle.jm_writer.proofs.writing.append_resources.Goals as goal

@@ -35,9 +35,11 @@ returns-in_err-append_resources-clause-err g c =
     let new = g.S.Shelf.files c.append_resources.new.shelf in
     let index : Holds old path d.index (g.S.Shelf.files c.append.new.self) = subst (λ l. Holds old path l (g.S.Shelf.files c.append.new.self)) c.as_slice.ensures (holds_more old (g.S.Shelf.files c.create.new.self) (g.S.Shelf.files c.append.new.self) path [] c.as_slice.result.now c.in_ok-create.ensures.ok c.in_ok-append.ensures.ok) in
     let part = c.in_err-append_resources.ensures.err old d.index index in
-    on_err _ c.from_residual-in_err-append_resources.result
-    (d.index ++ (contents_text pool ++ d.tail), draft_image d.order pool d c.requires.draft,
-    subst (λ l. HoldsPart old path l new) (append_assoc d.index (contents_text pool) d.tail) (part_of_more old new path (d.index ++ contents_text pool) d.tail part))
+    on_err _ c.from_residual-in_err-append_resources.result (
+      d.index ++ (contents_text pool ++ d.tail),
+      draft_image d.order pool d c.requires.draft,
+      subst (λ l. HoldsPart old path l new) (append_assoc d.index (contents_text pool) d.tail) (part_of_more old new path (d.index ++ contents_text pool) d.tail part),
+    )
 
 pub returns-clause-ok : goal.returns-clause-ok
 returns-clause-ok g c =
@@ -49,9 +51,12 @@ returns-clause-ok g c =
     let index : Holds old path d.index (g.S.Shelf.files c.append.new.self) = subst (λ l. Holds old path l (g.S.Shelf.files c.append.new.self)) c.as_slice.ensures (holds_more old (g.S.Shelf.files c.create.new.self) (g.S.Shelf.files c.append.new.self) path [] c.as_slice.result.now c.in_ok-create.ensures.ok c.in_ok-append.ensures.ok) in
     let contents = c.in_ok-append_resources.ensures.ok old d.index index in
     on_ok_map _ _ c.append-2.result
-    (λ is. (d.index ++ (contents_text pool ++ d.tail), draft_image d.order pool d c.requires.draft,
-    subst (λ l. Holds old path l new) (append_assoc d.index (contents_text pool) d.tail) (subst (λ l. Holds old path ((d.index ++ contents_text pool) ++ l) new) c.as_slice-2.ensures
-    (holds_more old (g.S.Shelf.files c.append_resources.new.shelf) new path (d.index ++ contents_text pool) c.as_slice-2.result.now contents is))))
+    (λ is. (
+      d.index ++ (contents_text pool ++ d.tail),
+      draft_image d.order pool d c.requires.draft,
+      subst (λ l. Holds old path l new) (append_assoc d.index (contents_text pool) d.tail) (subst (λ l. Holds old path ((d.index ++ contents_text pool) ++ l) new) c.as_slice-2.ensures
+          (holds_more old (g.S.Shelf.files c.append_resources.new.shelf) new path (d.index ++ contents_text pool) c.as_slice-2.result.now contents is)),
+    ))
     c.append-2.ensures.ok
 
 pub returns-clause-err : goal.returns-clause-err
@@ -64,7 +69,10 @@ returns-clause-err g c =
     let index : Holds old path d.index (g.S.Shelf.files c.append.new.self) = subst (λ l. Holds old path l (g.S.Shelf.files c.append.new.self)) c.as_slice.ensures (holds_more old (g.S.Shelf.files c.create.new.self) (g.S.Shelf.files c.append.new.self) path [] c.as_slice.result.now c.in_ok-create.ensures.ok c.in_ok-append.ensures.ok) in
     let contents = c.in_ok-append_resources.ensures.ok old d.index index in
     on_err_map _ _ c.append-2.result
-    (λ told. (d.index ++ (contents_text pool ++ d.tail), draft_image d.order pool d c.requires.draft,
-    subst (λ l. HoldsPart old path l new) (append_assoc d.index (contents_text pool) d.tail) (subst (λ l. HoldsPart old path ((d.index ++ contents_text pool) ++ l) new) c.as_slice-2.ensures
-    (part_added old (g.S.Shelf.files c.append_resources.new.shelf) new path (d.index ++ contents_text pool) c.as_slice-2.result.now contents told))))
+    (λ told. (
+      d.index ++ (contents_text pool ++ d.tail),
+      draft_image d.order pool d c.requires.draft,
+      subst (λ l. HoldsPart old path l new) (append_assoc d.index (contents_text pool) d.tail) (subst (λ l. HoldsPart old path ((d.index ++ contents_text pool) ++ l) new) c.as_slice-2.ensures
+          (part_added old (g.S.Shelf.files c.append_resources.new.shelf) new path (d.index ++ contents_text pool) c.as_slice-2.result.now contents told)),
+    ))
     c.append-2.ensures.err
