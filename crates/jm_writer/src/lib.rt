@@ -1,0 +1,6 @@
+//! The image that is written of resources.
+#![tactic(auto)]
+
+/// No image is written yet.
+#[derive(Clone, Copy, Debug)]
+pub struct Unwritten;
