@@ -1,1 +1,2 @@
+pub mod ImageSections
 pub mod ImageWords
