@@ -1,2 +1,3 @@
 pub mod ImageSections
+pub mod ImageTexts
 pub mod ImageWords
