@@ -1,3 +1,4 @@
+pub mod ImageLists
 pub mod ImageSections
 pub mod ImageTexts
 pub mod ImageWords
