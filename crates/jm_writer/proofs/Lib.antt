@@ -1,4 +1,5 @@
 pub mod ImageLists
+pub mod ImageRows
 pub mod ImageSections
 pub mod ImageTexts
 pub mod ImageWords
