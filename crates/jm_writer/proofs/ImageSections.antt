@@ -66,11 +66,12 @@ row_place-le index slot below = go (row_in index slot) refl
 
 -- An index
 
--- the redirect words are as many as the slots, they have words, and the index is no longer than 2 ^ 32
+-- the redirect words are as many as the slots, they are words, there are no more rows than slots, and
+-- the index is shorter than 2 ^ 32
 pub record IndexFits (index : Index) : Type 0 where
   pub redirects : length (redirect_words index) ≡ index.table.length
   pub words : All (λ w. w < 2 ^ 32) (redirect_words index)
-  pub count : length index.rows < 2 ^ 32
+  pub count : length index.rows ≤ index.table.length
   pub within : length (index_text index) < 2 ^ 32
 
 module _ (index : Index) (fits : IndexFits index) where
@@ -113,7 +114,8 @@ module _ (index : Index) (fits : IndexFits index) where
     has_words =
         let size = length-index_text in
         let within = fits.within in
-        record { flags = omega arith; count = fits.count; length = omega arith; locations = omega arith; strings = omega arith }
+        let count = fits.count in
+        record { flags = omega arith; count = omega arith; length = omega arith; locations = omega arith; strings = omega arith }
 
     pub header_is : header_of b ≡ Ok h
     header_is =

@@ -1,3 +1,4 @@
+pub mod ImageEntries
 pub mod ImageLists
 pub mod ImageRows
 pub mod ImageSections
