@@ -3,4 +3,5 @@ pub mod ImageLists
 pub mod ImageRows
 pub mod ImageSections
 pub mod ImageTexts
+pub mod ImageValid
 pub mod ImageWords
