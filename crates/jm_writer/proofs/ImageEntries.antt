@@ -1,6 +1,7 @@
 -- The entries of a written image: each has its slot, with its name and its content.
 use Rattle.std.proofs.Common.{◌≡◌, ◌≢◌, ℕ, ◌+◌, ◌%◌, ◌^◌, ◌==◌, ◌<◌, ◌≤◌, false, inl, inr, List, [], ◌∷◌, ◌++◌, length, map, take, drop, get_or, Option, Some, None, All, AllPairs, Contains, refl, sym, ap, ◌∙◌, subst, arith, length-append, mod-lt}
 use Rattle.std.proofs.lemmas.Bool.{ltb-true, ne_eqb}
+use Rattle.std.proofs.lemmas.Bool.Decides.{Decides-eqb}
 use Rattle.std.proofs.lemmas.List.{get_or-map, get_or_default, length-map}
 use Rattle.std.proofs.lemmas.List.Elements.{All-get_or, All-map, Contains-get_or}
 use Rattle.std.proofs.lemmas.List.FromFn.{length-range_with_len}
@@ -93,7 +94,7 @@ module _ (order : Order) (table : GreedyTable) (es : List Written) (writable : W
   name_at : (k : ℕ) → k < length es → get_or (names_of es) k [] ≡ name k
   name_at k below = get_or-map (λ r. r.0) es k nothing [] below
 
-  length-names : length (names_of es) ≡ length es
+  pub length-names : length (names_of es) ≡ length es
   length-names = length-map es (λ r. r.0)
 
   -- the table's word leads each name to its slot
@@ -120,8 +121,8 @@ module _ (order : Order) (table : GreedyTable) (es : List Written) (writable : W
           let inside = slot_below_length k (omega arith) in
           contains_range 0 table.length i (omega arith) (omega arith)
 
-  pub fits : IndexFits index
-  fits =
+  pub index_is_fit : IndexFits index
+  index_is_fit =
       let all = length-append (index_text index) (contents_text es) in
       let within = writable.within in
       let enough = slots_enough in
@@ -133,21 +134,21 @@ module _ (order : Order) (table : GreedyTable) (es : List Written) (writable : W
         within = omega arith;
       }
 
-  pub leads : (k : ℕ) → k < length es → probe b h (name k) ≡ Some (slot k)
-  leads k below =
+  pub name_leads : (k : ℕ) → k < length es → probe b h (name k) ≡ Some (slot k)
+  name_leads k below =
       let inside = slot_below_length k below in
       let some : 0 < table.length = omega arith in
       let bucket : ℕ = bucket_of table.length (name k) in
       let within : bucket < table.length = mod-lt (hash default_seed (name k)) some in
-      probe_by b h (name k) (get_or (redirect_words index) bucket 0) (slot k) some (redirect_word_is index fits (contents_text es) bucket within) (word_leads k below)
+      probe_by b h (name k) (get_or (redirect_words index) bucket 0) (slot k) some (redirect_word_is index index_is_fit (contents_text es) bucket within) (word_leads k below)
 
   -- the row of each entry
 
   names_same : names_of es ≡ map (λ e. e.name) (map sized es)
   names_same = sym (mapped_twice (λ e. e.name) sized es)
 
-  pub told : (k : ℕ) → k < length es → CutTold (texts_in es) (split (name k))
-  told k below =
+  pub pieces_told : (k : ℕ) → k < length es → CutTold (texts_in es) (split (name k))
+  pieces_told k below =
       let many = length-names in
       let at = name_at k below in
       let there = subst (Contains (names_of es)) at (Contains-get_or (names_of es) k [] (omega arith)) in
@@ -156,12 +157,12 @@ module _ (order : Order) (table : GreedyTable) (es : List Written) (writable : W
 
   row_fits : (k : ℕ) → k < length es → RowFits (row_for es k)
   row_fits k below =
-      let texts = told k below in
+      let texts = pieces_told k below in
       let one = texts.«module».below in
       let two = texts.parent.below in
       let three = texts.base.below in
       let four = texts.ext.below in
-      let size = length-index_text index fits in
+      let size = length-index_text index index_is_fit in
       let all = length-append (index_text index) (contents_text es) in
       let within = writable.within in
       let inside = content_within es k nothing below in
@@ -171,17 +172,17 @@ module _ (order : Order) (table : GreedyTable) (es : List Written) (writable : W
   row_some k below same =
       let many = length-names in
       let named = subst (λ n. n ≢ []) (name_at k below) (All-get_or (λ n. n ≢ []) (names_of es) k [] (omega arith) writable.named) in
-      let tells = row_tells (texts_in es) (name k) (0 + content_place es k) (length (content k)) (told k below) in
+      let tells = row_tells (texts_in es) (name k) (0 + content_place es k) (length (content k)) (pieces_told k below) in
       named (sym tells ∙ ap (name_of (section_of (texts_in es))) same ∙ blank_tells (map (λ e. e.name) (map sized es)))
 
   row_is : (k : ℕ) → k < length es → row_in index (slot k) ≡ Some (row_for es k)
   row_is k below =
       let slots = length-slots in
       let rows = length-written in
-      lookup_at table.slots index.rows k blank writable.serves.apart (omega arith) (omega arith) ∙ ap (λ (r : Row). Some r) (row_there (texts_in es) 0 es k blank nothing below)
+      lookup_at (λ a b. a == b) (λ a b. Decides-eqb a b) table.slots index.rows k 0 blank writable.serves.apart (omega arith) (omega arith) ∙ ap (λ (r : Row). Some r) (row_there (texts_in es) 0 es k blank nothing below)
 
   pub slot_row_is : (k : ℕ) → k < length es → row_of_slot b h (slot k) ≡ slot_row.Spelled (row_for es k)
-  slot_row_is k below = slot_taken index fits (contents_text es) (slot k) (row_for es k) (slot_below_length k below) (row_is k below) (row_fits k below) (row_some k below)
+  slot_row_is k below = slot_taken index index_is_fit (contents_text es) (slot k) (row_for es k) (slot_below_length k below) (row_is k below) (row_fits k below) (row_some k below)
 
   pub row_at_is : (k : ℕ) → k < length es → row_at b h (slot k) ≡ Some (row_for es k)
   row_at_is k below = ap spelled_row (slot_row_is k below)
@@ -189,12 +190,12 @@ module _ (order : Order) (table : GreedyTable) (es : List Written) (writable : W
   -- its name and its content
 
   pub name_is : (k : ℕ) → k < length es → name_of (strings b h) (row_for es k) ≡ name k
-  name_is k below = ap (λ s. name_of s (row_for es k)) (strings_are index fits (contents_text es)) ∙ row_tells (texts_in es) (name k) (0 + content_place es k) (length (content k)) (told k below)
+  name_is k below = ap (λ s. name_of s (row_for es k)) (strings_are index index_is_fit (contents_text es)) ∙ row_tells (texts_in es) (name k) (0 + content_place es k) (length (content k)) (pieces_told k below)
 
   pub content_is : (k : ℕ) → k < length es → content_of (contents b h) (row_for es k) ≡ content k
   content_is k below =
       let place : 0 + content_place es k ≡ content_place es k = omega arith in
-      ap (λ c. content_of c (row_for es k)) (contents_are index fits (contents_text es)) ∙ ap (λ n. take (length (content k)) (drop n (contents_text es))) place ∙ content_there es k nothing below
+      ap (λ c. content_of c (row_for es k)) (contents_are index index_is_fit (contents_text es)) ∙ ap (λ n. take (length (content k)) (drop n (contents_text es))) place ∙ content_there es k nothing below
 
   -- entry k
   abbrev entry : ℕ → Entry
@@ -202,7 +203,7 @@ module _ (order : Order) (table : GreedyTable) (es : List Written) (writable : W
 
   -- each is an entry of the image
   pub entry_is_there : (k : ℕ) → k < length es → Contains (entries b h) (entry k)
-  entry_is_there k below = entry_there b h (slot k) (row_for es k) (slot_below_length k below) (row_at_is k below) (ap (probe b h) (name_is k below) ∙ leads k below)
+  entry_is_there k below = entry_there b h (slot k) (row_for es k) (slot_below_length k below) (row_at_is k below) (ap (probe b h) (name_is k below) ∙ name_leads k below)
 
   -- and there is no other
 
@@ -217,7 +218,7 @@ module _ (order : Order) (table : GreedyTable) (es : List Written) (writable : W
   slot_of_entry i row inside there = go (row_in index i) refl
     where
       go : (o : Option Row) → row_in index i ≡ o → OfEntry i row
-      go None none = let blank_there = sym there ∙ ap spelled_row (slot_spare index fits (contents_text es) i inside none) in cc
+      go None none = let blank_there = sym there ∙ ap spelled_row (slot_spare index index_is_fit (contents_text es) i inside none) in cc
       go (Some found) is =
           let at = lookup_from i table.slots index.rows found is in
           let k : ℕ = at.place in
@@ -226,6 +227,19 @@ module _ (order : Order) (table : GreedyTable) (es : List Written) (writable : W
           let below : k < length es = omega arith in
           let rows : Some (row_for es k) ≡ Some row = sym (row_at_is k below) ∙ ap (row_at b h) at.here ∙ there in
           record { place = k; below = below; slot_is = at.here; row_is = same_some (row_for es k) row rows }
+
+  -- so a slot has the row that the index gives it, or none
+  pub row_at_slot : (i : ℕ) → i < table.length → row_at b h i ≡ row_in index i
+  row_at_slot i inside = go (row_in index i) refl
+    where
+      go : (o : Option Row) → row_in index i ≡ o → row_at b h i ≡ row_in index i
+      go None none = ap spelled_row (slot_spare index index_is_fit (contents_text es) i inside none) ∙ sym none
+      go (Some found) is =
+          let at = lookup_from i table.slots index.rows found is in
+          let many = length-slots in
+          let first = at.below in
+          let below : at.place < length es = omega arith in
+          ap (row_at b h) (sym at.here) ∙ row_at_is at.place below ∙ sym (row_is at.place below) ∙ ap (row_in index) at.here
 
   pub entry_is_written : (e : Entry) → Contains (entries b h) e → (k : ℕ) × (k < length es) × (e ≡ entry k)
   entry_is_written e there =

@@ -1,9 +1,10 @@
 -- Lists of different elements, and values looked up by them.
 use Rattle.std.proofs.Common.{◌≡◌, ◌≢◌, ℕ, zero, suc, ◌+◌, ◌==◌, ◌<◌, ◌≤◌, ◌⊎◌, inl, inr, Bool, true, false, cond, List, [], ◌∷◌, ◌++◌, length, get_or, Option, Some, None, Contains, AllPairs, refl, sym, ap, ◌∙◌, subst, arith, append-nil, length-append}
-use Rattle.std.proofs.lemmas.Bool.{eq-eqb, eqb-true, ne_eqb}
+use Rattle.std.proofs.lemmas.Bool.{eqb-true, false_from_ne_true}
 use Rattle.std.proofs.lemmas.List.{get_or_default, nil_from_length}
 use Rattle.std.proofs.lemmas.List.Elements.{All-contains}
 use Rattle.std.proofs.lemmas.List.Sorted.{Contains-permutation, IsPermutation-cons, IsPermutation-refl, IsPermutation-remove, IsPermutation-trans, length_permutation}
+use Rattle.std.specs.Bool.{Decides}
 use Rattle.std.specs.List.{remove, zip}
 use Rattle.std.specs.List.Sorted.{IsPermutation}
 use Rattle.std.specs.Map.{lookup}
@@ -11,17 +12,17 @@ use Rattle.jm_bytes.proofs.Choice.{same_some}
 use Rattle.jm_bytes.proofs.Members.{contains_cases, contains_here, contains_later}
 use Rattle.jm_bytes.proofs.Pairs.{pairs_head, pairs_tail}
 
--- Values by numbers that differ
+-- Values by keys that differ
 
--- the value of the number at a place is the value at that place
-pub lookup_at : {V : Type 0} (ks : List ℕ) (vs : List V) (k : ℕ) (d : V) → AllPairs (λ a b. a ≢ b) ks → k < length ks → k < length vs → lookup (λ other. get_or ks k 0 == other) (zip ks vs) ≡ Some (get_or vs k d)
-lookup_at [] vs k d differ below within = absurd (omega arith)
-lookup_at (x ∷ ks) [] k d differ below within = absurd (omega arith)
-lookup_at (x ∷ ks) (v ∷ vs) zero d differ below within = rw (eq-eqb x x refl) refl
-lookup_at (x ∷ ks) (v ∷ vs) (suc k) d differ below within =
-    let other = pairs_head (λ a b. a ≢ b) x ks differ k 0 (omega arith) in
-    let test : get_or ks k 0 == x ≡ false = ne_eqb (get_or ks k 0) x (λ e. other (sym e)) in
-    rw test (lookup_at ks vs k d (pairs_tail (λ a b. a ≢ b) x ks differ) (omega arith) (omega arith))
+-- the value of the key at a place is the value at that place
+pub lookup_at : {K V : Type 0} (same : K → K → Bool) → ((a b : K) → Decides (same a b) (a ≡ b)) → (ks : List K) (vs : List V) (k : ℕ) (c : K) (d : V) → AllPairs (λ a b. a ≢ b) ks → k < length ks → k < length vs → lookup (same (get_or ks k c)) (zip ks vs) ≡ Some (get_or vs k d)
+lookup_at same decides [] vs k c d differ below within = absurd (omega arith)
+lookup_at same decides (x ∷ ks) [] k c d differ below within = absurd (omega arith)
+lookup_at same decides (x ∷ ks) (v ∷ vs) zero c d differ below within = let here : same x x ≡ true = (decides x x).1 refl in rw here refl
+lookup_at same decides (x ∷ ks) (v ∷ vs) (suc k) c d differ below within =
+    let other = pairs_head (λ a b. a ≢ b) x ks differ k c (omega arith) in
+    let test : same (get_or ks k c) x ≡ false = false_from_ne_true (same (get_or ks k c) x) (λ e. other (sym ((decides (get_or ks k c) x).0 e))) in
+    rw test (lookup_at same decides ks vs k c d (pairs_tail (λ a b. a ≢ b) x ks differ) (omega arith) (omega arith))
 
 -- what is looked up stands at a place of that number
 pub record FoundAt {V : Type 0} (ks : List ℕ) (vs : List V) (key : ℕ) (v : V) : Type 0 where

@@ -24,7 +24,7 @@ use Rattle.jm_form.proofs.HeadLaws.{header_fits}
 use Rattle.jm_form.proofs.SlotLaws.{sound_row}
 use Rattle.jm_form.proofs.Validity.{sound_valid}
 use Rattle.jm_writer.specs.Writable.{Writable, header_with}
-use Rattle.jm_writer.proofs.ImageEntries.{fits, nothing, row_at_is, row_for, slot_below_length}
+use Rattle.jm_writer.proofs.ImageEntries.{index_is_fit, nothing, row_at_is, row_for, slot_below_length}
 use Rattle.jm_writer.proofs.ImageRows.{content_parts, content_place}
 use Rattle.jm_writer.proofs.ImageSections.{header_is, length-index_text}
 
@@ -108,7 +108,7 @@ module _ (order : Order) (table : GreedyTable) (es : List Written) (writable : W
       all : length b ≡ index_length h + length (contents_text es)
       all =
           let both = length-append (index_text index) (contents_text es) in
-          let size = length-index_text index (fits order table es writable) in
+          let size = length-index_text index (index_is_fit order table es writable) in
           omega arith
 
       some_or_none : (n : ℕ) → (n ≡ 0) ⊎ (0 < n)
@@ -132,7 +132,7 @@ module _ (order : Order) (table : GreedyTable) (es : List Written) (writable : W
   pub prefix_damaged : (n : ℕ) → n < length b → first_damage (take n b) ≢ None
   prefix_damaged n short clear =
       let (g, valid) = sound_valid (take n b) clear in
-      let header = header_is index (fits order table es writable) (contents_text es) in
+      let header = header_is index (index_is_fit order table es writable) (contents_text es) in
       let same : g ≡ h = header_front n b h g header valid.header in
       let valid_h = subst (λ x. ValidAs (take n b) x) same valid in
       let room = header_fits (take n b) h valid_h.header in

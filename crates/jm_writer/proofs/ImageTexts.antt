@@ -1,15 +1,17 @@
 -- The texts of a written image: each piece of each name is held, and stands at its place.
 use Rattle.std.proofs.Common.{◌≡◌, ◌≢◌, ℕ, ◌+◌, ◌==◌, ◌<◌, inl, inr, Bool, true, false, cond, List, [], ◌∷◌, ◌++◌, length, take, drop, get_or, Option, Some, None, option_map, unwrap_or, is_some, IsSome, Contains, AllPairs, refl, sym, ap, ◌∙◌, subst, arith, append_assoc, length-append, drop_at, take_at}
-use Rattle.std.proofs.lemmas.Bool.{eqb-true}
+use Rattle.std.proofs.lemmas.Bool.{eqb-true, false≢true}
 use Rattle.std.proofs.lemmas.List.{get_or_append_left, get_or_at}
-use Rattle.std.proofs.lemmas.List.Elements.{Contains-append_left, Contains-append_right, Contains-push}
+use Rattle.std.proofs.lemmas.List.Elements.{All-cons, All-nil, Contains-append_left, Contains-append_right, Contains-push}
 use Rattle.std.proofs.lemmas.List.Folds.{list_any_at}
+use Rattle.std.proofs.lemmas.List.Kept.{AllPairs-cons}
 use Rattle.std.proofs.lemmas.Slice.Eq.{bytes_eq-Decides}
 use Rattle.std.specs.List.{before_first, flat_map, list_any}
 use Rattle.std.specs.Prelude.{codes}
 use Rattle.std.specs.Str.{bytes_eq}
 use Rattle.jm_bytes.proofs.Firsts.{before_first_at}
 use Rattle.jm_bytes.proofs.Members.{contains_cases, contains_here, contains_later, contains_none}
+use Rattle.jm_bytes.proofs.Pairs.{pairs_append, pairs_none}
 use Rattle.jm_bytes.proofs.SameOrder.{contains_flat_map}
 use Rattle.jm_names.proofs.JoinLaws.{join-split}
 use Rattle.jm_names.specs.Names.{Cut, ext_end, join, module_front, parent_front, split}
@@ -131,6 +133,34 @@ all_have (text ∷ texts) held other there =
 pub piece_held : (names : List (List ℕ)) (name piece : List ℕ) → Contains names name → Contains (pieces (split name)) piece → Contains (texts_of names) piece
 piece_held names name piece there among =
     all_have (flat_map (λ n. pieces (split n)) names) ([] ∷ codes "class" ∷ []) piece (contains_flat_map (λ n. pieces (split n)) names name piece there among)
+
+-- no text is held twice
+with_differs : (text : List ℕ) (held : List (List ℕ)) → AllPairs (λ a b. a ≢ b) held → AllPairs (λ a b. a ≢ b) (with_text text held)
+with_differs text held differ = go (is_some (place_of text held)) refl
+  where
+    go : (b : Bool) → is_some (place_of text held) ≡ b → AllPairs (λ a b. a ≢ b) (cond b held (held ++ text ∷ []))
+    go true is = differ
+    go false is = pairs_append (λ a b. a ≢ b) held (text ∷ []) differ (AllPairs-cons (λ a b. a ≢ b) text [] (All-nil (λ b. text ≢ b)) (pairs_none (λ a b. a ≢ b))) across
+      where
+        across : (x y : List ℕ) → Contains held x → Contains (text ∷ []) y → x ≢ y
+        across x y here there same =
+            elim (contains_cases text [] y there) [
+              | inl first ↦
+                  let among : Contains held text = subst (Contains held) (same ∙ sym first) here in
+                  let held_there : is_some (place_of text held) ≡ true = (place-iff text held (place_of text held) refl).1 among in
+                  false≢true (sym is ∙ held_there)
+              | inr none ↦ contains_none y none
+            ]
+
+all_differ : (texts held : List (List ℕ)) → AllPairs (λ a b. a ≢ b) held → AllPairs (λ a b. a ≢ b) (with_texts held texts)
+all_differ [] held differ = differ
+all_differ (text ∷ texts) held differ = all_differ texts (with_text text held) (with_differs text held differ)
+
+pub texts_differ : (names : List (List ℕ)) → AllPairs (λ a b. a ≢ b) (texts_of names)
+texts_differ names = all_differ (flat_map (λ n. pieces (split n)) names) ([] ∷ codes "class" ∷ []) first_two
+  where
+    first_two : AllPairs (λ a b. a ≢ b) ([] ∷ codes "class" ∷ [])
+    first_two = AllPairs-cons (λ a b. a ≢ b) [] (codes "class" ∷ []) (All-cons (λ b. [] ≢ b) (codes "class") [] (λ e. cc) (All-nil (λ b. [] ≢ b))) (AllPairs-cons (λ a b. a ≢ b) (codes "class") [] (All-nil (λ b. codes "class" ≢ b)) (pairs_none (λ a b. a ≢ b)))
 
 -- the first text stays the first
 front_kept : (first : List ℕ) (rest texts : List (List ℕ)) → (more : List (List ℕ)) × (with_texts (first ∷ rest) texts ≡ first ∷ more)

@@ -30,7 +30,7 @@ use Rattle.jm_form.proofs.EntryLaws.{names_differ, slots_rise}
 use Rattle.jm_form.proofs.LookLaws.{look_entry, look_none, look_some}
 use Rattle.jm_form.proofs.SlotLaws.{slot_blank, slot_spelled}
 use Rattle.jm_writer.specs.Writable.{Writable, header_with}
-use Rattle.jm_writer.proofs.ImageEntries.{OfEntry, content_is, entry_is_there, entry_is_written, fits, leads, length-slots, length-written, name_is, nothing, row_for, slot_below_length, slot_row_is, told}
+use Rattle.jm_writer.proofs.ImageEntries.{OfEntry, content_is, entry_is_there, entry_is_written, index_is_fit, name_leads, length-slots, length-written, name_is, nothing, row_for, slot_below_length, slot_row_is, pieces_told}
 use Rattle.jm_writer.proofs.ImageLists.{lookup_from, same_elements}
 use Rattle.jm_writer.proofs.ImageRows.{content_place, content_within, contents_apart, slot_spare}
 use Rattle.jm_writer.proofs.ImageSections.{contents_are, header_is, offset_word_is, strings_are}
@@ -107,18 +107,22 @@ module _ (order : Order) (table : GreedyTable) (es : List Written) (writable : W
       differs : (e f : Entry) → Contains (entries b h) e → Contains (entries b h) f → e.slot < f.slot → pair_of e ≢ pair_of f
       differs e f first second before same = let slots = names_differ b h e f first second (ap (λ (p : Written). p.0) same) in absurd (omega arith)
 
-  written_differ : AllPairs (λ p q. p ≢ q) es
-  written_differ i j d before below same =
+  -- names differ, since no two of them have one slot
+  pub names_apart : (i j : ℕ) → i < j → j < length es → (get_or es i nothing).0 ≢ (get_or es j nothing).0
+  names_apart i j before below same =
       let many = length-slots order table es writable in
-      let one : get_or es i d ≡ get_or es i nothing = get_or_default es i d nothing (omega arith) in
-      let other : get_or es j d ≡ get_or es j nothing = get_or_default es j d nothing below in
-      let names : (get_or es i nothing).0 ≡ (get_or es j nothing).0 = ap (λ (p : Written). p.0) (sym one ∙ same ∙ other) in
-      let slots : slot i ≡ slot j = same_some (slot i) (slot j) (sym (leads order table es writable i (omega arith)) ∙ ap (probe b h) names ∙ leads order table es writable j below) in
+      let slots : slot i ≡ slot j = same_some (slot i) (slot j) (sym (name_leads order table es writable i (omega arith)) ∙ ap (probe b h) same ∙ name_leads order table es writable j below) in
       writable.serves.apart i j 0 before (omega arith) slots
 
+  written_differ : AllPairs (λ p q. p ≢ q) es
+  written_differ i j d before below same =
+      let one : get_or es i d ≡ get_or es i nothing = get_or_default es i d nothing (omega arith) in
+      let other : get_or es j d ≡ get_or es j nothing = get_or_default es j d nothing below in
+      names_apart i j before below (ap (λ (p : Written). p.0) (sym one ∙ same ∙ other))
+
   -- the entries, with their contents, are those that were written
-  pub entries_are : IsPermutation (map pair_of (entries b h)) es
-  entries_are = same_elements (map pair_of (entries b h)) es entries_differ written_differ forth back
+  pub image_entries : IsPermutation (map pair_of (entries b h)) es
+  image_entries = same_elements (map pair_of (entries b h)) es entries_differ written_differ forth back
     where
       forth : (p : Written) → Contains (map pair_of (entries b h)) p → Contains es p
       forth p there = let from = from_map pair_of (entries b h) p there in subst (Contains es) from.2 (there_written from.0 from.1)
@@ -128,22 +132,22 @@ module _ (order : Order) (table : GreedyTable) (es : List Written) (writable : W
 
   pub length-entries : length (entries b h) ≡ length es
   length-entries =
-      let same = length_permutation (map pair_of (entries b h)) es entries_are in
+      let same = length_permutation (map pair_of (entries b h)) es image_entries in
       let mapped = length-map (entries b h) pair_of in
       omega arith
 
   -- the offset word of an entry
   pub offset_word_of : (k : ℕ) → k < length es → offset_word b h (slot k) ≡ row_place index (slot k)
-  offset_word_of k below = offset_word_is index (fits order table es writable) (contents_text es) (slot k) (slot_below_length order table es writable k below)
+  offset_word_of k below = offset_word_is index (index_is_fit order table es writable) (contents_text es) (slot k) (slot_below_length order table es writable k below)
 
   -- Validity
 
   sound : (k : ℕ) → k < length es → SoundRow b h (row_for es k)
   sound k below =
-      let section = strings_are index (fits order table es writable) (contents_text es) in
-      let texts = told order table es writable k below in
+      let section = strings_are index (index_is_fit order table es writable) (contents_text es) in
+      let texts = pieces_told order table es writable k below in
       let ends : (place : ℕ) → text_ends (section_of index.texts) place ≡ true → text_ends (strings b h) place ≡ true = λ place there. ap (λ s. text_ends s place) section ∙ there in
-      let all = ap length (contents_are index (fits order table es writable) (contents_text es)) in
+      let all = ap length (contents_are index (index_is_fit order table es writable) (contents_text es)) in
       let inside = content_within es k nothing below in
       record {
         stored = refl;
@@ -158,7 +162,7 @@ module _ (order : Order) (table : GreedyTable) (es : List Written) (writable : W
   slots_are_sound i below = go (row_in index i) refl
     where
       go : (o : Option Row) → row_in index i ≡ o → slot_fault b h i ≡ None
-      go None none = slot_blank b h i (slot_spare index (fits order table es writable) (contents_text es) i below none)
+      go None none = slot_blank b h i (slot_spare index (index_is_fit order table es writable) (contents_text es) i below none)
       go (Some row) is =
           let at = lookup_from i table.slots index.rows row is in
           let k : ℕ = at.place in
@@ -190,19 +194,19 @@ module _ (order : Order) (table : GreedyTable) (es : List Written) (writable : W
       let other : s ≡ range_of (entry k) = sym f_is ∙ ap range_of k_is in
       never_meet j k below_j below_k (subst (λ t. Meets (range_of (entry j)) t) other (subst (λ t. Meets t s) one meets))
 
-  pub valid_as : ValidAs b h
-  valid_as =
+  pub image_valid_as : ValidAs b h
+  image_valid_as =
       let many = length-written order table es writable in
       let all = length-entries in
       record {
-        header = header_is index (fits order table es writable) (contents_text es);
+        header = header_is index (index_is_fit order table es writable) (contents_text es);
         slots = slots_are_sound;
         count = omega arith;
         apart = ranges_apart;
       }
 
-  pub valid : Valid b
-  valid = (h, valid_as)
+  pub image_valid : Valid b
+  image_valid = (h, image_valid_as)
 
   -- Look-ups
 
@@ -212,15 +216,15 @@ module _ (order : Order) (table : GreedyTable) (es : List Written) (writable : W
       let (e, inside, is) = written_there (n, text) there in
       let names : e.name ≡ n = ap (λ (p : Written). p.0) is in
       let contents : e.content ≡ text = ap (λ (p : Written). p.1) is in
-      ap (λ l. option_map (λ r. r.1) (look b l)) (sym names) ∙ ap (option_map (λ r. r.1)) (look_some b h e valid_as.header inside) ∙ ap (λ (l : List ℕ). Some l) contents
+      ap (λ l. option_map (λ r. r.1) (look b l)) (sym names) ∙ ap (option_map (λ r. r.1)) (look_some b h e image_valid_as.header inside) ∙ ap (λ (l : List ℕ). Some l) contents
 
   -- another name is looked up in vain
   pub look_unwritten : (n : List ℕ) → ((text : List ℕ) → Contains es (n, text) → ⊥) → look b n ≡ None
-  look_unwritten n nowhere = look_none b h n valid_as.header (λ e there same. nowhere e.content (subst (λ l. Contains es (l, e.content)) (sym same) (there_written e there)))
+  look_unwritten n nowhere = look_none b h n image_valid_as.header (λ e there same. nowhere e.content (subst (λ l. Contains es (l, e.content)) (sym same) (there_written e there)))
 
   -- what a look-up answers was written
   pub look_says : (n : List ℕ) (found : Row × List ℕ) → look b n ≡ Some found → Contains es (n, found.1)
   look_says n found answer =
-      let (e, there, same, is) = look_entry b h n found valid_as.header answer in
+      let (e, there, same, is) = look_entry b h n found image_valid_as.header answer in
       let content : e.content ≡ found.1 = ap (λ (r : Row × List ℕ). r.1) is in
       subst (λ c. Contains es (n, c)) content (subst (λ l. Contains es (l, e.content)) (sym same) (there_written e there))

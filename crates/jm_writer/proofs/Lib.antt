@@ -1,5 +1,6 @@
 pub mod ImageEntries
 pub mod ImageLists
+pub mod ImagePlaces
 pub mod ImagePrefixes
 pub mod ImageRows
 pub mod ImageSections
