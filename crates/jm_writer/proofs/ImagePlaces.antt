@@ -1,5 +1,5 @@
 -- What the places in a written image lead to: the offset word of a name, and the place of a text.
-use Rattle.std.proofs.Common.{◌≡◌, ◌≢◌, ℕ, ◌<◌, List, [], ◌++◌, length, map, get_or, Some, unwrap_or, AllPairs, Contains, refl, sym, ap, ◌∙◌, subst, arith}
+use Rattle.std.proofs.Common.{◌≡◌, ◌≢◌, ℕ, ◌<◌, List, [], ◌++◌, length, map, get_or, Some, unwrap_or, AllPairs, Contains, sym, ap, ◌∙◌, subst, arith}
 use Rattle.std.proofs.lemmas.List.{get_or-map, get_or_default}
 use Rattle.std.proofs.lemmas.Slice.Eq.{bytes_eq-Decides}
 use Rattle.std.specs.List.{zip}
@@ -7,13 +7,11 @@ use Rattle.std.specs.Map.{lookup}
 use Rattle.std.specs.Str.{bytes_eq}
 use Rattle.jm_bytes.specs.declared.words.Order.{Order}
 use Rattle.jm_strings.specs.Texts.{IsZeroFree}
-use Rattle.jm_form.specs.declared.container.Header.{Header}
 use Rattle.jm_form.specs.declared.trees.Owner.{Owner}
 use Rattle.jm_form.specs.Entries.{entry_of}
 use Rattle.jm_form.specs.Greedy.{GreedyTable}
-use Rattle.jm_form.specs.Layout.{Index, Written, contents_text, image_of, index_of, index_text, name_place, names_of, row_place, sized, text_place}
+use Rattle.jm_form.specs.Layout.{Index, Written, image_of, index_of, index_text, name_place, names_of, row_place, sized, text_place}
 use Rattle.jm_form.specs.Nodes.{LeadsTo, StandsAt}
-use Rattle.jm_form.specs.Places.{strings}
 use Rattle.jm_form.specs.Texts.{text_at, text_ends}
 use Rattle.jm_writer.specs.Writable.{Writable, header_with}
 use Rattle.jm_writer.proofs.ImageEntries.{entry_is_there, length-names, length-slots, name_is, nothing, row_for}

@@ -1,5 +1,5 @@
 -- Each proper prefix of a written image has a first damage.
-use Rattle.std.proofs.Common.{◌≡◌, ◌≢◌, ℕ, ◌+◌, ◌-◌, ◌*◌, ◌<◌, ◌≤◌, ◌⊎◌, inl, inr, min, List, [], ◌∷◌, ◌++◌, length, map, take, drop, get_or, Option, Some, None, Ok, unwrap_or, refl, sym, ap, ◌∙◌, subst, arith, length-append, length-drop, length-take}
+use Rattle.std.proofs.Common.{◌≡◌, ◌≢◌, ℕ, ◌+◌, ◌-◌, ◌<◌, ◌≤◌, ◌⊎◌, inl, inr, List, [], ◌∷◌, ◌++◌, length, map, take, drop, get_or, Option, Some, None, Ok, unwrap_or, refl, sym, ap, ◌∙◌, subst, arith, length-append, length-drop, length-take}
 use Rattle.std.proofs.lemmas.List.{drop-take, drop_all, take-take}
 use Rattle.std.specs.Prelude.{cond, nat_lt}
 use Rattle.byteorder.specs.Numbers.{big_from-take, little_from-take}
@@ -18,8 +18,8 @@ use Rattle.jm_form.specs.Entries.{row_at, row_of_slot, row_read, spelled_row}
 use Rattle.jm_form.specs.Greedy.{GreedyTable}
 use Rattle.jm_form.specs.Head.{fields_in, fields_of, header_checks, header_of, index_length, order_of, read_order}
 use Rattle.jm_form.specs.Layout.{Index, Written, contents_text, image_of, index_of, index_text, sized}
-use Rattle.jm_form.specs.Places.{contents, locations, locations_place, offset_place, offset_word}
-use Rattle.jm_form.specs.Validity.{Valid, ValidAs}
+use Rattle.jm_form.specs.Places.{locations, locations_place, offset_place, offset_word}
+use Rattle.jm_form.specs.Validity.{ValidAs}
 use Rattle.jm_form.proofs.HeadLaws.{header_fits}
 use Rattle.jm_form.proofs.SlotLaws.{sound_row}
 use Rattle.jm_form.proofs.Validity.{sound_valid}

@@ -1,5 +1,5 @@
 -- The rows of a written image: each slot's offset word leads to its row, or to the blank one.
-use Rattle.std.proofs.Common.{◌≡◌, ◌≢◌, ℕ, zero, suc, ◌+◌, ◌-◌, ◌<◌, ◌≤◌, ◌==◌, List, [], ◌∷◌, ◌++◌, length, map, take, drop, get_or, Option, Some, None, refl, sym, ap, ◌∙◌, subst, arith, append-nil, append_assoc, length-append, drop_at, take_at, take-append-drop, take-take, get_or-take, length-take-le, true, false}
+use Rattle.std.proofs.Common.{◌≡◌, ◌≢◌, ℕ, zero, suc, ◌+◌, ◌-◌, ◌<◌, ◌≤◌, ◌==◌, List, [], ◌∷◌, ◌++◌, length, map, take, drop, get_or, Some, None, refl, sym, ap, ◌∙◌, arith, length-append, drop_at, take_at, take-append-drop, take-take, get_or-take, length-take-le, true, false}
 use Rattle.std.proofs.lemmas.Bool.{eq-eqb, lt-ltb, ne_eqb}
 use Rattle.std.proofs.lemmas.List.{drop_more, nil_from_length}
 use Rattle.std.proofs.lemmas.List.Concat.{flat_map-append}
@@ -9,7 +9,6 @@ use Rattle.jm_bytes.proofs.Choice.{same_first}
 use Rattle.jm_names.specs.Names.{split}
 use Rattle.jm_form.specs.declared.container.Header.{Header}
 use Rattle.jm_form.specs.declared.rows.Row.{Row}
-use Rattle.jm_form.specs.declared.slots.SlotRow.{SlotRow}
 use Rattle.jm_form.specs.declared.slots.SlotRow.TheVariants as slot_row
 use Rattle.jm_form.specs.ComputedRows.{row_front}
 use Rattle.jm_form.specs.Entries.{row_of_slot, row_read, row_text}

@@ -1,10 +1,10 @@
 -- The parts of an image that an index makes, with contents behind it: the words of its two tables, its
 -- locations, its strings and its contents.
-use Rattle.std.proofs.Common.{◌≡◌, ℕ, zero, suc, ◌+◌, ◌-◌, ◌*◌, ◌^◌, ◌<◌, ◌≤◌, List, [], ◌∷◌, ◌++◌, length, map, take, drop, get_or, Option, Some, None, Ok, All, refl, sym, ap, ◌∙◌, subst, arith, append_assoc, length-append, drop_at, take_at}
-use Rattle.std.proofs.lemmas.List.{get_or_append_left, get_or-append-add, length-map}
+use Rattle.std.proofs.Common.{◌≡◌, ℕ, zero, suc, ◌+◌, ◌-◌, ◌*◌, ◌^◌, ◌<◌, ◌≤◌, List, ◌∷◌, ◌++◌, length, take, drop, get_or, Option, Some, None, Ok, All, refl, sym, ap, ◌∙◌, subst, arith, append_assoc, length-append, drop_at, take_at}
+use Rattle.std.proofs.lemmas.List.{get_or_append_left, get_or-append-add}
 use Rattle.std.proofs.lemmas.List.Concat.{flat_map-append}
 use Rattle.std.proofs.lemmas.List.Elements.{All-get_or}
-use Rattle.std.proofs.lemmas.List.FromFn.{length-range_with_len, length-map-range_with_len, get_or-map-range_with_len}
+use Rattle.std.proofs.lemmas.List.FromFn.{length-map-range_with_len, get_or-map-range_with_len}
 use Rattle.std.specs.List.{flat_map, range_with_len}
 use Rattle.jm_bytes.specs.Word.{word}
 use Rattle.jm_strings.specs.Texts.{section_of}

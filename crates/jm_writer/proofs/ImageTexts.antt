@@ -1,5 +1,5 @@
 -- The texts of a written image: each piece of each name is held, and stands at its place.
-use Rattle.std.proofs.Common.{◌≡◌, ◌≢◌, ℕ, ◌+◌, ◌==◌, ◌<◌, inl, inr, Bool, true, false, cond, List, [], ◌∷◌, ◌++◌, length, take, drop, get_or, Option, Some, None, option_map, unwrap_or, is_some, IsSome, Contains, AllPairs, refl, sym, ap, ◌∙◌, subst, arith, append_assoc, length-append, drop_at, take_at}
+use Rattle.std.proofs.Common.{◌≡◌, ◌≢◌, ℕ, ◌+◌, ◌==◌, ◌<◌, inl, inr, Bool, true, false, cond, List, [], ◌∷◌, ◌++◌, length, drop, get_or, Option, Some, None, option_map, unwrap_or, is_some, IsSome, Contains, AllPairs, refl, sym, ap, ◌∙◌, subst, arith, append_assoc, length-append, drop_at, take_at}
 use Rattle.std.proofs.lemmas.Bool.{eqb-true, false≢true}
 use Rattle.std.proofs.lemmas.List.{get_or_append_left, get_or_at}
 use Rattle.std.proofs.lemmas.List.Elements.{All-cons, All-nil, Contains-append_left, Contains-append_right, Contains-push}
@@ -10,7 +10,7 @@ use Rattle.std.specs.List.{before_first, flat_map, list_any}
 use Rattle.std.specs.Prelude.{codes}
 use Rattle.std.specs.Str.{bytes_eq}
 use Rattle.jm_bytes.proofs.Firsts.{before_first_at}
-use Rattle.jm_bytes.proofs.Members.{contains_cases, contains_here, contains_later, contains_none}
+use Rattle.jm_bytes.proofs.Members.{contains_cases, contains_later, contains_none}
 use Rattle.jm_bytes.proofs.Pairs.{pairs_append, pairs_none}
 use Rattle.jm_bytes.proofs.SameOrder.{contains_flat_map}
 use Rattle.jm_names.proofs.JoinLaws.{join-split}

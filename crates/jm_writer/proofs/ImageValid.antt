@@ -1,7 +1,7 @@
 -- A written image is valid, and its entries are those that were written.
-use Rattle.std.proofs.Common.{◌≡◌, ◌≢◌, ℕ, ◌+◌, ◌-◌, ◌<◌, ◌≤◌, ◌&&◌, ◌==◌, inl, inr, Bool, true, not, List, [], ◌∷◌, length, map, get_or, Option, Some, None, option_map, IsPermutation, AllPairs, Contains, refl, sym, ap, ◌∙◌, subst, arith, length-append}
+use Rattle.std.proofs.Common.{◌≡◌, ◌≢◌, ℕ, ◌+◌, ◌-◌, ◌<◌, ◌≤◌, ◌&&◌, ◌==◌, inl, inr, Bool, true, not, List, [], ◌∷◌, length, map, get_or, Option, Some, None, option_map, IsPermutation, AllPairs, Contains, refl, sym, ap, ◌∙◌, subst, arith}
 use Rattle.std.proofs.lemmas.Bool.{and_from, cases_order, eq-eqb, le-leb}
-use Rattle.std.proofs.lemmas.List.{get_or-map, get_or_default, length-map}
+use Rattle.std.proofs.lemmas.List.{get_or_default, length-map}
 use Rattle.std.proofs.lemmas.List.Elements.{Contains-get_or}
 use Rattle.std.proofs.lemmas.List.Sorted.{length_permutation}
 use Rattle.std.specs.Prelude.{nat_le}
@@ -15,7 +15,6 @@ use Rattle.jm_strings.specs.Texts.{section_of}
 use Rattle.jm_form.specs.declared.container.Header.{Header}
 use Rattle.jm_form.specs.declared.damage.Damage.{Damage}
 use Rattle.jm_form.specs.declared.damage.Damage.TheVariants as damage
-use Rattle.jm_form.specs.declared.ranges.Range.{Range}
 use Rattle.jm_form.specs.declared.rows.Row.{Row}
 use Rattle.jm_form.specs.Damages.{content_fits, row_checks, slot_fault}
 use Rattle.jm_form.specs.Entries.{Entry, entries, entry_of}
@@ -30,9 +29,9 @@ use Rattle.jm_form.proofs.EntryLaws.{names_differ, slots_rise}
 use Rattle.jm_form.proofs.LookLaws.{look_entry, look_none, look_some}
 use Rattle.jm_form.proofs.SlotLaws.{slot_blank, slot_spelled}
 use Rattle.jm_writer.specs.Writable.{Writable, header_with}
-use Rattle.jm_writer.proofs.ImageEntries.{OfEntry, content_is, entry_is_there, entry_is_written, index_is_fit, name_leads, length-slots, length-written, name_is, nothing, row_for, slot_below_length, slot_row_is, pieces_told}
+use Rattle.jm_writer.proofs.ImageEntries.{content_is, entry_is_there, entry_is_written, index_is_fit, name_leads, length-slots, length-written, name_is, nothing, row_for, slot_below_length, slot_row_is, pieces_told}
 use Rattle.jm_writer.proofs.ImageLists.{lookup_from, same_elements}
-use Rattle.jm_writer.proofs.ImageRows.{content_place, content_within, contents_apart, slot_spare}
+use Rattle.jm_writer.proofs.ImageRows.{content_within, contents_apart, slot_spare}
 use Rattle.jm_writer.proofs.ImageSections.{contents_are, header_is, offset_word_is, strings_are}
 
 -- A sound row has no fault

@@ -4,13 +4,13 @@ use Rattle.std.proofs.lemmas.Bool.{eq-eqb, le-ltb}
 use Rattle.std.specs.Prelude.{nat_lt}
 use Rattle.byteorder.specs.Numbers.{big_number-reads_back, little_number-reads_back, length-bytes_high_first, length-bytes_low_first}
 use Rattle.jm_bytes.proofs.CheckLaws.{fault_if_false, no_fault_cons}
-use Rattle.jm_bytes.specs.Checks.{fault_if, first_fault, unless_fault}
+use Rattle.jm_bytes.specs.Checks.{fault_if, unless_fault}
 use Rattle.jm_bytes.specs.Word.{word, word_bytes}
 use Rattle.jm_bytes.specs.declared.words.Order.{Order}
 use Rattle.jm_bytes.specs.declared.words.Order.TheVariants.{Little, Big}
 use Rattle.jm_form.specs.declared.container.Header.{Header}
 use Rattle.jm_form.specs.declared.container.HeaderFault.TheVariants as fault
-use Rattle.jm_form.specs.Head.{fields_in, fields_of, header_checks, header_of, index_length, order_of, read_order, version_of}
+use Rattle.jm_form.specs.Head.{fields_in, fields_of, header_of, index_length, order_of, version_of}
 use Rattle.jm_form.specs.Nodes.{words_text}
 
 -- One word

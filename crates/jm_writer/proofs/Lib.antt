@@ -6,4 +6,5 @@ pub mod ImageRows
 pub mod ImageSections
 pub mod ImageTexts
 pub mod ImageValid
+mod ImageVectors
 pub mod ImageWords
