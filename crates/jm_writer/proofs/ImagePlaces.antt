@@ -35,8 +35,8 @@ module _ (order : Order) (table : GreedyTable) (es : List Written) (writable : W
   abbrev index : Index
   index = index_of order table (map sized es)
 
-  names_differ : AllPairs (λ m n. m ≢ n) (names_of es)
-  names_differ i j d before below same =
+  pub all_names_differ : AllPairs (λ m n. m ≢ n) (names_of es)
+  all_names_differ i j d before below same =
       let many = length-names order table es writable in
       let one : get_or (names_of es) i d ≡ (get_or es i nothing).0 = get_or-map (λ r. r.0) es i nothing d (omega arith) in
       let other : get_or (names_of es) j d ≡ (get_or es j nothing).0 = get_or-map (λ r. r.0) es j nothing d (omega arith) in
@@ -51,7 +51,7 @@ module _ (order : Order) (table : GreedyTable) (es : List Written) (writable : W
       let here : get_or (names_of es) k [] ≡ name = get_or_default (names_of es) k [] name inside ∙ is in
       let same : (get_or es k nothing).0 ≡ name = sym (get_or-map (λ r. r.0) es k nothing [] below) ∙ here in
       let found : lookup (bytes_eq name) (zip (names_of es) table.slots) ≡ Some (get_or table.slots k 0) =
-      subst (λ n. lookup (bytes_eq n) (zip (names_of es) table.slots) ≡ Some (get_or table.slots k 0)) here (lookup_at bytes_eq bytes_eq-Decides (names_of es) table.slots k [] 0 names_differ inside (omega arith)) in
+      subst (λ n. lookup (bytes_eq n) (zip (names_of es) table.slots) ≡ Some (get_or table.slots k 0)) here (lookup_at bytes_eq bytes_eq-Decides (names_of es) table.slots k [] 0 all_names_differ inside (omega arith)) in
       let word = offset_word_of order table es writable k below in (
         entry_of (image_of order table es) (header_with index) (get_or table.slots k 0) (row_for es k),
         entry_is_there order table es writable k below,

@@ -100,7 +100,7 @@ module _ (order : Order) (table : GreedyTable) (es : List Written) (writable : W
 
   -- each once
 
-  entries_differ : AllPairs (λ p q. p ≢ q) (map pair_of (entries b h))
+  pub entries_differ : AllPairs (λ p q. p ≢ q) (map pair_of (entries b h))
   entries_differ = pairs_map (λ p q. p ≢ q) pair_of (entries b h) (pairs_among (λ e f. e.slot < f.slot) (λ e f. pair_of e ≢ pair_of f) (entries b h) differs (slots_rise b h))
     where
       differs : (e f : Entry) → Contains (entries b h) e → Contains (entries b h) f → e.slot < f.slot → pair_of e ≢ pair_of f
@@ -113,7 +113,7 @@ module _ (order : Order) (table : GreedyTable) (es : List Written) (writable : W
       let slots : slot i ≡ slot j = same_some (slot i) (slot j) (sym (name_leads order table es writable i (omega arith)) ∙ ap (probe b h) same ∙ name_leads order table es writable j below) in
       writable.serves.apart i j 0 before (omega arith) slots
 
-  written_differ : AllPairs (λ p q. p ≢ q) es
+  pub written_differ : AllPairs (λ p q. p ≢ q) es
   written_differ i j d before below same =
       let one : get_or es i d ≡ get_or es i nothing = get_or_default es i d nothing (omega arith) in
       let other : get_or es j d ≡ get_or es j nothing = get_or_default es j d nothing below in
