@@ -9,3 +9,10 @@ pub mod ImageTexts
 pub mod ImageValid
 mod ImageVectors
 pub mod ImageWords
+pub mod LaidFolders
+pub mod LaidNames
+pub mod LaidRising
+pub mod LaidSound
+pub mod LaidTable
+pub mod LayoutLaws
+pub mod ListLaws
