@@ -14,5 +14,6 @@ pub mod LaidNames
 pub mod LaidRising
 pub mod LaidSound
 pub mod LaidTable
+pub mod LaidWritable
 pub mod LayoutLaws
 pub mod ListLaws
