@@ -9,8 +9,10 @@ pub mod ImageTexts
 pub mod ImageValid
 mod ImageVectors
 pub mod ImageWords
+pub mod LaidChildren
 pub mod LaidFolders
 pub mod LaidNames
+pub mod LaidNodes
 pub mod LaidRising
 pub mod LaidSound
 pub mod LaidTable
