@@ -1,22 +1,20 @@
 -- What a node of the two trees holds, of names: children that are named, and owners that are modules.
-use Rattle.std.proofs.Common.{◌≡◌, ◌≢◌, ℕ, inl, inr, Bool, true, false, cond, List, [], ◌∷◌, ◌++◌, map, drop, Contains, refl, sym, ap, ◌∙◌, subst}
+use Rattle.std.proofs.Common.{◌≡◌, ℕ, inl, inr, Bool, true, false, cond, List, [], ◌∷◌, ◌++◌, map, drop, Contains, refl, sym, ap, ◌∙◌, subst}
 use Rattle.std.proofs.lemmas.Bool.{false≢true}
 use Rattle.std.proofs.lemmas.List.{append_assoc}
 use Rattle.std.proofs.lemmas.List.Elements.{Contains-append_cases, Contains-append_left, Contains-append_right}
 use Rattle.std.proofs.lemmas.Slice.Eq.{bytes_eq-Decides}
-use Rattle.std.specs.List.{AllZip, flat_map, list_any, zip}
-use Rattle.std.specs.Prelude.{codes, filter, not, ◌&&◌}
+use Rattle.std.specs.List.{AllZip, flat_map, list_any}
+use Rattle.std.specs.Prelude.{codes, filter, not}
 use Rattle.std.specs.Str.{bytes_eq}
-use Rattle.jm_bytes.proofs.Members.{any_contains, contains_here, contains_later, contains_map, from_any, from_filter, from_map}
+use Rattle.jm_bytes.proofs.Members.{any_contains, contains_here, contains_later, from_any, from_filter, from_map}
 use Rattle.jm_bytes.specs.declared.words.Order.{Order}
 use Rattle.jm_bytes.specs.Word.{word_bytes}
-use Rattle.jm_names.specs.Names.{is_slash}
 use Rattle.jm_form.specs.declared.trees.Owner.{Owner}
 use Rattle.jm_form.specs.Layout.{Index, owner_words, text_place}
-use Rattle.jm_form.specs.Nodes.{empty_flag, owner_text, owners_text, words_text}
+use Rattle.jm_form.specs.Nodes.{empty_flag, owners_text, words_text}
 use Rattle.jm_form.specs.Rising.{rising}
-use Rattle.jm_form.specs.Trees.{ModuleFolder, children, entry_name, folders, folders_called, inner_nodes, is_child, is_empty_in, is_meta, module_of, node_names, owners, package_folders, package_nodes, package_of, tree_place, tree_places}
-use Rattle.jm_writer.proofs.LaidFolders.{FolderOf}
+use Rattle.jm_form.specs.Trees.{ModuleFolder, children, entry_name, folders, folders_called, inner_nodes, is_child, is_empty_in, is_meta, node_names, owners, package_folders, package_nodes, package_of, tree_place, tree_places}
 use Rattle.jm_writer.proofs.LaidRising.{contains_falling, from_rising}
 
 -- Place by place

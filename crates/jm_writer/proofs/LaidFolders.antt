@@ -1,15 +1,14 @@
 -- The nodes of the two trees come from names: their modules, folders and packages.
-use Rattle.std.proofs.Common.{◌≡◌, ◌≢◌, ℕ, inl, inr, true, not, List, [], ◌∷◌, ◌++◌, length, map, take, All, Contains, refl, sym, ap, ◌∙◌, subst}
+use Rattle.std.proofs.Common.{◌≡◌, ◌≢◌, ℕ, inl, inr, true, not, List, [], ◌∷◌, ◌++◌, length, map, take, All, Contains, refl, sym, ap, subst}
 use Rattle.std.proofs.lemmas.List.Elements.{All-contains, Contains-append_cases}
 use Rattle.std.specs.Prelude.{codes, filter, nat_lt, slice_index_or, ◌&&◌}
 use Rattle.std.specs.List.{range_with_len}
-use Rattle.std.specs.Str.{bytes_eq}
 use Rattle.jm_bytes.proofs.Members.{contains_cases, from_filter, from_map}
 use Rattle.jm_bytes.proofs.SameOrder.{from_flat_map}
 use Rattle.jm_names.specs.NameFaults.{IsSound}
-use Rattle.jm_names.specs.Names.{dotted, is_node, is_slash}
+use Rattle.jm_names.specs.Names.{is_node, is_slash}
 use Rattle.jm_strings.specs.Texts.{IsZeroFree}
-use Rattle.jm_form.specs.Trees.{ModuleFolder, folder_name, folder_node, folders, folders_called, folders_of, fronts, inner_nodes, is_meta, module_node, module_of, modules, node_names, package_folders, package_node, package_nodes, package_of, packages, path_of}
+use Rattle.jm_form.specs.Trees.{ModuleFolder, folder_node, folders, folders_of, fronts, inner_nodes, is_meta, module_node, module_of, modules, node_names, package_folders, package_node, package_nodes, package_of, packages, path_of}
 use Rattle.jm_writer.proofs.LaidRising.{from_falling, from_rising}
 use Rattle.jm_writer.proofs.LaidSound.{SoundName, free_append, free_dotted, free_module, free_path, free_take, free_text, sound_name}
 

@@ -1,20 +1,19 @@
 -- The names of all entries of a laid out image: those of the resources, then those of the nodes. They
 -- differ, have a byte, and no zero byte.
-use Rattle.std.proofs.Common.{◌≡◌, ◌≢◌, ℕ, inl, inr, Bool, true, false, cond, not, List, [], ◌∷◌, ◌++◌, map, All, AllPairs, Contains, refl, sym, ap, ◌∙◌, subst}
+use Rattle.std.proofs.Common.{◌≡◌, ◌≢◌, ℕ, inl, inr, true, false, List, [], ◌∷◌, ◌++◌, map, All, AllPairs, Contains, sym, ap, ◌∙◌, subst}
 use Rattle.std.proofs.lemmas.Bool.{false≢true}
-use Rattle.std.proofs.lemmas.List.{append-nil, map-append, map-id}
-use Rattle.std.proofs.lemmas.List.Elements.{All-contains, Contains-append_cases, filter-append}
-use Rattle.std.specs.Prelude.{codes, reverse}
-use Rattle.jm_bytes.proofs.Members.{all_from_contains, contains_here, contains_later, from_map}
+use Rattle.std.proofs.lemmas.List.{map-append, map-id}
+use Rattle.std.proofs.lemmas.List.Elements.{All-contains, Contains-append_cases}
+use Rattle.std.specs.Prelude.{codes}
+use Rattle.jm_bytes.proofs.Members.{all_from_contains}
 use Rattle.jm_bytes.proofs.Pairs.{pairs_append}
 use Rattle.jm_bytes.proofs.SameOrder.{mapped_twice}
-use Rattle.jm_names.specs.NameFaults.{IsSound}
 use Rattle.jm_names.specs.Names.{is_node}
 use Rattle.jm_strings.specs.Texts.{IsZeroFree}
-use Rattle.jm_form.specs.Layout.{Index, Written, all_names, all_sized, names_of, sized, sized_node, written_node, written_nodes}
+use Rattle.jm_form.specs.Layout.{Index, Written, all_names, names_of, sized, sized_node, written_nodes}
 use Rattle.jm_form.specs.Trees.{holds_of, inner_nodes, node_names, package_nodes, tree_nodes}
 use Rattle.jm_writer.specs.Laid.{CanLay}
-use Rattle.jm_writer.proofs.LaidFolders.{NodeName, nodes_named, sound_there}
+use Rattle.jm_writer.proofs.LaidFolders.{nodes_named, sound_there}
 use Rattle.jm_writer.proofs.LaidRising.{falling_differ}
 use Rattle.jm_writer.proofs.LayoutLaws.{sized_layout}
 

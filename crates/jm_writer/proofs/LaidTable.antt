@@ -1,16 +1,14 @@
 -- The table of a layout: it serves the names, its redirects have words, and it is no longer than the
 -- image.
-use Rattle.std.proofs.Common.{◌≡◌, ℕ, zero, suc, ◌+◌, ◌*◌, ◌^◌, ◌<◌, ◌≤◌, inl, inr, List, [], ◌∷◌, ◌++◌, length, map, Option, Some, None, All, Contains, option_map, refl, sym, ap, ◌∙◌, subst, arith}
+use Rattle.std.proofs.Common.{◌≡◌, ℕ, zero, suc, ◌*◌, ◌^◌, ◌<◌, ◌≤◌, inl, inr, List, [], ◌∷◌, length, Option, Some, None, Contains, option_map, refl, sym, ap, ◌∙◌, subst, arith}
 use Rattle.std.proofs.lemmas.List.FromFn.{length-map-range_with_len}
 use Rattle.std.specs.Option.{option_or}
-use Rattle.std.specs.List.{range_with_len}
 use Rattle.jm_bytes.proofs.Choice.{same_some}
 use Rattle.jm_bytes.proofs.Members.{contains_cases, contains_here, contains_later, contains_none}
 use Rattle.jm_bytes.specs.declared.words.Order.{Order}
 use Rattle.jm_form.specs.declared.table.Redirect.{Redirect}
-use Rattle.jm_form.specs.Greedy.{GreedyTable, buckets_in_turn, first_table, given_in_turn, greedy, greedy_among, lengths_from, next_length, redirect_in, table_lengths, table_of, word_of}
+use Rattle.jm_form.specs.Greedy.{GreedyTable, buckets_in_turn, first_table, given_in_turn, greedy, greedy_among, lengths_from, next_length, redirect_in, table_lengths, table_of}
 use Rattle.jm_form.specs.Layout.{Written, all_names, layout, layout_table, layout_with}
-use Rattle.jm_form.specs.Serves.{Serves}
 use Rattle.jm_form.proofs.ServesLaws.{greedy_serves, Served}
 use Rattle.jm_redirect.proofs.LengthLaws.{next_within}
 use Rattle.jm_redirect.proofs.TableLaws.{length_of_table}

@@ -1,6 +1,6 @@
 -- A layout of no more bytes than the limit is writable, so it is valid, stands for its resources, and
 -- each proper prefix of it has a first damage.
-use Rattle.std.proofs.Common.{◌≡◌, ◌≢◌, ℕ, ◌^◌, ◌<◌, ◌≤◌, Bool, true, false, cond, not, List, [], ◌∷◌, ◌++◌, length, map, take, Some, None, All, Contains, refl, sym, ap, ◌∙◌, subst, arith}
+use Rattle.std.proofs.Common.{◌≡◌, ◌≢◌, ℕ, ◌<◌, ◌≤◌, Bool, true, false, cond, not, List, [], ◌∷◌, ◌++◌, length, map, take, Some, None, All, Contains, refl, sym, ap, ◌∙◌, subst, arith}
 use Rattle.std.proofs.lemmas.List.{append-nil}
 use Rattle.std.proofs.lemmas.List.Elements.{All-head, All-tail, filter-append}
 use Rattle.std.specs.Prelude.{filter}
@@ -19,8 +19,8 @@ use Rattle.jm_writer.specs.Writable.{Writable, image_limit}
 use Rattle.jm_writer.proofs.ImagePrefixes.{prefix_damaged}
 use Rattle.jm_writer.proofs.ImageStands.{image_stands}
 use Rattle.jm_writer.proofs.ImageValid.{image_valid}
-use Rattle.jm_writer.proofs.LaidNames.{all_names_are, names_have_bytes, names_written, names_zero_free, node_name, resource_name}
-use Rattle.jm_writer.proofs.LaidTable.{slots_within, table_found, TableFor}
+use Rattle.jm_writer.proofs.LaidNames.{names_have_bytes, names_written, names_zero_free, node_name, resource_name}
+use Rattle.jm_writer.proofs.LaidTable.{slots_within, table_found}
 
 -- What passes all of a list
 

@@ -19,7 +19,7 @@ use Rattle.jm_form.specs.Layout.{index_text, index_words, layout_index, layout_w
 use Rattle.jm_form.specs.Layout.{name_place, node_words, owner_words, row_place, sized, sized_node, written_node, written_nodes, all_names}
 use Rattle.jm_form.specs.Nodes.{words_text}
 use Rattle.jm_form.specs.Trees.{tree_nodes}
-use Rattle.jm_writer.proofs.ListLaws.{drop_at_index, take_there}
+use Rattle.jm_writer.proofs.ItemLaws.{drop_at_index, take_there}
 
 -- The contents of nodes
 

@@ -9,13 +9,17 @@ pub mod ImageTexts
 pub mod ImageValid
 mod ImageVectors
 pub mod ImageWords
+pub mod ItemLaws
 pub mod LaidChildren
 pub mod LaidFolders
+pub mod LaidLength
+pub mod LaidLooks
 pub mod LaidNames
 pub mod LaidNodes
+pub mod LaidOut
 pub mod LaidRising
 pub mod LaidSound
 pub mod LaidTable
+mod LaidVectors
 pub mod LaidWritable
 pub mod LayoutLaws
-pub mod ListLaws

@@ -1,6 +1,6 @@
 -- What resources must keep so that an image can be laid out of them, and what their image then is
 -- (JEP 220 for the nodes; the rest is this project's rule).
-use Rattle.std.specs.Prelude.{ℕ, ◌≡◌, ◌≢◌, ◌<◌, List, length, take, Option, Some, None, option_map}
+use Rattle.std.specs.Prelude.{ℕ, ◌≡◌, ◌≢◌, ◌<◌, List, length, take, Some, None, option_map}
 use Rattle.std.specs.Prelude.{AllPairs, Contains}
 use Rattle.std.specs.Map.{lookup}
 use Rattle.std.specs.Str.{bytes_eq}
