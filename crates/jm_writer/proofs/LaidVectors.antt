@@ -1,5 +1,5 @@
 -- Six resources that can be laid out, by computing.
-use Rattle.std.proofs.Common.{◌≡◌, ◌≢◌, ℕ, ◌&&◌, Bool, true, false, not, List, [], ◌∷◌, All, AllPairs, Option, Some, None, is_none, refl, sym, ap, ◌∙◌}
+use Rattle.std.proofs.Common.{◌≡◌, ◌≢◌, ℕ, ◌&&◌, Bool, true, false, not, List, [], ◌∷◌, All, AllPairs, Option, Some, None, is_none, unwrap_or, length, option_map, arith, refl, sym, ap, ◌∙◌}
 use Rattle.std.proofs.lemmas.Bool.{and_parts, false≢true}
 use Rattle.std.proofs.lemmas.List.Elements.{All-cons, All-nil}
 use Rattle.std.proofs.lemmas.List.Kept.{AllPairs-cons}
@@ -14,8 +14,13 @@ use Rattle.jm_names.specs.ComputedFault.{name_fault}
 use Rattle.jm_names.specs.NameFaults.{IsSound}
 use Rattle.jm_names.specs.declared.check.NameFault.{NameFault}
 use Rattle.jm_names.specs.Names.{is_node}
-use Rattle.jm_form.specs.Layout.{Written, names_of}
-use Rattle.jm_writer.specs.Laid.{CanLay}
+use Rattle.jm_form.specs.Layout.{Written, layout, names_of}
+use Rattle.jm_bytes.specs.declared.words.Order.TheVariants.{Little}
+use Rattle.jm_form.specs.Greedy.{seeds, table_lengths}
+use Rattle.jm_form.specs.Validity.{look}
+use Rattle.jm_writer.proofs.LaidNames.{node_name}
+use Rattle.jm_writer.specs.Laid.{CanLay, IsLaidOut}
+use Rattle.jm_writer.proofs.LaidOut.{laid_out}
 
 -- The premises as tests
 
@@ -73,3 +78,21 @@ none_can = record {
   differ = apart_from [] refl;
   plain = record { sound = sound_from [] refl; resources = resources_from [] refl; apart = refl };
 }
+
+-- An image of six resources
+
+abbrev six_bytes : List ℕ
+unfolding seeds table_lengths
+six_bytes = unwrap_or (layout Little six) []
+
+six_laid : IsLaidOut Little six six_bytes
+unfolding seeds table_lengths six_bytes
+six_laid = laid_out Little six six_bytes six_can refl (omega arith)
+
+six_length : length six_bytes ≡ 694
+unfolding seeds table_lengths six_bytes
+six_length = refl
+
+-- a resource is looked up
+six_found : option_map (λ found. found.1) (look six_bytes (codes "/a/p/A.class")) ≡ Some (codes "A!")
+six_found = six_laid.answers (codes "/a/p/A.class") (λ there. false≢true (node_name six six_can (codes "/a/p/A.class") there))
