@@ -187,13 +187,13 @@ ext_within [] x there = absurd (contains_none x there)
 ext_within (b ∷ bs) x there = contains_later 46 (b ∷ bs) x there
 
 -- no piece has a zero byte where the name has none
-record PiecesFree (cut : Cut) : Type 0 where
+pub record PiecesFree (cut : Cut) : Type 0 where
   pub «module» : IsZeroFree cut.«module»
   pub parent : IsZeroFree cut.parent
   pub base : IsZeroFree cut.base
   pub ext : IsZeroFree cut.ext
 
-pieces_free : (cut : Cut) → IsZeroFree (join cut) → PiecesFree cut
+pub pieces_free : (cut : Cut) → IsZeroFree (join cut) → PiecesFree cut
 pieces_free cut free =
     let m : List ℕ = module_front cut.«module» in
     let p : List ℕ = parent_front cut.parent in

@@ -11,7 +11,7 @@ use Rattle.std.proofs.lemmas.List.Elements.{All-head, All-tail}
 use Rattle.std.proofs.lemmas.List.FromFn.{get_or-map-range_with_len, length-map-range_with_len}
 use Rattle.jm_bytes.specs.declared.words.Order.{Order}
 use Rattle.jm_bytes.proofs.Pairs.{range_more}
-use Rattle.jm_strings.specs.Texts.{limit, section_of}
+use Rattle.jm_strings.specs.Texts.{IsZeroFree, limit, section_of}
 use Rattle.jm_form.specs.declared.rows.Row.{Row}
 use Rattle.jm_form.specs.declared.trees.Holds.{Holds}
 use Rattle.jm_form.specs.declared.trees.Holds.TheVariants.{Children, Owners}
@@ -31,9 +31,11 @@ use Rattle.jm_writer.specs.declared.draft.PlanError.TheVariants as refusal
 use Rattle.jm_writer.specs.declared.entries.Entries.{Entries}
 use Rattle.jm_writer.specs.declared.laying.Laid.{Laid}
 use Rattle.jm_writer.specs.Drafts.{IsDraft, IsLarge, IsSmall, Plans, image_limit, large_number}
-use Rattle.jm_writer.specs.Laying.{IsDrawn, IsLaid, IsTable, Lays, laid_length, slot_rows}
+use Rattle.jm_writer.specs.Laying.{AreFit, IsDrawn, IsLaid, IsTable, Lays, laid_length, slot_rows}
 use Rattle.jm_writer.specs.Parts.{Finds, IsOfEntries, child_word, holds_words, index_bytes, locations_of, place_at, places_from}
 use Rattle.jm_writer.specs.Parts.{rows_in_slots, sized_as, slot_in, tail_bytes}
+use Rattle.jm_writer.specs.Laid.{CanLay}
+use Rattle.jm_writer.proofs.LaidNames.{names_zero_free}
 use Rattle.jm_writer.proofs.LayoutLaws.{layout_length}
 
 -- Lists
@@ -251,3 +253,14 @@ count_sized pool nodes is =
     length-append (map sized pool) (map sized_node (tree_nodes (names_of pool)))
     ∙ ap (λ n. n + length (map sized_node (tree_nodes (names_of pool)))) (length-map pool sized)
     ∙ ap (λ n. length pool + n) (length-map (tree_nodes (names_of pool)) sized_node ∙ ap length (sym is))
+
+-- the entries of a pool whose names differ and make trees
+pub entries_fit : (pool : List Written) (entries : Entries) → IsOfEntries (all_sized pool) entries → length (all_sized pool) ≤ 1048576 → CanLay pool → AreFit entries
+entries_fit pool entries is few can =
+    let names = ap length is.names ∙ length-map (all_sized pool) (λ e. e.name) in
+    let sizes = ap length is.sizes ∙ length-map (all_sized pool) (λ e. e.size) in
+    record {
+      beside = names ∙ sym sizes;
+      few = omega (arith, names, few);
+      free = subst (All IsZeroFree) (sym is.names) (names_zero_free pool can);
+    }

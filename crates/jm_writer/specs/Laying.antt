@@ -3,7 +3,7 @@ use Rattle.std.specs.Prelude.{ℕ, ◌+◌, ◌*◌, ◌≡◌, ◌≢◌, ◌<�
 use Rattle.std.specs.Prelude.{All, AllPairs, Option, Some, None, Result, Ok, Err}
 use Rattle.std.specs.Int.{w32, cast_unsigned}
 use Rattle.jm_bytes.specs.declared.words.Order.{Order}
-use Rattle.jm_strings.specs.Texts.{limit, section_of}
+use Rattle.jm_strings.specs.Texts.{IsZeroFree, limit, section_of}
 use Rattle.jm_form.specs.declared.rows.Row.{Row}
 use Rattle.jm_form.specs.declared.trees.TreeNode.{TreeNode}
 use Rattle.jm_form.specs.Greedy.{GreedyTable, first_table, word_of}
@@ -50,10 +50,11 @@ Interns names (Err other) = ⊥
 
 -- What is laid out
 
--- entries whose names stand beside their sizes, few enough
-pub record AreFew (entries : Entries) : Type 0 where
+-- entries whose names stand beside their sizes, few enough, and without a zero byte
+pub record AreFit (entries : Entries) : Type 0 where
   pub beside : length entries.names ≡ length entries.sizes
   pub few : length entries.names ≤ entry_limit
+  pub free : All IsZeroFree entries.names
 
 -- the rows of the entries by slot
 abbrev pub slot_rows : Entries → Table → List (Option Row)

@@ -1,8 +1,8 @@
 //! The strings of all names.
-ghost use Rattle.std.specs.Prelude.{◌≡◌, ◌<◌, length, Err, IfOk, OnOk, IsErrOf};
+ghost use Rattle.std.specs.Prelude.{◌≡◌, ◌≢◌, ◌<◌, length, All, Err, IfOk, OnOk, IsErrOf};
 ghost use Rattle.jm_names.specs.Names.{split};
-ghost use Rattle.jm_strings.specs.Texts.{limit, section_of};
-ghost use Rattle.jm_strings.specs.declared.strings.StringsError.TheVariants.{Full};
+ghost use Rattle.jm_strings.specs.Texts.{IsZeroFree, limit, section_of};
+ghost use Rattle.jm_strings.specs.declared.strings.StringsError.TheVariants.{Full, Zero};
 ghost use Rattle.jm_form.specs.Layout.{pieces, texts_of, with_texts};
 
 use jm_bytes::{NoMemory, Text};
@@ -12,9 +12,11 @@ use std::alloc::Global;
 
 /// Adds the four pieces of a name, each last where it isn't held.
 fn intern_pieces(strings: &mut Strings, name: &[u8]) -> Result<(), StringsError>
+    requires { IsZeroFree name.now }
     ensures texts { OnOk result (strings.new ≡ with_texts strings.old (pieces (split name.now))) }
     ensures full { result ≡ Err Full →
         limit < length (section_of (with_texts strings.old (pieces (split name.now)))) }
+    ensures zero { result ≢ Err Zero }
 {
     let pieces = split(name);
     strings.intern(pieces.module)?;
@@ -27,8 +29,10 @@ fn intern_pieces(strings: &mut Strings, name: &[u8]) -> Result<(), StringsError>
 /// The strings of an image whose entries have these names. `Full` exactly where their section would
 /// have too many bytes.
 pub fn strings_of(alloc: Global, names: &[Text]) -> Result<Strings, StringsError>
+    requires { All IsZeroFree names.now }
     ensures texts { IfOk result (λ strings. strings ≡ texts_of names.now) }
     ensures full { result ≡ Err Full → limit < length (section_of (texts_of names.now)) }
+    ensures zero { result ≢ Err Zero }
 {
     let mut strings = match Strings::new(alloc) {
         Ok(strings) => strings,

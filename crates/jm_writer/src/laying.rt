@@ -1,7 +1,8 @@
 //! What is known of an image before its bytes: its table, strings, locations and length.
-ghost use Rattle.std.specs.Prelude.{◌≡◌, ◌+◌, ◌*◌, ◌^◌, ◌<◌, ◌≤◌, length, sum, IfOk, IfSome};
+ghost use Rattle.std.specs.Prelude.{◌≡◌, ◌+◌, ◌*◌, ◌^◌, ◌<◌, ◌≤◌, length, sum, All, IfOk, IfSome};
+ghost use Rattle.jm_strings.specs.Texts.{IsZeroFree};
 ghost use Rattle.jm_form.specs.Layout.{rows_from};
-ghost use Rattle.jm_writer.specs.Laying.{AreFew, Interns, IsTable, Lays, Tables, length_of};
+ghost use Rattle.jm_writer.specs.Laying.{AreFit, Interns, IsTable, Lays, Tables, length_of};
 ghost use Rattle.jm_writer.specs.Parts.{rows_in_slots, sized_as};
 
 use crate::draft::PlanError;
@@ -43,6 +44,7 @@ pub fn table_of(alloc: Global, names: &[Text]) -> Result<Table, PlanError>
 
 /// The strings of the names, where they aren't too long.
 fn strings_within(alloc: Global, names: &[Text]) -> Result<Strings, PlanError>
+    requires { All IsZeroFree names.now }
     ensures { Interns names.now result }
 {
     match strings_of(alloc, names) {
@@ -51,7 +53,8 @@ fn strings_within(alloc: Global, names: &[Text]) -> Result<Strings, PlanError>
             Ok(strings)
         }
         Err(StringsError::Full) => Err(PlanError::TooLarge(0)),
-        Err(StringsError::Zero | StringsError::Memory) => Err(PlanError::Memory),
+        Err(StringsError::Zero) => unreachable!(),
+        Err(StringsError::Memory) => Err(PlanError::Memory),
     }
 }
 
@@ -62,7 +65,7 @@ fn rows_by_slot(
     entries: &Entries,
     table: &Table,
 ) -> Result<(Vec<Option<Row>>, u64), NoMemory>
-    requires entries { AreFew entries.now }
+    requires entries { AreFit entries.now }
     requires table { IsTable entries.now.names table.now }
     ensures rows { IfOk result (λ r. r.0.items ≡ rows_in_slots table.now.slot_of
         (rows_from strings.now 0 (sized_as entries.now.names entries.now.sizes)) table.now.length) }
@@ -86,7 +89,7 @@ fn length_of(slots: u32, locations: usize, strings: usize, contents: u64) -> Opt
 
 /// Lays the image of the entries out by their table: all but the bytes of its index and contents.
 pub fn lay_out(alloc: Global, entries: &Entries, table: &Table) -> Result<Laid, PlanError>
-    requires entries { AreFew entries.now }
+    requires entries { AreFit entries.now }
     requires table { IsTable entries.now.names table.now }
     ensures { Lays entries.now table.now result }
 {

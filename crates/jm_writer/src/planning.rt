@@ -1,9 +1,11 @@
 //! The plan of an image.
-ghost use Rattle.std.specs.Prelude.{◌≡◌, ◌<◌, ◌≤◌, length, None, IfOk};
+ghost use Rattle.std.specs.Prelude.{◌≡◌, ◌<◌, ◌≤◌, length, false, None, All, IfOk};
+ghost use Rattle.jm_names.specs.Names.{is_node};
+ghost use Rattle.jm_names.specs.NameFaults.{IsSound};
 ghost use Rattle.jm_form.specs.Layout.{names_of};
 ghost use Rattle.jm_form.specs.Trees.{first_clash, tree_nodes};
 ghost use Rattle.jm_writer.specs.Drafts.{Plans};
-ghost use Rattle.jm_writer.specs.Laying.{AreFew, IsDrawn, IsLaid, IsTable};
+ghost use Rattle.jm_writer.specs.Laying.{AreFit, IsDrawn, IsLaid, IsTable};
 
 use crate::draft::{Draft, PlanError};
 use crate::entries::{Entries, entries_of};
@@ -29,7 +31,7 @@ fn draw(
     laid: &Laid,
     nodes: &[TreeNode],
 ) -> Result<Draft, NoMemory>
-    requires entries { AreFew entries.now }
+    requires entries { AreFit entries.now }
     requires table { IsTable entries.now.names table.now }
     requires laid { IsLaid entries.now table.now laid.now }
     ensures { IfOk result (IsDrawn order entries.now table.now laid.now nodes.now) }
@@ -62,6 +64,8 @@ pub fn plan_with(
     pool: &Pool,
     nodes: &[TreeNode],
 ) -> Result<Draft, PlanError>
+    requires sound { All IsSound (names_of pool.now) }
+    requires resources { All (λ name. is_node name ≡ false) (names_of pool.now) }
     requires apart { first_clash (names_of pool.now) ≡ None }
     requires nodes { nodes.now ≡ tree_nodes (names_of pool.now) }
     ensures { Plans order pool.now result }

@@ -2,7 +2,7 @@ use Rattle.std.proofs.Common.{rules, ◌≡◌, ◌+◌, ◌∷◌, ◌++◌, �
 use Rattle.std.specs.List.{flat_map}
 use Rattle.jm_names.specs.Names.{split}
 use Rattle.jm_form.specs.Layout.{pieces, texts_of, with_texts}
-use Rattle.jm_strings.specs.Texts.{limit, section_of}
+use Rattle.jm_strings.specs.Texts.{IsZeroFree, limit, section_of}
 use Rattle.jm_strings.specs.declared.strings.StringsError.TheVariants.{Full}
 use Rattle.jm_writer.proofs.StringLaws.{full_more}
 use Rattle.jm_writer.proofs.ItemLaws.{drop_at_index}
@@ -21,3 +21,8 @@ returns-in_err-intern_pieces-clause-full c = λ is.
     let all : with_texts c.loop-name.strings (pieces (split name) ++ rest) ≡ texts_of names =
     sym (ap (λ l. with_texts c.loop-name.strings (flat_map (λ n. pieces (split n)) l)) there) ∙ c.loop-name.invariant in
     subst (λ l. limit < length (section_of l)) all (full_more c.loop-name.strings (pieces (split name)) rest full)
+
+pub intern_pieces-requires : goal.intern_pieces-requires
+intern_pieces-requires c =
+    let i = c.loop-name.name-index in
+    subst IsZeroFree (sym (c.as_slice.ensures ∙ c.name-item.is)) (c.requires i c.name-item.result (omega arith))
