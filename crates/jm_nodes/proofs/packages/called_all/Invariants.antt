@@ -1,0 +1,6 @@
+use Rattle.std.proofs.Common.{◌≡◌, map, take}
+use Rattle.jm_nodes.specs.FrontTrees.{called_all, folder_of}
+use Rattle.jm_nodes.proofs.packages.called_all.Given as goal
+
+abbrev pub invariant-loop-folder : goal.invariant-loop-folder
+invariant-loop-folder l = l.called ≡ called_all (map folder_of (take l.folder-index l.folders))

@@ -1,0 +1,5 @@
+pub mod Filings
+pub mod Fronts
+pub mod FrontTrees
+pub mod Order
+pub mod Refusals

@@ -1,0 +1,18 @@
+//! The nodes of the two trees of an image, from the names of its resources.
+#![tactic(auto)]
+
+mod children;
+mod error;
+mod filed;
+mod fronts;
+mod names;
+
+mod packages;
+mod rising;
+mod texts;
+mod trees;
+
+pub use error::NodesError;
+pub use jm_form::{Holds, Owner, TreeNode};
+pub use trees::nodes;
+
