@@ -15,5 +15,5 @@ mod tail;
 mod writing;
 
 pub use draft::{Draft, PlanError};
-pub use planning::plan_with;
+pub use planning::plan;
 pub use writing::write;

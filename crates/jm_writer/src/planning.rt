@@ -15,6 +15,7 @@ use crate::names::slots_by_name;
 use crate::tail::tail_bytes;
 use jm_bytes::{NoMemory, Order};
 use jm_form::TreeNode;
+use jm_nodes::{NodesError, nodes};
 use jm_pool::Pool;
 use jm_redirect::Table;
 use std::alloc::Global;
@@ -58,7 +59,7 @@ fn draw(
 }
 
 /// The plan of a pool, by its nodes.
-pub fn plan_with(
+fn plan_with(
     alloc: Global,
     order: Order,
     pool: &Pool,
@@ -78,4 +79,21 @@ pub fn plan_with(
     let table = table_of(alloc, entries.names.as_slice())?;
     let laid = lay_out(alloc, &entries, &table)?;
     Ok(draw(alloc, order, &entries, &table, &laid, nodes)?)
+}
+
+/// The plan of the image of a pool: all of its bytes but those of the resources.
+///
+/// # Errors
+///
+/// The first in the order of [`PlanError`].
+pub fn plan(alloc: Global, order: Order, pool: &Pool) -> Result<Draft, PlanError>
+    requires sound { All IsSound (names_of pool.now) }
+    requires resources { All (λ name. is_node name ≡ false) (names_of pool.now) }
+    ensures { Plans order pool.now result }
+{
+    match nodes(alloc, pool) {
+        Ok(nodes) => plan_with(alloc, order, pool, nodes.as_slice()),
+        Err(NodesError::Clash(name)) => Err(PlanError::Clash(name)),
+        Err(NodesError::Memory) => Err(PlanError::Memory),
+    }
 }
