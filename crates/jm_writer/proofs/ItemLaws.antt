@@ -1,5 +1,6 @@
 -- Lists, one item more.
-use Rattle.std.proofs.Common.{◌≡◌, ℕ, zero, suc, ◌+◌, ◌<◌, List, [], ◌∷◌, ◌++◌, length, take, drop, get_or, slice_get, Option, Some, None, refl, sym, ap, ◌∙◌, arith}
+use Rattle.std.proofs.Common.{◌≡◌, ℕ, zero, suc, ◌+◌, ◌<◌, List, [], ◌∷◌, ◌++◌, length, take, drop, get_or, slice_get, Option, Some, None, All, map, option_map, subst, refl, sym, ap, ◌∙◌, arith}
+use Rattle.std.proofs.lemmas.List.Elements.{All-push}
 
 -- what is left from a place on begins with the item there
 pub drop_there : {A : Type 0} (xs : List A) (i : ℕ) (x : A) → slice_get xs i ≡ Some x → drop i xs ≡ x ∷ drop (i + 1) xs
@@ -30,3 +31,13 @@ same_items [] (y ∷ ys) d long same = absurd (omega arith)
 same_items (x ∷ xs) [] d long same = absurd (omega arith)
 same_items (x ∷ xs) (y ∷ ys) d long same =
     ap (λ h. h ∷ xs) (same 0 (omega arith)) ∙ ap (λ l. y ∷ l) (same_items xs ys d (omega arith) (λ i below. same (suc i) (omega arith)))
+
+mapped_there : {A B : Type 0} (f : A → B) (xs : List A) (i : ℕ) (x : A) → slice_get xs i ≡ Some x → slice_get (map f xs) i ≡ Some (f x)
+mapped_there f [] i x is = cc
+mapped_there f (y ∷ xs) zero x is = ap (option_map f) is
+mapped_there f (y ∷ xs) (suc i) x is = mapped_there f xs i x is
+
+-- what holds of the first items under a function holds with one item more
+pub all_mapped : {A B : Type 0} (P : B → Type 0) (f : A → B) (xs : List A) (i : ℕ) (x : A) → slice_get xs i ≡ Some x → All P (take i (map f xs)) → P (f x) → All P (take (i + 1) (map f xs))
+all_mapped P f xs i x is before one =
+    subst (All P) (sym (take_there (map f xs) i (f x) (mapped_there f xs i x is))) (All-push P (take i (map f xs)) (f x) before one)

@@ -12,6 +12,8 @@ mod names;
 mod planning;
 mod rows;
 mod tail;
+#[cfg(test)]
+mod tests;
 mod writing;
 
 pub use draft::{Draft, PlanError};
