@@ -1,5 +1,5 @@
 -- The parts that were laid out and drawn are those of the layout.
-use Rattle.std.proofs.Common.{◌≡◌, ℕ, zero, suc, ◌+◌, ◌*◌, ◌<◌, ◌≤◌, ◌==◌, ◌⊎◌, inl, inr, Bool, true, false, cond, is_some, List, [], ◌∷◌, ◌++◌, Option, Some, None, Err, unwrap_or, length, map, get_or, slice_get, All, refl, sym, ap, ◌∙◌, subst, arith, append_assoc, length-append}
+use Rattle.std.proofs.Common.{AllPairs, ◌≢◌, ◌≡◌, ℕ, zero, suc, ◌+◌, ◌*◌, ◌<◌, ◌≤◌, ◌==◌, ◌⊎◌, inl, inr, Bool, true, false, cond, is_some, List, [], ◌∷◌, ◌++◌, Option, Some, None, Err, unwrap_or, length, map, get_or, slice_get, All, refl, sym, ap, ◌∙◌, subst, arith, append_assoc, length-append}
 use Rattle.std.specs.Prelude.{sum, nat_lt}
 use Rattle.std.specs.Int.{w32, cast_unsigned}
 use Rattle.std.specs.List.{flat_map, range_with_len, zip}
@@ -35,7 +35,7 @@ use Rattle.jm_writer.specs.Laying.{AreFit, IsDrawn, IsLaid, IsTable, Lays, laid_
 use Rattle.jm_writer.specs.Parts.{Finds, IsOfEntries, child_word, holds_words, index_bytes, locations_of, place_at, places_from}
 use Rattle.jm_writer.specs.Parts.{rows_in_slots, sized_as, slot_in, tail_bytes}
 use Rattle.jm_writer.specs.Laid.{CanLay}
-use Rattle.jm_writer.proofs.LaidNames.{names_zero_free}
+use Rattle.jm_writer.proofs.LaidNames.{names_differ, names_zero_free}
 use Rattle.jm_writer.proofs.LayoutLaws.{layout_length}
 
 -- Lists
@@ -263,4 +263,5 @@ entries_fit pool entries is few can =
       beside = names ∙ sym sizes;
       few = omega (arith, names, few);
       free = subst (All IsZeroFree) (sym is.names) (names_zero_free pool can);
+      differ = subst (AllPairs (λ one other. one ≢ other)) (sym is.names) (names_differ pool can);
     }

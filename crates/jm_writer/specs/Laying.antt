@@ -50,11 +50,12 @@ Interns names (Err other) = ⊥
 
 -- What is laid out
 
--- entries whose names stand beside their sizes, few enough, and without a zero byte
+-- entries whose names stand beside their sizes, few enough; they differ and have no zero byte
 pub record AreFit (entries : Entries) : Type 0 where
   pub beside : length entries.names ≡ length entries.sizes
   pub few : length entries.names ≤ entry_limit
   pub free : All IsZeroFree entries.names
+  pub differ : AllPairs (λ one other. one ≢ other) entries.names
 
 -- the rows of the entries by slot
 abbrev pub slot_rows : Entries → Table → List (Option Row)

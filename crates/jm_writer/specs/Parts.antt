@@ -4,7 +4,6 @@ use Rattle.std.specs.Prelude.{ℕ, ◌+◌, ◌==◌, ◌≡◌, List, [], ◌�
 use Rattle.std.specs.Prelude.{Option, Some, None, unwrap_or}
 use Rattle.std.specs.List.{flat_map, range_with_len, zip}
 use Rattle.std.specs.Map.{lookup}
-use Rattle.std.specs.Option.{option_or}
 use Rattle.std.specs.Str.{bytes_eq}
 use Rattle.jm_bytes.specs.declared.words.Order.{Order}
 use Rattle.jm_form.specs.declared.rows.Row.{Row}
@@ -41,15 +40,6 @@ rows_in_slots slots rows count =
 -- the slot of a name among pairs of these
 abbrev pub slot_in : List (List ℕ × ℕ) → List ℕ → Option ℕ
 slot_in pairs name = lookup (bytes_eq name) pairs
-
--- the slot of one name alone
-abbrev pub slot_if : List ℕ → ℕ → List ℕ → Option ℕ
-slot_if name slot asked = slot_in ((name, slot) ∷ []) asked
-
--- a name was given a slot, unless it had one; other names stay
-abbrev pub IsAdded : List (List ℕ × ℕ) → List (List ℕ × ℕ) → List ℕ → ℕ → Type 0
-IsAdded old new name slot =
-    (asked : List ℕ) → slot_in new asked ≡ option_or (slot_in old asked) (slot_if name slot asked)
 
 -- what is found of a name is its first slot among names beside slots
 abbrev pub Finds : List (List ℕ) → List ℕ → List (List ℕ × ℕ) → Type 0

@@ -1,6 +1,6 @@
 //! The slots of all entries by their names.
-ghost use Rattle.std.specs.Prelude.{◌≡◌, ◌∷◌, ◌++◌, [], ℕ, List, None, length, IfOk, OnOk, OnErr};
-ghost use Rattle.jm_writer.specs.Parts.{slot_in, Finds, IsAdded};
+ghost use Rattle.std.specs.Prelude.{◌≡◌, ◌≢◌, ◌∷◌, ◌++◌, [], None, length, AllPairs, IfOk, OnOk};
+ghost use Rattle.jm_writer.specs.Parts.{slot_in, Finds};
 
 use indexmap::IndexMap;
 use jm_bytes::{NoMemory, Text, copy_of};
@@ -23,12 +23,13 @@ impl Model for SlotsByName {
 }
 
 impl SlotsByName {
-    /// No name yet.
-    fn new(alloc: Global) -> SlotsByName
-        ensures { result ≡ [] }
+    /// No name yet, with room for so many.
+    fn with_room(alloc: Global, count: usize) -> Result<SlotsByName, NoMemory>
+        ensures { IfOk result (λ slots. slots ≡ []) }
     {
-        SlotsByName {
-            slots: IndexMap::new(alloc),
+        match IndexMap::with_capacity(alloc, count) {
+            Ok(slots) => Ok(SlotsByName { slots }),
+            Err(_) => Err(NoMemory),
         }
     }
 
@@ -52,26 +53,17 @@ impl SlotsByName {
             Err(_) => Err(NoMemory),
         }
     }
-
-    /// Gives a name a slot, unless it has one.
-    fn add(&mut self, alloc: Global, name: &[u8], slot: u32) -> Result<(), NoMemory>
-        ensures { OnOk result (IsAdded self.old self.new name.now slot) }
-    {
-        if self.get(name).is_some() {
-            return Ok(());
-        }
-        self.push(copy_of(alloc, name)?, slot)
-    }
 }
 
-/// The slots of names, which stand one list beside the other.
+/// The slots of different names, which stand one list beside the other.
 pub fn slots_by_name(alloc: Global, names: &[Text], slots: &[u32]) -> Result<SlotsByName, NoMemory>
-    requires { length names.now ≡ length slots.now }
+    requires beside { length names.now ≡ length slots.now }
+    requires differ { AllPairs (λ one other. one ≢ other) names.now }
     ensures { IfOk result (Finds names.now slots.now) }
 {
-    let mut found = SlotsByName::new(alloc);
+    let mut found = SlotsByName::with_room(alloc, names.len())?;
     for (place, name) in names.iter().enumerate() {
-        found.add(alloc, name.as_slice(), slots[place])?;
+        found.push(copy_of(alloc, name.as_slice())?, slots[place])?;
     }
     Ok(found)
 }
