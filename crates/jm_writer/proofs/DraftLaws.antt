@@ -1,5 +1,5 @@
 -- A draft and the image of its pool.
-use Rattle.std.proofs.Common.{◌≡◌, ℕ, List, ◌++◌, Option, Some, option_map, refl, sym, ap, ◌∙◌}
+use Rattle.std.proofs.Common.{◌≡◌, ℕ, List, ◌++◌, Some, option_map, sym, ap, ◌∙◌}
 use Rattle.jm_bytes.specs.declared.words.Order.{Order}
 use Rattle.jm_form.specs.Layout.{Written, contents_text, index_text, layout, layout_index, layout_with}
 use Rattle.jm_writer.specs.declared.draft.Draft.{Draft}

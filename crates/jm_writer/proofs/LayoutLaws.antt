@@ -14,7 +14,7 @@ use Rattle.jm_form.specs.declared.trees.Holds.TheVariants.{Children, Owners}
 use Rattle.jm_form.specs.declared.trees.Owner.{Owner}
 use Rattle.jm_form.specs.declared.trees.TreeNode.{TreeNode}
 use Rattle.jm_form.specs.Greedy.{GreedyTable, word_of}
-use Rattle.jm_form.specs.Layout.{Index, Sized, Written, all_sized, contents_text, holds_size, image_of, index_of}
+use Rattle.jm_form.specs.Layout.{Index, Written, all_sized, contents_text, holds_size, index_of}
 use Rattle.jm_form.specs.Layout.{index_text, index_words, layout_index, layout_with, locations_text, names_of}
 use Rattle.jm_form.specs.Layout.{name_place, node_words, owner_words, row_place, sized, sized_node, written_node, written_nodes, all_names}
 use Rattle.jm_form.specs.Nodes.{words_text}

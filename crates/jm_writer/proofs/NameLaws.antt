@@ -1,6 +1,5 @@
 -- The slots of names, over the entries of a map and over the pairs.
 use Rattle.std.proofs.Common.{◌≡◌, ◌≢◌, AllPairs, ◌≤◌, ℕ, ◌<◌, ◌+◌, Bool, true, false, cond, List, [], ◌∷◌, ◌++◌, length, map, drop, get_or, Option, Some, None, refl, sym, ap, ◌∙◌, subst, arith}
-use Rattle.std.proofs.lemmas.List.{map-append}
 use Rattle.std.proofs.lemmas.Slice.Eq.{bytes_eq-Decides}
 use Rattle.std.specs.List.{zip}
 use Rattle.std.specs.Map.{lookup}

@@ -1,12 +1,10 @@
 -- The parts that were laid out and drawn are those of the layout.
 use Rattle.std.proofs.Common.{AllPairs, ◌≢◌, ◌≡◌, ℕ, zero, suc, ◌+◌, ◌*◌, ◌<◌, ◌≤◌, ◌==◌, ◌⊎◌, inl, inr, Bool, true, false, cond, is_some, List, [], ◌∷◌, ◌++◌, Option, Some, None, Err, unwrap_or, length, map, get_or, slice_get, All, refl, sym, ap, ◌∙◌, subst, arith, append_assoc, length-append}
-use Rattle.std.specs.Prelude.{sum, nat_lt}
-use Rattle.std.specs.Int.{w32, cast_unsigned}
+use Rattle.std.specs.Prelude.{sum}
 use Rattle.std.specs.List.{flat_map, range_with_len, zip}
 use Rattle.std.specs.Map.{lookup}
-use Rattle.std.specs.Str.{bytes_eq}
 use Rattle.std.proofs.lemmas.Bool.{cases_lt, eqb-true, lt-ltb, le-ltb}
-use Rattle.std.proofs.lemmas.List.{append-nil, get_or_past, length-map, map-append}
+use Rattle.std.proofs.lemmas.List.{append-nil, get_or_past, length-map}
 use Rattle.std.proofs.lemmas.List.Elements.{All-head, All-tail}
 use Rattle.std.proofs.lemmas.List.FromFn.{get_or-map-range_with_len, length-map-range_with_len}
 use Rattle.jm_bytes.specs.declared.words.Order.{Order}
@@ -15,13 +13,12 @@ use Rattle.jm_strings.specs.Texts.{IsZeroFree, limit, section_of}
 use Rattle.jm_form.specs.declared.rows.Row.{Row}
 use Rattle.jm_form.specs.declared.trees.Holds.{Holds}
 use Rattle.jm_form.specs.declared.trees.Holds.TheVariants.{Children, Owners}
-use Rattle.jm_form.specs.declared.trees.Owner.{Owner}
 use Rattle.jm_form.specs.declared.trees.TreeNode.{TreeNode}
-use Rattle.jm_form.specs.Greedy.{GreedyTable, word_of}
-use Rattle.jm_form.specs.Layout.{Index, Sized, Written, all_names, all_sized, contents_text, index_of, index_text}
+use Rattle.jm_form.specs.Greedy.{word_of}
+use Rattle.jm_form.specs.Layout.{Index, Sized, Written, all_names, all_sized, contents_text, index_text}
 use Rattle.jm_form.specs.Layout.{layout_index, layout_with, location_of, locations_below, locations_text, name_place}
-use Rattle.jm_form.specs.Layout.{names_of, node_words, offset_words, owner_words, redirect_words, row_in, row_place}
-use Rattle.jm_form.specs.Layout.{rows_from, sized, sized_node, texts_of, written_node, written_nodes}
+use Rattle.jm_form.specs.Layout.{names_of, node_words, offset_words, redirect_words, row_in, row_place}
+use Rattle.jm_form.specs.Layout.{rows_from, sized, sized_node, texts_of, written_node}
 use Rattle.jm_form.specs.Nodes.{words_text}
 use Rattle.jm_form.specs.Trees.{first_clash, tree_nodes}
 use Rattle.jm_redirect.specs.declared.building.Table.{Table}
@@ -30,7 +27,7 @@ use Rattle.jm_writer.specs.declared.draft.PlanError.{PlanError}
 use Rattle.jm_writer.specs.declared.draft.PlanError.TheVariants as refusal
 use Rattle.jm_writer.specs.declared.entries.Entries.{Entries}
 use Rattle.jm_writer.specs.declared.laying.Laid.{Laid}
-use Rattle.jm_writer.specs.Drafts.{IsDraft, IsLarge, IsSmall, Plans, image_limit, large_number}
+use Rattle.jm_writer.specs.Drafts.{IsDraft, IsLarge, Plans, image_limit}
 use Rattle.jm_writer.specs.Laying.{AreFit, IsDrawn, IsLaid, IsTable, Lays, laid_length, slot_rows}
 use Rattle.jm_writer.specs.Parts.{Finds, IsOfEntries, child_word, holds_words, index_bytes, locations_of, place_at, places_from}
 use Rattle.jm_writer.specs.Parts.{rows_in_slots, sized_as, slot_in, tail_bytes}

@@ -1,5 +1,5 @@
 -- What results say of Ok and of Err.
-use Rattle.std.proofs.Common.{◌≡◌, Result, Ok, Err, OnOk, OnErr}
+use Rattle.std.proofs.Common.{Result, Ok, Err, OnOk, OnErr}
 
 pub on_ok : {T E : Type 0} (P : Type 0) (r : Result T E) → P → OnOk r P
 on_ok P (Ok x) holds = holds

@@ -1,5 +1,5 @@
 -- Texts that are added to others: their section only grows.
-use Rattle.std.proofs.Common.{◌≡◌, ℕ, ◌+◌, ◌<◌, ◌≤◌, Bool, true, false, cond, List, [], ◌∷◌, ◌++◌, length, Option, Some, None, is_some, refl, sym, ap, ◌∙◌, arith}
+use Rattle.std.proofs.Common.{◌≡◌, ℕ, ◌<◌, ◌≤◌, Bool, true, false, cond, List, [], ◌∷◌, ◌++◌, length, None, is_some, refl, ap, arith}
 use Rattle.jm_strings.specs.Texts.{limit, place_of, section_of, with_text}
 use Rattle.jm_strings.proofs.TableLaws.{length-section-push}
 use Rattle.jm_form.specs.Layout.{with_texts}

@@ -1,19 +1,17 @@
 -- Bytes that are added to a file, one piece after another.
-use Rattle.std.proofs.Common.{◌≡◌, ◌⊎◌, inl, inr, ℕ, ◌+◌, ◌<◌, ◌≤◌, Bool, true, false, cond, List, [], ◌∷◌, ◌++◌, length, take, Option, Some, None, option_map, unwrap_or, refl, sym, ap, ◌∙◌, subst, arith, append_assoc, length-append}
+use Rattle.std.proofs.Common.{◌≡◌, inl, inr, ℕ, ◌+◌, ◌≤◌, true, cond, List, [], ◌∷◌, ◌++◌, length, take, Option, Some, None, option_map, unwrap_or, refl, sym, ap, ◌∙◌, subst, arith, length-append}
 use Rattle.std.specs.Ordering.{is_eq, nat_cmp, match_ordering}
 use Rattle.std.specs.declared.cmp.Ordering.{Ordering}
 use Rattle.std.specs.declared.cmp.Ordering.TheVariants.{Less, Equal, Greater}
 use Rattle.std.specs.Cmp.Lexicographic.{slice_cmp}
-use Rattle.std.specs.Str.{bytes_eq}
 use Rattle.std.proofs.lemmas.Cmp.{nat_list_eq_equiv}
 use Rattle.std.proofs.lemmas.List.{take-append-le}
 use Rattle.std.proofs.Math.Seq.{take-append-add, take-append_seam}
 use Rattle.std.proofs.lemmas.Map.Text.{is_eq-slice_cmp}
-use Rattle.jm_bytes.proofs.Choice.{same_some}
 use Rattle.jm_outside.specs.Files.{Files, file, put, add}
 use Rattle.jm_outside.specs.Outcome.{AddsFront, AsBeforeOrEmpty, CountsFaults, Rose, Told}
 use Rattle.jm_outside.proofs.Laws.{file-put}
-use Rattle.jm_writer.specs.Writes.{Holds, HoldsFront, HoldsPart}
+use Rattle.jm_writer.specs.Writes.{Holds, HoldsPart}
 
 -- a path compared with itself
 same_path : (path : List ℕ) → is_eq (slice_cmp nat_cmp path path) ≡ true

@@ -1,7 +1,7 @@
 -- What `plan` answers of a pool (this project's rule): the parts of its layout, or the first refusal
 -- that holds.
 use Rattle.std.specs.Prelude.{ℕ, ◌≡◌, ◌<◌, ◌≤◌, nat_lt, List, length, if◌then◌else◌}
-use Rattle.std.specs.Prelude.{Option, Some, None, Result, Ok, Err}
+use Rattle.std.specs.Prelude.{Some, None, Result, Ok, Err}
 use Rattle.jm_bytes.specs.declared.words.Order.{Order}
 use Rattle.jm_strings.specs.Texts.{limit, section_of}
 use Rattle.jm_form.specs.Greedy.{GreedyTable}

@@ -15,7 +15,8 @@ use Rattle.jm_writer.specs.declared.draft.PlanError.TheVariants as refusal
 use Rattle.jm_writer.specs.declared.entries.Entries.{Entries}
 use Rattle.jm_writer.specs.declared.laying.Laid.{Laid}
 use Rattle.jm_writer.specs.Drafts.{entry_limit, image_limit}
-use Rattle.jm_writer.specs.Parts.{Finds, index_bytes, locations_of, places_from, rows_in_slots, sized_as, tail_bytes}
+use Rattle.jm_writer.specs.Parts.{Finds, index_bytes, locations_of, places_from, rows_in_slots}
+use Rattle.jm_writer.specs.Parts.{sized_as, tail_bytes}
 
 -- The table
 

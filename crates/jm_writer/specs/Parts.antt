@@ -13,7 +13,6 @@ use Rattle.jm_form.specs.declared.trees.Owner.{Owner}
 use Rattle.jm_form.specs.declared.trees.TreeNode.{TreeNode}
 use Rattle.jm_form.specs.Layout.{Sized, location_of, text_place}
 use Rattle.jm_form.specs.Nodes.{empty_flag, words_text}
-use Rattle.jm_form.specs.Rows.{usual}
 use Rattle.jm_writer.specs.declared.entries.Entries.{Entries}
 
 -- Entries

@@ -1,5 +1,6 @@
 //! The rows of all entries, by entry and by slot.
-ghost use Rattle.std.specs.Prelude.{◌≡◌, ◌≢◌, ◌<◌, None, length, replicate, sum, All, AllPairs, IfOk};
+ghost use Rattle.std.specs.Prelude.{◌≡◌, ◌≢◌, ◌<◌, None, length, replicate, sum, All, AllPairs};
+ghost use Rattle.std.specs.Prelude.{IfOk};
 ghost use Rattle.jm_names.specs.Names.{split};
 ghost use Rattle.jm_form.specs.Layout.{row_with, rows_from, text_place};
 ghost use Rattle.jm_writer.specs.Parts.{rows_in_slots, sized_as};

@@ -1,4 +1,4 @@
-use Rattle.std.proofs.Common.{◌≡◌, ◌+◌, ◌*◌, ◌≤◌, ◌++◌, ℕ, List, [], map, length, drop, take, Option, None}
+use Rattle.std.proofs.Common.{◌≡◌, ◌++◌, map, drop}
 use Rattle.jm_form.specs.Layout.{sized_node}
 use Rattle.jm_writer.proofs.entries.add_nodes.Given as goal
 

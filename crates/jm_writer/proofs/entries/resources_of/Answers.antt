@@ -1,5 +1,4 @@
-use Rattle.std.proofs.Common.{◌≡◌, ◌++◌, ◌∷◌, [], List, ℕ, map, drop, sym, ap, ◌∙◌, append_assoc, length}
-use Rattle.jm_form.specs.Layout.{sized}
+use Rattle.std.proofs.Common.{◌∷◌, [], append_assoc, length}
 use Rattle.jm_writer.proofs.ItemLaws.{drop_there}
 use Rattle.jm_writer.proofs.entries.resources_of.Goals as goal
 

@@ -1,4 +1,4 @@
-use Rattle.std.proofs.Common.{rules, pos, get_or, SFits, ◌≡◌, ◌+◌, ◌++◌, length, map, drop, sym, ap, ◌∙◌, arith}
+use Rattle.std.proofs.Common.{rules, pos, get_or, SFits, ◌+◌, ◌++◌, map, drop, ap, ◌∙◌, arith}
 use Rattle.std.specs.Int.{w32, cast_unsigned}
 use Rattle.jm_bytes.specs.Word.{word_bytes}
 use Rattle.jm_form.specs.Nodes.{words_text}

@@ -1,4 +1,4 @@
-use Rattle.std.proofs.Common.{◌≡◌, ◌+◌, ◌*◌, ◌≤◌, ◌++◌, ℕ, List, [], map, length, drop, take, Option, None}
+use Rattle.std.proofs.Common.{◌≡◌, ◌++◌, map, drop}
 use Rattle.std.specs.Int.{w32, cast_unsigned}
 use Rattle.jm_form.specs.Nodes.{words_text}
 use Rattle.jm_writer.proofs.index.put_redirect.Given as goal

@@ -1,4 +1,4 @@
-use Rattle.std.proofs.Common.{◌≡◌, ◌+◌, ◌*◌, ◌≤◌, ◌++◌, ℕ, List, [], map, length, drop, take, Option, None}
+use Rattle.std.proofs.Common.{◌≡◌, ◌++◌, drop}
 use Rattle.jm_form.specs.Nodes.{words_text}
 use Rattle.jm_writer.proofs.index.put_words.Given as goal
 

@@ -1,4 +1,4 @@
-use Rattle.std.proofs.Common.{rules, ◌≡◌, ◌∷◌, ◌<◌, [], Err, length, ap, ◌∙◌, sym, subst}
+use Rattle.std.proofs.Common.{rules, ◌≡◌, ◌∷◌, ◌<◌, [], Err, length, sym, subst}
 use Rattle.jm_strings.specs.declared.strings.StringsError.TheVariants.{Full, Zero}
 use Rattle.jm_strings.specs.Texts.{IsZeroFree, limit, section_of}
 use Rattle.jm_form.specs.Layout.{pieces, with_texts}

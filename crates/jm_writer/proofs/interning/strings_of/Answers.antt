@@ -1,4 +1,4 @@
-use Rattle.std.proofs.Common.{rules, ◌≡◌, ◌+◌, ◌∷◌, ◌++◌, ◌<◌, Err, ap, ◌∙◌, sym, subst, length, get_or, drop, arith}
+use Rattle.std.proofs.Common.{rules, ◌≡◌, ◌+◌, ◌∷◌, ◌++◌, ◌<◌, Err, ap, ◌∙◌, sym, subst, length, drop, arith}
 use Rattle.std.specs.List.{flat_map}
 use Rattle.jm_names.specs.Names.{split}
 use Rattle.jm_form.specs.Layout.{pieces, texts_of, with_texts}

@@ -1,10 +1,7 @@
-use Rattle.std.proofs.Common.{◌≡◌, length, ◌∙◌, sym, ap, arith}
-use Rattle.std.specs.List.{range_with_len}
+use Rattle.std.proofs.Common.{length, ◌∙◌, sym, ap, arith}
 use Rattle.std.proofs.lemmas.List.FromFn.{length-map-range_with_len}
-use Rattle.jm_form.specs.Layout.{rows_from}
 use Rattle.jm_writer.specs.Parts.{sized_as}
 use Rattle.jm_writer.proofs.PlanLaws.{length_rows, length_sized}
-use Rattle.jm_writer.proofs.SlotLaws.{row_at}
 use Rattle.jm_writer.proofs.laying.rows_by_slot.Goals as goal
 
 pub in_slots-requires-clause-same : goal.in_slots-requires-clause-same

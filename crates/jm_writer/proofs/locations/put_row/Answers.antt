@@ -1,4 +1,4 @@
-use Rattle.std.proofs.Common.{◌++◌, length, ap, ◌∙◌, arith, length-append}
+use Rattle.std.proofs.Common.{length, ap, ◌∙◌, arith, length-append}
 use Rattle.jm_form.proofs.ComputedRowsLaws.{row_length}
 use Rattle.jm_writer.proofs.locations.put_row.Goals as goal
 

@@ -1,7 +1,7 @@
-use Rattle.std.proofs.Common.{◌≡◌, ◌<◌, ◌++◌, ◌∷◌, [], length, get_or, sym, ap, ◌∙◌, arith}
+use Rattle.std.proofs.Common.{◌≡◌, ◌<◌, ◌++◌, ◌∷◌, [], length, get_or, ap, ◌∙◌, arith}
 use Rattle.jm_writer.specs.Parts.{slot_in}
 use Rattle.std.proofs.lemmas.List.{get_or_default}
-use Rattle.jm_writer.proofs.NameLaws.{indexed_none, indexed_next, indexed_all}
+use Rattle.jm_writer.proofs.NameLaws.{indexed_next, indexed_all}
 use Rattle.jm_writer.proofs.names.slots_by_name.Goals as goal
 
 pub loop-place-preserved : goal.loop-place-preserved

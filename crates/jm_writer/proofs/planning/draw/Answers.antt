@@ -1,4 +1,4 @@
-use Rattle.std.proofs.Common.{◌≡◌, refl, map, length, ◌∙◌, sym, ap, subst, arith}
+use Rattle.std.proofs.Common.{refl, map, length, ◌∙◌, ap, subst}
 use Rattle.std.specs.Int.{w32, cast_unsigned}
 use Rattle.jm_writer.specs.Parts.{Finds, index_bytes, tail_bytes}
 use Rattle.jm_writer.proofs.planning.draw.Goals as goal

@@ -1,4 +1,4 @@
-use Rattle.std.proofs.Common.{rules, ◌≡◌, ◌++◌, map, ◌+◌, ◌≤◌, Err, length, ◌∙◌, sym, ap, subst, arith}
+use Rattle.std.proofs.Common.{rules, ◌≡◌, ◌++◌, map, ◌+◌, ◌≤◌, Err, length, sym, subst, arith}
 use Rattle.jm_form.specs.Layout.{all_sized, sized, sized_node}
 use Rattle.jm_writer.specs.Drafts.{Plans}
 use Rattle.jm_writer.specs.Laying.{IsTable}

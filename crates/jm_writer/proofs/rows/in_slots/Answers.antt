@@ -1,4 +1,4 @@
-use Rattle.std.proofs.Common.{◌≡◌, length, arith, subst, ap, ◌∙◌, sym}
+use Rattle.std.proofs.Common.{◌≡◌, length, arith, subst, sym}
 use Rattle.jm_writer.proofs.SlotLaws.{Placed, placed_none, placed_next, placed_all}
 use Rattle.jm_writer.proofs.rows.in_slots.Goals as goal
 

@@ -1,4 +1,3 @@
-use Rattle.std.proofs.Common.{◌≡◌, ◌+◌, ◌*◌, ◌≤◌, ◌++◌, ℕ, List, [], map, length, drop, take, Option, None}
 use Rattle.jm_writer.proofs.SlotLaws.{Placed}
 use Rattle.jm_writer.proofs.rows.in_slots.Given as goal
 

@@ -1,4 +1,4 @@
-use Rattle.std.proofs.Common.{◌≡◌, ◌+◌, ◌*◌, ◌≤◌, ◌++◌, ℕ, List, [], map, length, drop, take, Option, None}
+use Rattle.std.proofs.Common.{◌≡◌, ◌++◌, map, drop}
 use Rattle.jm_form.specs.Nodes.{words_text}
 use Rattle.jm_writer.specs.Parts.{child_word}
 use Rattle.jm_writer.proofs.tail.put_children.Given as goal

@@ -1,4 +1,4 @@
-use Rattle.std.proofs.Common.{◌≡◌, ◌+◌, ◌*◌, ◌≤◌, ◌++◌, ℕ, List, [], map, length, drop, take, Option, None}
+use Rattle.std.proofs.Common.{◌≡◌, ◌++◌, drop}
 use Rattle.jm_writer.specs.Parts.{tail_bytes}
 use Rattle.jm_writer.proofs.tail.tail_bytes.Given as goal
 

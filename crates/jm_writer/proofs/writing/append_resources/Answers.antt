@@ -1,10 +1,7 @@
-use Rattle.std.proofs.Common.{◌≡◌, ◌+◌, ◌++◌, ◌∷◌, [], List, ℕ, Option, Some, take, drop, sym, ap, ◌∙◌, refl, subst, append_assoc, arith}
-use Rattle.std.proofs.lemmas.List.{append-nil, take-append-drop}
-use Rattle.jm_outside.specs.Files.{Files}
+use Rattle.std.proofs.Common.{◌+◌, ◌++◌, take, drop, subst, arith}
 use Rattle.jm_form.specs.Layout.{contents_text}
 use Rattle.jm_writer.specs.Writes.{Holds, HoldsPart}
-use Rattle.jm_writer.proofs.LayoutLaws.{contents-append, contents_more, contents_ends}
-use Rattle.jm_writer.proofs.ItemLaws.{take_there, drop_there}
+use Rattle.jm_writer.proofs.LayoutLaws.{contents_more, contents_ends}
 use Rattle.jm_writer.proofs.ResultLaws.{on_err}
 use Rattle.jm_writer.proofs.WriteLaws.{holds_more, part_added, part_of_more}
 use Rattle.jm_writer.proofs.writing.append_resources.Goals as goal

@@ -1,4 +1,4 @@
-use Rattle.std.proofs.Common.{◌≡◌, ◌+◌, ◌*◌, ◌≤◌, ◌++◌, ℕ, List, [], map, length, drop, take, Option, None}
+use Rattle.std.proofs.Common.{◌≤◌, ◌++◌, ℕ, List, take, Option}
 use Rattle.jm_outside.specs.Files.{Files}
 use Rattle.jm_form.specs.Layout.{contents_text}
 use Rattle.jm_writer.specs.Writes.{Holds}

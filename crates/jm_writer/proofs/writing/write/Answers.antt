@@ -1,6 +1,5 @@
-use Rattle.std.proofs.Common.{◌≡◌, ◌++◌, ◌∷◌, [], List, ℕ, Option, Some, sym, ap, ◌∙◌, refl, subst, append_assoc}
-use Rattle.jm_outside.specs.Files.{Files}
-use Rattle.jm_form.specs.Layout.{contents_text, layout}
+use Rattle.std.proofs.Common.{◌++◌, [], subst, append_assoc}
+use Rattle.jm_form.specs.Layout.{contents_text}
 use Rattle.jm_writer.specs.Writes.{Holds, HoldsPart}
 use Rattle.jm_writer.proofs.DraftLaws.{draft_image}
 use Rattle.jm_writer.proofs.ResultLaws.{on_err, on_ok_map, on_err_map}
