@@ -1,5 +1,5 @@
--- What `plan` answers of a pool (this project's rule): the parts of its layout, or the first refusal
--- that holds.
+-- What `plan` answers of a pool (this project's rule): the parts of its layout, or else the first
+-- refusal that holds.
 use Rattle.std.specs.Prelude.{ℕ, ◌≡◌, ◌<◌, ◌≤◌, nat_lt, List, length, if◌then◌else◌}
 use Rattle.std.specs.Prelude.{Some, None, Result, Ok, Err}
 use Rattle.jm_bytes.specs.declared.words.Order.{Order}

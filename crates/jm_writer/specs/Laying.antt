@@ -1,4 +1,5 @@
--- How far a plan has come: the table of the names, and what is laid out by it (this project's rule).
+-- How far a plan has come (this project's rule): the table of the names, and what is laid out by
+-- it.
 use Rattle.std.specs.Prelude.{ℕ, ◌+◌, ◌*◌, ◌≡◌, ◌≢◌, ◌<◌, ◌≤◌, ◌⊎◌, List, length, map, sum}
 use Rattle.std.specs.Prelude.{All, AllPairs, Option, Some, None, Result, Ok, Err}
 use Rattle.std.specs.Int.{w32, cast_unsigned}
