@@ -1,0 +1,109 @@
+-- How far a plan has come (this project's rule): the table of the names, and what is laid out by
+-- it.
+use Rattle.std.specs.Prelude.{ℕ, ◌+◌, ◌*◌, ◌≡◌, ◌≢◌, ◌<◌, ◌≤◌, ◌⊎◌, List, length, map, sum}
+use Rattle.std.specs.Prelude.{All, AllPairs, Option, Some, None, Result, Ok, Err}
+use Rattle.std.specs.Int.{w32, cast_unsigned}
+use Rattle.jm_bytes.specs.declared.words.Order.{Order}
+use Rattle.jm_strings.specs.Texts.{IsZeroFree, limit, section_of}
+use Rattle.jm_form.specs.declared.rows.Row.{Row}
+use Rattle.jm_form.specs.declared.trees.TreeNode.{TreeNode}
+use Rattle.jm_form.specs.Greedy.{GreedyTable, first_table, word_of}
+use Rattle.jm_form.specs.Layout.{rows_from, texts_of}
+use Rattle.jm_redirect.specs.declared.building.Table.{Table}
+use Rattle.jm_writer.specs.declared.draft.Draft.{Draft}
+use Rattle.jm_writer.specs.declared.draft.PlanError.{PlanError}
+use Rattle.jm_writer.specs.declared.draft.PlanError.TheVariants as refusal
+use Rattle.jm_writer.specs.declared.entries.Entries.{Entries}
+use Rattle.jm_writer.specs.declared.laying.Laid.{Laid}
+use Rattle.jm_writer.specs.Drafts.{entry_limit, image_limit}
+use Rattle.jm_writer.specs.Parts.{Finds, index_bytes, locations_of, places_from, rows_in_slots}
+use Rattle.jm_writer.specs.Parts.{sized_as, tail_bytes}
+
+-- The table
+
+-- the table is the greedy one of the names, with a word for each redirect
+pub record IsTable (names : List (List ℕ)) (table : Table) : Type 0 where
+  pub greedy : GreedyTable
+  pub first : first_table names ≡ Some greedy
+  pub size : table.length ≡ greedy.length
+  pub given : table.slot_of ≡ greedy.slots
+  pub words : map (cast_unsigned w32) table.redirect ≡ map word_of greedy.redirects
+  pub whole : length greedy.redirects ≡ greedy.length
+  pub few : greedy.length ≤ length names + 128
+  pub each : length greedy.slots ≡ length names
+  pub below : All (λ slot. slot < greedy.length) greedy.slots
+  pub apart : AllPairs (λ one other. one ≢ other) greedy.slots
+
+abbrev pub Tables : List (List ℕ) → Result Table PlanError → Type 0
+Tables names (Ok table) = IsTable names table
+Tables names (Err (refusal.NoTable lengths)) = (lengths ≡ 64) × (first_table names ≡ None)
+Tables names (Err refusal.Memory) = Unit {0}
+Tables names (Err other) = ⊥
+
+-- The strings
+
+-- the texts of the names, whose section isn't too long
+abbrev pub Interns : List (List ℕ) → Result (List (List ℕ)) PlanError → Type 0
+Interns names (Ok texts) = (texts ≡ texts_of names) × (length (section_of texts) ≤ limit)
+Interns names (Err (refusal.TooLarge number)) =
+    (number ≡ 0) × (limit < length (section_of (texts_of names)))
+Interns names (Err refusal.Memory) = Unit {0}
+Interns names (Err other) = ⊥
+
+-- What is laid out
+
+-- entries whose names stand beside their sizes, few enough; they differ and have no zero byte
+pub record AreFit (entries : Entries) : Type 0 where
+  pub beside : length entries.names ≡ length entries.sizes
+  pub few : length entries.names ≤ entry_limit
+  pub free : All IsZeroFree entries.names
+  pub differ : AllPairs (λ one other. one ≢ other) entries.names
+
+-- the rows of the entries by slot
+abbrev pub slot_rows : Entries → Table → List (Option Row)
+slot_rows entries table =
+    rows_in_slots table.slot_of
+    (rows_from (texts_of entries.names) 0 (sized_as entries.names entries.sizes)) table.length
+
+-- the length of an image, from its slots and the lengths of its parts
+abbrev pub length_of : ℕ → ℕ → ℕ → ℕ → ℕ
+length_of slots locations strings contents =
+    ((28 + 8 * slots) + locations + strings) + contents
+
+-- the length of the image of some entries
+abbrev pub laid_length : Entries → Table → ℕ
+laid_length entries table =
+    length_of table.length (length (locations_of (slot_rows entries table)))
+    (length (section_of (texts_of entries.names))) (sum entries.sizes)
+
+-- the strings, the locations and the length of the image of some entries
+pub record IsLaid (entries : Entries) (table : Table) (laid : Laid) : Type 0 where
+  pub texts : laid.strings ≡ texts_of entries.names
+  pub text : laid.locations.text.items ≡ locations_of (slot_rows entries table)
+  pub places : laid.locations.places.items ≡ places_from 1 (slot_rows entries table)
+  pub size : laid.length ≡ laid_length entries table
+  pub within : laid.length ≤ image_limit
+
+abbrev pub Lays : Entries → Table → Result Laid PlanError → Type 0
+Lays entries table (Ok laid) = IsLaid entries table laid
+Lays entries table (Err (refusal.TooLarge number)) =
+    ((number ≡ 0) × (limit < length (section_of (texts_of entries.names))))
+    ⊎ ((number ≡ laid_length entries table) × (image_limit < number)
+    × (length (section_of (texts_of entries.names)) ≤ limit))
+Lays entries table (Err refusal.Memory) = Unit {0}
+Lays entries table (Err other) = ⊥
+
+-- The draft, by what is laid out
+
+pub record IsDrawn (words : Order) (entries : Entries) (table : Table) (laid : Laid)
+    (nodes : List TreeNode) (draft : Draft) : Type 0 where
+  pub order : draft.order ≡ words
+  pub index : draft.index ≡ index_bytes words (length entries.names)
+      (map (cast_unsigned w32) table.redirect) laid.locations.places.items
+      laid.locations.text.items (section_of laid.strings)
+  pub found : List (List ℕ × ℕ)
+  pub finds : Finds entries.names table.slot_of found
+  pub tail : draft.tail ≡
+      tail_bytes words laid.strings found laid.locations.places.items nodes
+  pub size : draft.length ≡ laid.length
+  pub slots : draft.slots ≡ table.length

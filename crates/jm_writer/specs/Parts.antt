@@ -1,0 +1,99 @@
+-- The parts of an image that is written, from the lists that the code has (jimage 1.0). Their laws
+-- say that they are those of the layout.
+use Rattle.std.specs.Prelude.{ℕ, ◌+◌, ◌==◌, ◌≡◌, List, [], ◌∷◌, ◌++◌, length, map, slice_get}
+use Rattle.std.specs.Prelude.{Option, Some, None, unwrap_or}
+use Rattle.std.specs.List.{flat_map, range_with_len, zip}
+use Rattle.std.specs.Map.{lookup}
+use Rattle.std.specs.Str.{bytes_eq}
+use Rattle.jm_bytes.specs.declared.words.Order.{Order}
+use Rattle.jm_form.specs.declared.rows.Row.{Row}
+use Rattle.jm_form.specs.declared.trees.Holds.{Holds}
+use Rattle.jm_form.specs.declared.trees.Holds.TheVariants.{Children, Owners}
+use Rattle.jm_form.specs.declared.trees.Owner.{Owner}
+use Rattle.jm_form.specs.declared.trees.TreeNode.{TreeNode}
+use Rattle.jm_form.specs.Layout.{Sized, location_of, text_place}
+use Rattle.jm_form.specs.Nodes.{empty_flag, words_text}
+use Rattle.jm_writer.specs.declared.entries.Entries.{Entries}
+
+-- Entries
+
+-- names beside sizes, as entries
+abbrev pub sized_as : List (List ℕ) → List ℕ → List Sized
+sized_as [] sizes = []
+sized_as (name ∷ names) [] = []
+sized_as (name ∷ names) (size ∷ sizes) =
+    record { name = name; size = size } ∷ sized_as names sizes
+
+-- the two lists are those of these entries
+pub record IsOfEntries (es : List Sized) (entries : Entries) : Type 0 where
+  pub names : entries.names ≡ map (λ e. e.name) es
+  pub sizes : entries.sizes ≡ map (λ e. e.size) es
+
+-- Slots
+
+-- the first row of each slot below a count, or none
+abbrev pub rows_in_slots : List ℕ → List Row → ℕ → List (Option Row)
+rows_in_slots slots rows count =
+    map (λ slot. lookup (λ other. slot == other) (zip slots rows)) (range_with_len 0 count)
+
+-- the slot of a name among pairs of these
+abbrev pub slot_in : List (List ℕ × ℕ) → List ℕ → Option ℕ
+slot_in pairs name = lookup (bytes_eq name) pairs
+
+-- what is found of a name is its first slot among names beside slots
+abbrev pub Finds : List (List ℕ) → List ℕ → List (List ℕ × ℕ) → Type 0
+Finds names slots found = (asked : List ℕ) → slot_in found asked ≡ slot_in (zip names slots) asked
+
+-- Locations
+
+-- one byte 0, and the rows that slots have
+abbrev pub locations_of : List (Option Row) → List ℕ
+locations_of rows = 0 ∷ flat_map location_of rows
+
+-- the place of a slot's row, where it is put at a place
+abbrev pub place_at : ℕ → Option Row → ℕ
+place_at at None = 0
+place_at at (Some row) = at
+
+-- the places of the rows that are put one behind another from a place on
+abbrev pub places_from : ℕ → List (Option Row) → List ℕ
+places_from at [] = []
+places_from at (row ∷ rows) =
+    place_at at row ∷ places_from (at + length (location_of row)) rows
+
+-- Index
+
+-- the header's words, by what they count
+abbrev pub header_of : ℕ → ℕ → ℕ → ℕ → List ℕ
+header_of entries slots locations strings =
+    0xCAFEDADA ∷ 0x00010000 ∷ 0 ∷ entries ∷ slots ∷ locations ∷ strings ∷ []
+
+-- the file up to the contents, from its parts
+abbrev pub index_bytes :
+    Order → ℕ → List ℕ → List ℕ → List ℕ → List ℕ → List ℕ
+index_bytes order entries redirect places locations strings =
+    words_text order
+    (header_of entries (length redirect) (length locations) (length strings)
+    ++ (redirect ++ places))
+    ++ (locations ++ strings)
+
+-- Nodes
+
+-- the word of a child: the place at the slot of its name, or at slot 0
+abbrev pub child_word : List (List ℕ × ℕ) → List ℕ → List ℕ → ℕ
+child_word slots places name =
+    unwrap_or (slice_get places (unwrap_or (slot_in slots name) 0)) 0
+
+-- the two words of an owner
+abbrev pub owner_pair : List (List ℕ) → Owner → List ℕ
+owner_pair texts owner = empty_flag owner.empty ∷ text_place texts owner.module ∷ []
+
+abbrev pub holds_words : List (List ℕ) → List (List ℕ × ℕ) → List ℕ → Holds → List ℕ
+holds_words texts slots places (Children names) = map (child_word slots places) names
+holds_words texts slots places (Owners owners) = flat_map (owner_pair texts) owners
+
+-- the contents of the nodes
+abbrev pub tail_bytes :
+    Order → List (List ℕ) → List (List ℕ × ℕ) → List ℕ → List TreeNode → List ℕ
+tail_bytes order texts slots places nodes =
+    flat_map (λ node. words_text order (holds_words texts slots places node.holds)) nodes

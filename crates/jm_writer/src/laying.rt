@@ -1,0 +1,114 @@
+//! What is known of an image before its bytes: its table, strings, locations and length.
+ghost use Rattle.std.specs.Prelude.{◌≡◌, ◌+◌, ◌*◌, ◌^◌, ◌<◌, ◌≤◌, length, sum, All, IfOk, IfSome};
+ghost use Rattle.jm_strings.specs.Texts.{IsZeroFree};
+ghost use Rattle.jm_form.specs.Layout.{rows_from};
+ghost use Rattle.jm_writer.specs.Laying.{AreFit, Interns, IsTable, Lays, Tables, length_of};
+ghost use Rattle.jm_writer.specs.Parts.{rows_in_slots, sized_as};
+
+use crate::draft::PlanError;
+use crate::entries::Entries;
+use crate::interning::strings_of;
+use crate::locations::{Locations, locate};
+use crate::rows::{in_slots, rows_of};
+use jm_bytes::{NoMemory, Text};
+use jm_form::Row;
+use jm_redirect::{BuildError, Table, build};
+use jm_strings::{Strings, StringsError};
+use std::alloc::Global;
+
+/// The most bytes that an image has.
+const IMAGE_LIMIT: u64 = 1_073_741_824;
+
+/// The strings and locations of an image, and its length.
+#[derive(Drop)]
+pub struct Laid {
+    /// The pieces of all names.
+    pub strings: Strings,
+    /// The rows of all entries, by slot.
+    pub locations: Locations,
+    /// The length of the whole file in bytes.
+    pub length: u64,
+}
+
+/// The table of the names.
+pub fn table_of(alloc: Global, names: &[Text]) -> Result<Table, PlanError>
+    requires { length names.now ≤ 1048576 }
+    ensures { Tables names.now result }
+{
+    match build(alloc, names) {
+        Ok(table) => Ok(table),
+        Err(BuildError::NoTable(lengths)) => Err(PlanError::NoTable(lengths)),
+        Err(BuildError::Memory) => Err(PlanError::Memory),
+    }
+}
+
+/// The strings of the names, where they aren't too long.
+fn strings_within(alloc: Global, names: &[Text]) -> Result<Strings, PlanError>
+    requires { All IsZeroFree names.now }
+    ensures { Interns names.now result }
+{
+    match strings_of(alloc, names) {
+        Ok(strings) => {
+            let _within = strings.bytes();
+            Ok(strings)
+        }
+        Err(StringsError::Full) => Err(PlanError::TooLarge(0)),
+        Err(StringsError::Zero) => unreachable!(),
+        Err(StringsError::Memory) => Err(PlanError::Memory),
+    }
+}
+
+/// The rows of the entries by slot, and how many bytes all contents have.
+fn rows_by_slot(
+    alloc: Global,
+    strings: &Strings,
+    entries: &Entries,
+    table: &Table,
+) -> Result<(Vec<Option<Row>>, u64), NoMemory>
+    requires entries { AreFit entries.now }
+    requires table { IsTable entries.now.names table.now }
+    ensures rows { IfOk result (λ r. r.0.items ≡ rows_in_slots table.now.slot_of
+        (rows_from strings.now 0 (sized_as entries.now.names entries.now.sizes)) table.now.length) }
+    ensures few { IfOk result (λ r. length r.0.items ≤ 33554432) }
+    ensures contents { IfOk result (λ r. r.1 ≡ sum entries.now.sizes) }
+{
+    let (rows, contents) = rows_of(alloc, strings, entries)?;
+    let rows = in_slots(alloc, table.slot_of.as_slice(), &rows, table.length)?;
+    Ok((rows, contents))
+}
+
+/// The length of an image from its slots and the lengths of its parts, where it has 64 bits.
+fn length_of(slots: u32, locations: usize, strings: usize, contents: u64) -> Option<u64>
+    requires locations { locations < 2 ^ 32 }
+    requires strings { strings < 2 ^ 32 }
+    ensures { IfSome result (λ n. n ≡ length_of slots locations strings contents) }
+{
+    let index = 28 + 8 * u64::from(slots) + locations as u64 + strings as u64;
+    index.checked_add(contents)
+}
+
+/// Lays the image of the entries out by their table: all but the bytes of its index and contents.
+pub fn lay_out(alloc: Global, entries: &Entries, table: &Table) -> Result<Laid, PlanError>
+    requires entries { AreFit entries.now }
+    requires table { IsTable entries.now.names table.now }
+    ensures { Lays entries.now table.now result }
+{
+    let strings = strings_within(alloc, entries.names.as_slice())?;
+    let (rows, contents) = rows_by_slot(alloc, &strings, entries, table)?;
+    let locations = locate(alloc, &rows)?;
+    let known = length_of(
+        table.length,
+        locations.text.len(),
+        strings.bytes().len(),
+        contents,
+    );
+    let length = known.ok_or(NoMemory)?;
+    if length > IMAGE_LIMIT {
+        return Err(PlanError::TooLarge(length));
+    }
+    Ok(Laid {
+        strings,
+        locations,
+        length,
+    })
+}

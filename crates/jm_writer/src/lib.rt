@@ -1,0 +1,21 @@
+//! The image of a pool: its plan, and how it is written to a file.
+#![tactic(auto)]
+
+mod draft;
+mod entries;
+mod index;
+mod interning;
+mod laying;
+mod lists;
+mod locations;
+mod names;
+mod planning;
+mod rows;
+mod tail;
+#[cfg(test)]
+mod tests;
+mod writing;
+
+pub use draft::{Draft, PlanError};
+pub use planning::plan;
+pub use writing::write;
