@@ -7,7 +7,7 @@ use Rattle.jm_commands.specs.declared.status.Status.{Status}
 use Rattle.jm_commands.specs.declared.status.Status.TheVariants as status
 use Rattle.jm_commands.specs.declared.stop.Stop.TheVariants as stop
 use Rattle.jm_commands.specs.Outcome.{Outcome}
-use Rattle.jm_commands.specs.Run.{DoesAll, DoesFront, ReportDoes, RunDoes, StepDoes, status_of}
+use Rattle.jm_commands.specs.Run.{DoesAll, DoesFront, ReportDoes, RunComesTo, RunDoes, StepComesTo, StepDoes, status_of}
 use Rattle.jm_commands.specs.Sinks.{Gets, GetsFront, Seen}
 use Rattle.jm_commands.specs.Texts.{line_of}
 use Rattle.jm_commands.proofs.Gotten.{front_of_all, front_of_nothing, gets_nothing}
@@ -66,3 +66,27 @@ module _ (due : Outcome) (shelf new_shelf : Seen Files) (out new_out : Seen (Lis
       go status.Damaged report = (report.0 ∙ sym step.answers.0, all report.1)
       go status.NotThere report = (report.0 ∙ sym step.answers.0, all report.1)
       go status.Session report = (report.0 ∙ sym step.answers.0, all report.1)
+
+-- from what a step comes to, whatever is due
+module _ (Due : Outcome → Type 0) (shelf new_shelf : Seen Files) (out new_out : Seen (List ℕ)) where
+  pub comes_done : (err : Seen (List ℕ)) → StepComesTo Due (Ok tt) shelf new_shelf out new_out → RunComesTo Due status.Done shelf new_shelf out new_out err err
+  comes_done err (inl fails) = absurd fails.failed
+  comes_done err (inr (due, is, step)) = inr (due, is, ran_done due shelf new_shelf out new_out err step)
+
+  pub comes_outside : (err : Seen (List ℕ)) → StepComesTo Due (Err stop.Outside) shelf new_shelf out new_out → RunComesTo Due status.Outside shelf new_shelf out new_out err err
+  comes_outside err (inl fails) = inl (record {
+    failed = inl refl;
+    files = fails.files;
+    output = fails.output;
+    line = refl;
+    outside = λ failed. elim (fails.outside refl) [ inl rose ↦ inl rose | inr rose ↦ inr (inl rose) ];
+  })
+  comes_outside err (inr (due, is, step)) = inr (due, is, ran_outside due shelf new_shelf out new_out err step)
+
+  pub comes_memory : (err : Seen (List ℕ)) → StepComesTo Due (Err stop.Memory) shelf new_shelf out new_out → RunComesTo Due status.Memory shelf new_shelf out new_out err err
+  comes_memory err (inl fails) = inl (record { failed = inr refl; files = fails.files; output = fails.output; line = refl; outside = λ failed. cc })
+  comes_memory err (inr (due, is, step)) = inr (due, is, ran_memory due shelf new_shelf out new_out err step)
+
+  pub comes_complaint : (complaint : Complaint) (is : Status) (err new_err : Seen (List ℕ)) → StepComesTo Due (Err (stop.Complaint complaint)) shelf new_shelf out new_out → ReportDoes complaint is err new_err → RunComesTo Due is shelf new_shelf out new_out err new_err
+  comes_complaint complaint is err new_err (inl fails) report = absurd fails.failed
+  comes_complaint complaint is err new_err (inr (due, comes, step)) report = inr (due, comes, ran_complaint due shelf new_shelf out new_out complaint is err new_err step report)

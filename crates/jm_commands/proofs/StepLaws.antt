@@ -16,8 +16,8 @@ use Rattle.jm_commands.specs.declared.complaint.Complaint.TheVariants as complai
 use Rattle.jm_commands.specs.declared.stop.Stop.{Stop}
 use Rattle.jm_commands.specs.declared.stop.Stop.TheVariants as stop
 use Rattle.jm_commands.specs.Cat.{content_of}
-use Rattle.jm_commands.specs.Outcome.{Outcome, built_outcome, cat_outcome, command_outcome, faulty, file_outcome, read_path, is_built, not_there, plain_outcome, unbuilt}
-use Rattle.jm_commands.specs.Run.{CommandComesTo, ComesTo, HasFile, PutDoes, StepDoes, outcome_of, status_of}
+use Rattle.jm_commands.specs.Outcome.{Outcome, built_outcome, cat_outcome, command_outcome, faulty, file_outcome, read_path, is_built, link_of, not_there, plain_outcome, unbuilt}
+use Rattle.jm_commands.specs.Run.{CommandComesTo, HasFile, PutDoes, StepComesTo, StepDoes, WordsComeTo, outcome_of, status_of}
 use Rattle.jm_commands.specs.Sinks.{Gets, Seen}
 use Rattle.jm_commands.specs.Stops.{stop_of_shelf, unbuilt_stop}
 use Rattle.jm_commands.specs.Texts.{line_of}
@@ -126,12 +126,12 @@ module _ (due : Outcome) (shelf new_shelf : Seen Files) (out new_out : Seen (Lis
 -- a step does what its command comes to
 abbrev pub CommandDoes : Command → Result (Unit {0}) Stop → (shelf new_shelf : Seen Files) → (out new_out : Seen (List ℕ)) → Type 0
 CommandDoes command answer shelf new_shelf out new_out =
-    (due : Outcome) × CommandComesTo shelf.told command due × StepDoes due answer shelf new_shelf out new_out
+    StepComesTo (CommandComesTo shelf.told command) answer shelf new_shelf out new_out
 
-module _ (command : Command) (answer : Result (Unit {0}) Stop) (shelf new_shelf : Seen Files) (out new_out : Seen (List ℕ)) where
+module _ (command : Command) (answer : Result (Unit {0}) Stop) (shelf new_shelf : Seen Files) (out new_out : Seen (List ℕ)) (other : link_of command ≡ None) where
   -- from the file that was found, and what is due then
   step_with : (found : Option (List ℕ)) → HasFile shelf.told (read_path command) found → StepDoes (command_outcome command found) answer shelf new_shelf out new_out → CommandDoes command answer shelf new_shelf out new_out
-  step_with found has does = (command_outcome command found, (found, has, refl), does)
+  step_with found has does = inr (command_outcome command found, rw other (found, has, refl), does)
 
   pub file_step : (path : List ℕ) (found : Option (List ℕ)) → is_built command ≡ true → read_path command ≡ Some path → HasFile shelf.told (Some path) found → StepDoes (file_outcome command path found) answer shelf new_shelf out new_out → CommandDoes command answer shelf new_shelf out new_out
   file_step path found built is has does =
@@ -152,14 +152,10 @@ module _ (command : Command) (answer : Result (Unit {0}) Stop) (shelf new_shelf 
 
 -- All words
 
-abbrev pub WordsDo : Result Command WordsError → Result (Unit {0}) Stop → (shelf new_shelf : Seen Files) → (out new_out : Seen (List ℕ)) → Type 0
-WordsDo asked answer shelf new_shelf out new_out =
-    (due : Outcome) × ComesTo shelf.told asked due × StepDoes due answer shelf new_shelf out new_out
-
 -- words make no command
-pub words_faulty : (asked : Result Command WordsError) (at : ℕ) (kind : WordsKind) (shelf : Seen Files) (out : Seen (List ℕ)) → UnlessMemory (Err (error.Fault at kind)) asked → WordsDo asked (Err (stop.Complaint (complaint.Words (error.Fault at kind)))) shelf shelf out out
+pub words_faulty : (asked : Result Command WordsError) (at : ℕ) (kind : WordsKind) (shelf : Seen Files) (out : Seen (List ℕ)) → UnlessMemory (Err (error.Fault at kind)) asked → StepComesTo (WordsComeTo shelf.told asked) (Err (stop.Complaint (complaint.Words (error.Fault at kind)))) shelf shelf out out
 words_faulty asked at kind shelf out (inl memory) = cc
-words_faulty asked at kind shelf out (inr read) = subst (λ (a : Result Command WordsError). WordsDo a answer shelf shelf out out) read (due, refl, put_step due shelf shelf out out refl answer (complained due given out out refl refl))
+words_faulty asked at kind shelf out (inr read) = subst (λ (a : Result Command WordsError). StepComesTo (WordsComeTo shelf.told a) answer shelf shelf out out) read (inr (due, refl, put_step due shelf shelf out out refl answer (complained due given out out refl refl)))
   where
     given : Complaint
     given = complaint.Words (error.Fault at kind)
@@ -171,14 +167,5 @@ words_faulty asked at kind shelf out (inr read) = subst (λ (a : Result Command 
     answer = Err (stop.Complaint given)
 
 -- no memory was found for the command
-pub words_unread : (asked : Result Command WordsError) (shelf : Seen Files) (out : Seen (List ℕ)) → WordsDo asked (Err stop.Memory) shelf shelf out out
-words_unread asked shelf out = go asked
-  where
-    does : (due : Outcome) → StepDoes due (Err stop.Memory) shelf shelf out out
-    does due = put_step due shelf shelf out out refl (Err stop.Memory) (no_memory due out out refl)
-
-    go : (asked : Result Command WordsError) → WordsDo asked (Err stop.Memory) shelf shelf out out
-    go (Ok command) =
-        let found = told_file shelf.told (read_path command) in
-        (command_outcome command found, (found, has_told_file shelf.told (read_path command), refl), does (command_outcome command found))
-    go (Err fault) = (faulty fault, refl, does (faulty fault))
+pub words_unread : (Due : Outcome → Type 0) (shelf : Seen Files) (out : Seen (List ℕ)) → StepComesTo Due (Err stop.Memory) shelf shelf out out
+words_unread Due shelf out = inl (record { failed = tt; files = refl; output = refl; outside = λ failed. cc })

@@ -3,8 +3,8 @@ pub mod DescribeText
 pub mod FrontNumber
 pub mod HelpText
 pub mod InfoText
+pub mod LinkText
 pub mod Outcome
-pub mod RefusalText
 pub mod Run
 pub mod Sinks
 pub mod StatusValue

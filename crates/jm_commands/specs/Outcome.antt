@@ -1,6 +1,8 @@
 -- What a command comes to: plain data, a function of the command and of the file that it names
 -- (this project's rule).
-use Rattle.std.specs.Prelude.{ℕ, Bool, true, false, List, [], ◌∷◌, ◌++◌, Option, Some, None, Result, Ok, Err, if◌then◌else◌, codes}
+use Rattle.std.specs.Prelude.{ℕ, Bool, true, false, List, [], ◌∷◌, ◌++◌, codes}
+use Rattle.std.specs.Prelude.{Option, Some, None, Result, Ok, Err, if◌then◌else◌}
+use Rattle.jm_bytes.specs.declared.words.Order.{Order}
 use Rattle.jm_form.specs.declared.damage.Damage.{Damage}
 use Rattle.jm_form.specs.declared.rows.Row.{Row}
 use Rattle.jm_form.specs.DamageText.{damage_text}
@@ -21,14 +23,18 @@ use Rattle.jm_modinfo.specs.declared.faults.DescriptorFault.{DescriptorFault}
 use Rattle.jm_modinfo.specs.declared.faults.DescriptorFault.TheVariants as fault_of
 use Rattle.jm_modinfo.specs.declared.faults.InfoFault.{InfoFault}
 use Rattle.jm_modinfo.specs.ComputedInfo.{info_of}
-use Rattle.jm_commands.specs.declared.refusal.Refusal.{Refusal}
-use Rattle.jm_commands.specs.declared.refusal.Refusal.TheVariants as refusal
+use Rattle.jm_link.specs.declared.refusal.Refusal.{Refusal}
+use Rattle.jm_link.specs.Linked.{LinkedImage, Request}
+use Rattle.jm_link.specs.Links.{summary_of}
+use Rattle.jm_link.specs.declared.refusal.Refusal.TheVariants as refusal
+use Rattle.jm_commands.specs.declared.link.LinkWords.{LinkWords}
 use Rattle.jm_commands.specs.DescribeText.{describe_text}
-use Rattle.jm_commands.specs.RefusalText.{refusal_text}
+use Rattle.jm_link.specs.RefusalText.{refusal_text}
 use Rattle.jm_commands.specs.declared.status.Status.{Status}
 use Rattle.jm_commands.specs.declared.status.Status.TheVariants as status
 use Rattle.jm_commands.specs.HelpText.{help_text, version_text}
 use Rattle.jm_commands.specs.InfoText.{info_text}
+use Rattle.jm_commands.specs.LinkText.{link_text}
 use Rattle.jm_commands.specs.Taken.{list_text}
 use Rattle.jm_commands.specs.VerifyText.{verify_text}
 
@@ -82,7 +88,43 @@ class_outcome path (Err fault) = bad_info path (fault_of.Class fault)
 abbrev pub describe_outcome : List ℕ → List ℕ → Outcome
 describe_outcome path b = class_outcome path (class_of b)
 
--- which commands are built yet; another one is as unknown as its name
+-- `link`: the image stands at the path, and the output says what it has
+
+-- what a link is asked for, and the path of its output
+pub record Link : Type 0 where
+  pub asked : Request
+  pub output : List ℕ
+
+abbrev pub link_with : List (List ℕ) → List (List ℕ) → Bool → Order → List ℕ → Link
+link_with directories roots bind order output = record {
+  asked = record { directories = directories; roots = roots; bind = bind; order = order };
+  output = output;
+}
+
+-- the words of a link
+abbrev pub link_from : LinkWords → Link
+link_from words =
+    link_with words.directories.now words.roots.now words.bind words.order words.output.now
+
+abbrev pub linked : List ℕ → LinkedImage → Outcome
+linked path image = record {
+  status = status.Done;
+  output = link_text (summary_of image);
+  line = [];
+  writes = (path, image.bytes) ∷ [];
+}
+
+abbrev pub link_outcome : List ℕ → Result LinkedImage Refusal → Outcome
+link_outcome path (Ok image) = linked path image
+link_outcome path (Err refusal) = refusing refusal
+
+-- a link from a module path without plug-ins; others are to come
+abbrev pub link_of : Command → Option Link
+link_of (command.Link dirs roots output [] order bind None jobs) =
+    Some (link_with dirs roots bind order output)
+link_of _ = None
+
+-- which of the other commands are built yet; one that isn't is as unknown as its name
 abbrev pub is_built : Command → Bool
 is_built (command.Cat image name jobs) = true
 is_built (command.List image include jobs) = true

@@ -1,5 +1,8 @@
 -- What a run did to the outside, said by what its command comes to (this project's rule).
 use Rattle.std.specs.Prelude.{ℕ, ◌≡◌, ◌⊎◌, List, [], Option, Some, None, Result, Ok, Err}
+use Rattle.jm_link.specs.declared.refusal.Refusal.{Refusal}
+use Rattle.jm_link.specs.Linked.{LinkedImage}
+use Rattle.jm_link.specs.Links.{ComesTo}
 use Rattle.jm_outside.specs.Files.{Files, file}
 use Rattle.jm_outside.specs.Outcome.{Rose, Shows}
 use Rattle.jm_words.specs.declared.commands.Command.{Command}
@@ -10,7 +13,8 @@ use Rattle.jm_commands.specs.declared.status.Status.{Status}
 use Rattle.jm_commands.specs.declared.status.Status.TheVariants as status
 use Rattle.jm_commands.specs.declared.stop.Stop.{Stop}
 use Rattle.jm_commands.specs.declared.stop.Stop.TheVariants as stop
-use Rattle.jm_commands.specs.Outcome.{Outcome, command_outcome, damaged, done, faulty, not_there, read_path, refusing}
+use Rattle.jm_commands.specs.Outcome.{Link, Outcome, command_outcome, damaged, done, faulty}
+use Rattle.jm_commands.specs.Outcome.{link_of, link_outcome, not_there, read_path, refusing}
 use Rattle.jm_commands.specs.Sinks.{Seen, Gets, GetsFront}
 use Rattle.jm_commands.specs.Texts.{line_of}
 use Rattle.jm_commands.specs.Writes.{Makes, MakesFront}
@@ -22,18 +26,32 @@ abbrev pub HasFile : Option Files → Option (List ℕ) → Option (List ℕ) �
 HasFile told None found = Unit {0}
 HasFile told (Some path) found = Shows told (λ files. found ≡ file files path)
 
--- A command that reads one file comes to one outcome, whether the shelf tells its files or not:
--- over a shelf that tells nothing, to that of some file. A command that reads many files joins here
--- with a line of its own: over told files it comes to their outcome, and over others to any.
-abbrev pub CommandComesTo : Option Files → Command → Outcome → Type 0
-CommandComesTo told command due =
+-- a command that reads one file or none comes to one outcome, whether the shelf tells its files or
+-- not: over a shelf that tells nothing, to that of some file
+abbrev pub FileComesTo : Option Files → Command → Outcome → Type 0
+FileComesTo told command due =
     (found : Option (List ℕ)) × HasFile told (read_path command) found
     × (due ≡ command_outcome command found)
 
+-- a link comes to what its files do, where the shelf tells them; a shelf that tells nothing may say
+-- of a file that it listed that it isn't there
+abbrev pub LinkComesTo : Option Files → Link → Outcome → Type 0
+LinkComesTo told link due =
+    ((result : Result LinkedImage Refusal) × ComesTo told link.asked result
+    × (due ≡ link_outcome link.output result))
+    ⊎ ((listed : List ℕ) × Shows told (λ files. ⊥) × (due ≡ not_there listed))
+
+abbrev pub CommandWith : Option Files → Command → Option Link → Outcome → Type 0
+CommandWith told command (Some link) due = LinkComesTo told link due
+CommandWith told command None due = FileComesTo told command due
+
+abbrev pub CommandComesTo : Option Files → Command → Outcome → Type 0
+CommandComesTo told command due = CommandWith told command (link_of command) due
+
 -- what all words come to: their command, or their first fault
-abbrev pub ComesTo : Option Files → Result Command WordsError → Outcome → Type 0
-ComesTo told (Ok command) due = CommandComesTo told command due
-ComesTo told (Err fault) due = due ≡ faulty fault
+abbrev pub WordsComeTo : Option Files → Result Command WordsError → Outcome → Type 0
+WordsComeTo told (Ok command) due = CommandComesTo told command due
+WordsComeTo told (Err fault) due = due ≡ faulty fault
 
 -- A step of a run
 
@@ -74,6 +92,29 @@ pub record StepDoes (due : Outcome) (answer : Result (Unit {0}) Stop)
   pub files : FilesMade answer due.writes shelf new_shelf
   pub outside : answer ≡ Err stop.Outside →
       (Rose shelf.faults new_shelf.faults) ⊎ (Rose out.faults new_out.faults)
+
+-- a failure of the outside, or want of memory
+abbrev pub IsFailure : Result (Unit {0}) Stop → Type 0
+IsFailure (Ok _) = ⊥
+IsFailure (Err (stop.Complaint complaint)) = ⊥
+IsFailure (Err stop.Outside) = Unit {0}
+IsFailure (Err stop.Memory) = Unit {0}
+
+-- it failed before it made a file or put a byte
+pub record FailsAtOnce (answer : Result (Unit {0}) Stop)
+    (shelf new_shelf : Seen Files) (out new_out : Seen (List ℕ)) : Type 0 where
+  pub failed : IsFailure answer
+  pub files : new_shelf.told ≡ shelf.told
+  pub output : new_out.told ≡ out.told
+  pub outside : answer ≡ Err stop.Outside →
+      (Rose shelf.faults new_shelf.faults) ⊎ (Rose out.faults new_out.faults)
+
+-- a step does what is due, or fails at once, whatever would have been due
+abbrev pub StepComesTo : (Outcome → Type 0) → Result (Unit {0}) Stop
+    → (shelf new_shelf : Seen Files) → (out new_out : Seen (List ℕ)) → Type 0
+StepComesTo Due answer shelf new_shelf out new_out =
+    FailsAtOnce answer shelf new_shelf out new_out
+    ⊎ ((due : Outcome) × Due due × StepDoes due answer shelf new_shelf out new_out)
 
 -- what a complaint comes to by itself
 abbrev pub outcome_of : Complaint → Outcome
@@ -132,3 +173,20 @@ RunDoes due status.Memory shelf new_shelf out new_out err new_err =
     DoesFront due shelf new_shelf out new_out err new_err
 RunDoes due is shelf new_shelf out new_out err new_err =
     (is ≡ due.status) × DoesAll due shelf new_shelf out new_out err new_err
+
+-- it failed before it made a file or put a byte
+pub record RunStops (is : Status) (shelf new_shelf : Seen Files)
+    (out new_out err new_err : Seen (List ℕ)) : Type 0 where
+  pub failed : (is ≡ status.Outside) ⊎ (is ≡ status.Memory)
+  pub files : new_shelf.told ≡ shelf.told
+  pub output : new_out.told ≡ out.told
+  pub line : new_err.told ≡ err.told
+  pub outside : is ≡ status.Outside → (Rose shelf.faults new_shelf.faults)
+      ⊎ ((Rose out.faults new_out.faults) ⊎ (Rose err.faults new_err.faults))
+
+-- a run does what is due, or fails at once, whatever would have been due
+abbrev pub RunComesTo : (Outcome → Type 0) → Status → (shelf new_shelf : Seen Files)
+    → (out new_out err new_err : Seen (List ℕ)) → Type 0
+RunComesTo Due is shelf new_shelf out new_out err new_err =
+    RunStops is shelf new_shelf out new_out err new_err
+    ⊎ ((due : Outcome) × Due due × RunDoes due is shelf new_shelf out new_out err new_err)

@@ -7,8 +7,10 @@ use Rattle.jm_outside.specs.declared.streams.SinkError.TheVariants as sink_error
 use Rattle.jm_words.specs.declared.errors.WordsError.TheVariants as error
 use Rattle.jm_words.specs.declared.errors.WordsKind.TheVariants as kind
 use Rattle.jm_modinfo.specs.declared.faults.DescriptorFault.{DescriptorFault}
+use Rattle.jm_link.specs.declared.linking.LinkStop.{LinkStop}
+use Rattle.jm_link.specs.declared.linking.LinkStop.TheVariants as link_stop
 use Rattle.jm_commands.specs.declared.complaint.Complaint.TheVariants as complaint
-use Rattle.jm_commands.specs.declared.refusal.Refusal.TheVariants as refusal
+use Rattle.jm_link.specs.declared.refusal.Refusal.TheVariants as refusal
 use Rattle.jm_commands.specs.declared.stop.Stop.{Stop}
 use Rattle.jm_commands.specs.declared.stop.Stop.TheVariants as stop
 
@@ -21,6 +23,13 @@ stop_of_shelf shelf_error.Memory = stop.Memory
 abbrev pub stop_of_sink : SinkError → Stop
 stop_of_sink sink_error.Failed = stop.Outside
 stop_of_sink sink_error.Memory = stop.Memory
+
+-- a link that stopped
+abbrev pub stop_of_link : LinkStop → Stop
+stop_of_link (link_stop.Refused refusal) = stop.Complaint (complaint.Refused refusal)
+stop_of_link (link_stop.NotThere path) = stop.Complaint (complaint.NotThere path)
+stop_of_link link_stop.Outside = stop.Outside
+stop_of_link link_stop.Memory = stop.Memory
 
 -- a command that isn't built yet
 abbrev pub unbuilt_stop : Stop

@@ -11,10 +11,8 @@ use Rattle.jm_form.specs.Entries.{Entry}
 use Rattle.jm_pattern.specs.ComputedMatching.{matches}
 use Rattle.jm_pattern.specs.declared.signs.Sign.{Sign}
 use Rattle.jm_reader.specs.Walk.{entries_of}
+use Rattle.jm_link.specs.ByName.{Named, by_name}
 use Rattle.jm_commands.specs.declared.listing.TakenEntry.{TakenEntry}
-
-abbrev pub Named : Type 0
-Named = List ℕ × List ℕ
 
 abbrev pub named : Entry → Named
 named e = (e.name, e.content)
@@ -37,28 +35,6 @@ taken_among include entries = filter (λ e. is_taken include e.0) (map named ent
 -- one pair, if it is taken
 abbrev pub taken_alone : Option (List (List Sign)) → Named → List Named
 taken_alone include e = if is_taken include e.0 then e ∷ [] else []
-
--- byte order: unsigned bytes, a proper prefix first
-abbrev pub is_before : List ℕ → List ℕ → Bool
-is_before name other = is_lt (slice_cmp nat_cmp name other)
-
--- each name stands before the later ones
-abbrev pub RisesByName : List Named → Type 0
-RisesByName es = AllPairs (λ e f. IsTrue (is_before e.0 f.0)) es
-
--- no name stands before an earlier one
-abbrev pub NeverFalls : List Named → Type 0
-NeverFalls es = AllPairs (λ e f. IsFalse (is_before f.0 e.0)) es
-
--- one more behind those whose names stand before its own
-abbrev pub placed : Named → List Named → List Named
-placed e [] = e ∷ []
-placed e (f ∷ es) = if is_before f.0 e.0 then f ∷ placed e es else e ∷ f ∷ es
-
--- the same pairs, rising by name where the names differ
-abbrev pub by_name : List Named → List Named
-by_name [] = []
-by_name (e ∷ es) = placed e (by_name es)
 
 -- what `list` and `extract` take of an image
 abbrev pub taken : List ℕ → Option (List (List Sign)) → List Named

@@ -2,7 +2,7 @@
 use Rattle.std.specs.Prelude.{ℕ, List, [], ◌∷◌, ◌++◌, codes}
 use Rattle.jm_form.specs.DamageText.{damage_text}
 use Rattle.jm_words.specs.FaultText.{error_text}
-use Rattle.jm_commands.specs.RefusalText.{refusal_text}
+use Rattle.jm_link.specs.RefusalText.{refusal_text}
 use Rattle.jm_commands.specs.declared.complaint.Complaint.{Complaint}
 use Rattle.jm_commands.specs.declared.complaint.Complaint.TheVariants as complaint
 

@@ -1,14 +1,15 @@
 ghost use Rattle.std.specs.Prelude.{◌≡◌, ◌∷◌, ◌++◌, [], codes, IfOk};
-ghost use Rattle.jm_commands.specs.RefusalText.{refusal_text};
+ghost use Rattle.jm_link.specs.RefusalText.{refusal_text};
 ghost use Rattle.jm_commands.specs.Run.{status_of};
 ghost use Rattle.jm_commands.specs.Texts.{line_of};
 
-use crate::refusal::Refusal;
+use crate::output::extend;
 use crate::status::Status;
-use jm_bytes::Text;
+use jm_bytes::{NoMemory, Text};
 use jm_form::Damage;
+use jm_link::Refusal;
 use jm_words::WordsError;
-use std::alloc::{AllocError, Global};
+use std::alloc::Global;
 
 /// What a run ends with in place of its output; it has a line that says so.
 #[derive(Debug, Drop)]
@@ -37,38 +38,35 @@ impl Complaint {
     }
 
     /// Its line, with the newline that ends it.
-    pub fn line(&self, alloc: Global) -> Result<Vec<u8>, AllocError>
+    pub fn line(&self, alloc: Global) -> Result<Vec<u8>, NoMemory>
         ensures { IfOk result (λ line. line.items ≡ line_of self.now) }
     {
         match self {
-            Complaint::Words(fault) => Ok(format!(in alloc; "words: {fault}\n")?.into_bytes()),
-            Complaint::Damaged(damage) => {
-                Ok(format!(in alloc; "damaged: {damage}\n")?.into_bytes())
+            Complaint::Words(fault) => match format!(in alloc; "words: {fault}\n") {
+                Ok(line) => Ok(line.into_bytes()),
+                Err(_) => Err(NoMemory),
+            },
+            Complaint::Damaged(damage) => match format!(in alloc; "damaged: {damage}\n") {
+                Ok(line) => Ok(line.into_bytes()),
+                Err(_) => Err(NoMemory),
+            },
+            Complaint::NotThere(text) => line_with(alloc, b"not there: ", text.as_slice()),
+            Complaint::Refused(refusal) => {
+                let text = refusal.text(alloc)?;
+                line_with(alloc, b"refused: ", text.as_slice())
             }
-            Complaint::NotThere(text) => not_there_line(alloc, text.as_slice()),
-            Complaint::Refused(refusal) => refused_line(alloc, refusal),
         }
     }
 }
 
-/// The line on a text that isn't there.
-fn not_there_line(alloc: Global, text: &[u8]) -> Result<Vec<u8>, AllocError>
-    ensures { IfOk result (λ line. line.items ≡ codes "not there: " ++ text.now ++ 10 ∷ []) }
+/// A line of a word and a text.
+fn line_with(alloc: Global, word: &[u8], text: &[u8]) -> Result<Vec<u8>, NoMemory>
+    ensures { IfOk result (λ line. line.items ≡ word.now ++ text.now ++ 10 ∷ []) }
 {
-    let mut line = Vec::from_slice(alloc, b"not there: ")?;
-    line.extend_from_slice(text)?;
-    line.extend_from_slice(b"\n")?;
-    Ok(line)
-}
-
-/// The line on what is refused.
-fn refused_line(alloc: Global, refusal: &Refusal) -> Result<Vec<u8>, AllocError>
-    ensures { IfOk result
-        (λ line. line.items ≡ codes "refused: " ++ refusal_text refusal.now ++ 10 ∷ []) }
-{
-    let text = refusal.text(alloc)?;
-    let mut line = Vec::from_slice(alloc, b"refused: ")?;
-    line.extend_from_slice(text.as_slice())?;
-    line.extend_from_slice(b"\n")?;
+    let Ok(mut line) = Vec::from_slice(alloc, word) else {
+        return Err(NoMemory);
+    };
+    extend(&mut line, text)?;
+    extend(&mut line, b"\n")?;
     Ok(line)
 }

@@ -6,7 +6,8 @@ ghost use Rattle.jm_commands.specs.Outcome.{done};
 ghost use Rattle.jm_commands.specs.Run.{PutDoes};
 ghost use Rattle.jm_commands.specs.Sinks.{seen};
 ghost use Rattle.jm_commands.specs.Taken.{is_included, list_line, list_text, taken, taken_alone};
-ghost use Rattle.jm_commands.specs.Taken.{taken_among, taken_as, NeverFalls, RisesByName};
+ghost use Rattle.jm_commands.specs.Taken.{taken_among, taken_as};
+ghost use Rattle.jm_link.specs.ByName.{NeverFalls, RisesByName};
 
 use crate::output::{extend, put_output};
 use crate::stop::Stop;

@@ -1,15 +1,16 @@
-ghost use Rattle.std.specs.Prelude.{◌≡◌, ◌<◌, List, ℕ, Option, IfSome, IsUtf8};
+ghost use Rattle.std.specs.Prelude.{◌≡◌, ◌<◌, List, ℕ, Option, None, IfSome, IsUtf8};
 ghost use Rattle.std.specs.Prelude.{map, option_map, string_bytes};
 ghost use Rattle.jm_words.specs.Commands.{command_in};
 ghost use Rattle.jm_words.specs.Paths.{FilePathsAreText, jobs_in};
-ghost use Rattle.jm_commands.specs.Outcome.{Outcome, is_built, plain_outcome, read_path};
-ghost use Rattle.jm_commands.specs.Run.{CommandComesTo, ComesTo, PutDoes};
-ghost use Rattle.jm_commands.specs.Run.{ReportDoes, RunDoes, StepDoes};
+ghost use Rattle.jm_commands.specs.Outcome.{is_built, link_of, plain_outcome, read_path};
+ghost use Rattle.jm_commands.specs.Run.{CommandComesTo, PutDoes, ReportDoes, RunComesTo};
+ghost use Rattle.jm_commands.specs.Run.{StepComesTo, WordsComeTo};
 ghost use Rattle.jm_commands.specs.Sinks.{seen};
 
 use crate::complaint::Complaint;
 use crate::help::help_command;
 use crate::image_file::do_on_file;
+use crate::link::{link_command, link_words};
 use crate::status::Status;
 use crate::stop::{Stop, unbuilt};
 use crate::version::version_command;
@@ -85,8 +86,8 @@ fn do_plain<O: Sink>(alloc: Global, command: &Command, out: &mut O) -> Result<()
     }
 }
 
-/// Does a command.
-fn do_command<T: Threads + Sync, S: Shelf, O: Sink, G: Gate + Sync>(
+/// Does a command that isn't a `link`.
+fn do_other<T: Threads + Sync, S: Shelf, O: Sink, G: Gate + Sync>(
     rt: &T,
     alloc: Global,
     command: &Command,
@@ -94,10 +95,10 @@ fn do_command<T: Threads + Sync, S: Shelf, O: Sink, G: Gate + Sync>(
     out: &mut O,
     gate: &G,
 ) -> Result<(), Stop>
+    requires other { link_of command.now ≡ None }
     requires paths { FilePathsAreText command.now }
     requires jobs { 0 < jobs_in command.now }
-    ensures { (due : Outcome) × CommandComesTo (S.files shelf.old) command.now due
-        × StepDoes due result
+    ensures { StepComesTo (CommandComesTo (S.files shelf.old) command.now) result
         (seen (S.files shelf.old) (S.faults shelf.old))
         (seen (S.files shelf.new) (S.faults shelf.new))
         (seen (O.content out.old) (O.faults out.old))
@@ -112,6 +113,29 @@ fn do_command<T: Threads + Sync, S: Shelf, O: Sink, G: Gate + Sync>(
     }
 }
 
+/// Does a command.
+fn do_command<T: Threads + Sync, S: Shelf, O: Sink, G: Gate + Sync>(
+    rt: &T,
+    alloc: Global,
+    command: &Command,
+    shelf: &mut S,
+    out: &mut O,
+    gate: &G,
+) -> Result<(), Stop>
+    requires paths { FilePathsAreText command.now }
+    requires jobs { 0 < jobs_in command.now }
+    ensures { StepComesTo (CommandComesTo (S.files shelf.old) command.now) result
+        (seen (S.files shelf.old) (S.faults shelf.old))
+        (seen (S.files shelf.new) (S.faults shelf.new))
+        (seen (O.content out.old) (O.faults out.old))
+        (seen (O.content out.new) (O.faults out.new)) }
+{
+    match link_words(command) {
+        Some(words) => link_command(alloc, &words, shelf, out),
+        None => do_other(rt, alloc, command, shelf, out, gate),
+    }
+}
+
 /// Does what the words ask for.
 fn do_words<T: Threads + Sync, S: Shelf, O: Sink, G: Gate + Sync>(
     rt: &T,
@@ -121,9 +145,8 @@ fn do_words<T: Threads + Sync, S: Shelf, O: Sink, G: Gate + Sync>(
     out: &mut O,
     gate: &G,
 ) -> Result<(), Stop>
-    ensures { (due : Outcome)
-        × ComesTo (S.files shelf.old) (command_in (map string_bytes words.now)) due
-        × StepDoes due result
+    ensures { StepComesTo
+        (WordsComeTo (S.files shelf.old) (command_in (map string_bytes words.now))) result
         (seen (S.files shelf.old) (S.faults shelf.old))
         (seen (S.files shelf.new) (S.faults shelf.new))
         (seen (O.content out.old) (O.faults out.old))
@@ -152,9 +175,8 @@ pub fn run<T: Threads + Sync, S: Shelf, I: Source, O: Sink, E: Sink, G: Gate + S
     err: &mut E,
     gate: &G,
 ) -> Status
-    ensures { (due : Outcome)
-        × ComesTo (S.files shelf.old) (command_in (map string_bytes words.now)) due
-        × RunDoes due result
+    ensures { RunComesTo
+        (WordsComeTo (S.files shelf.old) (command_in (map string_bytes words.now))) result
         (seen (S.files shelf.old) (S.faults shelf.old))
         (seen (S.files shelf.new) (S.faults shelf.new))
         (seen (O.content out.old) (O.faults out.old)) (seen (O.content out.new) (O.faults out.new))

@@ -1,3 +1,5 @@
+mod linking;
+mod modules;
 mod vectors;
 
 use super::*;

@@ -4,7 +4,7 @@ use Rattle.jm_commands.proofs.StepLaws.{words_faulty, words_unread}
 use Rattle.jm_commands.proofs.program.do_words.Goals as goal
 
 pub returns-in-Err-Memory : goal.returns-in-Err-Memory
-returns-in-Err-Memory g c = words_unread (command_in (map (string_bytes {Z = Global}) c.args.words.now)) _ _
+returns-in-Err-Memory g c = words_unread _ _ _
 
 pub returns-in-Err-Fault : goal.returns-in-Err-Fault
 returns-in-Err-Fault g c =

@@ -1,0 +1,12 @@
+-- The text of `link` (this project's rule): the modules of the closure, the resources, and the length
+-- of the image in bytes.
+use Rattle.std.specs.Prelude.{ℕ, List, [], ◌∷◌, codes}
+use Rattle.std.specs.Fmt.{decimal}
+use Rattle.std.specs.List.{concat}
+use Rattle.jm_link.specs.declared.linking.Summary.{Summary}
+
+abbrev pub link_text : Summary → List ℕ
+link_text summary =
+    concat (codes "modules " ∷ decimal summary.modules
+    ∷ codes "\nresources " ∷ decimal summary.resources
+    ∷ codes "\nbytes " ∷ decimal summary.length ∷ codes "\n" ∷ [])

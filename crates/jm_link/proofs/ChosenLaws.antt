@@ -1,0 +1,115 @@
+-- The places of a closure lie within the list of modules, and differ.
+use Rattle.std.proofs.Common.{◌≡◌, ◌≢◌, ◌<◌, inl, inr, ℕ, zero, suc, ◌+◌, ◌-◌, Bool, true, false, List, [], ◌∷◌, length, map, All, AllPairs, Contains, Option, Some, None, Ok, slice_get, refl, sym, ap, ◌∙◌, subst, arith}
+use Rattle.std.proofs.lemmas.Option.{slice_get-get_or}
+use Rattle.std.specs.Cmp.Lexicographic.{slice_cmp, nat_list_cmp_total}
+use Rattle.std.specs.List.{range_with_len}
+use Rattle.std.specs.Ordering.{is_lt, nat_cmp, ordering_reverse}
+use Rattle.std.specs.Prelude.{IsTrue, get_or}
+use Rattle.std.specs.declared.cmp.Ordering.{Ordering}
+use Rattle.std.specs.declared.cmp.Ordering.TheVariants.{Less, Equal, Greater}
+use Rattle.jm_bytes.proofs.Choice.{same_some}
+use Rattle.jm_bind.specs.Binding.{Bound, IsClosed}
+use Rattle.jm_bytes.proofs.Members.{all_from_contains, contains_range, from_range}
+use Rattle.jm_closure.specs.declared.candidate.Candidate.{Candidate}
+use Rattle.jm_closure.specs.Modules.{HasName, IsRoot, Leads, Reached, Requires, name_of}
+use Rattle.jm_closure.specs.Refusals.{AreChosen}
+use Rattle.jm_link.specs.Closing.{ClosesWith}
+use Rattle.jm_link.proofs.FileLaws.{got}
+
+below : {X : Type 0} (xs : List X) (i : ℕ) (x : X) → slice_get xs i ≡ Some x → i < length xs
+below [] i x is = cc
+below (y ∷ xs) zero x is = omega arith
+below (y ∷ xs) (suc i) x is = let rest = below xs i x is in omega (arith, rest)
+
+named_below : (found : List Candidate) (i : ℕ) (name : List ℕ) → HasName found i name → i < length found
+named_below found i name (c, is, named) = below found i c is
+
+led_below : (found : List Candidate) (i : ℕ) (places : List ℕ) (j : ℕ) → i < length found → Leads (Requires found) i places j → j < length found
+led_below found i [] j within same = subst (λ k. k < length found) same within
+led_below found i (k ∷ places) j within (required, leads) =
+    led_below found k places j (named_below found k required.0 required.2) leads
+
+reached_below : (found : List Candidate) (roots : List (List ℕ)) (j : ℕ) → Reached found roots j → j < length found
+reached_below found roots j (i, places, (name, rooted, named), leads) =
+    led_below found i places j (named_below found i name named) leads
+
+bound_below : (found : List Candidate) (roots : List (List ℕ)) (j : ℕ) → Bound found roots j → j < length found
+bound_below found roots j bound = let all = from_range 0 (length found) j (bound (range_with_len 0 (length found)) closed) in omega (arith, all.1)
+  where
+    inside : (k : ℕ) → k < length found → Contains (range_with_len 0 (length found)) k
+    inside k within = contains_range 0 (length found) k (omega arith) (omega arith)
+
+    closed : IsClosed found roots (Contains (range_with_len 0 (length found)))
+    closed = record {
+      rooted = λ i root. inside i (named_below found i root.0 root.2);
+      required = λ i k has required. inside k (named_below found k required.0 required.2);
+      served = λ i k has served. inside k (below found k served.2.0 served.2.1);
+    }
+
+there : {X : Type 0} (xs : List X) (i : ℕ) → i < length xs → (x : X) × (slice_get xs i ≡ Some x)
+there [] i within = absurd (omega (arith, within))
+there (x ∷ xs) zero within = (x, refl)
+there (x ∷ xs) (suc i) within = there xs i (omega (arith, within))
+
+got_same : (places : List ℕ) (k i d : ℕ) → slice_get places k ≡ Some i → get_or places k d ≡ i
+got_same places k i d is = same_some _ _ (sym (slice_get-get_or places k d (below places k i is)) ∙ is)
+
+less : (o : Ordering) → IsTrue (is_lt o) → o ≡ Less
+less Less is = refl
+less Equal is = cc
+less Greater is = cc
+
+never_less : (name : List ℕ) → slice_cmp nat_cmp name name ≡ Less → ⊥
+never_less name is = not_both (sym is ∙ nat_list_cmp_total.antisymm name name ∙ ap ordering_reverse is)
+  where
+    not_both : ◌≡◌ {A = Ordering} Less Greater → ⊥
+    not_both same = cc
+
+-- Names that rise from one to the next
+
+module _ (found : List Candidate) (Chosen : ℕ → Type 0) (places : List ℕ) (chosen : AreChosen found Chosen places) (within : (i : ℕ) → Contains places i → i < length found) where
+  -- the place there, with its module
+  pub record IsAt (k i : ℕ) : Type 0 where
+    pub candidate : Candidate
+    pub place : slice_get places k ≡ Some i
+    pub is : slice_get found i ≡ Some candidate
+
+  at : (k : ℕ) → k < length places → (i : ℕ) × IsAt k i
+  at k inside =
+      let one = there places k inside in
+      let held = there found one.0 (within one.0 (got places k one.0 one.1)) in
+      (one.0, record { candidate = held.0; place = one.1; is = held.1 })
+
+  rises : (k n : ℕ) → k + suc n < length places → (i j : ℕ) (one : IsAt k i) (other : IsAt (k + suc n) j) → slice_cmp nat_cmp (name_of one.candidate) (name_of other.candidate) ≡ Less
+  rises k zero inside i j one other = less _ (chosen.rising k i j one.candidate other.candidate one.place other.place one.is other.is)
+  rises k (suc n) inside i j one other =
+      let middle = at (k + suc n) (omega (arith, inside)) in
+      let next : k + suc (suc n) ≡ k + suc n + 1 = omega arith in
+      let first = rises k n (omega (arith, inside)) i middle.0 one middle.1 in
+      let second = less _ (chosen.rising (k + suc n) middle.0 j middle.1.candidate other.candidate middle.1.place (subst (λ m. slice_get places m ≡ Some j) next other.place) middle.1.is other.is) in
+      nat_list_cmp_total.trans (name_of one.candidate) (name_of middle.1.candidate) (name_of other.candidate) first second
+
+  apart : (k n : ℕ) → k + suc n < length places → (i j : ℕ) → IsAt k i → IsAt (k + suc n) j → i ≢ j
+  apart k n inside i j one other same =
+      let less = rises k n inside i j one other in
+      let names = ap name_of (same_some one.candidate other.candidate (sym one.is ∙ ap (slice_get found) same ∙ other.is)) in
+      never_less (name_of other.candidate) (subst (λ name. slice_cmp nat_cmp name (name_of other.candidate) ≡ Less) names less)
+
+  pub places_differ : AllPairs (λ i j. i ≢ j) places
+  places_differ k l d before inside same =
+      let one = at k (omega (arith, before, inside)) in
+      let other = at l inside in
+      let behind : k + suc (l - k - 1) ≡ l = omega (arith, before) in
+      let far : IsAt (k + suc (l - k - 1)) other.0 = subst (λ m. IsAt m other.0) (sym behind) other.1 in
+      apart k (l - k - 1) (omega (arith, before, inside)) one.0 other.0 one.1 far
+      (sym (got_same places k one.0 d one.1.place) ∙ same ∙ got_same places l other.0 d other.1.place)
+
+-- the places of a closure
+module _ (found : List Candidate) (roots : List (List ℕ)) where
+  pub chosen_within : (bind : Bool) (places : List ℕ) → ClosesWith bind found roots (Ok places) → (i : ℕ) → Contains places i → i < length found
+  chosen_within true places closes i has = bound_below found roots i ((closes.4.exactly i).0 has)
+  chosen_within false places closes i has = reached_below found roots i ((closes.4.exactly i).0 has)
+
+  pub chosen_differ : (bind : Bool) (places : List ℕ) → ClosesWith bind found roots (Ok places) → AllPairs (λ i j. i ≢ j) places
+  chosen_differ true places closes = places_differ found (Bound found roots) places closes.4 (chosen_within true places closes)
+  chosen_differ false places closes = places_differ found (Reached found roots) places closes.4 (chosen_within false places closes)

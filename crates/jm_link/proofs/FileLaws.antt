@@ -1,0 +1,133 @@
+-- The files that a link takes: none has the name of a node, and a shelf that tells its files has
+-- each of them.
+use Rattle.std.proofs.Common.{◌≡◌, ◌≢◌, ◌⊎◌, ◌&&◌, inl, inr, ℕ, zero, suc, Bool, true, false, cond, List, [], ◌∷◌, ◌++◌, length, drop, map, find, All, Contains, Option, Some, None, option_map, slice_get, refl, sym, ap, ◌∙◌, subst}
+use Rattle.std.proofs.lemmas.Bool.{eqb-true, false≢true, false_from_ne_true, or_cases}
+use Rattle.std.proofs.lemmas.Bool.Decides.{Decides-eqb}
+use Rattle.std.proofs.lemmas.List.Elements.{All-contains, Contains-append_cases}
+use Rattle.jm_bytes.proofs.Choice.{same_some}
+use Rattle.std.proofs.lemmas.Slice.Eq.{bytes_eq-Decides, starts_is}
+use Rattle.std.specs.List.{filter_map, flat_map, list_all, list_any, starts_with}
+use Rattle.std.specs.Prelude.{codes, nat_eq}
+use Rattle.std.specs.Str.{bytes_eq}
+use Rattle.jm_bytes.proofs.Members.{all_from_contains, any_contains, contains_cases, contains_here, contains_later, contains_none, from_filter_map, from_map}
+use Rattle.jm_form.specs.Trees.{module_of}
+use Rattle.jm_modinfo.specs.Constants.{is_legal, is_legal_byte}
+use Rattle.jm_names.specs.Names.{is_node, is_slash}
+use Rattle.jm_names.specs.UtfForms.{modified}
+use Rattle.jm_nodes.proofs.SoundLaws.{module_again}
+use Rattle.jm_outside.specs.Files.{Files, file, names_below}
+use Rattle.jm_link.specs.declared.refusal.Refusal.{Refusal}
+use Rattle.jm_link.specs.declared.refusal.Refusal.TheVariants as refusal
+use Rattle.jm_link.specs.declared.visible.VisibleModule.{VisibleModule}
+use Rattle.jm_link.specs.ByName.{Named, by_name}
+use Rattle.jm_link.specs.Finding.{HasTexts}
+use Rattle.jm_link.specs.Modules.{inside, is_named, name_of, resource_name}
+use Rattle.jm_link.specs.Resources.{link_files, module_files, reserved}
+use Rattle.jm_link.proofs.NameOrder.{from_by_name}
+
+-- Names of nodes
+
+-- a node's name has one of the two trees' first parts
+node_module : (name : List ℕ) → is_node name ≡ true → (module_of name ≡ codes "modules") ⊎ (module_of name ≡ codes "packages")
+node_module name is = elim (or_cases _ _ is) [ inl roots ↦ root (or_cases _ _ roots) | inr fronts ↦ below (or_cases _ _ fronts) ]
+  where
+    root : (bytes_eq name (codes "/modules") ≡ true) ⊎ (bytes_eq name (codes "/packages") ≡ true) → (module_of name ≡ codes "modules") ⊎ (module_of name ≡ codes "packages")
+    root (inl same) = inl (ap module_of ((bytes_eq-Decides name (codes "/modules")).0 same))
+    root (inr same) = inr (ap module_of ((bytes_eq-Decides name (codes "/packages")).0 same))
+
+    front : (text : List ℕ) → starts_with nat_eq name text ≡ true → name ≡ text ++ drop (length text) name
+    front text starts = (starts_is Decides-eqb name text (starts_with nat_eq name text) refl).0 starts
+
+    below : (starts_with nat_eq name (codes "/modules/") ≡ true) ⊎ (starts_with nat_eq name (codes "/packages/") ≡ true) → (module_of name ≡ codes "modules") ⊎ (module_of name ≡ codes "packages")
+    below (inl starts) = inl (ap module_of (front (codes "/modules/") starts) ∙ module_again (codes "modules") (drop 9 name) refl)
+    below (inr starts) = inr (ap module_of (front (codes "/packages/") starts) ∙ module_again (codes "packages") (drop 10 name) refl)
+
+both : (x y : Bool) → (x && y) ≡ true → (x ≡ true) × (y ≡ true)
+both true true is = (refl, refl)
+both true false is = cc
+both false y is = cc
+
+-- a legal name has no slash
+legal_bytes : (name : List ℕ) → list_all is_legal_byte name ≡ true → list_any is_slash name ≡ false
+legal_bytes [] legal = refl
+legal_bytes (b ∷ name) legal = go (is_slash b) refl (both _ _ legal).0 (legal_bytes name (both _ _ legal).1)
+  where
+    go : (slash : Bool) → is_slash b ≡ slash → is_legal_byte b ≡ true → list_any is_slash name ≡ false → list_any is_slash (b ∷ name) ≡ false
+    go true is fine rest = absurd (false≢true (ap is_legal_byte (sym (eqb-true b 47 is)) ∙ fine))
+    go false is fine rest = rw is rest
+
+pub legal_plain : (name : List ℕ) → is_legal name ≡ true → list_any is_slash name ≡ false
+legal_plain name legal = legal_bytes name (both _ _ legal).1
+
+-- a resource of a module with another name than the two trees' is no node
+pub no_node : («module» path : List ℕ) → is_legal «module» ≡ true → «module» ≢ codes "modules" → «module» ≢ codes "packages" → is_node (resource_name «module» path) ≡ false
+no_node «module» path legal one other = false_from_ne_true (is_node (resource_name «module» path)) (λ is. elim (node_module (resource_name «module» path) is) [
+  | inl same ↦ one (sym again ∙ same)
+  | inr same ↦ other (sym again ∙ same)
+])
+  where
+    again : module_of (resource_name «module» path) ≡ «module»
+    again = module_again «module» (modified path) (legal_plain «module» legal)
+
+not_some : (r : Refusal) → Some r ≡ None → ⊥
+not_some r is = cc
+
+-- no module has a reserved name
+free_names : (found : List VisibleModule) → reserved found ≡ None → (is_named found (codes "modules") ≡ false) × (is_named found (codes "packages") ≡ false)
+free_names found free = go (is_named found (codes "modules")) refl (is_named found (codes "packages")) refl free
+  where
+    go : (m : Bool) → is_named found (codes "modules") ≡ m → (p : Bool) → is_named found (codes "packages") ≡ p → option_map (λ name. refusal.ReservedModule name) (find (is_named found) (codes "modules" ∷ codes "packages" ∷ [])) ≡ None → (is_named found (codes "modules") ≡ false) × (is_named found (codes "packages") ≡ false)
+    go true is p also none = absurd (not_none is none)
+      where
+        not_none : is_named found (codes "modules") ≡ true → option_map (λ name. refusal.ReservedModule name) (find (is_named found) (codes "modules" ∷ codes "packages" ∷ [])) ≡ None → ⊥
+        not_none is none = not_some _ (rw is at none)
+    go false is true also none = absurd (not_none is also none)
+      where
+        not_none : is_named found (codes "modules") ≡ false → is_named found (codes "packages") ≡ true → option_map (λ name. refusal.ReservedModule name) (find (is_named found) (codes "modules" ∷ codes "packages" ∷ [])) ≡ None → ⊥
+        not_none is also none = not_some _ (rw (is, also) at none)
+    go false is false also none = (is, also)
+
+other_name : (found : List VisibleModule) (name : List ℕ) (m : VisibleModule) → is_named found name ≡ false → Contains found m → name_of m ≢ name
+other_name found name m free there same =
+    false≢true (sym free ∙ any_contains (λ k. bytes_eq name (name_of k)) found m there ((bytes_eq-Decides name (name_of m)).1 (sym same)))
+
+-- Where a file comes from
+
+pub record IsFileOf (found : List VisibleModule) (f : Named) : Type 0 where
+  pub «module» : VisibleModule
+  pub path : List ℕ
+  pub there : Contains found «module»
+  pub listed : Contains «module».files path
+  pub is : f ≡ (resource_name (name_of «module») path, inside «module».folder path)
+
+pub got : {X : Type 0} (xs : List X) (i : ℕ) (x : X) → slice_get xs i ≡ Some x → Contains xs x
+got [] i x is = cc
+got (y ∷ xs) zero x is = subst (Contains (y ∷ xs)) (same_some y x is) (contains_here y xs)
+got (y ∷ xs) (suc i) x is = contains_later y xs x (got xs i x is)
+
+pub from_flat : {A B : Type 0} (f : A → List B) (xs : List A) (y : B) → Contains (flat_map f xs) y → (x : A) × Contains xs x × Contains (f x) y
+from_flat f [] y there = absurd (contains_none y there)
+from_flat {A} {B} f (x ∷ xs) y there = go (Contains-append_cases (f x) (flat_map f xs) y there) (from_flat f xs y)
+  where
+    go : Contains (f x) y ⊎ Contains (flat_map f xs) y → (Contains (flat_map f xs) y → (z : A) × Contains xs z × Contains (f z) y) → (z : A) × Contains (x ∷ xs) z × Contains (f z) y
+    go (inl here) later = (x, contains_here x xs, here)
+    go (inr rest) later = let one = later rest in (one.0, contains_later x xs one.0 one.1, one.2)
+
+pub file_from : (found : List VisibleModule) (places : List ℕ) (f : Named) → Contains (link_files found places) f → IsFileOf found f
+file_from found places f there =
+    let one = from_flat module_files (filter_map (slice_get found) places) f there in
+    let m = one.0 in
+    let at = from_filter_map (slice_get found) places m one.1 in
+    let pair = from_map (λ path. (resource_name (name_of m) path, inside m.folder path)) m.files f (from_by_name _ f one.2) in
+    record { «module» = m; path = pair.0; there = got found at.0 m at.2; listed = pair.1; is = sym pair.2 }
+
+-- none has the name of a node
+pub files_free : (found : List VisibleModule) (places : List ℕ) → All HasTexts found → reserved found ≡ None → All (λ f. is_node f.0 ≡ false) (link_files found places)
+files_free found places texts free = all_from_contains (λ f. is_node f.0 ≡ false) (link_files found places) go
+  where
+    go : (f : Named) → Contains (link_files found places) f → is_node f.0 ≡ false
+    go f there =
+        let from = file_from found places f there in
+        let names = free_names found free in
+        let legal = (All-contains HasTexts found from.«module» texts from.there).legal in
+        ap (λ g. is_node g.0) from.is ∙ no_node (name_of from.«module») from.path legal (other_name found (codes "modules") from.«module» names.0 from.there) (other_name found (codes "packages") from.«module» names.1 from.there)

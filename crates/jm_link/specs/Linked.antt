@@ -1,0 +1,117 @@
+-- What a `link` comes to: the image of the closure's resources, or the first refusal that holds
+-- (JEP 282; the order of the refusals is this project's rule).
+use Rattle.std.specs.Prelude.{ℕ, ◌≡◌, nat_lt, Bool, List, [], ◌∷◌, length}
+use Rattle.std.specs.Prelude.{Option, Some, None, is_none, option_and_then, option_map, unwrap_or}
+use Rattle.std.specs.Prelude.{Result, Ok, Err}
+use Rattle.jm_bytes.specs.Checks.{fault_if, first_fault}
+use Rattle.jm_bytes.specs.declared.words.Order.{Order}
+use Rattle.jm_closure.specs.declared.error.CloseError.{CloseError}
+use Rattle.jm_closure.specs.declared.error.CloseError.TheVariants as closing
+use Rattle.jm_closure.specs.Refusals.{Closes}
+use Rattle.jm_form.specs.Greedy.{GreedyTable}
+use Rattle.jm_form.specs.Layout.{Written, all_sized, layout, layout_table, layout_with, names_of}
+use Rattle.jm_form.specs.Trees.{first_clash}
+use Rattle.jm_outside.specs.Files.{Files}
+use Rattle.jm_writer.specs.Drafts.{entry_limit, image_limit, large_number}
+use Rattle.jm_link.specs.declared.refusal.Refusal.{Refusal}
+use Rattle.jm_link.specs.declared.refusal.Refusal.TheVariants as refusal
+use Rattle.jm_link.specs.declared.visible.VisibleModule.{VisibleModule}
+use Rattle.jm_link.specs.ByName.{Named}
+use Rattle.jm_link.specs.Modules.{candidates, path_refusal, visible}
+use Rattle.jm_link.specs.Resources.{Chosen, first_bad_name, link_files, reserved, resources_of}
+
+-- what is asked for: the directories of the module path, the root modules, whether providers of
+-- services are linked too, and the byte order
+pub record Request : Type 0 where
+  pub directories : List (List ℕ)
+  pub roots : List (List ℕ)
+  pub bind : Bool
+  pub order : Order
+
+-- an image with the number of its modules, its resources and the length of its table
+pub record LinkedImage : Type 0 where
+  pub bytes : List ℕ
+  pub modules : ℕ
+  pub resources : List Written
+  pub slots : ℕ
+
+-- What keeps resources from being laid out
+
+abbrev pub size_refusal : Order → List Written → GreedyTable → Option Refusal
+size_refusal order resources table =
+    fault_if (nat_lt image_limit (length (layout_with order resources table)))
+    (refusal.TooLarge (large_number order resources table))
+
+-- a resource with the name of another's folder; too many entries; no table; too many bytes
+abbrev pub layout_checks : Order → List Written → List (Option Refusal)
+layout_checks order resources =
+    option_map (λ name. refusal.Clash name) (first_clash (names_of resources))
+    ∷ fault_if (nat_lt entry_limit (length (all_sized resources)))
+    (refusal.TooMany (length (all_sized resources)))
+    ∷ fault_if (is_none (layout_table resources)) (refusal.NoTable 64)
+    ∷ option_and_then (size_refusal order resources) (layout_table resources)
+    ∷ []
+
+abbrev pub layout_refusal : Order → List Written → Option Refusal
+layout_refusal order resources = first_fault (layout_checks order resources)
+
+-- the image of resources of so many modules
+abbrev pub image_with : Order → ℕ → List Written → LinkedImage
+image_with order modules resources = record {
+  bytes = unwrap_or (layout order resources) [];
+  modules = modules;
+  resources = resources;
+  slots = unwrap_or (option_map (λ table. table.length) (layout_table resources)) 0;
+}
+
+abbrev pub laid_out : Order → ℕ → List Written → Option Refusal → Result LinkedImage Refusal
+laid_out order modules resources None = Ok (image_with order modules resources)
+laid_out order modules resources (Some refusal) = Err refusal
+
+-- the files of so many modules, whose first unfit name is refused
+abbrev pub gathered : Files → Order → ℕ → List Named → Option Refusal → Result LinkedImage Refusal
+gathered files order modules names (Some refusal) = Err refusal
+gathered files order modules names None =
+    laid_out order modules (resources_of files names)
+    (layout_refusal order (resources_of files names))
+
+-- The closure
+
+abbrev pub closing_refusal : CloseError → Option Refusal
+closing_refusal (closing.NoRoot name) = Some (refusal.NoRoot name)
+closing_refusal (closing.Missing name by) = Some (refusal.Missing name by)
+closing_refusal (closing.Cycle name) = Some (refusal.Cycle name)
+closing_refusal (closing.SplitPackage shared first second) =
+    Some (refusal.SplitPackage shared first second)
+closing_refusal closing.Memory = None
+
+-- the result of a closure: of the modules at these places, or its refusal
+abbrev pub IsClosedTo : Files → Order → List VisibleModule → Result (List ℕ) CloseError
+    → Result LinkedImage Refusal → Type 0
+IsClosedTo files order found (Ok places) result =
+    result ≡ gathered files order (length places) (link_files found places)
+    (first_bad_name (link_files found places))
+IsClosedTo files order found (Err error) (Ok image) = ⊥
+IsClosedTo files order found (Err error) (Err refusal) = closing_refusal error ≡ Some refusal
+
+-- the closure of the roots among the modules found, which has one answer
+abbrev pub IsLinkedOf : Files → Request → List VisibleModule → Result LinkedImage Refusal → Type 0
+IsLinkedOf files asked found result =
+    (closed : Result (List ℕ) CloseError)
+    × Closes (candidates found) asked.roots (Chosen asked.bind found asked.roots) closed
+    × IsClosedTo files asked.order found closed result
+
+abbrev pub IsFoundTo : Files → Request → List VisibleModule → Option Refusal
+    → Result LinkedImage Refusal → Type 0
+IsFoundTo files asked found (Some refusal) result = result ≡ Err refusal
+IsFoundTo files asked found None result = IsLinkedOf files asked found result
+
+abbrev pub IsPathTo : Files → Request → Option Refusal → Result LinkedImage Refusal → Type 0
+IsPathTo files asked (Some refusal) result = result ≡ Err refusal
+IsPathTo files asked None result =
+    IsFoundTo files asked (visible files asked.directories)
+    (reserved (visible files asked.directories)) result
+
+-- the rule: what a link of these files comes to, refusal by refusal in their order
+abbrev pub LinksTo : Files → Request → Result LinkedImage Refusal → Type 0
+LinksTo files asked result = IsPathTo files asked (path_refusal files asked.directories) result

@@ -1,0 +1,68 @@
+-- What a `link` did to the files of a shelf (this project's rule).
+use Rattle.std.specs.Prelude.{ℕ, ◌≡◌, ◌⊎◌, List, length, Option, Result, Ok, Err}
+use Rattle.jm_bytes.specs.declared.words.Order.{Order}
+use Rattle.jm_outside.specs.Files.{Files}
+use Rattle.jm_outside.specs.Outcome.{Rose, Shows}
+use Rattle.jm_writer.specs.Writes.{Holds, HoldsPart}
+use Rattle.jm_link.specs.declared.linking.LinkStop.{LinkStop}
+use Rattle.jm_link.specs.declared.linking.LinkStop.TheVariants as stop
+use Rattle.jm_link.specs.declared.linking.Summary.{Summary}
+use Rattle.jm_link.specs.declared.refusal.Refusal.{Refusal}
+use Rattle.jm_link.specs.declared.visible.VisibleModule.{VisibleModule}
+use Rattle.jm_link.specs.ByName.{Named}
+use Rattle.jm_link.specs.Linked.{IsFoundTo, LinkedImage, LinksTo, Request, gathered}
+use Rattle.jm_link.specs.Resources.{first_bad_name, reserved}
+
+-- what is told of an image
+abbrev pub summary_of : LinkedImage → Summary
+summary_of image = record {
+  modules = image.modules;
+  resources = length image.resources;
+  length = length image.bytes;
+  slots = image.slots;
+}
+
+-- this is what the link comes to, where the shelf tells its files
+abbrev pub ComesTo : Option Files → Request → Result LinkedImage Refusal → Type 0
+ComesTo told asked result = Shows told (λ files. LinksTo files asked result)
+
+-- what a link did, where its result is one of these
+
+-- it failed: before it wrote, or with a front of its image written
+abbrev pub BreaksOff : (Result LinkedImage Refusal → Type 0) → List ℕ → Option Files → Option Files
+    → Type 0
+BreaksOff Comes path old new =
+    (new ≡ old) ⊎ ((image : LinkedImage) × Comes (Ok image) × HoldsPart old path image.bytes new)
+
+-- by the answer: the image stands at the path; a refusal, and no file was changed; a file that was
+-- listed isn't there, which a shelf that tells its files never says; a failure of the outside; no
+-- memory
+abbrev pub LinksBy : (Result LinkedImage Refusal → Type 0) → List ℕ → Result Summary LinkStop
+    → (old new : Option Files) → (faults new_faults : ℕ) → Type 0
+LinksBy Comes path (Ok summary) old new faults new_faults =
+    (image : LinkedImage) × Comes (Ok image) × (summary ≡ summary_of image)
+    × Holds old path image.bytes new
+LinksBy Comes path (Err (stop.Refused refusal)) old new faults new_faults =
+    Comes (Err refusal) × (new ≡ old)
+LinksBy Comes path (Err (stop.NotThere listed)) old new faults new_faults =
+    Shows old (λ files. ⊥) × (new ≡ old)
+LinksBy Comes path (Err stop.Outside) old new faults new_faults =
+    BreaksOff Comes path old new × Rose faults new_faults
+LinksBy Comes path (Err stop.Memory) old new faults new_faults = BreaksOff Comes path old new
+
+-- what a link of the files did
+abbrev pub Links : Request → List ℕ → Result Summary LinkStop → (old new : Option Files)
+    → (faults new_faults : ℕ) → Type 0
+Links asked path answer old new faults new_faults =
+    LinksBy (ComesTo old asked) path answer old new faults new_faults
+
+-- of the modules found: their closure, and so on
+abbrev pub FoundComesTo : Option Files → Request → List VisibleModule
+    → Result LinkedImage Refusal → Type 0
+FoundComesTo told asked found result =
+    Shows told (λ files. IsFoundTo files asked found (reserved found) result)
+
+-- of the files of so many modules: their names, and so on
+abbrev pub NamesComeTo : Option Files → Order → ℕ → List Named → Result LinkedImage Refusal → Type 0
+NamesComeTo told order modules names result =
+    Shows told (λ files. result ≡ gathered files order modules names (first_bad_name names))

@@ -1,0 +1,49 @@
+use jm_bytes::Text;
+use jm_modinfo::DescriptorFault;
+use jm_names::NameFault;
+
+/// Why a command refuses its input (status 3). Names are as they stand in the image, paths of files
+/// as they are.
+#[derive(Debug, Drop)]
+pub enum Refusal {
+    /// The file at this path is no class, or no class of a module.
+    BadInfo {
+        path: Text,
+        fault: DescriptorFault,
+    },
+    /// Two folders of this directory have a module of this name.
+    TwoModules {
+        dir: Text,
+        name: Text,
+    },
+    /// A module has this name, `modules` or `packages`, which the trees have for themselves.
+    ReservedModule(Text),
+    /// No module of this name is found, and it is a root.
+    NoRoot(Text),
+    /// No module of this name is found, and the module `by` requires it without `static`.
+    Missing {
+        name: Text,
+        by: Text,
+    },
+    /// This module reaches itself by one or more requires without `static`.
+    Cycle(Text),
+    /// Two modules have classes in this package.
+    SplitPackage {
+        package: Text,
+        first: Text,
+        second: Text,
+    },
+    /// This resource may not stand in an image.
+    BadName {
+        name: Text,
+        fault: NameFault,
+    },
+    /// This resource has the name of another one's folder.
+    Clash(Text),
+    /// The image would have so many entries.
+    TooMany(u64),
+    /// No table of so many lengths takes all names.
+    NoTable(u32),
+    /// The image would have so many bytes; 0 where its strings alone are too many.
+    TooLarge(u64),
+}

@@ -1,0 +1,13 @@
+use jm_bytes::{List, Text};
+use jm_closure::Candidate;
+
+/// A module that a module path shows.
+#[derive(Debug, Drop)]
+pub struct VisibleModule {
+    /// The path of its folder.
+    pub folder: Text,
+    /// Its files to any depth, each by its path within the folder.
+    pub files: List<Text>,
+    /// What its descriptor says, and its class packages.
+    pub candidate: Candidate,
+}
