@@ -24,7 +24,7 @@ pub mod LaidTable
 mod LaidVectors
 pub mod LaidWritable
 pub mod LayoutLaws
-pub mod NameLaws
+pub mod LedLaws
 pub mod PlanLaws
 pub mod ResultLaws
 pub mod SlotLaws

@@ -1,13 +1,15 @@
 -- The parts that were laid out and drawn are those of the layout.
-use Rattle.std.proofs.Common.{AllPairs, ◌≢◌, ◌≡◌, ℕ, zero, suc, ◌+◌, ◌*◌, ◌<◌, ◌≤◌, ◌==◌, ◌⊎◌, inl, inr, Bool, true, false, cond, is_some, List, [], ◌∷◌, ◌++◌, Option, Some, None, Err, unwrap_or, length, map, get_or, slice_get, All, refl, sym, ap, ◌∙◌, subst, arith, append_assoc, length-append}
+use Rattle.std.proofs.Common.{AllPairs, ◌≢◌, ◌≡◌, ℕ, zero, suc, ◌+◌, ◌*◌, ◌<◌, ◌≤◌, ◌==◌, ◌⊎◌, inl, inr, Bool, true, false, cond, is_some, List, [], ◌∷◌, ◌++◌, Option, Some, None, Err, unwrap_or, length, map, get_or, slice_get, All, Contains, refl, sym, ap, ◌∙◌, subst, arith, append_assoc, length-append}
 use Rattle.std.specs.Prelude.{sum}
 use Rattle.std.specs.List.{flat_map, range_with_len, zip}
 use Rattle.std.specs.Map.{lookup}
+use Rattle.std.specs.Str.{bytes_eq}
 use Rattle.std.proofs.lemmas.Bool.{cases_lt, eqb-true, lt-ltb, le-ltb}
 use Rattle.std.proofs.lemmas.List.{append-nil, get_or_past, length-map}
 use Rattle.std.proofs.lemmas.List.Elements.{All-head, All-tail}
 use Rattle.std.proofs.lemmas.List.FromFn.{get_or-map-range_with_len, length-map-range_with_len}
 use Rattle.jm_bytes.specs.declared.words.Order.{Order}
+use Rattle.jm_bytes.proofs.Members.{contains_here, contains_later}
 use Rattle.jm_bytes.proofs.Pairs.{range_more}
 use Rattle.jm_strings.specs.Texts.{IsZeroFree, limit, section_of}
 use Rattle.jm_form.specs.declared.rows.Row.{Row}
@@ -29,11 +31,12 @@ use Rattle.jm_writer.specs.declared.entries.Entries.{Entries}
 use Rattle.jm_writer.specs.declared.laying.Laid.{Laid}
 use Rattle.jm_writer.specs.Drafts.{IsDraft, IsLarge, Plans, image_limit}
 use Rattle.jm_writer.specs.Laying.{AreFit, IsDrawn, IsLaid, IsTable, Lays, laid_length, slot_rows}
-use Rattle.jm_writer.specs.Parts.{Finds, IsOfEntries, child_word, holds_words, index_bytes, locations_of, place_at, places_from}
+use Rattle.jm_writer.specs.Parts.{IsOfEntries, child_word, holds_words, index_bytes, locations_of, place_at, places_from}
 use Rattle.jm_writer.specs.Parts.{rows_in_slots, sized_as, slot_in, tail_bytes}
 use Rattle.jm_writer.specs.Laid.{CanLay}
 use Rattle.jm_writer.proofs.LaidNames.{names_differ, names_zero_free}
 use Rattle.jm_writer.proofs.LayoutLaws.{layout_length}
+use Rattle.jm_writer.proofs.LedLaws.{AreNamed, led_there, nodes_named}
 
 -- Lists
 
@@ -45,9 +48,9 @@ flat_mapped : {A B C : Type 0} (f : B → List C) (g : A → B) (xs : List A) �
 flat_mapped f g [] = refl
 flat_mapped f g (x ∷ xs) = ap (λ l. f (g x) ++ l) (flat_mapped f g xs)
 
-map_same : {A B : Type 0} (f g : A → B) (xs : List A) → ((x : A) → f x ≡ g x) → map f xs ≡ map g xs
+map_same : {A B : Type 0} (f g : A → B) (xs : List A) → ((x : A) → Contains xs x → f x ≡ g x) → map f xs ≡ map g xs
 map_same f g [] same = refl
-map_same f g (x ∷ xs) same = ap (λ y. y ∷ map f xs) (same x) ∙ ap (λ l. g x ∷ l) (map_same f g xs same)
+map_same f g (x ∷ xs) same = ap (λ y. y ∷ map f xs) (same x (contains_here x xs)) ∙ ap (λ l. g x ∷ l) (map_same f g xs (λ y there. same y (contains_later x xs y there)))
 
 slice_get_or : (xs : List ℕ) (i : ℕ) → unwrap_or (slice_get xs i) 0 ≡ get_or xs i 0
 slice_get_or [] i = refl
@@ -141,20 +144,24 @@ module _ (index : Index) where
 
   -- Nodes
 
-  child_is : (names : List (List ℕ)) (found : List (List ℕ × ℕ)) → All (λ s. s < index.table.length) index.table.slots → Finds names index.table.slots found → (name : List ℕ) → child_word found (offset_words index) name ≡ name_place index names name
-  child_is names found below finds name =
-      place_found below (unwrap_or (slot_in found name) 0)
-      ∙ ap (λ (o : Option ℕ). row_place index (unwrap_or o 0)) (finds name)
+  -- the table leads the names to the slots that they have among all
+  abbrev Leads : List (List ℕ) → Table → Type 0
+  Leads names table = (name : List ℕ) → Contains names name → slot_in table name ≡ lookup (bytes_eq name) (zip names index.table.slots)
 
-  holds_are : (names : List (List ℕ)) (found : List (List ℕ × ℕ)) → All (λ s. s < index.table.length) index.table.slots → Finds names index.table.slots found → (holds : Holds) → holds_words index.texts found (offset_words index) holds ≡ node_words index names holds
-  holds_are names found below finds (Children list) = map_same (child_word found (offset_words index)) (name_place index names) list (child_is names found below finds)
-  holds_are names found below finds (Owners owners) = refl
+  child_is : (names : List (List ℕ)) (table : Table) → All (λ s. s < index.table.length) index.table.slots → Leads names table → (name : List ℕ) → Contains names name → child_word table (offset_words index) name ≡ name_place index names name
+  child_is names table below leads name there =
+      place_found below (unwrap_or (slot_in table name) 0)
+      ∙ ap (λ (o : Option ℕ). row_place index (unwrap_or o 0)) (leads name there)
 
-  tail_is : (names : List (List ℕ)) (found : List (List ℕ × ℕ)) (nodes : List TreeNode) → All (λ s. s < index.table.length) index.table.slots → Finds names index.table.slots found → tail_bytes index.order index.texts found (offset_words index) nodes ≡ contents_text (map (written_node index names) nodes)
-  tail_is names found [] below finds = refl
-  tail_is names found (node ∷ nodes) below finds =
-      ap (λ w. words_text index.order w ++ tail_bytes index.order index.texts found (offset_words index) nodes) (holds_are names found below finds node.holds)
-      ∙ ap (λ l. words_text index.order (node_words index names node.holds) ++ l) (tail_is names found nodes below finds)
+  holds_are : (names : List (List ℕ)) (table : Table) → All (λ s. s < index.table.length) index.table.slots → Leads names table → (holds : Holds) → AreNamed names holds → holds_words index.texts table (offset_words index) holds ≡ node_words index names holds
+  holds_are names table below leads (Children list) named = map_same (child_word table (offset_words index)) (name_place index names) list (λ name there. child_is names table below leads name (named name there))
+  holds_are names table below leads (Owners owners) named = refl
+
+  tail_is : (names : List (List ℕ)) (table : Table) (nodes : List TreeNode) → All (λ s. s < index.table.length) index.table.slots → Leads names table → ((node : TreeNode) → Contains nodes node → AreNamed names node.holds) → tail_bytes index.order index.texts table (offset_words index) nodes ≡ contents_text (map (written_node index names) nodes)
+  tail_is names table [] below leads named = refl
+  tail_is names table (node ∷ nodes) below leads named =
+      ap (λ w. words_text index.order w ++ tail_bytes index.order index.texts table (offset_words index) nodes) (holds_are names table below leads node.holds (named node (contains_here node nodes)))
+      ∙ ap (λ l. words_text index.order (node_words index names node.holds) ++ l) (tail_is names table nodes below leads (λ other there. named other (contains_later node nodes other there)))
 
 -- The whole
 
@@ -184,8 +191,13 @@ module _ (order : Order) (pool : List Written) (table : Table) (is : IsTable (al
       ∙ ap (λ (n : ℕ). ((28 + 8 * n) + length (locations_text index) + length (section_of index.texts)) + sum (map (λ e. e.size) es)) is.size
       ∙ sym (layout_length order pool is.greedy is.whole)
 
-  drafted : (laid : Laid) (nodes : List TreeNode) (draft : Draft) → IsLaid (lists_of es) table laid → IsDrawn order (lists_of es) table laid nodes draft → nodes ≡ tree_nodes (names_of pool) → first_clash (names_of pool) ≡ None → length es ≤ 1048576 → IsDraft order pool draft
-  drafted laid nodes draft lay drawn all apart few = record {
+  leads : CanLay pool → Leads index (all_names pool) table
+  leads can name there =
+      led_there (all_names pool) table is (names_differ pool can) name there
+      ∙ ap (λ s. lookup (bytes_eq name) (zip (all_names pool) s)) is.given
+
+  drafted : (laid : Laid) (nodes : List TreeNode) (draft : Draft) → CanLay pool → IsLaid (lists_of es) table laid → IsDrawn order (lists_of es) table laid nodes draft → nodes ≡ tree_nodes (names_of pool) → first_clash (names_of pool) ≡ None → length es ≤ 1048576 → IsDraft order pool draft
+  drafted laid nodes draft can lay drawn all apart few = record {
     table = is.greedy;
     has_table = is.first;
     apart = apart;
@@ -201,10 +213,10 @@ module _ (order : Order) (pool : List Written) (table : Table) (is : IsTable (al
         ∙ index_is index is.whole;
     tail =
         drawn.tail
-        ∙ ap (λ t. tail_bytes order t drawn.found laid.locations.places.items nodes) lay.texts
-        ∙ ap (λ p. tail_bytes order index.texts drawn.found p nodes) (lay.places ∙ places_is)
-        ∙ ap (tail_bytes order index.texts drawn.found (offset_words index)) all
-        ∙ tail_is index (all_names pool) drawn.found (tree_nodes (names_of pool)) is.below (subst (λ s. Finds (all_names pool) s drawn.found) is.given drawn.finds);
+        ∙ ap (λ t. tail_bytes order t table laid.locations.places.items nodes) lay.texts
+        ∙ ap (λ p. tail_bytes order index.texts table p nodes) (lay.places ∙ places_is)
+        ∙ ap (tail_bytes order index.texts table (offset_words index)) all
+        ∙ tail_is index (all_names pool) table (tree_nodes (names_of pool)) is.below (leads can) (nodes_named pool);
     size = drawn.size ∙ lay.size ∙ length_is;
     within = subst (λ n. n ≤ image_limit) (lay.size ∙ length_is) lay.within;
     slots = drawn.slots ∙ is.size;
@@ -225,11 +237,11 @@ module _ (order : Order) (pool : List Written) (table : Table) (is : IsTable (al
   }
 
 -- what was drawn is the draft of the pool
-pub plan_drafted : (order : Order) (pool : List Written) (entries : Entries) (table : Table) (laid : Laid) (nodes : List TreeNode) (draft : Draft) → IsOfEntries (all_sized pool) entries → IsTable entries.names table → IsLaid entries table laid → IsDrawn order entries table laid nodes draft → nodes ≡ tree_nodes (names_of pool) → first_clash (names_of pool) ≡ None → length (all_sized pool) ≤ 1048576 → IsDraft order pool draft
-plan_drafted order pool entries table laid nodes draft of_entries tabled lay drawn all apart few =
+pub plan_drafted : (order : Order) (pool : List Written) (entries : Entries) (table : Table) (laid : Laid) (nodes : List TreeNode) (draft : Draft) → CanLay pool → IsOfEntries (all_sized pool) entries → IsTable entries.names table → IsLaid entries table laid → IsDrawn order entries table laid nodes draft → nodes ≡ tree_nodes (names_of pool) → first_clash (names_of pool) ≡ None → length (all_sized pool) ≤ 1048576 → IsDraft order pool draft
+plan_drafted order pool entries table laid nodes draft can of_entries tabled lay drawn all apart few =
     subst (λ (e : Entries). IsTable e.names table → IsLaid e table laid → IsDrawn order e table laid nodes draft → IsDraft order pool draft)
     (sym (entries_are (all_sized pool) entries of_entries))
-    (λ t l d. drafted order pool table t laid nodes draft l d all apart few) tabled lay drawn
+    (λ t l d. drafted order pool table t laid nodes draft can l d all apart few) tabled lay drawn
 
 -- an image that is too large
 pub plan_large : (order : Order) (pool : List Written) (entries : Entries) (table : Table) (why : PlanError) → IsOfEntries (all_sized pool) entries → IsTable entries.names table → Lays entries table (Err why) → first_clash (names_of pool) ≡ None → length (all_sized pool) ≤ 1048576 → Plans order pool (Err why)

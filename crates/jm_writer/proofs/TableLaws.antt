@@ -87,17 +87,19 @@ of_greedy names table few is =
     let served = greedy_serves names slots table found.enough (omega arith) found.is in
     let serves = served.serves in
     let size = length_of_table names slots table found.is in
+    let words = words_read table.redirects served.words in
     record {
       greedy = table;
       first = is;
       size = refl;
       given = refl;
-      words = words_read table.redirects served.words;
+      words = words;
       whole = sym (length-map table.redirects word_of) ∙ serves.words_length ∙ sym size;
       few = omega arith;
       each = serves.given_length;
       below = subst (λ n. All (λ slot. slot < n) table.slots) (sym size) (all_below names slots (map word_of table.redirects) table.slots serves);
       apart = serves.apart;
+      serves = subst (λ w. Serves names table.length w table.slots) (sym words) (subst (λ n. Serves names n (map word_of table.redirects) table.slots) (sym size) serves);
     }
 
 -- what is built is the table of the names

@@ -9,6 +9,7 @@ use Rattle.jm_form.specs.declared.rows.Row.{Row}
 use Rattle.jm_form.specs.declared.trees.TreeNode.{TreeNode}
 use Rattle.jm_form.specs.Greedy.{GreedyTable, first_table, word_of}
 use Rattle.jm_form.specs.Layout.{rows_from, texts_of}
+use Rattle.jm_form.specs.Serves.{Serves}
 use Rattle.jm_redirect.specs.declared.building.Table.{Table}
 use Rattle.jm_writer.specs.declared.draft.Draft.{Draft}
 use Rattle.jm_writer.specs.declared.draft.PlanError.{PlanError}
@@ -16,7 +17,7 @@ use Rattle.jm_writer.specs.declared.draft.PlanError.TheVariants as refusal
 use Rattle.jm_writer.specs.declared.entries.Entries.{Entries}
 use Rattle.jm_writer.specs.declared.laying.Laid.{Laid}
 use Rattle.jm_writer.specs.Drafts.{entry_limit, image_limit}
-use Rattle.jm_writer.specs.Parts.{Finds, index_bytes, locations_of, places_from, rows_in_slots}
+use Rattle.jm_writer.specs.Parts.{index_bytes, locations_of, places_from, rows_in_slots}
 use Rattle.jm_writer.specs.Parts.{sized_as, tail_bytes}
 
 -- The table
@@ -33,6 +34,8 @@ pub record IsTable (names : List (List ℕ)) (table : Table) : Type 0 where
   pub each : length greedy.slots ≡ length names
   pub below : All (λ slot. slot < greedy.length) greedy.slots
   pub apart : AllPairs (λ one other. one ≢ other) greedy.slots
+  pub serves :
+      Serves names table.length (map (cast_unsigned w32) table.redirect) table.slot_of
 
 abbrev pub Tables : List (List ℕ) → Result Table PlanError → Type 0
 Tables names (Ok table) = IsTable names table
@@ -101,9 +104,7 @@ pub record IsDrawn (words : Order) (entries : Entries) (table : Table) (laid : L
   pub index : draft.index ≡ index_bytes words (length entries.names)
       (map (cast_unsigned w32) table.redirect) laid.locations.places.items
       laid.locations.text.items (section_of laid.strings)
-  pub found : List (List ℕ × ℕ)
-  pub finds : Finds entries.names table.slot_of found
   pub tail : draft.tail ≡
-      tail_bytes words laid.strings found laid.locations.places.items nodes
+      tail_bytes words laid.strings table laid.locations.places.items nodes
   pub size : draft.length ≡ laid.length
   pub slots : draft.slots ≡ table.length

@@ -2,6 +2,5 @@ pub mod Drafts
 pub mod Laid
 pub mod Laying
 pub mod Parts
-pub mod SlotsView
 pub mod Writable
 pub mod Writes

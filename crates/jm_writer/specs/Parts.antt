@@ -1,18 +1,22 @@
 -- The parts of an image that is written, from the lists that the code has (jimage 1.0). Their laws
 -- say that they are those of the layout.
 use Rattle.std.specs.Prelude.{ℕ, ◌+◌, ◌==◌, ◌≡◌, List, [], ◌∷◌, ◌++◌, length, map, slice_get}
+use Rattle.std.specs.Prelude.{slice_index}
+use Rattle.std.specs.Int.{w32, cast_unsigned}
 use Rattle.std.specs.Prelude.{Option, Some, None, unwrap_or}
 use Rattle.std.specs.List.{flat_map, range_with_len, zip}
 use Rattle.std.specs.Map.{lookup}
-use Rattle.std.specs.Str.{bytes_eq}
 use Rattle.jm_bytes.specs.declared.words.Order.{Order}
 use Rattle.jm_form.specs.declared.rows.Row.{Row}
 use Rattle.jm_form.specs.declared.trees.Holds.{Holds}
 use Rattle.jm_form.specs.declared.trees.Holds.TheVariants.{Children, Owners}
 use Rattle.jm_form.specs.declared.trees.Owner.{Owner}
 use Rattle.jm_form.specs.declared.trees.TreeNode.{TreeNode}
+use Rattle.jm_form.specs.Greedy.{bucket_of}
 use Rattle.jm_form.specs.Layout.{Sized, location_of, text_place}
 use Rattle.jm_form.specs.Nodes.{empty_flag, words_text}
+use Rattle.jm_form.specs.Table.{redirect_of, slot_of}
+use Rattle.jm_redirect.specs.declared.building.Table.{Table}
 use Rattle.jm_writer.specs.declared.entries.Entries.{Entries}
 
 -- Entries
@@ -36,13 +40,14 @@ abbrev pub rows_in_slots : List ℕ → List Row → ℕ → List (Option Row)
 rows_in_slots slots rows count =
     map (λ slot. lookup (λ other. slot == other) (zip slots rows)) (range_with_len 0 count)
 
--- the slot of a name among pairs of these
-abbrev pub slot_in : List (List ℕ × ℕ) → List ℕ → Option ℕ
-slot_in pairs name = lookup (bytes_eq name) pairs
+-- the redirect word of a name's bucket, or 0 where there is none
+abbrev pub bucket_word : Table → List ℕ → ℕ
+bucket_word table name =
+    slice_index (map (cast_unsigned w32) table.redirect) (bucket_of table.length name)
 
--- what is found of a name is its first slot among names beside slots
-abbrev pub Finds : List (List ℕ) → List ℕ → List (List ℕ × ℕ) → Type 0
-Finds names slots found = (asked : List ℕ) → slot_in found asked ≡ slot_in (zip names slots) asked
+-- the slot to which the redirect word of its bucket leads a name
+abbrev pub slot_in : Table → List ℕ → Option ℕ
+slot_in table name = slot_of table.length name (redirect_of (bucket_word table name))
 
 -- Locations
 
@@ -79,21 +84,21 @@ index_bytes order entries redirect places locations strings =
 
 -- Nodes
 
--- the word of a child: the place at the slot of its name, or at slot 0
-abbrev pub child_word : List (List ℕ × ℕ) → List ℕ → List ℕ → ℕ
-child_word slots places name =
-    unwrap_or (slice_get places (unwrap_or (slot_in slots name) 0)) 0
+-- the word of a child: the place at the slot to which its name is led, or at slot 0
+abbrev pub child_word : Table → List ℕ → List ℕ → ℕ
+child_word table places name =
+    unwrap_or (slice_get places (unwrap_or (slot_in table name) 0)) 0
 
 -- the two words of an owner
 abbrev pub owner_pair : List (List ℕ) → Owner → List ℕ
 owner_pair texts owner = empty_flag owner.empty ∷ text_place texts owner.module ∷ []
 
-abbrev pub holds_words : List (List ℕ) → List (List ℕ × ℕ) → List ℕ → Holds → List ℕ
-holds_words texts slots places (Children names) = map (child_word slots places) names
-holds_words texts slots places (Owners owners) = flat_map (owner_pair texts) owners
+abbrev pub holds_words : List (List ℕ) → Table → List ℕ → Holds → List ℕ
+holds_words texts table places (Children names) = map (child_word table places) names
+holds_words texts table places (Owners owners) = flat_map (owner_pair texts) owners
 
 -- the contents of the nodes
 abbrev pub tail_bytes :
-    Order → List (List ℕ) → List (List ℕ × ℕ) → List ℕ → List TreeNode → List ℕ
-tail_bytes order texts slots places nodes =
-    flat_map (λ node. words_text order (holds_words texts slots places node.holds)) nodes
+    Order → List (List ℕ) → Table → List ℕ → List TreeNode → List ℕ
+tail_bytes order texts table places nodes =
+    flat_map (λ node. words_text order (holds_words texts table places node.holds)) nodes

@@ -20,7 +20,7 @@ pub fn put_words(text: &mut Vec<u8>, order: Order, words: &[u32]) -> Result<(), 
 }
 
 /// A redirect word as it stands in the file.
-fn unsigned(word: i32) -> u32
+pub fn unsigned(word: i32) -> u32
     ensures { result ≡ cast_unsigned w32 word }
 {
     word.cast_unsigned()

@@ -8,9 +8,9 @@ mod interning;
 mod laying;
 mod lists;
 mod locations;
-mod names;
 mod planning;
 mod rows;
+mod slots;
 mod tail;
 #[cfg(test)]
 mod tests;

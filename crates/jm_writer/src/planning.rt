@@ -11,7 +11,6 @@ use crate::draft::{Draft, PlanError};
 use crate::entries::{Entries, entries_of};
 use crate::index::index_bytes;
 use crate::laying::{Laid, lay_out, table_of};
-use crate::names::slots_by_name;
 use crate::tail::tail_bytes;
 use jm_bytes::{NoMemory, Order};
 use jm_form::TreeNode;
@@ -39,8 +38,7 @@ fn draw(
 {
     let names = entries.names.as_slice();
     let places = laid.locations.places.as_slice();
-    let slots = slots_by_name(alloc, names, table.slot_of.as_slice())?;
-    let tail = tail_bytes(alloc, order, &laid.strings, &slots, places, nodes)?;
+    let tail = tail_bytes(alloc, order, &laid.strings, table, places, nodes)?;
     let index = index_bytes(
         alloc,
         order,

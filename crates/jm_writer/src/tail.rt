@@ -7,18 +7,20 @@ ghost use Rattle.jm_writer.specs.Parts.{child_word, holds_words, owner_pair, tai
 
 use crate::index::put_words;
 use crate::lists::room_for;
-use crate::names::SlotsByName;
 use crate::rows::text_place;
+use crate::slots::slot_in;
 use jm_bytes::{List, NoMemory, Order, Text};
 use jm_form::{Holds, Owner, TreeNode};
+use jm_redirect::Table;
 use jm_strings::Strings;
 use std::alloc::Global;
 
-/// The place of the row of the entry that has a name; of slot 0 where no entry has it.
-fn child_word(slots: &SlotsByName, places: &[u32], name: &[u8]) -> u32
-    ensures { result ≡ child_word slots.now places.now name.now }
+/// The place of the row at the slot to which the table leads a name; of slot 0 where it leads it to
+/// none.
+fn child_word(table: &Table, places: &[u32], name: &[u8]) -> u32
+    ensures { result ≡ child_word table.now places.now name.now }
 {
-    let slot = slots.get(name).unwrap_or(0);
+    let slot = slot_in(table, name).unwrap_or(0);
     match places.get(slot as usize) {
         Some(place) => *place,
         None => 0,
@@ -29,15 +31,15 @@ fn child_word(slots: &SlotsByName, places: &[u32], name: &[u8]) -> u32
 fn put_children(
     text: &mut Vec<u8>,
     order: Order,
-    slots: &SlotsByName,
+    table: &Table,
     places: &[u32],
     names: &[Text],
 ) -> Result<(), NoMemory>
     ensures { OnOk result (text.new.items ≡ text.old.items
-        ++ words_text order (map (child_word slots.now places.now) names.now)) }
+        ++ words_text order (map (child_word table.now places.now) names.now)) }
 {
     for name in names {
-        put_words(text, order, &[child_word(slots, places, name.as_slice())])?;
+        put_words(text, order, &[child_word(table, places, name.as_slice())])?;
     }
     Ok(())
 }
@@ -66,15 +68,15 @@ fn put_holds(
     text: &mut Vec<u8>,
     order: Order,
     strings: &Strings,
-    slots: &SlotsByName,
+    table: &Table,
     places: &[u32],
     holds: &Holds,
 ) -> Result<(), NoMemory>
     ensures { OnOk result (text.new.items ≡ text.old.items
-        ++ words_text order (holds_words strings.now slots.now places.now holds.now)) }
+        ++ words_text order (holds_words strings.now table.now places.now holds.now)) }
 {
     match holds {
-        Holds::Children(names) => put_children(text, order, slots, places, names.as_slice()),
+        Holds::Children(names) => put_children(text, order, table, places, names.as_slice()),
         Holds::Owners(owners) => put_owners(text, order, strings, owners.as_slice()),
     }
 }
@@ -84,16 +86,16 @@ pub fn tail_bytes(
     alloc: Global,
     order: Order,
     strings: &Strings,
-    slots: &SlotsByName,
+    table: &Table,
     places: &[u32],
     nodes: &[TreeNode],
 ) -> Result<Text, NoMemory>
     ensures { IfOk result
-        (λ text. text ≡ tail_bytes order strings.now slots.now places.now nodes.now) }
+        (λ text. text ≡ tail_bytes order strings.now table.now places.now nodes.now) }
 {
     let mut text = room_for(alloc, 0)?;
     for node in nodes {
-        put_holds(&mut text, order, strings, slots, places, &node.holds)?;
+        put_holds(&mut text, order, strings, table, places, &node.holds)?;
     }
     Ok(Text::from_vec(text))
 }

@@ -1,6 +1,6 @@
-use Rattle.std.proofs.Common.{refl, map, length, ◌∙◌, ap, subst}
+use Rattle.std.proofs.Common.{refl, map, length, ◌∙◌, ap}
 use Rattle.std.specs.Int.{w32, cast_unsigned}
-use Rattle.jm_writer.specs.Parts.{Finds, index_bytes, tail_bytes}
+use Rattle.jm_writer.specs.Parts.{index_bytes, tail_bytes}
 use Rattle.jm_writer.proofs.planning.draw.Goals as goal
 
 pub returns : goal.returns
@@ -15,14 +15,10 @@ returns c =
       order = refl;
       index =
           c.in_ok-index.ensures
-          ∙ ap (λ n. index_bytes order (length n) (map (cast_unsigned w32) c.as_slice-2.result.now) laid.locations.places.items laid.locations.text.items c.bytes.result.now) names
-          ∙ ap (λ w. index_bytes order (length e.names) (map (cast_unsigned w32) w) laid.locations.places.items laid.locations.text.items c.bytes.result.now) c.as_slice-2.ensures
+          ∙ ap (λ n. index_bytes order (length n) (map (cast_unsigned w32) c.as_slice.result.now) laid.locations.places.items laid.locations.text.items c.bytes.result.now) names
+          ∙ ap (λ w. index_bytes order (length e.names) (map (cast_unsigned w32) w) laid.locations.places.items laid.locations.text.items c.bytes.result.now) c.as_slice.ensures
           ∙ ap (index_bytes order (length e.names) (map (cast_unsigned w32) t.redirect) laid.locations.places.items laid.locations.text.items) c.bytes.ensures.bytes;
-      found = c.in_ok-slots.slots;
-      finds =
-          subst (λ n. Finds n t.slot_of c.in_ok-slots.slots) names
-          (subst (λ s. Finds c.as_slice-names.result.now s c.in_ok-slots.slots) c.as_slice.ensures c.in_ok-slots.ensures);
-      tail = c.in_ok-tail.ensures ∙ ap (λ p. tail_bytes order laid.strings c.in_ok-slots.slots p c.args.nodes.now) places;
+      tail = c.in_ok-tail.ensures ∙ ap (λ p. tail_bytes order laid.strings t p c.args.nodes.now) places;
       size = refl;
       slots = refl;
     }

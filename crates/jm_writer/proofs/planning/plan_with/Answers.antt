@@ -1,6 +1,7 @@
 use Rattle.std.proofs.Common.{rules, ◌≡◌, ◌++◌, map, ◌+◌, ◌≤◌, Err, length, sym, subst, arith}
 use Rattle.jm_form.specs.Layout.{all_sized, sized, sized_node}
 use Rattle.jm_writer.specs.Drafts.{Plans}
+use Rattle.jm_writer.specs.Laid.{CanLay}
 use Rattle.jm_writer.specs.Laying.{IsTable}
 use Rattle.jm_writer.specs.Parts.{IsOfEntries}
 use Rattle.jm_writer.proofs.PlanLaws.{count_sized, entries_fit, plan_drafted, plan_large}
@@ -30,7 +31,8 @@ returns c =
     let all = count_sized pool c.args.nodes.now nodes in
     let sum : length pool + length c.args.nodes.now ≡ c.in_ok-count.count = search rules in
     let few : length (all_sized pool) ≤ 1048576 = omega (arith, all, sum, c.if-count-gt-ENTRY_LIMIT.false) in
-    plan_drafted c.args.order pool e c.in_ok-table.table c.in_ok-laid.laid c.args.nodes.now c.in_ok-draw.field-0 of_entries tabled c.in_ok-laid.ensures c.in_ok-draw.ensures nodes c.requires.apart few
+    let can : CanLay pool = record { differ = c.len.ensures.differ; plain = record { sound = c.requires.sound; resources = c.requires.resources; apart = c.requires.apart } } in
+    plan_drafted c.args.order pool e c.in_ok-table.table c.in_ok-laid.laid c.args.nodes.now c.in_ok-draw.field-0 can of_entries tabled c.in_ok-laid.ensures c.in_ok-draw.ensures nodes c.requires.apart few
 
 pub lay_out-requires-clause-entries : goal.lay_out-requires-clause-entries
 lay_out-requires-clause-entries c =

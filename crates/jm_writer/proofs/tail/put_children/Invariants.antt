@@ -5,5 +5,5 @@ use Rattle.jm_writer.proofs.tail.put_children.Given as goal
 
 abbrev pub invariant-loop-name : goal.invariant-loop-name
 invariant-loop-name l =
-    l.text.items ++ words_text l.order (map (child_word l.slots l.places) (drop l.name-index l.names))
-    ≡ l.fn.text.items ++ words_text l.order (map (child_word l.slots l.places) l.names)
+    l.text.items ++ words_text l.order (map (child_word l.table l.places) (drop l.name-index l.names))
+    ≡ l.fn.text.items ++ words_text l.order (map (child_word l.table l.places) l.names)
