@@ -67,35 +67,51 @@ module _ (link : Link) (shelf new_shelf : Seen Files) (out new_out : Seen (List 
 
   -- it stopped before anything was put
   pub link_stopped : (given : LinkStop) → Links link.asked link.output (Err given) shelf.told new_shelf.told shelf.faults new_shelf.faults → new_out.told ≡ out.told → Does (Err (stop_of_link given))
-  link_stopped (link_stop.Refused refusal) (comes, files) unput = inr (refusing refusal, inl (Err refusal, comes, refl), record {
-    answers = (refl, refl);
-    output = gets_nothing out new_out unput;
-    files = makes_nothing shelf new_shelf files;
-    outside = λ failed. cc;
-  })
-  link_stopped (link_stop.NotThere listed) (never, files) unput = inr (not_there listed, inr (listed, never, refl), record {
-    answers = (refl, refl);
-    output = gets_nothing out new_out unput;
-    files = makes_nothing shelf new_shelf files;
-    outside = λ failed. cc;
-  })
+  link_stopped (link_stop.Refused refusal) (comes, files) unput = inr (
+    refusing refusal,
+    inl (Err refusal, comes, refl),
+    record {
+      answers = (refl, refl);
+      output = gets_nothing out new_out unput;
+      files = makes_nothing shelf new_shelf files;
+      outside = λ failed. cc;
+    },
+  )
+  link_stopped (link_stop.NotThere listed) (never, files) unput = inr (
+    not_there listed,
+    inr (listed, never, refl),
+    record {
+      answers = (refl, refl);
+      output = gets_nothing out new_out unput;
+      files = makes_nothing shelf new_shelf files;
+      outside = λ failed. cc;
+    },
+  )
   link_stopped link_stop.Outside (breaks, rose) unput = broken breaks
     where
       broken : BreaksOff (ComesTo shelf.told link.asked) link.output shelf.told new_shelf.told → Does (Err stop.Outside)
       broken (inl files) = inl (record { failed = tt; files = files; output = unput; outside = λ failed. inl rose })
-      broken (inr (image, comes, part)) = inr (linked link.output image, inl (Ok image, comes, refl), record {
-        answers = tt;
-        output = front_of_nothing (linked link.output image).output out new_out unput;
-        files = part_made link.output image.bytes shelf.told new_shelf.told shelf.faults new_shelf.faults part;
-        outside = λ failed. inl rose;
-      })
+      broken (inr (image, comes, part)) = inr (
+        linked link.output image,
+        inl (Ok image, comes, refl),
+        record {
+          answers = tt;
+          output = front_of_nothing (linked link.output image).output out new_out unput;
+          files = part_made link.output image.bytes shelf.told new_shelf.told shelf.faults new_shelf.faults part;
+          outside = λ failed. inl rose;
+        },
+      )
   link_stopped link_stop.Memory breaks unput = broken breaks
     where
       broken : BreaksOff (ComesTo shelf.told link.asked) link.output shelf.told new_shelf.told → Does (Err stop.Memory)
       broken (inl files) = inl (record { failed = tt; files = files; output = unput; outside = λ failed. cc })
-      broken (inr (image, comes, part)) = inr (linked link.output image, inl (Ok image, comes, refl), record {
-        answers = tt;
-        output = front_of_nothing (linked link.output image).output out new_out unput;
-        files = part_made link.output image.bytes shelf.told new_shelf.told shelf.faults new_shelf.faults part;
-        outside = λ failed. cc;
-      })
+      broken (inr (image, comes, part)) = inr (
+        linked link.output image,
+        inl (Ok image, comes, refl),
+        record {
+          answers = tt;
+          output = front_of_nothing (linked link.output image).output out new_out unput;
+          files = part_made link.output image.bytes shelf.told new_shelf.told shelf.faults new_shelf.faults part;
+          outside = λ failed. cc;
+        },
+      )

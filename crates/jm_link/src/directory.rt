@@ -1,5 +1,6 @@
 //! The modules that the folders of a directory show.
-ghost use Rattle.std.specs.Prelude.{◌≡◌, ◌∷◌, ◌++◌, [], All, Contains, IsUtf8, IfOk, IsErrOf, None, Ok, Err, ◌≢◌};
+ghost use Rattle.std.specs.Prelude.{◌≡◌, ◌∷◌, ◌++◌, [], All, Contains, IsUtf8, IfOk, IsErrOf};
+ghost use Rattle.std.specs.Prelude.{None, Ok, Err, ◌≢◌};
 ghost use Rattle.std.specs.Prelude.{true, false};
 ghost use Rattle.jm_class.specs.Classes.{ClassData, IsClass};
 ghost use Rattle.jm_class.specs.Views.{plain};
@@ -7,10 +8,13 @@ ghost use Rattle.jm_modinfo.specs.ComputedInfo.{info_of};
 ghost use Rattle.jm_modinfo.specs.Constants.{is_legal};
 ghost use Rattle.jm_outside.specs.Files.{Rising, file, names_below};
 ghost use Rattle.jm_outside.specs.Outcome.{CountsFaults, Shows};
-ghost use Rattle.jm_link.specs.Finding.{Comes, Described, HasTexts, added_due, directory_due, folder_due};
-ghost use Rattle.jm_link.specs.Finding.{folders_among, folders_due, info_due, names_within, refused_at, shown_due};
+ghost use Rattle.jm_link.specs.Finding.{Comes, Described, HasTexts, added_due, directory_due};
+ghost use Rattle.jm_link.specs.Finding.{folder_due};
+ghost use Rattle.jm_link.specs.Finding.{folders_among, folders_due, info_due, names_within};
+ghost use Rattle.jm_link.specs.Finding.{refused_at, shown_due};
 ghost use Rattle.jm_link.specs.declared.refusal.Refusal.TheVariants.{TwoModules};
-ghost use Rattle.jm_link.specs.Modules.{folder_info, info_in, info_path, info_with, inside, is_named, module_with, name_of};
+ghost use Rattle.jm_link.specs.Modules.{folder_info, info_in, info_path, info_with, inside};
+ghost use Rattle.jm_link.specs.Modules.{is_named, module_with, name_of};
 
 use crate::folders::{folders_among, names_within};
 use crate::found::Found;
@@ -172,7 +176,8 @@ fn visible_module<S: Shelf>(
     requires texts { All IsUtf8 names.now }
     requires folder { IsUtf8 folder.now }
     requires listed { Contains (folders_among names.now) folder.now }
-    requires told { Shows (S.files shelf.old) (λ files. names.now ≡ names_below directory.now files) }
+    requires told { Shows (S.files shelf.old) (λ files.
+        names.now ≡ names_below directory.now files) }
     ensures files { S.files shelf.new ≡ S.files shelf.old }
     ensures told { Shows (S.files shelf.old) (λ files.
         Comes ⊥ (folder_due files directory.now earlier.now folder.now) result) }
@@ -199,7 +204,8 @@ fn with_folder<S: Shelf>(
     requires rising { Rising names.now }
     requires texts { All IsUtf8 names.now }
     requires listed { Contains (folders_among names.now) folder.now }
-    requires told { Shows (S.files shelf.old) (λ files. names.now ≡ names_below directory.now files) }
+    requires told { Shows (S.files shelf.old) (λ files.
+        names.now ≡ names_below directory.now files) }
     ensures files { S.files shelf.new ≡ S.files shelf.old }
     ensures told { Shows (S.files shelf.old) (λ files.
         Comes ⊥ (added_due files directory.now found folder.now) result) }
@@ -220,7 +226,8 @@ fn found_among<S: Shelf>(
     requires directory { IsUtf8 directory.now }
     requires rising { Rising names.now }
     requires texts { All IsUtf8 names.now }
-    requires told { Shows (S.files shelf.old) (λ files. names.now ≡ names_below directory.now files) }
+    requires told { Shows (S.files shelf.old) (λ files.
+        names.now ≡ names_below directory.now files) }
     ensures files { S.files shelf.new ≡ S.files shelf.old }
     ensures told { Shows (S.files shelf.old) (λ files.
         Comes ⊥ (folders_due files directory.now [] (folders_among names.now)) result) }

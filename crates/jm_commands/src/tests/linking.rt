@@ -65,19 +65,31 @@ fn gives<T: Threads + Sync>(
 
 /// Files in the place of the class of a module, or besides.
 const STATIC: &str = "mods/a/module-info.class=M a b,java.base,x?";
+
 const CYCLE: &str = "mods/b/module-info.class=M b a";
+
 const SPLIT: &str = "mods/b/p/Z.class=Z";
+
 const BELOW: &str = "mods/b/p/s/Z.class=Z";
+
 const ALONE: &str = "mods/a/module-info.class=M a -";
+
 const AGAIN: &str = "mods/c/module-info.class=M a -";
+
 const RESERVED: &str = "mods/c/module-info.class=M modules -";
+
 const NO_CLASS: &str = "mods/c/module-info.class=no";
+
 const TWO: &str = "x/a/module-info.class=M a b
 y/a/module-info.class=M a z
 y/b/module-info.class=M b -";
+
 const WIDE: &str = "mods/a/\u{1F600}=x\nmods/a/\u{FFFD}=yy";
+
 const DOTS: &str = "mods/a/../x=x";
+
 const BELOW_FILE: &str = "mods/a/p=p";
+
 const SERVICES: &str = "mods/a/module-info.class=M a - s/S
 mods/b/module-info.class=M b c - s/S
 mods/c/module-info.class=M c - t/T
@@ -91,11 +103,26 @@ fn link_writes_the_closure_or_says_why_not(rt: HostRuntime) -> Result<(), Fail> 
     let three = (THREE, "", "");
     let without_b = (THREE, "mods/b/module-info.class", "");
     for (files, words, then, want) in [
-        (three, link, list, "0|modules 3\nresources 6\nbytes 1006\n|0|113 /a/module-info.class
+        (
+            three,
+            link,
+            list,
+            "0|modules 3\nresources 6\nbytes 1006\n|0|113 /a/module-info.class
 2 /a/p/A.class\n100 /b/module-info.class\n3 /b/q/r/B.class\n6 /java.base/java/lang/Object.class
-87 /java.base/module-info.class\n|"),
-        (three, link, "verify img", "0|modules 3\nresources 6\nbytes 1006\n|0|valid 21\n|"),
-        (three, link, "cat img /a/p/A.class", "0|modules 3\nresources 6\nbytes 1006\n|0|A!|"),
+87 /java.base/module-info.class\n|",
+        ),
+        (
+            three,
+            link,
+            "verify img",
+            "0|modules 3\nresources 6\nbytes 1006\n|0|valid 21\n|",
+        ),
+        (
+            three,
+            link,
+            "cat img /a/p/A.class",
+            "0|modules 3\nresources 6\nbytes 1006\n|0|A!|",
+        ),
         (
             three,
             "link --endian big --output img --add-modules a --module-path mods",
@@ -108,15 +135,30 @@ fn link_writes_the_closure_or_says_why_not(rt: HostRuntime) -> Result<(), Fail> 
             list,
             "3||refused: NoRoot b\n5||not there: img\n",
         ),
-        (("", "", ""), link, list, "3||refused: NoRoot a\n5||not there: img\n"),
+        (
+            ("", "", ""),
+            link,
+            list,
+            "3||refused: NoRoot a\n5||not there: img\n",
+        ),
         (
             three,
             "link --module-path mods --add-modules c --output img",
             list,
             "3||refused: NoRoot c\n5||not there: img\n",
         ),
-        (without_b, link, list, "3||refused: Missing b a\n5||not there: img\n"),
-        ((THREE, "", CYCLE), link, list, "3||refused: Cycle a\n5||not there: img\n"),
+        (
+            without_b,
+            link,
+            list,
+            "3||refused: Missing b a\n5||not there: img\n",
+        ),
+        (
+            (THREE, "", CYCLE),
+            link,
+            list,
+            "3||refused: Cycle a\n5||not there: img\n",
+        ),
         (
             (THREE, "", STATIC),
             link,

@@ -26,7 +26,9 @@ struct Draft {
 fn name(draft: &mut Draft, tag: u8, text: &str) -> Result<(), Fail> {
     let first = draft.count.wrapping_add(1);
     let second = first.wrapping_add(1);
-    draft.constants.extend_from_slice(&[1, 0, (text.len() & 0xFF) as u8])?;
+    draft
+        .constants
+        .extend_from_slice(&[1, 0, (text.len() & 0xFF) as u8])?;
     draft.constants.extend_from_slice(text.as_bytes())?;
     draft.constants.extend_from_slice(&[tag, 0, first])?;
     draft.fields.extend_from_slice(&[0, second])?;
@@ -68,7 +70,10 @@ fn put_list(draft: &mut Draft, list: &str, tag: u8, behind: &[u8]) -> Result<(),
 fn info(alloc: Global, words: &str) -> Result<Vec<u8>, Fail> {
     let mut words = words.split(' ');
     let mut draft = Draft {
-        constants: copy_of(alloc, b"\x01\x00\x0Bmodule-info\x07\x00\x01\x01\x00\x06Module")?,
+        constants: copy_of(
+            alloc,
+            b"\x01\x00\x0Bmodule-info\x07\x00\x01\x01\x00\x06Module",
+        )?,
         count: 3,
         fields: Vec::new(alloc),
     };
@@ -97,7 +102,12 @@ fn content(alloc: Global, text: &str) -> Result<Text, Fail> {
 
 /// Puts files on a shelf, a line each: the path, `=` and what it holds. A line `-PATH=` says that
 /// this path's file is left out.
-pub fn put_files(alloc: Global, shelf: &mut MemShelf, files: &str, left_out: &str) -> Result<(), Fail> {
+pub fn put_files(
+    alloc: Global,
+    shelf: &mut MemShelf,
+    files: &str,
+    left_out: &str,
+) -> Result<(), Fail> {
     for line in files.split('\n') {
         let Some((path, text)) = line.split_once('=') else {
             continue;
