@@ -1,5 +1,5 @@
--- Pairs of a name and something else, in byte order of their names (this project's rule for all that
--- rises by name).
+-- Pairs of a name and something else, in byte order of their names (this project's rule for all
+-- that rises by name).
 use Rattle.std.specs.Prelude.{ℕ, Bool, List, [], ◌∷◌, AllPairs, IsTrue, IsFalse, if◌then◌else◌}
 use Rattle.std.specs.Cmp.Lexicographic.{slice_cmp}
 use Rattle.std.specs.Ordering.{is_lt, nat_cmp}

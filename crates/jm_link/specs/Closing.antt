@@ -1,5 +1,6 @@
 -- The closure of the roots among the modules that are visible, as `link` takes it (JEP 282).
-use Rattle.std.specs.Prelude.{ℕ, ◌≡◌, ◌⊎◌, Bool, true, false, List, map, Option, Some, None, Result, Ok, Err}
+use Rattle.std.specs.Prelude.{ℕ, ◌≡◌, ◌⊎◌, Bool, true, false, List, map, Option, Some, None}
+use Rattle.std.specs.Prelude.{Result, Ok, Err}
 use Rattle.std.specs.List.{zip}
 use Rattle.jm_bind.specs.Binding.{Bound}
 use Rattle.jm_closure.specs.declared.candidate.Candidate.{Candidate}
@@ -50,8 +51,8 @@ pub record IsRefusedAmong (found : List VisibleModule) (roots : List (List ℕ))
   pub closes : ClosesWith bind (candidates found) roots (Err error)
   pub refusal : closing_refusal error ≡ Some given
 
--- by the answer: the same modules, and the places of the closure; a reserved name, or the refusal of
--- the closure; no memory
+-- by the answer: the same modules, and the places of the closure; a reserved name, or the refusal
+-- of the closure; no memory
 abbrev pub ClosesAmong : List VisibleModule → List (List ℕ) → Bool
     → Result (List VisibleModule × List ℕ) LinkStop → Type 0
 ClosesAmong found roots bind (Ok closed) =

@@ -1,6 +1,8 @@
 -- What the steps come to that look for the modules of a module path (this project's rule).
-use Rattle.std.specs.Prelude.{ℕ, ◌≡◌, ◌≢◌, Bool, true, List, [], ◌∷◌, ◌++◌, filter_map, if◌then◌else◌}
-use Rattle.std.specs.Prelude.{All, AllPairs, IsUtf8, Option, Some, None, option_map, Result, Ok, Err, codes, not, ◌&&◌, nat_eq}
+use Rattle.std.specs.Prelude.{ℕ, ◌≡◌, ◌≢◌, Bool, true, List, [], ◌∷◌, ◌++◌, filter_map}
+use Rattle.std.specs.Prelude.{if◌then◌else◌}
+use Rattle.std.specs.Prelude.{All, AllPairs, IsUtf8, Option, Some, None, option_map, Result, Ok}
+use Rattle.std.specs.Prelude.{Err, codes, not, ◌&&◌, nat_eq}
 use Rattle.std.specs.List.{before_last, ends_with, list_any}
 use Rattle.jm_bytes.specs.Checks.{first_fault, unless_fault}
 use Rattle.jm_form.specs.Rising.{rising}
@@ -19,7 +21,8 @@ use Rattle.jm_link.specs.declared.linking.LinkStop.TheVariants as stop
 use Rattle.jm_link.specs.declared.refusal.Refusal.{Refusal}
 use Rattle.jm_link.specs.declared.refusal.Refusal.TheVariants as refusal
 use Rattle.jm_link.specs.declared.visible.VisibleModule.{VisibleModule}
-use Rattle.jm_link.specs.Modules.{directory_checks, folder_info, folder_with_info, info_path, inside, is_named}
+use Rattle.jm_link.specs.Modules.{directory_checks, folder_info, folder_with_info, info_path}
+use Rattle.jm_link.specs.Modules.{inside, is_named}
 use Rattle.jm_link.specs.Modules.{module_with, modules_in, name_of, path_refusal, unhidden, visible}
 
 -- why a call of a shelf ends the work
