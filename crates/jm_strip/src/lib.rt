@@ -1,0 +1,10 @@
+//! Class files without their debug information.
+#![tactic(auto)]
+
+mod codes;
+mod copies;
+mod kind;
+mod lists;
+mod patches;
+mod pool;
+mod skips;
