@@ -1,3 +1,6 @@
 pub mod Kept
 pub mod KindLaws
+pub mod Opaques
+pub mod PutLists
+pub mod Shorter
 pub mod Shown

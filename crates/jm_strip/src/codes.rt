@@ -1,4 +1,4 @@
-ghost use Rattle.std.specs.Prelude.{◌≡◌};
+ghost use Rattle.std.specs.Prelude.{◌≡◌, ◌<◌, ◌≤◌, ◌^◌, All};
 ghost use Rattle.jm_class.specs.Classes.{code_text, sized_text};
 ghost use Rattle.jm_class.specs.ComputedClass.{code_fields, code_field};
 ghost use Rattle.jm_class.specs.Views.{fault_at};
@@ -32,9 +32,23 @@ fn strip_parts(
     Ok(())
 }
 
+/// What is known of a slice: its items are bytes.
+fn are_bytes(_bytes: &[u8])
+    ensures { All (λ b. b < 2 ^ 8) _bytes.now }
+{
+}
+
+/// A number that is at most one of four bytes, in four bytes.
+fn within(n: usize, most: u32) -> u32
+    requires { n ≤ most }
+    ensures { result ≡ n }
+{
+    n as u32
+}
+
 /// A Code within its length, without its debug information. It is judged as a whole before its
 /// parts.
-fn strip_code(cursor: &mut Cursor, text: &mut Vec<u8>, pool: &Pool) -> Result<(), ReadError>
+pub fn strip_code(cursor: &mut Cursor, text: &mut Vec<u8>, pool: &Pool) -> Result<(), ReadError>
     ensures { Puts (λ c. sized_text (code_text (strip_code pool.now c)))
         (code_field pool.now cursor.old)
         result cursor.new text.old.items text.new.items }
@@ -42,12 +56,13 @@ fn strip_code(cursor: &mut Cursor, text: &mut Vec<u8>, pool: &Pool) -> Result<()
     let wrong = ClassFault::CodeLength(cursor.place());
     let size = number32(cursor, Missing::Here)?;
     let mut inner = inner(cursor, size as usize, Missing::Here)?;
+    are_bytes(inner.rest());
     let at = text.len();
     put32(text, 0)?;
     strip_parts(&mut inner, text, pool, Missing::Within(wrong))?;
     if inner.len() != 0 {
         return Err(ReadError::Fault(wrong));
     }
-    patch32(text, at, (text.len() - at - 4) as u32);
+    patch32(text, at, within(text.len() - at - 4, size));
     Ok(())
 }

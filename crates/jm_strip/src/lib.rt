@@ -5,6 +5,8 @@ mod codes;
 mod copies;
 mod kind;
 mod lists;
+mod methods;
 mod patches;
 mod pool;
 mod skips;
+mod stripping;
