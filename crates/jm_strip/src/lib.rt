@@ -10,3 +10,5 @@ mod patches;
 mod pool;
 mod skips;
 mod stripping;
+
+pub use stripping::strip;

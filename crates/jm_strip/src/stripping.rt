@@ -6,7 +6,7 @@ ghost use Rattle.jm_class.specs.ComputedClass.{attribute_field, class_fields, cl
 ghost use Rattle.jm_class.specs.Readings.{list_of};
 ghost use Rattle.jm_class.specs.Views.{Gives};
 ghost use Rattle.jm_strip.specs.Strip.{stays, strip, StripsTo};
-ghost use Rattle.jm_strip.specs.Walks.{shown, Puts};
+ghost use Rattle.jm_strip.specs.Walks.{shown, Puts, Strips};
 
 use crate::lists::keep_attributes;
 use crate::methods::strip_methods;
@@ -65,4 +65,31 @@ fn strip_class(
     strip_methods(cursor, &mut text, &pool)?;
     strip_attributes(cursor, &mut text, &pool)?;
     Ok(text)
+}
+
+/// The text of a class without its debug information, and nothing behind the class.
+fn whole(alloc: Global, bytes: &[u8]) -> Result<Text, ReadError>
+    ensures { Strips bytes.now result }
+{
+    let mut cursor = Cursor::new(bytes);
+    let text = strip_class(alloc, bytes, &mut cursor)?;
+    if cursor.len() != 0 {
+        return Err(ReadError::Fault(ClassFault::Rest(cursor.place())));
+    }
+    Ok(Text::from_vec(text))
+}
+
+/// A class file without its debug information: the line numbers and local variables of each Code,
+/// and the source file and its extension of the class. A fault is the one that `read` finds. It
+/// asks for memory twice at most.
+pub fn strip(alloc: Global, bytes: &[u8]) -> Result<Text, ReadError>
+    ensures text { IfOk result (λ text. StripsTo bytes.now text) }
+    ensures only { IfOk result (λ text. (c : ClassData) → ReadsAs bytes.now c
+        → text ≡ class_text (strip c)) }
+    ensures reads { IfOk result (λ text. (c : ClassData) → ReadsAs bytes.now c
+        → ReadsAs text (strip c)) }
+    ensures no_fault { OnOk result (class_fault bytes.now ≡ None) }
+    ensures fault { (fault : _) → result ≡ Err (Fault fault) → class_fault bytes.now ≡ Some fault }
+{
+    whole(alloc, bytes)
 }
