@@ -1,7 +1,7 @@
 -- What was read in front of a place is what stands there.
 use Rattle.std.proofs.Common.{◌≡◌, ℕ, false, ◌+◌, ◌-◌, ◌≤◌, List, [], ◌∷◌, ◌++◌, length, take, Ok, refl, sym, ap, ◌∙◌, subst, arith, append_assoc, length-append}
 use Rattle.std.proofs.lemmas.Bool.{eqb-true}
-use Rattle.std.proofs.lemmas.List.{take_at}
+use Rattle.std.proofs.lemmas.List.{append-nil, take_at}
 use Rattle.jm_class.specs.declared.class.ClassFault.TheVariants.{Short}
 use Rattle.jm_class.specs.Classes.{SlotData, MemberData, joined, u2, u4, magic, pool_text, counted_text, member_text}
 use Rattle.jm_class.specs.ComputedClass.{magic_field, major_field, pool_field, short_number, member_field}
@@ -47,6 +47,12 @@ whole parts one other text more all front second third =
     behind : (text : List ℕ) (parts : List (List ℕ)) → put_all text (parts ++ one ∷ other ∷ []) ≡ (put_all text parts ++ one) ++ other
     behind text [] = refl
     behind text (part ∷ parts) = behind (text ++ part) parts
+
+-- a part, and one behind it
+pub two_put : (old one other text all : List ℕ) → text ≡ old ++ one → text ++ other ≡ all → old ++ (one ++ (other ++ [])) ≡ all
+two_put old one other text all first second =
+    let end = append-nil other in
+    rw end (sym (append_assoc old one other) ∙ ap (λ t. t ++ other) (sym first) ∙ second)
 
 -- The parts of a class in front of its methods
 

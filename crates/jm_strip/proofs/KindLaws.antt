@@ -1,4 +1,4 @@
--- What a kind says of the text that it was made from, and the kinds of a pool one after another.
+-- The kinds of a pool, one after another.
 use Rattle.std.proofs.Common.{◌≡◌, ℕ, suc, zero, ◌+◌, ◌-◌, ◌<◌, Bool, true, false, not, List, [], ◌∷◌, ◌++◌, map, Option, Some, None, Ok, Err, refl, sym, ap, ◌∙◌, arith, append_assoc}
 use Rattle.std.proofs.lemmas.Bool.Decides.{nat_tests}
 use Rattle.std.specs.Prelude.{is_some, slice_get, nat_lt, nat_eq, cond}
@@ -12,19 +12,6 @@ use Rattle.jm_strip.specs.declared.kind.Kind.{Kind}
 use Rattle.jm_strip.specs.Strip.{debug_names, is_among}
 use Rattle.jm_strip.specs.Walks.{shown}
 use Rattle.jm_strip.proofs.Shown.{shown-cons}
-
--- One text
-
-text_kind : (text : List ℕ) → is_text_kind (kind_of_text text) ≡ true
-text_kind text = go (is_code_name (Some text)) (is_among (debug_names true) (Some text)) (is_among (debug_names false) (Some text)) refl refl refl
-  where
-    go : (a b c : Bool) → is_code_name (Some text) ≡ a → is_among (debug_names true) (Some text) ≡ b → is_among (debug_names false) (Some text) ≡ c → is_text_kind (kind_of_text text) ≡ true
-    go true b c e f g = rw e refl
-    go false true c e f g = rw (e, f) refl
-    go false false true e f g = rw (e, f, g) refl
-    go false false false e f g = rw (e, f, g) refl
-
--- The kinds of a pool
 
 same_test : (count k : ℕ) → k < count → nat_lt 0 (count - (k + 1)) ≡ nat_lt (k + 1) count
 same_test count k more = grind (arith, nat_tests)

@@ -6,4 +6,5 @@ pub mod PutLists
 pub mod Shorter
 pub mod Shown
 pub mod StripLaws
+mod Vectors
 pub mod WholeLaws

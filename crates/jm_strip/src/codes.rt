@@ -35,8 +35,7 @@ fn strip_parts(
 /// What is known of a slice: its items are bytes.
 fn are_bytes(_bytes: &[u8])
     ensures { All (λ b. b < 2 ^ 8) _bytes.now }
-{
-}
+{}
 
 /// A number that is at most one of four bytes, in four bytes.
 fn within(n: usize, most: u32) -> u32

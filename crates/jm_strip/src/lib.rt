@@ -1,4 +1,4 @@
-//! Class files without their debug information.
+//! Class files without their debug information: one walk over the bytes, which puts what stays.
 #![tactic(auto)]
 
 mod codes;
@@ -12,3 +12,6 @@ mod skips;
 mod stripping;
 
 pub use stripping::strip;
+
+#[cfg(test)]
+mod tests;

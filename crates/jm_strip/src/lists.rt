@@ -24,7 +24,7 @@ fn keep(
     ensures one { IfOk result (λ n. n ≤ 1) }
     ensures kept { Gives (λ n. (text.new.items, n))
         (shown (λ a. filtered opaque_text (λ a. stays in_code pool.now a.name) text.old.items (a ∷ []))
-            (opaque_field (fault_at missing) pool.now cursor.old))
+        (opaque_field (fault_at missing) pool.now cursor.old))
         result cursor.new }
 {
     let name = name(cursor, pool, missing)?;
@@ -50,7 +50,7 @@ fn keep_each(
 ) -> Result<u16, ReadError>
     ensures { Gives (λ n. (text.new.items, n))
         (shown (λ xs. filtered opaque_text (λ a. stays in_code pool.now a.name) text.old.items xs)
-            (counted count (opaque_field (fault_at missing) pool.now) cursor.old))
+        (counted count (opaque_field (fault_at missing) pool.now) cursor.old))
         result cursor.new }
 {
     let mut kept = 0;

@@ -15,8 +15,7 @@ returns-in_err-kept c =
 pub loop-k-preserved : goal.loop-k-preserved
 loop-k-preserved c =
     let before = c.loop-k.invariant.0 in
-    let one = c.in_ok-kept.ensures.one in
-    (
+    let one = c.in_ok-kept.ensures.one in (
       omega (arith, before, one),
       c.loop-k.invariant.1 ∙ kept-next opaque_text (λ (a : OpaqueData). stays c.args.in_code c.args.pool.now a.name) (opaque_field (fault_at c.args.missing) c.args.pool.now) c.args.count c.loop-k._k c.loop-k.cursor c.keep.new.cursor c.loop-k.text.items c.keep.new.text.items c.loop-k.kept c.in_ok-kept.field-0 c.loop-k-test.true c.in_ok-kept.ensures.kept,
     )
