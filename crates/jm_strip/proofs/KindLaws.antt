@@ -1,15 +1,13 @@
 -- The kinds of a pool, one after another.
-use Rattle.std.proofs.Common.{◌≡◌, ℕ, suc, zero, ◌+◌, ◌-◌, ◌<◌, Bool, true, false, not, List, [], ◌∷◌, ◌++◌, map, Option, Some, None, Ok, Err, refl, sym, ap, ◌∙◌, arith, append_assoc}
+use Rattle.std.proofs.Common.{◌≡◌, ℕ, suc, ◌+◌, ◌-◌, ◌<◌, Bool, List, [], ◌∷◌, ◌++◌, map, Ok, Err, refl, sym, ap, ◌∙◌, arith, append_assoc}
 use Rattle.std.proofs.lemmas.Bool.Decides.{nat_tests}
-use Rattle.std.specs.Prelude.{is_some, slice_get, nat_lt, nat_eq, cond}
-use Rattle.std.specs.Str.{bytes_eq}
+use Rattle.std.specs.Prelude.{nat_lt}
 use Rattle.jm_class.specs.declared.class.ClassFault.{ClassFault}
-use Rattle.jm_class.specs.Classes.{SlotData, utf8_at, is_code_name}
+use Rattle.jm_class.specs.Classes.{SlotData}
 use Rattle.jm_class.specs.ComputedClass.{slot_field, slots, is_wide_slot}
 use Rattle.jm_class.specs.Readings.{Left}
-use Rattle.jm_strip.specs.Kinds.{kind_of_text, kind_of_name, kind_of, is_text_kind, is_code_kind, is_debug_kind}
+use Rattle.jm_strip.specs.Kinds.{kind_of}
 use Rattle.jm_strip.specs.declared.kind.Kind.{Kind}
-use Rattle.jm_strip.specs.Strip.{debug_names, is_among}
 use Rattle.jm_strip.specs.Walks.{shown}
 use Rattle.jm_strip.proofs.Shown.{shown-cons}
 

@@ -1,12 +1,10 @@
 -- An attribute outside of a method is one of a Code: a name and its bytes as they are.
-use Rattle.std.proofs.Common.{◌≡◌, ℕ, zero, suc, Bool, true, false, cond, List, [], ◌∷◌, ◌++◌, length, map, filter, Result, Ok, Err, refl, sym, ap, ◌∙◌, subst}
+use Rattle.std.proofs.Common.{◌≡◌, ℕ, zero, suc, Bool, false, List, ◌∷◌, ◌++◌, map, filter, Result, Ok, Err, refl, sym, ap, ◌∙◌, subst}
 use Rattle.std.specs.Int.{w16}
-use Rattle.std.specs.List.{flat_map}
 use Rattle.jm_class.specs.declared.class.ClassFault.{ClassFault}
 use Rattle.jm_class.specs.declared.class.ClassFault.TheVariants.{Short}
 use Rattle.jm_class.specs.declared.class.ReadError.{ReadError}
-use Rattle.jm_class.specs.declared.class.ReadError.TheVariants.{Fault, Memory}
-use Rattle.jm_class.specs.Classes.{SlotData, OpaqueData, AttributeData, Opaque, opaque_text, attribute_text, counted_text, u2}
+use Rattle.jm_class.specs.Classes.{SlotData, OpaqueData, AttributeData, Opaque, opaque_text, attribute_text, counted_text}
 use Rattle.jm_class.specs.ComputedClass.{name_field, opaque_field, attribute_field}
 use Rattle.jm_class.specs.Readings.{Left, Outcome, Reading, value, continued, and_then, number, sized, counted, list_of}
 use Rattle.jm_class.specs.Views.{Gives}

@@ -4,7 +4,7 @@ use Rattle.std.proofs.lemmas.List.{append-nil, length-map}
 use Rattle.std.specs.Int.{w16}
 use Rattle.std.specs.List.{flat_map}
 use Rattle.jm_class.specs.Classes.{u2, counted_text}
-use Rattle.jm_class.specs.Readings.{Left, Outcome, Reading, value, and_then, number, counted, list_of}
+use Rattle.jm_class.specs.Readings.{Left, Reading, value, and_then, number, counted, list_of}
 use Rattle.jm_class.proofs.ReadingLaws.{passed, same_value}
 use Rattle.jm_strip.specs.Walks.{shown}
 use Rattle.jm_strip.proofs.Shown.{saw, stopped, shown-next, shown-stop}

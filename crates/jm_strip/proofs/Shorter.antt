@@ -1,5 +1,5 @@
 -- A Code isn't longer without its debug information.
-use Rattle.std.proofs.Common.{◌≡◌, ℕ, ◌+◌, ◌-◌, ◌*◌, ◌<◌, ◌≤◌, ◌^◌, Bool, true, false, cond, List, inl, inr, ◌⊎◌, [], ◌∷◌, ◌++◌, length, filter, take, drop, Ok, Err, refl, sym, ap, ◌∙◌, subst, arith, length-append}
+use Rattle.std.proofs.Common.{◌≡◌, ℕ, ◌+◌, ◌-◌, ◌≤◌, Bool, true, false, List, inl, inr, ◌⊎◌, [], ◌∷◌, ◌++◌, length, filter, take, drop, Ok, Err, refl, sym, ap, ◌∙◌, arith, length-append}
 use Rattle.std.proofs.lemmas.Bool.{leb-true}
 use Rattle.std.proofs.lemmas.List.{append-nil, length-take-le}
 use Rattle.std.specs.List.{flat_map}
@@ -10,7 +10,7 @@ use Rattle.jm_class.specs.Classes.{SlotData, OpaqueData, CodeData, u4, sized_tex
 use Rattle.jm_class.specs.ComputedClass.{code_fields}
 use Rattle.jm_class.specs.Readings.{Left, behind, Outcome, part, inner_part, value}
 use Rattle.jm_class.proofs.FieldLaws.{code_fields-lawful}
-use Rattle.jm_class.proofs.ReadingLaws.{IsBytes, passed, same_value, part-lawful}
+use Rattle.jm_class.proofs.ReadingLaws.{IsBytes, passed, same_value}
 use Rattle.jm_strip.specs.Strip.{stays, strip_code}
 use Rattle.jm_strip.proofs.Kept.{patched}
 

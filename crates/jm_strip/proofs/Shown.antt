@@ -1,12 +1,12 @@
 -- A reading under a function of its value: so many of one kind, one after another, and what was read.
-use Rattle.std.proofs.Common.{◌≡◌, ℕ, zero, suc, ◌+◌, ◌-◌, ◌<◌, List, [], ◌∷◌, Result, Ok, Err, IsErrAnd, refl, sym, ap, ◌∙◌, arith}
+use Rattle.std.proofs.Common.{◌≡◌, ℕ, suc, ◌+◌, ◌-◌, ◌<◌, List, ◌∷◌, Result, Ok, Err, IsErrAnd, refl, ap, ◌∙◌, arith}
 use Rattle.jm_class.specs.declared.class.ClassFault.{ClassFault}
 use Rattle.jm_class.specs.declared.class.ReadError.{ReadError}
 use Rattle.jm_class.specs.Views.{Gives}
 use Rattle.jm_class.proofs.Stops.{gives_stop}
-use Rattle.jm_class.specs.Readings.{Left, Outcome, Reading, value, continued, and_then, counted}
+use Rattle.jm_class.specs.Readings.{Left, Outcome, Reading, value, continued, counted}
 use Rattle.jm_class.proofs.ReadingLaws.{same_value, same_left}
-use Rattle.jm_strip.specs.Walks.{shown, nothing, filtered}
+use Rattle.jm_strip.specs.Walks.{shown, nothing}
 
 -- what was read, from what was shown of it
 pub record Saw {F A B : Type 0} (show : A → B) (outcome : Outcome F A) (b : B) (next : Left) : Type 0 where

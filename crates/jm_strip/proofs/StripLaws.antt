@@ -1,10 +1,10 @@
 -- A well-formed class is well formed without its debug information, and reads back.
-use Rattle.std.proofs.Common.{◌≡◌, ℕ, ◌+◌, ◌<◌, ◌≤◌, ◌^◌, Bool, true, false, List, [], ◌∷◌, ◌++◌, length, map, filter, refl, sym, ap, ◌∙◌, subst, arith, length-append}
+use Rattle.std.proofs.Common.{◌≡◌, ◌≤◌, Bool, true, false, List, [], ◌∷◌, length, map, filter, refl, arith}
 use Rattle.std.proofs.lemmas.List.{length-map}
 use Rattle.std.proofs.lemmas.List.Elements.{All-nil, All-cons, All-head, All-tail}
 use Rattle.std.specs.Prelude.{All, Ok}
 use Rattle.jm_bytes.proofs.Members.{length_filter}
-use Rattle.jm_class.specs.Classes.{SlotData, OpaqueData, CodeData, BodyData, Opaque, Coded, AttributeData, MemberData, ClassData, code_text, held_text, class_text, utf8_at, is_code_name, FitsCounted, FitsSized, IsOpaque, IsCode, IsBody, IsAttribute, IsMember, IsClass}
+use Rattle.jm_class.specs.Classes.{SlotData, OpaqueData, CodeData, BodyData, Opaque, Coded, AttributeData, MemberData, ClassData, held_text, class_text, utf8_at, is_code_name, FitsCounted, IsOpaque, IsCode, IsBody, IsAttribute, IsMember, IsClass}
 use Rattle.jm_class.specs.ComputedClass.{class_of}
 use Rattle.jm_class.proofs.ComputedClassLaws.{reads-class_of}
 use Rattle.jm_strip.specs.Strip.{stays, strip_code, strip_body, strip_attribute, strip_method, strip}

@@ -1,7 +1,7 @@
 -- A class without its debug information, evaluated.
 use Rattle.std.proofs.Common.{◌≡◌, ℕ, List, [], ◌∷◌, refl}
 use Rattle.std.specs.Prelude.{codes}
-use Rattle.jm_class.specs.Classes.{SlotData, Constant, OpaqueData, BodyData, Opaque, Coded, AttributeData, MemberData, ClassData}
+use Rattle.jm_class.specs.Classes.{SlotData, Constant, OpaqueData, Opaque, Coded, AttributeData, MemberData, ClassData}
 use Rattle.jm_strip.specs.Strip.{strip}
 
 abbrev names : List SlotData

@@ -1,9 +1,9 @@
 -- What the stripper knows of a constant: whether it is a Utf8, and which of the names that it looks
 -- for (this project's rule).
-use Rattle.std.specs.Prelude.{Bool, true, false, ◌==◌, ◌||◌, List, [], ◌∷◌, Option, Some, None, map, slice_get, option_map, Result, Ok, Err, if◌then◌else◌, ℕ, codes}
+use Rattle.std.specs.Prelude.{Bool, true, false, List, [], Option, Some, None, Ok, Err, if◌then◌else◌, ℕ}
 use Rattle.jm_class.specs.Classes.{SlotData, utf8_of, is_code_name}
 use Rattle.jm_class.specs.ComputedClass.{pool_field}
-use Rattle.jm_class.specs.Readings.{Left, Outcome}
+use Rattle.jm_class.specs.Readings.{Outcome}
 use Rattle.jm_class.specs.declared.class.ClassFault.{ClassFault}
 use Rattle.jm_strip.specs.declared.kind.Kind.{Kind}
 use Rattle.jm_strip.specs.declared.kind.Kind.TheVariants.{Other, Text, Code, OfCode, OfClass}

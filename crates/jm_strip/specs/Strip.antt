@@ -2,7 +2,7 @@
 use Rattle.std.specs.Prelude.{◌≡◌, ℕ, Bool, true, false, not, List, [], ◌∷◌, Option, Some, None, map, filter, codes}
 use Rattle.std.specs.List.{list_any}
 use Rattle.std.specs.Str.{bytes_eq}
-use Rattle.jm_class.specs.Classes.{SlotData, OpaqueData, CodeData, BodyData, Opaque, Coded, AttributeData, MemberData, ClassData, utf8_at, class_text, ReadsAs}
+use Rattle.jm_class.specs.Classes.{SlotData, CodeData, BodyData, Opaque, Coded, AttributeData, MemberData, ClassData, utf8_at, class_text, ReadsAs}
 
 -- the names of the debug attributes of a Code, and of those of the class
 abbrev pub debug_names : Bool → List (List ℕ)

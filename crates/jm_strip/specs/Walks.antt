@@ -1,5 +1,5 @@
 -- What a walk over a class puts, as it reads: each reading under a function of its value.
-use Rattle.std.specs.Prelude.{◌≡◌, ℕ, ◌+◌, List, ◌++◌, Bool, length, filter, Result, Ok, Err}
+use Rattle.std.specs.Prelude.{◌≡◌, ℕ, List, ◌++◌, Bool, length, filter, Result, Ok, Err}
 use Rattle.std.specs.List.{flat_map}
 use Rattle.jm_class.specs.declared.class.ClassFault.{ClassFault}
 use Rattle.jm_class.specs.declared.class.ReadError.{ReadError}

@@ -1,6 +1,6 @@
 use Rattle.std.proofs.Common.{ℕ, Ok, subst, sym, ap, ◌++◌, ◌∙◌, arith}
 use Rattle.jm_class.specs.Classes.{sized_text, code_text}
-use Rattle.jm_class.specs.ComputedClass.{code_fields, code_field}
+use Rattle.jm_class.specs.ComputedClass.{code_fields}
 use Rattle.jm_class.specs.declared.class.ClassFault.TheVariants.{Short, CodeLength}
 use Rattle.jm_class.proofs.ReadingLaws.{IsBytes}
 use Rattle.jm_strip.proofs.Shorter.{inner-length, code-fits, length_behind, length_put}

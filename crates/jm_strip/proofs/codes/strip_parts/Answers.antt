@@ -1,6 +1,6 @@
 use Rattle.std.proofs.Common.{◌≡◌, ◌++◌, true, filter, [], ◌∷◌, List, ℕ, Ok, ap, refl, sym, ◌∙◌}
 use Rattle.std.specs.Int.{w16}
-use Rattle.jm_class.specs.Classes.{u2, OpaqueData, opaque_text, counted_text, sized_text, rows_text, code_text}
+use Rattle.jm_class.specs.Classes.{u2, OpaqueData, opaque_text, counted_text, sized_text, rows_text}
 use Rattle.jm_class.specs.ComputedClass.{opaque_field, rows_field}
 use Rattle.jm_class.specs.Readings.{number, sized, list_of}
 use Rattle.jm_class.specs.Views.{fault_at}

@@ -1,6 +1,5 @@
-use Rattle.std.proofs.Common.{◌≡◌, ◌-◌, ◌+◌, ◌≤◌, ◌++◌, length, filter}
-use Rattle.std.specs.List.{flat_map}
-use Rattle.jm_class.specs.Classes.{OpaqueData, opaque_text}
+use Rattle.std.proofs.Common.{◌≡◌, ◌-◌, ◌≤◌}
+use Rattle.jm_class.specs.Classes.{opaque_text}
 use Rattle.jm_class.specs.ComputedClass.{opaque_field}
 use Rattle.jm_class.specs.Readings.{counted}
 use Rattle.jm_class.specs.Views.{fault_at}

@@ -1,4 +1,4 @@
-use Rattle.std.proofs.Common.{◌++◌, true}
+use Rattle.std.proofs.Common.{◌++◌}
 use Rattle.jm_class.specs.Classes.{sized_text, code_text}
 use Rattle.jm_class.specs.ComputedClass.{code_field}
 use Rattle.jm_strip.specs.Strip.{strip_code}

@@ -1,4 +1,4 @@
-use Rattle.std.proofs.Common.{true, ◌≤◌, ◌∙◌, arith}
+use Rattle.std.proofs.Common.{true, ◌∙◌, arith}
 use Rattle.jm_class.specs.declared.class.ClassFault.TheVariants.{Short}
 use Rattle.jm_class.specs.Classes.{member_text}
 use Rattle.jm_class.specs.ComputedClass.{member_field}

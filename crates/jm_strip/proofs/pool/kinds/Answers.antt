@@ -1,4 +1,4 @@
-use Rattle.std.proofs.Common.{◌∙◌, map}
+use Rattle.std.proofs.Common.{◌∙◌}
 use Rattle.jm_class.specs.Views.{slot_of}
 use Rattle.jm_class.proofs.Stops.{gives_stop}
 use Rattle.jm_strip.proofs.KindLaws.{kinds-next, kinds-stop}

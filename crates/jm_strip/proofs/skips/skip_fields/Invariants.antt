@@ -1,6 +1,6 @@
 use Rattle.std.proofs.Common.{◌≡◌, ◌-◌, false}
 use Rattle.jm_class.specs.declared.class.ClassFault.TheVariants.{Short}
-use Rattle.jm_class.specs.ComputedClass.{short_number, attribute_field, member_field}
+use Rattle.jm_class.specs.ComputedClass.{member_field}
 use Rattle.jm_class.specs.Readings.{counted, list_of}
 use Rattle.jm_strip.specs.Walks.{shown, nothing}
 use Rattle.jm_strip.proofs.skips.skip_fields.Given as goal

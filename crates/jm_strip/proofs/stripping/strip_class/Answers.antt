@@ -1,4 +1,4 @@
-use Rattle.std.proofs.Common.{◌≡◌, ℕ, List, [], ◌∷◌, ◌++◌, map, filter, false, true, Ok, ap, ◌∙◌, subst}
+use Rattle.std.proofs.Common.{◌≡◌, ℕ, [], ◌∷◌, ◌++◌, map, filter, false, true, Ok, ap, ◌∙◌, subst}
 use Rattle.jm_class.specs.declared.class.ClassFault.TheVariants.{Short}
 use Rattle.jm_class.specs.Classes.{AttributeData, joined, counted_text, member_text, attribute_text}
 use Rattle.jm_class.specs.ComputedClass.{short_number, attribute_field, member_field}
