@@ -16,10 +16,10 @@ use Rattle.jm_class.proofs.FieldLaws.{attribute-lawful, member-lawful}
 use Rattle.jm_class.proofs.PoolLaws.{pool-lawful}
 use Rattle.jm_class.proofs.ReadingLaws.{Always, list_of-lawful, Lawful, IsBytes, said-lawful, made-lawful, checked-lawful, and_then-lawful, ended-back, ended-forth, number16-lawful, number32-lawful}
 
-magic-lawful : Lawful magic_field u4 (λ n. (n < 2 ^ 32) × (nat_eq n magic ≡ true))
+pub magic-lawful : Lawful magic_field u4 (λ n. (n < 2 ^ 32) × (nat_eq n magic ≡ true))
 magic-lawful = checked-lawful (λ found. nat_eq found magic) (λ at found. Magic) _ _ _ (number32-lawful Short)
 
-major-lawful : Lawful major_field u2 (λ n. (n < 2 ^ 16) × (is_major n ≡ true))
+pub major-lawful : Lawful major_field u2 (λ n. (n < 2 ^ 16) × (is_major n ≡ true))
 major-lawful = checked-lawful is_major (λ at major. Version major) _ _ _ (number16-lawful Short)
 
 major_parts : (n : ℕ) → is_major n ≡ true → (45 ≤ n) × (n ≤ 65)

@@ -76,7 +76,7 @@ fn constant<'a>(cursor: &mut Cursor<'a>, more: bool) -> Result<Slot<'a>, ReadErr
 }
 
 /// A number of the pool: a hole where one is due.
-fn slot<'a>(cursor: &mut Cursor<'a>, due: bool, more: bool) -> Result<Slot<'a>, ReadError>
+pub fn slot<'a>(cursor: &mut Cursor<'a>, due: bool, more: bool) -> Result<Slot<'a>, ReadError>
     ensures { Gives slot_of (slot_field due more cursor.old) result cursor.new }
 {
     if due {
@@ -87,7 +87,7 @@ fn slot<'a>(cursor: &mut Cursor<'a>, due: bool, more: bool) -> Result<Slot<'a>, 
 }
 
 /// Whether a hole is due behind a slot.
-fn is_wide_slot(slot: &Slot) -> bool
+pub fn is_wide_slot(slot: &Slot) -> bool
     ensures { result ≡ is_wide_slot (slot_of slot.now) }
 {
     match slot {

@@ -49,6 +49,13 @@ impl<'a> Cursor<'a> {
         self.rest.len()
     }
 
+    /// The bytes that are left.
+    pub fn rest(&self) -> &'a [u8]
+        ensures { result.now ≡ self.now.bytes }
+    {
+        self.rest
+    }
+
     /// The next `n` bytes; none, and nothing is taken, where fewer are left.
     pub fn part(&mut self, n: usize) -> Option<&'a [u8]>
         ensures some { IfSome result (λ part. Takes n self.old part.now self.new) }

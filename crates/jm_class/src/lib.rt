@@ -5,13 +5,14 @@ mod attributes;
 mod class;
 mod constants;
 mod cursor;
-mod fields;
+pub mod fields;
 mod members;
 mod reading;
 
 pub use class::{Attribute, Body, Class, ClassFault, Code, Member, Plain, ReadError, Slot};
+pub use constants::{is_wide_slot, slot};
 pub use cursor::Cursor;
-pub use reading::{read, utf8};
+pub use reading::{magic, major, read, utf8};
 
 #[cfg(test)]
 mod tests;

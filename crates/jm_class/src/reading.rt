@@ -15,7 +15,7 @@ use std::alloc::Global;
 const MAGIC: u32 = 0xCAFE_BABE;
 
 /// The magic.
-fn magic(cursor: &mut Cursor) -> Result<u32, ReadError>
+pub fn magic(cursor: &mut Cursor) -> Result<u32, ReadError>
     ensures { Gives (λ n. n) (magic_field cursor.old) result cursor.new }
 {
     let found = number32(cursor, Missing::Here)?;
@@ -26,7 +26,7 @@ fn magic(cursor: &mut Cursor) -> Result<u32, ReadError>
 }
 
 /// The major version.
-fn major(cursor: &mut Cursor) -> Result<u16, ReadError>
+pub fn major(cursor: &mut Cursor) -> Result<u16, ReadError>
     ensures { Gives (λ n. n) (major_field cursor.old) result cursor.new }
 {
     let major = number16(cursor, Missing::Here)?;

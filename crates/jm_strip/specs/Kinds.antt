@@ -1,0 +1,47 @@
+-- What the stripper knows of a constant: whether it is a Utf8, and which of the names that it looks
+-- for (this project's rule).
+use Rattle.std.specs.Prelude.{Bool, true, false, List, [], Option, Some, None, Ok, Err, if◌then◌else◌, ℕ}
+use Rattle.jm_class.specs.Classes.{SlotData, utf8_of, is_code_name}
+use Rattle.jm_class.specs.ComputedClass.{pool_field}
+use Rattle.jm_class.specs.Readings.{Outcome}
+use Rattle.jm_class.specs.declared.class.ClassFault.{ClassFault}
+use Rattle.jm_strip.specs.declared.kind.Kind.{Kind}
+use Rattle.jm_strip.specs.declared.kind.Kind.TheVariants.{Other, Text, Code, OfCode, OfClass}
+use Rattle.jm_strip.specs.Strip.{debug_names, is_among}
+
+abbrev pub kind_of_text : List ℕ → Kind
+kind_of_text text =
+    if is_code_name (Some text) then Code
+    else if is_among (debug_names true) (Some text) then OfCode
+    else if is_among (debug_names false) (Some text) then OfClass
+    else Text
+
+abbrev pub kind_of_name : Option (List ℕ) → Kind
+kind_of_name None = Other
+kind_of_name (Some text) = kind_of_text text
+
+abbrev pub kind_of : SlotData → Kind
+kind_of slot = kind_of_name (utf8_of slot)
+
+abbrev pub is_text_kind : Kind → Bool
+is_text_kind Other = false
+is_text_kind _ = true
+
+abbrev pub is_code_kind : Kind → Bool
+is_code_kind Code = true
+is_code_kind _ = false
+
+-- debug information of a Code, or of a class
+abbrev pub is_debug_kind : Bool → Kind → Bool
+is_debug_kind true OfCode = true
+is_debug_kind false OfClass = true
+is_debug_kind _ _ = false
+
+-- the constants that were read, or none
+abbrev pub slots_in : Outcome ClassFault (List SlotData) → List SlotData
+slots_in (Ok r) = r.0
+slots_in (Err fault) = []
+
+-- the constants that the bytes at a place begin with
+abbrev pub pool_at : ℕ → List ℕ → List SlotData
+pool_at place bytes = slots_in (pool_field (record { place = place; bytes = bytes }))

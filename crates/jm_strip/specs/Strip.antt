@@ -1,0 +1,44 @@
+-- A class without its debug information (JVMS 4.7; which attributes go is this project's rule).
+use Rattle.std.specs.Prelude.{◌≡◌, ℕ, Bool, true, false, not, List, [], ◌∷◌, Option, Some, None, map, filter, codes}
+use Rattle.std.specs.List.{list_any}
+use Rattle.std.specs.Str.{bytes_eq}
+use Rattle.jm_class.specs.Classes.{SlotData, CodeData, BodyData, Opaque, Coded, AttributeData, MemberData, ClassData, utf8_at, class_text, ReadsAs}
+
+-- the names of the debug attributes of a Code, and of those of the class
+abbrev pub debug_names : Bool → List (List ℕ)
+debug_names true =
+    codes "LineNumberTable" ∷ codes "LocalVariableTable" ∷ codes "LocalVariableTypeTable" ∷ []
+debug_names false = codes "SourceFile" ∷ codes "SourceDebugExtension" ∷ []
+
+abbrev pub is_among : List (List ℕ) → Option (List ℕ) → Bool
+is_among names None = false
+is_among names (Some text) = list_any (λ name. bytes_eq text name) names
+
+-- whether an attribute with this name index stays, in a Code or in the class
+abbrev pub stays : Bool → List SlotData → ℕ → Bool
+stays in_code pool name = not (is_among (debug_names in_code) (utf8_at pool name))
+
+abbrev pub strip_code : List SlotData → CodeData → CodeData
+strip_code pool c = record c { attributes = filter (λ a. stays true pool a.name) c.attributes }
+
+abbrev pub strip_body : List SlotData → BodyData → BodyData
+strip_body pool (Opaque bytes) = Opaque bytes
+strip_body pool (Coded code) = Coded (strip_code pool code)
+
+abbrev pub strip_attribute : List SlotData → AttributeData → AttributeData
+strip_attribute pool a = record a { body = strip_body pool a.body }
+
+abbrev pub strip_method : List SlotData → MemberData → MemberData
+strip_method pool m = record m { attributes = map (strip_attribute pool) m.attributes }
+
+abbrev pub strip : ClassData → ClassData
+strip c = record c {
+  methods = map (strip_method c.pool) c.methods;
+  attributes = filter (λ a. stays false c.pool a.name) c.attributes;
+}
+
+-- the text of the class that the bytes read as, without its debug information
+pub record StripsTo (bytes text : List ℕ) : Type 0 where
+  pub class : ClassData
+  pub reads : ReadsAs bytes class
+  pub is : text ≡ class_text (strip class)

@@ -1,0 +1,40 @@
+-- What a walk over a class puts, as it reads: each reading under a function of its value.
+use Rattle.std.specs.Prelude.{◌≡◌, ℕ, List, ◌++◌, Bool, length, filter, Result, Ok, Err}
+use Rattle.std.specs.List.{flat_map}
+use Rattle.jm_class.specs.declared.class.ClassFault.{ClassFault}
+use Rattle.jm_class.specs.declared.class.ReadError.{ReadError}
+use Rattle.jm_class.specs.declared.class.ReadError.TheVariants.{Fault, Memory}
+use Rattle.jm_class.specs.Classes.{ClassData, class_text}
+use Rattle.jm_class.specs.ComputedClass.{class_of}
+use Rattle.jm_class.specs.Readings.{Left, Outcome}
+use Rattle.jm_class.specs.Views.{Gives}
+use Rattle.jm_strip.specs.Strip.{strip}
+
+-- a function of what was read; a fault stays
+abbrev pub shown : {F A B : Type 0} → (A → B) → Outcome F A → Outcome F B
+shown show (Ok r) = Ok (show r.0, r.1)
+shown show (Err fault) = Err fault
+
+abbrev pub nothing : {A : Type 0} → A → Unit {0}
+nothing a = tt
+
+-- the value is read, and nothing of it is kept
+abbrev pub Skips : {A T : Type 0} → Outcome ClassFault A → Result T ReadError → Left → Type 0
+Skips outcome result left = Gives nothing (shown nothing outcome) result left
+
+-- the words of the value are put behind a text
+abbrev pub Puts : {A T : Type 0} → (A → List ℕ) → Outcome ClassFault A → Result T ReadError → Left
+    → List ℕ → List ℕ → Type 0
+Puts words outcome result left old new =
+    Gives (λ _. new) (shown (λ a. old ++ words a) outcome) result left
+
+-- the words of the values that pass a test are put behind a text, and counted
+abbrev pub filtered : {A : Type 0} → (A → List ℕ) → (A → Bool) → List ℕ → List A → List ℕ × ℕ
+filtered words test text xs = (text ++ flat_map words (filter test xs), length (filter test xs))
+
+-- the bytes read as a class, and the text is that of the class without its debug information; or
+-- they have this fault, unless no memory is found
+abbrev pub Strips : List ℕ → Result (List ℕ) ReadError → Type 0
+Strips bytes (Ok text) = (c : ClassData) × (class_of bytes ≡ Ok c) × (text ≡ class_text (strip c))
+Strips bytes (Err (Fault fault)) = class_of bytes ≡ Err fault
+Strips bytes (Err Memory) = Unit {0}

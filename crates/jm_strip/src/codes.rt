@@ -1,0 +1,67 @@
+ghost use Rattle.std.specs.Prelude.{◌≡◌, ◌<◌, ◌≤◌, ◌^◌, All};
+ghost use Rattle.jm_class.specs.Classes.{code_text, sized_text};
+ghost use Rattle.jm_class.specs.ComputedClass.{code_fields, code_field};
+ghost use Rattle.jm_class.specs.Views.{fault_at};
+ghost use Rattle.jm_strip.specs.Strip.{strip_code};
+ghost use Rattle.jm_strip.specs.Walks.{Puts};
+
+use crate::copies::{copy_rows, copy_sized, copy16};
+use crate::lists::keep_attributes;
+use crate::patches::patch32;
+use crate::pool::Pool;
+use jm_class::fields::{Missing, inner, number32};
+use jm_class::{ClassFault, Cursor, ReadError};
+use jm_classout::put32;
+
+/// The parts of a Code without its debug information.
+fn strip_parts(
+    cursor: &mut Cursor,
+    text: &mut Vec<u8>,
+    pool: &Pool,
+    missing: Missing,
+) -> Result<(), ReadError>
+    ensures { Puts (λ c. code_text (strip_code pool.now c))
+        (code_fields (fault_at missing) pool.now cursor.old)
+        result cursor.new text.old.items text.new.items }
+{
+    copy16(cursor, text, missing)?;
+    copy16(cursor, text, missing)?;
+    copy_sized(cursor, text, missing)?;
+    copy_rows(cursor, text, missing)?;
+    keep_attributes(cursor, text, pool, missing, true)?;
+    Ok(())
+}
+
+/// What is known of a slice: its items are bytes.
+fn are_bytes(_bytes: &[u8])
+    ensures { All (λ b. b < 2 ^ 8) _bytes.now }
+{}
+
+/// A number that is at most one of four bytes, in four bytes.
+fn within(n: usize, most: u32) -> u32
+    requires { n ≤ most }
+    ensures { result ≡ n }
+{
+    n as u32
+}
+
+/// A Code within its length, without its debug information. It is judged as a whole before its
+/// parts.
+pub fn strip_code(cursor: &mut Cursor, text: &mut Vec<u8>, pool: &Pool) -> Result<(), ReadError>
+    ensures { Puts (λ c. sized_text (code_text (strip_code pool.now c)))
+        (code_field pool.now cursor.old)
+        result cursor.new text.old.items text.new.items }
+{
+    let wrong = ClassFault::CodeLength(cursor.place());
+    let size = number32(cursor, Missing::Here)?;
+    let mut inner = inner(cursor, size as usize, Missing::Here)?;
+    are_bytes(inner.rest());
+    let at = text.len();
+    put32(text, 0)?;
+    strip_parts(&mut inner, text, pool, Missing::Within(wrong))?;
+    if inner.len() != 0 {
+        return Err(ReadError::Fault(wrong));
+    }
+    patch32(text, at, within(text.len() - at - 4, size));
+    Ok(())
+}

@@ -1,0 +1,86 @@
+ghost use Rattle.std.specs.Prelude.{◌≡◌, true, map};
+ghost use Rattle.std.specs.List.{flat_map};
+ghost use Rattle.jm_class.specs.declared.class.ClassFault.TheVariants.{Short};
+ghost use Rattle.jm_class.specs.Classes.{sized_text, held_text, attribute_text, member_text, counted_text};
+ghost use Rattle.jm_class.specs.ComputedClass.{held_field, attribute_field, member_field};
+ghost use Rattle.jm_class.specs.Readings.{list_of};
+ghost use Rattle.jm_strip.specs.Strip.{strip_body, strip_attribute, strip_method};
+ghost use Rattle.jm_strip.specs.Walks.{Puts};
+
+use crate::codes::strip_code;
+use crate::copies::{copy_sized, copy16, name};
+use crate::pool::Pool;
+use jm_class::fields::{Missing, number16};
+use jm_class::{Cursor, ReadError};
+use jm_classout::put16;
+
+/// What an attribute holds.
+fn strip_held(
+    cursor: &mut Cursor,
+    text: &mut Vec<u8>,
+    pool: &Pool,
+    coded: bool,
+) -> Result<(), ReadError>
+    ensures { Puts (λ b. sized_text (held_text (strip_body pool.now b)))
+        (held_field pool.now coded cursor.old)
+        result cursor.new text.old.items text.new.items }
+{
+    if coded {
+        strip_code(cursor, text, pool)?;
+    } else {
+        copy_sized(cursor, text, Missing::Here)?;
+    }
+    Ok(())
+}
+
+/// An attribute of a method.
+fn strip_attribute(cursor: &mut Cursor, text: &mut Vec<u8>, pool: &Pool) -> Result<(), ReadError>
+    ensures { Puts (λ a. attribute_text (strip_attribute pool.now a))
+        (attribute_field pool.now true cursor.old)
+        result cursor.new text.old.items text.new.items }
+{
+    let name = name(cursor, pool, Missing::Here)?;
+    put16(text, name)?;
+    strip_held(cursor, text, pool, pool.is_code(name))?;
+    Ok(())
+}
+
+/// The attributes of a method: each one stays.
+fn strip_attributes(cursor: &mut Cursor, text: &mut Vec<u8>, pool: &Pool) -> Result<(), ReadError>
+    ensures { Puts (λ xs. counted_text attribute_text (map (strip_attribute pool.now) xs))
+        (list_of Short (attribute_field pool.now true) cursor.old)
+        result cursor.new text.old.items text.new.items }
+{
+    let count = number16(cursor, Missing::Here)?;
+    put16(text, count)?;
+    for _k in 0..count {
+        strip_attribute(cursor, text, pool)?;
+    }
+    Ok(())
+}
+
+fn strip_method(cursor: &mut Cursor, text: &mut Vec<u8>, pool: &Pool) -> Result<(), ReadError>
+    ensures { Puts (λ m. member_text (strip_method pool.now m))
+        (member_field pool.now true cursor.old)
+        result cursor.new text.old.items text.new.items }
+{
+    copy16(cursor, text, Missing::Here)?;
+    copy16(cursor, text, Missing::Here)?;
+    copy16(cursor, text, Missing::Here)?;
+    strip_attributes(cursor, text, pool)?;
+    Ok(())
+}
+
+/// The methods.
+pub fn strip_methods(cursor: &mut Cursor, text: &mut Vec<u8>, pool: &Pool) -> Result<(), ReadError>
+    ensures { Puts (λ xs. counted_text member_text (map (strip_method pool.now) xs))
+        (list_of Short (member_field pool.now true) cursor.old)
+        result cursor.new text.old.items text.new.items }
+{
+    let count = number16(cursor, Missing::Here)?;
+    put16(text, count)?;
+    for _k in 0..count {
+        strip_method(cursor, text, pool)?;
+    }
+    Ok(())
+}

@@ -1,0 +1,61 @@
+ghost use Rattle.jm_class.specs.declared.class.ClassFault.TheVariants.{Short};
+ghost use Rattle.std.specs.Prelude.{false};
+ghost use Rattle.jm_class.specs.ComputedClass.{short_number, attribute_field, member_field};
+ghost use Rattle.jm_class.specs.Readings.{list_of};
+ghost use Rattle.jm_strip.specs.Walks.{Skips};
+
+use crate::copies::name;
+use crate::pool::Pool;
+use jm_class::fields::{Missing, number16, sized};
+use jm_class::{Cursor, ReadError};
+
+/// The interfaces.
+pub fn skip_interfaces(cursor: &mut Cursor) -> Result<(), ReadError>
+    ensures { Skips (list_of Short short_number cursor.old) result cursor.new }
+{
+    let count = number16(cursor, Missing::Here)?;
+    for _k in 0..count {
+        number16(cursor, Missing::Here)?;
+    }
+    Ok(())
+}
+
+/// An attribute of a field.
+fn skip_attribute(cursor: &mut Cursor, pool: &Pool) -> Result<(), ReadError>
+    ensures { Skips (attribute_field pool.now false cursor.old) result cursor.new }
+{
+    name(cursor, pool, Missing::Here)?;
+    sized(cursor, Missing::Here)?;
+    Ok(())
+}
+
+fn skip_attributes(cursor: &mut Cursor, pool: &Pool) -> Result<(), ReadError>
+    ensures { Skips (list_of Short (attribute_field pool.now false) cursor.old)
+        result cursor.new }
+{
+    let count = number16(cursor, Missing::Here)?;
+    for _k in 0..count {
+        skip_attribute(cursor, pool)?;
+    }
+    Ok(())
+}
+
+fn skip_field(cursor: &mut Cursor, pool: &Pool) -> Result<(), ReadError>
+    ensures { Skips (member_field pool.now false cursor.old) result cursor.new }
+{
+    let _access = number16(cursor, Missing::Here)?;
+    let _name = number16(cursor, Missing::Here)?;
+    let _descriptor = number16(cursor, Missing::Here)?;
+    skip_attributes(cursor, pool)
+}
+
+/// The fields.
+pub fn skip_fields(cursor: &mut Cursor, pool: &Pool) -> Result<(), ReadError>
+    ensures { Skips (list_of Short (member_field pool.now false) cursor.old) result cursor.new }
+{
+    let count = number16(cursor, Missing::Here)?;
+    for _k in 0..count {
+        skip_field(cursor, pool)?;
+    }
+    Ok(())
+}

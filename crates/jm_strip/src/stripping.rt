@@ -1,0 +1,91 @@
+ghost use Rattle.std.specs.Prelude.{◌≡◌, Some, None, Err, false, filter, IfOk, OnOk};
+ghost use Rattle.jm_class.specs.declared.class.ClassFault.TheVariants.{Short};
+ghost use Rattle.jm_class.specs.declared.class.ReadError.TheVariants.{Fault};
+ghost use Rattle.jm_class.specs.Classes.{ClassData, attribute_text, counted_text, class_text, ReadsAs};
+ghost use Rattle.jm_class.specs.ComputedClass.{attribute_field, class_fields, class_of, class_fault};
+ghost use Rattle.jm_class.specs.Readings.{list_of};
+ghost use Rattle.jm_class.specs.Views.{Gives};
+ghost use Rattle.jm_strip.specs.Strip.{stays, strip, StripsTo};
+ghost use Rattle.jm_strip.specs.Walks.{shown, Puts, Strips};
+
+use crate::lists::keep_attributes;
+use crate::methods::strip_methods;
+use crate::pool::{Pool, read_pool};
+use crate::skips::{skip_fields, skip_interfaces};
+use jm_bytes::{NoMemory, Text};
+use jm_class::fields::{Missing, number16};
+use jm_class::{ClassFault, Cursor, ReadError, magic, major};
+use jm_classout::put;
+use std::alloc::Global;
+
+/// The attributes of the class.
+fn strip_attributes(cursor: &mut Cursor, text: &mut Vec<u8>, pool: &Pool) -> Result<(), ReadError>
+    ensures { Puts
+        (λ xs. counted_text attribute_text (filter (λ a. stays false pool.now a.name) xs))
+        (list_of Short (attribute_field pool.now false) cursor.old)
+        result cursor.new text.old.items text.new.items }
+{
+    keep_attributes(cursor, text, pool, Missing::Here, false)
+}
+
+/// A text of some bytes, with room for more.
+fn with_room(alloc: Global, bytes: &[u8], room: usize) -> Result<Vec<u8>, NoMemory>
+    ensures { IfOk result (λ text. text.items ≡ bytes.now) }
+{
+    match Vec::with_capacity(alloc, room) {
+        Ok(mut text) => {
+            put(&mut text, bytes)?;
+            Ok(text)
+        }
+        Err(_) => Err(NoMemory),
+    }
+}
+
+/// The fields of a class: what stands in front of the methods goes as it is.
+fn strip_class(alloc: Global, bytes: &[u8], cursor: &mut Cursor) -> Result<Vec<u8>, ReadError>
+    requires { cursor.old ≡ record { place = 0; bytes = bytes.now } }
+    ensures { Gives (λ text. text.items) (shown (λ c. class_text (strip c)) (class_fields cursor.old))
+        result cursor.new }
+{
+    let _magic = magic(cursor)?;
+    let _minor = number16(cursor, Missing::Here)?;
+    let _major = major(cursor)?;
+    let pool = read_pool(alloc, cursor)?;
+    let _access = number16(cursor, Missing::Here)?;
+    let _this_class = number16(cursor, Missing::Here)?;
+    let _super_class = number16(cursor, Missing::Here)?;
+    skip_interfaces(cursor)?;
+    skip_fields(cursor, &pool)?;
+    let (front, _) = bytes.split_at(bytes.len() - cursor.len());
+    let mut text = with_room(alloc, front, bytes.len())?;
+    strip_methods(cursor, &mut text, &pool)?;
+    strip_attributes(cursor, &mut text, &pool)?;
+    Ok(text)
+}
+
+/// The text of a class without its debug information, and nothing behind the class.
+fn whole(alloc: Global, bytes: &[u8]) -> Result<Text, ReadError>
+    ensures { Strips bytes.now result }
+{
+    let mut cursor = Cursor::new(bytes);
+    let text = strip_class(alloc, bytes, &mut cursor)?;
+    if cursor.len() != 0 {
+        return Err(ReadError::Fault(ClassFault::Rest(cursor.place())));
+    }
+    Ok(Text::from_vec(text))
+}
+
+/// A class file without its debug information: the line numbers and local variables of each Code,
+/// and the source file and its extension of the class. A fault is the one that `read` finds. It
+/// asks for memory twice at most.
+pub fn strip(alloc: Global, bytes: &[u8]) -> Result<Text, ReadError>
+    ensures text { IfOk result (λ text. StripsTo bytes.now text) }
+    ensures only { IfOk result (λ text. (c : ClassData) → ReadsAs bytes.now c
+        → text ≡ class_text (strip c)) }
+    ensures reads { IfOk result (λ text. (c : ClassData) → ReadsAs bytes.now c
+        → ReadsAs text (strip c)) }
+    ensures no_fault { OnOk result (class_fault bytes.now ≡ None) }
+    ensures fault { (fault : _) → result ≡ Err (Fault fault) → class_fault bytes.now ≡ Some fault }
+{
+    whole(alloc, bytes)
+}
