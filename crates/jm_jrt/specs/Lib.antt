@@ -1,0 +1,4 @@
+pub mod Listed
+pub mod Stat
+pub mod Told
+pub mod Views

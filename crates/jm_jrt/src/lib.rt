@@ -1,0 +1,11 @@
+//! What stands at a path of the two trees of an image: folders, files and links.
+#![tactic(auto)]
+
+mod child_list;
+mod jrt_error;
+mod owners;
+mod rows;
+mod words;
+
+pub use child_list::{Child, ChildList};
+pub use jrt_error::JrtError;
