@@ -1,11 +1,15 @@
 -- What holds of a content without a bad word, and its items from one on.
-use Rattle.std.proofs.Common.{◌≡◌, ℕ, suc, ◌+◌, ◌-◌, ◌*◌, ◌%◌, ◌==◌, ◌<◌, ◌≤◌, ◌&&◌, nat_lt, Bool, true, false, List, [], ◌∷◌, map, None, refl, ap, ◌∙◌, arith}
-use Rattle.std.specs.List.{range_with_len}
+use Rattle.std.proofs.Common.{◌≡◌, ℕ, suc, ◌+◌, ◌-◌, ◌*◌, ◌%◌, ◌==◌, ◌<◌, ◌≤◌, ◌&&◌, nat_lt, Bool, true, false, List, [], ◌∷◌, length, map, Option, None, Some, is_some, IfSome, Bor, refl, ap, ◌∙◌, arith}
+use Rattle.std.proofs.lemmas.List.{length-map}
+use Rattle.std.proofs.lemmas.List.FromFn.{length-range_with_len}
+use Rattle.std.specs.List.{list_any, range_with_len}
+use Rattle.std.specs.Str.{bytes_eq}
+use Rattle.jm_form.specs.declared.trees.Owner.{Owner}
+use Rattle.jm_jrt.specs.Stat.{first_full}
 use Rattle.jm_form.specs.declared.container.Header.{Header}
 use Rattle.jm_form.specs.Places.{strings}
 use Rattle.jm_form.specs.Texts.{text_ends}
-use Rattle.jm_jrt.specs.Listed.{names_left, owners_left}
-use Rattle.jm_jrt.specs.Told.{fits, is_child_sound, is_half_sound, is_pair_sound, is_row_sound, name_told, names_from, owner_told, owners_from, pair_count, row_told, word_count, word_of, words_fault}
+use Rattle.jm_jrt.specs.Told.{fits, is_child_sound, is_half_sound, is_pair_sound, is_row_sound, name_told, names_from, names_left, owner_told, owners_from, owners_left, pair_count, row_told, word_count, word_of, words_fault}
 use Rattle.jm_jrt.proofs.FaultLaws.{sound_below}
 
 pub both : (a b : Bool) → a && b ≡ true → (a ≡ true) × (b ≡ true)
@@ -33,6 +37,10 @@ pub names_end : (b : List ℕ) (h : Header) (content : List ℕ) (k : ℕ) → w
 names_end b h content k past =
     let size : word_count content - k ≡ 0 = omega arith in
     ap (λ (n : ℕ). names_from b h content k n) size
+
+pub names_length : (b : List ℕ) (h : Header) (content : List ℕ) (k : ℕ) → length (names_left b h content k) ≡ word_count content - k
+names_length b h content k =
+    length-map (range_with_len k (word_count content - k)) (λ k. name_told b h (word_of h content k)) ∙ length-range_with_len k (word_count content - k)
 
 -- Pairs
 
@@ -70,3 +78,29 @@ pub owners_end : (b : List ℕ) (h : Header) (content : List ℕ) (k : ℕ) → 
 owners_end b h content k past =
     let size : pair_count content - k ≡ 0 = omega arith in
     ap (λ (n : ℕ). owners_from b h content k n) size
+
+pub owners_length : (b : List ℕ) (h : Header) (content : List ℕ) (k : ℕ) → length (owners_left b h content k) ≡ pair_count content - k
+owners_length b h content k =
+    length-map (range_with_len k (pair_count content - k)) (owner_told b h content) ∙ length-range_with_len k (pair_count content - k)
+
+-- The first owner that isn't empty
+
+pub full_here : (o : Owner) (os : List Owner) → o.empty ≡ false → first_full (o ∷ os) ≡ Some o.module
+full_here o os full = rw full refl
+
+pub full_later : (o : Owner) (os : List Owner) → o.empty ≡ true → first_full (o ∷ os) ≡ first_full os
+full_later o os empty = rw empty refl
+
+-- An owner that is a module
+
+pub any_here : (name : List ℕ) (o : Owner) (os : List Owner) → bytes_eq name o.module ≡ true → list_any (λ o. bytes_eq name o.module) (o ∷ os) ≡ true
+any_here name o os same = rw same refl
+
+pub any_later : (name : List ℕ) (o : Owner) (os : List Owner) → bytes_eq name o.module ≡ false → list_any (λ o. bytes_eq name o.module) (o ∷ os) ≡ list_any (λ o. bytes_eq name o.module) os
+any_later name o os other = rw other refl
+
+-- The text that is there
+
+pub text_there : (o : Option (Bor (List ℕ))) (x y : List ℕ) → is_some o ≡ true → IfSome o (λ t. t.now ≡ y) → IfSome o (λ t. x ≡ t.now) → x ≡ y
+text_there None x y there first second = cc
+text_there (Some t) x y there first second = second ∙ first

@@ -1,13 +1,12 @@
 -- The children of a folder that are still to come.
-use Rattle.std.specs.Prelude.{ℕ, ◌-◌, ◌*◌, ◌≤◌, ◌≡◌, Bool, List, [], ◌∷◌, ◌++◌, codes, if◌then◌else◌, None, Ok}
+use Rattle.std.specs.Prelude.{ℕ, ◌*◌, ◌≤◌, ◌≡◌, Bool, List, [], ◌∷◌, ◌++◌, codes, if◌then◌else◌, None, Ok}
 use Rattle.jm_form.specs.declared.container.Header.{Header}
 use Rattle.jm_form.specs.declared.trees.Holds.{Holds}
 use Rattle.jm_form.specs.declared.trees.Holds.TheVariants.{Children, Owners}
-use Rattle.jm_form.specs.declared.trees.Owner.{Owner}
 use Rattle.jm_form.specs.Head.{header_of}
 use Rattle.jm_jrt.specs.declared.child_list.ToCome.{ToCome}
 use Rattle.jm_jrt.specs.declared.child_list.ToCome.TheVariants as to_come
-use Rattle.jm_jrt.specs.Told.{is_child_sound, is_pair_sound, names_from, owners_from, pair_count, word_count, words_fault}
+use Rattle.jm_jrt.specs.Told.{is_child_sound, is_pair_sound, names_left, owners_left, pair_count, word_count, words_fault}
 
 -- an image's bytes and the children that are still to come
 pub record Listed : Type 0 where
@@ -19,14 +18,6 @@ root_if there name = if there then name ∷ [] else []
 
 abbrev pub roots_if : Bool → Bool → List (List ℕ)
 roots_if modules packages = root_if modules (codes "/modules") ++ root_if packages (codes "/packages")
-
--- the names that the words of a content tell, from one word on
-abbrev pub names_left : List ℕ → Header → List ℕ → ℕ → List (List ℕ)
-names_left b h content next = names_from b h content next (word_count content - next)
-
--- the owners that its pairs tell, from one pair on
-abbrev pub owners_left : List ℕ → Header → List ℕ → ℕ → List Owner
-owners_left b h content next = owners_from b h content next (pair_count content - next)
 
 abbrev pub rest_of : List ℕ → Header → ToCome → Holds
 rest_of b h (to_come.Roots modules packages) = Children (roots_if modules packages)

@@ -78,18 +78,22 @@ link «module» (Ok (Owners owners)) = link_among «module» owners
 abbrev pub is_package : List ℕ → Bool
 is_package path = is_package_node path && not (list_any is_slash (drop 10 path))
 
+-- `/packages/p/m` with no slash in p and m is a link where m is among the owners
+abbrev pub in_packages : List ℕ → Header → List ℕ → Result TreeItem JrtError
+in_packages b h path =
+    if is_package path then folder (owners_of b h (look b path))
+    else if is_package (before_last is_slash path)
+    then link (after_last is_slash path) (owners_of b h (look b (before_last is_slash path)))
+    else Err NotThere
+
 -- Paths
 
--- `/packages/p/m` with no slash in p and m is a link where m is among the owners
 abbrev pub stat_with : List ℕ → Header → List ℕ → Result TreeItem JrtError
 stat_with b h path =
     if bytes_eq path (codes "/") then Ok (Folder (roots b))
     else if is_root path then folder (children_of b h (look b path))
     else if starts_with nat_eq path (codes "/modules/") then in_modules b h path (look b path)
-    else if is_package path then folder (owners_of b h (look b path))
-    else if is_package (before_last is_slash path)
-    then link (after_last is_slash path) (owners_of b h (look b (before_last is_slash path)))
-    else Err NotThere
+    else in_packages b h path
 
 abbrev pub stat_read : List ℕ → List ℕ → Result Header HeaderFault → Result TreeItem JrtError
 stat_read b path (Err fault) = Err NotThere

@@ -1,6 +1,6 @@
 -- What the content of a node tells, and where it is bad (jimage 1.0 for the nodes; what is bad is
 -- this project's rule).
-use Rattle.std.specs.Prelude.{ℕ, ◌+◌, ◌*◌, ◌/◌, ◌%◌, ◌==◌, nat_lt, Bool, false, ◌&&◌, not, List, length, drop, map}
+use Rattle.std.specs.Prelude.{ℕ, ◌+◌, ◌-◌, ◌*◌, ◌/◌, ◌%◌, ◌==◌, nat_lt, Bool, false, ◌&&◌, not, List, length, drop, map}
 use Rattle.std.specs.Prelude.{Option, Some, None, Result, unwrap_or, if◌then◌else◌}
 use Rattle.std.specs.List.{range_with_len}
 use Rattle.jm_bytes.specs.Checks.{fault_if, first_fault, unless_fault}
@@ -71,10 +71,14 @@ abbrev pub names_from : List ℕ → Header → List ℕ → ℕ → ℕ → Lis
 names_from b h content k n =
     map (λ k. name_told b h (word_of h content k)) (range_with_len k n)
 
+-- the names that are told from one word on
+abbrev pub names_left : List ℕ → Header → List ℕ → ℕ → List (List ℕ)
+names_left b h content next = names_from b h content next (word_count content - next)
+
 abbrev pub children_told : List ℕ → Header → List ℕ → Result Holds JrtError
 children_told b h content =
     unless_fault (words_fault (is_child_sound b h content) (word_count content))
-    (Children (names_from b h content 0 (word_count content)))
+    (Children (names_left b h content 0))
 
 -- The form of pairs
 
@@ -96,7 +100,11 @@ owner_told b h content k = record {
 abbrev pub owners_from : List ℕ → Header → List ℕ → ℕ → ℕ → List Owner
 owners_from b h content k n = map (owner_told b h content) (range_with_len k n)
 
+-- the owners that are told from one pair on
+abbrev pub owners_left : List ℕ → Header → List ℕ → ℕ → List Owner
+owners_left b h content next = owners_from b h content next (pair_count content - next)
+
 abbrev pub owners_told : List ℕ → Header → List ℕ → Result Holds JrtError
 owners_told b h content =
     unless_fault (words_fault (is_pair_sound b h content) (2 * pair_count content))
-    (Owners (owners_from b h content 0 (pair_count content)))
+    (Owners (owners_left b h content 0))

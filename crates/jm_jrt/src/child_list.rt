@@ -2,16 +2,15 @@ ghost use Rattle.std.specs.Prelude.{◌≡◌, ◌+◌, ◌*◌, ◌<◌, ◌≤
 ghost use Rattle.jm_form.specs.Head.{header_of};
 ghost use Rattle.jm_form.specs.declared.trees.Holds.TheVariants.{Children, Owners};
 ghost use Rattle.jm_reader.specs.Walk.{IsLater};
-ghost use Rattle.jm_jrt.specs.Listed.{names_left, owners_left, roots_if};
-ghost use Rattle.jm_jrt.specs.Told.{children_told, is_child_sound, is_pair_sound, owners_told};
-ghost use Rattle.jm_jrt.specs.Told.{words_fault};
+ghost use Rattle.jm_jrt.specs.Listed.{roots_if};
+ghost use Rattle.jm_jrt.specs.Told.{is_child_sound, is_pair_sound};
+ghost use Rattle.jm_jrt.specs.Told.{names_left, owners_left, words_fault};
 ghost use Rattle.jm_jrt.specs.Told as told;
-ghost use Rattle.jm_jrt.specs.Views.{count_of, held_by, IsFirst};
+ghost use Rattle.jm_jrt.specs.Views.{count_of, IsFirst};
 
-use crate::jrt_error::JrtError;
 use crate::owners::owner_at;
 use crate::rows::pieces;
-use crate::words::{children_fault, owners_fault, pair_count, word, word_count};
+use crate::words::{pair_count, word, word_count};
 use jm_bytes::{Buf, Meter};
 use jm_form::Header;
 use jm_names::Pieces;
@@ -74,6 +73,36 @@ pub fn root_list<'a>(
     }
 }
 
+/// The list of the children that a content without a bad word tells.
+pub fn word_list<'a>(buf: &Buf<'a>, header: &Header, content: &'a [u8]) -> ChildList<'a>
+    requires read { header_of buf.now ≡ Ok header.now }
+    requires sound { words_fault (is_child_sound buf.now header.now content.now)
+        (told.word_count content.now) ≡ None }
+    ensures bytes { result.bytes ≡ buf.now }
+    ensures rest { result.rest ≡ Children (names_left buf.now header.now content.now 0) }
+{
+    ChildList {
+        buf: buf.again(),
+        header: *header,
+        left: ToCome::Words { content, next: 0 },
+    }
+}
+
+/// The list of the owners that a content without a bad word tells.
+pub fn pair_list<'a>(buf: &Buf<'a>, header: &Header, content: &'a [u8]) -> ChildList<'a>
+    requires read { header_of buf.now ≡ Ok header.now }
+    requires sound { words_fault (is_pair_sound buf.now header.now content.now)
+        (2 * told.pair_count content.now) ≡ None }
+    ensures bytes { result.bytes ≡ buf.now }
+    ensures rest { result.rest ≡ Owners (owners_left buf.now header.now content.now 0) }
+{
+    ChildList {
+        buf: buf.again(),
+        header: *header,
+        left: ToCome::Pairs { content, next: 0 },
+    }
+}
+
 /// The first of the roots that are there, and whether `/packages` follows it.
 fn root_child<'a>(modules: bool, packages: bool) -> Option<(Child<'a>, bool)>
     ensures child { IfSome result (λ r. IsFirst (Children (roots_if modules packages)) r.0
@@ -96,46 +125,48 @@ fn root_child<'a>(modules: bool, packages: bool) -> Option<(Child<'a>, bool)>
     ))
 }
 
-/// The child that word `next` of a content tells; None exactly where no word is left.
+/// The child that word `next` of a content tells, and the number of the word behind it; None exactly
+/// where no word is left.
 fn word_child<'a, R: Ledger>(
     buf: &Buf<'a>,
     header: &Header,
     content: &[u8],
     next: usize,
     reads: &mut Meter<R>,
-) -> Option<Child<'a>>
+) -> Option<(Child<'a>, usize)>
     requires read { header_of buf.now ≡ Ok header.now }
     requires metered { reads.old.bytes ≡ buf.now }
     requires sound { words_fault (is_child_sound buf.now header.now content.now)
         (told.word_count content.now) ≡ None }
-    ensures child { IfSome result (λ child. (next < told.word_count content.now)
-        × IsFirst (Children (names_left buf.now header.now content.now next)) child
-        (Children (names_left buf.now header.now content.now (next + 1)))) }
+    ensures child { IfSome result (λ r. IsFirst
+        (Children (names_left buf.now header.now content.now next)) r.0
+        (Children (names_left buf.now header.now content.now r.1))) }
     ensures end { IfNone result (told.word_count content.now ≤ next) }
     ensures reads { IsLater reads.old reads.new }
 {
     if next >= word_count(content) {
         return None;
     }
-    let place = word(header, content, next);
-    Some(Child::Entry(pieces(buf, header, place, reads)?))
+    let pieces = pieces(buf, header, word(header, content, next), reads)?;
+    Some((Child::Entry(pieces), next + 1))
 }
 
-/// The child that pair `next` of a content tells; None exactly where no pair is left.
+/// The child that pair `next` of a content tells, and the number of the pair behind it; None exactly
+/// where no pair is left.
 fn pair_child<'a, R: Ledger>(
     buf: &Buf<'a>,
     header: &Header,
     content: &[u8],
     next: usize,
     reads: &mut Meter<R>,
-) -> Option<Child<'a>>
+) -> Option<(Child<'a>, usize)>
     requires read { header_of buf.now ≡ Ok header.now }
     requires metered { reads.old.bytes ≡ buf.now }
     requires sound { words_fault (is_pair_sound buf.now header.now content.now)
         (2 * told.pair_count content.now) ≡ None }
-    ensures child { IfSome result (λ child. (next < told.pair_count content.now)
-        × IsFirst (Owners (owners_left buf.now header.now content.now next)) child
-        (Owners (owners_left buf.now header.now content.now (next + 1)))) }
+    ensures child { IfSome result (λ r. IsFirst
+        (Owners (owners_left buf.now header.now content.now next)) r.0
+        (Owners (owners_left buf.now header.now content.now r.1))) }
     ensures end { IfNone result (told.pair_count content.now ≤ next) }
     ensures reads { IsLater reads.old reads.new }
 {
@@ -143,8 +174,59 @@ fn pair_child<'a, R: Ledger>(
         return None;
     }
     let owner = owner_at(buf, header, content, next, reads);
-    Some(Child::Owner {
+    let child = Child::Owner {
         empty: owner.empty,
         module: owner.module,
-    })
+    };
+    Some((child, next + 1))
+}
+
+impl<'a> ChildList<'a> {
+    /// How many children are still to come.
+    pub fn len(&self) -> usize
+        ensures { result ≡ count_of self.now.rest }
+    {
+        match self.left {
+            ToCome::Roots { modules, packages } => usize::from(modules) + usize::from(packages),
+            ToCome::Words { content, next } => word_count(content).saturating_sub(next),
+            ToCome::Pairs { content, next } => pair_count(content).saturating_sub(next),
+        }
+    }
+
+    /// The next child; None exactly at the end, where it stays so.
+    pub fn step<R: Ledger>(&mut self, reads: &mut Meter<R>) -> Option<Child<'a>>
+        requires { reads.old.bytes ≡ self.old.bytes }
+        ensures bytes { self.new.bytes ≡ self.old.bytes }
+        ensures child { IfSome result (λ child. IsFirst self.old.rest child self.new.rest) }
+        ensures end { IfNone result (count_of self.old.rest ≡ 0) }
+        ensures stays { IfNone result (self.new.rest ≡ self.old.rest) }
+        ensures reads { IsLater reads.old reads.new }
+    {
+        match self.left {
+            ToCome::Roots { modules, packages } => {
+                let (child, packages) = root_child(modules, packages)?;
+                self.left = ToCome::Roots {
+                    modules: false,
+                    packages,
+                };
+                Some(child)
+            }
+            ToCome::Words { content, next } => {
+                let (child, next) = word_child(&self.buf, &self.header, content, next, reads)?;
+                self.left = ToCome::Words {
+                    content,
+                    next,
+                };
+                Some(child)
+            }
+            ToCome::Pairs { content, next } => {
+                let (child, next) = pair_child(&self.buf, &self.header, content, next, reads)?;
+                self.left = ToCome::Pairs {
+                    content,
+                    next,
+                };
+                Some(child)
+            }
+        }
+    }
 }

@@ -3,9 +3,14 @@
 
 mod child_list;
 mod jrt_error;
+mod node;
 mod owners;
+mod paths;
 mod rows;
+mod stat;
 mod words;
 
 pub use child_list::{Child, ChildList};
 pub use jrt_error::JrtError;
+pub use node::Node;
+

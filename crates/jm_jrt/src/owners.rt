@@ -1,10 +1,10 @@
-ghost use Rattle.std.specs.Prelude.{◌≡◌, ◌<◌, ◌*◌, IfSome, None, Ok, option_map};
+ghost use Rattle.std.specs.Prelude.{◌≡◌, ◌<◌, ◌*◌, IfSome, None, Ok, is_some, option_map};
 ghost use Rattle.std.specs.List.{list_any};
 ghost use Rattle.std.specs.Str.{bytes_eq};
 ghost use Rattle.jm_form.specs.Head.{header_of};
 ghost use Rattle.jm_reader.specs.Walk.{IsLater};
 ghost use Rattle.jm_jrt.specs.Stat.{first_full};
-ghost use Rattle.jm_jrt.specs.Told.{is_pair_sound, owner_told, owners_from, words_fault};
+ghost use Rattle.jm_jrt.specs.Told.{is_pair_sound, owner_told, owners_left, words_fault};
 ghost use Rattle.jm_jrt.specs.Told as told;
 ghost use Rattle.jm_jrt.specs.Views.{owner_as};
 
@@ -23,7 +23,7 @@ pub struct Owned<'a> {
 
 /// The text, or no byte where there is none.
 fn text_or_empty<'a>(text: Option<&'a [u8]>) -> &'a [u8]
-    ensures { IfSome text (λ text. result.now ≡ text.now) }
+    ensures { IfSome text.entry (λ text. result.now ≡ text.now) }
 {
     match text {
         Some(text) => text,
@@ -53,29 +53,30 @@ pub fn owner_at<'a, R: Ledger>(
     Owned { empty, module }
 }
 
-/// The module that is asked for is one of the owners.
-pub fn has_owner<R: Ledger>(
-    buf: &Buf,
+/// The module that is asked for, as the image has it, if it is one of the owners.
+pub fn find_owner<'a, R: Ledger>(
+    buf: &Buf<'a>,
     header: &Header,
     content: &[u8],
     asked: &[u8],
     reads: &mut Meter<R>,
-) -> bool
+) -> Option<&'a [u8]>
     requires read { header_of buf.now ≡ Ok header.now }
     requires metered { reads.old.bytes ≡ buf.now }
     requires sound { words_fault (is_pair_sound buf.now header.now content.now)
         (2 * told.pair_count content.now) ≡ None }
-    ensures found { result ≡ list_any (λ o. bytes_eq asked.now o.module)
-        (owners_from buf.now header.now content.now 0 (told.pair_count content.now)) }
+    ensures found { is_some result ≡ list_any (λ o. bytes_eq asked.now o.module)
+        (owners_left buf.now header.now content.now 0) }
+    ensures same { IfSome result (λ name. name.now ≡ asked.now) }
     ensures reads { IsLater reads.old reads.new }
 {
     for k in 0..pair_count(content) {
         let owner = owner_at(buf, header, content, k, reads);
         if asked == owner.module {
-            return true;
+            return Some(owner.module);
         }
     }
-    false
+    None
 }
 
 /// The module of the first owner that isn't empty.
@@ -90,7 +91,7 @@ pub fn first_full<'a, R: Ledger>(
     requires sound { words_fault (is_pair_sound buf.now header.now content.now)
         (2 * told.pair_count content.now) ≡ None }
     ensures found { option_map (λ m. m.now) result ≡ first_full
-        (owners_from buf.now header.now content.now 0 (told.pair_count content.now)) }
+        (owners_left buf.now header.now content.now 0) }
     ensures reads { IsLater reads.old reads.new }
 {
     for k in 0..pair_count(content) {

@@ -1,5 +1,5 @@
 use Rattle.std.proofs.Common.{◌≡◌, ◌≤◌}
-use Rattle.jm_jrt.specs.Listed.{owners_left}
+use Rattle.jm_jrt.specs.Told.{owners_left}
 use Rattle.jm_jrt.specs.Stat.{first_full}
 use Rattle.jm_jrt.proofs.owners.first_full.Given as goal
 

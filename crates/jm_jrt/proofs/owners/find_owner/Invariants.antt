@@ -1,8 +1,8 @@
 use Rattle.std.proofs.Common.{◌≡◌, ◌≤◌}
 use Rattle.std.specs.List.{list_any}
 use Rattle.std.specs.Str.{bytes_eq}
-use Rattle.jm_jrt.specs.Listed.{owners_left}
-use Rattle.jm_jrt.proofs.owners.has_owner.Given as goal
+use Rattle.jm_jrt.specs.Told.{owners_left}
+use Rattle.jm_jrt.proofs.owners.find_owner.Given as goal
 
 abbrev pub invariant-loop-k : goal.invariant-loop-k
 invariant-loop-k g l = record {
