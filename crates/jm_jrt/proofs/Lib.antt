@@ -1,3 +1,6 @@
 pub mod FaultLaws
 pub mod SectionPlaces
 pub mod PairLaws
+pub mod LinkLaws
+mod StatVectors
+pub mod Vectors

@@ -7,10 +7,10 @@ mod node;
 mod owners;
 mod paths;
 mod rows;
-mod stat;
+mod trees;
 mod words;
 
 pub use child_list::{Child, ChildList};
 pub use jrt_error::JrtError;
 pub use node::Node;
-
+pub use trees::{children, owner, stat};

@@ -1,4 +1,4 @@
-ghost use Rattle.std.specs.Prelude.{◌≡◌, ◌≤◌, ◌+◌, ◌*◌, length, drop, IfOk, IfErr, IfNone, IfSome, None, Ok};
+ghost use Rattle.std.specs.Prelude.{◌≡◌, ◌≤◌, ◌+◌, ◌*◌, length, IfOk, None, Ok, option_map};
 ghost use Rattle.std.specs.List.{after_last, before_last};
 ghost use Rattle.jm_names.specs.Names.{is_slash};
 ghost use Rattle.jm_bytes.specs.Metered.{CostsAtMost, RisesAtMost};
@@ -246,4 +246,117 @@ fn in_packages<'a, H: Ledger, R: Ledger>(
         Err(error) => Err(error),
         Ok(module) => Ok(Node::Link(module)),
     }
+}
+
+/// What stands at a path, in the valid image that has this header.
+fn stat_in<'a, H: Ledger, R: Ledger>(
+    image: &Image<'a>,
+    header: &Header,
+    path: &[u8],
+    hashes: &mut Steps<H>,
+    reads: &mut Meter<R>,
+) -> Result<Node<'a>, JrtError>
+    requires read { header_of image.now ≡ Ok header.now }
+    requires metered { reads.old.bytes ≡ image.now }
+    ensures item { item_as result ≡ answers.stat_with image.now header.now path.now }
+    ensures bytes { IfOk result (λ node. IsOf image.now node) }
+    ensures hashes { RisesAtMost hashes.old hashes.new 4 }
+    ensures cost { StatCosts result path.now reads.old reads.new }
+{
+    if path == b"/".as_slice() {
+        return Ok(Node::Folder(roots(image, header, hashes, reads)));
+    }
+    if is_root(path) {
+        return match children_at(image, header, path, hashes, reads) {
+            Err(error) => Err(error),
+            Ok(list) => Ok(Node::Folder(list)),
+        };
+    }
+    if path.starts_with(b"/modules/") {
+        return in_modules(image, header, path, hashes, reads);
+    }
+    in_packages(image, header, path, hashes, reads)
+}
+
+/// What stands at a path of the two trees (JEP 220); never `NotFolder`.
+///
+/// It costs at most four hashes, and for a file at most twice the path's bytes, 152 more and those
+/// of the file.
+pub fn stat<'a, H: Ledger, R: Ledger>(
+    image: &Image<'a>,
+    path: &[u8],
+    hashes: &mut Steps<H>,
+    reads: &mut Meter<R>,
+) -> Result<Node<'a>, JrtError>
+    requires { reads.old.bytes ≡ image.now }
+    ensures item { item_as result ≡ answers.stat image.now path.now }
+    ensures bytes { IfOk result (λ node. IsOf image.now node) }
+    ensures hashes { RisesAtMost hashes.old hashes.new 4 }
+    ensures cost { StatCosts result path.now reads.old reads.new }
+{
+    stat_in(image, &image.header(), path, hashes, reads)
+}
+
+/// The children of the folder at a path; `NotFolder` exactly where a file or a link stands there.
+/// It costs at most four hashes.
+pub fn children<'a, H: Ledger, R: Ledger>(
+    image: &Image<'a>,
+    path: &[u8],
+    hashes: &mut Steps<H>,
+    reads: &mut Meter<R>,
+) -> Result<ChildList<'a>, JrtError>
+    requires { reads.old.bytes ≡ image.now }
+    ensures rest { held_by result ≡ answers.held (answers.stat image.now path.now) }
+    ensures bytes { IfOk result (λ list. list.bytes ≡ image.now) }
+    ensures hashes { RisesAtMost hashes.old hashes.new 4 }
+    ensures reads { IsLater reads.old reads.new }
+{
+    match stat(image, path, hashes, reads) {
+        Err(error) => Err(error),
+        Ok(Node::Folder(list)) => Ok(list),
+        Ok(Node::File(_)) => Err(JrtError::NotFolder),
+        Ok(Node::Link(_)) => Err(JrtError::NotFolder),
+    }
+}
+
+/// The first full owner of a package, in the valid image that has this header.
+fn owner_in<'a, H: Ledger, R: Ledger>(
+    image: &Image<'a>,
+    header: &Header,
+    path: &[u8],
+    hashes: &mut Steps<H>,
+    reads: &mut Meter<R>,
+) -> Result<Option<&'a [u8]>, JrtError>
+    requires read { header_of image.now ≡ Ok header.now }
+    requires metered { reads.old.bytes ≡ image.now }
+    ensures owner { on_ok (λ name. option_map (λ n. n.now) name) result
+        ≡ answers.owner_with image.now header.now path.now }
+    ensures hashes { RisesAtMost hashes.old hashes.new 2 }
+    ensures reads { IsLater reads.old reads.new }
+{
+    if !is_package(path) {
+        return Err(JrtError::NotThere);
+    }
+    match pairs_at(image, header, path, hashes, reads) {
+        Err(error) => Err(error),
+        Ok(content) => Ok(first_full(&image.buf(), header, content, reads)),
+    }
+}
+
+/// The first owner, of the package at a path such as `/packages/java.lang`, for which it isn't
+/// empty; None exactly where it is empty for all. Another path is `NotThere`. It costs at most two
+/// hashes.
+pub fn owner<'a, H: Ledger, R: Ledger>(
+    image: &Image<'a>,
+    path: &[u8],
+    hashes: &mut Steps<H>,
+    reads: &mut Meter<R>,
+) -> Result<Option<&'a [u8]>, JrtError>
+    requires { reads.old.bytes ≡ image.now }
+    ensures owner { on_ok (λ name. option_map (λ n. n.now) name) result
+        ≡ answers.owner image.now path.now }
+    ensures hashes { RisesAtMost hashes.old hashes.new 2 }
+    ensures reads { IsLater reads.old reads.new }
+{
+    owner_in(image, &image.header(), path, hashes, reads)
 }
