@@ -4,3 +4,4 @@ pub mod PairLaws
 pub mod LinkLaws
 mod StatVectors
 pub mod Vectors
+pub mod ToldLaws

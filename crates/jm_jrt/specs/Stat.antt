@@ -123,7 +123,8 @@ abbrev pub owner_with : List ℕ → Header → List ℕ → Result (Option (Lis
 owner_with b h path =
     if is_package path then full_among (owners_of b h (look b path)) else Err NotThere
 
-abbrev pub owner_read : List ℕ → List ℕ → Result Header HeaderFault → Result (Option (List ℕ)) JrtError
+abbrev pub owner_read
+    : List ℕ → List ℕ → Result Header HeaderFault → Result (Option (List ℕ)) JrtError
 owner_read b path (Err fault) = Err NotThere
 owner_read b path (Ok h) = owner_with b h path
 

@@ -56,12 +56,7 @@ impl<'a> Model for ChildList<'a> {
 }
 
 /// The list of those roots of the two trees that are there.
-pub fn root_list<'a>(
-    buf: &Buf<'a>,
-    header: &Header,
-    modules: bool,
-    packages: bool,
-) -> ChildList<'a>
+pub fn root_list<'a>(buf: &Buf<'a>, header: &Header, modules: bool, packages: bool) -> ChildList<'a>
     requires { header_of buf.now ≡ Ok header.now }
     ensures bytes { result.bytes ≡ buf.now }
     ensures rest { result.rest ≡ Children (roots_if modules packages) }
@@ -125,8 +120,8 @@ fn root_child<'a>(modules: bool, packages: bool) -> Option<(Child<'a>, bool)>
     ))
 }
 
-/// The child that word `next` of a content tells, and the number of the word behind it; None exactly
-/// where no word is left.
+/// The child that word `next` of a content tells, and the number of the word behind it; None
+/// exactly where no word is left.
 fn word_child<'a, R: Ledger>(
     buf: &Buf<'a>,
     header: &Header,
@@ -151,8 +146,8 @@ fn word_child<'a, R: Ledger>(
     Some((Child::Entry(pieces), next + 1))
 }
 
-/// The child that pair `next` of a content tells, and the number of the pair behind it; None exactly
-/// where no pair is left.
+/// The child that pair `next` of a content tells, and the number of the pair behind it; None
+/// exactly where no pair is left.
 fn pair_child<'a, R: Ledger>(
     buf: &Buf<'a>,
     header: &Header,
@@ -213,18 +208,12 @@ impl<'a> ChildList<'a> {
             }
             ToCome::Words { content, next } => {
                 let (child, next) = word_child(&self.buf, &self.header, content, next, reads)?;
-                self.left = ToCome::Words {
-                    content,
-                    next,
-                };
+                self.left = ToCome::Words { content, next };
                 Some(child)
             }
             ToCome::Pairs { content, next } => {
                 let (child, next) = pair_child(&self.buf, &self.header, content, next, reads)?;
-                self.left = ToCome::Pairs {
-                    content,
-                    next,
-                };
+                self.left = ToCome::Pairs { content, next };
                 Some(child)
             }
         }
