@@ -1,5 +1,5 @@
 -- The first bad word, and where no word is bad.
-use Rattle.std.proofs.Common.{◌≡◌, ℕ, ◌+◌, ◌*◌, ◌<◌, ◌≤◌, not, Bool, true, false, Some, None, refl, ap, ◌∙◌, arith}
+use Rattle.std.proofs.Common.{◌≡◌, ℕ, ◌*◌, ◌<◌, not, Bool, true, false, Some, None, refl, ap, arith}
 use Rattle.jm_bytes.specs.Checks.{fault_if}
 use Rattle.jm_bytes.proofs.CheckLaws.{fault_if_false, fault_if_none, first_fault_least, no_fault_between, no_fault_from_between}
 use Rattle.jm_jrt.specs.declared.jrt_error.JrtError.TheVariants.{BadNode}

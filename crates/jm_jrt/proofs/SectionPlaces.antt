@@ -1,5 +1,5 @@
 -- Where the parts of a section stand in an image.
-use Rattle.std.proofs.Common.{◌≡◌, ℕ, ◌+◌, ◌-◌, ◌<◌, ◌≤◌, min, List, length, take, drop, ap, sym, ◌∙◌, arith, length-drop}
+use Rattle.std.proofs.Common.{◌≡◌, ℕ, ◌+◌, ◌-◌, ◌≤◌, min, List, length, take, drop, ap, sym, ◌∙◌, arith, length-drop}
 use Rattle.std.proofs.lemmas.List.{drop-drop, drop-take, take-take, take_min}
 use Rattle.std.specs.Prelude.{slice_range}
 use Rattle.jm_form.specs.declared.container.Header.{Header}

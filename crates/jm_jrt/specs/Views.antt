@@ -1,20 +1,16 @@
 -- What is handed out, as plain data.
-use Rattle.std.specs.Prelude.{ℕ, ◌-◌, ◌≤◌, ◌≡◌, Bool, List, [], ◌∷◌, ◌++◌, length, codes, if◌then◌else◌}
-use Rattle.std.specs.Prelude.{None, Result, Ok, Err}
+use Rattle.std.specs.Prelude.{ℕ, ◌≡◌, ◌∷◌, length}
+use Rattle.std.specs.Prelude.{Result, Ok, Err}
 use Rattle.jm_names.specs.Names.{join}
 use Rattle.jm_names.specs.Pieces.{cut_of}
-use Rattle.jm_form.specs.declared.container.Header.{Header}
 use Rattle.jm_form.specs.declared.trees.Holds.{Holds}
 use Rattle.jm_form.specs.declared.trees.Holds.TheVariants.{Children, Owners}
 use Rattle.jm_form.specs.declared.trees.Owner.{Owner}
-use Rattle.jm_form.specs.Head.{header_of}
-use Rattle.jm_form.specs.TreeView.{TreeItem, File, Link, item_of}
 use Rattle.jm_jrt.specs.declared.child_list.Child.{Child}
 use Rattle.jm_jrt.specs.declared.child_list.Child.TheVariants as child
 use Rattle.jm_jrt.specs.declared.jrt_error.JrtError.{JrtError}
 use Rattle.jm_jrt.specs.declared.owners.Owned.{Owned}
 use Rattle.jm_jrt.specs.Listed.{Listed}
-use Rattle.jm_jrt.specs.Told.{names_from, owners_from}
 
 abbrev pub owner_as : Owned → Owner
 owner_as owned = record { empty = owned.empty; «module» = owned.module.now }

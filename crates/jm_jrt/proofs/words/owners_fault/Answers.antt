@@ -1,4 +1,4 @@
-use Rattle.std.proofs.Common.{◌≡◌, ◌<◌, ◌*◌, false, sym, ◌∙◌, ℕ, arith}
+use Rattle.std.proofs.Common.{◌≡◌, ◌*◌, false, sym, ◌∙◌, arith}
 use Rattle.jm_jrt.specs.Told.{is_pair_sound, pair_count}
 use Rattle.jm_jrt.proofs.FaultLaws.{first_bad, none_bad}
 use Rattle.jm_jrt.proofs.words.owners_fault.Goals as goal
