@@ -1,0 +1,5 @@
+pub mod Listed
+pub mod Nodes
+pub mod Stat
+pub mod Told
+pub mod Views

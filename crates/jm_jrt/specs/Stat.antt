@@ -1,0 +1,133 @@
+-- What stands at a path of the two trees of an image (JEP 220: the `jrt` file system; the answers
+-- are this project's rule).
+use Rattle.std.specs.Prelude.{ℕ, nat_eq, Bool, ◌&&◌, ◌||◌, not, List, [], ◌∷◌, drop, filter, codes}
+use Rattle.std.specs.Prelude.{Option, Some, None, option_map, is_some, Result, Ok, Err, if◌then◌else◌}
+use Rattle.std.specs.List.{after_last, before_last, find, list_any, starts_with}
+use Rattle.std.specs.Str.{bytes_eq}
+use Rattle.jm_names.specs.Names.{is_node, is_slash}
+use Rattle.jm_form.specs.declared.container.Header.{Header}
+use Rattle.jm_form.specs.declared.container.HeaderFault.{HeaderFault}
+use Rattle.jm_form.specs.declared.rows.Row.{Row}
+use Rattle.jm_form.specs.declared.trees.Holds.{Holds}
+use Rattle.jm_form.specs.declared.trees.Holds.TheVariants.{Children, Owners}
+use Rattle.jm_form.specs.declared.trees.Owner.{Owner}
+use Rattle.jm_form.specs.Head.{header_of}
+use Rattle.jm_form.specs.Trees.{is_package_node}
+use Rattle.jm_form.specs.TreeView.{TreeItem, Folder, Package, File, Link, item_of}
+use Rattle.jm_form.specs.Validity.{look}
+use Rattle.jm_jrt.specs.declared.jrt_error.JrtError.{JrtError}
+use Rattle.jm_jrt.specs.declared.jrt_error.JrtError.TheVariants.{NotThere, NotFolder}
+use Rattle.jm_jrt.specs.Told.{children_told, owners_told}
+
+-- what look-up gives: a row and a content
+abbrev Sought : Type 0
+Sought = Option (Row × List ℕ)
+
+-- Folders
+
+-- the roots of the two trees that the image has
+abbrev pub roots : List ℕ → List (List ℕ)
+roots b = filter (λ name. is_some (look b name)) (codes "/modules" ∷ codes "/packages" ∷ [])
+
+-- `/modules` and `/packages`
+abbrev pub is_root : List ℕ → Bool
+is_root path = bytes_eq path (codes "/modules") || bytes_eq path (codes "/packages")
+
+-- what the content of a node tells, in the form of children
+abbrev pub children_of : List ℕ → Header → Sought → Result Holds JrtError
+children_of b h None = Err NotThere
+children_of b h (Some found) = children_told b h found.1
+
+-- and in the form of pairs
+abbrev pub owners_of : List ℕ → Header → Sought → Result Holds JrtError
+owners_of b h None = Err NotThere
+owners_of b h (Some found) = owners_told b h found.1
+
+abbrev pub folder : Result Holds JrtError → Result TreeItem JrtError
+folder (Err error) = Err error
+folder (Ok holds) = Ok (item_of holds)
+
+-- Below `/modules/`
+
+abbrev pub file : Sought → Result TreeItem JrtError
+file None = Err NotThere
+file (Some found) = Ok (File found.1)
+
+-- the path without `/modules`, if it is the name of no node
+abbrev pub resource : List ℕ → List ℕ → Result TreeItem JrtError
+resource b path = if is_node (drop 8 path) then Err NotThere else file (look b (drop 8 path))
+
+-- a folder where the path is that of a node, and else a file
+abbrev pub in_modules : List ℕ → Header → List ℕ → Sought → Result TreeItem JrtError
+in_modules b h path None = resource b path
+in_modules b h path (Some found) = folder (children_told b h found.1)
+
+-- Below `/packages/`
+
+-- the link to a module among the owners
+abbrev pub link_among : List ℕ → List Owner → Result TreeItem JrtError
+link_among «module» owners =
+    if list_any (λ o. bytes_eq «module» o.module) owners then Ok (Link «module») else Err NotThere
+
+abbrev pub link : List ℕ → Result Holds JrtError → Result TreeItem JrtError
+link «module» (Err error) = Err error
+link «module» (Ok (Children names)) = Err NotThere
+link «module» (Ok (Owners owners)) = link_among «module» owners
+
+-- `/packages/p` with no slash in p
+abbrev pub is_package : List ℕ → Bool
+is_package path = is_package_node path && not (list_any is_slash (drop 10 path))
+
+-- `/packages/p/m` with no slash in p and m is a link where m is among the owners
+abbrev pub in_packages : List ℕ → Header → List ℕ → Result TreeItem JrtError
+in_packages b h path =
+    if is_package path then folder (owners_of b h (look b path))
+    else if is_package (before_last is_slash path)
+    then link (after_last is_slash path) (owners_of b h (look b (before_last is_slash path)))
+    else Err NotThere
+
+-- Paths
+
+abbrev pub stat_with : List ℕ → Header → List ℕ → Result TreeItem JrtError
+stat_with b h path =
+    if bytes_eq path (codes "/") then Ok (Folder (roots b))
+    else if is_root path then folder (children_of b h (look b path))
+    else if starts_with nat_eq path (codes "/modules/") then in_modules b h path (look b path)
+    else in_packages b h path
+
+abbrev pub stat_read : List ℕ → List ℕ → Result Header HeaderFault → Result TreeItem JrtError
+stat_read b path (Err fault) = Err NotThere
+stat_read b path (Ok h) = stat_with b h path
+
+-- what stands at a path: nothing, an item of the trees, or a node whose content is bad at a place
+abbrev pub stat : List ℕ → List ℕ → Result TreeItem JrtError
+stat b path = stat_read b path (header_of b)
+
+-- what a folder holds
+abbrev pub held : Result TreeItem JrtError → Result Holds JrtError
+held (Err error) = Err error
+held (Ok (Folder names)) = Ok (Children names)
+held (Ok (Package owners)) = Ok (Owners owners)
+held (Ok (File bytes)) = Err NotFolder
+held (Ok (Link «module»)) = Err NotFolder
+
+abbrev pub first_full : List Owner → Option (List ℕ)
+first_full owners = option_map (λ o. o.module) (find (λ o. not o.empty) owners)
+
+abbrev pub full_among : Result Holds JrtError → Result (Option (List ℕ)) JrtError
+full_among (Err error) = Err error
+full_among (Ok (Children names)) = Err NotThere
+full_among (Ok (Owners owners)) = Ok (first_full owners)
+
+abbrev pub owner_with : List ℕ → Header → List ℕ → Result (Option (List ℕ)) JrtError
+owner_with b h path =
+    if is_package path then full_among (owners_of b h (look b path)) else Err NotThere
+
+abbrev pub owner_read
+    : List ℕ → List ℕ → Result Header HeaderFault → Result (Option (List ℕ)) JrtError
+owner_read b path (Err fault) = Err NotThere
+owner_read b path (Ok h) = owner_with b h path
+
+-- the first owner of a package that isn't empty there; only the path of a package is there
+abbrev pub owner : List ℕ → List ℕ → Result (Option (List ℕ)) JrtError
+owner b path = owner_read b path (header_of b)

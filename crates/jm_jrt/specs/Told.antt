@@ -1,0 +1,110 @@
+-- What the content of a node tells, and where it is bad (jimage 1.0 for the nodes; what is bad is
+-- this project's rule).
+use Rattle.std.specs.Prelude.{ℕ, ◌+◌, ◌-◌, ◌*◌, ◌/◌, ◌%◌, ◌==◌, nat_lt, Bool, false, ◌&&◌, not, List, length, drop, map}
+use Rattle.std.specs.Prelude.{Option, Some, None, Result, unwrap_or, if◌then◌else◌}
+use Rattle.std.specs.List.{range_with_len}
+use Rattle.jm_bytes.specs.Checks.{fault_if, first_fault, unless_fault}
+use Rattle.jm_bytes.specs.Word.{word}
+use Rattle.jm_form.specs.declared.container.Header.{Header}
+use Rattle.jm_form.specs.declared.rows.Row.{Row}
+use Rattle.jm_form.specs.declared.trees.Holds.{Holds}
+use Rattle.jm_form.specs.declared.trees.Holds.TheVariants.{Children, Owners}
+use Rattle.jm_form.specs.declared.trees.Owner.{Owner}
+use Rattle.jm_form.specs.ComputedRows.{row_front}
+use Rattle.jm_form.specs.Entries.{name_of, row_read, spelled_row}
+use Rattle.jm_form.specs.Places.{locations, strings}
+use Rattle.jm_form.specs.Rows.{blank}
+use Rattle.jm_form.specs.Texts.{text_at, text_ends}
+use Rattle.jm_jrt.specs.declared.jrt_error.JrtError.{JrtError}
+use Rattle.jm_jrt.specs.declared.jrt_error.JrtError.TheVariants.{BadNode}
+
+-- Words of a content: word k stands at the place 4k
+
+abbrev pub word_of : Header → List ℕ → ℕ → ℕ
+word_of h content k = word h.order content (4 * k)
+
+-- the content has all four bytes of word k
+abbrev pub fits : List ℕ → ℕ → Bool
+fits content k = nat_lt k (length content / 4)
+
+-- how many words of four bytes a content is read as; the last may not fit
+abbrev pub word_count : List ℕ → ℕ
+word_count content = (length content + 3) / 4
+
+-- the same for pairs of words
+abbrev pub pair_count : List ℕ → ℕ
+pair_count content = (length content + 7) / 8
+
+-- a word that isn't sound is bad
+abbrev pub word_fault : (ℕ → Bool) → ℕ → Option JrtError
+word_fault is_sound k = fault_if (not (is_sound k)) (BadNode (4 * k))
+
+-- the first bad one of so many words
+abbrev pub words_fault : (ℕ → Bool) → ℕ → Option JrtError
+words_fault is_sound n = first_fault (map (word_fault is_sound) (range_with_len 0 n))
+
+-- The form of children
+
+-- the row that is spelled at a place of the locations, or none where it is blank or isn't there
+abbrev pub row_told : List ℕ → Header → ℕ → Option Row
+row_told b h place = spelled_row (row_read (row_front (drop place (locations b h))))
+
+abbrev pub texts_end : List ℕ → Row → Bool
+texts_end section row =
+    text_ends section row.module && text_ends section row.parent && text_ends section row.base
+    && text_ends section row.ext
+
+abbrev pub is_row_sound : List ℕ → Option Row → Bool
+is_row_sound section None = false
+is_row_sound section (Some row) = texts_end section row
+
+abbrev pub is_child_sound : List ℕ → Header → List ℕ → ℕ → Bool
+is_child_sound b h content k =
+    fits content k && is_row_sound (strings b h) (row_told b h (word_of h content k))
+
+-- the name that the row there spells
+abbrev pub name_told : List ℕ → Header → ℕ → List ℕ
+name_told b h place = name_of (strings b h) (unwrap_or (row_told b h place) blank)
+
+-- the names that so many words tell, from word k on
+abbrev pub names_from : List ℕ → Header → List ℕ → ℕ → ℕ → List (List ℕ)
+names_from b h content k n =
+    map (λ k. name_told b h (word_of h content k)) (range_with_len k n)
+
+-- the names that are told from one word on
+abbrev pub names_left : List ℕ → Header → List ℕ → ℕ → List (List ℕ)
+names_left b h content next = names_from b h content next (word_count content - next)
+
+abbrev pub children_told : List ℕ → Header → List ℕ → Result Holds JrtError
+children_told b h content =
+    unless_fault (words_fault (is_child_sound b h content) (word_count content))
+    (Children (names_left b h content 0))
+
+-- The form of pairs
+
+-- the first word of a pair is a flag, and the second the place of a text that ends
+abbrev pub is_half_sound : List ℕ → ℕ → ℕ → Bool
+is_half_sound section k n = if k % 2 == 0 then nat_lt n 2 else text_ends section n
+
+abbrev pub is_pair_sound : List ℕ → Header → List ℕ → ℕ → Bool
+is_pair_sound b h content k =
+    fits content k && is_half_sound (strings b h) k (word_of h content k)
+
+-- the owner that pair k tells
+abbrev pub owner_told : List ℕ → Header → List ℕ → ℕ → Owner
+owner_told b h content k = record {
+  empty = word_of h content (2 * k) == 1;
+  «module» = text_at (strings b h) (word_of h content (2 * k + 1));
+}
+
+abbrev pub owners_from : List ℕ → Header → List ℕ → ℕ → ℕ → List Owner
+owners_from b h content k n = map (owner_told b h content) (range_with_len k n)
+
+-- the owners that are told from one pair on
+abbrev pub owners_left : List ℕ → Header → List ℕ → ℕ → List Owner
+owners_left b h content next = owners_from b h content next (pair_count content - next)
+
+abbrev pub owners_told : List ℕ → Header → List ℕ → Result Holds JrtError
+owners_told b h content =
+    unless_fault (words_fault (is_pair_sound b h content) (2 * pair_count content))
+    (Owners (owners_left b h content 0))

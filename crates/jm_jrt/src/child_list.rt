@@ -1,0 +1,221 @@
+ghost use Rattle.std.specs.Prelude.{◌≡◌, ◌+◌, ◌*◌, ◌<◌, ◌≤◌, false, [], IfSome, IfNone, None, Ok};
+ghost use Rattle.jm_form.specs.Head.{header_of};
+ghost use Rattle.jm_form.specs.declared.trees.Holds.TheVariants.{Children, Owners};
+ghost use Rattle.jm_reader.specs.Walk.{IsLater};
+ghost use Rattle.jm_jrt.specs.Listed.{roots_if};
+ghost use Rattle.jm_jrt.specs.Told.{is_child_sound, is_pair_sound};
+ghost use Rattle.jm_jrt.specs.Told.{names_left, owners_left, words_fault};
+ghost use Rattle.jm_jrt.specs.Told as told;
+ghost use Rattle.jm_jrt.specs.Views.{count_of, IsFirst};
+
+use crate::owners::owner_at;
+use crate::rows::pieces;
+use crate::words::{pair_count, word, word_count};
+use jm_bytes::{Buf, Meter};
+use jm_form::Header;
+use jm_names::Pieces;
+use std::marker::Model;
+use std::sync::ledger::Ledger;
+
+/// A child of a folder.
+#[derive(Clone, Copy, Debug)]
+pub enum Child<'a> {
+    /// An entry, by the pieces of its name.
+    Entry(Pieces<'a>),
+    /// A module that has the package, and whether the package is empty there.
+    Owner { empty: bool, module: &'a [u8] },
+}
+
+/// What a list's children are read from.
+#[derive(Clone, Copy, Debug)]
+enum ToCome<'a> {
+    /// The roots that are there.
+    Roots { modules: bool, packages: bool },
+    /// The words of a content, from this one on.
+    Words { content: &'a [u8], next: usize },
+    /// The pairs of words of a content, from this one on.
+    Pairs { content: &'a [u8], next: usize },
+}
+
+/// The children of a folder that are still to come. Its content was checked when the list was made.
+#[derive(Drop)]
+pub struct ChildList<'a> {
+    buf: Buf<'a>,
+    header: Header,
+    left: ToCome<'a>,
+}
+
+impl<'a> Model for ChildList<'a> {
+    ghost use Rattle.jm_jrt.specs.Listed.{IsListed, Listed, rest_of};
+
+    ghost Value = { Listed };
+
+    ghost view = { λ a. record { bytes = a.buf; rest = rest_of a.buf a.header a.left } };
+
+    ghost invariant = { λ a. IsListed a.buf a.header a.left };
+}
+
+/// The list of those roots of the two trees that are there.
+pub fn root_list<'a>(buf: &Buf<'a>, header: &Header, modules: bool, packages: bool) -> ChildList<'a>
+    requires { header_of buf.now ≡ Ok header.now }
+    ensures bytes { result.bytes ≡ buf.now }
+    ensures rest { result.rest ≡ Children (roots_if modules packages) }
+{
+    ChildList {
+        buf: buf.again(),
+        header: *header,
+        left: ToCome::Roots { modules, packages },
+    }
+}
+
+/// The list of the children that a content without a bad word tells.
+pub fn word_list<'a>(buf: &Buf<'a>, header: &Header, content: &'a [u8]) -> ChildList<'a>
+    requires read { header_of buf.now ≡ Ok header.now }
+    requires sound { words_fault (is_child_sound buf.now header.now content.now)
+        (told.word_count content.now) ≡ None }
+    ensures bytes { result.bytes ≡ buf.now }
+    ensures rest { result.rest ≡ Children (names_left buf.now header.now content.now 0) }
+{
+    ChildList {
+        buf: buf.again(),
+        header: *header,
+        left: ToCome::Words { content, next: 0 },
+    }
+}
+
+/// The list of the owners that a content without a bad word tells.
+pub fn pair_list<'a>(buf: &Buf<'a>, header: &Header, content: &'a [u8]) -> ChildList<'a>
+    requires read { header_of buf.now ≡ Ok header.now }
+    requires sound { words_fault (is_pair_sound buf.now header.now content.now)
+        (2 * told.pair_count content.now) ≡ None }
+    ensures bytes { result.bytes ≡ buf.now }
+    ensures rest { result.rest ≡ Owners (owners_left buf.now header.now content.now 0) }
+{
+    ChildList {
+        buf: buf.again(),
+        header: *header,
+        left: ToCome::Pairs { content, next: 0 },
+    }
+}
+
+/// The first of the roots that are there, and whether `/packages` follows it.
+fn root_child<'a>(modules: bool, packages: bool) -> Option<(Child<'a>, bool)>
+    ensures child { IfSome result (λ r. IsFirst (Children (roots_if modules packages)) r.0
+        (Children (roots_if false r.1))) }
+    ensures end { IfNone result (roots_if modules packages ≡ []) }
+{
+    let (base, rest): (&'a [u8], bool) = match (modules, packages) {
+        (true, packages) => (b"/modules", packages),
+        (false, true) => (b"/packages", false),
+        (false, false) => return None,
+    };
+    Some((
+        Child::Entry(Pieces {
+            module: &[],
+            parent: &[],
+            base,
+            ext: &[],
+        }),
+        rest,
+    ))
+}
+
+/// The child that word `next` of a content tells, and the number of the word behind it; None
+/// exactly where no word is left.
+fn word_child<'a, R: Ledger>(
+    buf: &Buf<'a>,
+    header: &Header,
+    content: &[u8],
+    next: usize,
+    reads: &mut Meter<R>,
+) -> Option<(Child<'a>, usize)>
+    requires read { header_of buf.now ≡ Ok header.now }
+    requires metered { reads.old.bytes ≡ buf.now }
+    requires sound { words_fault (is_child_sound buf.now header.now content.now)
+        (told.word_count content.now) ≡ None }
+    ensures child { IfSome result (λ r. IsFirst
+        (Children (names_left buf.now header.now content.now next)) r.0
+        (Children (names_left buf.now header.now content.now r.1))) }
+    ensures end { IfNone result (told.word_count content.now ≤ next) }
+    ensures reads { IsLater reads.old reads.new }
+{
+    if next >= word_count(content) {
+        return None;
+    }
+    let pieces = pieces(buf, header, word(header, content, next), reads)?;
+    Some((Child::Entry(pieces), next + 1))
+}
+
+/// The child that pair `next` of a content tells, and the number of the pair behind it; None
+/// exactly where no pair is left.
+fn pair_child<'a, R: Ledger>(
+    buf: &Buf<'a>,
+    header: &Header,
+    content: &[u8],
+    next: usize,
+    reads: &mut Meter<R>,
+) -> Option<(Child<'a>, usize)>
+    requires read { header_of buf.now ≡ Ok header.now }
+    requires metered { reads.old.bytes ≡ buf.now }
+    requires sound { words_fault (is_pair_sound buf.now header.now content.now)
+        (2 * told.pair_count content.now) ≡ None }
+    ensures child { IfSome result (λ r. IsFirst
+        (Owners (owners_left buf.now header.now content.now next)) r.0
+        (Owners (owners_left buf.now header.now content.now r.1))) }
+    ensures end { IfNone result (told.pair_count content.now ≤ next) }
+    ensures reads { IsLater reads.old reads.new }
+{
+    if next >= pair_count(content) {
+        return None;
+    }
+    let owner = owner_at(buf, header, content, next, reads);
+    let child = Child::Owner {
+        empty: owner.empty,
+        module: owner.module,
+    };
+    Some((child, next + 1))
+}
+
+impl<'a> ChildList<'a> {
+    /// How many children are still to come.
+    pub fn len(&self) -> usize
+        ensures { result ≡ count_of self.now.rest }
+    {
+        match self.left {
+            ToCome::Roots { modules, packages } => usize::from(modules) + usize::from(packages),
+            ToCome::Words { content, next } => word_count(content).saturating_sub(next),
+            ToCome::Pairs { content, next } => pair_count(content).saturating_sub(next),
+        }
+    }
+
+    /// The next child; None exactly at the end, where it stays so.
+    pub fn step<R: Ledger>(&mut self, reads: &mut Meter<R>) -> Option<Child<'a>>
+        requires { reads.old.bytes ≡ self.old.bytes }
+        ensures bytes { self.new.bytes ≡ self.old.bytes }
+        ensures child { IfSome result (λ child. IsFirst self.old.rest child self.new.rest) }
+        ensures end { IfNone result (count_of self.old.rest ≡ 0) }
+        ensures stays { IfNone result (self.new.rest ≡ self.old.rest) }
+        ensures reads { IsLater reads.old reads.new }
+    {
+        match self.left {
+            ToCome::Roots { modules, packages } => {
+                let (child, packages) = root_child(modules, packages)?;
+                self.left = ToCome::Roots {
+                    modules: false,
+                    packages,
+                };
+                Some(child)
+            }
+            ToCome::Words { content, next } => {
+                let (child, next) = word_child(&self.buf, &self.header, content, next, reads)?;
+                self.left = ToCome::Words { content, next };
+                Some(child)
+            }
+            ToCome::Pairs { content, next } => {
+                let (child, next) = pair_child(&self.buf, &self.header, content, next, reads)?;
+                self.left = ToCome::Pairs { content, next };
+                Some(child)
+            }
+        }
+    }
+}

@@ -1,0 +1,104 @@
+ghost use Rattle.std.specs.Prelude.{◌≡◌, ◌<◌, ◌*◌, IfSome, None, Ok, is_some, option_map};
+ghost use Rattle.std.specs.List.{list_any};
+ghost use Rattle.std.specs.Str.{bytes_eq};
+ghost use Rattle.jm_form.specs.Head.{header_of};
+ghost use Rattle.jm_reader.specs.Walk.{IsLater};
+ghost use Rattle.jm_jrt.specs.Stat.{first_full};
+ghost use Rattle.jm_jrt.specs.Told.{is_pair_sound, owner_told, owners_left, words_fault};
+ghost use Rattle.jm_jrt.specs.Told as told;
+ghost use Rattle.jm_jrt.specs.Views.{owner_as};
+
+use crate::rows::text;
+use crate::words::{pair_count, word};
+use jm_bytes::{Buf, Meter};
+use jm_form::Header;
+use std::sync::ledger::Ledger;
+
+/// A module that has a package, and whether the package is empty there.
+#[derive(Clone, Copy, Debug)]
+pub struct Owned<'a> {
+    pub empty: bool,
+    pub module: &'a [u8],
+}
+
+/// The text, or no byte where there is none.
+fn text_or_empty<'a>(text: Option<&'a [u8]>) -> &'a [u8]
+    ensures { IfSome text.entry (λ text. result.now ≡ text.now) }
+{
+    match text {
+        Some(text) => text,
+        None => &[],
+    }
+}
+
+/// The owner that pair `k` of a content without a bad word tells.
+pub fn owner_at<'a, R: Ledger>(
+    buf: &Buf<'a>,
+    header: &Header,
+    content: &[u8],
+    k: usize,
+    reads: &mut Meter<R>,
+) -> Owned<'a>
+    requires read { header_of buf.now ≡ Ok header.now }
+    requires metered { reads.old.bytes ≡ buf.now }
+    requires sound { words_fault (is_pair_sound buf.now header.now content.now)
+        (2 * told.pair_count content.now) ≡ None }
+    requires below { k < told.pair_count content.now }
+    ensures owner { owner_as result ≡ owner_told buf.now header.now content.now k }
+    ensures reads { IsLater reads.old reads.new }
+{
+    let empty = word(header, content, 2 * k) == 1;
+    let place = word(header, content, 2 * k + 1);
+    let module = text_or_empty(text(buf, header, u64::from(place), reads));
+    Owned { empty, module }
+}
+
+/// The module that is asked for, as the image has it, if it is one of the owners.
+pub fn find_owner<'a, R: Ledger>(
+    buf: &Buf<'a>,
+    header: &Header,
+    content: &[u8],
+    asked: &[u8],
+    reads: &mut Meter<R>,
+) -> Option<&'a [u8]>
+    requires read { header_of buf.now ≡ Ok header.now }
+    requires metered { reads.old.bytes ≡ buf.now }
+    requires sound { words_fault (is_pair_sound buf.now header.now content.now)
+        (2 * told.pair_count content.now) ≡ None }
+    ensures found { is_some result ≡ list_any (λ o. bytes_eq asked.now o.module)
+        (owners_left buf.now header.now content.now 0) }
+    ensures same { IfSome result (λ name. name.now ≡ asked.now) }
+    ensures reads { IsLater reads.old reads.new }
+{
+    for k in 0..pair_count(content) {
+        let owner = owner_at(buf, header, content, k, reads);
+        if asked == owner.module {
+            return Some(owner.module);
+        }
+    }
+    None
+}
+
+/// The module of the first owner that isn't empty.
+pub fn first_full<'a, R: Ledger>(
+    buf: &Buf<'a>,
+    header: &Header,
+    content: &[u8],
+    reads: &mut Meter<R>,
+) -> Option<&'a [u8]>
+    requires read { header_of buf.now ≡ Ok header.now }
+    requires metered { reads.old.bytes ≡ buf.now }
+    requires sound { words_fault (is_pair_sound buf.now header.now content.now)
+        (2 * told.pair_count content.now) ≡ None }
+    ensures found { option_map (λ m. m.now) result ≡ first_full
+        (owners_left buf.now header.now content.now 0) }
+    ensures reads { IsLater reads.old reads.new }
+{
+    for k in 0..pair_count(content) {
+        let owner = owner_at(buf, header, content, k, reads);
+        if !owner.empty {
+            return Some(owner.module);
+        }
+    }
+    None
+}

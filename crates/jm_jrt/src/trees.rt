@@ -1,0 +1,362 @@
+ghost use Rattle.std.specs.Prelude.{◌≡◌, ◌≤◌, ◌+◌, ◌*◌, length, IfOk, None, Ok, option_map};
+ghost use Rattle.std.specs.List.{after_last, before_last};
+ghost use Rattle.jm_names.specs.Names.{is_slash};
+ghost use Rattle.jm_bytes.specs.Metered.{CostsAtMost, RisesAtMost};
+ghost use Rattle.jm_form.specs.declared.trees.Holds.TheVariants.{Children, Owners};
+ghost use Rattle.jm_form.specs.TreeView.{File, Link};
+ghost use Rattle.jm_form.specs.Head.{header_of};
+ghost use Rattle.jm_form.specs.Validity.{look};
+ghost use Rattle.jm_reader.specs.Walk.{IsLater};
+ghost use Rattle.jm_jrt.specs.Nodes.{IsOf, item_as, on_ok, StatCosts};
+ghost use Rattle.jm_jrt.specs.Stat as answers;
+ghost use Rattle.jm_jrt.specs.Told.{children_told, is_pair_sound, owners_left, words_fault};
+ghost use Rattle.jm_jrt.specs.Told as told;
+ghost use Rattle.jm_jrt.specs.Views.{held_by};
+
+use crate::child_list::{ChildList, pair_list, root_list, word_list};
+use crate::jrt_error::JrtError;
+use crate::node::Node;
+use crate::owners::{find_owner, first_full};
+use crate::paths::{cut_last, is_package, is_root};
+use crate::words::{children_fault, owners_fault};
+use jm_bytes::{Buf, Meter, Steps};
+use jm_form::Header;
+use jm_names::is_node;
+use jm_reader::find;
+use jm_valid::Image;
+use std::sync::ledger::Ledger;
+
+/// The children that the content of a node tells.
+fn read_children<'a, R: Ledger>(
+    buf: &Buf<'a>,
+    header: &Header,
+    content: &'a [u8],
+    reads: &mut Meter<R>,
+) -> Result<ChildList<'a>, JrtError>
+    requires read { header_of buf.now ≡ Ok header.now }
+    requires metered { reads.old.bytes ≡ buf.now }
+    ensures rest { held_by result ≡ children_told buf.now header.now content.now }
+    ensures bytes { IfOk result (λ list. list.bytes ≡ buf.now) }
+    ensures reads { IsLater reads.old reads.new }
+{
+    match children_fault(buf, header, content, reads) {
+        Some(fault) => Err(fault),
+        None => Ok(word_list(buf, header, content)),
+    }
+}
+
+/// The children of the node of this name.
+fn children_at<'a, H: Ledger, R: Ledger>(
+    image: &Image<'a>,
+    header: &Header,
+    path: &[u8],
+    hashes: &mut Steps<H>,
+    reads: &mut Meter<R>,
+) -> Result<ChildList<'a>, JrtError>
+    requires read { header_of image.now ≡ Ok header.now }
+    requires metered { reads.old.bytes ≡ image.now }
+    ensures rest { held_by result
+        ≡ answers.children_of image.now header.now (look image.now path.now) }
+    ensures bytes { IfOk result (λ list. list.bytes ≡ image.now) }
+    ensures hashes { RisesAtMost hashes.old hashes.new 2 }
+    ensures reads { IsLater reads.old reads.new }
+{
+    match find(image, path, hashes, reads) {
+        None => Err(JrtError::NotThere),
+        Some(found) => read_children(&image.buf(), header, found.bytes, reads),
+    }
+}
+
+/// The content of the package of this path, which has no bad word.
+fn pairs_at<'a, H: Ledger, R: Ledger>(
+    image: &Image<'a>,
+    header: &Header,
+    path: &[u8],
+    hashes: &mut Steps<H>,
+    reads: &mut Meter<R>,
+) -> Result<&'a [u8], JrtError>
+    requires read { header_of image.now ≡ Ok header.now }
+    requires metered { reads.old.bytes ≡ image.now }
+    ensures owners { on_ok
+        (λ content. Owners (owners_left image.now header.now content.now 0)) result
+        ≡ answers.owners_of image.now header.now (look image.now path.now) }
+    ensures sound { IfOk result (λ content. words_fault
+        (is_pair_sound image.now header.now content.now) (2 * told.pair_count content.now)
+        ≡ None) }
+    ensures hashes { RisesAtMost hashes.old hashes.new 2 }
+    ensures reads { IsLater reads.old reads.new }
+{
+    let Some(found) = find(image, path, hashes, reads) else {
+        return Err(JrtError::NotThere);
+    };
+    match owners_fault(&image.buf(), header, found.bytes, reads) {
+        Some(fault) => Err(fault),
+        None => Ok(found.bytes),
+    }
+}
+
+/// The owners of the package of this path.
+fn owners_at<'a, H: Ledger, R: Ledger>(
+    image: &Image<'a>,
+    header: &Header,
+    path: &[u8],
+    hashes: &mut Steps<H>,
+    reads: &mut Meter<R>,
+) -> Result<ChildList<'a>, JrtError>
+    requires read { header_of image.now ≡ Ok header.now }
+    requires metered { reads.old.bytes ≡ image.now }
+    ensures rest { held_by result
+        ≡ answers.owners_of image.now header.now (look image.now path.now) }
+    ensures bytes { IfOk result (λ list. list.bytes ≡ image.now) }
+    ensures hashes { RisesAtMost hashes.old hashes.new 2 }
+    ensures reads { IsLater reads.old reads.new }
+{
+    match pairs_at(image, header, path, hashes, reads) {
+        Err(error) => Err(error),
+        Ok(content) => Ok(pair_list(&image.buf(), header, content)),
+    }
+}
+
+/// The bytes of the file at a path that begins with `/modules`.
+fn file_at<'a, H: Ledger, R: Ledger>(
+    image: &Image<'a>,
+    path: &[u8],
+    hashes: &mut Steps<H>,
+    reads: &mut Meter<R>,
+) -> Result<&'a [u8], JrtError>
+    requires metered { reads.old.bytes ≡ image.now }
+    requires long { 8 ≤ length path.now }
+    ensures file { on_ok (λ bytes. File bytes.now) result ≡ answers.resource image.now path.now }
+    ensures hashes { RisesAtMost hashes.old hashes.new 2 }
+    ensures cost { IfOk result (λ bytes. CostsAtMost reads.old reads.new
+        (length path.now + 76 + length bytes.now)) }
+    ensures reads { IsLater reads.old reads.new }
+{
+    let (_, name) = path.split_at(8);
+    if is_node(name) {
+        return Err(JrtError::NotThere);
+    }
+    match find(image, name, hashes, reads) {
+        None => Err(JrtError::NotThere),
+        Some(found) => Ok(found.bytes),
+    }
+}
+
+/// The module as the image has it, if it is an owner of the package of this path.
+fn link_at<'a, H: Ledger, R: Ledger>(
+    image: &Image<'a>,
+    header: &Header,
+    path: &[u8],
+    asked: &[u8],
+    hashes: &mut Steps<H>,
+    reads: &mut Meter<R>,
+) -> Result<&'a [u8], JrtError>
+    requires read { header_of image.now ≡ Ok header.now }
+    requires metered { reads.old.bytes ≡ image.now }
+    ensures link { on_ok (λ name. Link name.now) result ≡ answers.link asked.now
+        (answers.owners_of image.now header.now (look image.now path.now)) }
+    ensures hashes { RisesAtMost hashes.old hashes.new 2 }
+    ensures reads { IsLater reads.old reads.new }
+{
+    match pairs_at(image, header, path, hashes, reads) {
+        Err(error) => Err(error),
+        Ok(content) => match find_owner(&image.buf(), header, content, asked, reads) {
+            None => Err(JrtError::NotThere),
+            Some(module) => Ok(module),
+        },
+    }
+}
+
+/// What stands at a path that begins with `/modules/`.
+fn in_modules<'a, H: Ledger, R: Ledger>(
+    image: &Image<'a>,
+    header: &Header,
+    path: &[u8],
+    hashes: &mut Steps<H>,
+    reads: &mut Meter<R>,
+) -> Result<Node<'a>, JrtError>
+    requires read { header_of image.now ≡ Ok header.now }
+    requires metered { reads.old.bytes ≡ image.now }
+    requires long { 8 ≤ length path.now }
+    ensures item { item_as result
+        ≡ answers.in_modules image.now header.now path.now (look image.now path.now) }
+    ensures bytes { IfOk result (λ node. IsOf image.now node) }
+    ensures hashes { RisesAtMost hashes.old hashes.new 4 }
+    ensures cost { StatCosts result path.now reads.old reads.new }
+{
+    match find(image, path, hashes, reads) {
+        None => match file_at(image, path, hashes, reads) {
+            Err(error) => Err(error),
+            Ok(bytes) => Ok(Node::File(bytes)),
+        },
+        Some(found) => match read_children(&image.buf(), header, found.bytes, reads) {
+            Err(error) => Err(error),
+            Ok(list) => Ok(Node::Folder(list)),
+        },
+    }
+}
+
+/// The roots of the two trees that the image has.
+fn roots<'a, H: Ledger, R: Ledger>(
+    image: &Image<'a>,
+    header: &Header,
+    hashes: &mut Steps<H>,
+    reads: &mut Meter<R>,
+) -> ChildList<'a>
+    requires read { header_of image.now ≡ Ok header.now }
+    requires metered { reads.old.bytes ≡ image.now }
+    ensures rest { result.rest ≡ Children (answers.roots image.now) }
+    ensures bytes { result.bytes ≡ image.now }
+    ensures hashes { RisesAtMost hashes.old hashes.new 4 }
+    ensures reads { IsLater reads.old reads.new }
+{
+    let modules = find(image, b"/modules", hashes, reads).is_some();
+    let packages = find(image, b"/packages", hashes, reads).is_some();
+    root_list(&image.buf(), header, modules, packages)
+}
+
+/// What stands at a path that isn't below `/modules/`.
+fn in_packages<'a, H: Ledger, R: Ledger>(
+    image: &Image<'a>,
+    header: &Header,
+    path: &[u8],
+    hashes: &mut Steps<H>,
+    reads: &mut Meter<R>,
+) -> Result<Node<'a>, JrtError>
+    requires read { header_of image.now ≡ Ok header.now }
+    requires metered { reads.old.bytes ≡ image.now }
+    ensures item { item_as result ≡ answers.in_packages image.now header.now path.now }
+    ensures bytes { IfOk result (λ node. IsOf image.now node) }
+    ensures hashes { RisesAtMost hashes.old hashes.new 2 }
+    ensures cost { StatCosts result path.now reads.old reads.new }
+{
+    if is_package(path) {
+        return match owners_at(image, header, path, hashes, reads) {
+            Err(error) => Err(error),
+            Ok(list) => Ok(Node::Folder(list)),
+        };
+    }
+    let Some((package, module)) = cut_last(path) else {
+        return Err(JrtError::NotThere);
+    };
+    if !is_package(package) {
+        return Err(JrtError::NotThere);
+    }
+    match link_at(image, header, package, module, hashes, reads) {
+        Err(error) => Err(error),
+        Ok(module) => Ok(Node::Link(module)),
+    }
+}
+
+/// What stands at a path, in the valid image that has this header.
+fn stat_in<'a, H: Ledger, R: Ledger>(
+    image: &Image<'a>,
+    header: &Header,
+    path: &[u8],
+    hashes: &mut Steps<H>,
+    reads: &mut Meter<R>,
+) -> Result<Node<'a>, JrtError>
+    requires read { header_of image.now ≡ Ok header.now }
+    requires metered { reads.old.bytes ≡ image.now }
+    ensures item { item_as result ≡ answers.stat_with image.now header.now path.now }
+    ensures bytes { IfOk result (λ node. IsOf image.now node) }
+    ensures hashes { RisesAtMost hashes.old hashes.new 4 }
+    ensures cost { StatCosts result path.now reads.old reads.new }
+{
+    if path == b"/".as_slice() {
+        return Ok(Node::Folder(roots(image, header, hashes, reads)));
+    }
+    if is_root(path) {
+        return match children_at(image, header, path, hashes, reads) {
+            Err(error) => Err(error),
+            Ok(list) => Ok(Node::Folder(list)),
+        };
+    }
+    if path.starts_with(b"/modules/") {
+        return in_modules(image, header, path, hashes, reads);
+    }
+    in_packages(image, header, path, hashes, reads)
+}
+
+/// What stands at a path of the two trees (JEP 220); never `NotFolder`.
+///
+/// It costs at most four hashes, and for a file at most twice the path's bytes, 152 more and those
+/// of the file.
+pub fn stat<'a, H: Ledger, R: Ledger>(
+    image: &Image<'a>,
+    path: &[u8],
+    hashes: &mut Steps<H>,
+    reads: &mut Meter<R>,
+) -> Result<Node<'a>, JrtError>
+    requires { reads.old.bytes ≡ image.now }
+    ensures item { item_as result ≡ answers.stat image.now path.now }
+    ensures bytes { IfOk result (λ node. IsOf image.now node) }
+    ensures hashes { RisesAtMost hashes.old hashes.new 4 }
+    ensures cost { StatCosts result path.now reads.old reads.new }
+{
+    stat_in(image, &image.header(), path, hashes, reads)
+}
+
+/// The children of the folder at a path; `NotFolder` exactly where a file or a link stands there.
+/// It costs at most four hashes.
+pub fn children<'a, H: Ledger, R: Ledger>(
+    image: &Image<'a>,
+    path: &[u8],
+    hashes: &mut Steps<H>,
+    reads: &mut Meter<R>,
+) -> Result<ChildList<'a>, JrtError>
+    requires { reads.old.bytes ≡ image.now }
+    ensures rest { held_by result ≡ answers.held (answers.stat image.now path.now) }
+    ensures bytes { IfOk result (λ list. list.bytes ≡ image.now) }
+    ensures hashes { RisesAtMost hashes.old hashes.new 4 }
+    ensures reads { IsLater reads.old reads.new }
+{
+    match stat(image, path, hashes, reads) {
+        Err(error) => Err(error),
+        Ok(Node::Folder(list)) => Ok(list),
+        Ok(Node::File(_)) => Err(JrtError::NotFolder),
+        Ok(Node::Link(_)) => Err(JrtError::NotFolder),
+    }
+}
+
+/// The first full owner of a package, in the valid image that has this header.
+fn owner_in<'a, H: Ledger, R: Ledger>(
+    image: &Image<'a>,
+    header: &Header,
+    path: &[u8],
+    hashes: &mut Steps<H>,
+    reads: &mut Meter<R>,
+) -> Result<Option<&'a [u8]>, JrtError>
+    requires read { header_of image.now ≡ Ok header.now }
+    requires metered { reads.old.bytes ≡ image.now }
+    ensures owner { on_ok (λ name. option_map (λ n. n.now) name) result
+        ≡ answers.owner_with image.now header.now path.now }
+    ensures hashes { RisesAtMost hashes.old hashes.new 2 }
+    ensures reads { IsLater reads.old reads.new }
+{
+    if !is_package(path) {
+        return Err(JrtError::NotThere);
+    }
+    match pairs_at(image, header, path, hashes, reads) {
+        Err(error) => Err(error),
+        Ok(content) => Ok(first_full(&image.buf(), header, content, reads)),
+    }
+}
+
+/// The first owner, of the package at a path such as `/packages/java.lang`, for which it isn't
+/// empty; None exactly where it is empty for all. Another path is `NotThere`. It costs at most two
+/// hashes.
+pub fn owner<'a, H: Ledger, R: Ledger>(
+    image: &Image<'a>,
+    path: &[u8],
+    hashes: &mut Steps<H>,
+    reads: &mut Meter<R>,
+) -> Result<Option<&'a [u8]>, JrtError>
+    requires { reads.old.bytes ≡ image.now }
+    ensures owner { on_ok (λ name. option_map (λ n. n.now) name) result
+        ≡ answers.owner image.now path.now }
+    ensures hashes { RisesAtMost hashes.old hashes.new 2 }
+    ensures reads { IsLater reads.old reads.new }
+{
+    owner_in(image, &image.header(), path, hashes, reads)
+}
