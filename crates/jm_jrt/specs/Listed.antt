@@ -1,12 +1,14 @@
 -- The children of a folder that are still to come.
-use Rattle.std.specs.Prelude.{ℕ, ◌*◌, ◌≡◌, Bool, List, [], ◌∷◌, ◌++◌, codes, if◌then◌else◌, None, Ok}
+use Rattle.std.specs.Prelude.{ℕ, ◌*◌, ◌≡◌, Bool, List, [], ◌∷◌, ◌++◌, codes, if◌then◌else◌, None}
+use Rattle.std.specs.Prelude.{Ok}
 use Rattle.jm_form.specs.declared.container.Header.{Header}
 use Rattle.jm_form.specs.declared.trees.Holds.{Holds}
 use Rattle.jm_form.specs.declared.trees.Holds.TheVariants.{Children, Owners}
 use Rattle.jm_form.specs.Head.{header_of}
 use Rattle.jm_jrt.specs.declared.child_list.ToCome.{ToCome}
 use Rattle.jm_jrt.specs.declared.child_list.ToCome.TheVariants as to_come
-use Rattle.jm_jrt.specs.Told.{is_child_sound, is_pair_sound, names_left, owners_left, pair_count, word_count, words_fault}
+use Rattle.jm_jrt.specs.Told.{is_child_sound, is_pair_sound, names_left, owners_left, pair_count}
+use Rattle.jm_jrt.specs.Told.{word_count, words_fault}
 
 -- an image's bytes and the children that are still to come
 pub record Listed : Type 0 where

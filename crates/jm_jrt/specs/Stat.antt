@@ -1,7 +1,8 @@
 -- What stands at a path of the two trees of an image (JEP 220: the `jrt` file system; the answers
 -- are this project's rule).
 use Rattle.std.specs.Prelude.{ℕ, nat_eq, Bool, ◌&&◌, ◌||◌, not, List, [], ◌∷◌, drop, filter, codes}
-use Rattle.std.specs.Prelude.{Option, Some, None, option_map, is_some, Result, Ok, Err, if◌then◌else◌}
+use Rattle.std.specs.Prelude.{Option, Some, None, option_map, is_some, Result, Ok, Err}
+use Rattle.std.specs.Prelude.{if◌then◌else◌}
 use Rattle.std.specs.List.{after_last, before_last, find, list_any, starts_with}
 use Rattle.std.specs.Str.{bytes_eq}
 use Rattle.jm_names.specs.Names.{is_node, is_slash}

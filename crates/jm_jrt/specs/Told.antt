@@ -1,6 +1,7 @@
 -- What the content of a node tells, and where it is bad (jimage 1.0 for the nodes; what is bad is
 -- this project's rule).
-use Rattle.std.specs.Prelude.{ℕ, ◌+◌, ◌-◌, ◌*◌, ◌/◌, ◌%◌, ◌==◌, nat_lt, Bool, false, ◌&&◌, not, List, length, drop, map}
+use Rattle.std.specs.Prelude.{ℕ, ◌+◌, ◌-◌, ◌*◌, ◌/◌, ◌%◌, ◌==◌, nat_lt, Bool, false, ◌&&◌, not}
+use Rattle.std.specs.Prelude.{List, length, drop, map}
 use Rattle.std.specs.Prelude.{Option, Some, None, Result, unwrap_or, if◌then◌else◌}
 use Rattle.std.specs.List.{range_with_len}
 use Rattle.jm_bytes.specs.Checks.{fault_if, first_fault, unless_fault}

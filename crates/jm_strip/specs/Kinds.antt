@@ -1,6 +1,7 @@
 -- What the stripper knows of a constant: whether it is a Utf8, and which of the names that it looks
 -- for (this project's rule).
-use Rattle.std.specs.Prelude.{Bool, true, false, List, [], Option, Some, None, Ok, Err, if◌then◌else◌, ℕ}
+use Rattle.std.specs.Prelude.{Bool, true, false, List, [], Option, Some, None, Ok, Err}
+use Rattle.std.specs.Prelude.{if◌then◌else◌, ℕ}
 use Rattle.jm_class.specs.Classes.{SlotData, utf8_of, is_code_name}
 use Rattle.jm_class.specs.ComputedClass.{pool_field}
 use Rattle.jm_class.specs.Readings.{Outcome}

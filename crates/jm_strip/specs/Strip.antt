@@ -1,8 +1,10 @@
 -- A class without its debug information (JVMS 4.7; which attributes go is this project's rule).
-use Rattle.std.specs.Prelude.{◌≡◌, ℕ, Bool, true, false, not, List, [], ◌∷◌, Option, Some, None, map, filter, codes}
+use Rattle.std.specs.Prelude.{◌≡◌, ℕ, Bool, true, false, not, List, [], ◌∷◌, Option, Some, None}
+use Rattle.std.specs.Prelude.{map, filter, codes}
 use Rattle.std.specs.List.{list_any}
 use Rattle.std.specs.Str.{bytes_eq}
-use Rattle.jm_class.specs.Classes.{SlotData, CodeData, BodyData, Opaque, Coded, AttributeData, MemberData, ClassData, utf8_at, class_text, ReadsAs}
+use Rattle.jm_class.specs.Classes.{SlotData, CodeData, BodyData, Opaque, Coded, AttributeData}
+use Rattle.jm_class.specs.Classes.{MemberData, ClassData, utf8_at, class_text, ReadsAs}
 
 -- the names of the debug attributes of a Code, and of those of the class
 abbrev pub debug_names : Bool → List (List ℕ)

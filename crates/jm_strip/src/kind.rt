@@ -1,7 +1,8 @@
 ghost use Rattle.std.specs.Prelude.{◌≡◌, Some, true, false};
 ghost use Rattle.jm_class.specs.Classes.{is_code_name};
 ghost use Rattle.jm_class.specs.Views.{slot_of};
-ghost use Rattle.jm_strip.specs.Kinds.{kind_of_text, kind_of, is_text_kind, is_code_kind, is_debug_kind};
+ghost use Rattle.jm_strip.specs.Kinds.{kind_of_text, kind_of, is_text_kind, is_code_kind};
+ghost use Rattle.jm_strip.specs.Kinds.{is_debug_kind};
 ghost use Rattle.jm_strip.specs.Strip.{debug_names, is_among};
 
 use jm_class::Slot;

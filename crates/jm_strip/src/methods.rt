@@ -1,7 +1,8 @@
 ghost use Rattle.std.specs.Prelude.{◌≡◌, true, map};
 ghost use Rattle.std.specs.List.{flat_map};
 ghost use Rattle.jm_class.specs.declared.class.ClassFault.TheVariants.{Short};
-ghost use Rattle.jm_class.specs.Classes.{sized_text, held_text, attribute_text, member_text, counted_text};
+ghost use Rattle.jm_class.specs.Classes.{sized_text, held_text, attribute_text, member_text};
+ghost use Rattle.jm_class.specs.Classes.{counted_text};
 ghost use Rattle.jm_class.specs.ComputedClass.{held_field, attribute_field, member_field};
 ghost use Rattle.jm_class.specs.Readings.{list_of};
 ghost use Rattle.jm_strip.specs.Strip.{strip_body, strip_attribute, strip_method};

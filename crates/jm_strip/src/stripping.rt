@@ -1,8 +1,10 @@
 ghost use Rattle.std.specs.Prelude.{◌≡◌, Some, None, Err, false, filter, IfOk, OnOk};
 ghost use Rattle.jm_class.specs.declared.class.ClassFault.TheVariants.{Short};
 ghost use Rattle.jm_class.specs.declared.class.ReadError.TheVariants.{Fault};
-ghost use Rattle.jm_class.specs.Classes.{ClassData, attribute_text, counted_text, class_text, ReadsAs};
-ghost use Rattle.jm_class.specs.ComputedClass.{attribute_field, class_fields, class_of, class_fault};
+ghost use Rattle.jm_class.specs.Classes.{ClassData, attribute_text, counted_text, class_text};
+ghost use Rattle.jm_class.specs.Classes.{ReadsAs};
+ghost use Rattle.jm_class.specs.ComputedClass.{attribute_field, class_fields, class_of};
+ghost use Rattle.jm_class.specs.ComputedClass.{class_fault};
 ghost use Rattle.jm_class.specs.Readings.{list_of};
 ghost use Rattle.jm_class.specs.Views.{Gives};
 ghost use Rattle.jm_strip.specs.Strip.{stays, strip, StripsTo};
