@@ -19,7 +19,8 @@ abbrev pub root_if : Bool → List ℕ → List (List ℕ)
 root_if there name = if there then name ∷ [] else []
 
 abbrev pub roots_if : Bool → Bool → List (List ℕ)
-roots_if modules packages = root_if modules (codes "/modules") ++ root_if packages (codes "/packages")
+roots_if modules packages =
+    root_if modules (codes "/modules") ++ root_if packages (codes "/packages")
 
 abbrev pub rest_of : List ℕ → Header → ToCome → Holds
 rest_of b h (to_come.Roots modules packages) = Children (roots_if modules packages)

@@ -23,7 +23,8 @@ fn keep(
 ) -> Result<u16, ReadError>
     ensures one { IfOk result (λ n. n ≤ 1) }
     ensures kept { Gives (λ n. (text.new.items, n))
-        (shown (λ a. filtered opaque_text (λ a. stays in_code pool.now a.name) text.old.items (a ∷ []))
+        (shown (λ a. filtered opaque_text
+        (λ a. stays in_code pool.now a.name) text.old.items (a ∷ []))
         (opaque_field (fault_at missing) pool.now cursor.old))
         result cursor.new }
 {

@@ -46,7 +46,8 @@ fn with_room(alloc: Global, bytes: &[u8], room: usize) -> Result<Vec<u8>, NoMemo
 /// The fields of a class: what stands in front of the methods goes as it is.
 fn strip_class(alloc: Global, bytes: &[u8], cursor: &mut Cursor) -> Result<Vec<u8>, ReadError>
     requires { cursor.old ≡ record { place = 0; bytes = bytes.now } }
-    ensures { Gives (λ text. text.items) (shown (λ c. class_text (strip c)) (class_fields cursor.old))
+    ensures { Gives (λ text. text.items)
+        (shown (λ c. class_text (strip c)) (class_fields cursor.old))
         result cursor.new }
 {
     let _magic = magic(cursor)?;
