@@ -4,6 +4,7 @@ pub mod FileLaws
 pub mod FolderLaws
 pub mod FoundLaws
 pub mod InfoAnswers
+pub mod LaidLaws
 pub mod LinkingLaws
 pub mod ListedLaws
 pub mod NameOrder

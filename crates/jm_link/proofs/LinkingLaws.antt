@@ -1,11 +1,12 @@
 -- What a link does, from what its steps did.
-use Rattle.std.proofs.Common.{◌≡◌, ◌≢◌, ◌≤◌, ◌⊎◌, inl, inr, ℕ, Bool, true, false, List, [], length, map, All, Option, Some, None, Result, Ok, Err, refl, sym, subst, arith}
+use Rattle.std.proofs.Common.{◌≡◌, ◌≢◌, ◌≤◌, ◌⊎◌, inl, inr, ℕ, Bool, true, false, List, [], length, map, All, AllPairs, Option, Some, None, Result, Ok, Err, refl, sym, subst, arith}
 use Rattle.std.proofs.lemmas.List.Elements.{All-contains, All-map}
 use Rattle.jm_bytes.proofs.Members.{all_from_contains, contains_map}
 use Rattle.jm_bytes.specs.declared.words.Order.{Order}
 use Rattle.jm_closure.specs.declared.error.CloseError.{CloseError}
 use Rattle.jm_closure.specs.Refusals.{Closes}
-use Rattle.jm_form.specs.Layout.{Written}
+use Rattle.jm_form.specs.Layout.{Written, names_of}
+use Rattle.jm_names.specs.NameFaults.{IsSound}
 use Rattle.jm_names.specs.Names.{is_node}
 use Rattle.jm_outside.specs.Files.{Files, file}
 use Rattle.jm_outside.specs.Outcome.{Rose, Shows}
@@ -19,9 +20,10 @@ use Rattle.jm_link.specs.Closing.{ClosesAmong, ClosesWith, IsRefusedAmong}
 use Rattle.jm_link.specs.Linked.{LinkedImage, Request, image_with, laid_out, layout_refusal}
 use Rattle.jm_link.specs.declared.resources.ResourceFile.{ResourceFile}
 use Rattle.jm_link.specs.Finding.{ShowsModules}
-use Rattle.jm_link.specs.Links.{BreaksOff, ComesTo, FoundComesTo, LinksBy, NamesComeTo}
+use Rattle.jm_link.specs.Links.{BreaksOff, ComesTo, FoundComesTo, IsLaid, LinksBy, NamesComeTo}
 use Rattle.jm_link.specs.ResourceFiles.{file_names, pair_of}
 use Rattle.jm_link.specs.Showing.{ListsItsFiles}
+use Rattle.jm_link.proofs.LaidLaws.{laid_free}
 use Rattle.jm_link.proofs.ListedLaws.{files_there, visible_lists}
 use Rattle.jm_link.specs.Modules.{candidates}
 use Rattle.jm_link.specs.Resources.{Chosen, first_bad_name, link_files, reserved, resources_of}
@@ -45,13 +47,17 @@ links_as One Other path (Err stop.Memory) old new faults new_faults same breaks 
 
 -- The image of what was read
 
-module _ (told : Option Files) (order : Order) (modules : ℕ) (names : List Named) (resources : List Written) (free : first_bad_name names ≡ None) (read : Shows told (λ files. resources ≡ resources_of files names)) where
+module _ (told : Option Files) (order : Order) (modules : ℕ) (names : List Named) (resources : List Written) (free : first_bad_name names ≡ None) (read : Shows told (λ files. resources ≡ resources_of files names)) (differ : AllPairs (λ m n. m ≢ n) (names_of resources)) (sound : All IsSound (names_of resources)) (plain : All (λ name. is_node name ≡ false) (names_of resources)) where
+  laid : (refused : Option Refusal) → layout_refusal order resources ≡ refused → IsLaid order (laid_out order modules resources refused)
+  laid None is = laid_free order resources is modules differ sound plain
+  laid (Some refusal) is = tt
+
   comes_to : (refused : Option Refusal) → layout_refusal order resources ≡ refused → NamesComeTo told order modules names (laid_out order modules resources refused)
   comes_to refused is = go told read
     where
       go : (t : Option Files) → Shows t (λ files. resources ≡ resources_of files names) → NamesComeTo t order modules names (laid_out order modules resources refused)
       go None read = tt
-      go (Some files) read = rw (free, sym read, is) refl
+      go (Some files) read = (rw (free, sym read, is) refl, laid refused is)
 
   abbrev image : LinkedImage
   image = image_with order modules resources
@@ -84,7 +90,7 @@ module _ (told : Option Files) (asked : Request) (found : List VisibleModule) wh
     where
       go : (t : Option Files) → NamesComeTo t asked.order (length places) (link_files found places) r → FoundComesTo t asked found r
       go None comes = tt
-      go (Some files) comes = rw free (Ok places, chosen_as asked.bind (Ok places) closes, comes)
+      go (Some files) (comes, laid) = (rw free (Ok places, chosen_as asked.bind (Ok places) closes, comes), laid)
 
   -- a reserved name
   pub reserved_to : (given : Refusal) → reserved found ≡ Some given → FoundComesTo told asked found (Err given)
@@ -92,7 +98,7 @@ module _ (told : Option Files) (asked : Request) (found : List VisibleModule) wh
     where
       go : (t : Option Files) → FoundComesTo t asked found (Err given)
       go None = tt
-      go (Some files) = rw is refl
+      go (Some files) = (rw is refl, tt)
 
   -- the refusal of the closure
   pub refused_to : (given : Refusal) → IsRefusedAmong found asked.roots asked.bind given → FoundComesTo told asked found (Err given)
@@ -100,7 +106,7 @@ module _ (told : Option Files) (asked : Request) (found : List VisibleModule) wh
     where
       go : (t : Option Files) → FoundComesTo t asked found (Err given)
       go None = tt
-      go (Some files) = rw refused.free (Err refused.error, chosen_as asked.bind (Err refused.error) refused.closes, refused.refusal)
+      go (Some files) = (rw refused.free (Err refused.error, chosen_as asked.bind (Err refused.error) refused.closes, refused.refusal), tt)
 
   pub stopped_to : (given : LinkStop) (path : List ℕ) (faults : ℕ) → ClosesAmong found asked.roots asked.bind (Err given) → LinksBy (FoundComesTo told asked found) path (Err given) told told faults faults
   stopped_to (stop.Refused given) path faults (inl is) = (reserved_to given is, refl)
@@ -144,7 +150,7 @@ shown_lists (Some files) directories found (free, is) = subst (ListsItsFiles fil
 -- from the modules found to the whole
 pub found_to : (told : Option Files) (asked : Request) (found : List VisibleModule) → Shows told (λ files. ShowsModules files asked.directories (Ok found)) → (r : Result LinkedImage Refusal) → FoundComesTo told asked found r → ComesTo told asked r
 found_to None asked found shows r comes = tt
-found_to (Some files) asked found (free, is) r comes = rw (free, sym is) comes
+found_to (Some files) asked found (free, is) r (comes, laid) = (rw (free, sym is) comes, laid)
 
 -- the path's own refusal, or a failure
 pub path_to : (told new : Option Files) (asked : Request) (given : LinkStop) (path : List ℕ) (faults new_faults : ℕ) → new ≡ told → Shows told (λ files. ShowsModules files asked.directories (Err given)) → (given ≡ stop.Outside → Rose faults new_faults) → LinksBy (ComesTo told asked) path (Err given) told new faults new_faults
@@ -152,7 +158,7 @@ path_to told new asked (stop.Refused r) path faults new_faults same shows rose =
   where
     go : (t : Option Files) → Shows t (λ files. ShowsModules files asked.directories (Err (stop.Refused r))) → ComesTo t asked (Err r)
     go None shows = tt
-    go (Some files) shows = rw shows refl
+    go (Some files) shows = rw shows (refl, tt)
 path_to told new asked (stop.NotThere listed) path faults new_faults same shows rose = (shows, same)
 path_to told new asked stop.Outside path faults new_faults same shows rose = (inl same, rose refl)
 path_to told new asked stop.Memory path faults new_faults same shows rose = inl same

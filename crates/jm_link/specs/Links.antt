@@ -3,6 +3,7 @@ use Rattle.std.specs.Prelude.{ℕ, ◌≡◌, ◌⊎◌, List, length, Option, R
 use Rattle.jm_bytes.specs.declared.words.Order.{Order}
 use Rattle.jm_outside.specs.Files.{Files}
 use Rattle.jm_outside.specs.Outcome.{Rose, Shows}
+use Rattle.jm_writer.specs.Laid.{IsLaidOut}
 use Rattle.jm_writer.specs.Writes.{Holds, HoldsPart}
 use Rattle.jm_link.specs.declared.linking.LinkStop.{LinkStop}
 use Rattle.jm_link.specs.declared.linking.LinkStop.TheVariants as stop
@@ -22,9 +23,16 @@ summary_of image = record {
   slots = image.slots;
 }
 
--- this is what the link comes to, where the shelf tells its files
+-- an image in this order that is what the layout of its resources is; of a refusal, nothing
+abbrev pub IsLaid : Order → Result LinkedImage Refusal → Type 0
+IsLaid order (Ok image) = IsLaidOut order image.resources image.bytes
+IsLaid order (Err refusal) = Unit {0}
+
+-- this is what the link comes to, where the shelf tells its files: an image is valid, hands out
+-- exactly its resources, and tells exactly their trees
 abbrev pub ComesTo : Option Files → Request → Result LinkedImage Refusal → Type 0
-ComesTo told asked result = Shows told (λ files. LinksTo files asked result)
+ComesTo told asked result =
+    Shows told (λ files. LinksTo files asked result × IsLaid asked.order result)
 
 -- what a link did, where its result is one of these
 
@@ -60,9 +68,11 @@ Links asked path answer old new faults new_faults =
 abbrev pub FoundComesTo : Option Files → Request → List VisibleModule
     → Result LinkedImage Refusal → Type 0
 FoundComesTo told asked found result =
-    Shows told (λ files. IsFoundTo files asked found (reserved found) result)
+    Shows told (λ files.
+    IsFoundTo files asked found (reserved found) result × IsLaid asked.order result)
 
 -- of the files of so many modules: their names, and so on
 abbrev pub NamesComeTo : Option Files → Order → ℕ → List Named → Result LinkedImage Refusal → Type 0
 NamesComeTo told order modules names result =
-    Shows told (λ files. result ≡ gathered files order modules names (first_bad_name names))
+    Shows told (λ files.
+    (result ≡ gathered files order modules names (first_bad_name names)) × IsLaid order result)

@@ -17,9 +17,10 @@ pub returns : goal.returns
 returns g c =
     let none = none_left c.in_ok-refusal.field-0 c.in_default.not-Some in
     let free = sym c.in_ok-refusal.ensures.refusal ∙ none in
+    let sound = All-map IsSound (λ f. f.name) c.args.files.now (c.first_bad_name.ensures.sound (c.in_ok-refusal.was ∙ ap (λ r. Ok r) none)) in
     let wrote = rw c.read_resources.ensures.files at c.write_image.ensures in
     let comes = NamesComeTo (g.S.Shelf.files c.args.shelf.now) c.args.order c.args.modules (map pair_of c.args.files.now) in
     let told = g.S.Shelf.files c.args.shelf.now in
     let new = g.S.Shelf.files c.write_image.new.shelf in
     links_sooner comes c.args.output.now c.write_image.result told new (g.S.Shelf.faults c.args.shelf.now) (g.S.Shelf.faults c.read_resources.new.shelf) (g.S.Shelf.faults c.write_image.new.shelf) c.read_resources.ensures.faults.count
-    (image_written told c.args.order c.args.modules (map pair_of c.args.files.now) c.in_ok-pool.pool free c.in_ok-pool.ensures.pool c.args.output.now c.write_image.result told new (g.S.Shelf.faults c.read_resources.new.shelf) (g.S.Shelf.faults c.write_image.new.shelf) wrote)
+    (image_written told c.args.order c.args.modules (map pair_of c.args.files.now) c.in_ok-pool.pool free c.in_ok-pool.ensures.pool (rw c.in_ok-pool.ensures.names c.requires.differ) (rw c.in_ok-pool.ensures.names sound) (rw c.in_ok-pool.ensures.names c.requires.free) c.args.output.now c.write_image.result told new (g.S.Shelf.faults c.read_resources.new.shelf) (g.S.Shelf.faults c.write_image.new.shelf) wrote)
