@@ -3,7 +3,7 @@ use Rattle.std.proofs.Common.{◌≡◌, ◌⊎◌, inl, inr, ℕ, ◌≤◌, Li
 use Rattle.jm_bytes.specs.declared.words.Order.{Order}
 use Rattle.jm_outside.specs.Files.{Files, put}
 use Rattle.jm_outside.specs.Outcome.{Rose, Shows, Told}
-use Rattle.jm_writer.specs.Writes.{Holds, HoldsFront, HoldsPart}
+use Rattle.jm_files.specs.Holds.{Holds, HoldsFront, HoldsPart}
 use Rattle.jm_link.specs.declared.linking.LinkStop.{LinkStop}
 use Rattle.jm_link.specs.declared.linking.LinkStop.TheVariants as link_stop
 use Rattle.jm_link.specs.declared.linking.Summary.{Summary}

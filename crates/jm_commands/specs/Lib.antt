@@ -1,6 +1,6 @@
 pub mod Cat
 pub mod DescribeText
-pub mod FrontNumber
+pub mod Fronts
 pub mod HelpText
 pub mod InfoText
 pub mod LinkText

@@ -1,41 +1,66 @@
 ghost use Rattle.std.specs.Prelude.{◌≡◌};
 ghost use Rattle.std.specs.Cmp.Lexicographic.{slice_cmp};
 ghost use Rattle.std.specs.Ordering.{nat_cmp};
-ghost use Rattle.jm_commands.specs.FrontNumber.{front_number, AreBytes};
+ghost use Rattle.jm_commands.specs.Fronts.{AreBytes, front_of, order_of_fronts};
 
 use byteorder::{BigEndian, ByteOrder};
 use jm_bytes::Text;
 use std::cmp::Ordering;
 use std::marker::Model;
 
-/// A name beside the number of its first eight bytes: a sort compares the numbers first, and so
-/// goes to the bytes of few names, which lie all over the memory.
+/// The first 24 bytes of a name as three numbers, the highest byte first; 0 for a shorter name.
+#[derive(Clone, Copy, Debug)]
+pub struct Front {
+    first: u64,
+    second: u64,
+    third: u64,
+}
+
+/// A name beside the numbers of its first 24 bytes: a sort compares the numbers first, and so goes to
+/// the bytes of few names, which lie all over the memory.
 #[derive(Debug, Drop)]
 pub struct TakenName {
-    front: u64,
+    front: Front,
     text: Text,
 }
 
 impl Model for TakenName {
     ghost use Rattle.std.specs.Prelude.{List, ℕ, ◌≡◌};
-    ghost use Rattle.jm_commands.specs.FrontNumber.{front_number};
+    ghost use Rattle.jm_commands.specs.Fronts.{front_of};
 
     ghost Value = { List ℕ };
 
     ghost view = { λ a. a.text };
 
-    ghost invariant = { λ a. a.front ≡ front_number a.text };
+    ghost invariant = { λ a. a.front ≡ front_of a.text };
 }
 
-/// The first eight bytes of a name as a number, the highest first; 0 for a shorter name.
-fn front_number(name: &[u8]) -> u64
-    ensures { result ≡ front_number name.now }
+/// The front of a name.
+fn front_of(name: &[u8]) -> Front
+    ensures { result ≡ front_of name.now }
 {
-    if name.len() < 8 {
-        0
-    } else {
-        BigEndian::read_u64(name)
+    if name.len() < 24 {
+        return Front {
+            first: 0,
+            second: 0,
+            third: 0,
+        };
     }
+    let (_, behind_eight) = name.split_at(8);
+    let (_, behind_sixteen) = behind_eight.split_at(8);
+    Front {
+        first: BigEndian::read_u64(name),
+        second: BigEndian::read_u64(behind_eight),
+        third: BigEndian::read_u64(behind_sixteen),
+    }
+}
+
+/// How the numbers of two fronts stand to one another, one after another.
+fn order_of_fronts(front: &Front, other: &Front) -> Ordering
+    ensures { result ≡ order_of_fronts front.now other.now }
+{
+    let later = front.second.cmp(&other.second).then(front.third.cmp(&other.third));
+    front.first.cmp(&other.first).then(later)
 }
 
 /// The same slice, which has bytes alone.
@@ -46,17 +71,19 @@ fn as_bytes<'a>(bytes: &'a [u8]) -> &'a [u8]
     bytes
 }
 
-/// How two names with their numbers stand to one another in byte order.
-fn order_of(front: u64, name: &[u8], other_front: u64, other: &[u8]) -> Ordering
-    requires front { front ≡ front_number name.now }
-    requires other { other_front ≡ front_number other.now }
+/// How two names with their fronts stand to one another in byte order.
+fn order_of(front: &Front, name: &[u8], other_front: &Front, other: &[u8]) -> Ordering
+    requires front { front.now ≡ front_of name.now }
+    requires other { other_front.now ≡ front_of other.now }
     ensures { AreBytes name.now → AreBytes other.now →
         result ≡ slice_cmp nat_cmp name.now other.now }
 {
-    if front != 0 && other_front != 0 && front != other_front {
-        front.cmp(&other_front)
-    } else {
-        name.cmp(other)
+    if front.first == 0 || other_front.first == 0 {
+        return name.cmp(other);
+    }
+    match order_of_fronts(front, other_front) {
+        Ordering::Equal => name.cmp(other),
+        order => order,
     }
 }
 
@@ -66,7 +93,7 @@ impl TakenName {
         ensures { result ≡ text }
     {
         TakenName {
-            front: front_number(text.as_slice()),
+            front: front_of(text.as_slice()),
             text,
         }
     }
@@ -84,6 +111,6 @@ impl TakenName {
         ensures { result ≡ slice_cmp nat_cmp self.now other.now }
     {
         let (name, other_name) = (self.as_slice(), other.as_slice());
-        order_of(self.front, name, other.front, other_name)
+        order_of(&self.front, name, &other.front, other_name)
     }
 }

@@ -4,7 +4,7 @@ use Rattle.jm_bytes.specs.declared.words.Order.{Order}
 use Rattle.jm_outside.specs.Files.{Files}
 use Rattle.jm_outside.specs.Outcome.{Rose, Shows}
 use Rattle.jm_writer.specs.Laid.{IsLaidOut}
-use Rattle.jm_writer.specs.Writes.{Holds, HoldsPart}
+use Rattle.jm_files.specs.Holds.{Holds, HoldsPart}
 use Rattle.jm_link.specs.declared.linking.LinkStop.{LinkStop}
 use Rattle.jm_link.specs.declared.linking.LinkStop.TheVariants as stop
 use Rattle.jm_link.specs.declared.linking.Summary.{Summary}

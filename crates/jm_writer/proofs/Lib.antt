@@ -26,8 +26,6 @@ pub mod LaidWritable
 pub mod LayoutLaws
 pub mod LedLaws
 pub mod PlanLaws
-pub mod ResultLaws
 pub mod SlotLaws
 pub mod StringLaws
 pub mod TableLaws
-pub mod WriteLaws

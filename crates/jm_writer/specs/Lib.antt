@@ -3,4 +3,3 @@ pub mod Laid
 pub mod Laying
 pub mod Parts
 pub mod Writable
-pub mod Writes

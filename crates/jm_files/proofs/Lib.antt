@@ -1,0 +1,3 @@
+pub mod HoldsLaws
+pub mod MadeLaws
+pub mod ResultLaws
