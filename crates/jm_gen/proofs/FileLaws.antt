@@ -1,0 +1,87 @@
+-- One file more, and one module more.
+use Rattle.std.proofs.Common.{◌≡◌, ℕ, zero, suc, ◌+◌, ◌-◌, ◌<◌, ◌≤◌, List, [], ◌∷◌, ◌++◌, Option, map, sym, ap, ◌∙◌, subst, arith}
+use Rattle.std.proofs.lemmas.List.{append-nil, map-append}
+use Rattle.std.proofs.lemmas.Grind.{flat_map-append}
+use Rattle.std.specs.List.{flat_map, range_with_len}
+use Rattle.jm_bytes.proofs.Pairs.{range_more}
+use Rattle.jm_outside.specs.Files.{Files}
+use Rattle.jm_files.specs.Made.{MadeAll, MadePart, Writes}
+use Rattle.jm_files.proofs.MadeLaws.{made_append, part_append, part_longer}
+
+-- Numbers one after another
+
+range_with_len-append : (i m n : ℕ) → range_with_len i (m + n) ≡ range_with_len i m ++ range_with_len (i + m) n
+range_with_len-append i zero n =
+    let none : zero + n ≡ n = omega arith in
+    let here : i + zero ≡ i = omega arith in
+    ap (range_with_len i) none ∙ ap (λ (k : ℕ). range_with_len k n) (sym here)
+range_with_len-append i (suc m) n =
+    let more : suc m + n ≡ suc (m + n) = omega arith in
+    let on : (i + 1) + m ≡ i + suc m = omega arith in
+    ap (range_with_len i) more ∙ ap (λ ks. i ∷ ks) (range_with_len-append (i + 1) m n)
+    ∙ ap (λ (k : ℕ). i ∷ (range_with_len (i + 1) m ++ range_with_len k n)) on
+
+range_split : (n m : ℕ) → n ≤ m → range_with_len 0 m ≡ range_with_len 0 n ++ range_with_len n (m - n)
+range_split n m within =
+    let count : m ≡ n + (m - n) = omega (arith, within) in
+    let start : 0 + n ≡ n = omega arith in
+    ap (range_with_len 0) count ∙ range_with_len-append 0 n (m - n)
+    ∙ ap (λ (k : ℕ). range_with_len 0 n ++ range_with_len k (m - n)) start
+
+range_next : (n : ℕ) → range_with_len 0 (n + 1) ≡ range_with_len 0 n ++ n ∷ []
+range_next n =
+    let start : 0 + n ≡ n = omega arith in
+    range_more 0 n ∙ ap (λ (k : ℕ). range_with_len 0 n ++ k ∷ []) start
+
+-- A file, and then one for each number
+
+pub made_first : (first : List ℕ × List ℕ) (f : ℕ → List ℕ × List ℕ) (old new : Option Files) → MadeAll (first ∷ []) old new → MadeAll (first ∷ map f (range_with_len 0 0)) old new
+made_first first f old new made = made
+
+pub part_first : (first : List ℕ × List ℕ) (f : ℕ → List ℕ × List ℕ) (m : ℕ) (old new : Option Files) → MadePart (first ∷ []) old new → MadePart (first ∷ map f (range_with_len 0 m)) old new
+part_first first f m old new part = part_longer (first ∷ []) (map f (range_with_len 0 m)) old new part
+
+next_file : (first : List ℕ × List ℕ) (f : ℕ → List ℕ × List ℕ) (n : ℕ) → (first ∷ map f (range_with_len 0 n)) ++ f n ∷ [] ≡ first ∷ map f (range_with_len 0 (n + 1))
+next_file first f n =
+    sym (ap (λ ks. first ∷ map f ks) (range_next n) ∙ ap (λ fs. first ∷ fs) (map-append f (range_with_len 0 n) (n ∷ [])))
+
+pub made_next : (first : List ℕ × List ℕ) (f : ℕ → List ℕ × List ℕ) (n : ℕ) (old now new : Option Files) → MadeAll (first ∷ map f (range_with_len 0 n)) old now → MadeAll (f n ∷ []) now new → MadeAll (first ∷ map f (range_with_len 0 (n + 1))) old new
+made_next first f n old now new done made =
+    subst (λ (fs : Writes). MadeAll fs old new) (next_file first f n)
+    (made_append (first ∷ map f (range_with_len 0 n)) (f n ∷ []) old now new done made)
+
+pub part_next : (first : List ℕ × List ℕ) (f : ℕ → List ℕ × List ℕ) (n m : ℕ) (old now new : Option Files) → n < m → MadeAll (first ∷ map f (range_with_len 0 n)) old now → MadePart (f n ∷ []) now new → MadePart (first ∷ map f (range_with_len 0 m)) old new
+part_next first f n m old now new inside done part =
+    subst (λ (fs : Writes). MadePart (first ∷ fs) old new)
+    (sym (ap (map f) (range_split (n + 1) m (omega (arith, inside))) ∙ map-append f (range_with_len 0 (n + 1)) rest))
+    (part_longer (first ∷ map f (range_with_len 0 (n + 1))) (map f rest) old new more)
+  where
+    rest : List ℕ
+    rest = range_with_len (n + 1) (m - (n + 1))
+
+    more : MadePart (first ∷ map f (range_with_len 0 (n + 1))) old new
+    more = subst (λ (fs : Writes). MadePart fs old new) (next_file first f n) (part_append (first ∷ map f (range_with_len 0 n)) (f n ∷ []) old now new done part)
+
+-- The files of each number
+
+next_files : (g : ℕ → Writes) (n : ℕ) → flat_map g (range_with_len 0 n) ++ g n ≡ flat_map g (range_with_len 0 (n + 1))
+next_files g n =
+    sym (ap (flat_map g) (range_next n) ∙ flat_map-append g (range_with_len 0 n) (n ∷ [])
+    ∙ ap (λ fs. flat_map g (range_with_len 0 n) ++ fs) (append-nil (g n)))
+
+pub all_next : (g : ℕ → Writes) (n : ℕ) (old now new : Option Files) → MadeAll (flat_map g (range_with_len 0 n)) old now → MadeAll (g n) now new → MadeAll (flat_map g (range_with_len 0 (n + 1))) old new
+all_next g n old now new done made =
+    subst (λ (fs : Writes). MadeAll fs old new) (next_files g n)
+    (made_append (flat_map g (range_with_len 0 n)) (g n) old now new done made)
+
+pub some_next : (g : ℕ → Writes) (n m : ℕ) (old now new : Option Files) → n < m → MadeAll (flat_map g (range_with_len 0 n)) old now → MadePart (g n) now new → MadePart (flat_map g (range_with_len 0 m)) old new
+some_next g n m old now new inside done part =
+    subst (λ (fs : Writes). MadePart fs old new)
+    (sym (ap (flat_map g) (range_split (n + 1) m (omega (arith, inside))) ∙ flat_map-append g (range_with_len 0 (n + 1)) rest))
+    (part_longer (flat_map g (range_with_len 0 (n + 1))) (flat_map g rest) old new more)
+  where
+    rest : List ℕ
+    rest = range_with_len (n + 1) (m - (n + 1))
+
+    more : MadePart (flat_map g (range_with_len 0 (n + 1))) old new
+    more = subst (λ (fs : Writes). MadePart fs old new) (next_files g n) (part_append (flat_map g (range_with_len 0 n)) (g n) old now new done part)

@@ -1,0 +1,115 @@
+ghost use Rattle.std.specs.Prelude.{◌≡◌, ◌+◌, ◌∷◌, [], ◌≤◌, IsUtf8, OnOk, OnErr, IsErrOf};
+ghost use Rattle.jm_outside.specs.Outcome.{CountsFaults};
+ghost use Rattle.jm_files.specs.Made.{MadeAll, MadePart};
+ghost use Rattle.jm_gen.specs.Draws.{drawn};
+ghost use Rattle.jm_gen.specs.Generated.{class_file, generated, info_file, module_files};
+
+use crate::classes::class_bytes;
+use crate::draws::Draws;
+use crate::infos::info;
+use crate::names::{class_path, path_in};
+use jm_classout::put;
+use jm_files::make_file;
+use jm_outside::{Shelf, ShelfError};
+use std::alloc::Global;
+
+/// Makes the descriptor of a module.
+fn make_info<S: Shelf>(
+    alloc: Global,
+    shelf: &mut S,
+    dir: &[u8],
+    number: u32,
+    draw: u64,
+) -> Result<(), ShelfError>
+    requires text { IsUtf8 dir.now }
+    ensures ok { OnOk result
+        (MadeAll (info_file dir.now number draw ∷ []) (S.files shelf.old) (S.files shelf.new)) }
+    ensures err { OnErr result
+        (MadePart (info_file dir.now number draw ∷ []) (S.files shelf.old) (S.files shelf.new)) }
+    ensures faults { CountsFaults (S.faults shelf.old) (S.faults shelf.new)
+        (IsErrOf result ShelfError.Failed) }
+{
+    let bytes = info(alloc, number, draw)?;
+    let path = path_in(alloc, dir, number, b"module-info.class")?;
+    make_file(alloc, shelf, path.as_slice(), bytes.as_slice())
+}
+
+/// Makes a class of a module.
+fn make_class<S: Shelf>(
+    alloc: Global,
+    shelf: &mut S,
+    dir: &[u8],
+    number: u32,
+    class: u32,
+    value: u64,
+) -> Result<(), ShelfError>
+    requires text { IsUtf8 dir.now }
+    ensures ok { OnOk result (MadeAll (class_file dir.now number class value ∷ [])
+        (S.files shelf.old) (S.files shelf.new)) }
+    ensures err { OnErr result (MadePart (class_file dir.now number class value ∷ [])
+        (S.files shelf.old) (S.files shelf.new)) }
+    ensures faults { CountsFaults (S.faults shelf.old) (S.faults shelf.new)
+        (IsErrOf result ShelfError.Failed) }
+{
+    let bytes = class_bytes(alloc, number, class, value)?;
+    let mut rest = class_path(alloc, number, class)?;
+    put(&mut rest, b".class")?;
+    let path = path_in(alloc, dir, number, rest.as_slice())?;
+    make_file(alloc, shelf, path.as_slice(), bytes.as_slice())
+}
+
+/// Makes the files of a module: its descriptor, and then its classes. It takes one draw, and one more
+/// for each class.
+fn make_module<S: Shelf>(
+    alloc: Global,
+    shelf: &mut S,
+    dir: &[u8],
+    number: u32,
+    classes: u32,
+    draws: &mut Draws,
+) -> Result<(), ShelfError>
+    requires text { IsUtf8 dir.now }
+    ensures ok { OnOk result (MadeAll (module_files dir.now classes draws.old number 0)
+        (S.files shelf.old) (S.files shelf.new)) }
+    ensures err { OnErr result (MadePart (module_files dir.now classes draws.old number 0)
+        (S.files shelf.old) (S.files shelf.new)) }
+    ensures draws { OnOk result (draws.new ≡ drawn draws.old (classes + 1)) }
+    ensures faults { CountsFaults (S.faults shelf.old) (S.faults shelf.new)
+        (IsErrOf result ShelfError.Failed) }
+{
+    make_info(alloc, shelf, dir, number, draws.draw())?;
+    for class in 0..classes {
+        make_class(alloc, shelf, dir, number, class, draws.draw())?;
+    }
+    Ok(())
+}
+
+/// Makes the files of so many modules of so many classes below a folder, from a seed: for each module
+/// its descriptor, which needs earlier modules, and then its classes, each with a number of its own.
+/// They are the same at each run.
+///
+/// After a refusal some of them stand, the last one whole or a front of it; other files are as before.
+pub fn generate<S: Shelf>(
+    alloc: Global,
+    shelf: &mut S,
+    dir: &[u8],
+    modules: u32,
+    classes: u32,
+    seed: u64,
+) -> Result<(), ShelfError>
+    requires text { IsUtf8 dir.now }
+    requires modules { (1 ≤ modules) × (modules ≤ 256) }
+    requires classes { (1 ≤ classes) × (classes ≤ 1024) }
+    ensures ok { OnOk result (MadeAll (generated dir.now modules classes seed)
+        (S.files shelf.old) (S.files shelf.new)) }
+    ensures err { OnErr result (MadePart (generated dir.now modules classes seed)
+        (S.files shelf.old) (S.files shelf.new)) }
+    ensures faults { CountsFaults (S.faults shelf.old) (S.faults shelf.new)
+        (IsErrOf result ShelfError.Failed) }
+{
+    let mut draws = Draws::new(seed);
+    for number in 0..modules {
+        make_module(alloc, shelf, dir, number, classes, &mut draws)?;
+    }
+    Ok(())
+}

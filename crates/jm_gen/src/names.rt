@@ -1,0 +1,59 @@
+ghost use Rattle.std.specs.Prelude.{◌≡◌, ◌<◌, ◌≤◌, ◌++◌, codes, OnOk, IfOk, IsUtf8};
+ghost use Rattle.jm_gen.specs.Generated.{class_name, class_path, digit, module_name, path_in};
+
+use jm_bytes::NoMemory;
+use jm_classout::put;
+use std::alloc::Global;
+
+/// The last digit of a number.
+fn digit(number: u32) -> u8
+    ensures { result ≡ digit number }
+{
+    b'0' + (number % 10) as u8
+}
+
+/// The name of a module: `m` and its number in three digits.
+pub fn module_name(number: u32) -> [u8; 4]
+    ensures { result ≡ module_name number }
+{
+    [b'm', digit(number / 100), digit(number / 10), digit(number)]
+}
+
+/// The name of a class in its package: `C` and its number in four digits.
+pub fn class_name(class: u32) -> [u8; 5]
+    ensures { result ≡ class_name class }
+{
+    [
+        b'C',
+        digit(class / 1000),
+        digit(class / 100),
+        digit(class / 10),
+        digit(class),
+    ]
+}
+
+/// The name of a class with its package, `m000/p0/C0000`.
+pub fn class_path(alloc: Global, number: u32, class: u32) -> Result<Vec<u8>, NoMemory>
+    ensures { IfOk result (λ path. path.items ≡ class_path number class) }
+{
+    let mut path = Vec::new(alloc);
+    put(&mut path, &module_name(number))?;
+    put(&mut path, b"/p")?;
+    put(&mut path, &[b'0' + (class % 8) as u8])?;
+    put(&mut path, b"/")?;
+    put(&mut path, &class_name(class))?;
+    Ok(path)
+}
+
+/// The path of a file of a module, in a folder.
+pub fn path_in(alloc: Global, dir: &[u8], number: u32, rest: &[u8]) -> Result<Vec<u8>, NoMemory>
+    ensures { IfOk result (λ path. path.items ≡ path_in dir.now number rest.now) }
+{
+    let mut path = Vec::new(alloc);
+    put(&mut path, dir)?;
+    put(&mut path, b"/")?;
+    put(&mut path, &module_name(number))?;
+    put(&mut path, b"/")?;
+    put(&mut path, rest)?;
+    Ok(path)
+}
