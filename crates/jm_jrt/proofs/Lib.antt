@@ -13,3 +13,4 @@ mod TreeNames
 mod TreeNodes
 mod TreeOwners
 mod TreeWords
+mod TreeVectors
