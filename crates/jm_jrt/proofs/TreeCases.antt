@@ -12,7 +12,7 @@ use Rattle.jm_form.specs.declared.trees.Holds.{Holds}
 use Rattle.jm_form.specs.declared.trees.Holds.TheVariants.{Owners}
 use Rattle.jm_form.specs.declared.trees.Owner.{Owner}
 use Rattle.jm_form.specs.Nodes.{NodesAs, Tells}
-use Rattle.jm_form.specs.Trees.{IsPlain, holds_of, is_package_node, node_names, owners}
+use Rattle.jm_form.specs.Trees.{holds_of, is_package_node, node_names, owners}
 use Rattle.jm_form.specs.TreeView.{TreeItem, Folder, Link, file_of, is_link, item_of, names_of, tree}
 use Rattle.jm_form.specs.Validity.{Stands, ValidAs, look}
 use Rattle.jm_jrt.specs.declared.jrt_error.JrtError.{JrtError}
@@ -105,7 +105,7 @@ unlisted names path one two three = false_from_ne_true (list_any (bytes_eq path)
 
 -- The law for a header
 
-module _ (b : List ℕ) (h : Header) (m : Pairs) (plain : IsPlain (names_of m)) (nodes : NodesAs b h (names_of m)) (valid : ValidAs b h) (stands : Stands b m) (has : HasSections h) where
+module _ (b : List ℕ) (h : Header) (m : Pairs) (nodes : NodesAs b h (names_of m)) (valid : ValidAs b h) (stands : Stands b m) (has : HasSections h) where
   abbrev names : List (List ℕ)
   names = names_of m
 
@@ -144,7 +144,7 @@ module _ (b : List ℕ) (h : Header) (m : Pairs) (plain : IsPlain (names_of m)) 
       elim (node_cases b h names path nodes (inner_is_node path is)) [
         | inl there ↦ stat_inner b h path other no_root is ∙ ap (in_modules b h path) there.found ∙ names_there path there other (inner_holds names path is)
         | inr missing ↦
-            let answer = resource_is b m (drop 8 path) plain.resources stands in
+            let answer = resource_is b m (drop 8 path) stands in
             stat_inner b h path other no_root is ∙ ap (in_modules b h path) missing.none ∙ answer
             ∙ ap (λ (o : Option TreeItem). ok_or o NotThere) (sym (tree_file m path other missing.unlisted is))
       ]

@@ -1,5 +1,5 @@
 -- Files below `/modules/`: the look-up of an image that stands for resources answers these.
-use Rattle.std.proofs.Common.{◌≡◌, ℕ, inl, inr, Bool, true, false, cond, List, [], ◌∷◌, Option, Some, None, All, Contains, Ok, Err, option_map, refl, sym, ap, ◌∙◌, subst}
+use Rattle.std.proofs.Common.{◌≡◌, ℕ, inl, inr, Bool, true, false, cond, not, List, [], ◌∷◌, Option, Some, None, All, Contains, Ok, Err, option_map, refl, sym, ap, ◌∙◌, subst}
 use Rattle.std.specs.Prelude.{if◌then◌else◌}
 use Rattle.std.specs.Option.{ok_or}
 use Rattle.std.specs.Map.{lookup}
@@ -8,11 +8,14 @@ use Rattle.std.proofs.lemmas.Bool.{false≢true}
 use Rattle.std.proofs.lemmas.List.Elements.{All-contains}
 use Rattle.std.proofs.lemmas.Slice.Eq.{bytes_eq-Decides}
 use Rattle.jm_bytes.proofs.Choice.{same_some}
-use Rattle.jm_bytes.proofs.Members.{contains_cases, contains_here, contains_later, contains_map, contains_none}
+use Rattle.std.proofs.lemmas.List.Sorted.{Contains-permutation, IsPermutation-sym}
+use Rattle.std.specs.List.{filter}
+use Rattle.jm_bytes.proofs.Members.{all_from_contains, from_filter, from_map, contains_cases, contains_here, contains_later, contains_map, contains_none}
 use Rattle.jm_names.specs.Names.{is_node}
 use Rattle.jm_form.specs.declared.rows.Row.{Row}
 use Rattle.jm_form.specs.TreeView.{File, file_of, names_of}
-use Rattle.jm_form.specs.Validity.{Stands, look}
+use Rattle.jm_form.specs.Entries.{entries}
+use Rattle.jm_form.specs.Validity.{Stands, look, resources}
 use Rattle.jm_form.proofs.StandsLaws.{stands_found, stands_nowhere}
 use Rattle.jm_jrt.specs.declared.jrt_error.JrtError.TheVariants.{NotThere}
 use Rattle.jm_jrt.specs.Stat.{file}
@@ -69,9 +72,26 @@ no_file m n others node = go (lookup (bytes_eq n) m) refl
         let named = contains_map (λ r. r.0) m (n, v) (lookup_pair m n v is) in
         absurd (false≢true (sym (All-contains (λ name. is_node name ≡ false) (names_of m) n others named) ∙ node))
 
-pub resource_is : (b : List ℕ) (m : Pairs) (n : List ℕ) → All (λ name. is_node name ≡ false) (names_of m) → Stands b m → (if is_node n then Err NotThere else file (look b n)) ≡ ok_or (file_of (lookup (bytes_eq n) m)) NotThere
-resource_is b m n others stands = go (is_node n) refl
+-- an image stands for no resource with the name of a node
+stands_free : (b : List ℕ) (m : Pairs) → Stands b m → All (λ name. is_node name ≡ false) (names_of m)
+stands_free b m (h, valid, same) = all_from_contains (λ name. is_node name ≡ false) (names_of m) free
+  where
+    fails : (node : Bool) → not node ≡ true → node ≡ false
+    fails true e = cc
+    fails false e = refl
+
+    free : (name : List ℕ) → Contains (names_of m) name → is_node name ≡ false
+    free name there =
+        let (p, among, named) = from_map (λ r. r.0) m name there in
+        let back = Contains-permutation m (resources (entries b h)) p (IsPermutation-sym (resources (entries b h)) m same) among in
+        let (e, kept, is) = from_map (λ e. (e.name, e.content)) (filter (λ e. not (is_node e.name)) (entries b h)) p back in
+        let passes = (from_filter (λ e. not (is_node e.name)) (entries b h) e kept).1 in
+        let names : name ≡ e.name = sym named ∙ ap (λ (q : List ℕ × List ℕ). q.0) (sym is) in
+        ap is_node names ∙ fails (is_node e.name) passes
+
+pub resource_is : (b : List ℕ) (m : Pairs) (n : List ℕ) → Stands b m → (if is_node n then Err NotThere else file (look b n)) ≡ ok_or (file_of (lookup (bytes_eq n) m)) NotThere
+resource_is b m n stands = go (is_node n) refl
   where
     go : (node : Bool) → is_node n ≡ node → (if node then Err NotThere else file (look b n)) ≡ ok_or (file_of (lookup (bytes_eq n) m)) NotThere
-    go true is = ap (λ (o : Option (List ℕ)). ok_or (file_of o) NotThere) (sym (no_file m n others is))
+    go true is = ap (λ (o : Option (List ℕ)). ok_or (file_of o) NotThere) (sym (no_file m n (stands_free b m stands) is))
     go false is = file_is b m n stands is

@@ -1,5 +1,5 @@
--- The law of the trees: an image that stands for plain resources and whose nodes tell their trees
--- shows at every path what these trees have there.
+-- The law of the trees: an image that stands for resources and whose nodes tell their trees shows at
+-- every path what these trees have there.
 use Rattle.std.proofs.Common.{◌≡◌, ◌≢◌, ℕ, ◌^◌, ◌<◌, ◌≤◌, List, length, Option, Some, None, Result, Ok, Err, sym, ap, ◌∙◌, subst, slice_index, arith}
 use Rattle.std.specs.Option.{ok_or}
 use Rattle.jm_bytes.proofs.Choice.{same_ok}
@@ -8,7 +8,6 @@ use Rattle.jm_form.specs.declared.container.Header.{Header}
 use Rattle.jm_form.specs.declared.container.HeaderFault.{HeaderFault}
 use Rattle.jm_form.specs.Head.{fields_of, header_checks, header_of, read_order}
 use Rattle.jm_form.specs.Nodes.{NodesOf}
-use Rattle.jm_form.specs.Trees.{IsPlain}
 use Rattle.jm_form.specs.TreeView.{TreeItem, names_of, tree}
 use Rattle.jm_form.specs.Validity.{Stands, ValidAs}
 use Rattle.jm_form.proofs.HeadLaws.{header_fits}
@@ -41,10 +40,10 @@ short_has b h short header = let fits = header_fits b h header in record { locat
 -- The law
 
 -- an image whose header has sections that words reach
-pub trees_with : (b : List ℕ) (resources : List (List ℕ × List ℕ)) → ((h : Header) → header_of b ≡ Ok h → HasSections h) → IsPlain (names_of resources) → NodesOf b (names_of resources) → Stands b resources → ShowsTrees b resources
-trees_with b resources has plain (h, nodes) (g, valid, same) = record {
+pub trees_with : (b : List ℕ) (resources : List (List ℕ × List ℕ)) → ((h : Header) → header_of b ≡ Ok h → HasSections h) → NodesOf b (names_of resources) → Stands b resources → ShowsTrees b resources
+trees_with b resources has (h, nodes) (g, valid, same) = record {
   stats = stats;
-  owners = λ path. ap (owner_read b path) nodes.header ∙ owner_with_tree b h resources plain nodes valid_here stands (has h nodes.header) path;
+  owners = λ path. ap (owner_read b path) nodes.header ∙ owner_with_tree b h resources nodes valid_here stands (has h nodes.header) path;
 }
   where
     valid_here : ValidAs b h
@@ -54,15 +53,15 @@ trees_with b resources has plain (h, nodes) (g, valid, same) = record {
     stands = (g, valid, same)
 
     stats : (path : List ℕ) → stat b path ≡ ok_or (tree resources path) NotThere
-    stats path = ap (stat_read b path) nodes.header ∙ stat_with_tree b h resources plain nodes valid_here stands (has h nodes.header) path
+    stats path = ap (stat_read b path) nodes.header ∙ stat_with_tree b h resources nodes valid_here stands (has h nodes.header) path
 
 -- of bytes
-pub trees_shown : (b : List ℕ) (resources : List (List ℕ × List ℕ)) → ((k : ℕ) → slice_index b k < 256) → IsPlain (names_of resources) → NodesOf b (names_of resources) → Stands b resources → ShowsTrees b resources
-trees_shown b resources bytes plain nodes stands = trees_with b resources (λ h header. bytes_have b h bytes header) plain nodes stands
+pub trees_shown : (b : List ℕ) (resources : List (List ℕ × List ℕ)) → ((k : ℕ) → slice_index b k < 256) → NodesOf b (names_of resources) → Stands b resources → ShowsTrees b resources
+trees_shown b resources bytes nodes stands = trees_with b resources (λ h header. bytes_have b h bytes header) nodes stands
 
 -- of a file that isn't too long
-pub trees_shown_short : (b : List ℕ) (resources : List (List ℕ × List ℕ)) → length b ≤ 2 ^ 32 → IsPlain (names_of resources) → NodesOf b (names_of resources) → Stands b resources → ShowsTrees b resources
-trees_shown_short b resources short plain nodes stands = trees_with b resources (λ h header. short_has b h short header) plain nodes stands
+pub trees_shown_short : (b : List ℕ) (resources : List (List ℕ × List ℕ)) → length b ≤ 2 ^ 32 → NodesOf b (names_of resources) → Stands b resources → ShowsTrees b resources
+trees_shown_short b resources short nodes stands = trees_with b resources (λ h header. short_has b h short header) nodes stands
 
 -- where the trees are shown no node is bad
 pub no_bad_node : (b : List ℕ) (resources : List (List ℕ × List ℕ)) → ShowsTrees b resources → (path : List ℕ) (at : ℕ) → stat b path ≢ Err (BadNode at)

@@ -10,7 +10,7 @@ use Rattle.jm_form.specs.declared.container.Header.{Header}
 use Rattle.jm_form.specs.declared.trees.Holds.{Holds}
 use Rattle.jm_form.specs.declared.trees.Holds.TheVariants.{Children}
 use Rattle.jm_form.specs.Nodes.{NodesAs}
-use Rattle.jm_form.specs.Trees.{IsPlain, holds_of, is_package_node, node_names}
+use Rattle.jm_form.specs.Trees.{holds_of, is_package_node, node_names}
 use Rattle.jm_form.specs.TreeView.{file_of, is_link, item_of, names_of, tree}
 use Rattle.jm_form.specs.Validity.{Stands, ValidAs, look}
 use Rattle.jm_jrt.specs.declared.jrt_error.JrtError.TheVariants.{NotThere}
@@ -78,14 +78,14 @@ package_alone path is =
     looks : (rest : List ℕ) → LooksPackage (codes "/packages/" ++ rest)
     looks rest = record { no_slash = refl; no_inner = refl }
 
-pub owner_with_tree : (b : List ℕ) (h : Header) (m : Pairs) → IsPlain (names_of m) → NodesAs b h (names_of m) → ValidAs b h → Stands b m → HasSections h → (path : List ℕ) → owner_with b h path ≡ full_owner (tree m path)
-owner_with_tree b h m plain nodes valid stands has path =
+pub owner_with_tree : (b : List ℕ) (h : Header) (m : Pairs) → NodesAs b h (names_of m) → ValidAs b h → Stands b m → HasSections h → (path : List ℕ) → owner_with b h path ≡ full_owner (tree m path)
+owner_with_tree b h m nodes valid stands has path =
     elim (cases_Bool (is_package path)) [
       | inl is ↦
           let alone = package_alone path is in
           elim (node_cases b h (names_of m) path nodes (package_is_node path is)) [
             | inl there ↦
-                with_package b h path is ∙ ap (λ o. full_among (owners_of b h o)) there.found ∙ ap full_among (pairs_told b h m plain nodes valid stands has path there is)
+                with_package b h path is ∙ ap (λ o. full_among (owners_of b h o)) there.found ∙ ap full_among (pairs_told b h m nodes valid stands has path there is)
                 ∙ sym (ap (λ (x : Holds). full_owner (Some (item_of x))) (package_holds (names_of m) path is))
                 ∙ sym (ap full_owner (tree_node m path alone.no_slash there.listed))
             | inr missing ↦
