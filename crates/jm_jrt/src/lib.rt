@@ -14,3 +14,6 @@ pub use child_list::{Child, ChildList};
 pub use jrt_error::JrtError;
 pub use node::Node;
 pub use trees::{children, owner, stat};
+
+#[cfg(test)]
+mod tests;

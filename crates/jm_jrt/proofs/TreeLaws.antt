@@ -1,0 +1,72 @@
+-- The law of the trees: an image that stands for resources and whose nodes tell their trees shows at
+-- every path what these trees have there.
+use Rattle.std.proofs.Common.{◌≡◌, ◌≢◌, ℕ, ◌^◌, ◌<◌, ◌≤◌, List, length, Option, Some, None, Result, Ok, Err, sym, ap, ◌∙◌, subst, slice_index, arith}
+use Rattle.std.specs.Option.{ok_or}
+use Rattle.jm_bytes.proofs.Choice.{same_ok}
+use Rattle.jm_bytes.specs.Checks.{first_fault, unless_fault}
+use Rattle.jm_form.specs.declared.container.Header.{Header}
+use Rattle.jm_form.specs.declared.container.HeaderFault.{HeaderFault}
+use Rattle.jm_form.specs.Head.{fields_of, header_checks, header_of, read_order}
+use Rattle.jm_form.specs.Nodes.{NodesOf}
+use Rattle.jm_form.specs.TreeView.{TreeItem, names_of, tree}
+use Rattle.jm_form.specs.Validity.{Stands, ValidAs}
+use Rattle.jm_form.proofs.HeadLaws.{header_fits}
+use Rattle.jm_jrt.specs.declared.jrt_error.JrtError.{JrtError}
+use Rattle.jm_jrt.specs.declared.jrt_error.JrtError.TheVariants.{BadNode, NotThere}
+use Rattle.jm_jrt.specs.Stat.{owner_read, stat, stat_read}
+use Rattle.jm_jrt.specs.TreesShown.{ShowsTrees}
+use Rattle.jm_jrt.proofs.TreeCases.{stat_with_tree}
+use Rattle.jm_jrt.proofs.TreeContents.{HasSections}
+use Rattle.jm_jrt.proofs.TreeOwners.{owner_with_tree}
+use Rattle.jm_jrt.proofs.TreeWords.{word-lt}
+
+-- Headers whose sections have words
+
+fields_there : (b : List ℕ) (h : Header) (o : Option HeaderFault) → unless_fault o (fields_of b) ≡ Ok h → fields_of b ≡ h
+fields_there b h None e = same_ok (fields_of b) h e
+fields_there b h (Some fault) e = cc
+
+-- those of bytes
+pub bytes_have : (b : List ℕ) (h : Header) → ((k : ℕ) → slice_index b k < 256) → header_of b ≡ Ok h → HasSections h
+bytes_have b h bytes header =
+    let first = word-lt (read_order b) b 20 bytes in
+    let second = word-lt (read_order b) b 24 bytes in
+    subst HasSections (fields_there b h (first_fault (header_checks b)) header) (record { locations = omega arith; strings = omega arith })
+
+-- those of a short file
+pub short_has : (b : List ℕ) (h : Header) → length b ≤ 2 ^ 32 → header_of b ≡ Ok h → HasSections h
+short_has b h short header = let fits = header_fits b h header in record { locations = omega arith; strings = omega arith }
+
+-- The law
+
+-- an image whose header has sections that words reach
+pub trees_with : (b : List ℕ) (resources : List (List ℕ × List ℕ)) → ((h : Header) → header_of b ≡ Ok h → HasSections h) → NodesOf b (names_of resources) → Stands b resources → ShowsTrees b resources
+trees_with b resources has (h, nodes) (g, valid, same) = record {
+  stats = stats;
+  owners = λ path. ap (owner_read b path) nodes.header ∙ owner_with_tree b h resources nodes valid_here stands (has h nodes.header) path;
+}
+  where
+    valid_here : ValidAs b h
+    valid_here = subst (ValidAs b) (same_ok g h (sym valid.header ∙ nodes.header)) valid
+
+    stands : Stands b resources
+    stands = (g, valid, same)
+
+    stats : (path : List ℕ) → stat b path ≡ ok_or (tree resources path) NotThere
+    stats path = ap (stat_read b path) nodes.header ∙ stat_with_tree b h resources nodes valid_here stands (has h nodes.header) path
+
+-- of bytes
+pub trees_shown : (b : List ℕ) (resources : List (List ℕ × List ℕ)) → ((k : ℕ) → slice_index b k < 256) → NodesOf b (names_of resources) → Stands b resources → ShowsTrees b resources
+trees_shown b resources bytes nodes stands = trees_with b resources (λ h header. bytes_have b h bytes header) nodes stands
+
+-- of a file that isn't too long
+pub trees_shown_short : (b : List ℕ) (resources : List (List ℕ × List ℕ)) → length b ≤ 2 ^ 32 → NodesOf b (names_of resources) → Stands b resources → ShowsTrees b resources
+trees_shown_short b resources short nodes stands = trees_with b resources (λ h header. short_has b h short header) nodes stands
+
+-- where the trees are shown no node is bad
+pub no_bad_node : (b : List ℕ) (resources : List (List ℕ × List ℕ)) → ShowsTrees b resources → (path : List ℕ) (at : ℕ) → stat b path ≢ Err (BadNode at)
+no_bad_node b resources shows path at bad = go (tree resources path) (sym (shows.stats path) ∙ bad)
+  where
+    go : (o : Option TreeItem) → ◌≡◌ {A = Result TreeItem JrtError} (ok_or o NotThere) (Err (BadNode at)) → ⊥
+    go None e = cc
+    go (Some item) e = cc

@@ -1,0 +1,18 @@
+-- An image that shows the two trees of resources (JEP 220: the `jrt` file system).
+use Rattle.std.specs.Prelude.{ℕ, ◌≡◌, List, Option, Some, Result, Ok, Err}
+use Rattle.std.specs.Option.{ok_or}
+use Rattle.jm_form.specs.TreeView.{TreeItem, Package, tree}
+use Rattle.jm_jrt.specs.declared.jrt_error.JrtError.{JrtError}
+use Rattle.jm_jrt.specs.declared.jrt_error.JrtError.TheVariants.{NotThere}
+use Rattle.jm_jrt.specs.Stat.{first_full, owner, stat}
+
+-- the first owner, of a package that stands there, for which it isn't empty
+abbrev pub full_owner : Option TreeItem → Result (Option (List ℕ)) JrtError
+full_owner (Some (Package owners)) = Ok (first_full owners)
+full_owner other = Err NotThere
+
+-- at every path there stands in the image what the trees of the resources have there, and nothing
+-- else, and no node is bad; and so is the first full owner of each package
+pub record ShowsTrees (b : List ℕ) (resources : List (List ℕ × List ℕ)) : Type 0 where
+  pub stats : (path : List ℕ) → stat b path ≡ ok_or (tree resources path) NotThere
+  pub owners : (path : List ℕ) → owner b path ≡ full_owner (tree resources path)
