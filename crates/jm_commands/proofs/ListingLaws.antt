@@ -29,7 +29,8 @@ use Rattle.jm_link.proofs.NameOrder.{Differ, by_name_rises, sorted_by_name}
 use Rattle.jm_reader.specs.declared.entries.Entry as handed
 use Rattle.jm_bytes.specs.Metered.{Metered}
 use Rattle.jm_reader.specs.Walk.{IsFirst, IsLater}
-use Rattle.jm_link.specs.ByName.{Named, NeverFalls, RisesByName, is_before}
+use Rattle.jm_link.specs.ByName.{Named, NeverFalls, RisesByName}
+use Rattle.jm_modpath.specs.ByteOrder.{is_before}
 use Rattle.jm_commands.specs.Taken.{taken, is_taken, named, taken_alone, taken_among, taken_as}
 
 -- One entry after another

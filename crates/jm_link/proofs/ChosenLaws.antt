@@ -1,5 +1,5 @@
 -- The places of a closure lie within the list of modules, and differ.
-use Rattle.std.proofs.Common.{◌≡◌, ◌≢◌, ◌<◌, inl, inr, ℕ, zero, suc, ◌+◌, ◌-◌, Bool, true, false, List, [], ◌∷◌, length, map, All, AllPairs, Contains, Option, Some, None, Ok, slice_get, refl, sym, ap, ◌∙◌, subst, arith}
+use Rattle.std.proofs.Common.{◌≡◌, ◌≢◌, ◌<◌, ℕ, zero, suc, ◌+◌, ◌-◌, Bool, true, false, List, [], ◌∷◌, length, AllPairs, Contains, Some, Ok, slice_get, refl, sym, ap, ◌∙◌, subst, arith}
 use Rattle.std.proofs.lemmas.Option.{slice_get-get_or}
 use Rattle.std.specs.Cmp.Lexicographic.{slice_cmp, nat_list_cmp_total}
 use Rattle.std.specs.List.{range_with_len}
@@ -9,9 +9,9 @@ use Rattle.std.specs.declared.cmp.Ordering.{Ordering}
 use Rattle.std.specs.declared.cmp.Ordering.TheVariants.{Less, Equal, Greater}
 use Rattle.jm_bytes.proofs.Choice.{same_some}
 use Rattle.jm_bind.specs.Binding.{Bound, IsClosed}
-use Rattle.jm_bytes.proofs.Members.{all_from_contains, contains_range, from_range}
+use Rattle.jm_bytes.proofs.Members.{contains_range, from_range}
 use Rattle.jm_closure.specs.declared.candidate.Candidate.{Candidate}
-use Rattle.jm_closure.specs.Modules.{HasName, IsRoot, Leads, Reached, Requires, name_of}
+use Rattle.jm_closure.specs.Modules.{HasName, Leads, Reached, Requires, name_of}
 use Rattle.jm_closure.specs.Refusals.{AreChosen}
 use Rattle.jm_link.specs.Closing.{ClosesWith}
 use Rattle.jm_link.proofs.FileLaws.{got}

@@ -1,12 +1,11 @@
 -- Candidates and folders, taken apart and put together again.
-use Rattle.std.proofs.Common.{◌≡◌, ◌≢◌, ℕ, suc, Option, Some, None, List, [], ◌∷◌, ◌++◌, drop, length, map, take, refl, sym, ap, ◌∙◌}
-use Rattle.std.specs.List.{zip}
+use Rattle.std.proofs.Common.{◌≡◌, ◌≢◌, suc, Option, Some, None, List, [], ◌∷◌, ◌++◌, drop, length, map, take, refl, ap}
 use Rattle.jm_closure.specs.declared.candidate.Candidate.{Candidate}
 use Rattle.jm_link.specs.declared.closing.ModuleFolder.{ModuleFolder}
 use Rattle.jm_link.specs.declared.refusal.Refusal.{Refusal}
-use Rattle.jm_link.specs.declared.visible.VisibleModule.{VisibleModule}
+use Rattle.jm_modpath.specs.declared.visible.VisibleModule.{VisibleModule}
 use Rattle.jm_link.specs.Closing.{folder_of, joined_as, module_with_folder}
-use Rattle.jm_link.specs.Modules.{candidates}
+use Rattle.jm_modpath.specs.Modules.{candidates}
 
 -- one more of both
 pub joined_more : (cs : List Candidate) (fs : List ModuleFolder) (c : Candidate) (f : ModuleFolder) (rest : List Candidate) → drop (length fs) cs ≡ c ∷ rest → joined_as (take (length fs) cs) fs ++ module_with_folder (c, f) ∷ [] ≡ joined_as (take (length (fs ++ f ∷ [])) cs) (fs ++ f ∷ [])

@@ -1,6 +1,6 @@
 -- The files that a link takes: none has the name of a node, and a shelf that tells its files has
 -- each of them.
-use Rattle.std.proofs.Common.{◌≡◌, ◌≢◌, ◌⊎◌, ◌&&◌, inl, inr, ℕ, zero, suc, Bool, true, false, cond, List, [], ◌∷◌, ◌++◌, length, drop, map, find, All, Contains, Option, Some, None, option_map, slice_get, refl, sym, ap, ◌∙◌, subst}
+use Rattle.std.proofs.Common.{◌≡◌, ◌≢◌, ◌⊎◌, ◌&&◌, inl, inr, ℕ, zero, suc, Bool, true, false, List, [], ◌∷◌, ◌++◌, length, drop, find, All, Contains, Some, None, option_map, slice_get, refl, sym, ap, ◌∙◌, subst}
 use Rattle.std.proofs.lemmas.Bool.{eqb-true, false≢true, false_from_ne_true, or_cases}
 use Rattle.std.proofs.lemmas.Bool.Decides.{Decides-eqb}
 use Rattle.std.proofs.lemmas.List.Elements.{All-contains, Contains-append_cases}
@@ -9,19 +9,18 @@ use Rattle.std.proofs.lemmas.Slice.Eq.{bytes_eq-Decides, starts_is}
 use Rattle.std.specs.List.{filter_map, flat_map, list_all, list_any, starts_with}
 use Rattle.std.specs.Prelude.{codes, nat_eq}
 use Rattle.std.specs.Str.{bytes_eq}
-use Rattle.jm_bytes.proofs.Members.{all_from_contains, any_contains, contains_cases, contains_here, contains_later, contains_none, from_filter_map, from_map}
+use Rattle.jm_bytes.proofs.Members.{all_from_contains, any_contains, contains_here, contains_later, contains_none, from_filter_map, from_map}
 use Rattle.jm_form.specs.Trees.{module_of}
 use Rattle.jm_modinfo.specs.Constants.{is_legal, is_legal_byte}
 use Rattle.jm_names.specs.Names.{is_node, is_slash}
 use Rattle.jm_names.specs.UtfForms.{modified}
 use Rattle.jm_nodes.proofs.SoundLaws.{module_again}
-use Rattle.jm_outside.specs.Files.{Files, file, names_below}
 use Rattle.jm_link.specs.declared.refusal.Refusal.{Refusal}
 use Rattle.jm_link.specs.declared.refusal.Refusal.TheVariants as refusal
-use Rattle.jm_link.specs.declared.visible.VisibleModule.{VisibleModule}
-use Rattle.jm_link.specs.ByName.{Named, by_name}
-use Rattle.jm_link.specs.Finding.{HasTexts}
-use Rattle.jm_link.specs.Modules.{inside, is_named, name_of, resource_name}
+use Rattle.jm_modpath.specs.declared.visible.VisibleModule.{VisibleModule}
+use Rattle.jm_link.specs.ByName.{Named}
+use Rattle.jm_modpath.specs.Finding.{HasTexts}
+use Rattle.jm_modpath.specs.Modules.{inside, is_named, name_of, resource_name}
 use Rattle.jm_link.specs.Resources.{link_files, module_files, reserved}
 use Rattle.jm_link.proofs.NameOrder.{from_by_name}
 

@@ -6,7 +6,7 @@ use Rattle.jm_bytes.specs.Checks.{fault_if}
 use Rattle.jm_bytes.proofs.CheckLaws.{fault_if_none, no_fault_head, no_fault_tail}
 use Rattle.jm_bytes.specs.declared.words.Order.{Order}
 use Rattle.jm_form.specs.Greedy.{GreedyTable}
-use Rattle.jm_form.specs.Layout.{Written, all_sized, layout, layout_table, layout_with, names_of}
+use Rattle.jm_form.specs.Layout.{Written, all_sized, layout_table, layout_with, names_of}
 use Rattle.jm_form.specs.Trees.{first_clash}
 use Rattle.jm_names.specs.NameFaults.{IsSound}
 use Rattle.jm_names.specs.Names.{is_node}

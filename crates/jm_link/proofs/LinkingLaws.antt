@@ -1,5 +1,5 @@
 -- What a link does, from what its steps did.
-use Rattle.std.proofs.Common.{◌≡◌, ◌≢◌, ◌≤◌, ◌⊎◌, inl, inr, ℕ, Bool, true, false, List, [], length, map, All, AllPairs, Option, Some, None, Result, Ok, Err, refl, sym, subst, arith}
+use Rattle.std.proofs.Common.{◌≡◌, ◌≢◌, ◌≤◌, inl, inr, ℕ, Bool, true, false, List, [], length, map, All, AllPairs, Option, Some, None, Result, Ok, Err, refl, sym, subst, arith}
 use Rattle.std.proofs.lemmas.List.Elements.{All-contains, All-map}
 use Rattle.jm_bytes.proofs.Members.{all_from_contains, contains_map}
 use Rattle.jm_bytes.specs.declared.words.Order.{Order}
@@ -10,23 +10,26 @@ use Rattle.jm_names.specs.NameFaults.{IsSound}
 use Rattle.jm_names.specs.Names.{is_node}
 use Rattle.jm_outside.specs.Files.{Files, file}
 use Rattle.jm_outside.specs.Outcome.{Rose, Shows}
+use Rattle.jm_modpath.specs.declared.refusal.PathStop.{PathStop}
+use Rattle.jm_modpath.specs.declared.refusal.PathStop.TheVariants as path_stop
 use Rattle.jm_link.specs.declared.linking.LinkStop.{LinkStop}
 use Rattle.jm_link.specs.declared.linking.LinkStop.TheVariants as stop
 use Rattle.jm_link.specs.declared.linking.Summary.{Summary}
 use Rattle.jm_link.specs.declared.refusal.Refusal.{Refusal}
-use Rattle.jm_link.specs.declared.visible.VisibleModule.{VisibleModule}
+use Rattle.jm_modpath.specs.declared.visible.VisibleModule.{VisibleModule}
 use Rattle.jm_link.specs.ByName.{Named}
 use Rattle.jm_link.specs.Closing.{ClosesAmong, ClosesWith, IsRefusedAmong}
-use Rattle.jm_link.specs.Linked.{LinkedImage, Request, image_with, laid_out, layout_refusal}
+use Rattle.jm_link.specs.Linked.{LinkedImage, Request, image_with, laid_out, layout_refusal, path_refusal_as}
 use Rattle.jm_link.specs.declared.resources.ResourceFile.{ResourceFile}
-use Rattle.jm_link.specs.Finding.{ShowsModules}
+use Rattle.jm_modpath.specs.Finding.{ShowsModules}
 use Rattle.jm_link.specs.Links.{BreaksOff, ComesTo, FoundComesTo, IsLaid, LinksBy, NamesComeTo}
 use Rattle.jm_link.specs.ResourceFiles.{file_names, pair_of}
 use Rattle.jm_link.specs.Showing.{ListsItsFiles}
 use Rattle.jm_link.proofs.LaidLaws.{laid_free}
 use Rattle.jm_link.proofs.ListedLaws.{files_there, visible_lists}
-use Rattle.jm_link.specs.Modules.{candidates}
+use Rattle.jm_modpath.specs.Modules.{candidates}
 use Rattle.jm_link.specs.Resources.{Chosen, first_bad_name, link_files, reserved, resources_of}
+use Rattle.jm_link.specs.Stops.{stop_of_path}
 use Rattle.jm_link.specs.Written.{WritesImage, WritesPart}
 
 -- the same of results that are others' too
@@ -153,12 +156,12 @@ found_to None asked found shows r comes = tt
 found_to (Some files) asked found (free, is) r (comes, laid) = (rw (free, sym is) comes, laid)
 
 -- the path's own refusal, or a failure
-pub path_to : (told new : Option Files) (asked : Request) (given : LinkStop) (path : List ℕ) (faults new_faults : ℕ) → new ≡ told → Shows told (λ files. ShowsModules files asked.directories (Err given)) → (given ≡ stop.Outside → Rose faults new_faults) → LinksBy (ComesTo told asked) path (Err given) told new faults new_faults
-path_to told new asked (stop.Refused r) path faults new_faults same shows rose = (go told shows, same)
+pub path_to : (told new : Option Files) (asked : Request) (given : PathStop) (path : List ℕ) (faults new_faults : ℕ) → new ≡ told → Shows told (λ files. ShowsModules files asked.directories (Err given)) → (given ≡ path_stop.Outside → Rose faults new_faults) → LinksBy (ComesTo told asked) path (Err (stop_of_path given)) told new faults new_faults
+path_to told new asked (path_stop.Refused r) path faults new_faults same shows rose = (go told shows, same)
   where
-    go : (t : Option Files) → Shows t (λ files. ShowsModules files asked.directories (Err (stop.Refused r))) → ComesTo t asked (Err r)
+    go : (t : Option Files) → Shows t (λ files. ShowsModules files asked.directories (Err (path_stop.Refused r))) → ComesTo t asked (Err (path_refusal_as r))
     go None shows = tt
     go (Some files) shows = rw shows (refl, tt)
-path_to told new asked (stop.NotThere listed) path faults new_faults same shows rose = (shows, same)
-path_to told new asked stop.Outside path faults new_faults same shows rose = (inl same, rose refl)
-path_to told new asked stop.Memory path faults new_faults same shows rose = inl same
+path_to told new asked (path_stop.NotThere listed) path faults new_faults same shows rose = (shows, same)
+path_to told new asked path_stop.Outside path faults new_faults same shows rose = (inl same, rose refl)
+path_to told new asked path_stop.Memory path faults new_faults same shows rose = inl same

@@ -1,18 +1,18 @@
 -- A shelf that tells its files has each file that a link takes of its visible modules.
-use Rattle.std.proofs.Common.{◌≡◌, ◌≢◌, inl, inr, ℕ, Bool, true, false, cond, List, [], ◌∷◌, ◌++◌, All, Contains, Option, Some, None, Result, Ok, Err, refl, sym, ap, ◌∙◌, subst}
+use Rattle.std.proofs.Common.{◌≡◌, ◌≢◌, inl, inr, ℕ, Bool, true, false, cond, List, [], ◌∷◌, ◌++◌, All, Contains, Some, None, Result, Ok, Err, refl, sym, ap, ◌∙◌, subst}
 use Rattle.jm_bytes.proofs.Choice.{same_some}
-use Rattle.jm_bytes.proofs.Members.{all_from_contains, contains_cases, contains_here, contains_later, contains_none, from_filter_map}
+use Rattle.jm_bytes.proofs.Members.{all_from_contains, contains_cases, contains_here, contains_later, from_filter_map}
 use Rattle.jm_modinfo.specs.declared.descriptor.Descriptor.{Descriptor}
 use Rattle.jm_modinfo.specs.declared.faults.DescriptorFault.{DescriptorFault}
 use Rattle.jm_outside.specs.Files.{Files, file, names_below}
 use Rattle.std.specs.List.{flat_map}
-use Rattle.jm_link.specs.declared.visible.VisibleModule.{VisibleModule}
+use Rattle.jm_modpath.specs.declared.visible.VisibleModule.{VisibleModule}
 use Rattle.jm_link.specs.ByName.{Named}
-use Rattle.jm_link.specs.Modules.{folder_info, folders_in, inside, is_named, module_in, module_of, modules_in, name_of, unhidden, visible}
+use Rattle.jm_modpath.specs.Modules.{folder_info, folders_in, inside, is_named, module_in, module_of, modules_in, name_of, unhidden, visible}
 use Rattle.jm_link.specs.Resources.{link_files}
 use Rattle.jm_link.specs.Showing.{ListsItsFiles}
-use Rattle.jm_link.proofs.FileLaws.{IsFileOf, file_from, from_flat}
-use Rattle.jm_link.proofs.StepLaws.{listed_there}
+use Rattle.jm_link.proofs.FileLaws.{file_from, from_flat}
+use Rattle.jm_modpath.proofs.StepLaws.{listed_there}
 
 from_unhidden : (earlier ms : List VisibleModule) (m : VisibleModule) → Contains (unhidden earlier ms) m → Contains ms m
 from_unhidden earlier [] m there = there

@@ -14,7 +14,8 @@ use Rattle.std.specs.declared.cmp.Ordering.{Ordering}
 use Rattle.std.specs.declared.cmp.Ordering.TheVariants.{Less, Equal, Greater}
 use Rattle.jm_bytes.proofs.Members.{all_from_contains, contains_here, contains_later, contains_cases, contains_none}
 use Rattle.jm_bytes.proofs.Pairs.{pairs_none, pairs_head, pairs_tail}
-use Rattle.jm_link.specs.ByName.{Named, is_before, RisesByName, NeverFalls, placed, by_name}
+use Rattle.jm_modpath.specs.ByteOrder.{is_before}
+use Rattle.jm_link.specs.ByName.{Named, RisesByName, NeverFalls, placed, by_name}
 
 -- The order of names
 

@@ -26,12 +26,13 @@ use Rattle.jm_names.proofs.ComputedFaultLaws.{IsSound-computed}
 use Rattle.jm_pool.specs.Pairs.{bytes_of, names_of}
 use Rattle.jm_link.specs.declared.refusal.Refusal.TheVariants as refusal
 use Rattle.jm_link.specs.declared.resources.ResourceFile.{ResourceFile}
-use Rattle.jm_link.specs.declared.visible.VisibleModule.{VisibleModule}
-use Rattle.jm_link.specs.ByName.{Named, NeverFalls, is_before}
-use Rattle.jm_link.specs.Finding.{HasTexts}
+use Rattle.jm_modpath.specs.declared.visible.VisibleModule.{VisibleModule}
+use Rattle.jm_link.specs.ByName.{Named, NeverFalls}
+use Rattle.jm_modpath.specs.ByteOrder.{is_before}
+use Rattle.jm_modpath.specs.Finding.{HasTexts}
 use Rattle.jm_link.specs.ResourceFiles.{file_names, file_of, pair_of}
 use Rattle.jm_link.specs.Resources.{first_bad_name, link_files, module_files, name_refusal}
-use Rattle.jm_link.proofs.FoundLaws.{got}
+use Rattle.jm_modpath.proofs.FoundLaws.{got}
 use Rattle.jm_link.proofs.NameOrder.{sorted_by_name}
 use Rattle.jm_link.proofs.ResourceNames.{PathIsText, files_differ, modules_texts}
 

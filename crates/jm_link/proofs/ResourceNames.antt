@@ -1,55 +1,20 @@
 -- The files of a module have names that differ, as their paths do.
-use Rattle.std.proofs.Common.{◌≡◌, ◌≢◌, ℕ, zero, suc, ◌<◌, List, [], ◌∷◌, ◌++◌, length, map, get_or, All, AllPairs, IsUtf8, sym, ap, subst, ◌∙◌, arith}
+use Rattle.std.proofs.Common.{◌≡◌, ◌≢◌, ℕ, suc, List, [], ◌∷◌, ◌++◌, map, All, AllPairs, IsUtf8, sym, ap, subst, ◌∙◌, arith}
 use Rattle.std.proofs.lemmas.List.{append_cancel_left}
 use Rattle.std.proofs.lemmas.List.Elements.{All-append, All-contains, All-nil}
-use Rattle.std.specs.Cmp.Lexicographic.{slice_cmp, nat_list_cmp_total}
-use Rattle.std.specs.List.{AllByRecursion, flat_map}
-use Rattle.std.specs.List.Sorted.{IsStrictlySortedBy}
-use Rattle.std.specs.Ordering.{nat_cmp, ordering_reverse}
-use Rattle.std.specs.declared.cmp.Ordering.TheVariants.{Less}
+use Rattle.std.specs.List.{flat_map}
 use Rattle.jm_bytes.proofs.Members.{all_from_contains, from_map}
-use Rattle.jm_bytes.proofs.Pairs.{pairs_among, pairs_filter_map, pairs_map}
+use Rattle.jm_bytes.proofs.Pairs.{pairs_among, pairs_map}
 use Rattle.jm_names.specs.UtfForms.{modified, utf}
 use Rattle.jm_names.proofs.UtfLaws.{utf-modified}
-use Rattle.jm_outside.specs.Files.{Rising, after_front}
-use Rattle.jm_link.specs.declared.visible.VisibleModule.{VisibleModule}
+use Rattle.jm_modpath.specs.declared.visible.VisibleModule.{VisibleModule}
 use Rattle.jm_link.specs.ByName.{Named}
-use Rattle.jm_link.specs.Finding.{HasTexts, names_within}
-use Rattle.jm_link.specs.Modules.{name_of, resource_name}
+use Rattle.jm_modpath.specs.Finding.{HasTexts}
+use Rattle.jm_modpath.specs.Modules.{name_of, resource_name}
 use Rattle.jm_link.specs.ResourceFiles.{file_of}
 use Rattle.jm_link.specs.Resources.{module_files}
 use Rattle.jm_link.proofs.NameOrder.{Differ, from_by_name}
-use Rattle.jm_link.proofs.TextCuts.{front_of, inside_is_text}
-
--- Paths
-
-above : (n : List ℕ) (ns : List (List ℕ)) (i : ℕ) (d : List ℕ) → AllByRecursion (λ m. slice_cmp nat_cmp n m ≡ Less) ns → i < length ns → slice_cmp nat_cmp n (get_or ns i d) ≡ Less
-above n [] i d all below = absurd (omega arith)
-above n (m ∷ ns) zero d all below = all.0
-above n (m ∷ ns) (suc i) d all below = above n ns i d all.1 (omega arith)
-
-pub never_before : (n m : List ℕ) → slice_cmp nat_cmp n m ≡ Less → n ≢ m
-never_before n m before same =
-    let own : slice_cmp nat_cmp n n ≡ Less = ap (slice_cmp nat_cmp n) same ∙ before in
-    let turned = sym own ∙ nat_list_cmp_total.antisymm n n ∙ ap ordering_reverse own in
-    cc
-
--- texts that rise differ
-pub rising_apart : (ns : List (List ℕ)) → Rising ns → AllPairs (λ n m. n ≢ m) ns
-unfolding IsStrictlySortedBy
-rising_apart [] rising i j d before below = absurd (omega arith)
-rising_apart (n ∷ ns) rising zero zero d before below = absurd (omega arith)
-rising_apart (n ∷ ns) rising zero (suc j) d before below = never_before n (get_or ns j d) (above n ns j d rising.0 (omega arith))
-rising_apart (n ∷ ns) rising (suc i) zero d before below = absurd (omega arith)
-rising_apart (n ∷ ns) rising (suc i) (suc j) d before below = rising_apart ns rising.1 i j d (omega arith) (omega arith)
-
--- the names within a folder differ
-pub within_apart : (folder : List ℕ) (names : List (List ℕ)) → Rising names → AllPairs (λ n m. n ≢ m) (names_within folder names)
-within_apart folder names rising =
-    let front = folder ++ 47 ∷ [] in
-    pairs_filter_map (λ (n m : List ℕ). n ≢ m) (λ (n m : List ℕ). n ≢ m) (after_front front)
-    (λ x y other a b one two same. other (front_of front x a one ∙ ap (λ t. front ++ t) same ∙ sym (front_of front y b two)))
-    names (rising_apart names rising)
+use Rattle.jm_modpath.proofs.TextCuts.{inside_is_text}
 
 -- Names
 

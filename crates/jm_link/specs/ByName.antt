@@ -1,15 +1,10 @@
 -- Pairs of a name and something else, in byte order of their names (this project's rule for all
 -- that rises by name).
-use Rattle.std.specs.Prelude.{ℕ, Bool, List, [], ◌∷◌, AllPairs, IsTrue, IsFalse, if◌then◌else◌}
-use Rattle.std.specs.Cmp.Lexicographic.{slice_cmp}
-use Rattle.std.specs.Ordering.{is_lt, nat_cmp}
+use Rattle.std.specs.Prelude.{ℕ, List, [], ◌∷◌, AllPairs, IsTrue, IsFalse, if◌then◌else◌}
+use Rattle.jm_modpath.specs.ByteOrder.{is_before}
 
 abbrev pub Named : Type 0
 Named = List ℕ × List ℕ
-
--- byte order: unsigned bytes, a proper prefix first
-abbrev pub is_before : List ℕ → List ℕ → Bool
-is_before name other = is_lt (slice_cmp nat_cmp name other)
 
 -- each name stands before the later ones
 abbrev pub RisesByName : List Named → Type 0

@@ -1,5 +1,5 @@
 -- The closure of the roots among the modules that are visible, as `link` takes it (JEP 282).
-use Rattle.std.specs.Prelude.{ℕ, ◌≡◌, ◌⊎◌, Bool, true, false, List, map, Option, Some, None}
+use Rattle.std.specs.Prelude.{ℕ, ◌≡◌, ◌⊎◌, Bool, true, false, List, map, Some, None}
 use Rattle.std.specs.Prelude.{Result, Ok, Err}
 use Rattle.std.specs.List.{zip}
 use Rattle.jm_bind.specs.Binding.{Bound}
@@ -13,10 +13,10 @@ use Rattle.jm_link.specs.declared.linking.LinkStop.{LinkStop}
 use Rattle.jm_link.specs.declared.linking.LinkStop.TheVariants as stop
 use Rattle.jm_link.specs.declared.refusal.Refusal.{Refusal}
 use Rattle.jm_link.specs.declared.refusal.Refusal.TheVariants as refusal
-use Rattle.jm_link.specs.declared.visible.VisibleModule.{VisibleModule}
+use Rattle.jm_modpath.specs.declared.visible.VisibleModule.{VisibleModule}
 use Rattle.jm_link.specs.Linked.{closing_refusal}
-use Rattle.jm_link.specs.Modules.{candidates}
-use Rattle.jm_link.specs.Resources.{Chosen, reserved}
+use Rattle.jm_modpath.specs.Modules.{candidates}
+use Rattle.jm_link.specs.Resources.{reserved}
 
 abbrev pub folder_of : VisibleModule → ModuleFolder
 folder_of m = record { folder = m.folder; files = m.files }

@@ -1,13 +1,10 @@
 pub mod ByName
 pub mod Closing
-pub mod Finding
-pub mod FoundView
 pub mod Linked
 pub mod Links
-pub mod Modules
 pub mod RefusalText
 pub mod ResourceFiles
 pub mod Resources
 pub mod Showing
-pub mod TextView
+pub mod Stops
 pub mod Written

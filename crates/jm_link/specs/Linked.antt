@@ -11,13 +11,15 @@ use Rattle.jm_closure.specs.Refusals.{Closes}
 use Rattle.jm_form.specs.Greedy.{GreedyTable}
 use Rattle.jm_form.specs.Layout.{Written, all_sized, layout, layout_table, layout_with, names_of}
 use Rattle.jm_form.specs.Trees.{first_clash}
+use Rattle.jm_modpath.specs.declared.refusal.PathRefusal.{PathRefusal}
+use Rattle.jm_modpath.specs.declared.refusal.PathRefusal.TheVariants as path
+use Rattle.jm_modpath.specs.declared.visible.VisibleModule.{VisibleModule}
+use Rattle.jm_modpath.specs.Modules.{candidates, path_refusal, visible}
 use Rattle.jm_outside.specs.Files.{Files}
 use Rattle.jm_writer.specs.Drafts.{entry_limit, image_limit, large_number}
 use Rattle.jm_link.specs.declared.refusal.Refusal.{Refusal}
 use Rattle.jm_link.specs.declared.refusal.Refusal.TheVariants as refusal
-use Rattle.jm_link.specs.declared.visible.VisibleModule.{VisibleModule}
 use Rattle.jm_link.specs.ByName.{Named}
-use Rattle.jm_link.specs.Modules.{candidates, path_refusal, visible}
 use Rattle.jm_link.specs.Resources.{Chosen, first_bad_name, link_files, reserved, resources_of}
 
 -- what is asked for: the directories of the module path, the root modules, whether providers of
@@ -106,8 +108,14 @@ abbrev pub IsFoundTo : Files → Request → List VisibleModule → Option Refus
 IsFoundTo files asked found (Some refusal) result = result ≡ Err refusal
 IsFoundTo files asked found None result = IsLinkedOf files asked found result
 
-abbrev pub IsPathTo : Files → Request → Option Refusal → Result LinkedImage Refusal → Type 0
-IsPathTo files asked (Some refusal) result = result ≡ Err refusal
+-- The module path
+
+abbrev pub path_refusal_as : PathRefusal → Refusal
+path_refusal_as (path.BadInfo path fault) = refusal.BadInfo path fault
+path_refusal_as (path.TwoModules dir name) = refusal.TwoModules dir name
+
+abbrev pub IsPathTo : Files → Request → Option PathRefusal → Result LinkedImage Refusal → Type 0
+IsPathTo files asked (Some given) result = result ≡ Err (path_refusal_as given)
 IsPathTo files asked None result =
     IsFoundTo files asked (visible files asked.directories)
     (reserved (visible files asked.directories)) result

@@ -9,7 +9,7 @@ use Rattle.jm_link.specs.declared.linking.LinkStop.{LinkStop}
 use Rattle.jm_link.specs.declared.linking.LinkStop.TheVariants as stop
 use Rattle.jm_link.specs.declared.linking.Summary.{Summary}
 use Rattle.jm_link.specs.declared.refusal.Refusal.{Refusal}
-use Rattle.jm_link.specs.declared.visible.VisibleModule.{VisibleModule}
+use Rattle.jm_modpath.specs.declared.visible.VisibleModule.{VisibleModule}
 use Rattle.jm_link.specs.ByName.{Named}
 use Rattle.jm_link.specs.Linked.{IsFoundTo, LinkedImage, LinksTo, Request, gathered}
 use Rattle.jm_link.specs.Resources.{first_bad_name, reserved}

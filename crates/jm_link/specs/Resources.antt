@@ -11,9 +11,9 @@ use Rattle.jm_names.specs.ComputedFault.{name_fault}
 use Rattle.jm_outside.specs.Files.{Files}
 use Rattle.jm_link.specs.declared.refusal.Refusal.{Refusal}
 use Rattle.jm_link.specs.declared.refusal.Refusal.TheVariants as refusal
-use Rattle.jm_link.specs.declared.visible.VisibleModule.{VisibleModule}
+use Rattle.jm_modpath.specs.declared.visible.VisibleModule.{VisibleModule}
 use Rattle.jm_link.specs.ByName.{Named, by_name}
-use Rattle.jm_link.specs.Modules.{bytes_at, candidates, inside, is_named, name_of, resource_name}
+use Rattle.jm_modpath.specs.Modules.{bytes_at, candidates, inside, is_named, name_of, resource_name}
 
 -- the modules that are linked, by their places among those found: with service binding those that
 -- are bound, else those that are reached

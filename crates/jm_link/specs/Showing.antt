@@ -1,7 +1,7 @@
 -- Modules that list the files of a shelf (this project's rule).
-use Rattle.std.specs.Prelude.{ℕ, ◌≡◌, List, Contains}
+use Rattle.std.specs.Prelude.{◌≡◌, List, Contains}
 use Rattle.jm_outside.specs.Files.{Files, names_below}
-use Rattle.jm_link.specs.declared.visible.VisibleModule.{VisibleModule}
+use Rattle.jm_modpath.specs.declared.visible.VisibleModule.{VisibleModule}
 
 -- each module has the files below its folder
 abbrev pub ListsItsFiles : Files → List VisibleModule → Type 0

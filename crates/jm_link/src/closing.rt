@@ -3,15 +3,15 @@ ghost use Rattle.std.specs.Prelude.{◌≡◌, length, map, IfOk};
 ghost use Rattle.jm_closure.specs.Names.{NamesDiffer};
 ghost use Rattle.jm_link.specs.Closing.{ClosesAmong, ClosesWith, folder_of, joined_as};
 ghost use Rattle.jm_link.specs.Closing.{stop_of_closing};
-ghost use Rattle.jm_link.specs.Modules.{candidates, is_named};
+ghost use Rattle.jm_modpath.specs.Modules.{candidates, is_named};
 ghost use Rattle.jm_link.specs.Resources.{reserved};
 
 use crate::linking::LinkStop;
 use crate::refusal::Refusal;
-use crate::visible::VisibleModule;
 use jm_bind::bind;
 use jm_bytes::{List, NoMemory, Text};
 use jm_closure::{Candidate, CloseError, close};
+use jm_modpath::VisibleModule;
 use std::alloc::Global;
 
 /// The folder of a module with its files.

@@ -5,20 +5,19 @@ ghost use Rattle.jm_closure.specs.Names.{NamesDiffer};
 ghost use Rattle.jm_names.specs.Names.{is_node};
 ghost use Rattle.jm_outside.specs.Files.{file};
 ghost use Rattle.jm_outside.specs.Outcome.{Shows};
-ghost use Rattle.jm_link.specs.Finding.{HasTexts};
+ghost use Rattle.jm_modpath.specs.Finding.{HasTexts};
 ghost use Rattle.jm_link.specs.Links.{FoundComesTo, Links, LinksBy, NamesComeTo};
-ghost use Rattle.jm_link.specs.Modules.{candidates};
+ghost use Rattle.jm_modpath.specs.Modules.{candidates};
 ghost use Rattle.jm_link.specs.ResourceFiles.{file_names, pair_of};
 ghost use Rattle.jm_link.specs.Resources.{link_files, reserved};
 ghost use Rattle.jm_link.specs.Showing.{ListsItsFiles};
 
 use crate::closing::closed_among;
 use crate::image::write_image;
-use crate::path::visible_modules;
 use crate::refusal::Refusal;
 use crate::resources::{ResourceFile, first_bad_name, link_files, read_resources};
-use crate::visible::VisibleModule;
 use jm_bytes::{List, Order, Text};
+use jm_modpath::{VisibleModule, visible_modules};
 use jm_outside::Shelf;
 use std::alloc::Global;
 

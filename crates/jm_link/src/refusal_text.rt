@@ -6,27 +6,17 @@ ghost use Rattle.jm_link.specs.RefusalText.{name_fault_text, refusal_text, space
 
 use crate::refusal::Refusal;
 use itoa::Buffer;
-use jm_bytes::{NoMemory, Text};
+use jm_bytes::{NoMemory, Text, copy_of};
 use jm_modinfo::DescriptorFault;
 use jm_names::{NameFault, to_utf8};
 use std::alloc::Global;
 
 /// Puts bytes at the end of a text.
-pub fn extend(text: &mut Vec<u8>, bytes: &[u8]) -> Result<(), NoMemory>
+fn extend(text: &mut Vec<u8>, bytes: &[u8]) -> Result<(), NoMemory>
     ensures { OnOk result (text.new.items ≡ text.old.items ++ bytes.now) }
 {
     match text.extend_from_slice(bytes) {
         Ok(()) => Ok(()),
-        Err(_) => Err(NoMemory),
-    }
-}
-
-/// A text of its own.
-pub fn text_of(alloc: Global, bytes: &[u8]) -> Result<Vec<u8>, NoMemory>
-    ensures { IfOk result (λ text. text.items ≡ bytes.now) }
-{
-    match Vec::from_slice(alloc, bytes) {
-        Ok(text) => Ok(text),
         Err(_) => Err(NoMemory),
     }
 }
@@ -44,7 +34,7 @@ fn extend_name(alloc: Global, text: &mut Vec<u8>, name: &Text) -> Result<(), NoM
 fn named(alloc: Global, kind: &[u8], name: &Text) -> Result<Vec<u8>, NoMemory>
     ensures { IfOk result (λ text. text.items ≡ kind.now ++ spaced name.now) }
 {
-    let mut text = text_of(alloc, kind)?;
+    let mut text = copy_of(alloc, kind)?;
     extend_name(alloc, &mut text, name)?;
     Ok(text)
 }
@@ -53,7 +43,7 @@ fn named(alloc: Global, kind: &[u8], name: &Text) -> Result<Vec<u8>, NoMemory>
 fn numbered(alloc: Global, kind: &[u8], number: u64) -> Result<Vec<u8>, NoMemory>
     ensures { IfOk result (λ text. text.items ≡ kind.now ++ decimal number) }
 {
-    let mut text = text_of(alloc, kind)?;
+    let mut text = copy_of(alloc, kind)?;
     let mut buffer = Buffer::new();
     extend(&mut text, buffer.format(number).as_bytes())?;
     Ok(text)
@@ -67,7 +57,7 @@ fn bad_info(alloc: Global, path: &Text, fault: DescriptorFault) -> Result<Vec<u8
     let Ok(fault) = format!(in alloc; " {fault}") else {
         return Err(NoMemory);
     };
-    let mut text = text_of(alloc, b"BadInfo ")?;
+    let mut text = copy_of(alloc, b"BadInfo ")?;
     extend(&mut text, path.as_slice())?;
     extend(&mut text, fault.as_bytes())?;
     Ok(text)
@@ -78,11 +68,11 @@ fn name_fault_text(alloc: Global, fault: NameFault) -> Result<Vec<u8>, NoMemory>
     ensures { IfOk result (λ text. text.items ≡ name_fault_text fault) }
 {
     match fault {
-        NameFault::Empty => text_of(alloc, b"Empty"),
-        NameFault::EmptyPart => text_of(alloc, b"EmptyPart"),
-        NameFault::Dots => text_of(alloc, b"Dots"),
-        NameFault::Zero => text_of(alloc, b"Zero"),
-        NameFault::TooLong => text_of(alloc, b"TooLong"),
+        NameFault::Empty => copy_of(alloc, b"Empty"),
+        NameFault::EmptyPart => copy_of(alloc, b"EmptyPart"),
+        NameFault::Dots => copy_of(alloc, b"Dots"),
+        NameFault::Zero => copy_of(alloc, b"Zero"),
+        NameFault::TooLong => copy_of(alloc, b"TooLong"),
         NameFault::NotText(at) => numbered(alloc, b"NotText ", at as u64),
     }
 }
@@ -103,7 +93,7 @@ fn bad_name(alloc: Global, name: &Text, fault: NameFault) -> Result<Vec<u8>, NoM
 fn two_modules(alloc: Global, dir: &Text, name: &Text) -> Result<Vec<u8>, NoMemory>
     ensures { IfOk result (λ text. text.items ≡ codes "TwoModules " ++ dir.now ++ spaced name.now) }
 {
-    let mut text = text_of(alloc, b"TwoModules ")?;
+    let mut text = copy_of(alloc, b"TwoModules ")?;
     extend(&mut text, dir.as_slice())?;
     extend_name(alloc, &mut text, name)?;
     Ok(text)

@@ -1,8 +1,11 @@
 //! What ends the work of a `link`, from what ends a call.
 ghost use Rattle.std.specs.Prelude.{◌≡◌};
+ghost use Rattle.jm_link.specs.Linked.{path_refusal_as};
 
 use crate::linking::LinkStop;
+use crate::refusal::Refusal;
 use jm_bytes::NoMemory;
+use jm_modpath::{PathRefusal, PathStop};
 use jm_outside::ShelfError;
 
 impl From<NoMemory> for LinkStop {
@@ -16,7 +19,7 @@ impl From<NoMemory> for LinkStop {
 }
 
 impl From<ShelfError> for LinkStop {
-    ghost use Rattle.jm_link.specs.Finding.{stop_of};
+    ghost use Rattle.jm_link.specs.Stops.{stop_of};
 
     ghost from_gives = { λ error e. e ≡ stop_of error };
 
@@ -24,6 +27,31 @@ impl From<ShelfError> for LinkStop {
         match error {
             ShelfError::Failed => LinkStop::Outside,
             ShelfError::Memory => LinkStop::Memory,
+        }
+    }
+}
+
+/// The refusal of a module path, as that of a link.
+fn path_refusal_as(refusal: PathRefusal) -> Refusal
+    ensures { result ≡ path_refusal_as refusal }
+{
+    match refusal {
+        PathRefusal::BadInfo { path, fault } => Refusal::BadInfo { path, fault },
+        PathRefusal::TwoModules { dir, name } => Refusal::TwoModules { dir, name },
+    }
+}
+
+impl From<PathStop> for LinkStop {
+    ghost use Rattle.jm_link.specs.Stops.{stop_of_path};
+
+    ghost from_gives = { λ stop e. e ≡ stop_of_path stop };
+
+    fn from(stop: PathStop) -> LinkStop {
+        match stop {
+            PathStop::Refused(refusal) => LinkStop::Refused(path_refusal_as(refusal)),
+            PathStop::NotThere(path) => LinkStop::NotThere(path),
+            PathStop::Outside => LinkStop::Outside,
+            PathStop::Memory => LinkStop::Memory,
         }
     }
 }

@@ -1,4 +1,4 @@
-use Rattle.std.proofs.Common.{◌≡◌, Option, Some, None, refl, sym, ap, ◌∙◌}
+use Rattle.std.proofs.Common.{sym, ap, ◌∙◌}
 use Rattle.jm_link.specs.Resources.{reserved}
 use Rattle.jm_link.proofs.ClosingLaws.{joined_again, none_left}
 use Rattle.jm_link.proofs.closing.closed_among.Goals as goal

@@ -1,4 +1,4 @@
-use Rattle.std.proofs.Common.{◌≡◌, ◌++◌, ◌∷◌, [], sym, ap, ◌∙◌}
+use Rattle.std.proofs.Common.{◌++◌, ◌∷◌, [], sym, ap, ◌∙◌}
 use Rattle.jm_link.specs.Closing.{module_with_folder}
 use Rattle.jm_link.proofs.ClosingLaws.{joined_more, left_more}
 use Rattle.jm_link.proofs.closing.joined.Goals as goal

@@ -1,4 +1,4 @@
-use Rattle.std.proofs.Common.{◌≡◌, drop, length, map, take}
+use Rattle.std.proofs.Common.{◌≡◌, drop, length, take}
 use Rattle.jm_link.specs.Closing.{joined_as}
 use Rattle.jm_link.proofs.closing.joined.Given as goal
 

@@ -1,6 +1,6 @@
 use Rattle.std.proofs.Common.{◌≡◌, map}
 use Rattle.jm_link.specs.Closing.{folder_of}
-use Rattle.jm_link.specs.Modules.{candidates}
+use Rattle.jm_modpath.specs.Modules.{candidates}
 use Rattle.jm_link.proofs.closing.parted.Given as goal
 
 abbrev pub invariant-loop-module : goal.invariant-loop-module

@@ -1,8 +1,6 @@
-use Rattle.std.proofs.Common.{◌≡◌, sym}
 use Rattle.jm_link.specs.Linked.{Request}
 use Rattle.jm_link.specs.Links.{ComesTo, FoundComesTo}
-use Rattle.jm_link.proofs.LinkingLaws.{found_to, links_as, links_sooner, path_to, shown_lists}
-use Rattle.jm_link.proofs.StepLaws.{passed_on}
+use Rattle.jm_link.proofs.LinkingLaws.{found_to, links_as, links_sooner, shown_lists}
 use Rattle.jm_link.proofs.linking.link.Goals as goal
 
 pub link_found-requires-clause-told : goal.link_found-requires-clause-told

@@ -1,4 +1,4 @@
-use Rattle.std.proofs.Common.{◌≡◌, ◌<◌, length, sym, ap, ◌∙◌}
+use Rattle.std.proofs.Common.{◌<◌, length}
 use Rattle.jm_bytes.proofs.Members.{all_from_contains}
 use Rattle.jm_link.proofs.FileLaws.{files_free}
 use Rattle.jm_link.proofs.LinkingLaws.{named_free, named_there}

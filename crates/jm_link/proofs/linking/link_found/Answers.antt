@@ -1,9 +1,9 @@
-use Rattle.std.proofs.Common.{◌≡◌, ◌<◌, length, sym, ap, ◌∙◌, subst}
-use Rattle.jm_link.specs.Modules.{candidates}
+use Rattle.std.proofs.Common.{◌<◌, subst}
+use Rattle.jm_modpath.specs.Modules.{candidates}
 use Rattle.jm_link.proofs.ChosenLaws.{chosen_differ, chosen_within}
 use Rattle.jm_link.proofs.ClosingLaws.{candidates_length}
 use Rattle.jm_link.proofs.LinkingLaws.{closed_to, links_as, request, stopped_to}
-use Rattle.jm_link.proofs.StepLaws.{passed_on}
+use Rattle.jm_modpath.proofs.StepLaws.{passed_on}
 use Rattle.jm_link.proofs.linking.link_found.Goals as goal
 
 pub returns-in_err-found : goal.returns-in_err-found

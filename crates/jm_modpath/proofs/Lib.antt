@@ -1,0 +1,10 @@
+pub mod FolderLaws
+pub mod FoundLaws
+pub mod InfoAnswers
+pub mod PackageLaws
+pub mod PathLaws
+pub mod PathVectors
+pub mod RisingLaws
+pub mod SetLaws
+pub mod StepLaws
+pub mod TextCuts

@@ -1,0 +1,171 @@
+-- The steps that look for modules: what each comes to, from what its calls answered.
+use Rattle.std.proofs.Common.{◌≡◌, ℕ, zero, suc, ◌+◌, ◌<◌, Bool, true, false, cond, ◌&&◌, not, List, [], ◌∷◌, ◌++◌, append_assoc, length, drop, get_or, IsUtf8, Contains, Option, Some, None, unwrap_or, option_and_then, Result, Ok, Err, refl, sym, ap, ◌∙◌, subst, arith, filter_map}
+use Rattle.std.proofs.lemmas.Bool.{eqb-true, ltb-true, false≢true}
+use Rattle.std.proofs.lemmas.List.{drop_more}
+use Rattle.std.proofs.lemmas.Str.{IsUtf8-from_ascii}
+use Rattle.std.proofs.lemmas.Slice.Eq.{bytes_eq-Decides}
+use Rattle.std.specs.Prelude.{nat_lt}
+use Rattle.std.specs.Str.{IsAscii}
+use Rattle.std.specs.List.{before_first, after_first, cons_option, list_all, list_any}
+use Rattle.std.specs.Option.{is_some}
+use Rattle.std.specs.Result.{IsErrAnd}
+use Rattle.std.specs.Str.{bytes_eq}
+use Rattle.jm_bytes.proofs.Choice.{same_some}
+use Rattle.jm_bytes.proofs.Cuts.{first_parts}
+use Rattle.jm_bytes.proofs.Members.{any_contains, from_filter_map}
+use Rattle.jm_modinfo.specs.declared.descriptor.Descriptor.{Descriptor}
+use Rattle.jm_names.specs.Names.{is_empty, is_slash}
+use Rattle.jm_outside.specs.Files.{Files, after_front, file, names_below}
+use Rattle.jm_outside.specs.Outcome.{Shows}
+use Rattle.jm_outside.proofs.Laws.{names_below-exact}
+use Rattle.jm_outside.proofs.Names.{after_front-join}
+use Rattle.jm_modpath.specs.declared.refusal.PathStop.{PathStop}
+use Rattle.jm_modpath.specs.declared.refusal.PathStop.TheVariants as stop
+use Rattle.jm_modpath.specs.declared.refusal.PathRefusal.{PathRefusal}
+use Rattle.jm_modpath.specs.declared.visible.VisibleModule.{VisibleModule}
+use Rattle.jm_modpath.specs.Finding.{Comes, added_due, folder_due, folders_among, folders_due, followed, info_due, names_within, refused_at, shown_due}
+use Rattle.jm_modpath.specs.Modules.{folder_info, folder_with_info, info_in, info_name, info_path, inside}
+use Rattle.jm_modpath.proofs.RisingLaws.{from_rising}
+
+ascii : (bs : List ℕ) → list_all (λ b. nat_lt b 128) bs ≡ true → IsAscii bs
+ascii [] all i = omega arith
+ascii (b ∷ bs) all i = go (nat_lt b 128) refl all i (λ rest k. ascii bs rest k)
+  where
+    go : (t : Bool) → nat_lt b 128 ≡ t → (t && list_all (λ b. nat_lt b 128) bs) ≡ true → (i : ℕ) → (list_all (λ b. nat_lt b 128) bs ≡ true → IsAscii bs) → get_or (b ∷ bs) i 0 < 128
+    go true is rest zero others = ltb-true b 128 is
+    go true is rest (suc i) others = others rest i
+    go false is rest i others = absurd (false≢true rest)
+
+pub info_is_text : IsUtf8 info_name
+info_is_text = IsUtf8-from_ascii info_name (ascii info_name refl)
+
+-- Steps
+
+pub comes_weaker : {A : Type 0} {P Q : Type 0} (due : Result A PathRefusal) (r : Result A PathStop) → (P → Q) → Comes P due r → Comes Q due r
+comes_weaker due (Ok x) more h = h
+comes_weaker due (Err (stop.Refused e)) more h = h
+comes_weaker due (Err (stop.NotThere path)) more h = more h
+comes_weaker due (Err stop.Outside) more h = h
+comes_weaker due (Err stop.Memory) more h = h
+
+-- a step that went on, and what came of the next one
+pub comes_next : {A B : Type 0} (due : Result A PathRefusal) (next : A → Result B PathRefusal) (x : A) (r : Result B PathStop) → due ≡ Ok x → Comes ⊥ (next x) r → Comes ⊥ (followed due next) r
+comes_next due next x r is h = rw is h
+
+-- a step that ended the work
+pub comes_ended : {A B : Type 0} (due : Result A PathRefusal) (next : A → Result B PathRefusal) (e : PathStop) → Comes ⊥ due (Err e) → Comes ⊥ (followed due next) (Err e)
+comes_ended due next (stop.Refused r) h = rw h refl
+comes_ended due next (stop.NotThere path) h = h
+comes_ended due next stop.Outside h = tt
+comes_ended due next stop.Memory h = tt
+
+-- Told
+
+pub told_more : (told : Option Files) (P Q : Files → Type 0) → ((files : Files) → P files → Q files) → Shows told P → Shows told Q
+told_more None P Q more h = tt
+told_more (Some files) P Q more h = more files h
+
+pub told_both : (told : Option Files) (P Q R : Files → Type 0) → ((files : Files) → P files → Q files → R files) → Shows told P → Shows told Q → Shows told R
+told_both None P Q R more h k = tt
+told_both (Some files) P Q R more h k = more files h k
+
+-- The file of a folder
+
+pub read_told : (told : Option Files) (folder path bytes : List ℕ) (r : Result Descriptor PathStop) → path ≡ info_path folder → Shows told (λ files. Some bytes ≡ file files path) → Comes ⊥ (refused_at path (info_in bytes)) r → Shows told (λ files. Comes (file files (info_path folder) ≡ None) (info_due folder (folder_info files folder)) r)
+read_told told folder path bytes r is read comes =
+    told_more told _ _
+    (λ files found.
+    let there : info_in bytes ≡ folder_info files folder = ap (λ o. info_in (unwrap_or o [])) (found ∙ ap (file files) is) in
+    let due = ap (refused_at path) there ∙ ap (λ p. refused_at p (folder_info files folder)) is in
+    comes_weaker (info_due folder (folder_info files folder)) r (λ (h : ⊥). absurd h) (subst (λ d. Comes ⊥ d r) due comes))
+    read
+
+-- a told shelf has the file of a folder with one
+folder_is : (name folder : List ℕ) → folder_with_info name ≡ Some folder → name ≡ folder ++ 47 ∷ info_name
+folder_is name folder found = go (list_any is_slash name) refl found
+  where
+    parts : (full same : Bool) (before : List ℕ) → cond (full && same) (Some before) None ≡ Some folder → (before ≡ folder) × (same ≡ true)
+    parts true true before h = (same_some before folder h, refl)
+    parts true false before h = cc
+    parts false same before h = cc
+
+    go : (b : Bool) → list_any is_slash name ≡ b → folder_with_info name ≡ Some folder → name ≡ folder ++ 47 ∷ info_name
+    go true has h =
+        let cut = first_parts is_slash name 0 has in
+        let both = parts (not (is_empty (before_first is_slash name))) (bytes_eq (after_first is_slash name) info_name) (before_first is_slash name) (rw has at h) in
+        let last = (bytes_eq-Decides (after_first is_slash name) info_name).0 both.1 in
+        sym cut.2 ∙ ap (λ f. f ++ cut.0 ∷ after_first is_slash name) both.0 ∙ ap (λ x. folder ++ x ∷ after_first is_slash name) (eqb-true cut.0 47 cut.1) ∙ ap (λ rest. folder ++ 47 ∷ rest) last
+    go false has h =
+        let nothing : ◌≡◌ {A = Option (List ℕ)} None (Some folder) = rw has at h in
+        cc
+
+-- a file that is listed is there
+pub listed_there : (files : Files) (directory name : List ℕ) → Contains (names_below directory files) name → file files (inside directory name) ≡ None → ⊥
+listed_there files directory name listed none =
+    let found = any_contains (bytes_eq name) (names_below directory files) name listed ((bytes_eq-Decides name name).1 refl) in
+    false≢true (sym (ap is_some none) ∙ sym (names_below-exact directory name files) ∙ found)
+
+pub info_there : (files : Files) (directory folder : List ℕ) → Contains (folders_among (names_below directory files)) folder → file files (info_path (inside directory folder)) ≡ None → ⊥
+info_there files directory folder listed none =
+    let from = from_filter_map folder_with_info (names_below directory files) folder (from_rising (filter_map folder_with_info (names_below directory files)) folder listed) in
+    let name = folder_is from.0 folder from.2 in
+    let path : info_path (inside directory folder) ≡ inside directory (folder ++ 47 ∷ info_name) = append_assoc directory (47 ∷ folder) (47 ∷ info_name) in
+    listed_there files directory (folder ++ 47 ∷ info_name) (subst (Contains (names_below directory files)) name from.1) (rw path at none)
+
+-- the names below a folder of a directory
+pub below_within : (files : Files) (directory folder : List ℕ) → names_below (inside directory folder) files ≡ names_within folder (names_below directory files)
+below_within [] directory folder = refl
+below_within (f ∷ files) directory folder =
+    let join = after_front-join (directory ++ 47 ∷ []) (folder ++ 47 ∷ []) f.0 in
+    let front : inside directory folder ++ 47 ∷ [] ≡ (directory ++ 47 ∷ []) ++ (folder ++ 47 ∷ []) = append_assoc directory (47 ∷ folder) (47 ∷ []) ∙ sym (append_assoc directory (47 ∷ []) (folder ++ 47 ∷ [])) in
+    rw (ap (λ a. after_front a f.0) front ∙ join, below_within files directory folder) (go (after_front (directory ++ 47 ∷ []) f.0))
+  where
+    go : (o : Option (List ℕ)) → cons_option (option_and_then (after_front (folder ++ 47 ∷ [])) o) (names_within folder (names_below directory files)) ≡ names_within folder (cons_option o (names_below directory files))
+    go None = refl
+    go (Some name) = refl
+
+-- A folder
+
+pub folder_shown : (told : Option Files) (directory folder path : List ℕ) (names : List (List ℕ)) (earlier : List VisibleModule) (d : Descriptor) (r : Result VisibleModule PathStop) → path ≡ inside directory folder
+    → Shows told (λ files. names ≡ names_below directory files) → Shows told (λ files. Comes (file files (info_path path) ≡ None) (info_due path (folder_info files path)) (Ok d))
+    → Comes ⊥ (shown_due directory earlier path d (names_within folder names)) r → Shows told (λ files. Comes ⊥ (folder_due files directory earlier folder) r)
+folder_shown told directory folder path names earlier d r is listed read shown =
+    told_both told _ _ _
+    (λ files named info.
+    let paths = ap (names_within folder) named ∙ sym (below_within files directory folder) in
+    comes_next (info_due (inside directory folder) (folder_info files (inside directory folder))) (λ e. shown_due directory earlier (inside directory folder) e (names_below (inside directory folder) files)) d r
+    (rw is at info)
+    (rw (is, paths) at shown))
+    listed read
+
+pub folder_ended : (told : Option Files) (directory folder path : List ℕ) (names : List (List ℕ)) (earlier : List VisibleModule) (e : PathStop) → path ≡ inside directory folder → Contains (folders_among names) folder
+    → Shows told (λ files. names ≡ names_below directory files) → Shows told (λ files. Comes (file files (info_path path) ≡ None) (info_due path (folder_info files path)) (Err e))
+    → Shows told (λ files. Comes ⊥ (folder_due files directory earlier folder) (Err e))
+folder_ended told directory folder path names earlier e is among listed read =
+    told_both told _ _ _
+    (λ files named info.
+    let none : file files (info_path path) ≡ None → ⊥ = λ h. info_there files directory folder (rw named at among) (rw is at h) in
+    comes_ended (info_due (inside directory folder) (folder_info files (inside directory folder))) (λ d. shown_due directory earlier (inside directory folder) d (names_below (inside directory folder) files)) e
+    (subst (λ p. Comes ⊥ (info_due p (folder_info files p)) (Err e)) is (comes_weaker {A = Descriptor} (info_due path (folder_info files path)) (Err e) none info)))
+    listed read
+
+pub read_none : (told : Option Files) (folder path : List ℕ) → path ≡ info_path folder → Shows told (λ files. None ≡ file files path) → Shows told (λ files. file files (info_path folder) ≡ None)
+read_none told folder path is read = told_more told _ _ (λ files found. ap (file files) (sym is) ∙ sym found) read
+
+-- The folders of a directory
+
+-- one folder more
+pub folders_next : (files : Files) (directory : List ℕ) (folders : List (List ℕ)) (i : ℕ) (folder : List ℕ) (earlier more : List VisibleModule) → i < length folders → folder ≡ get_or folders i folder → Comes ⊥ (added_due files directory earlier folder) (Ok more) → folders_due files directory more (drop (i + 1) folders) ≡ folders_due files directory earlier (drop i folders)
+folders_next files directory folders i folder earlier more below is comes =
+    rw (drop_more folders i folder below, ← is, comes) refl
+
+-- the folder that ends the work
+pub folders_ended : (files : Files) (directory : List ℕ) (folders : List (List ℕ)) (i : ℕ) (folder : List ℕ) (earlier : List VisibleModule) (e : PathStop) → i < length folders → folder ≡ get_or folders i folder → Comes ⊥ (added_due files directory earlier folder) (Err e) → Comes ⊥ (folders_due files directory earlier (drop i folders)) (Err e)
+folders_ended files directory folders i folder earlier e below is comes =
+    subst (λ left. Comes ⊥ (folders_due files directory earlier left) (Err e)) (sym (drop_more folders i folder below ∙ ap (λ f. f ∷ drop (i + 1) folders) (sym is)))
+    (comes_ended (added_due files directory earlier folder) (λ ms. folders_due files directory ms (drop (i + 1) folders)) e comes)
+
+-- the error that a `?` passed on
+pub passed_on : {A E : Type 0} (r : Result A E) (is : E) → IsErrAnd r (λ e. e ≡ is) → r ≡ Err is
+passed_on (Ok x) is gives = absurd gives
+passed_on (Err e) is gives = ap (λ s. Err s) gives

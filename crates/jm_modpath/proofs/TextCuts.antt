@@ -1,0 +1,82 @@
+-- What is cut out of a text at a slash is text, and what is put together with a slash.
+use Rattle.std.proofs.Common.{◌≡◌, ℕ, ◌+◌, ◌<◌, ◌==◌, Bool, true, false, List, [], ◌∷◌, ◌++◌, take, drop, length, length-append, get_or, cond, All, IsUtf8, Option, Some, None, Result, Ok, Err, IfOk, refl, sym, subst, arith, rules, lit<}
+use Rattle.std.specs.List.{list_any, before_first, filter_map, position_or_len}
+use Rattle.std.specs.Str.{IsCharBoundary}
+use Rattle.std.proofs.lemmas.Bool.{eqb-true}
+use Rattle.std.proofs.lemmas.List.{take_at, drop_at, take_more}
+use Rattle.std.proofs.lemmas.List.Elements.{filter_map-append}
+use Rattle.std.proofs.lemmas.List.Sums.{passes_at_first}
+use Rattle.std.proofs.lemmas.Str.{IsCharBoundary-before_ascii, IsCharBoundary-from_take, IsUtf8-append, IsUtf8-drop, IsUtf8-encode, IsUtf8-take, encode_ascii}
+use Rattle.jm_bytes.proofs.Firsts.{position_below}
+use Rattle.jm_bytes.proofs.Members.{all_filter_map}
+use Rattle.jm_names.specs.Names.{is_slash}
+use Rattle.jm_outside.specs.Files.{after_front}
+use Rattle.jm_modpath.specs.Finding.{folders_among, names_within}
+use Rattle.jm_modpath.specs.Modules.{folder_with_info, inside}
+use Rattle.jm_modpath.proofs.SetLaws.{rising_all}
+
+pub before_is_text : (text : List ℕ) → IsUtf8 text → list_any is_slash text ≡ true → IsUtf8 (before_first is_slash text)
+before_is_text text is some =
+    let at = position_or_len is_slash text in
+    let below = position_below is_slash text some in
+    let byte = eqb-true (get_or text at 0) 47 (passes_at_first is_slash text 0 below) in
+    IsUtf8-take text at is (IsCharBoundary-before_ascii text at below (omega (arith, byte)))
+
+-- the folder of a text is text
+pub folder_is_text : (name folder : List ℕ) → IsUtf8 name → folder_with_info name ≡ Some folder → IsUtf8 folder
+folder_is_text name folder is found = go (list_any is_slash name) refl found
+  where
+    some : {A : Type 0} (test : Bool) (x y : A) → cond test (Some x) None ≡ Some y → x ≡ y
+    some true x y h = cc
+    some false x y h = cc
+
+    go : (b : Bool) → list_any is_slash name ≡ b → folder_with_info name ≡ Some folder → IsUtf8 folder
+    go true has h = subst IsUtf8 (some _ (before_first is_slash name) folder h) (before_is_text name is has)
+    go false has h =
+        let nothing : ◌≡◌ {A = Option (List ℕ)} None (Some folder) = rw has at h in
+        cc
+
+pub slash : IsUtf8 (47 ∷ [])
+slash = rw (encode_ascii 47 (lit< tt)) at (IsUtf8-encode 47 (search rules))
+
+-- a name within a folder
+pub inside_is_text : (folder name : List ℕ) → IsUtf8 folder → IsUtf8 name → IsUtf8 (inside folder name)
+inside_is_text folder name first last = IsUtf8-append folder (47 ∷ name) first (IsUtf8-append (47 ∷ []) name slash last)
+
+behind_is_text : (a b : List ℕ) → IsUtf8 a → IsUtf8 (a ++ b) → IsUtf8 b
+behind_is_text a b front whole =
+    let cut : IsCharBoundary (a ++ b) (length a) = IsCharBoundary-from_take (a ++ b) (length a) whole (omega (arith, length-append a b)) (rw (take_at a b (length a) refl) front) in
+    let rest : IsUtf8 (drop (length a) (a ++ b)) = IsUtf8-drop (a ++ b) (length a) whole cut in
+    rw (drop_at a b (length a) refl) at rest
+
+-- what a text with a front is
+pub front_of : (front text rest : List ℕ) → after_front front text ≡ Some rest → text ≡ front ++ rest
+front_of [] text rest h = cc
+front_of (b ∷ front) [] rest h = cc
+front_of (b ∷ front) (c ∷ text) rest h = go (b == c) refl h (λ h. front_of front text rest h)
+  where
+    go : (t : Bool) → (b == c) ≡ t → cond t (after_front front text) None ≡ Some rest → (after_front front text ≡ Some rest → text ≡ front ++ rest) → c ∷ text ≡ b ∷ (front ++ rest)
+    go true is h later = let e : b ≡ c = eqb-true b c is in let t : text ≡ front ++ rest = later h in cc
+    go false is h later = cc
+
+-- the names within a folder are text
+pub within_is_text : (folder : List ℕ) (names : List (List ℕ)) → IsUtf8 folder → All IsUtf8 names → All IsUtf8 (names_within folder names)
+within_is_text folder names is all =
+    let front = IsUtf8-append folder (47 ∷ []) is slash in
+    all_filter_map IsUtf8 IsUtf8 (after_front (folder ++ 47 ∷ []))
+    (λ name rest own h. behind_is_text (folder ++ 47 ∷ []) rest front (subst IsUtf8 (front_of (folder ++ 47 ∷ []) name rest h) own))
+    names all
+
+-- an answer whose texts are known to be text
+pub texts_of : {E : Type 0} (r : Result (List (List ℕ)) E) (texts : List (List ℕ)) → IfOk r (λ found. found ≡ texts) → All IsUtf8 texts → IfOk r (All IsUtf8)
+texts_of (Ok found) texts is all = rw is all
+texts_of (Err e) texts is all = tt
+
+-- the folders among names are text
+pub folders_are_text : (names : List (List ℕ)) → All IsUtf8 names → All IsUtf8 (folders_among names)
+folders_are_text names all = rising_all IsUtf8 (filter_map folder_with_info names) (all_filter_map IsUtf8 IsUtf8 folder_with_info (λ name folder own h. folder_is_text name folder own h) names all)
+
+-- a list that grows with what a function gives of each item
+pub grown : {X Y : Type 0} (f : X → Option Y) (xs : List X) (i : ℕ) (x : X) (old new : List Y) → i < length xs → x ≡ get_or xs i x → new ≡ old ++ filter_map f (x ∷ []) → old ≡ filter_map f (take i xs) → new ≡ filter_map f (take (i + 1) xs)
+grown f xs i x old new below is put so_far =
+    rw (put, so_far, take_more xs i x below, ← is) (sym (filter_map-append f (take i xs) (x ∷ [])))

@@ -1,0 +1,161 @@
+-- What the steps come to that look for the modules of a module path (this project's rule).
+use Rattle.std.specs.Prelude.{ℕ, ◌≡◌, ◌≢◌, true, List, [], ◌∷◌, ◌++◌, filter_map}
+use Rattle.std.specs.Prelude.{if◌then◌else◌}
+use Rattle.std.specs.Prelude.{All, AllPairs, IsUtf8, Option, Some, None, option_map, Result, Ok}
+use Rattle.std.specs.Prelude.{Err, codes, not, ◌&&◌, nat_eq}
+use Rattle.std.specs.List.{before_last, ends_with, list_any}
+use Rattle.jm_bytes.specs.Checks.{first_fault, unless_fault}
+use Rattle.jm_form.specs.Rising.{rising}
+use Rattle.jm_form.specs.Trees.{is_meta, path_of}
+use Rattle.jm_modinfo.specs.declared.descriptor.Descriptor.{Descriptor}
+use Rattle.jm_modinfo.specs.declared.faults.DescriptorFault.{DescriptorFault}
+use Rattle.jm_modinfo.specs.Constants.{is_legal}
+use Rattle.jm_names.specs.Names.{dotted, is_empty, is_slash}
+use Rattle.jm_outside.specs.declared.shelf.ShelfError.{ShelfError}
+use Rattle.jm_outside.specs.declared.shelf.ShelfError.TheVariants as outside
+use Rattle.jm_outside.specs.Files.{Files, after_front, names_below}
+use Rattle.jm_modpath.specs.declared.directory.InfoStop.{InfoStop}
+use Rattle.jm_modpath.specs.declared.directory.InfoStop.TheVariants as info_stop
+use Rattle.jm_modpath.specs.declared.refusal.PathStop.{PathStop}
+use Rattle.jm_modpath.specs.declared.refusal.PathStop.TheVariants as stop
+use Rattle.jm_modpath.specs.declared.refusal.PathRefusal.{PathRefusal}
+use Rattle.jm_modpath.specs.declared.refusal.PathRefusal.TheVariants as refusal
+use Rattle.jm_modpath.specs.declared.visible.VisibleModule.{VisibleModule}
+use Rattle.jm_modpath.specs.Modules.{directory_checks, folder_info, folder_with_info, info_path}
+use Rattle.jm_modpath.specs.Modules.{inside, is_named}
+use Rattle.jm_modpath.specs.Modules.{module_with, modules_in, name_of, path_refusal, unhidden}
+use Rattle.jm_modpath.specs.Modules.{visible}
+
+-- why a call of a shelf ends the work
+abbrev pub stop_of : ShelfError → PathStop
+stop_of outside.Failed = stop.Outside
+stop_of outside.Memory = stop.Memory
+
+-- a step came to this value or refusal, unless the outside failed or no memory was found; a file
+-- that isn't there shows that something else holds
+abbrev pub Comes : {A : Type 0} → Type 0 → Result A PathRefusal → Result A PathStop → Type 0
+Comes absent due (Ok value) = due ≡ Ok value
+Comes absent due (Err (stop.Refused r)) = due ≡ Err r
+Comes absent due (Err (stop.NotThere path)) = absent
+Comes absent due (Err stop.Outside) = Unit {0}
+Comes absent due (Err stop.Memory) = Unit {0}
+
+-- one step, and what follows with its value
+abbrev pub followed : {A B : Type 0} → Result A PathRefusal → (A → Result B PathRefusal)
+    → Result B PathRefusal
+followed (Ok value) next = next value
+followed (Err r) next = Err r
+
+-- Names
+
+-- the folders with a descriptor among the names below a directory
+abbrev pub folders_among : List (List ℕ) → List (List ℕ)
+folders_among names = rising (filter_map folder_with_info names)
+
+-- the names within a folder of a directory
+abbrev pub names_within : List ℕ → List (List ℕ) → List (List ℕ)
+names_within folder names = filter_map (after_front (folder ++ 47 ∷ [])) names
+
+-- the folder of a resource that is a class in a package
+abbrev pub class_folder : List ℕ → Option (List ℕ)
+class_folder name =
+    if ends_with nat_eq name (codes ".class") && list_any is_slash (path_of name)
+    && not (is_empty (before_last is_slash (path_of name)))
+    && not (is_meta (before_last is_slash (path_of name)))
+    then Some (before_last is_slash (path_of name))
+    else None
+
+-- the package of a resource that is a class in one
+abbrev pub class_package : List ℕ → Option (List ℕ)
+class_package name = option_map dotted (class_folder name)
+
+-- Folders
+
+-- bytes were read as the descriptor of a module, or refused by their first fault
+abbrev pub Described : Result Descriptor DescriptorFault → Result Descriptor InfoStop → Type 0
+Described due (Ok d) = due ≡ Ok d
+Described due (Err (info_stop.Fault fault)) = due ≡ Err fault
+Described due (Err info_stop.Memory) = Unit {0}
+
+-- the descriptor, or the refusal of the file at this path
+abbrev pub refused_at : List ℕ → Result Descriptor DescriptorFault → Result Descriptor PathRefusal
+refused_at path (Err fault) = Err (refusal.BadInfo path fault)
+refused_at path (Ok d) = Ok d
+
+abbrev pub info_due : List ℕ → Result Descriptor DescriptorFault → Result Descriptor PathRefusal
+info_due folder info = refused_at (info_path folder) info
+
+-- the module of a folder of a directory with this descriptor and these files, where earlier folders
+-- showed some modules
+abbrev pub shown_due : List ℕ → List VisibleModule → List ℕ → Descriptor → List (List ℕ)
+    → Result VisibleModule PathRefusal
+shown_due directory earlier folder d paths =
+    if is_named earlier d.name then Err (refusal.TwoModules directory d.name)
+    else Ok (module_with folder d paths)
+
+abbrev pub folder_due : Files → List ℕ → List VisibleModule → List ℕ
+    → Result VisibleModule PathRefusal
+folder_due files directory earlier folder =
+    followed (info_due (inside directory folder) (folder_info files (inside directory folder)))
+    (λ d. shown_due directory earlier (inside directory folder) d
+    (names_below (inside directory folder) files))
+
+-- the earlier modules and that of the folder
+abbrev pub added_due : Files → List ℕ → List VisibleModule → List ℕ
+    → Result (List VisibleModule) PathRefusal
+added_due files directory earlier folder =
+    followed (folder_due files directory earlier folder) (λ m. Ok (earlier ++ m ∷ []))
+
+-- the modules of a directory, once earlier folders showed some and these are left
+abbrev pub folders_due : Files → List ℕ → List VisibleModule → List (List ℕ)
+    → Result (List VisibleModule) PathRefusal
+folders_due files directory earlier [] = Ok earlier
+folders_due files directory earlier (folder ∷ folders) =
+    followed (added_due files directory earlier folder)
+    (λ ms. folders_due files directory ms folders)
+
+-- Directories
+
+abbrev pub directory_due : Files → List ℕ → Result (List VisibleModule) PathRefusal
+directory_due files directory =
+    unless_fault (first_fault (directory_checks files directory)) (modules_in files directory)
+
+-- the modules found, with those of them that no earlier one hides
+abbrev pub with_unhidden : List VisibleModule → List VisibleModule → List VisibleModule
+with_unhidden found ms = found ++ unhidden found ms
+
+-- the modules found, and those of a directory that they don't hide
+abbrev pub shown_more : Files → List VisibleModule → List ℕ
+    → Result (List VisibleModule) PathRefusal
+shown_more files found directory =
+    followed (directory_due files directory) (λ ms. Ok (with_unhidden found ms))
+
+-- the modules of a path, once earlier directories showed some and these are left
+abbrev pub directories_due : Files → List VisibleModule → List (List ℕ)
+    → Result (List VisibleModule) PathRefusal
+directories_due files found [] = Ok found
+directories_due files found (directory ∷ directories) =
+    followed (shown_more files found directory) (λ ms. directories_due files ms directories)
+
+-- the rule: the modules that a path shows, or its first refusal; a told shelf has what it lists
+abbrev pub ShowsModules : Files → List (List ℕ) → Result (List VisibleModule) PathStop → Type 0
+ShowsModules files directories (Ok found) =
+    (path_refusal files directories ≡ None) × (found ≡ visible files directories)
+ShowsModules files directories (Err (stop.Refused r)) = path_refusal files directories ≡ Some r
+ShowsModules files directories (Err (stop.NotThere path)) = ⊥
+ShowsModules files directories (Err stop.Outside) = Unit {0}
+ShowsModules files directories (Err stop.Memory) = Unit {0}
+
+-- Modules found
+
+-- the path of a module's folder and those of its files are text, the files differ, and its name is
+-- legal
+pub record HasTexts (m : VisibleModule) : Type 0 where
+  pub folder : IsUtf8 m.folder
+  pub files : All IsUtf8 m.files
+  pub differ : AllPairs (λ path other. path ≢ other) m.files
+  pub legal : is_legal (name_of m) ≡ true
+
+-- no two modules have one name
+abbrev pub Differing : List VisibleModule → Type 0
+Differing ms = AllPairs (λ m k. name_of m ≢ name_of k) ms

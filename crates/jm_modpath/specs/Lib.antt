@@ -1,0 +1,5 @@
+pub mod ByteOrder
+pub mod Finding
+pub mod FoundView
+pub mod Modules
+pub mod TextView

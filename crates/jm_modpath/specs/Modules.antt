@@ -1,0 +1,156 @@
+-- The modules that a module path shows: folders of its directories that hold a `module-info.class`
+-- (JEP 261, exploded modules; that a folder stands directly in a directory, and which module hides
+-- another, is this project's rule).
+use Rattle.std.specs.Prelude.{ℕ, ◌&&◌, not, Bool, List, [], ◌∷◌, ◌++◌, length, map, take, codes}
+use Rattle.std.specs.Prelude.{Option, Some, None, unwrap_or, Result, Ok, Err, slice_index_or}
+use Rattle.std.specs.Prelude.{if◌then◌else◌}
+use Rattle.std.specs.List.{after_first, before_first, filter_map, flat_map, list_any}
+use Rattle.std.specs.List.{range_with_len}
+use Rattle.std.specs.Str.{bytes_eq}
+use Rattle.jm_bytes.specs.Checks.{fault_if, first_fault}
+use Rattle.jm_class.specs.declared.class.ClassFault.{ClassFault}
+use Rattle.jm_class.specs.Classes.{ClassData}
+use Rattle.jm_class.specs.ComputedClass.{class_of}
+use Rattle.jm_closure.specs.declared.candidate.Candidate.{Candidate}
+use Rattle.jm_form.specs.Rising.{rising}
+use Rattle.jm_form.specs.Trees.{class_packages}
+use Rattle.jm_modinfo.specs.declared.descriptor.Descriptor.{Descriptor}
+use Rattle.jm_modinfo.specs.declared.faults.DescriptorFault.{DescriptorFault}
+use Rattle.jm_modinfo.specs.declared.faults.DescriptorFault.TheVariants as fault_of
+use Rattle.jm_modinfo.specs.declared.faults.InfoFault.{InfoFault}
+use Rattle.jm_modinfo.specs.ComputedInfo.{info_of}
+use Rattle.jm_names.specs.Names.{is_empty, is_slash}
+use Rattle.jm_names.specs.UtfForms.{modified}
+use Rattle.jm_outside.specs.Files.{Files, file, names_below}
+use Rattle.jm_modpath.specs.declared.refusal.PathRefusal.{PathRefusal}
+use Rattle.jm_modpath.specs.declared.refusal.PathRefusal.TheVariants as refusal
+use Rattle.jm_modpath.specs.declared.visible.VisibleModule.{VisibleModule}
+
+-- Paths
+
+-- a name within a folder, as a path
+abbrev pub inside : List ℕ → List ℕ → List ℕ
+inside folder name = folder ++ 47 ∷ name
+
+-- the file that makes a folder a module
+abbrev pub info_name : List ℕ
+info_name = codes "module-info.class"
+
+abbrev pub info_path : List ℕ → List ℕ
+info_path folder = inside folder info_name
+
+-- the bytes of a file that is there
+abbrev pub bytes_at : Files → List ℕ → List ℕ
+bytes_at files path = unwrap_or (file files path) []
+
+-- The folders of a directory
+
+-- the folder of a file `FOLDER/module-info.class`
+abbrev pub folder_with_info : List ℕ → Option (List ℕ)
+folder_with_info name =
+    if list_any is_slash name && not (is_empty (before_first is_slash name))
+    && bytes_eq (after_first is_slash name) info_name
+    then Some (before_first is_slash name)
+    else None
+
+-- the names of the folders of a directory that are modules, rising
+abbrev pub folders_in : Files → List ℕ → List (List ℕ)
+folders_in files directory = rising (filter_map folder_with_info (names_below directory files))
+
+-- What a folder shows
+
+abbrev pub info_with : Result ClassData ClassFault → Result Descriptor DescriptorFault
+info_with (Err fault) = Err (fault_of.Class fault)
+info_with (Ok c) = described (info_of c)
+  where
+    described : Result Descriptor InfoFault → Result Descriptor DescriptorFault
+    described (Ok d) = Ok d
+    described (Err fault) = Err (fault_of.Info fault)
+
+-- what bytes say as the class of a module
+abbrev pub info_in : List ℕ → Result Descriptor DescriptorFault
+info_in bytes = info_with (class_of bytes)
+
+-- what the file of a folder says
+abbrev pub folder_info : Files → List ℕ → Result Descriptor DescriptorFault
+folder_info files folder = info_in (bytes_at files (info_path folder))
+
+-- the name of the resource that a file of a module is
+abbrev pub resource_name : List ℕ → List ℕ → List ℕ
+resource_name «module» path = 47 ∷ «module» ++ 47 ∷ modified path
+
+-- a module with its files, by their paths within the folder
+abbrev pub module_with : List ℕ → Descriptor → List (List ℕ) → VisibleModule
+module_with folder descriptor paths = record {
+  folder = folder;
+  files = paths;
+  candidate = record {
+    descriptor = descriptor;
+    packages = class_packages (map (resource_name descriptor.name) paths);
+  };
+}
+
+abbrev pub module_of : Files → List ℕ → Result Descriptor DescriptorFault → Option VisibleModule
+module_of files folder (Err fault) = None
+module_of files folder (Ok d) = Some (module_with folder d (names_below folder files))
+
+-- the module that a folder shows, if its file says one
+abbrev pub module_in : Files → List ℕ → Option VisibleModule
+module_in files folder = module_of files folder (folder_info files folder)
+
+abbrev pub name_of : VisibleModule → List ℕ
+name_of m = m.candidate.descriptor.name
+
+-- the modules of the folders of a directory, as far as their files say one
+abbrev pub modules_in : Files → List ℕ → List VisibleModule
+modules_in files directory =
+    filter_map (λ folder. module_in files (inside directory folder)) (folders_in files directory)
+
+-- Refusals
+
+-- one of the modules has the name
+abbrev pub is_named : List VisibleModule → List ℕ → Bool
+is_named ms name = list_any (λ m. bytes_eq name (name_of m)) ms
+
+-- of a folder of a directory, in which these modules stand in earlier folders: its file says no
+-- module; an earlier one has the name
+abbrev pub folder_checks : List ℕ → List VisibleModule → List ℕ
+    → Result Descriptor DescriptorFault → List (Option PathRefusal)
+folder_checks directory earlier folder (Err fault) =
+    Some (refusal.BadInfo (info_path folder) fault) ∷ []
+folder_checks directory earlier folder (Ok d) =
+    fault_if (is_named earlier d.name) (refusal.TwoModules directory d.name) ∷ []
+
+-- of the folder at a place of those of a directory
+abbrev pub checks_at : Files → List ℕ → ℕ → List (Option PathRefusal)
+checks_at files directory place =
+    folder_checks directory
+    (filter_map (λ folder. module_in files (inside directory folder))
+    (take place (folders_in files directory)))
+    (inside directory (slice_index_or (folders_in files directory) place []))
+    (folder_info files (inside directory (slice_index_or (folders_in files directory) place [])))
+
+abbrev pub directory_checks : Files → List ℕ → List (Option PathRefusal)
+directory_checks files directory =
+    flat_map (checks_at files directory) (range_with_len 0 (length (folders_in files directory)))
+
+-- the first refusal of a module path: directory by directory, folder by folder
+abbrev pub path_refusal : Files → List (List ℕ) → Option PathRefusal
+path_refusal files directories = first_fault (flat_map (directory_checks files) directories)
+
+-- Hiding
+
+-- the modules whose name neither one of these nor an earlier one of them has
+abbrev pub unhidden : List VisibleModule → List VisibleModule → List VisibleModule
+unhidden earlier [] = []
+unhidden earlier (m ∷ ms) =
+    if is_named earlier (name_of m) then unhidden earlier ms
+    else m ∷ unhidden (earlier ++ m ∷ []) ms
+
+-- the modules of a module path without a refusal: one of an earlier directory hides those of its
+-- name in later ones
+abbrev pub visible : Files → List (List ℕ) → List VisibleModule
+visible files directories = unhidden [] (flat_map (modules_in files) directories)
+
+abbrev pub candidates : List VisibleModule → List Candidate
+candidates found = map (λ m. m.candidate) found

@@ -1,0 +1,245 @@
+//! The modules that the folders of a directory show.
+ghost use Rattle.std.specs.Prelude.{◌≡◌, ◌∷◌, ◌++◌, [], All, Contains, IsUtf8, IfOk, IsErrOf};
+ghost use Rattle.std.specs.Prelude.{None, Ok, Err, ◌≢◌};
+ghost use Rattle.std.specs.Prelude.{true, false};
+ghost use Rattle.jm_class.specs.Classes.{ClassData, IsClass};
+ghost use Rattle.jm_class.specs.Views.{plain};
+ghost use Rattle.jm_modinfo.specs.ComputedInfo.{info_of};
+ghost use Rattle.jm_modinfo.specs.Constants.{is_legal};
+ghost use Rattle.jm_outside.specs.Files.{Rising, file, names_below};
+ghost use Rattle.jm_outside.specs.Outcome.{CountsFaults, Shows};
+ghost use Rattle.jm_modpath.specs.Finding.{Comes, Described, HasTexts, added_due, directory_due};
+ghost use Rattle.jm_modpath.specs.Finding.{folder_due};
+ghost use Rattle.jm_modpath.specs.Finding.{folders_among, folders_due, info_due, names_within};
+ghost use Rattle.jm_modpath.specs.Finding.{refused_at, shown_due};
+ghost use Rattle.jm_modpath.specs.declared.refusal.PathRefusal.TheVariants.{TwoModules};
+ghost use Rattle.jm_modpath.specs.Modules.{folder_info, info_in, info_path, info_with, inside};
+ghost use Rattle.jm_modpath.specs.Modules.{is_named, module_with, name_of};
+
+use crate::folders::{folders_among, names_within};
+use crate::found::Found;
+use crate::names::inside;
+use crate::packages::class_packages;
+use crate::refusal::{PathRefusal, PathStop};
+use crate::visible::VisibleModule;
+use jm_bytes::{List, NoMemory, Text};
+use jm_class::{Class, ReadError, read};
+use jm_closure::Candidate;
+use jm_modinfo::{Descriptor, DescriptorFault, InfoError, describe};
+use jm_outside::Shelf;
+use std::alloc::Global;
+
+/// Why bytes are no descriptor of a module.
+enum InfoStop {
+    Fault(DescriptorFault),
+    Memory,
+}
+
+/// The descriptor of a class.
+fn described(alloc: Global, class: &Class) -> Result<Descriptor, InfoStop>
+    requires { IsClass (plain class.now) }
+    ensures due { Described (info_with (Ok (plain class.now))) result }
+    ensures legal { IfOk result (λ d. is_legal d.name ≡ true) }
+{
+    match describe(alloc, class) {
+        Ok(descriptor) => Ok(descriptor),
+        Err(InfoError::Fault(fault)) => Err(InfoStop::Fault(DescriptorFault::Info(fault))),
+        Err(InfoError::Memory) => Err(InfoStop::Memory),
+    }
+}
+
+/// The descriptor of bytes that are the class of a module.
+fn info_in(alloc: Global, bytes: &[u8]) -> Result<Descriptor, InfoStop>
+    ensures due { Described (info_in bytes.now) result }
+    ensures legal { IfOk result (λ d. is_legal d.name ≡ true) }
+{
+    match read(alloc, bytes) {
+        Ok(class) => described(alloc, &class),
+        Err(ReadError::Fault(fault)) => Err(InfoStop::Fault(DescriptorFault::Class(fault))),
+        Err(ReadError::Memory) => Err(InfoStop::Memory),
+    }
+}
+
+/// The descriptor of the bytes of the file at a path.
+fn info_at(alloc: Global, path: Text, bytes: &[u8]) -> Result<Descriptor, PathStop>
+    ensures due { Comes ⊥ (refused_at path (info_in bytes.now)) result }
+    ensures legal { IfOk result (λ d. is_legal d.name ≡ true) }
+    ensures inside { ¬ IsErrOf result PathStop.Outside }
+{
+    match info_in(alloc, bytes) {
+        Ok(descriptor) => Ok(descriptor),
+        Err(InfoStop::Fault(fault)) => Err(PathStop::Refused(PathRefusal::BadInfo { path, fault })),
+        Err(InfoStop::Memory) => Err(PathStop::Memory),
+    }
+}
+
+/// The descriptor that the file of a folder says.
+fn read_info<S: Shelf>(alloc: Global, folder: &[u8], shelf: &mut S) -> Result<Descriptor, PathStop>
+    requires { IsUtf8 folder.now }
+    ensures files { S.files shelf.new ≡ S.files shelf.old }
+    ensures told { Shows (S.files shelf.old) (λ files.
+        Comes (file files (info_path folder.now) ≡ None)
+        (info_due folder.now (folder_info files folder.now)) result) }
+    ensures legal { IfOk result (λ d. is_legal d.name ≡ true) }
+    ensures faults { CountsFaults (S.faults shelf.old) (S.faults shelf.new)
+        (IsErrOf result PathStop.Outside) }
+{
+    let path = inside(alloc, folder, b"module-info.class")?;
+    match shelf.read(alloc, path.as_slice()) {
+        Ok(Some(bytes)) => info_at(alloc, path, bytes.as_slice()),
+        Ok(None) => Err(PathStop::NotThere(path)),
+        Err(error) => Err(PathStop::from(error)),
+    }
+}
+
+/// The module of a folder, from its descriptor and the names within it.
+fn module_with(
+    alloc: Global,
+    folder: Text,
+    descriptor: Descriptor,
+    files: List<Text>,
+) -> Result<VisibleModule, NoMemory>
+    ensures { IfOk result (λ m. m ≡ module_with folder descriptor files) }
+{
+    let packages = class_packages(alloc, descriptor.name.as_slice(), files.as_slice())?;
+    Ok(VisibleModule {
+        folder,
+        files,
+        candidate: Candidate {
+            descriptor,
+            packages,
+        },
+    })
+}
+
+/// The refusal of a second module of a name in a directory.
+fn two_modules(alloc: Global, directory: &[u8], name: Text) -> PathStop
+    ensures due { Comes {A = VisibleModule} ⊥ (Err (TwoModules directory.now name)) (Err result) }
+    ensures inside { result ≢ PathStop.Outside }
+{
+    match Text::copy_of(alloc, directory) {
+        Ok(dir) => PathStop::Refused(PathRefusal::TwoModules { dir, name }),
+        Err(_) => PathStop::Memory,
+    }
+}
+
+/// The module of a folder of a directory with this descriptor, from the names below the directory.
+fn shown(
+    alloc: Global,
+    directory: &[u8],
+    folder: &[u8],
+    names: &[Text],
+    earlier: &Found,
+    path: Text,
+    descriptor: Descriptor,
+) -> Result<VisibleModule, PathStop>
+    requires rising { Rising names.now }
+    requires texts { All IsUtf8 names.now }
+    requires folder { IsUtf8 folder.now }
+    requires path { IsUtf8 path }
+    requires legal { is_legal descriptor.name ≡ true }
+    ensures due { Comes ⊥ (shown_due directory.now earlier.now path descriptor
+        (names_within folder.now names.now)) result }
+    ensures new { IfOk result (λ m. is_named earlier.now (name_of m) ≡ false) }
+    ensures texts { IfOk result HasTexts }
+    ensures inside { ¬ IsErrOf result PathStop.Outside }
+{
+    if earlier.has(descriptor.name.as_slice()) {
+        return Err(two_modules(alloc, directory, descriptor.name));
+    }
+    let files = names_within(alloc, names, folder)?;
+    Ok(module_with(alloc, path, descriptor, files)?)
+}
+
+/// The module that a folder of a directory shows, from the names below the directory.
+fn visible_module<S: Shelf>(
+    alloc: Global,
+    directory: &[u8],
+    folder: &[u8],
+    names: &[Text],
+    earlier: &Found,
+    shelf: &mut S,
+) -> Result<VisibleModule, PathStop>
+    requires directory { IsUtf8 directory.now }
+    requires rising { Rising names.now }
+    requires texts { All IsUtf8 names.now }
+    requires folder { IsUtf8 folder.now }
+    requires listed { Contains (folders_among names.now) folder.now }
+    requires told { Shows (S.files shelf.old) (λ files.
+        names.now ≡ names_below directory.now files) }
+    ensures files { S.files shelf.new ≡ S.files shelf.old }
+    ensures told { Shows (S.files shelf.old) (λ files.
+        Comes ⊥ (folder_due files directory.now earlier.now folder.now) result) }
+    ensures new { IfOk result (λ m. is_named earlier.now (name_of m) ≡ false) }
+    ensures texts { IfOk result HasTexts }
+    ensures faults { CountsFaults (S.faults shelf.old) (S.faults shelf.new)
+        (IsErrOf result PathStop.Outside) }
+{
+    let path = inside(alloc, directory, folder)?;
+    let descriptor = read_info(alloc, path.as_slice(), shelf)?;
+    shown(alloc, directory, folder, names, earlier, path, descriptor)
+}
+
+/// The modules of earlier folders of a directory, and that of one more.
+fn with_folder<S: Shelf>(
+    alloc: Global,
+    found: Found,
+    directory: &[u8],
+    folder: &[u8],
+    names: &[Text],
+    shelf: &mut S,
+) -> Result<Found, PathStop>
+    requires directory { IsUtf8 directory.now }
+    requires rising { Rising names.now }
+    requires texts { All IsUtf8 names.now }
+    requires listed { Contains (folders_among names.now) folder.now }
+    requires told { Shows (S.files shelf.old) (λ files.
+        names.now ≡ names_below directory.now files) }
+    ensures files { S.files shelf.new ≡ S.files shelf.old }
+    ensures told { Shows (S.files shelf.old) (λ files.
+        Comes ⊥ (added_due files directory.now found folder.now) result) }
+    ensures faults { CountsFaults (S.faults shelf.old) (S.faults shelf.new)
+        (IsErrOf result PathStop.Outside) }
+{
+    let module = visible_module(alloc, directory, folder, names, &found, shelf)?;
+    Ok(found.with(alloc, module)?)
+}
+
+/// The modules of a directory, from the names below it.
+fn found_among<S: Shelf>(
+    alloc: Global,
+    directory: &[u8],
+    names: &[Text],
+    shelf: &mut S,
+) -> Result<Found, PathStop>
+    requires directory { IsUtf8 directory.now }
+    requires rising { Rising names.now }
+    requires texts { All IsUtf8 names.now }
+    requires told { Shows (S.files shelf.old) (λ files.
+        names.now ≡ names_below directory.now files) }
+    ensures files { S.files shelf.new ≡ S.files shelf.old }
+    ensures told { Shows (S.files shelf.old) (λ files.
+        Comes ⊥ (folders_due files directory.now [] (folders_among names.now)) result) }
+    ensures faults { CountsFaults (S.faults shelf.old) (S.faults shelf.new)
+        (IsErrOf result PathStop.Outside) }
+{
+    let folders = folders_among(alloc, names)?;
+    let mut found = Found::new(alloc);
+    for folder in folders.as_slice() {
+        found = with_folder(alloc, found, directory, folder.as_slice(), names, shelf)?;
+    }
+    Ok(found)
+}
+
+/// The modules of a directory.
+pub fn found_in<S: Shelf>(alloc: Global, directory: &[u8], shelf: &mut S) -> Result<Found, PathStop>
+    requires { IsUtf8 directory.now }
+    ensures files { S.files shelf.new ≡ S.files shelf.old }
+    ensures told { Shows (S.files shelf.old) (λ files.
+        Comes ⊥ (directory_due files directory.now) result) }
+    ensures faults { CountsFaults (S.faults shelf.old) (S.faults shelf.new)
+        (IsErrOf result PathStop.Outside) }
+{
+    let names = shelf.names(alloc, directory)?;
+    found_among(alloc, directory, names.as_slice(), shelf)
+}

@@ -1,0 +1,79 @@
+//! Modules that are found, which are looked up by their names.
+ghost use Rattle.std.specs.Prelude.{◌≡◌, ◌∷◌, ◌++◌, [], All, AllPairs, false, IfOk};
+ghost use Rattle.jm_closure.specs.Names.{NamesDiffer};
+ghost use Rattle.jm_modpath.specs.Finding.{Differing, HasTexts};
+ghost use Rattle.jm_modpath.specs.Modules.{candidates, is_named, name_of};
+
+use crate::visible::VisibleModule;
+use jm_bytes::{List, NoMemory};
+use jm_closure::Places;
+use std::alloc::Global;
+use std::marker::Model;
+
+/// Modules in an order, each name once, seen as their list. Each path in them is UTF-8.
+#[derive(Drop)]
+pub struct Found {
+    modules: List<VisibleModule>,
+    names: Places,
+}
+
+impl Model for Found {
+    ghost use Rattle.std.specs.Prelude.{List, ℕ, ◌≡◌, All, option_map};
+    ghost use Rattle.std.specs.Option.{is_some};
+    ghost use Rattle.jm_closure.specs.Places.{place_in};
+    ghost use Rattle.jm_modpath.specs.declared.visible.VisibleModule.{VisibleModule};
+    ghost use Rattle.jm_modpath.specs.Finding.{Differing, HasTexts};
+    ghost use Rattle.jm_modpath.specs.Modules.{is_named};
+    ghost use Rattle.jm_modpath.specs.FoundView.{Holds};
+
+    ghost Value = { List VisibleModule };
+
+    ghost view = { λ a. a.modules };
+
+    ghost invariant = { λ a. Holds a.modules a.names };
+}
+
+impl Found {
+    /// No module yet.
+    pub fn new(alloc: Global) -> Found
+        ensures { result ≡ [] }
+    {
+        Found {
+            modules: List::new(alloc),
+            names: Places::new(alloc),
+        }
+    }
+
+    /// Whether one of the modules has this name.
+    pub fn has(&self, name: &[u8]) -> bool
+        ensures { result ≡ is_named self.now name.now }
+    {
+        self.names.get(name).is_some()
+    }
+
+    /// The same with one module more at the end.
+    pub fn with(self, alloc: Global, module: VisibleModule) -> Result<Found, NoMemory>
+        requires new { is_named self (name_of «module») ≡ false }
+        requires texts { HasTexts «module» }
+        ensures { IfOk result (λ found. found ≡ self ++ «module» ∷ []) }
+    {
+        let Found {
+            mut modules,
+            mut names,
+        } = self;
+        let place = modules.len();
+        names.put(alloc, module.candidate.descriptor.name.as_slice(), place)?;
+        modules.push(module)?;
+        Ok(Found { modules, names })
+    }
+
+    /// The modules.
+    pub fn into_list(self) -> List<VisibleModule>
+        ensures list { result ≡ self }
+        ensures differ { NamesDiffer (candidates result) }
+        ensures texts { All HasTexts result }
+    {
+        let Found { modules, .. } = self;
+        modules
+    }
+}

@@ -1,0 +1,91 @@
+//! The class packages of a module, from its files.
+ghost use Rattle.std.specs.Prelude.{◌≡◌, ◌∷◌, ◌++◌, [], IfOk, OnOk, map, option_map, codes, drop};
+ghost use Rattle.std.specs.List.{filter_map};
+ghost use Rattle.jm_form.specs.Trees.{class_packages, path_of};
+ghost use Rattle.jm_modpath.specs.Finding.{class_folder, class_package};
+ghost use Rattle.jm_modpath.specs.Modules.{resource_name};
+ghost use Rattle.jm_modpath.specs.TextView.{items_of};
+ghost use Rattle.jm_names.specs.Names.{is_slash};
+ghost use Rattle.std.specs.Prelude.{IfSome, IfNone, true, false};
+ghost use Rattle.std.specs.List.{before_last, list_any};
+
+use crate::folders::cut_at_slash;
+use crate::names::resource_name;
+use crate::rising::rising;
+use jm_bytes::{List, NoMemory, Text};
+use jm_names::dotted;
+use memchr::memrchr;
+use std::alloc::Global;
+
+/// The path of a resource within its module.
+fn path_of(name: &[u8]) -> &[u8]
+    ensures { result.now ≡ path_of name.now }
+{
+    let Some((_, rest)) = name.split_first() else {
+        return &[];
+    };
+    match cut_at_slash(rest) {
+        Some((_, path)) => path,
+        None => &[],
+    }
+}
+
+/// What stands before the last slash.
+fn folder_of(path: &[u8]) -> Option<&[u8]>
+    ensures found { IfSome result (λ folder. list_any is_slash path.now ≡ true) }
+    ensures folder { IfSome result (λ folder. folder.now ≡ before_last is_slash path.now) }
+    ensures none { IfNone result (list_any is_slash path.now ≡ false) }
+{
+    let at = memrchr(b'/', path)?;
+    let (folder, _) = path.split_at(at);
+    Some(folder)
+}
+
+/// The folder of a resource that is a class in a package.
+fn class_folder(name: &[u8]) -> Option<&[u8]>
+    ensures { option_map (λ folder. folder.now) result ≡ class_folder name.now }
+{
+    if !name.ends_with(b".class") {
+        return None;
+    }
+    let folder = folder_of(path_of(name))?;
+    if folder.is_empty() || folder.starts_with(b"META-INF") {
+        None
+    } else {
+        Some(folder)
+    }
+}
+
+/// Puts the package of a resource at the end of a list, if it is a class in a package.
+fn put_package(alloc: Global, packages: &mut Vec<Vec<u8>>, name: &[u8]) -> Result<(), NoMemory>
+    ensures { OnOk result (items_of packages.new.items
+        ≡ items_of packages.old.items ++ filter_map class_package (name.now ∷ [])) }
+{
+    if let Some(folder) = class_folder(name) {
+        if packages.push(dotted(alloc, folder)?.into_vec()).is_err() {
+            return Err(NoMemory);
+        }
+    }
+    Ok(())
+}
+
+/// The packages of all files of a module that are classes.
+fn all_packages(alloc: Global, module: &[u8], paths: &[Text]) -> Result<Vec<Vec<u8>>, NoMemory>
+    ensures { IfOk result (λ packages. items_of packages.items
+        ≡ filter_map class_package (map (resource_name «module».now) paths.now)) }
+{
+    let mut packages = Vec::new(alloc);
+    for path in paths {
+        let name = resource_name(alloc, module, path.as_slice())?;
+        put_package(alloc, &mut packages, name.as_slice())?;
+    }
+    Ok(packages)
+}
+
+/// The packages in which a module has classes, rising, from the paths of its files.
+pub fn class_packages(alloc: Global, module: &[u8], paths: &[Text]) -> Result<List<Text>, NoMemory>
+    ensures { IfOk result (λ packages.
+        packages ≡ class_packages (map (resource_name «module».now) paths.now)) }
+{
+    rising(alloc, all_packages(alloc, module, paths)?)
+}

@@ -1,0 +1,85 @@
+//! The modules that a module path shows.
+ghost use Rattle.std.specs.Prelude.{◌≡◌, ◌∷◌, ◌++◌, [], All, IsUtf8, IfOk, IsErrOf};
+ghost use Rattle.jm_closure.specs.Names.{NamesDiffer};
+ghost use Rattle.jm_outside.specs.Outcome.{CountsFaults, Shows};
+ghost use Rattle.jm_modpath.specs.Finding.{Comes, HasTexts, ShowsModules, shown_more};
+ghost use Rattle.jm_modpath.specs.Finding.{with_unhidden};
+ghost use Rattle.jm_modpath.specs.Modules.{candidates, unhidden};
+
+use crate::directory::found_in;
+use crate::found::Found;
+use crate::refusal::PathStop;
+use crate::visible::VisibleModule;
+use jm_bytes::{List, NoMemory, Text};
+use jm_outside::Shelf;
+use std::alloc::Global;
+
+/// The modules found, with one more, if none of them has its name.
+fn add_unhidden(alloc: Global, found: Found, module: VisibleModule) -> Result<Found, NoMemory>
+    requires { HasTexts «module» }
+    ensures { IfOk result (λ all. all ≡ found ++ unhidden found («module» ∷ [])) }
+{
+    if found.has(module.candidate.descriptor.name.as_slice()) {
+        Ok(found)
+    } else {
+        found.with(alloc, module)
+    }
+}
+
+/// The modules found, with those of a directory that they don't hide.
+fn with_unhidden(
+    alloc: Global,
+    found: Found,
+    modules: List<VisibleModule>,
+) -> Result<Found, NoMemory>
+    requires { All HasTexts modules }
+    ensures { IfOk result (λ all. all ≡ with_unhidden found modules) }
+{
+    let mut all = found;
+    for module in modules.into_vec() {
+        all = add_unhidden(alloc, all, module)?;
+    }
+    Ok(all)
+}
+
+/// The modules of earlier directories, with those of one more that they don't hide.
+fn with_directory<S: Shelf>(
+    alloc: Global,
+    found: Found,
+    directory: &[u8],
+    shelf: &mut S,
+) -> Result<Found, PathStop>
+    requires { IsUtf8 directory.now }
+    ensures files { S.files shelf.new ≡ S.files shelf.old }
+    ensures told { Shows (S.files shelf.old) (λ files.
+        Comes ⊥ (shown_more files found directory.now) result) }
+    ensures faults { CountsFaults (S.faults shelf.old) (S.faults shelf.new)
+        (IsErrOf result PathStop.Outside) }
+{
+    let modules = found_in(alloc, directory, shelf)?.into_list();
+    Ok(with_unhidden(alloc, found, modules)?)
+}
+
+/// The modules that the directories of a module path show: the folders of each that directly hold
+/// a `module-info.class`, rising. A module of an earlier directory hides one of its name in a later
+/// directory. Time n log n in the files.
+pub fn visible_modules<S: Shelf>(
+    alloc: Global,
+    directories: &[Text],
+    shelf: &mut S,
+) -> Result<List<VisibleModule>, PathStop>
+    requires { All IsUtf8 directories.now }
+    ensures files { S.files shelf.new ≡ S.files shelf.old }
+    ensures modules { Shows (S.files shelf.old) (λ files.
+        ShowsModules files directories.now result) }
+    ensures differ { IfOk result (λ found. NamesDiffer (candidates found)) }
+    ensures texts { IfOk result (All HasTexts) }
+    ensures faults { CountsFaults (S.faults shelf.old) (S.faults shelf.new)
+        (IsErrOf result PathStop.Outside) }
+{
+    let mut found = Found::new(alloc);
+    for directory in directories {
+        found = with_directory(alloc, found, directory.as_slice(), shelf)?;
+    }
+    Ok(found.into_list())
+}
