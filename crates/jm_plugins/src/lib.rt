@@ -1,6 +1,13 @@
 //! The plug-ins of `link` (JEP 282), which act on the resources before they are written.
 #![tactic(auto)]
 
+mod chain;
+mod classes;
+mod exclusion;
+mod order;
+mod places;
+
+pub use chain::{ApplyError, apply};
 use jm_bytes::List;
 use jm_pattern::Pattern;
 
@@ -16,3 +23,6 @@ pub enum Plugin {
     /// The constants that nothing names are left out of classes.
     Compact,
 }
+
+#[cfg(test)]
+mod tests;

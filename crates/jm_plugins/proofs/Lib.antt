@@ -1,0 +1,6 @@
+pub mod ChainLaws
+pub mod ClassLaws
+pub mod OrderLaws
+pub mod Beside
+pub mod TurnLaws
+pub mod Vectors

@@ -1,0 +1,56 @@
+-- Plug-ins, evaluated on small pools.
+use Rattle.std.proofs.Common.{◌≡◌, ℕ, List, [], ◌∷◌, ◌++◌, Result, Ok, Err, refl}
+use Rattle.std.specs.Prelude.{codes}
+use Rattle.jm_class.specs.declared.class.ClassFault.TheVariants.{Short}
+use Rattle.jm_pattern.specs.declared.signs.Sign.{Sign}
+use Rattle.jm_pattern.specs.declared.signs.Sign.TheVariants.{AnyRun, Byte}
+use Rattle.jm_plugins.specs.declared.Plugin.{Plugin}
+use Rattle.jm_plugins.specs.declared.Plugin.TheVariants as plugin
+use Rattle.jm_plugins.specs.declared.chain.ApplyError.{ApplyError}
+use Rattle.jm_plugins.specs.declared.chain.ApplyError.TheVariants.{BadClass}
+use Rattle.jm_plugins.specs.Plugins.{apply}
+
+-- `**/B.class` and `/a/**`; 47 is `/`, 66 is `B` and 97 is `a`
+abbrev named_b : List Sign
+named_b = AnyRun ∷ Byte 47 ∷ Byte 66 ∷ Byte 46 ∷ Byte 99 ∷ Byte 108 ∷ Byte 97 ∷ Byte 115 ∷ Byte 115 ∷ []
+
+abbrev below_a : List Sign
+below_a = Byte 47 ∷ Byte 97 ∷ Byte 47 ∷ AnyRun ∷ []
+
+-- a class with a source file, and the same class without it
+abbrev front : List ℕ
+front = 202 ∷ 254 ∷ 186 ∷ 190 ∷ 0 ∷ 0 ∷ 0 ∷ 52 ∷ 0 ∷ 2 ∷ 1 ∷ 0 ∷ 10 ∷ codes "SourceFile" ++ (0 ∷ 0 ∷ 0 ∷ 0 ∷ 0 ∷ 0 ∷ 0 ∷ 0 ∷ 0 ∷ 0 ∷ 0 ∷ 0 ∷ [])
+
+abbrev with_file : List ℕ
+with_file = front ++ (0 ∷ 1 ∷ 0 ∷ 1 ∷ 0 ∷ 0 ∷ 0 ∷ 2 ∷ 0 ∷ 1 ∷ [])
+
+abbrev without_file : List ℕ
+without_file = front ++ (0 ∷ 0 ∷ [])
+
+abbrev pool : List ℕ → List (List ℕ × List ℕ)
+pool bytes = (codes "/a/B.class", bytes) ∷ (codes "/a/x", with_file) ∷ (codes "/b/B.class", bytes) ∷ (codes "/b/y", []) ∷ []
+
+-- nothing to do
+none : apply [] (pool []) ≡ Ok (pool [])
+none = refl
+
+order_in_pool : apply (plugin.Order (named_b ∷ below_a ∷ []) ∷ []) (pool []) ≡ Ok ((codes "/a/B.class", []) ∷ (codes "/b/B.class", []) ∷ (codes "/a/x", with_file) ∷ (codes "/b/y", []) ∷ [])
+order_in_pool = refl
+
+-- the first pattern that matches decides
+order_turned : apply (plugin.Order (below_a ∷ named_b ∷ []) ∷ []) (pool []) ≡ Ok (pool [])
+order_turned = refl
+
+excluded_in_pool : apply (plugin.Exclude (named_b ∷ below_a ∷ []) ∷ []) (pool []) ≡ Ok ((codes "/b/y", []) ∷ [])
+excluded_in_pool = refl
+
+-- a name that isn't that of a class keeps its bytes
+stripped_in_pool : apply (plugin.Strip ∷ []) (pool with_file) ≡ Ok (pool without_file)
+stripped_in_pool = refl
+
+-- one plug-in after another
+in_turn : apply (plugin.Exclude (below_a ∷ []) ∷ plugin.Strip ∷ []) (pool with_file) ≡ Ok ((codes "/b/B.class", without_file) ∷ (codes "/b/y", []) ∷ [])
+in_turn = refl
+
+bad_class : apply (plugin.Order (named_b ∷ []) ∷ plugin.Strip ∷ []) (pool (codes "no")) ≡ Err (BadClass (codes "/a/B.class") (Short 0))
+bad_class = refl

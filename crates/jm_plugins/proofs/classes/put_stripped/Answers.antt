@@ -1,0 +1,43 @@
+use Rattle.std.proofs.Common.{◌≡◌, ◌<◌, All, length, refl, sym, ap, subst, rules, ◌∙◌}
+use Rattle.std.proofs.lemmas.List.Elements.{All-head}
+use Rattle.jm_plugins.specs.Steps.{put_stripped}
+use Rattle.jm_plugins.proofs.ClassLaws.{put_more, put_refused, put_none, within_more}
+use Rattle.jm_plugins.proofs.classes.put_stripped.Goals as goal
+
+pub loop-place-init : goal.loop-place-init
+loop-place-init c =
+    let all = c.into_iter-place-iterator.ensures.into_iter_gives.0 ∙ c.into_vec-place-items.ensures in
+    rw all (refl, c.requires)
+
+pub replace-requires : goal.replace-requires
+replace-requires c =
+    let pool = c.loop-place.pool in
+    let within = subst (All (λ one. one.place < length pool)) c.in-Some.ensures.steps.0 c.loop-place.invariant.1 in
+    All-head (λ one. one.place < length pool) c.in-Some.field-0 c.next.new.self.rest.items within
+
+pub loop-place-preserved : goal.loop-place-preserved
+loop-place-preserved c =
+    let pool = c.loop-place.pool in
+    let shape = c.in-Some.ensures.steps.0 in
+    let later = c.next.new.self.rest.items in
+    let so_far = c.loop-place.invariant.0 ∙ ap (λ l. put_stripped l pool) shape in
+    let within = subst (All (λ one. one.place < length pool)) shape c.loop-place.invariant.1 in (
+      put_more c.in-Some.field-0 later pool c.replace.new.self c.in-Ok.text _ c.in-Ok.is c.replace.ensures so_far,
+      within_more c.in-Some.field-0 later pool c.replace.new.self c.in-Ok.text c.replace.ensures within,
+    )
+
+pub refusal-requires : goal.refusal-requires
+refusal-requires c =
+    let pool = c.loop-place.pool in
+    let within = subst (All (λ one. one.place < length pool)) c.in-Some.ensures.steps.0 c.loop-place.invariant.1 in
+    All-head (λ one. one.place < length pool) c.in-Some.field-0 c.next.new.self.rest.items within
+
+pub returns-in-Err : goal.returns-in-Err
+returns-in-Err c =
+    let so_far = c.loop-place.invariant.0 ∙ ap (λ l. put_stripped l c.loop-place.pool) c.in-Some.ensures.steps.0 in
+    put_refused c.in-Some.field-0 c.next.new.self.rest.items c.loop-place.pool c.in-Err.error c.refusal.result _ c.in-Err.is c.refusal.ensures so_far
+
+pub returns : goal.returns
+returns c =
+    let rest = c.loop-place.place-iterator.rest in
+    put_none rest.items rest.len c.loop-place.pool _ (sym rest.ok.0) c.in-None.ensures.steps.0 c.loop-place.invariant.0

@@ -1,0 +1,18 @@
+use Rattle.std.proofs.Common.{◌≡◌, [], true, get_or, length, sym, ap, ◌∙◌, arith}
+use Rattle.std.proofs.lemmas.List.{get_or_default}
+use Rattle.jm_pattern.specs.ComputedMatching.{matches}
+use Rattle.jm_plugins.proofs.OrderLaws.{rank_here}
+use Rattle.jm_plugins.proofs.order.rank.Goals as goal
+
+pub returns-then-matches : goal.returns-then-matches
+returns-then-matches c =
+    let patterns = c.args.patterns.now in
+    let name = c.args.name.now in
+    let here : get_or patterns c.loop-number.number [] ≡ c.index-patterns-number.result = get_or_default patterns c.loop-number.number [] c.index-patterns-number.result c.loop-number-test.true ∙ sym c.index-patterns-number.is in
+    sym (rank_here patterns name c.loop-number.number (omega (arith, c.loop-number-test.true)) c.loop-number.invariant (λ below. ap (λ p. matches p name) here ∙ sym c.matches.ensures.value ∙ c.if-matches.true))
+
+pub returns : goal.returns
+returns c =
+    let patterns = c.args.patterns.now in
+    let all : c.loop-number.number ≡ length patterns = omega (arith, c.loop-number.auto.number-end, c.loop-number-test.false) in
+    sym (rank_here patterns c.args.name.now c.loop-number.number (omega (arith, all)) c.loop-number.invariant (λ below. absurd (omega (arith, below, all))) ∙ all)

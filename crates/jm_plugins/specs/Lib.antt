@@ -1,0 +1,4 @@
+pub mod Matching
+pub mod Plugins
+pub mod Steps
+pub mod Turns

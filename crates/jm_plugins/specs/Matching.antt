@@ -1,0 +1,21 @@
+-- Which resources the patterns of a plug-in take (JEP 282; the patterns are this project's rule).
+use Rattle.std.specs.Prelude.{ℕ, Bool, not, List, [], ◌∷◌, ◌++◌, filter}
+use Rattle.std.specs.List.{list_any}
+use Rattle.jm_pattern.specs.declared.signs.Sign.{Sign}
+use Rattle.jm_pattern.specs.ComputedMatching.{matches}
+
+-- one of the patterns matches the name
+abbrev pub matches_any : List (List Sign) → List ℕ → Bool
+matches_any patterns name = list_any (λ pattern. matches pattern name) patterns
+
+-- the pairs whose name no pattern matches
+abbrev pub excluded : List (List Sign) → List (List ℕ × List ℕ) → List (List ℕ × List ℕ)
+excluded patterns pairs = filter (λ pair. not (matches_any patterns pair.0)) pairs
+
+-- pattern by pattern, the pairs that match it and no earlier one, then those that match none, each
+-- part in the order of the list
+abbrev pub ordered : List (List Sign) → List (List ℕ × List ℕ) → List (List ℕ × List ℕ)
+ordered [] pairs = pairs
+ordered (pattern ∷ patterns) pairs =
+    filter (λ pair. matches pattern pair.0) pairs
+    ++ ordered patterns (filter (λ pair. not (matches pattern pair.0)) pairs)

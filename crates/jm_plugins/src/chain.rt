@@ -1,0 +1,100 @@
+ghost use Rattle.std.specs.Prelude.{◌<◌};
+ghost use Rattle.jm_plugins.specs.Plugins.{act, apply, NoCompact, UnlessMemory};
+
+use crate::Plugin;
+use crate::classes::strip_classes;
+use crate::exclusion::exclude;
+use crate::order::order;
+use jm_bytes::{NoMemory, Text};
+use jm_class::ClassFault;
+use jm_halves::Gate;
+use jm_pool::Pool;
+use std::alloc::Global;
+use std::thread::Threads;
+
+/// Why plug-ins can't act on a pool.
+#[derive(Debug, Drop)]
+pub enum ApplyError {
+    /// The name of a class, and the first fault of its bytes, which don't read as one.
+    BadClass {
+        /// The name in the pool.
+        name: Text,
+        /// The fault.
+        fault: ClassFault,
+    },
+    /// No memory was found.
+    Memory,
+}
+
+impl From<NoMemory> for ApplyError {
+    ghost use Rattle.std.specs.Prelude.{◌≡◌};
+    ghost use Rattle.jm_plugins.specs.declared.chain.ApplyError.TheVariants.{Memory};
+
+    ghost from_gives = { λ _ e. e ≡ Memory };
+
+    fn from(_none: NoMemory) -> ApplyError {
+        ApplyError::Memory
+    }
+}
+
+/// What one plug-in makes of a pool. `Compact` is to come, and leaves it as it is.
+fn act<R: Threads + Sync, G: Gate + Sync>(
+    rt: &R,
+    alloc: Global,
+    jobs: u32,
+    pool: Pool,
+    plugin: &Plugin,
+    gate: &G,
+) -> Result<Pool, ApplyError>
+    requires { 0 < jobs }
+    ensures { UnlessMemory result (act plugin.now pool) }
+{
+    match plugin {
+        Plugin::Exclude(patterns) => Ok(exclude(rt, alloc, jobs, pool, patterns.as_slice(), gate)?),
+        Plugin::Order(patterns) => Ok(order(rt, alloc, jobs, pool, patterns.as_slice(), gate)?),
+        Plugin::Strip => strip_classes(rt, alloc, jobs, pool, gate),
+        Plugin::Compact => Ok(pool),
+    }
+}
+
+/// What all plug-ins make of a pool, from the first to the last.
+fn act_all<R: Threads + Sync, G: Gate + Sync>(
+    rt: &R,
+    alloc: Global,
+    jobs: u32,
+    pool: Pool,
+    list: &[Plugin],
+    gate: &G,
+) -> Result<Pool, ApplyError>
+    requires { 0 < jobs }
+    ensures { UnlessMemory result (apply list.now pool) }
+{
+    let mut pool = pool;
+    for plugin in list {
+        match act(rt, alloc, jobs, pool, plugin, gate) {
+            Ok(next) => pool = next,
+            Err(refusal) => return Err(refusal),
+        }
+    }
+    Ok(pool)
+}
+
+/// Lets the plug-ins act on a pool, from the first to the last, each on all jobs. The answer
+/// depends neither on the number of jobs nor on the gate. A refusal spends the pool: `BadClass`
+/// comes of the first plug-in that meets a class that doesn't read, and of the least place of such
+/// a class in the pool that it has then; want of memory at an earlier place is answered instead.
+///
+/// `Compact` is to come: of a list with it nothing is said.
+pub fn apply<R: Threads + Sync, G: Gate + Sync>(
+    rt: &R,
+    alloc: Global,
+    jobs: u32,
+    pool: Pool,
+    list: &[Plugin],
+    gate: &G,
+) -> Result<Pool, ApplyError>
+    requires { 0 < jobs }
+    ensures { NoCompact list.now → UnlessMemory result (apply list.now pool) }
+{
+    act_all(rt, alloc, jobs, pool, list, gate)
+}

@@ -1,0 +1,63 @@
+ghost use Rattle.std.specs.Prelude.{◌≡◌, ◌<◌, Some, not, length, map, slice_get, IfOk};
+ghost use Rattle.jm_plugins.specs.Matching.{excluded, matches_any};
+
+use crate::places::places_below;
+use jm_bytes::{List, NoMemory};
+use jm_halves::{Gate, map_halves};
+use jm_pattern::Pattern;
+use jm_pool::Pool;
+use std::alloc::Global;
+use std::thread::Threads;
+
+/// Whether one of the patterns matches a name.
+fn matches_any(patterns: &[Pattern], name: &[u8]) -> bool
+    ensures { result ≡ matches_any patterns.now name.now }
+{
+    patterns.iter().any(|pattern| pattern.matches(name))
+}
+
+/// Whether no pattern matches the name at a place.
+fn stays(pool: &Pool, patterns: &[Pattern], place: usize) -> bool
+    requires { place < length pool.now }
+    ensures { (pair : _) → slice_get pool.now place ≡ Some pair
+        → result ≡ not (matches_any patterns.now pair.0) }
+{
+    let (name, _) = pool.at(place);
+    !matches_any(patterns, name)
+}
+
+/// For each pair whether no pattern matches its name, found by all jobs.
+fn flags<R: Threads + Sync, G: Gate + Sync>(
+    rt: &R,
+    alloc: Global,
+    jobs: u32,
+    pool: &Pool,
+    patterns: &[Pattern],
+    gate: &G,
+) -> Result<List<bool>, NoMemory>
+    requires { 0 < jobs }
+    ensures { IfOk result
+        (λ flags. flags ≡ map (λ pair. not (matches_any patterns.now pair.0)) pool.now) }
+{
+    let places = places_below(alloc, pool.len())?;
+    let look = |place: &usize| stays(pool, patterns, *place);
+    map_halves(rt, alloc, jobs, places.as_slice(), &look, gate)
+}
+
+/// Drops the pairs whose name one of the patterns matches.
+pub fn exclude<R: Threads + Sync, G: Gate + Sync>(
+    rt: &R,
+    alloc: Global,
+    jobs: u32,
+    pool: Pool,
+    patterns: &[Pattern],
+    gate: &G,
+) -> Result<Pool, NoMemory>
+    requires { 0 < jobs }
+    ensures { IfOk result (λ left. left ≡ excluded patterns.now pool) }
+{
+    let keep = flags(rt, alloc, jobs, &pool, patterns, gate)?;
+    let mut pool = pool;
+    pool.retain_flags(keep.as_slice());
+    Ok(pool)
+}

@@ -1,0 +1,104 @@
+ghost use Rattle.std.specs.Prelude.{◌≡◌, ◌<◌, Some, length, map, slice_get, IfOk};
+ghost use Rattle.jm_plugins.specs.Matching.{ordered};
+ghost use Rattle.jm_plugins.specs.Steps.{rank};
+ghost use Rattle.jm_plugins.specs.Turns.{AreTurns, IsByRank};
+
+use crate::places::places_below;
+use jm_bytes::{List, NoMemory};
+use jm_halves::{Gate, map_halves};
+use jm_pattern::Pattern;
+use jm_pool::Pool;
+use std::alloc::Global;
+use std::thread::Threads;
+
+/// A place of the pool, and the number of the first pattern that matches the name there; that is
+/// the number of the patterns where none does.
+#[derive(Clone, Copy, Debug, PartialEq, Eq)]
+struct Turn {
+    rank: usize,
+    place: usize,
+}
+
+/// The number of the first pattern that matches a name, or how many patterns there are.
+fn rank(patterns: &[Pattern], name: &[u8]) -> usize
+    ensures { result ≡ rank patterns.now name.now }
+{
+    for number in 0..patterns.len() {
+        if patterns[number].matches(name) {
+            return number;
+        }
+    }
+    patterns.len()
+}
+
+/// The turn of the pair at a place.
+fn turn_at(pool: &Pool, patterns: &[Pattern], place: usize) -> Turn
+    requires { place < length pool.now }
+    ensures place { result.place ≡ place }
+    ensures rank { (pair : _) → slice_get pool.now place ≡ Some pair
+        → result.rank ≡ rank patterns.now pair.0 }
+{
+    let (name, _) = pool.at(place);
+    Turn {
+        rank: rank(patterns, name),
+        place,
+    }
+}
+
+/// The turns of all pairs in the order of the pool, found by all jobs.
+fn turns<R: Threads + Sync, G: Gate + Sync>(
+    rt: &R,
+    alloc: Global,
+    jobs: u32,
+    pool: &Pool,
+    patterns: &[Pattern],
+    gate: &G,
+) -> Result<List<Turn>, NoMemory>
+    requires { 0 < jobs }
+    ensures { IfOk result (AreTurns patterns.now pool.now) }
+{
+    let places = places_below(alloc, pool.len())?;
+    let look = |place: &usize| turn_at(pool, patterns, *place);
+    map_halves(rt, alloc, jobs, places.as_slice(), &look, gate)
+}
+
+/// The turns by rank, those of one rank in their order.
+fn by_rank(turns: List<Turn>) -> Result<Vec<Turn>, NoMemory>
+    ensures { IfOk result (λ sorted. IsByRank turns sorted.items) }
+{
+    let mut sorted = turns.into_vec();
+    match sorted.sort_by_key(|turn| turn.rank) {
+        Ok(()) => Ok(sorted),
+        Err(_) => Err(NoMemory),
+    }
+}
+
+/// The places of turns.
+fn places_of(alloc: Global, turns: &[Turn]) -> Result<List<usize>, NoMemory>
+    ensures { IfOk result (λ places. places ≡ map (λ turn. turn.place) turns.now) }
+{
+    let mut places = List::new(alloc);
+    for turn in turns {
+        places.push(turn.place)?;
+    }
+    Ok(places)
+}
+
+/// Puts, pattern by pattern, the pairs that match it and no earlier one in front of those that
+/// match none.
+pub fn order<R: Threads + Sync, G: Gate + Sync>(
+    rt: &R,
+    alloc: Global,
+    jobs: u32,
+    pool: Pool,
+    patterns: &[Pattern],
+    gate: &G,
+) -> Result<Pool, NoMemory>
+    requires { 0 < jobs }
+    ensures { IfOk result (λ left. left ≡ ordered patterns.now pool) }
+{
+    let turns = turns(rt, alloc, jobs, &pool, patterns, gate)?;
+    let sorted = by_rank(turns)?;
+    let places = places_of(alloc, sorted.as_slice())?;
+    pool.reorder(places.as_slice())
+}
