@@ -1,5 +1,6 @@
 -- What a run did to the outside, said by what its command comes to (this project's rule).
 use Rattle.std.specs.Prelude.{ℕ, ◌≡◌, ◌⊎◌, List, [], Option, Some, None, Result, Ok, Err}
+use Rattle.jm_jrt.specs.TreesShown.{ShowsTrees}
 use Rattle.jm_link.specs.declared.refusal.Refusal.{Refusal}
 use Rattle.jm_link.specs.Linked.{LinkedImage}
 use Rattle.jm_link.specs.Links.{ComesTo}
@@ -33,12 +34,18 @@ FileComesTo told command due =
     (found : Option (List ℕ)) × HasFile told (read_path command) found
     × (due ≡ command_outcome command found)
 
+-- at every path of an image's trees stands what the trees of its resources have there, and nothing
+-- else; of a refusal, nothing
+abbrev pub ShowsLinked : Result LinkedImage Refusal → Type 0
+ShowsLinked (Ok image) = ShowsTrees image.bytes image.resources
+ShowsLinked (Err refusal) = Unit {0}
+
 -- a link comes to what its files do, where the shelf tells them; a shelf that tells nothing may say
 -- of a file that it listed that it isn't there
 abbrev pub LinkComesTo : Option Files → Link → Outcome → Type 0
 LinkComesTo told link due =
     ((result : Result LinkedImage Refusal) × ComesTo told link.asked result
-    × (due ≡ link_outcome link.output result))
+    × Shows told (λ files. ShowsLinked result) × (due ≡ link_outcome link.output result))
     ⊎ ((listed : List ℕ) × Shows told (λ files. ⊥) × (due ≡ not_there listed))
 
 abbrev pub CommandWith : Option Files → Command → Option Link → Outcome → Type 0

@@ -1,6 +1,7 @@
 mod linking;
 mod modules;
 mod vectors;
+mod written;
 
 use super::*;
 use jm_bytes::{List, Text, copy_of};

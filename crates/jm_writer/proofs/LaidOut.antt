@@ -18,6 +18,7 @@ use Rattle.jm_writer.proofs.LaidWritable.{laid_prefixes, laid_stands, laid_valid
 laid_by : (order : Order) (resources : List Written) → CanLay resources → (table : GreedyTable) → layout_table resources ≡ Some table → length (layout_with order resources table) ≤ image_limit → IsLaidOut order resources (layout_with order resources table)
 laid_by order resources can table is within = record {
   ordered = laid_ordered order resources can table is within;
+  within = within;
   valid = laid_valid order resources can table is within;
   stands = laid_stands order resources can table is within;
   nodes = laid_nodes order resources can table is within;

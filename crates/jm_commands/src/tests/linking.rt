@@ -10,7 +10,7 @@ use std::thread::Threads;
 
 /// Puts what a run on a shelf gives at the end of a text: the digit of its status, the output and
 /// the error sink's text, with a bar between them.
-fn put_run<T: Threads + Sync>(
+pub fn put_run<T: Threads + Sync>(
     rt: &T,
     alloc: Global,
     shelf: &mut MemShelf,
