@@ -117,16 +117,16 @@ by_numbers xs ys o are =
 
     second : AreLong 8 (drop 8 xs) (drop 8 ys)
     second =
-        let one = length-drop xs {i = 8} in
-        let other = length-drop ys {i = 8} in
+        let one = length-drop 8 xs in
+        let other = length-drop 8 ys in
         record { one = behind_some 8 xs are.one; other = behind_some 8 ys are.other; long = omega (arith, one, are.long); far = omega (arith, other, are.far) }
 
     third : AreLong 8 (drop 8 (drop 8 xs)) (drop 8 (drop 8 ys))
     third =
-        let one = length-drop xs {i = 8} in
-        let other = length-drop ys {i = 8} in
-        let two = length-drop (drop 8 xs) {i = 8} in
-        let next = length-drop (drop 8 ys) {i = 8} in
+        let one = length-drop 8 xs in
+        let other = length-drop 8 ys in
+        let two = length-drop 8 (drop 8 xs) in
+        let next = length-drop 8 (drop 8 ys) in
         record { one = behind_some 8 (drop 8 xs) second.one; other = behind_some 8 (drop 8 ys) second.other; long = omega (arith, one, two, are.long); far = omega (arith, other, next, are.far) }
 
 -- the fronts decide where they differ

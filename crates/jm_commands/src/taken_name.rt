@@ -59,7 +59,10 @@ fn front_of(name: &[u8]) -> Front
 fn order_of_fronts(front: &Front, other: &Front) -> Ordering
     ensures { result ≡ order_of_fronts front.now other.now }
 {
-    let later = front.second.cmp(&other.second).then(front.third.cmp(&other.third));
+    let later = front
+        .second
+        .cmp(&other.second)
+        .then(front.third.cmp(&other.third));
     front.first.cmp(&other.first).then(later)
 }
 

@@ -2,9 +2,9 @@
 
 ghost use Rattle.std.specs.Prelude.{◌≡◌, ◌<◌};
 
+use super::NO_FAILS;
 use super::linking::put_run;
 use super::modules::{THREE, put_files};
-use super::NO_FAILS;
 use jm_bytes::{Meter, Steps, copy_of};
 use jm_halves::NoGate;
 use jm_outside::MemShelf;
