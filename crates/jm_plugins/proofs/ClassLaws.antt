@@ -172,3 +172,9 @@ put_refused one later pairs error refusal all is refuses so_far = go error (so_f
     go (read_error.Fault fault) due (inl none) = inl (ap (λ r. Err r) none)
     go (read_error.Fault fault) due (inr same) = inr (ap (λ r. Err r) same ∙ sym due)
     go read_error.Memory due none = inl (ap (λ r. Err r) none)
+
+-- what is given unless memory is wanted, of a value that is so given itself
+pub unless_then : {A : Type 0} (result middle due : Result A ApplyError) → UnlessMemory result middle → UnlessMemory middle due → UnlessMemory result due
+unless_then result middle due (inl none) second = inl none
+unless_then result middle due (inr same) (inl none) = inl (same ∙ none)
+unless_then result middle due (inr same) (inr is) = inr (same ∙ is)
