@@ -1,6 +1,6 @@
-pub mod ChainLaws
-pub mod ClassLaws
-pub mod OrderLaws
 pub mod Beside
+pub mod ClassLaws
+pub mod NameLaws
+pub mod OrderLaws
 pub mod TurnLaws
 pub mod Vectors

@@ -1,6 +1,7 @@
 -- What plug-ins make of the resources before they are written (JEP 282; what each plug-in does is
 -- this project's rule).
-use Rattle.std.specs.Prelude.{ℕ, ◌≡◌, ◌≢◌, ◌⊎◌, List, [], ◌∷◌, All, Result, Ok, Err, nat_eq, codes, if◌then◌else◌}
+use Rattle.std.specs.Prelude.{ℕ, ◌≡◌, ◌≢◌, ◌⊎◌, List, [], ◌∷◌, All, Result, Ok, Err, nat_eq}
+use Rattle.std.specs.Prelude.{codes, if◌then◌else◌}
 use Rattle.std.specs.List.{ends_with}
 use Rattle.jm_class.specs.Classes.{ClassData, class_text}
 use Rattle.jm_class.specs.ComputedClass.{class_of}

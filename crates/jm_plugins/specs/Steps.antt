@@ -1,5 +1,6 @@
 -- How far the plug-ins have come (words of the proof).
-use Rattle.std.specs.Prelude.{ℕ, ◌≡◌, ◌+◌, ◌⊎◌, List, [], ◌∷◌, Some, Result, Ok, Err, nat_eq, codes, slice_get, slice_index_or, if◌then◌else◌}
+use Rattle.std.specs.Prelude.{ℕ, ◌≡◌, ◌+◌, ◌⊎◌, List, [], ◌∷◌, Some, Result, Ok, Err, nat_eq}
+use Rattle.std.specs.Prelude.{codes, slice_get, slice_index_or, if◌then◌else◌}
 use Rattle.std.specs.List.{ends_with, position_or_len}
 use Rattle.jm_class.specs.Classes.{class_text}
 use Rattle.jm_class.specs.ComputedClass.{class_of}

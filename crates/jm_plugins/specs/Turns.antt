@@ -1,5 +1,6 @@
 -- In which order the pairs of a pool come by their patterns (words of the proof).
-use Rattle.std.specs.Prelude.{ℕ, ◌≡◌, ◌==◌, ◌≤◌, List, Some, length, map, filter, slice_get, IsPermutation}
+use Rattle.std.specs.Prelude.{ℕ, ◌≡◌, ◌==◌, ◌≤◌, List, Some, length, map, filter, slice_get}
+use Rattle.std.specs.Prelude.{IsPermutation}
 use Rattle.std.specs.List.{range_with_len, AllZip, AllPairs}
 use Rattle.jm_pattern.specs.declared.signs.Sign.{Sign}
 use Rattle.jm_plugins.specs.declared.order.Turn.{Turn}

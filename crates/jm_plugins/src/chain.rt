@@ -70,8 +70,8 @@ fn act_all<R: Threads + Sync, G: Gate + Sync>(
     ensures { UnlessMemory result (apply list.now pool) }
 {
     let mut pool = pool;
-    for plugin in list {
-        match act(rt, alloc, jobs, pool, plugin, gate) {
+    for number in 0..list.len() {
+        match act(rt, alloc, jobs, pool, &list[number], gate) {
             Ok(next) => pool = next,
             Err(refusal) => return Err(refusal),
         }

@@ -2,8 +2,7 @@ use Rattle.std.proofs.Common.{All, ◌<◌, length, subst, sym, ◌∙◌}
 use Rattle.std.specs.List.{AllZip}
 use Rattle.jm_plugins.specs.Plugins.{strip_pairs}
 use Rattle.jm_plugins.specs.Steps.{class_places, put_stripped, IsStripped}
-use Rattle.jm_plugins.proofs.ChainLaws.{unless_then}
-use Rattle.jm_plugins.proofs.ClassLaws.{classes_within, stripped_within, put_all}
+use Rattle.jm_plugins.proofs.ClassLaws.{classes_within, stripped_within, put_all, unless_then}
 use Rattle.jm_plugins.proofs.classes.strip_classes.Goals as goal
 
 pub strip_each-requires-clause-within : goal.strip_each-requires-clause-within
