@@ -2,8 +2,16 @@ pub mod FaultLaws
 pub mod SectionPlaces
 pub mod PairLaws
 pub mod LinkLaws
+mod SessionVectors
 mod StatVectors
 pub mod Vectors
+pub mod FreeLaws
+pub mod LineLaws
+pub mod ListLaws
+pub mod WithinLaws
+pub mod SessionEnds
+pub mod SessionSteps
+pub mod ServeErrors
 pub mod ToldLaws
 mod TreeCases
 mod TreeContents

@@ -1,5 +1,9 @@
+pub mod Lines
 pub mod Listed
+pub mod Lists
 pub mod Nodes
+pub mod Reply
+pub mod Sessions
 pub mod Stat
 pub mod Told
 pub mod TreesShown

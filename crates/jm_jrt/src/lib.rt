@@ -1,4 +1,5 @@
-//! What stands at a path of the two trees of an image: folders, files and links.
+//! What stands at a path of the two trees of an image: folders, files and links; and sessions,
+//! whose lines ask for it.
 #![tactic(auto)]
 
 mod child_list;
@@ -6,13 +7,20 @@ mod jrt_error;
 mod node;
 mod owners;
 mod paths;
+mod replies;
+mod requests;
 mod rows;
+mod serve_error;
+mod session;
 mod trees;
 mod words;
 
 pub use child_list::{Child, ChildList};
 pub use jrt_error::JrtError;
 pub use node::Node;
+pub use requests::answer;
+pub use serve_error::ServeError;
+pub use session::serve;
 pub use trees::{children, owner, stat};
 
 #[cfg(test)]

@@ -1,5 +1,6 @@
 ghost use Rattle.std.specs.Prelude.{◌≡◌, ◌<◌};
 
+use super::vectors::one;
 use crate::{Child, ChildList, JrtError, Node, children, owner, stat};
 use jm_bytes::{Meter, Steps};
 use jm_halves::NoGate;
@@ -10,21 +11,6 @@ use std::marker::Brand;
 use std::sync::ledger::{Blank, Ledger};
 use std::test::Fail;
 use std::thread::Threads;
-
-/// The written image of `/a/p/A`, which holds `hi`.
-fn one() -> &'static [u8] {
-    &[
-        218, 218, 254, 202, 0, 0, 1, 0, 0, 0, 0, 0, 6, 0, 0, 0, 6, 0, 0, 0, 51, 0, 0, 0, 53, 0, 0,
-        0, 255, 255, 255, 255, 254, 255, 255, 255, 0, 0, 0, 0, 1, 0, 0, 0, 7, 0, 0, 0, 0, 0, 0, 0,
-        1, 0, 0, 0, 10, 0, 0, 0, 17, 0, 0, 0, 26, 0, 0, 0, 35, 0, 0, 0, 44, 0, 0, 0, 0, 8, 7, 16,
-        9, 24, 11, 56, 2, 0, 24, 22, 40, 10, 56, 4, 0, 8, 32, 24, 40, 40, 14, 56, 4, 0, 8, 32, 24,
-        7, 40, 18, 56, 4, 0, 8, 13, 24, 9, 40, 2, 56, 8, 0, 24, 44, 40, 22, 56, 4, 0, 0, 99, 108,
-        97, 115, 115, 0, 97, 0, 112, 0, 65, 0, 112, 97, 99, 107, 97, 103, 101, 115, 0, 47, 112, 97,
-        99, 107, 97, 103, 101, 115, 0, 109, 111, 100, 117, 108, 101, 115, 0, 97, 47, 112, 0, 47,
-        109, 111, 100, 117, 108, 101, 115, 0, 104, 105, 0, 0, 0, 0, 7, 0, 0, 0, 35, 0, 0, 0, 1, 0,
-        0, 0, 17, 0, 0, 0, 26, 0, 0, 0,
-    ]
-}
 
 /// `/packages` with two bytes, which are no word.
 fn bad_node() -> &'static [u8] {

@@ -1,0 +1,220 @@
+//! The texts of replies.
+ghost use Rattle.std.specs.Prelude.{◌≡◌, ◌++◌, codes, length, IfOk, IfSome, OnOk, map, option_map};
+ghost use Rattle.std.specs.Fmt.{decimal};
+ghost use Rattle.jm_names.specs.Names.{join, module_front, parent_front, ext_end};
+ghost use Rattle.jm_names.specs.Pieces.{cut_of};
+ghost use Rattle.jm_reader.specs.Walk.{IsLater};
+ghost use Rattle.jm_jrt.specs.Nodes.{item_as};
+ghost use Rattle.jm_jrt.specs.Reply as reply;
+ghost use Rattle.jm_jrt.specs.Lists.{child_line};
+
+use crate::child_list::{Child, ChildList};
+use crate::jrt_error::JrtError;
+use crate::node::Node;
+use itoa::Buffer;
+use jm_bytes::{Meter, NoMemory};
+use jm_names::{Pieces, is_node, to_utf8};
+use std::alloc::Global;
+use std::sync::ledger::Ledger;
+
+/// Puts bytes at the end of a text.
+pub fn extend(text: &mut Vec<u8>, bytes: &[u8]) -> Result<(), NoMemory>
+    ensures { OnOk result (text.new.items ≡ text.old.items ++ bytes.now) }
+{
+    match text.extend_from_slice(bytes) {
+        Ok(()) => Ok(()),
+        Err(_) => Err(NoMemory),
+    }
+}
+
+/// A text of these bytes and a newline.
+pub fn line(alloc: Global, bytes: &[u8]) -> Result<Vec<u8>, NoMemory>
+    ensures { IfOk result (λ text. text.items ≡ reply.line bytes.now) }
+{
+    let mut text = Vec::new(alloc);
+    extend(&mut text, bytes)?;
+    extend(&mut text, b"\n")?;
+    Ok(text)
+}
+
+/// A word with its space, a number and a newline.
+pub fn numbered(alloc: Global, word: &[u8], number: usize) -> Result<Vec<u8>, NoMemory>
+    ensures { IfOk result (λ text. text.items ≡ reply.numbered word.now number) }
+{
+    let mut text = Vec::new(alloc);
+    let mut digits = Buffer::new();
+    extend(&mut text, word)?;
+    extend(&mut text, digits.format(number).as_bytes())?;
+    extend(&mut text, b"\n")?;
+    Ok(text)
+}
+
+/// Puts a word with its space, or a path, and a name in UTF-8, and a newline at the end.
+fn extend_named(alloc: Global, text: &mut Vec<u8>, word: &[u8], name: &[u8]) -> Result<(), NoMemory>
+    ensures { OnOk result (text.new.items ≡ text.old.items ++ reply.named word.now name.now) }
+{
+    let name = to_utf8(alloc, name)?;
+    extend(text, word)?;
+    extend(text, name.as_slice())?;
+    extend(text, b"\n")
+}
+
+/// The reply of a refusal.
+pub fn error_reply(alloc: Global, error: JrtError) -> Result<Vec<u8>, NoMemory>
+    ensures { IfOk result (λ text. text.items ≡ reply.error_reply error) }
+{
+    match error {
+        JrtError::NotThere => line(alloc, b"error NotThere"),
+        JrtError::BadNode(at) => numbered(alloc, b"error BadNode ", at),
+        JrtError::NotFolder => line(alloc, b"error NotFolder"),
+    }
+}
+
+/// The reply of `find` where there is an entry.
+pub fn found_reply(alloc: Global, content: &[u8]) -> Result<Vec<u8>, NoMemory>
+    ensures { IfOk result (λ text. text.items
+        ≡ reply.numbered (codes "found ") (length content.now) ++ reply.line content.now) }
+{
+    let mut text = numbered(alloc, b"found ", content.len())?;
+    extend(&mut text, content)?;
+    extend(&mut text, b"\n")?;
+    Ok(text)
+}
+
+/// The line of a name in UTF-8 behind a word.
+pub fn named(alloc: Global, word: &[u8], name: &[u8]) -> Result<Vec<u8>, NoMemory>
+    ensures { IfOk result (λ text. text.items ≡ reply.named word.now name.now) }
+{
+    let mut text = Vec::new(alloc);
+    extend_named(alloc, &mut text, word, name)?;
+    Ok(text)
+}
+
+/// The reply of `stat` where there is something.
+#[tactic(auto, using(crate::proofs::ListLaws::item_reply_of))]
+pub fn node_reply(alloc: Global, node: &Node) -> Result<Vec<u8>, NoMemory>
+    ensures { IfOk result (λ text. text.items ≡ reply.stat_reply (item_as (Ok node.now))) }
+{
+    match node {
+        Node::Folder(list) => numbered(alloc, b"folder ", list.len()),
+        Node::File(bytes) => numbered(alloc, b"file ", bytes.len()),
+        Node::Link(module) => named(alloc, b"link /modules/", module),
+    }
+}
+
+/// Puts a module with its slashes at the end, or nothing.
+fn extend_module(text: &mut Vec<u8>, module: &[u8]) -> Result<(), NoMemory>
+    ensures { OnOk result (text.new.items ≡ text.old.items ++ module_front «module».now) }
+{
+    if module.is_empty() {
+        return Ok(());
+    }
+    extend(text, b"/")?;
+    extend(text, module)?;
+    extend(text, b"/")
+}
+
+/// Puts a parent with its slash at the end, or nothing.
+fn extend_parent(text: &mut Vec<u8>, parent: &[u8]) -> Result<(), NoMemory>
+    ensures { OnOk result (text.new.items ≡ text.old.items ++ parent_front parent.now) }
+{
+    if parent.is_empty() {
+        return Ok(());
+    }
+    extend(text, parent)?;
+    extend(text, b"/")
+}
+
+/// Puts an extension with its dot at the end, or nothing.
+fn extend_ext(text: &mut Vec<u8>, ext: &[u8]) -> Result<(), NoMemory>
+    ensures { OnOk result (text.new.items ≡ text.old.items ++ ext_end ext.now) }
+{
+    if ext.is_empty() {
+        return Ok(());
+    }
+    extend(text, b".")?;
+    extend(text, ext)
+}
+
+/// The name that the pieces make.
+fn name_of(alloc: Global, pieces: &Pieces) -> Result<Vec<u8>, NoMemory>
+    ensures { IfOk result (λ text. text.items ≡ join (cut_of pieces.now)) }
+{
+    let mut text = Vec::new(alloc);
+    extend_module(&mut text, pieces.module)?;
+    extend_parent(&mut text, pieces.parent)?;
+    extend(&mut text, pieces.base)?;
+    extend_ext(&mut text, pieces.ext)?;
+    Ok(text)
+}
+
+/// Puts the line of an entry at the end.
+fn extend_entry(alloc: Global, text: &mut Vec<u8>, pieces: &Pieces) -> Result<(), NoMemory>
+    ensures { OnOk result (text.new.items
+        ≡ text.old.items ++ reply.entry_line (join (cut_of pieces.now))) }
+{
+    let name = name_of(alloc, pieces)?;
+    let name = name.as_slice();
+    if is_node(name) {
+        extend_named(alloc, text, b"", name)
+    } else {
+        extend_named(alloc, text, b"/modules", name)
+    }
+}
+
+/// Puts the line of an owner in the package at a path at the end.
+fn extend_owner(
+    alloc: Global,
+    text: &mut Vec<u8>,
+    path: &[u8],
+    empty: bool,
+    module: &[u8],
+) -> Result<(), NoMemory>
+    ensures { OnOk result (text.new.items ≡ text.old.items
+        ++ reply.owner_line path.now (record { empty = empty; «module» = «module».now })) }
+{
+    let path = to_utf8(alloc, path)?;
+    let module = to_utf8(alloc, module)?;
+    extend(text, path.as_slice())?;
+    extend(text, b"/")?;
+    extend(text, module.as_slice())?;
+    if empty {
+        extend(text, b" empty")?;
+    }
+    extend(text, b"\n")
+}
+
+/// Puts the line of a child of the folder at a path at the end.
+fn extend_child(
+    alloc: Global,
+    text: &mut Vec<u8>,
+    path: &[u8],
+    child: &Child,
+) -> Result<(), NoMemory>
+    ensures { OnOk result (text.new.items ≡ text.old.items ++ child_line path.now child.now) }
+{
+    match child {
+        Child::Entry(pieces) => extend_entry(alloc, text, pieces),
+        Child::Owner { empty, module } => extend_owner(alloc, text, path, *empty, module),
+    }
+}
+
+/// Puts the lines of the children that a list still has at the end of a text: what `ls` of the
+/// folder at this path says.
+pub fn extend_children<R: Ledger>(
+    alloc: Global,
+    text: &mut Vec<u8>,
+    path: &[u8],
+    list: &mut ChildList,
+    reads: &mut Meter<R>,
+) -> Result<(), NoMemory>
+    requires { reads.old.bytes ≡ list.old.bytes }
+    ensures lines { OnOk result (text.new.items
+        ≡ text.old.items ++ reply.held_lines path.now list.old.rest) }
+    ensures reads { IsLater reads.old reads.new }
+{
+    while let Some(child) = list.step(reads) {
+        extend_child(alloc, text, path, &child)?;
+    }
+    Ok(())
+}

@@ -1,0 +1,198 @@
+//! The reply to a line of a session.
+ghost use Rattle.std.specs.Prelude.{◌≡◌, ◌++◌, codes, length, true, false, IfOk, IfSome, IfNone};
+ghost use Rattle.std.specs.List.{after_first, before_first, list_any};
+ghost use Rattle.std.specs.Str.{bytes_eq};
+ghost use Rattle.jm_bytes.specs.Metered.{CostsAtMost, RisesAtMost};
+ghost use Rattle.jm_form.specs.Validity.{look};
+ghost use Rattle.jm_reader.specs.Walk.{IsLater};
+ghost use Rattle.jm_jrt.specs.Reply as reply;
+ghost use Rattle.jm_jrt.specs.Stat as answers;
+
+use crate::replies::{
+    error_reply, extend, extend_children, found_reply, line, named, node_reply, numbered,
+};
+use crate::trees::{children, owner, stat};
+use jm_bytes::{Meter, NoMemory, Steps, Text};
+use jm_names::to_modified;
+use jm_reader::find;
+use jm_valid::Image;
+use memchr::memchr;
+use std::alloc::Global;
+use std::sync::ledger::Ledger;
+
+/// The reply of `find` with the name of an entry.
+fn answer_find<H: Ledger, R: Ledger>(
+    alloc: Global,
+    image: &Image,
+    name: &[u8],
+    hashes: &mut Steps<H>,
+    reads: &mut Meter<R>,
+) -> Result<Vec<u8>, NoMemory>
+    requires { reads.old.bytes ≡ image.now }
+    ensures reply { IfOk result (λ text. text.items ≡ reply.find_reply (look image.now name.now)) }
+    ensures hashes { RisesAtMost hashes.old hashes.new 2 }
+    ensures reads { CostsAtMost reads.old reads.new (reply.find_bytes image.now name.now) }
+{
+    match find(image, name, hashes, reads) {
+        None => line(alloc, b"none"),
+        Some(found) => found_reply(alloc, found.bytes),
+    }
+}
+
+/// The reply of `stat` with a path.
+fn answer_stat<H: Ledger, R: Ledger>(
+    alloc: Global,
+    image: &Image,
+    path: &[u8],
+    hashes: &mut Steps<H>,
+    reads: &mut Meter<R>,
+) -> Result<Vec<u8>, NoMemory>
+    requires { reads.old.bytes ≡ image.now }
+    ensures reply { IfOk result (λ text. text.items
+        ≡ reply.stat_reply (answers.stat image.now path.now)) }
+    ensures hashes { RisesAtMost hashes.old hashes.new 4 }
+    ensures reads { IsLater reads.old reads.new }
+{
+    match stat(image, path, hashes, reads) {
+        Err(error) => error_reply(alloc, error),
+        Ok(node) => node_reply(alloc, &node),
+    }
+}
+
+/// The reply of `ls` with a path.
+fn answer_ls<H: Ledger, R: Ledger>(
+    alloc: Global,
+    image: &Image,
+    path: &[u8],
+    hashes: &mut Steps<H>,
+    reads: &mut Meter<R>,
+) -> Result<Vec<u8>, NoMemory>
+    requires { reads.old.bytes ≡ image.now }
+    ensures reply { IfOk result (λ text. text.items
+        ≡ reply.ls_reply path.now (answers.held (answers.stat image.now path.now))) }
+    ensures hashes { RisesAtMost hashes.old hashes.new 4 }
+    ensures reads { IsLater reads.old reads.new }
+{
+    let mut list = match children(image, path, hashes, reads) {
+        Err(error) => return error_reply(alloc, error),
+        Ok(list) => list,
+    };
+    let mut text = numbered(alloc, b"folder ", list.len())?;
+    extend_children(alloc, &mut text, path, &mut list, reads)?;
+    Ok(text)
+}
+
+/// The path of the package of a name.
+fn package_path(alloc: Global, name: &[u8]) -> Result<Vec<u8>, NoMemory>
+    ensures { IfOk result (λ path. path.items ≡ codes "/packages/" ++ name.now) }
+{
+    let mut path = Vec::new(alloc);
+    extend(&mut path, b"/packages/")?;
+    extend(&mut path, name)?;
+    Ok(path)
+}
+
+/// The reply of `owner` with the name of a package.
+fn answer_owner<H: Ledger, R: Ledger>(
+    alloc: Global,
+    image: &Image,
+    name: &[u8],
+    hashes: &mut Steps<H>,
+    reads: &mut Meter<R>,
+) -> Result<Vec<u8>, NoMemory>
+    requires { reads.old.bytes ≡ image.now }
+    ensures reply { IfOk result (λ text. text.items
+        ≡ reply.owner_reply (answers.owner image.now (codes "/packages/" ++ name.now))) }
+    ensures hashes { RisesAtMost hashes.old hashes.new 2 }
+    ensures reads { IsLater reads.old reads.new }
+{
+    let path = package_path(alloc, name)?;
+    match owner(image, path.as_slice(), hashes, reads) {
+        Err(error) => error_reply(alloc, error),
+        Ok(None) => line(alloc, b"none"),
+        Ok(Some(module)) => named(alloc, b"owner ", module),
+    }
+}
+
+/// The reply to a request that isn't `find`.
+fn answer_other<H: Ledger, R: Ledger>(
+    alloc: Global,
+    image: &Image,
+    verb: &[u8],
+    argument: &[u8],
+    hashes: &mut Steps<H>,
+    reads: &mut Meter<R>,
+) -> Result<Vec<u8>, NoMemory>
+    requires metered { reads.old.bytes ≡ image.now }
+    requires other { bytes_eq verb.now (codes "find") ≡ false }
+    ensures reply { IfOk result (λ text. text.items
+        ≡ reply.request_reply image.now verb.now argument.now) }
+    ensures hashes { RisesAtMost hashes.old hashes.new 4 }
+    ensures reads { IsLater reads.old reads.new }
+{
+    if verb == b"stat".as_slice() {
+        return answer_stat(alloc, image, argument, hashes, reads);
+    }
+    if verb == b"ls".as_slice() {
+        return answer_ls(alloc, image, argument, hashes, reads);
+    }
+    if verb == b"owner".as_slice() {
+        return answer_owner(alloc, image, argument, hashes, reads);
+    }
+    line(alloc, b"error Request")
+}
+
+/// What stands before and after the first space of a line.
+fn cut_space(line: &[u8]) -> Option<(&[u8], &[u8])>
+    ensures found { IfSome result (λ cut. list_any reply.is_space line.now ≡ true) }
+    ensures before { IfSome result (λ cut. cut.0.now ≡ before_first reply.is_space line.now) }
+    ensures after { IfSome result (λ cut. cut.1.now ≡ after_first reply.is_space line.now) }
+    ensures none { IfNone result (list_any reply.is_space line.now ≡ false) }
+{
+    let at = memchr(b' ', line)?;
+    let (before, from_there) = line.split_at(at);
+    let (_, after) = from_there.split_at(1);
+    Some((before, after))
+}
+
+/// The text of the reply to a line.
+fn reply_to<H: Ledger, R: Ledger>(
+    alloc: Global,
+    image: &Image,
+    request: &[u8],
+    hashes: &mut Steps<H>,
+    reads: &mut Meter<R>,
+) -> Result<Vec<u8>, NoMemory>
+    requires { reads.old.bytes ≡ image.now }
+    ensures reply { IfOk result (λ text. text.items ≡ reply.reply image.now request.now) }
+    ensures hashes { RisesAtMost hashes.old hashes.new 4 }
+    ensures reads { reply.IsWithin (reply.line_bytes image.now request.now) reads.old reads.new }
+{
+    let Some((verb, argument)) = cut_space(request) else {
+        return line(alloc, b"error Request");
+    };
+    let argument = to_modified(alloc, argument)?;
+    if verb == b"find".as_slice() {
+        return answer_find(alloc, image, argument.as_slice(), hashes, reads);
+    }
+    answer_other(alloc, image, verb, argument.as_slice(), hashes, reads)
+}
+
+/// The reply to a line of a session, which is given without its newline (this project's rule).
+///
+/// It costs at most four hashes. To `find NAME` it costs at most two hashes, and at most the bytes
+/// of the name as an image stores it, 76 more and those of the content.
+pub fn answer<H: Ledger, R: Ledger>(
+    alloc: Global,
+    image: &Image,
+    line: &[u8],
+    hashes: &mut Steps<H>,
+    reads: &mut Meter<R>,
+) -> Result<Text, NoMemory>
+    requires { reads.old.bytes ≡ image.now }
+    ensures reply { IfOk result (λ text. text ≡ reply.reply image.now line.now) }
+    ensures hashes { RisesAtMost hashes.old hashes.new 4 }
+    ensures reads { reply.IsWithin (reply.line_bytes image.now line.now) reads.old reads.new }
+{
+    Ok(Text::from_vec(reply_to(alloc, image, line, hashes, reads)?))
+}

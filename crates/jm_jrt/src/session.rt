@@ -1,0 +1,320 @@
+//! A session: lines come from a source, in whatever pieces, and their replies go to a sink.
+ghost use Rattle.std.specs.Prelude.{◌≡◌, ◌+◌, ◌*◌, ◌<◌, ◌≤◌, ◌∷◌, ◌++◌, [], length, take};
+ghost use Rattle.std.specs.Prelude.{option_map};
+ghost use Rattle.std.specs.Prelude.{Err, IfErr, IfNone, IfOk, IfSome, IsErrOf, IsFalse, IsTrue};
+ghost use Rattle.std.specs.Prelude.{OnErr, OnOk};
+ghost use Rattle.jm_bytes.specs.Metered.{RisesAtMost};
+ghost use Rattle.jm_outside.specs.Outcome.{CountsFaults, Shows, Told};
+ghost use Rattle.jm_reader.specs.Walk.{IsLater};
+ghost use Rattle.jm_jrt.specs.Reply.{IsWithin, line_bytes, reply};
+ghost use Rattle.jm_jrt.specs.Sessions.{Arrives, Breaks, IsAnswered, IsFree, IsOpen, LineFails};
+ghost use Rattle.jm_jrt.specs.Sessions.{Passes, PutFails, Refuses, Serves, moment};
+
+use crate::replies::extend;
+use crate::requests::answer;
+use crate::serve_error::ServeError;
+use jm_bytes::{Meter, NoMemory, Steps};
+use jm_outside::{Sink, SinkError, Source};
+use jm_valid::Image;
+use memchr::memchr;
+use std::alloc::Global;
+use std::sync::ledger::Ledger;
+
+/// The most bytes of a line, without its newline.
+const LONGEST_LINE: usize = 8192;
+
+/// The most lines of a session.
+const MOST_LINES: u64 = 1_000_000;
+
+/// How many bytes a call of the source is asked for.
+const PIECE: usize = 65_536;
+
+/// How far a session has come.
+#[derive(Debug, Drop)]
+struct Progress {
+    /// How many lines were answered.
+    lines: u64,
+    /// The bytes of the line that has begun.
+    part: Vec<u8>,
+}
+
+/// Refuses a line behind so many if it is one too many or too long.
+fn check_line(lines: u64, len: usize) -> Result<(), ServeError>
+    requires { lines ≤ 1000000 }
+    ensures ok { OnOk result ((lines < 1000000) × (len ≤ 8192)) }
+    ensures err { IfErr result (λ error. Refuses error lines len) }
+{
+    if lines == MOST_LINES {
+        return Err(ServeError::TooManyLines);
+    }
+    if len > LONGEST_LINE {
+        return Err(ServeError::LongLine(lines + 1));
+    }
+    Ok(())
+}
+
+/// Puts the reply to a line, by one `put`.
+fn put_reply<O: Sink, H: Ledger, R: Ledger>(
+    alloc: Global,
+    image: &Image,
+    line: &[u8],
+    out: &mut O,
+    hashes: &mut Steps<H>,
+    reads: &mut Meter<R>,
+) -> Result<(), ServeError>
+    requires { reads.old.bytes ≡ image.now }
+    ensures ok { OnOk result (O.content out.new
+        ≡ option_map (λ old. old ++ reply image.now line.now) (O.content out.old)) }
+    ensures err { IfErr result (λ error. PutFails error (reply image.now line.now)
+        (O.content out.old) (O.content out.new)) }
+    ensures faults { CountsFaults (O.faults out.old) (O.faults out.new)
+        (IsErrOf result ServeError.WriteFault) }
+    ensures hashes { RisesAtMost hashes.old hashes.new 4 }
+    ensures reads { IsWithin (line_bytes image.now line.now) reads.old reads.new }
+{
+    let reply = answer(alloc, image, line, hashes, reads)?;
+    match out.put(alloc, reply.as_slice()) {
+        Ok(()) => Ok(()),
+        Err(SinkError::Failed) => Err(ServeError::WriteFault),
+        Err(SinkError::Memory) => Err(ServeError::Memory),
+    }
+}
+
+/// Puts the reply to the line that the part and these bytes make, and empties the part.
+fn put_joined<O: Sink, H: Ledger, R: Ledger>(
+    alloc: Global,
+    image: &Image,
+    part: &mut Vec<u8>,
+    bytes: &[u8],
+    out: &mut O,
+    hashes: &mut Steps<H>,
+    reads: &mut Meter<R>,
+) -> Result<(), ServeError>
+    requires { reads.old.bytes ≡ image.now }
+    ensures ok { OnOk result (O.content out.new
+        ≡ option_map (λ old. old ++ reply image.now (part.old.items ++ bytes.now))
+        (O.content out.old)) }
+    ensures part { OnOk result (part.new.items ≡ []) }
+    ensures err { IfErr result (λ error. PutFails error
+        (reply image.now (part.old.items ++ bytes.now)) (O.content out.old) (O.content out.new)) }
+    ensures faults { CountsFaults (O.faults out.old) (O.faults out.new)
+        (IsErrOf result ServeError.WriteFault) }
+    ensures hashes { RisesAtMost hashes.old hashes.new 4 }
+    ensures reads { IsWithin (line_bytes image.now (part.old.items ++ bytes.now))
+        reads.old reads.new }
+{
+    if part.is_empty() {
+        return put_reply(alloc, image, bytes, out, hashes, reads);
+    }
+    extend(part, bytes)?;
+    put_reply(alloc, image, part.as_slice(), out, hashes, reads)?;
+    part.clear();
+    Ok(())
+}
+
+/// Answers the line that the part and these bytes make.
+fn end_line<O: Sink, H: Ledger, R: Ledger>(
+    alloc: Global,
+    image: &Image,
+    progress: &mut Progress,
+    bytes: &[u8],
+    out: &mut O,
+    hashes: &mut Steps<H>,
+    reads: &mut Meter<R>,
+) -> Result<(), ServeError>
+    requires metered { reads.old.bytes ≡ image.now }
+    requires open { IsOpen progress.old.lines progress.old.part.items }
+    ensures put { OnOk result (O.content out.new
+        ≡ option_map (λ old. old ++ reply image.now (progress.old.part.items ++ bytes.now))
+        (O.content out.old)) }
+    ensures line { OnOk result (IsAnswered progress.old.lines progress.new.lines
+        (progress.old.part.items ++ bytes.now) progress.new.part.items) }
+    ensures err { IfErr result (λ error. LineFails error image.now progress.old.lines
+        (progress.old.part.items ++ bytes.now) (O.content out.old) (O.content out.new)) }
+    ensures faults { CountsFaults (O.faults out.old) (O.faults out.new)
+        (IsErrOf result ServeError.WriteFault) }
+    ensures hashes { RisesAtMost hashes.old hashes.new 4 }
+    ensures reads { IsWithin (line_bytes image.now (progress.old.part.items ++ bytes.now))
+        reads.old reads.new }
+{
+    check_line(progress.lines, progress.part.len() + bytes.len())?;
+    put_joined(alloc, image, &mut progress.part, bytes, out, hashes, reads)?;
+    progress.lines += 1;
+    Ok(())
+}
+
+/// Keeps the bytes of a line that doesn't end yet.
+fn keep_part(progress: &mut Progress, bytes: &[u8]) -> Result<(), ServeError>
+    requires open { IsOpen progress.old.lines progress.old.part.items }
+    requires free { IsFree bytes.now }
+    ensures open_new { OnOk result (IsOpen progress.new.lines progress.new.part.items) }
+    ensures lines { OnOk result (progress.new.lines ≡ progress.old.lines) }
+    ensures part { OnOk result (progress.new.part.items ≡ progress.old.part.items ++ bytes.now) }
+    ensures err { IfErr result (λ error. Refuses error progress.old.lines
+        (length (progress.old.part.items ++ bytes.now))) }
+    ensures begun { OnErr result (0 < length bytes.now) }
+{
+    if bytes.is_empty() {
+        return Ok(());
+    }
+    check_line(progress.lines, progress.part.len() + bytes.len())?;
+    extend(&mut progress.part, bytes)?;
+    Ok(())
+}
+
+/// What stands before and after the first newline.
+fn cut_line(bytes: &[u8]) -> Option<(&[u8], &[u8])>
+    ensures cut { IfSome result (λ cut. bytes.now ≡ cut.0.now ++ 10 ∷ cut.1.now) }
+    ensures free { IfSome result (λ cut. IsFree cut.0.now) }
+    ensures none { IfNone result (IsFree bytes.now) }
+{
+    let at = memchr(b'\n', bytes)?;
+    let (before, from_there) = bytes.split_at(at);
+    let (_, after) = from_there.split_at(1);
+    Some((before, after))
+}
+
+/// Answers the lines that end in a piece of the input, and keeps what follows them.
+fn take_piece<O: Sink, H: Ledger, R: Ledger>(
+    alloc: Global,
+    image: &Image,
+    progress: &mut Progress,
+    piece: &[u8],
+    out: &mut O,
+    hashes: &mut Steps<H>,
+    reads: &mut Meter<R>,
+) -> Result<(), ServeError>
+    requires metered { reads.old.bytes ≡ image.now }
+    requires open { IsOpen progress.old.lines progress.old.part.items }
+    ensures passes { OnOk result (Passes image.now (progress.old.part.items ++ piece.now)
+        (moment (O.content out.old) progress.old.lines hashes.old reads.old)
+        progress.new.part.items
+        (moment (O.content out.new) progress.new.lines hashes.new reads.new)) }
+    ensures open_new { OnOk result (IsOpen progress.new.lines progress.new.part.items) }
+    ensures err { IfErr result (λ error. Breaks error image.now
+        (progress.old.part.items ++ piece.now)
+        (moment (O.content out.old) progress.old.lines hashes.old reads.old)
+        (O.content out.new)) }
+    ensures faults { CountsFaults (O.faults out.old) (O.faults out.new)
+        (IsErrOf result ServeError.WriteFault) }
+    ensures hashes { hashes.old ≤ hashes.new }
+    ensures reads { IsLater reads.old reads.new }
+{
+    let mut rest = piece;
+    while let Some((bytes, behind)) = cut_line(rest) {
+        end_line(alloc, image, progress, bytes, out, hashes, reads)?;
+        rest = behind;
+    }
+    keep_part(progress, rest)
+}
+
+/// The next bytes of a source at the front of a slice, and how many; 0 at its end.
+fn take<I: Source>(input: &mut I, into: &mut [u8]) -> Result<usize, ServeError>
+    requires { 0 < length into.old }
+    ensures within { IfOk result (λ n. n ≤ length into.new) }
+    ensures length { length into.new ≡ length into.old }
+    ensures moved { IfOk result (λ n. Told (I.rest input.old) (I.rest input.new)
+        (λ old new. old ≡ take n into.new ++ new)) }
+    ensures end { IfOk result (λ n. n ≡ 0 → Shows (I.rest input.old) (λ rest. rest ≡ [])) }
+    ensures err { OnErr result (I.rest input.new ≡ I.rest input.old) }
+    ensures fault { IfErr result (λ error. error ≡ ServeError.ReadFault) }
+    ensures faults { CountsFaults (I.faults input.old) (I.faults input.new)
+        (IsErrOf result ServeError.ReadFault) }
+{
+    match input.take(into) {
+        Ok(count) => Ok(count),
+        Err(_) => Err(ServeError::ReadFault),
+    }
+}
+
+/// A piece of zeros, for the bytes of the source.
+fn zeros(alloc: Global) -> Result<Vec<u8>, NoMemory>
+    ensures { IfOk result (λ piece. length piece.items ≡ 65536) }
+{
+    match Vec::from_elem(alloc, 0, PIECE) {
+        Ok(piece) => Ok(piece),
+        Err(_) => Err(NoMemory),
+    }
+}
+
+/// Answers the lines of which the source gives the newline, up to its end.
+fn serve_ended<I: Source, O: Sink, H: Ledger, R: Ledger>(
+    alloc: Global,
+    image: &Image,
+    input: &mut I,
+    out: &mut O,
+    hashes: &mut Steps<H>,
+    reads: &mut Meter<R>,
+) -> Result<Progress, ServeError>
+    requires { reads.old.bytes ≡ image.now }
+    ensures ok { IfOk result (λ progress. Arrives image.now (I.rest input.old) (I.rest input.new)
+        (moment (O.content out.old) 0 hashes.old reads.old) progress.part.items
+        (moment (O.content out.new) progress.lines hashes.new reads.new)) }
+    ensures end { OnOk result (Told (I.rest input.old) (I.rest input.new)
+        (λ old new. new ≡ [])) }
+    ensures err { IfErr result (λ error. Serves image.now (Err error)
+        (I.rest input.old) (I.rest input.new) (O.content out.old) (O.content out.new)
+        reads.old reads.new) }
+    ensures input_faults { CountsFaults (I.faults input.old) (I.faults input.new)
+        (IsErrOf result ServeError.ReadFault) }
+    ensures out_faults { CountsFaults (O.faults out.old) (O.faults out.new)
+        (IsErrOf result ServeError.WriteFault) }
+    ensures hashes { hashes.old ≤ hashes.new }
+    ensures reads { IsLater reads.old reads.new }
+{
+    let mut piece = zeros(alloc)?;
+    let mut progress = Progress {
+        lines: 0,
+        part: Vec::new(alloc),
+    };
+    loop {
+        let count = take(input, piece.as_mut_slice())?;
+        if count == 0 {
+            return Ok(progress);
+        }
+        let (bytes, _) = piece.as_slice().split_at(count);
+        take_piece(alloc, image, &mut progress, bytes, out, hashes, reads)?;
+    }
+}
+
+/// Some bytes of a line have come.
+fn has_bytes(part: &Vec<u8>) -> bool
+    ensures yes { IsTrue result → 0 < length part.now.items }
+    ensures no { IsFalse result → part.now.items ≡ [] }
+{
+    !part.is_empty()
+}
+
+/// Answers each line of the input until its end, and gives the number of lines (this project's
+/// rule). Each reply is one `put`. A line ends at a newline; a last one without a newline counts
+/// where it has a byte. How the source cuts its bytes shows nowhere.
+///
+/// What was put before an error stays: the replies to the earlier lines, after `WriteFault` and a
+/// front of one more, and after `ReadFault` those to the lines whose newline the source gave. It
+/// costs at most four hashes for each line.
+pub fn serve<I: Source, O: Sink, H: Ledger, R: Ledger>(
+    alloc: Global,
+    image: &Image,
+    input: &mut I,
+    out: &mut O,
+    hashes: &mut Steps<H>,
+    reads: &mut Meter<R>,
+) -> Result<u64, ServeError>
+    requires { reads.old.bytes ≡ image.now }
+    ensures serves { Serves image.now result (I.rest input.old) (I.rest input.new)
+        (O.content out.old) (O.content out.new) reads.old reads.new }
+    ensures input_faults { CountsFaults (I.faults input.old) (I.faults input.new)
+        (IsErrOf result ServeError.ReadFault) }
+    ensures out_faults { CountsFaults (O.faults out.old) (O.faults out.new)
+        (IsErrOf result ServeError.WriteFault) }
+    ensures hashes { IfOk result (λ n. RisesAtMost hashes.old hashes.new (4 * n)) }
+    ensures later { hashes.old ≤ hashes.new }
+    ensures reads { IsLater reads.old reads.new }
+{
+    let progress = serve_ended(alloc, image, input, out, hashes, reads)?;
+    if has_bytes(&progress.part) {
+        put_reply(alloc, image, progress.part.as_slice(), out, hashes, reads)?;
+        return Ok(progress.lines + 1);
+    }
+    Ok(progress.lines)
+}
