@@ -16,8 +16,8 @@ pub struct Front {
     third: u64,
 }
 
-/// A name beside the numbers of its first 24 bytes: a sort compares the numbers first, and so goes to
-/// the bytes of few names, which lie all over the memory.
+/// A name beside the numbers of its first 24 bytes: a sort compares the numbers first, and so goes
+/// to the bytes of few names, which lie all over the memory.
 #[derive(Debug, Drop)]
 pub struct TakenName {
     front: Front,

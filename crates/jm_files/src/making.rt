@@ -5,8 +5,8 @@ ghost use Rattle.jm_files.specs.Made.{MadeAll, MadePart};
 use jm_outside::{Shelf, ShelfError};
 use std::alloc::Global;
 
-/// Makes the file of a path with these bytes, in place of what it had: one `create` and one `append`.
-/// Other files stay.
+/// Makes the file of a path with these bytes, in place of what it had: one `create` and one
+/// `append`. Other files stay.
 ///
 /// After a refusal the file is as before, or it holds a front of the bytes.
 pub fn make_file<S: Shelf>(

@@ -1,5 +1,5 @@
--- Numbers that are drawn one after another: a linear congruence of 64 bits (this project's rule; the
--- factor and the summand are those of D. Knuth's MMIX).
+-- Numbers that are drawn one after another: a linear congruence of 64 bits (this project's rule;
+-- the factor and the summand are those of D. Knuth's MMIX).
 use Rattle.std.specs.Prelude.{ℕ, zero, suc, ◌+◌, ◌*◌, ◌%◌, ◌^◌}
 
 abbrev pub draw : ℕ → ℕ

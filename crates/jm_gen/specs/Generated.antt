@@ -1,5 +1,5 @@
--- The files of large inputs: modules of classes, made from a number (this project's rule; the classes
--- are those of JVMS 4).
+-- The files of large inputs: modules of classes, made from a number (this project's rule; the
+-- classes are those of JVMS 4).
 use Rattle.std.specs.Prelude.{ℕ, ◌+◌, ◌-◌, ◌*◌, ◌/◌, ◌%◌, ◌^◌, ◌==◌, List, [], ◌∷◌, ◌++◌, map}
 use Rattle.std.specs.Prelude.{None, codes, if◌then◌else◌}
 use Rattle.std.specs.Int.{w64, to_be_bytes}

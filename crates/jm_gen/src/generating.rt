@@ -58,8 +58,8 @@ fn make_class<S: Shelf>(
     make_file(alloc, shelf, path.as_slice(), bytes.as_slice())
 }
 
-/// Makes the files of a module: its descriptor, and then its classes. It takes one draw, and one more
-/// for each class.
+/// Makes the files of a module: its descriptor, and then its classes. It takes one draw, and one
+/// more for each class.
 fn make_module<S: Shelf>(
     alloc: Global,
     shelf: &mut S,
@@ -84,11 +84,12 @@ fn make_module<S: Shelf>(
     Ok(())
 }
 
-/// Makes the files of so many modules of so many classes below a folder, from a seed: for each module
-/// its descriptor, which needs earlier modules, and then its classes, each with a number of its own.
-/// They are the same at each run.
+/// Makes the files of so many modules of so many classes below a folder, from a seed: for each
+/// module its descriptor, which needs earlier modules, and then its classes, each with a number of
+/// its own. They are the same at each run.
 ///
-/// After a refusal some of them stand, the last one whole or a front of it; other files are as before.
+/// After a refusal some of them stand, the last one whole or a front of it; other files are as
+/// before.
 pub fn generate<S: Shelf>(
     alloc: Global,
     shelf: &mut S,

@@ -66,8 +66,8 @@ fn walked<R: Ledger>(image: &Image, bytes: &[u8], reads: Blank) -> usize
     count
 }
 
-/// The resources and the nodes of the three modules, each with the number of its bytes; and names of
-/// none.
+/// The resources and the nodes of the three modules, each with the number of its bytes; and names
+/// of none.
 const NAMES: &[(&str, Option<usize>)] = &[
     ("/a/module-info.class", Some(113)),
     ("/a/p/A.class", Some(2)),
