@@ -1,8 +1,7 @@
 -- Plug-ins that act one after another.
-use Rattle.std.proofs.Common.{◌≡◌, ◌⊎◌, inl, inr, ℕ, List, ◌∷◌, Result, Ok, Err, refl, sym, ap, ◌∙◌}
+use Rattle.std.proofs.Common.{◌≡◌, inl, inr, ℕ, List, ◌∷◌, Result, Ok, Err, sym, ap, ◌∙◌}
 use Rattle.jm_plugins.specs.declared.Plugin.{Plugin}
 use Rattle.jm_plugins.specs.declared.chain.ApplyError.{ApplyError}
-use Rattle.jm_plugins.specs.declared.chain.ApplyError.TheVariants.{Memory}
 use Rattle.jm_plugins.specs.Plugins.{followed, act, apply, UnlessMemory}
 
 -- what is given isn't want of memory

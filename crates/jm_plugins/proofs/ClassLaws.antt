@@ -1,21 +1,21 @@
 -- Stripped classes put at their places one after another are the pairs without debug information.
-use Rattle.std.proofs.Common.{◌≡◌, ℕ, zero, suc, ◌+◌, ◌<◌, ◌⊎◌, inl, inr, List, [], ◌∷◌, ◌++◌, Bool, true, false, cond, Result, Ok, Err, IfOk, Some, All, length, drop, ◌≤◌, get_or, slice_get, nat_eq, refl, sym, ap, subst, ◌∙◌, arith, append_assoc, append-nil, codes}
+use Rattle.std.proofs.Common.{◌≡◌, ℕ, zero, suc, ◌+◌, ◌<◌, inl, inr, List, [], ◌∷◌, ◌++◌, Bool, true, false, cond, Result, Ok, Err, IfOk, Some, All, length, drop, ◌≤◌, get_or, slice_get, nat_eq, refl, sym, ap, subst, ◌∙◌, arith, append_assoc, append-nil, codes}
 use Rattle.std.proofs.lemmas.List.{length_push, drop_more, drop_all}
 use Rattle.std.proofs.lemmas.Option.{get_or_from_slice_get}
 use Rattle.std.proofs.lemmas.List.Elements.{All-nil, All-cons, All-tail, All-weaker}
 use Rattle.std.specs.List.{AllZip, ends_with, zip}
-use Rattle.jm_class.specs.Classes.{ClassData, class_text}
+use Rattle.jm_class.specs.Classes.{ClassData}
 use Rattle.jm_class.specs.ComputedClass.{class_of, class_fault, fault_of}
 use Rattle.jm_class.specs.declared.class.ClassFault.{ClassFault}
 use Rattle.jm_class.specs.declared.class.ReadError.{ReadError}
 use Rattle.jm_class.specs.declared.class.ReadError.TheVariants as read_error
 use Rattle.jm_class.proofs.ComputedClassLaws.{reads-class_of}
 use Rattle.jm_pool.specs.Pairs.{names_of, contents_of, with_bytes_at}
-use Rattle.jm_strip.specs.Strip.{strip, StripsTo}
+use Rattle.jm_strip.specs.Strip.{StripsTo}
 use Rattle.jm_plugins.specs.declared.chain.ApplyError.{ApplyError}
-use Rattle.jm_plugins.specs.declared.chain.ApplyError.TheVariants.{BadClass, Memory}
+use Rattle.jm_plugins.specs.declared.chain.ApplyError.TheVariants.{BadClass}
 use Rattle.jm_plugins.specs.declared.classes.Stripped.{Stripped}
-use Rattle.jm_plugins.specs.Plugins.{followed, stripped, strip_pair, strip_pairs, UnlessMemory}
+use Rattle.jm_plugins.specs.Plugins.{followed, strip_pair, strip_pairs, UnlessMemory}
 use Rattle.jm_plugins.specs.Steps.{class_places, put_stripped, put_one, IsStripped, Refuses, StripsAs}
 use Rattle.jm_plugins.proofs.Beside.{at_front}
 

@@ -1,5 +1,5 @@
 -- The pairs at the places of sorted turns are the pairs pattern by pattern.
-use Rattle.std.proofs.Common.{◌≡◌, ◌==◌, ◌&&◌, not, ℕ, ◌+◌, ◌<◌, ◌≤◌, List, [], ◌∷◌, ◌++◌, take, get_or, Bool, true, false, cond, Option, Some, None, Result, Ok, Err, IfOk, All, AllPairs, length, map, slice_get, refl, sym, ap, subst, ◌∙◌, arith, IsPermutation}
+use Rattle.std.proofs.Common.{◌≡◌, ◌==◌, ◌&&◌, not, ℕ, ◌+◌, ◌<◌, ◌≤◌, List, [], ◌∷◌, ◌++◌, take, get_or, Bool, true, false, cond, Option, Some, None, Result, Ok, Err, IfOk, All, length, map, slice_get, refl, sym, ap, subst, ◌∙◌, arith, IsPermutation}
 use Rattle.std.specs.List.Sorted.{IsStableByKey}
 use Rattle.std.specs.Ordering.{nat_cmp, is_lt}
 use Rattle.std.proofs.lemmas.List.{map-append, take_more}

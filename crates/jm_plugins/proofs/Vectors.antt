@@ -1,12 +1,10 @@
 -- Plug-ins, evaluated on small pools.
-use Rattle.std.proofs.Common.{◌≡◌, ℕ, List, [], ◌∷◌, ◌++◌, Result, Ok, Err, refl}
+use Rattle.std.proofs.Common.{◌≡◌, ℕ, List, [], ◌∷◌, ◌++◌, Ok, Err, refl}
 use Rattle.std.specs.Prelude.{codes}
 use Rattle.jm_class.specs.declared.class.ClassFault.TheVariants.{Short}
 use Rattle.jm_pattern.specs.declared.signs.Sign.{Sign}
 use Rattle.jm_pattern.specs.declared.signs.Sign.TheVariants.{AnyRun, Byte}
-use Rattle.jm_plugins.specs.declared.Plugin.{Plugin}
 use Rattle.jm_plugins.specs.declared.Plugin.TheVariants as plugin
-use Rattle.jm_plugins.specs.declared.chain.ApplyError.{ApplyError}
 use Rattle.jm_plugins.specs.declared.chain.ApplyError.TheVariants.{BadClass}
 use Rattle.jm_plugins.specs.Plugins.{apply}
 

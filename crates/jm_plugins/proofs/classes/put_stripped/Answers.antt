@@ -1,4 +1,4 @@
-use Rattle.std.proofs.Common.{◌≡◌, ◌<◌, All, length, refl, sym, ap, subst, rules, ◌∙◌}
+use Rattle.std.proofs.Common.{◌<◌, All, length, refl, sym, ap, subst, ◌∙◌}
 use Rattle.std.proofs.lemmas.List.Elements.{All-head}
 use Rattle.jm_plugins.specs.Steps.{put_stripped}
 use Rattle.jm_plugins.proofs.ClassLaws.{put_more, put_refused, put_none, within_more}

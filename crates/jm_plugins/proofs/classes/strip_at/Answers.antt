@@ -1,4 +1,4 @@
-use Rattle.std.proofs.Common.{ℕ, List, refl, sym, ap, subst, ◌∙◌}
+use Rattle.std.proofs.Common.{ℕ, List, refl, sym, subst, ◌∙◌}
 use Rattle.jm_bytes.proofs.Choice.{same_some}
 use Rattle.jm_plugins.specs.Steps.{StripsAs}
 use Rattle.jm_plugins.proofs.ClassLaws.{strips_as}
