@@ -1,5 +1,5 @@
 -- What a link does, from what its steps did.
-use Rattle.std.proofs.Common.{◌≡◌, ◌≢◌, ◌≤◌, inl, inr, ℕ, Bool, true, false, List, [], length, map, All, AllPairs, Option, Some, None, Result, Ok, Err, refl, sym, subst, arith}
+use Rattle.std.proofs.Common.{◌≡◌, ◌≢◌, ◌≤◌, inl, inr, ℕ, Bool, true, false, List, length, map, All, AllPairs, Option, Some, None, Result, Ok, Err, refl, sym, subst, arith}
 use Rattle.std.proofs.lemmas.List.Elements.{All-contains, All-map}
 use Rattle.jm_bytes.proofs.Members.{all_from_contains, contains_map}
 use Rattle.jm_bytes.specs.declared.words.Order.{Order}
@@ -10,6 +10,8 @@ use Rattle.jm_names.specs.NameFaults.{IsSound}
 use Rattle.jm_names.specs.Names.{is_node}
 use Rattle.jm_outside.specs.Files.{Files, file}
 use Rattle.jm_outside.specs.Outcome.{Rose, Shows}
+use Rattle.jm_plugins.specs.Plugins.{apply}
+use Rattle.jm_plugins.proofs.NameLaws.{names_differ, names_kept}
 use Rattle.jm_modpath.specs.declared.refusal.PathStop.{PathStop}
 use Rattle.jm_modpath.specs.declared.refusal.PathStop.TheVariants as path_stop
 use Rattle.jm_link.specs.declared.linking.LinkStop.{LinkStop}
@@ -19,7 +21,7 @@ use Rattle.jm_link.specs.declared.refusal.Refusal.{Refusal}
 use Rattle.jm_modpath.specs.declared.visible.VisibleModule.{VisibleModule}
 use Rattle.jm_link.specs.ByName.{Named}
 use Rattle.jm_link.specs.Closing.{ClosesAmong, ClosesWith, IsRefusedAmong}
-use Rattle.jm_link.specs.Linked.{LinkedImage, Request, image_with, laid_out, layout_refusal, path_refusal_as}
+use Rattle.jm_link.specs.Linked.{IsPluggedTo, LinkedImage, Request, image_with, laid_out, layout_refusal, path_refusal_as}
 use Rattle.jm_link.specs.declared.resources.ResourceFile.{ResourceFile}
 use Rattle.jm_modpath.specs.Finding.{ShowsModules}
 use Rattle.jm_link.specs.Links.{BreaksOff, ComesTo, FoundComesTo, IsLaid, LinksBy, NamesComeTo}
@@ -50,25 +52,34 @@ links_as One Other path (Err stop.Memory) old new faults new_faults same breaks 
 
 -- The image of what was read
 
-module _ (told : Option Files) (order : Order) (modules : ℕ) (names : List Named) (resources : List Written) (free : first_bad_name names ≡ None) (read : Shows told (λ files. resources ≡ resources_of files names)) (differ : AllPairs (λ m n. m ≢ n) (names_of resources)) (sound : All IsSound (names_of resources)) (plain : All (λ name. is_node name ≡ false) (names_of resources)) where
+module _ (told : Option Files) (asked : Request) (modules : ℕ) (names : List Named) (before : List Written) (free : first_bad_name names ≡ None) (read : Shows told (λ files. before ≡ resources_of files names)) where
+  -- what the plug-ins come to
+  plugged_to : (result : Result LinkedImage Refusal) → IsPluggedTo asked.order modules (apply asked.plugins before) result → IsLaid asked.order result → NamesComeTo told asked modules names result
+  plugged_to result comes laid = go told read
+    where
+      go : (t : Option Files) → Shows t (λ files. before ≡ resources_of files names) → NamesComeTo t asked modules names result
+      go None read = tt
+      go (Some files) read = (rw (free, sym read) comes, laid)
+
+module _ (told : Option Files) (asked : Request) (modules : ℕ) (names : List Named) (before resources : List Written) (free : first_bad_name names ≡ None) (read : Shows told (λ files. before ≡ resources_of files names)) (left : apply asked.plugins before ≡ Ok resources) (differ : AllPairs (λ m n. m ≢ n) (names_of before)) (sound : All IsSound (names_of before)) (plain : All (λ name. is_node name ≡ false) (names_of before)) where
+  abbrev order : Order
+  order = asked.order
+
   laid : (refused : Option Refusal) → layout_refusal order resources ≡ refused → IsLaid order (laid_out order modules resources refused)
-  laid None is = laid_free order resources is modules differ sound plain
+  laid None is =
+      laid_free order resources is modules (names_differ asked.plugins before resources left differ) (names_kept IsSound asked.plugins before resources left sound) (names_kept (λ name. is_node name ≡ false) asked.plugins before resources left plain)
   laid (Some refusal) is = tt
 
-  comes_to : (refused : Option Refusal) → layout_refusal order resources ≡ refused → NamesComeTo told order modules names (laid_out order modules resources refused)
-  comes_to refused is = go told read
-    where
-      go : (t : Option Files) → Shows t (λ files. resources ≡ resources_of files names) → NamesComeTo t order modules names (laid_out order modules resources refused)
-      go None read = tt
-      go (Some files) read = (rw (free, sym read, is) refl, laid refused is)
+  comes_to : (refused : Option Refusal) → layout_refusal order resources ≡ refused → NamesComeTo told asked modules names (laid_out order modules resources refused)
+  comes_to refused is = plugged_to told asked modules names before free read (laid_out order modules resources refused) (rw (left, is) refl) (laid refused is)
 
   abbrev image : LinkedImage
   image = image_with order modules resources
 
-  part_written : (path : List ℕ) (old new : Option Files) → WritesPart order modules resources path old new → BreaksOff (NamesComeTo told order modules names) path old new
+  part_written : (path : List ℕ) (old new : Option Files) → WritesPart order modules resources path old new → BreaksOff (NamesComeTo told asked modules names) path old new
   part_written path old new part = inr (image, comes_to None part.free, part.part)
 
-  pub image_written : (path : List ℕ) (answer : Result Summary LinkStop) (old new : Option Files) (faults new_faults : ℕ) → WritesImage order modules resources path answer old new faults new_faults → LinksBy (NamesComeTo told order modules names) path answer old new faults new_faults
+  pub image_written : (path : List ℕ) (answer : Result Summary LinkStop) (old new : Option Files) (faults new_faults : ℕ) → WritesImage order modules resources path answer old new faults new_faults → LinksBy (NamesComeTo told asked modules names) path answer old new faults new_faults
   image_written path (Ok summary) old new faults new_faults (none, is, held) = (image, comes_to None none, is, held)
   image_written path (Err (stop.Refused given)) old new faults new_faults (is, files) = (comes_to (Some given) is, files)
   image_written path (Err (stop.NotThere listed)) old new faults new_faults never = absurd never
@@ -78,20 +89,16 @@ module _ (told : Option Files) (order : Order) (modules : ℕ) (names : List Nam
 
 -- The closure
 
--- what is asked for of modules that were found
-abbrev pub request : List (List ℕ) → Bool → Order → Request
-request roots bind order = record { directories = []; roots = roots; bind = bind; order = order }
-
 module _ (told : Option Files) (asked : Request) (found : List VisibleModule) where
   chosen_as : (bind : Bool) (closed : Result (List ℕ) CloseError) → ClosesWith bind (candidates found) asked.roots closed → Closes (candidates found) asked.roots (Chosen bind found asked.roots) closed
   chosen_as true closed closes = closes
   chosen_as false closed closes = closes
 
   -- the closure was had
-  pub closed_to : (places : List ℕ) → reserved found ≡ None → ClosesWith asked.bind (candidates found) asked.roots (Ok places) → (r : Result LinkedImage Refusal) → NamesComeTo told asked.order (length places) (link_files found places) r → FoundComesTo told asked found r
+  pub closed_to : (places : List ℕ) → reserved found ≡ None → ClosesWith asked.bind (candidates found) asked.roots (Ok places) → (r : Result LinkedImage Refusal) → NamesComeTo told asked (length places) (link_files found places) r → FoundComesTo told asked found r
   closed_to places free closes r comes = go told comes
     where
-      go : (t : Option Files) → NamesComeTo t asked.order (length places) (link_files found places) r → FoundComesTo t asked found r
+      go : (t : Option Files) → NamesComeTo t asked (length places) (link_files found places) r → FoundComesTo t asked found r
       go None comes = tt
       go (Some files) (comes, laid) = (rw free (Ok places, chosen_as asked.bind (Ok places) closes, comes), laid)
 

@@ -16,6 +16,10 @@ use Rattle.jm_modpath.specs.declared.refusal.PathRefusal.TheVariants as path
 use Rattle.jm_modpath.specs.declared.visible.VisibleModule.{VisibleModule}
 use Rattle.jm_modpath.specs.Modules.{candidates, path_refusal, visible}
 use Rattle.jm_outside.specs.Files.{Files}
+use Rattle.jm_plugins.specs.declared.Plugin.{Plugin}
+use Rattle.jm_plugins.specs.declared.chain.ApplyError.{ApplyError}
+use Rattle.jm_plugins.specs.declared.chain.ApplyError.TheVariants as plugging
+use Rattle.jm_plugins.specs.Plugins.{apply}
 use Rattle.jm_writer.specs.Drafts.{entry_limit, image_limit, large_number}
 use Rattle.jm_link.specs.declared.refusal.Refusal.{Refusal}
 use Rattle.jm_link.specs.declared.refusal.Refusal.TheVariants as refusal
@@ -23,11 +27,12 @@ use Rattle.jm_link.specs.ByName.{Named}
 use Rattle.jm_link.specs.Resources.{Chosen, first_bad_name, link_files, reserved, resources_of}
 
 -- what is asked for: the directories of the module path, the root modules, whether providers of
--- services are linked too, and the byte order
+-- services are linked too, the plug-ins in their order, and the byte order
 pub record Request : Type 0 where
   pub directories : List (List ℕ)
   pub roots : List (List ℕ)
   pub bind : Bool
+  pub plugins : List Plugin
   pub order : Order
 
 -- an image with the number of its modules, its resources and the length of its table
@@ -70,12 +75,21 @@ abbrev pub laid_out : Order → ℕ → List Written → Option Refusal → Resu
 laid_out order modules resources None = Ok (image_with order modules resources)
 laid_out order modules resources (Some refusal) = Err refusal
 
--- the files of so many modules, whose first unfit name is refused
-abbrev pub gathered : Files → Order → ℕ → List Named → Option Refusal → Result LinkedImage Refusal
-gathered files order modules names (Some refusal) = Err refusal
-gathered files order modules names None =
-    laid_out order modules (resources_of files names)
-    (layout_refusal order (resources_of files names))
+-- what plug-ins left of the resources of so many modules, or their refusal
+abbrev pub IsPluggedTo : Order → ℕ → Result (List Written) ApplyError
+    → Result LinkedImage Refusal → Type 0
+IsPluggedTo order modules (Ok resources) result =
+    result ≡ laid_out order modules resources (layout_refusal order resources)
+IsPluggedTo order modules (Err (plugging.BadClass name fault)) result =
+    result ≡ Err (refusal.BadClass name fault)
+IsPluggedTo order modules (Err plugging.Memory) result = ⊥
+
+-- the files of so many modules, whose first unfit name is refused before plug-ins act
+abbrev pub IsGatheredTo : Files → Request → ℕ → List Named → Option Refusal
+    → Result LinkedImage Refusal → Type 0
+IsGatheredTo files asked modules names (Some refusal) result = result ≡ Err refusal
+IsGatheredTo files asked modules names None result =
+    IsPluggedTo asked.order modules (apply asked.plugins (resources_of files names)) result
 
 -- The closure
 
@@ -88,20 +102,20 @@ closing_refusal (closing.SplitPackage shared first second) =
 closing_refusal closing.Memory = None
 
 -- the result of a closure: of the modules at these places, or its refusal
-abbrev pub IsClosedTo : Files → Order → List VisibleModule → Result (List ℕ) CloseError
+abbrev pub IsClosedTo : Files → Request → List VisibleModule → Result (List ℕ) CloseError
     → Result LinkedImage Refusal → Type 0
-IsClosedTo files order found (Ok places) result =
-    result ≡ gathered files order (length places) (link_files found places)
-    (first_bad_name (link_files found places))
-IsClosedTo files order found (Err error) (Ok image) = ⊥
-IsClosedTo files order found (Err error) (Err refusal) = closing_refusal error ≡ Some refusal
+IsClosedTo files asked found (Ok places) result =
+    IsGatheredTo files asked (length places) (link_files found places)
+    (first_bad_name (link_files found places)) result
+IsClosedTo files asked found (Err error) (Ok image) = ⊥
+IsClosedTo files asked found (Err error) (Err refusal) = closing_refusal error ≡ Some refusal
 
 -- the closure of the roots among the modules found, which has one answer
 abbrev pub IsLinkedOf : Files → Request → List VisibleModule → Result LinkedImage Refusal → Type 0
 IsLinkedOf files asked found result =
     (closed : Result (List ℕ) CloseError)
     × Closes (candidates found) asked.roots (Chosen asked.bind found asked.roots) closed
-    × IsClosedTo files asked.order found closed result
+    × IsClosedTo files asked found closed result
 
 abbrev pub IsFoundTo : Files → Request → List VisibleModule → Option Refusal
     → Result LinkedImage Refusal → Type 0

@@ -5,14 +5,25 @@ use Rattle.jm_outside.specs.Files.{Files}
 use Rattle.jm_outside.specs.Outcome.{Rose, Shows}
 use Rattle.jm_writer.specs.Laid.{IsLaidOut}
 use Rattle.jm_files.specs.Holds.{Holds, HoldsPart}
+use Rattle.jm_link.specs.declared.linking.Asked.{Asked}
 use Rattle.jm_link.specs.declared.linking.LinkStop.{LinkStop}
 use Rattle.jm_link.specs.declared.linking.LinkStop.TheVariants as stop
 use Rattle.jm_link.specs.declared.linking.Summary.{Summary}
 use Rattle.jm_link.specs.declared.refusal.Refusal.{Refusal}
 use Rattle.jm_modpath.specs.declared.visible.VisibleModule.{VisibleModule}
 use Rattle.jm_link.specs.ByName.{Named}
-use Rattle.jm_link.specs.Linked.{IsFoundTo, LinkedImage, LinksTo, Request, gathered}
+use Rattle.jm_link.specs.Linked.{IsFoundTo, IsGatheredTo, LinkedImage, LinksTo, Request}
 use Rattle.jm_link.specs.Resources.{first_bad_name, reserved}
+
+-- what is asked for, as plain data
+abbrev pub request_of : Asked → Request
+request_of asked = record {
+  directories = asked.directories.now;
+  roots = asked.roots.now;
+  bind = asked.bind;
+  plugins = asked.plugins.now;
+  order = asked.order;
+}
 
 -- what is told of an image
 abbrev pub summary_of : LinkedImage → Summary
@@ -72,7 +83,9 @@ FoundComesTo told asked found result =
     IsFoundTo files asked found (reserved found) result × IsLaid asked.order result)
 
 -- of the files of so many modules: their names, and so on
-abbrev pub NamesComeTo : Option Files → Order → ℕ → List Named → Result LinkedImage Refusal → Type 0
-NamesComeTo told order modules names result =
+abbrev pub NamesComeTo : Option Files → Request → ℕ → List Named → Result LinkedImage Refusal
+    → Type 0
+NamesComeTo told asked modules names result =
     Shows told (λ files.
-    (result ≡ gathered files order modules names (first_bad_name names)) × IsLaid order result)
+    IsGatheredTo files asked modules names (first_bad_name names) result
+    × IsLaid asked.order result)

@@ -3,6 +3,7 @@
 -- their bytes.
 use Rattle.std.specs.Prelude.{ℕ, List, ◌∷◌, ◌++◌, codes}
 use Rattle.std.specs.Fmt.{decimal}
+use Rattle.jm_class.specs.FaultText.{class_fault_text}
 use Rattle.jm_modinfo.specs.FaultText.{descriptor_fault_text}
 use Rattle.jm_names.specs.UtfForms.{utf}
 use Rattle.jm_names.specs.declared.check.NameFault.{NameFault}
@@ -34,6 +35,8 @@ refusal_text (refusal.SplitPackage shared first second) =
     codes "SplitPackage" ++ spaced shared ++ spaced first ++ spaced second
 refusal_text (refusal.BadName name fault) =
     codes "BadName" ++ spaced name ++ 32 ∷ name_fault_text fault
+refusal_text (refusal.BadClass name fault) =
+    codes "BadClass" ++ spaced name ++ 32 ∷ class_fault_text fault
 refusal_text (refusal.Clash name) = codes "Clash" ++ spaced name
 refusal_text (refusal.TooMany count) = codes "TooMany " ++ decimal count
 refusal_text (refusal.NoTable lengths) = codes "NoTable " ++ decimal lengths

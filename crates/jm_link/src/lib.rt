@@ -5,10 +5,11 @@
 mod closing;
 mod image;
 mod linking;
+mod plugging;
 mod refusal;
 mod refusal_text;
 mod resources;
 mod stops;
 
-pub use linking::{LinkStop, Summary, link};
+pub use linking::{Asked, LinkStop, Summary, link};
 pub use refusal::Refusal;

@@ -1,12 +1,13 @@
 //! A whole `link`.
-ghost use Rattle.std.specs.Prelude.{◌≡◌, ◌≢◌, ◌<◌, [], ℕ, length, map, false, None};
+ghost use Rattle.std.specs.Prelude.{◌≡◌, ◌≢◌, ◌<◌, ℕ, length, map, false, None};
 ghost use Rattle.std.specs.Prelude.{All, AllPairs, Contains, IsUtf8};
 ghost use Rattle.jm_closure.specs.Names.{NamesDiffer};
 ghost use Rattle.jm_names.specs.Names.{is_node};
 ghost use Rattle.jm_outside.specs.Files.{file};
 ghost use Rattle.jm_outside.specs.Outcome.{Shows};
+ghost use Rattle.jm_plugins.specs.Plugins.{NoCompact};
 ghost use Rattle.jm_modpath.specs.Finding.{HasTexts};
-ghost use Rattle.jm_link.specs.Links.{FoundComesTo, Links, LinksBy, NamesComeTo};
+ghost use Rattle.jm_link.specs.Links.{FoundComesTo, Links, LinksBy, NamesComeTo, request_of};
 ghost use Rattle.jm_modpath.specs.Modules.{candidates};
 ghost use Rattle.jm_link.specs.ResourceFiles.{file_names, pair_of};
 ghost use Rattle.jm_link.specs.Resources.{link_files, reserved};
@@ -14,12 +15,33 @@ ghost use Rattle.jm_link.specs.Showing.{ListsItsFiles};
 
 use crate::closing::closed_among;
 use crate::image::write_image;
+use crate::plugging::plugged;
 use crate::refusal::Refusal;
 use crate::resources::{ResourceFile, first_bad_name, link_files, read_resources};
 use jm_bytes::{List, Order, Text};
+use jm_halves::Gate;
 use jm_modpath::{VisibleModule, visible_modules};
 use jm_outside::Shelf;
+use jm_plugins::Plugin;
 use std::alloc::Global;
+use std::thread::Threads;
+
+/// What is asked of a link.
+#[derive(Clone, Copy, Debug)]
+pub struct Asked<'a> {
+    /// The directories of the module path; a module of an earlier one hides its name in later ones.
+    pub directories: &'a [Text],
+    /// The names of the modules that are linked with all that they require.
+    pub roots: &'a [Text],
+    /// Whether modules that provide services which linked ones use are linked too.
+    pub bind: bool,
+    /// What is done to the resources, from the first to the last.
+    pub plugins: &'a [Plugin],
+    /// The byte order of the image.
+    pub order: Order,
+    /// The path of the image.
+    pub output: &'a [u8],
+}
 
 /// What was linked.
 #[derive(Clone, Copy, Debug, PartialEq, Eq)]
@@ -47,108 +69,123 @@ pub enum LinkStop {
     Memory,
 }
 
-/// Reads the files of so many modules, and writes their image.
-fn link_named<S: Shelf>(
+/// Reads the files of so many modules, lets the plug-ins act, and writes the image.
+fn link_named<T: Threads + Sync, S: Shelf, G: Gate + Sync>(
+    rt: &T,
     alloc: Global,
-    order: Order,
+    jobs: u32,
+    asked: &Asked,
     modules: usize,
     files: &[ResourceFile],
     shelf: &mut S,
-    output: &[u8],
+    gate: &G,
 ) -> Result<Summary, LinkStop>
+    requires jobs { 0 < jobs }
+    requires known { NoCompact asked.now.plugins.now }
     requires texts { All (λ f. IsUtf8 f.path) files.now }
     requires differ { AllPairs (λ a b. a ≢ b) (file_names files.now) }
     requires free { All (λ name. is_node name ≡ false) (file_names files.now) }
     requires told { Shows (S.files shelf.old) (λ told.
         All (λ f. file told f.path ≢ None) files.now) }
-    requires output { IsUtf8 output.now }
+    requires output { IsUtf8 asked.now.output.now }
     ensures { LinksBy
-        (NamesComeTo (S.files shelf.old) order modules (map pair_of files.now))
-        output.now result (S.files shelf.old) (S.files shelf.new)
+        (NamesComeTo (S.files shelf.old) (request_of asked.now) modules (map pair_of files.now))
+        asked.now.output.now result (S.files shelf.old) (S.files shelf.new)
         (S.faults shelf.old) (S.faults shelf.new) }
 {
     if let Some(refusal) = first_bad_name(alloc, files)? {
         return Err(LinkStop::Refused(refusal));
     }
-    let pool = read_resources(alloc, files, shelf)?;
-    write_image(alloc, order, modules, &pool, shelf, output)
+    let read = read_resources(alloc, files, shelf)?;
+    let pool = plugged(rt, alloc, jobs, read, asked.plugins, gate)?;
+    write_image(alloc, asked.order, modules, &pool, shelf, asked.output)
 }
 
 /// Links the modules at these places, which are those of a closure.
-fn link_closed<S: Shelf>(
+fn link_closed<T: Threads + Sync, S: Shelf, G: Gate + Sync>(
+    rt: &T,
     alloc: Global,
-    order: Order,
+    jobs: u32,
+    asked: &Asked,
     found: &[VisibleModule],
     places: &[usize],
     shelf: &mut S,
-    output: &[u8],
+    gate: &G,
 ) -> Result<Summary, LinkStop>
+    requires jobs { 0 < jobs }
+    requires known { NoCompact asked.now.plugins.now }
     requires texts { All HasTexts found.now }
     requires differ { NamesDiffer (candidates found.now) }
     requires free { reserved found.now ≡ None }
     requires within { (i : ℕ) → Contains places.now i → i < length found.now }
     requires once { AllPairs (λ i j. i ≢ j) places.now }
     requires told { Shows (S.files shelf.old) (λ told. ListsItsFiles told found.now) }
-    requires output { IsUtf8 output.now }
+    requires output { IsUtf8 asked.now.output.now }
     ensures { LinksBy
-        (NamesComeTo (S.files shelf.old) order (length places.now)
+        (NamesComeTo (S.files shelf.old) (request_of asked.now) (length places.now)
         (link_files found.now places.now))
-        output.now result (S.files shelf.old) (S.files shelf.new)
+        asked.now.output.now result (S.files shelf.old) (S.files shelf.new)
         (S.faults shelf.old) (S.faults shelf.new) }
 {
     let files = link_files(alloc, found, places)?;
-    link_named(alloc, order, places.len(), files.as_slice(), shelf, output)
+    let count = places.len();
+    link_named(rt, alloc, jobs, asked, count, files.as_slice(), shelf, gate)
 }
 
 /// Links the closure of the roots among modules that are visible.
-fn link_found<S: Shelf>(
+fn link_found<T: Threads + Sync, S: Shelf, G: Gate + Sync>(
+    rt: &T,
     alloc: Global,
-    order: Order,
+    jobs: u32,
+    asked: &Asked,
     found: List<VisibleModule>,
-    roots: &[Text],
-    bind: bool,
     shelf: &mut S,
-    output: &[u8],
+    gate: &G,
 ) -> Result<Summary, LinkStop>
+    requires jobs { 0 < jobs }
+    requires known { NoCompact asked.now.plugins.now }
     requires texts { All HasTexts found }
     requires differ { NamesDiffer (candidates found) }
     requires told { Shows (S.files shelf.old) (λ told. ListsItsFiles told found) }
-    requires output { IsUtf8 output.now }
-    ensures { LinksBy
-        (FoundComesTo (S.files shelf.old)
-        (record { directories = []; roots = roots.now; bind = bind; order = order }) found)
-        output.now result (S.files shelf.old) (S.files shelf.new)
+    requires output { IsUtf8 asked.now.output.now }
+    ensures { LinksBy (FoundComesTo (S.files shelf.old) (request_of asked.now) found)
+        asked.now.output.now result (S.files shelf.old) (S.files shelf.new)
         (S.faults shelf.old) (S.faults shelf.new) }
 {
-    let (found, places) = closed_among(alloc, found, roots, bind)?;
+    let (found, places) = closed_among(alloc, found, asked.roots, asked.bind)?;
+    let found = found.as_slice();
     link_closed(
+        rt,
         alloc,
-        order,
-        found.as_slice(),
+        jobs,
+        asked,
+        found,
         places.as_slice(),
         shelf,
-        output,
+        gate,
     )
 }
 
-/// Links the modules of a module path that are reached from the roots, or bound by them, and writes
-/// their image to the file at a path.
-pub fn link<S: Shelf>(
+/// Links the modules of a module path that are reached from the roots, or bound by them, lets the
+/// plug-ins act on their resources, each on all jobs, and writes the image to the file at a path.
+/// The answer depends neither on the number of jobs nor on the gate.
+///
+/// The plug-in `Compact` is to come: the list has none.
+pub fn link<T: Threads + Sync, S: Shelf, G: Gate + Sync>(
+    rt: &T,
     alloc: Global,
-    directories: &[Text],
-    roots: &[Text],
-    bind: bool,
-    order: Order,
-    output: &[u8],
+    jobs: u32,
+    asked: &Asked,
     shelf: &mut S,
+    gate: &G,
 ) -> Result<Summary, LinkStop>
-    requires directories { All IsUtf8 directories.now }
-    requires output { IsUtf8 output.now }
-    ensures { Links
-        (record { directories = directories.now; roots = roots.now; bind = bind; order = order })
-        output.now result (S.files shelf.old) (S.files shelf.new)
-        (S.faults shelf.old) (S.faults shelf.new) }
+    requires jobs { 0 < jobs }
+    requires known { NoCompact asked.now.plugins.now }
+    requires directories { All IsUtf8 asked.now.directories.now }
+    requires output { IsUtf8 asked.now.output.now }
+    ensures { Links (request_of asked.now) asked.now.output.now result
+        (S.files shelf.old) (S.files shelf.new) (S.faults shelf.old) (S.faults shelf.new) }
 {
-    let found = visible_modules(alloc, directories, shelf)?;
-    link_found(alloc, order, found, roots, bind, shelf, output)
+    let found = visible_modules(alloc, asked.directories, shelf)?;
+    link_found(rt, alloc, jobs, asked, found, shelf, gate)
 }

@@ -1,4 +1,5 @@
 use jm_bytes::Text;
+use jm_class::ClassFault;
 use jm_modinfo::DescriptorFault;
 use jm_names::NameFault;
 
@@ -37,6 +38,11 @@ pub enum Refusal {
     BadName {
         name: Text,
         fault: NameFault,
+    },
+    /// The bytes of this resource, which has the name of a class and is to be stripped, are no class.
+    BadClass {
+        name: Text,
+        fault: ClassFault,
     },
     /// This resource has the name of another one's folder.
     Clash(Text),

@@ -1,12 +1,14 @@
 //! Refusals in print.
 ghost use Rattle.std.specs.Prelude.{◌≡◌, ◌∷◌, ◌++◌, codes, IfOk, OnOk};
 ghost use Rattle.std.specs.Fmt.{decimal};
+ghost use Rattle.jm_class.specs.FaultText.{class_fault_text};
 ghost use Rattle.jm_modinfo.specs.FaultText.{descriptor_fault_text};
 ghost use Rattle.jm_link.specs.RefusalText.{name_fault_text, refusal_text, spaced};
 
 use crate::refusal::Refusal;
 use itoa::Buffer;
 use jm_bytes::{NoMemory, Text, copy_of};
+use jm_class::ClassFault;
 use jm_modinfo::DescriptorFault;
 use jm_names::{NameFault, to_utf8};
 use std::alloc::Global;
@@ -89,6 +91,19 @@ fn bad_name(alloc: Global, name: &Text, fault: NameFault) -> Result<Vec<u8>, NoM
     Ok(text)
 }
 
+/// The kind `BadClass`, a name and the fault of the class there.
+fn bad_class(alloc: Global, name: &Text, fault: ClassFault) -> Result<Vec<u8>, NoMemory>
+    ensures { IfOk result (λ text. text.items
+        ≡ codes "BadClass" ++ spaced name.now ++ 32 ∷ class_fault_text fault) }
+{
+    let Ok(fault) = format!(in alloc; " {fault}") else {
+        return Err(NoMemory);
+    };
+    let mut text = named(alloc, b"BadClass", name)?;
+    extend(&mut text, fault.as_bytes())?;
+    Ok(text)
+}
+
 /// The kind `TwoModules`, a directory and a name.
 fn two_modules(alloc: Global, dir: &Text, name: &Text) -> Result<Vec<u8>, NoMemory>
     ensures { IfOk result (λ text. text.items ≡ codes "TwoModules " ++ dir.now ++ spaced name.now) }
@@ -141,6 +156,7 @@ impl Refusal {
                 second,
             } => split_package(alloc, package, first, second),
             Refusal::BadName { name, fault } => bad_name(alloc, name, *fault),
+            Refusal::BadClass { name, fault } => bad_class(alloc, name, *fault),
             Refusal::Clash(name) => named(alloc, b"Clash", name),
             Refusal::TooMany(count) => numbered(alloc, b"TooMany ", *count),
             Refusal::NoTable(lengths) => numbered(alloc, b"NoTable ", u64::from(*lengths)),

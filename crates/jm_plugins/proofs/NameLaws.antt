@@ -1,68 +1,118 @@
--- The names that plug-ins leave are names that they were given.
-use Rattle.std.proofs.Common.{◌≡◌, ◌⊎◌, inl, inr, ℕ, List, [], ◌∷◌, Bool, true, false, cond, not, Result, Ok, Err, Contains, nat_eq, refl, sym, ap, subst, ◌∙◌}
-use Rattle.std.specs.Prelude.{codes}
+-- Plug-ins give no resource a new name: what holds of each name still does, and names that differ
+-- still differ.
+use Rattle.std.proofs.Common.{◌≡◌, ◌≢◌, ℕ, List, [], ◌∷◌, Bool, true, false, cond, not, All, AllPairs, Result, Ok, Err, nat_eq, codes, refl, sym, ap, subst, ◌∙◌}
+use Rattle.std.proofs.lemmas.Bool.{false≢true}
+use Rattle.std.proofs.lemmas.List.{map-append}
+use Rattle.std.proofs.lemmas.List.Elements.{All-append, All-contains, All-filter, filter_passes}
+use Rattle.std.proofs.lemmas.List.Kept.{AllPairs-filter}
 use Rattle.std.specs.List.{ends_with, filter}
-use Rattle.std.proofs.lemmas.List.Elements.{Contains-append_cases}
 use Rattle.jm_bytes.proofs.Choice.{same_ok}
-use Rattle.jm_bytes.proofs.Members.{from_filter, contains_map, from_map}
-use Rattle.jm_class.specs.Classes.{ClassData}
+use Rattle.jm_bytes.proofs.Pairs.{pairs_append}
+use Rattle.jm_class.specs.Classes.{ClassData, class_text}
 use Rattle.jm_class.specs.ComputedClass.{class_of}
 use Rattle.jm_class.specs.declared.class.ClassFault.{ClassFault}
 use Rattle.jm_pattern.specs.declared.signs.Sign.{Sign}
 use Rattle.jm_pattern.specs.ComputedMatching.{matches}
 use Rattle.jm_pool.specs.Pairs.{names_of}
+use Rattle.jm_strip.specs.Strip.{strip}
 use Rattle.jm_plugins.specs.declared.Plugin.{Plugin}
 use Rattle.jm_plugins.specs.declared.Plugin.TheVariants as plugin
 use Rattle.jm_plugins.specs.declared.chain.ApplyError.{ApplyError}
 use Rattle.jm_plugins.specs.Matching.{excluded, matches_any, ordered}
-use Rattle.jm_plugins.specs.Plugins.{followed, stripped, strip_pair, strip_pairs, act, apply}
+use Rattle.jm_plugins.specs.Plugins.{act, apply, followed, strip_pair, strip_pairs, stripped}
 
-from_ordered : (patterns : List (List Sign)) (pairs : List (List ℕ × List ℕ)) (pair : List ℕ × List ℕ) → Contains (ordered patterns pairs) pair → Contains pairs pair
-from_ordered [] pairs pair there = there
-from_ordered (p ∷ ps) pairs pair there =
-    go (Contains-append_cases (filter (λ z. matches p z.0) pairs) (ordered ps (filter (λ z. not (matches p z.0)) pairs)) pair there) (from_ordered ps (filter (λ z. not (matches p z.0)) pairs) pair)
+-- Names of what a plug-in leaves
+
+pub names_filter : (test : List ℕ → Bool) (pairs : List (List ℕ × List ℕ)) → names_of (filter (λ pair. test pair.0) pairs) ≡ filter test (names_of pairs)
+names_filter test [] = refl
+names_filter test (pair ∷ pairs) = go (test pair.0) (names_filter test pairs)
   where
-    go : Contains (filter (λ z. matches p z.0) pairs) pair ⊎ Contains (ordered ps (filter (λ z. not (matches p z.0)) pairs)) pair → (Contains (ordered ps (filter (λ z. not (matches p z.0)) pairs)) pair → Contains (filter (λ z. not (matches p z.0)) pairs) pair) → Contains pairs pair
-    go (inl front) on = (from_filter (λ z. matches p z.0) pairs pair front).0
-    go (inr back) on = (from_filter (λ z. not (matches p z.0)) pairs pair (on back)).0
+    go : (b : Bool) → names_of (filter (λ p. test p.0) pairs) ≡ filter test (names_of pairs) → names_of (cond b (pair ∷ filter (λ p. test p.0) pairs) (filter (λ p. test p.0) pairs)) ≡ cond b (pair.0 ∷ filter test (names_of pairs)) (filter test (names_of pairs))
+    go true rest = ap (λ l. pair.0 ∷ l) rest
+    go false rest = rest
 
--- names of pairs that are all among other pairs
-named : (given pairs : List (List ℕ × List ℕ)) → ((pair : List ℕ × List ℕ) → Contains given pair → Contains pairs pair) → (name : List ℕ) → Contains (names_of given) name → Contains (names_of pairs) name
-named given pairs among name there =
-    let found = from_map (λ p. p.0) given name there in
-    subst (Contains (names_of pairs)) found.2 (contains_map (λ p. p.0) pairs found.0 (among found.0 found.1))
-
-strip_name : (pair first : List ℕ × List ℕ) → strip_pair pair ≡ Ok first → first.0 ≡ pair.0
-strip_name pair first is = go (ends_with nat_eq pair.0 (codes ".class")) (class_of pair.1) is
+name_stripped : (pair first : List ℕ × List ℕ) → strip_pair pair ≡ Ok first → first.0 ≡ pair.0
+name_stripped pair first is = go (ends_with nat_eq pair.0 (codes ".class")) (class_of pair.1) is
   where
-    go : (b : Bool) (o : Result ClassData ClassFault) → cond b (stripped pair.0 o) (Ok pair) ≡ Ok first → first.0 ≡ pair.0
-    go true (Ok c) e = ap (λ p. p.0) (sym (same_ok _ first e))
-    go true (Err fault) e = cc
-    go false o e = ap (λ p. p.0) (sym (same_ok pair first e))
+    go : (b : Bool) (r : Result ClassData ClassFault) → cond b (stripped pair.0 r) (Ok pair) ≡ Ok first → first.0 ≡ pair.0
+    go false r same = ap (λ (p : List ℕ × List ℕ). p.0) (sym (same_ok pair first same))
+    go true (Ok c) same = ap (λ (p : List ℕ × List ℕ). p.0) (sym (same_ok (pair.0, class_text (strip c)) first same))
+    go true (Err fault) same = cc
 
-strip_names : (pairs given : List (List ℕ × List ℕ)) → strip_pairs pairs ≡ Ok given → names_of given ≡ names_of pairs
-strip_names [] given is = ap names_of (sym (same_ok [] given is))
-strip_names (pair ∷ pairs) given is = go (strip_pair pair) refl (strip_pairs pairs) refl is (strip_names pairs)
+names_stripped : (pairs left : List (List ℕ × List ℕ)) → strip_pairs pairs ≡ Ok left → names_of left ≡ names_of pairs
+names_stripped [] left is = ap names_of (sym (same_ok [] left is))
+names_stripped (pair ∷ pairs) left is = go (strip_pair pair) (strip_pairs pairs) refl refl is (λ rest gives. names_stripped pairs rest gives)
   where
-    go : (one : Result (List ℕ × List ℕ) ApplyError) → strip_pair pair ≡ one → (rest : Result (List (List ℕ × List ℕ)) ApplyError) → strip_pairs pairs ≡ rest → followed one (λ first. followed rest (λ xs. Ok (first ∷ xs))) ≡ Ok given → ((xs : List (List ℕ × List ℕ)) → strip_pairs pairs ≡ Ok xs → names_of xs ≡ names_of pairs) → names_of given ≡ names_of (pair ∷ pairs)
-    go (Ok first) here (Ok xs) there e on =
-        ap names_of (sym (same_ok (first ∷ xs) given e)) ∙ ap (λ n. n ∷ names_of xs) (strip_name pair first here) ∙ ap (λ l. pair.0 ∷ l) (on xs there)
-    go (Ok first) here (Err refusal) there e on = cc
-    go (Err refusal) here rest there e on = cc
+    go : (o : Result (List ℕ × List ℕ) ApplyError) (r : Result (List (List ℕ × List ℕ)) ApplyError) → strip_pair pair ≡ o → strip_pairs pairs ≡ r → followed o (λ first. followed r (λ rest. Ok (first ∷ rest))) ≡ Ok left → ((rest : List (List ℕ × List ℕ)) → strip_pairs pairs ≡ Ok rest → names_of rest ≡ names_of pairs) → names_of left ≡ pair.0 ∷ names_of pairs
+    go (Ok first) (Ok rest) one others same later =
+        ap names_of (sym (same_ok (first ∷ rest) left same)) ∙ ap (λ name. name ∷ names_of rest) (name_stripped pair first one) ∙ ap (λ l. pair.0 ∷ l) (later rest others)
+    go (Ok first) (Err refusal) one others same later = cc
+    go (Err refusal) r one others same later = cc
 
-from_act : (one : Plugin) (pairs given : List (List ℕ × List ℕ)) → act one pairs ≡ Ok given → (name : List ℕ) → Contains (names_of given) name → Contains (names_of pairs) name
-from_act (plugin.Exclude patterns) pairs given is name there =
-    named (excluded patterns pairs) pairs (λ pair inside. (from_filter (λ z. not (matches_any patterns z.0)) pairs pair inside).0) name (subst (λ l. Contains (names_of l) name) (sym (same_ok (excluded patterns pairs) given is)) there)
-from_act (plugin.Order patterns) pairs given is name there =
-    named (ordered patterns pairs) pairs (from_ordered patterns pairs) name (subst (λ l. Contains (names_of l) name) (sym (same_ok (ordered patterns pairs) given is)) there)
-from_act plugin.Strip pairs given is name there = subst (λ l. Contains l name) (strip_names pairs given is) there
-from_act plugin.Compact pairs given is name there = subst (λ l. Contains (names_of l) name) (sym (same_ok pairs given is)) there
+-- What is said of a list of names, where it stays true of fewer of them and of them in another order
 
--- for users of `apply`: a name that is left is one that was given
-pub from_applied : (plugins : List Plugin) (pairs given : List (List ℕ × List ℕ)) → apply plugins pairs ≡ Ok given → (name : List ℕ) → Contains (names_of given) name → Contains (names_of pairs) name
-from_applied [] pairs given is name there = subst (λ l. Contains (names_of l) name) (sym (same_ok pairs given is)) there
-from_applied (one ∷ later) pairs given is name there = go (act one pairs) refl is (λ middle e. from_applied later middle given e name there)
-  where
-    go : (o : Result (List (List ℕ × List ℕ)) ApplyError) → act one pairs ≡ o → followed o (apply later) ≡ Ok given → ((middle : List (List ℕ × List ℕ)) → apply later middle ≡ Ok given → Contains (names_of middle) name) → Contains (names_of pairs) name
-    go (Ok middle) here e on = from_act one pairs middle here name (on middle e)
-    go (Err refusal) here e on = cc
+module _ (Says : List (List ℕ) → Type 0) (fewer : (test : List ℕ → Bool) (names : List (List ℕ)) → Says names → Says (filter test names)) (turned : (patterns : List (List Sign)) (pairs : List (List ℕ × List ℕ)) → Says (names_of pairs) → Says (names_of (ordered patterns pairs))) where
+  acted_on : (one : Plugin) (pairs left : List (List ℕ × List ℕ)) → act one pairs ≡ Ok left → Says (names_of pairs) → Says (names_of left)
+  acted_on (plugin.Exclude patterns) pairs left is says =
+      let test = λ (name : List ℕ). not (matches_any patterns name) in
+      let names : names_of (excluded patterns pairs) ≡ filter test (names_of pairs) = names_filter test pairs in
+      subst (λ l. Says (names_of l)) (same_ok (excluded patterns pairs) left is) (subst Says (sym names) (fewer test (names_of pairs) says))
+  acted_on (plugin.Order patterns) pairs left is says =
+      subst (λ l. Says (names_of l)) (same_ok (ordered patterns pairs) left is) (turned patterns pairs says)
+  acted_on plugin.Strip pairs left is says = subst Says (sym (names_stripped pairs left is)) says
+  acted_on plugin.Compact pairs left is says = subst (λ l. Says (names_of l)) (same_ok pairs left is) says
+
+  applied_to : (plugins : List Plugin) (before after : List (List ℕ × List ℕ)) → apply plugins before ≡ Ok after → Says (names_of before) → Says (names_of after)
+  applied_to [] before after is says = subst (λ l. Says (names_of l)) (same_ok before after is) says
+  applied_to (one ∷ later) before after is says = go (act one before) refl is (λ left gives. applied_to later left after gives)
+    where
+      go : (o : Result (List (List ℕ × List ℕ)) ApplyError) → act one before ≡ o → followed o (apply later) ≡ Ok after → ((left : List (List ℕ × List ℕ)) → apply later left ≡ Ok after → Says (names_of left) → Says (names_of after)) → Says (names_of after)
+      go (Ok left) acts rest onward = onward left rest (acted_on one before left acts says)
+      go (Err refusal) acts rest onward = cc
+
+-- Each name
+
+module _ (P : List ℕ → Type 0) where
+  all_fewer : (test : List ℕ → Bool) (names : List (List ℕ)) → All P names → All P (filter test names)
+  all_fewer test names all = All-filter test P names all
+
+  all_turned : (patterns : List (List Sign)) (pairs : List (List ℕ × List ℕ)) → All P (names_of pairs) → All P (names_of (ordered patterns pairs))
+  all_turned [] pairs all = all
+  all_turned (pattern ∷ patterns) pairs all =
+      let test = λ (name : List ℕ). not (matches pattern name) in
+      let front = filter (λ (pair : List ℕ × List ℕ). matches pattern pair.0) pairs in
+      let behind = filter (λ (pair : List ℕ × List ℕ). not (matches pattern pair.0)) pairs in
+      let first = subst (All P) (sym (names_filter (matches pattern) pairs)) (all_fewer (matches pattern) (names_of pairs) all) in
+      let others = subst (All P) (sym (names_filter test pairs)) (all_fewer test (names_of pairs) all) in
+      subst (All P) (sym (map-append (λ (pair : List ℕ × List ℕ). pair.0) front (ordered patterns behind)))
+      (All-append P (names_of front) (names_of (ordered patterns behind)) first (all_turned patterns behind others))
+
+  -- what holds of each name still does
+  pub names_kept : (plugins : List Plugin) (before after : List (List ℕ × List ℕ)) → apply plugins before ≡ Ok after → All P (names_of before) → All P (names_of after)
+  names_kept = applied_to (All P) all_fewer all_turned
+
+-- Names that differ
+
+abbrev Differ : List (List ℕ) → Type 0
+Differ names = AllPairs (λ one other. one ≢ other) names
+
+differ_turned : (patterns : List (List Sign)) (pairs : List (List ℕ × List ℕ)) → Differ (names_of pairs) → Differ (names_of (ordered patterns pairs))
+differ_turned [] pairs differ = differ
+differ_turned (pattern ∷ patterns) pairs differ =
+    let test = λ (name : List ℕ). not (matches pattern name) in
+    let front = filter (λ (pair : List ℕ × List ℕ). matches pattern pair.0) pairs in
+    let behind = filter (λ (pair : List ℕ × List ℕ). not (matches pattern pair.0)) pairs in
+    let first = subst Differ (sym (names_filter (matches pattern) pairs)) (AllPairs-filter (λ one other. one ≢ other) (matches pattern) (names_of pairs) differ) in
+    let others = subst Differ (sym (names_filter test pairs)) (AllPairs-filter (λ one other. one ≢ other) test (names_of pairs) differ) in
+    let match = subst (All (λ name. matches pattern name ≡ true)) (sym (names_filter (matches pattern) pairs)) (filter_passes (matches pattern) (names_of pairs)) in
+    let none = all_turned (λ name. test name ≡ true) patterns behind (subst (All (λ name. test name ≡ true)) (sym (names_filter test pairs)) (filter_passes test (names_of pairs))) in
+    subst Differ (sym (map-append (λ (pair : List ℕ × List ℕ). pair.0) front (ordered patterns behind)))
+    (pairs_append (λ one other. one ≢ other) (names_of front) (names_of (ordered patterns behind)) first (differ_turned patterns behind others)
+    (λ one other here there same.
+    let matched = All-contains (λ name. matches pattern name ≡ true) (names_of front) one match here in
+    let unmatched = All-contains (λ name. test name ≡ true) (names_of (ordered patterns behind)) other none there in
+    false≢true (sym (ap not matched) ∙ ap test same ∙ unmatched)))
+
+-- names that differ still do
+pub names_differ : (plugins : List Plugin) (before after : List (List ℕ × List ℕ)) → apply plugins before ≡ Ok after → AllPairs (λ one other. one ≢ other) (names_of before) → AllPairs (λ one other. one ≢ other) (names_of after)
+names_differ = applied_to Differ (λ test names differ. AllPairs-filter (λ one other. one ≢ other) test names differ) differ_turned
