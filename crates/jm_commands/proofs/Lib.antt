@@ -6,6 +6,7 @@ pub mod ListingLaws
 mod ListingVectors
 pub mod Made
 pub mod OutcomeLaws
+pub mod PluginLaws
 pub mod RunLaws
 pub mod StepLaws
 mod Vectors

@@ -1,5 +1,5 @@
 -- What all commands that are built have in common.
-use Rattle.std.proofs.Common.{◌≡◌, Bool, true, false, cond, ℕ, List, [], Option, Some, None, Result, Ok, Err, refl, ap}
+use Rattle.std.proofs.Common.{◌≡◌, Bool, true, false, cond, ℕ, List, [], Option, Some, None, Result, Ok, Err, refl, ap, ◌∙◌, subst}
 use Rattle.jm_form.specs.declared.damage.Damage.{Damage}
 use Rattle.jm_form.specs.declared.rows.Row.{Row}
 use Rattle.jm_form.specs.Damages.{first_damage}
@@ -12,7 +12,9 @@ use Rattle.jm_class.specs.ComputedClass.{class_of}
 use Rattle.jm_modinfo.specs.declared.descriptor.Descriptor.{Descriptor}
 use Rattle.jm_modinfo.specs.declared.faults.InfoFault.{InfoFault}
 use Rattle.jm_modinfo.specs.ComputedInfo.{info_of}
-use Rattle.jm_commands.specs.Outcome.{built_outcome, cat_outcome, class_outcome, command_outcome, describe_outcome, descriptor_outcome, file_outcome, reads_class, image_outcome, read_path, is_built, opened_outcome, plain_outcome, unbuilt}
+use Rattle.jm_outside.specs.Files.{Files}
+use Rattle.jm_commands.specs.Run.{CommandComesTo, CommandWith, HasFile}
+use Rattle.jm_commands.specs.Outcome.{Link, Outcome, link_of, built_outcome, cat_outcome, class_outcome, command_outcome, describe_outcome, descriptor_outcome, file_outcome, reads_class, image_outcome, read_path, is_built, opened_outcome, plain_outcome, unbuilt}
 
 cat_writes : (name : List ℕ) (found : Option (Row × List ℕ)) → (cat_outcome name found).writes ≡ []
 cat_writes name None = refl
@@ -114,3 +116,14 @@ module _ (n : ℕ) where
 
   pub command_outcome-with_jobs : (given : Command) (found : Option (List ℕ)) → command_outcome (with_jobs n given) found ≡ command_outcome given found
   command_outcome-with_jobs given found = rw (built-with_jobs given, read_path-with_jobs given) (ap (λ due. cond (is_built given) due unbuilt) (outcome-with_jobs given (read_path given) found))
+
+  link_of-with_jobs : (given : Command) → link_of (with_jobs n given) ≡ link_of given
+  link_of-with_jobs (command.Link dirs roots output plugins order bind None jobs) = refl
+  link_of-with_jobs _ = refl
+
+  pub comes-with_jobs : (told : Option Files) (given : Command) (due : Outcome) → CommandComesTo told (with_jobs n given) due → CommandComesTo told given due
+  comes-with_jobs told given due comes = go (link_of given) (subst (λ o. CommandWith told (with_jobs n given) o due) (link_of-with_jobs given) comes)
+    where
+      go : (o : Option Link) → CommandWith told (with_jobs n given) o due → CommandWith told given o due
+      go (Some link) same = same
+      go None (found, has, is) = (found, subst (λ path. HasFile told path found) (read_path-with_jobs given) has, is ∙ command_outcome-with_jobs given found)

@@ -12,7 +12,7 @@ abbrev pub commands_text : List ℕ
 commands_text =
     codes "commands:\n"
     ++ codes "  link --module-path DIRS --add-modules NAMES --output FILE [options] [plug-ins]\n"
-    ++ codes "      links modules and all that they require into one image (not built yet)\n"
+    ++ codes "      links modules and all that they require into one image\n"
     ++ codes "  link --from-image FILE --add-modules NAMES --output FILE [options] [plug-ins]\n"
     ++ codes "      the same with the modules of another image (not built yet)\n"
     ++ codes "  cat IMAGE NAME\n"
@@ -64,7 +64,7 @@ plug_ins_text =
     ++ codes "  --strip-java-debug-attributes\n"
     ++ codes "      drops what a class says for debuggers\n"
     ++ codes "  --compact-pool\n"
-    ++ codes "      drops what a class holds and doesn't use\n"
+    ++ codes "      drops what a class holds and doesn't use (not built yet)\n"
     ++ codes "\n"
 
 -- the statuses

@@ -2,6 +2,7 @@
 -- (this project's rule).
 use Rattle.std.specs.Prelude.{ℕ, Bool, true, false, List, [], ◌∷◌, ◌++◌, codes}
 use Rattle.std.specs.Prelude.{Option, Some, None, Result, Ok, Err, if◌then◌else◌}
+use Rattle.std.specs.List.{list_any}
 use Rattle.jm_bytes.specs.declared.words.Order.{Order}
 use Rattle.jm_form.specs.declared.damage.Damage.{Damage}
 use Rattle.jm_form.specs.declared.rows.Row.{Row}
@@ -23,9 +24,11 @@ use Rattle.jm_modinfo.specs.declared.faults.DescriptorFault.{DescriptorFault}
 use Rattle.jm_modinfo.specs.declared.faults.DescriptorFault.TheVariants as fault_of
 use Rattle.jm_modinfo.specs.declared.faults.InfoFault.{InfoFault}
 use Rattle.jm_modinfo.specs.ComputedInfo.{info_of}
+use Rattle.jm_plugins.specs.declared.Plugin.{Plugin}
+use Rattle.jm_plugins.specs.declared.Plugin.TheVariants as plugin
 use Rattle.jm_link.specs.declared.refusal.Refusal.{Refusal}
 use Rattle.jm_link.specs.Linked.{LinkedImage, Request}
-use Rattle.jm_link.specs.Links.{summary_of}
+use Rattle.jm_link.specs.Links.{request_of, summary_of}
 use Rattle.jm_link.specs.declared.refusal.Refusal.TheVariants as refusal
 use Rattle.jm_commands.specs.declared.link.LinkWords.{LinkWords}
 use Rattle.jm_commands.specs.DescribeText.{describe_text}
@@ -95,16 +98,10 @@ pub record Link : Type 0 where
   pub asked : Request
   pub output : List ℕ
 
-abbrev pub link_with : List (List ℕ) → List (List ℕ) → Bool → Order → List ℕ → Link
-link_with directories roots bind order output = record {
-  asked = record { directories = directories; roots = roots; bind = bind; order = order };
-  output = output;
-}
-
 -- the words of a link
 abbrev pub link_from : LinkWords → Link
 link_from words =
-    link_with words.directories.now words.roots.now words.bind words.order words.output.now
+    record { asked = request_of words.asked; output = words.asked.output.now }
 
 abbrev pub linked : List ℕ → LinkedImage → Outcome
 linked path image = record {
@@ -118,10 +115,25 @@ abbrev pub link_outcome : List ℕ → Result LinkedImage Refusal → Outcome
 link_outcome path (Ok image) = linked path image
 link_outcome path (Err refusal) = refusing refusal
 
--- a link from a module path without plug-ins; others are to come
+-- the plug-in that is to come
+abbrev pub is_compact : Plugin → Bool
+is_compact plugin.Compact = true
+is_compact _ = false
+
+-- a link from a module path, with plug-ins that are built; others are to come
 abbrev pub link_of : Command → Option Link
-link_of (command.Link dirs roots output [] order bind None jobs) =
-    Some (link_with dirs roots bind order output)
+link_of (command.Link dirs roots output plugins order bind None jobs) =
+    if list_any is_compact plugins then None
+    else Some (record {
+      asked = record {
+        directories = dirs;
+        roots = roots;
+        bind = bind;
+        plugins = plugins;
+        order = order;
+      };
+      output = output;
+    })
 link_of _ = None
 
 -- which of the other commands are built yet; one that isn't is as unknown as its name

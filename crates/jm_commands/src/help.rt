@@ -14,7 +14,7 @@ usage: jm_tool COMMAND ..
 
 commands:
   link --module-path DIRS --add-modules NAMES --output FILE [options] [plug-ins]
-      links modules and all that they require into one image (not built yet)
+      links modules and all that they require into one image
   link --from-image FILE --add-modules NAMES --output FILE [options] [plug-ins]
       the same with the modules of another image (not built yet)
   cat IMAGE NAME
@@ -58,7 +58,7 @@ plug-ins:
   --strip-java-debug-attributes
       drops what a class says for debuggers
   --compact-pool
-      drops what a class holds and doesn't use
+      drops what a class holds and doesn't use (not built yet)
 
 statuses:
   0 the output was put

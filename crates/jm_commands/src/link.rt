@@ -1,8 +1,10 @@
 //! The command `link`.
-ghost use Rattle.std.specs.Prelude.{◌≡◌, All, IfOk, IfSome, IsUtf8, option_map, string_bytes};
-ghost use Rattle.jm_words.specs.Paths.{FilePathsAreText};
+ghost use Rattle.std.specs.Prelude.{◌≡◌, ◌<◌, All, IfOk, IfSome, IsUtf8, option_map, string_bytes};
+ghost use Rattle.std.specs.List.{list_any};
+ghost use Rattle.jm_plugins.specs.Plugins.{NoCompact};
+ghost use Rattle.jm_words.specs.Paths.{FilePathsAreText, jobs_in};
 ghost use Rattle.jm_commands.specs.LinkText.{link_text};
-ghost use Rattle.jm_commands.specs.Outcome.{done, link_from, link_of};
+ghost use Rattle.jm_commands.specs.Outcome.{done, is_compact, link_from, link_of};
 ghost use Rattle.jm_commands.specs.Run.{LinkComesTo, PutDoes, StepComesTo};
 ghost use Rattle.jm_commands.specs.Sinks.{seen};
 ghost use Rattle.jm_commands.specs.Stops.{stop_of_link};
@@ -10,11 +12,13 @@ ghost use Rattle.jm_commands.specs.Stops.{stop_of_link};
 use crate::complaint::Complaint;
 use crate::output::put_output;
 use crate::stop::Stop;
-use jm_bytes::{Order, Text};
-use jm_link::{LinkStop, Summary, link};
+use jm_halves::Gate;
+use jm_link::{Asked, LinkStop, Summary, link};
 use jm_outside::{Shelf, Sink};
+use jm_plugins::Plugin;
 use jm_words::Command;
 use std::alloc::{AllocError, Global};
+use std::thread::Threads;
 
 /// The lines on what was linked.
 fn link_text(alloc: Global, summary: &Summary) -> Result<String, AllocError>
@@ -51,22 +55,40 @@ fn put_summary<O: Sink>(alloc: Global, summary: &Summary, out: &mut O) -> Result
     put_output(alloc, text.as_bytes(), out)
 }
 
-/// What the words of a `link` from a module path say, without plug-ins.
+/// What the words of a `link` from a module path say, with plug-ins that are built.
 #[derive(Clone, Copy, Debug)]
 pub struct LinkWords<'a> {
-    pub directories: &'a [Text],
-    pub roots: &'a [Text],
-    pub bind: bool,
-    pub order: Order,
-    pub output: &'a [u8],
+    pub asked: Asked<'a>,
+    /// How many pieces work at the same time.
+    pub jobs: u32,
+}
+
+/// Whether a plug-in is to come.
+fn is_compact(plugin: &Plugin) -> bool
+    ensures { result ≡ is_compact plugin.now }
+{
+    match plugin {
+        Plugin::Compact => true,
+        Plugin::Exclude(_) | Plugin::Order(_) | Plugin::Strip => false,
+    }
+}
+
+/// Whether one of the plug-ins is to come.
+fn any_compact(plugins: &[Plugin]) -> bool
+    ensures { result ≡ list_any is_compact plugins.now }
+{
+    plugins.iter().any(|plugin| is_compact(plugin))
 }
 
 /// The words of a command that is such a `link`.
 pub fn link_words<'a>(command: &'a Command) -> Option<LinkWords<'a>>
-    requires { FilePathsAreText command.now }
+    requires paths { FilePathsAreText command.now }
+    requires jobs { 0 < jobs_in command.now }
     ensures link { option_map link_from result ≡ link_of command.now }
-    ensures directories { IfSome result (λ words. All IsUtf8 words.directories.now) }
-    ensures output { IfSome result (λ words. IsUtf8 words.output.now) }
+    ensures known { IfSome result (λ words. NoCompact words.asked.plugins.now) }
+    ensures directories { IfSome result (λ words. All IsUtf8 words.asked.directories.now) }
+    ensures output { IfSome result (λ words. IsUtf8 words.asked.output.now) }
+    ensures jobs { IfSome result (λ words. 0 < words.jobs) }
 {
     match command {
         Command::Link {
@@ -77,43 +99,43 @@ pub fn link_words<'a>(command: &'a Command) -> Option<LinkWords<'a>>
             order,
             bind,
             from_image: None,
-            ..
-        } if plugins.as_slice().is_empty() => Some(LinkWords {
-            directories: dirs.as_slice(),
-            roots: roots.as_slice(),
-            bind: *bind,
-            order: *order,
-            output: output.as_slice(),
+            jobs,
+        } if !any_compact(plugins.as_slice()) => Some(LinkWords {
+            asked: Asked {
+                directories: dirs.as_slice(),
+                roots: roots.as_slice(),
+                bind: *bind,
+                plugins: plugins.as_slice(),
+                order: *order,
+                output: output.as_slice(),
+            },
+            jobs: *jobs,
         }),
         _ => None,
     }
 }
 
-/// `link` from a module path: writes the image of the closure of the roots to a file, and puts what
-/// it has.
-pub fn link_command<S: Shelf, O: Sink>(
+/// `link` from a module path: writes the image of the closure of the roots to a file, after the
+/// plug-ins acted on its resources, and puts what it has.
+pub fn link_command<T: Threads + Sync, S: Shelf, O: Sink, G: Gate + Sync>(
+    rt: &T,
     alloc: Global,
     words: &LinkWords,
     shelf: &mut S,
     out: &mut O,
+    gate: &G,
 ) -> Result<(), Stop>
-    requires directories { All IsUtf8 words.now.directories.now }
-    requires output { IsUtf8 words.now.output.now }
+    requires known { NoCompact words.now.asked.plugins.now }
+    requires directories { All IsUtf8 words.now.asked.directories.now }
+    requires output { IsUtf8 words.now.asked.output.now }
+    requires jobs { 0 < words.now.jobs }
     ensures { StepComesTo (LinkComesTo (S.files shelf.old) (link_from words.now)) result
         (seen (S.files shelf.old) (S.faults shelf.old))
         (seen (S.files shelf.new) (S.faults shelf.new))
         (seen (O.content out.old) (O.faults out.old))
         (seen (O.content out.new) (O.faults out.new)) }
 {
-    match link(
-        alloc,
-        words.directories,
-        words.roots,
-        words.bind,
-        words.order,
-        words.output,
-        shelf,
-    ) {
+    match link(rt, alloc, words.jobs, &words.asked, shelf, gate) {
         Ok(summary) => put_summary(alloc, &summary, out),
         Err(stop) => Err(stop_of_link(stop)),
     }

@@ -131,7 +131,7 @@ fn do_command<T: Threads + Sync, S: Shelf, O: Sink, G: Gate + Sync>(
         (seen (O.content out.new) (O.faults out.new)) }
 {
     match link_words(command) {
-        Some(words) => link_command(alloc, &words, shelf, out),
+        Some(words) => link_command(rt, alloc, &words, shelf, out, gate),
         None => do_other(rt, alloc, command, shelf, out, gate),
     }
 }

@@ -90,6 +90,9 @@ const DOTS: &str = "mods/a/../x=x";
 
 const BELOW_FILE: &str = "mods/a/p=p";
 
+/// A class with a source file in the place of a text.
+const CLASS: &str = "mods/a/p/A.class=C";
+
 const SERVICES: &str = "mods/a/module-info.class=M a - s/S
 mods/b/module-info.class=M b c - s/S
 mods/c/module-info.class=M c - t/T
@@ -101,6 +104,9 @@ fn link_writes_the_closure_or_says_why_not(rt: HostRuntime) -> Result<(), Fail> 
     let link = "link --module-path mods --add-modules a --output img";
     let list = "list img";
     let three = (THREE, "", "");
+    let ordered = "link --module-path mods --add-modules a --output img \
+        --order-resources=**/B.class,/java.base/**";
+    let refused_class = "3||refused: BadClass /a/p/A.class Short 0\n5||not there: img\n";
     let without_b = (THREE, "mods/b/module-info.class", "");
     for (files, words, then, want) in [
         (
@@ -251,6 +257,69 @@ fn link_writes_the_closure_or_says_why_not(rt: HostRuntime) -> Result<(), Fail> 
             "link --module-path mods --add-modules a --output img --compact-pool",
             list,
             "2||words: UnknownCommand at 1\n5||not there: img\n",
+        ),
+        (
+            three,
+            "link --exclude-resources=** --module-path mods --add-modules a --output img",
+            list,
+            "0|modules 3\nresources 0\nbytes 85\n|0||",
+        ),
+        (
+            three,
+            ordered,
+            list,
+            "0|modules 3\nresources 6\nbytes 1006\n|0|113 /a/module-info.class
+2 /a/p/A.class\n100 /b/module-info.class\n3 /b/q/r/B.class\n6 /java.base/java/lang/Object.class
+87 /java.base/module-info.class\n|",
+        ),
+        (
+            three,
+            ordered,
+            "verify img",
+            "0|modules 3\nresources 6\nbytes 1006\n|0|valid 21\n|",
+        ),
+        (
+            three,
+            "link --strip-java-debug-attributes --jobs 1 --module-path mods --add-modules a \
+             --output img",
+            list,
+            refused_class,
+        ),
+        (
+            three,
+            "link --strip-java-debug-attributes --jobs 2 --module-path mods --add-modules a \
+             --output img",
+            list,
+            refused_class,
+        ),
+        (
+            three,
+            "link --strip-java-debug-attributes --jobs 64 --module-path mods --add-modules a \
+             --output img",
+            list,
+            refused_class,
+        ),
+        (
+            three,
+            "link --exclude-resources=**/A.class,**/B.class,**/Object.class \
+             --strip-java-debug-attributes --module-path mods --add-modules a --output img",
+            list,
+            "0|modules 3\nresources 3\nbytes 560\n|0|113 /a/module-info.class
+100 /b/module-info.class\n87 /java.base/module-info.class\n|",
+        ),
+        (
+            three,
+            "link --strip-java-debug-attributes \
+             --exclude-resources=**/A.class,**/B.class,**/Object.class --module-path mods \
+             --add-modules a --output img",
+            list,
+            refused_class,
+        ),
+        (
+            (ALONE, "", CLASS),
+            "link --strip-java-debug-attributes --module-path mods --add-modules a --output img",
+            list,
+            "0|modules 1\nresources 2\nbytes 357\n|0|79 /a/module-info.class\n37 /a/p/A.class\n|",
         ),
         (
             three,

@@ -13,6 +13,13 @@ mods/b/q/r/B.class=BBB
 mods/java.base/module-info.class=M java.base -
 mods/java.base/java/lang/Object.class=object";
 
+/// A class with a source file.
+const WITH_SOURCE: [u8; 45] = [
+    0xCA, 0xFE, 0xBA, 0xBE, 0x00, 0x00, 0x00, 0x34, 0x00, 0x02, 0x01, 0x00, 0x0A, 0x53, 0x6F, 0x75,
+    0x72, 0x63, 0x65, 0x46, 0x69, 0x6C, 0x65, 0x00, 0x00, 0x00, 0x00, 0x00, 0x00, 0x00, 0x00, 0x00,
+    0x00, 0x00, 0x00, 0x00, 0x01, 0x00, 0x01, 0x00, 0x00, 0x00, 0x02, 0x00, 0x01,
+];
+
 /// A class of a module while it is put together: its constants, how many they are, and the fields
 /// that name them.
 #[derive(Drop)]
@@ -92,8 +99,12 @@ fn info(alloc: Global, words: &str) -> Result<Vec<u8>, Fail> {
     Ok(class)
 }
 
-/// What a file holds: the class of a module where the text begins with `M`, else the text.
+/// What a file holds: the class of a module where the text begins with `M`, a class with a source
+/// file where it is `C`, else the text.
 fn content(alloc: Global, text: &str) -> Result<Text, Fail> {
+    if text == "C" {
+        return Ok(Text::copy_of(alloc, &WITH_SOURCE)?);
+    }
     match text.strip_prefix("M ") {
         Some(words) => Ok(Text::from_vec(info(alloc, words)?)),
         None => Ok(Text::copy_of(alloc, text.as_bytes())?),
