@@ -95,37 +95,58 @@ const NAMES: &[(&str, Option<usize>)] = &[
     ("", None),
 ];
 
+/// The same with counters of its own.
+fn length_in(image: &Image, bytes: &[u8], name: &[u8]) -> Option<usize>
+    requires { image.now ≡ bytes.now }
+{
+    let (hashes, reads) = (Blank::new(1), Blank::new(1));
+    length_of::<Brand, Brand>(image, bytes, name, hashes, reads)
+}
+
+/// The same with a counter of its own.
+fn walked_in(image: &Image, bytes: &[u8]) -> usize
+    requires { image.now ≡ bytes.now }
+{
+    walked::<Brand>(image, bytes, Blank::new(1))
+}
+
 /// Whether each of these names has so many bytes, and there are no other entries.
 fn has_all(image: &Image, bytes: &[u8]) -> bool
     requires { image.now ≡ bytes.now }
 {
     for (name, length) in NAMES {
-        let blanks = (Blank::new(1), Blank::new(1));
-        let name = name.as_bytes();
-        if length_of::<Brand, Brand>(image, bytes, name, blanks.0, blanks.1) != *length {
+        if length_in(image, bytes, name.as_bytes()) != *length {
             return false;
         }
     }
-    walked::<Brand>(image, bytes, Blank::new(1)) == 21
+    walked_in(image, bytes) == 21
+}
+
+/// Whether some bytes are an image that has all of them.
+fn is_whole<T: Threads + Sync>(rt: &T, alloc: Global, bytes: &[u8]) -> bool {
+    match open_image(rt, alloc, 2, bytes, &NoGate) {
+        Ok(image) => has_all(&image, bytes),
+        Err(_) => false,
+    }
+}
+
+/// Whether some bytes have a damage.
+fn is_damaged<T: Threads + Sync>(rt: &T, alloc: Global, bytes: &[u8]) -> bool {
+    matches!(
+        open_image(rt, alloc, 1, bytes, &NoGate),
+        Err(OpenError::Damaged(_))
+    )
 }
 
 #[test]
 fn a_written_image_is_whole_or_refused(rt: HostRuntime) -> Result<(), Fail> {
     for order in ["little", "big"] {
-        let bytes = image_in(&rt, rt.alloc(), order)?;
-        let bytes = bytes.as_slice();
-        let whole = match open_image(&rt, rt.alloc(), 2, bytes, &NoGate) {
-            Ok(image) => has_all(&image, bytes),
-            Err(_) => false,
-        };
-        assert!(rt; whole, "{order}");
+        let image = image_in(&rt, rt.alloc(), order)?;
+        let bytes = image.as_slice();
+        assert!(rt; is_whole(&rt, rt.alloc(), bytes), "{order}");
         for length in 0..bytes.len() {
             let (front, _) = bytes.split_at(length);
-            let refused = matches!(
-                open_image(&rt, rt.alloc(), 1, front, &NoGate),
-                Err(OpenError::Damaged(_))
-            );
-            assert!(rt; refused, "{order} {length}");
+            assert!(rt; is_damaged(&rt, rt.alloc(), front), "{order} {length}");
         }
     }
     Ok(())
