@@ -1,5 +1,6 @@
 -- Checks in a stated order, of which the first that finds a fault decides (this project's rule).
-use Rattle.std.specs.Prelude.{ℕ, ◌≡◌, ◌<◌, Bool, List, [], ◌∷◌, Option, Some, None, Result, Ok, Err, if◌then◌else◌, slice_get}
+use Rattle.std.specs.Prelude.{ℕ, ◌≡◌, ◌<◌, Bool, List, [], ◌∷◌, Option, Some, None, Result, Ok, Err}
+use Rattle.std.specs.Prelude.{if◌then◌else◌, slice_get}
 
 -- a check: the fault where the test holds, and nothing elsewhere
 abbrev pub fault_if : {F : Type 0} → Bool → F → Option F

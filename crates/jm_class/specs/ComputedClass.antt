@@ -1,11 +1,16 @@
 -- The fields of a class file in their order (JVMS 4), each with the fault of a field that doesn't
 -- fit or isn't allowed (this project's rule): the computed form of `ReadsAs`, and the first fault.
-use Rattle.std.specs.Prelude.{ℕ, zero, suc, ◌-◌, ◌*◌, nat_lt, Bool, true, false, ◌==◌, ◌&&◌, List, [], ◌∷◌, Option, Some, None, is_some, Result, Ok, Err, if◌then◌else◌}
+use Rattle.std.specs.Prelude.{ℕ, zero, suc, ◌-◌, ◌*◌, nat_lt, Bool, true, false, ◌==◌, ◌&&◌, List}
+use Rattle.std.specs.Prelude.{[], ◌∷◌, Option, Some, None, is_some, Result, Ok, Err, if◌then◌else◌}
 use Rattle.std.specs.Int.{w8, w16, w32}
 use Rattle.jm_class.specs.declared.class.ClassFault.{ClassFault}
-use Rattle.jm_class.specs.declared.class.ClassFault.TheVariants.{Magic, Version, Short, Tag, Index, CodeLength, Rest}
-use Rattle.jm_class.specs.Classes.{SlotData, Constant, Hole, OpaqueData, CodeData, BodyData, Opaque, Coded, AttributeData, MemberData, ClassData, magic, body_size, is_tag, is_wide, utf8_at, is_code_name, is_major}
-use Rattle.jm_class.specs.Readings.{Left, Reading, value, and_then, part, number, list_of, sized, checked, ended, whole}
+use Rattle.jm_class.specs.declared.class.ClassFault.TheVariants.{Magic, Version, Short, Tag, Index}
+use Rattle.jm_class.specs.declared.class.ClassFault.TheVariants.{CodeLength, Rest}
+use Rattle.jm_class.specs.Classes.{SlotData, Constant, Hole, OpaqueData, CodeData, BodyData, Opaque}
+use Rattle.jm_class.specs.Classes.{Coded, AttributeData, MemberData, ClassData, magic, body_size}
+use Rattle.jm_class.specs.Classes.{is_tag, is_wide, utf8_at, is_code_name, is_major}
+use Rattle.jm_class.specs.Readings.{Left, Reading, value, and_then, part, number, list_of, sized}
+use Rattle.jm_class.specs.Readings.{checked, ended, whole}
 
 -- a field of two bytes in the file
 abbrev pub short_number : Reading ClassFault ℕ

@@ -2,7 +2,8 @@
 use Rattle.std.specs.Prelude.{ℕ, ◌++◌, List, codes}
 use Rattle.std.specs.Fmt.{decimal}
 use Rattle.jm_class.specs.declared.class.ClassFault.{ClassFault}
-use Rattle.jm_class.specs.declared.class.ClassFault.TheVariants.{Magic, Version, Short, Tag, Index, CodeLength, Rest}
+use Rattle.jm_class.specs.declared.class.ClassFault.TheVariants.{Magic, Version, Short, Tag, Index}
+use Rattle.jm_class.specs.declared.class.ClassFault.TheVariants.{CodeLength, Rest}
 
 abbrev pub class_fault_text : ClassFault → List ℕ
 class_fault_text Magic = codes "Magic"

@@ -1,7 +1,8 @@
 -- Readings from left to right: what stands at a place, or the first fault (this project's rule).
 -- A reading is made of a few forms: a number, a part, one behind another, so many of one kind, a
 -- check, a part that another reading takes whole.
-use Rattle.std.specs.Prelude.{◌≡◌, ℕ, zero, suc, ◌+◌, ◌≤◌, nat_le, Bool, ◌==◌, List, [], ◌∷◌, length, take, drop, Result, Ok, Err, if◌then◌else◌}
+use Rattle.std.specs.Prelude.{◌≡◌, ℕ, zero, suc, ◌+◌, ◌≤◌, nat_le, Bool, ◌==◌, List, [], ◌∷◌}
+use Rattle.std.specs.Prelude.{length, take, drop, Result, Ok, Err, if◌then◌else◌}
 use Rattle.std.specs.Int.{Width, w16, w32, byte_len, from_be_bytes}
 
 -- the bytes that are left, and the place of the first one

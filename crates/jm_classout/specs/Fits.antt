@@ -1,6 +1,8 @@
 -- Parts of some well-formed class (JVMS 4): their counts and lengths fit their fields.
 use Rattle.std.specs.Prelude.{Bool, List}
-use Rattle.jm_class.specs.Classes.{SlotData, Constant, Hole, OpaqueData, CodeData, BodyData, AttributeData, MemberData, FitsTag, FitsSized, IsOpaque, IsCode, IsBody, IsAttribute, IsMember, held_text}
+use Rattle.jm_class.specs.Classes.{SlotData, Constant, Hole, OpaqueData, CodeData, BodyData}
+use Rattle.jm_class.specs.Classes.{AttributeData, MemberData, FitsTag, FitsSized, IsOpaque, IsCode}
+use Rattle.jm_class.specs.Classes.{IsBody, IsAttribute, IsMember, held_text}
 
 -- a constant's body is as its tag says
 abbrev pub FitsSlot : SlotData → Type 0

@@ -1,7 +1,9 @@
 ghost use Rattle.std.specs.Prelude.{◌≡◌, ◌<◌, ◌^◌, length, map};
 ghost use Rattle.std.specs.List.{flat_map};
-ghost use Rattle.jm_class.specs.Classes.{slot_text, opaque_text, code_text, held_text, attribute_text, member_text, class_text, IsClass};
-ghost use Rattle.jm_class.specs.Views.{slot_of, opaque_of, code_of, body_of, attribute_of, member_of, plain};
+ghost use Rattle.jm_class.specs.Classes.{slot_text, opaque_text, code_text, held_text};
+ghost use Rattle.jm_class.specs.Classes.{attribute_text, member_text, class_text, IsClass};
+ghost use Rattle.jm_class.specs.Views.{slot_of, opaque_of, code_of, body_of, attribute_of};
+ghost use Rattle.jm_class.specs.Views.{member_of, plain};
 
 use jm_class::{Attribute, Body, Class, Code, Member, Plain, Slot};
 

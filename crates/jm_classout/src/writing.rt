@@ -1,7 +1,11 @@
 ghost use Rattle.std.specs.Prelude.{◌≡◌, ◌++◌, ◌/◌, ◌<◌, ◌^◌, length, map, All, IfOk, OnOk};
-ghost use Rattle.jm_class.specs.Classes.{u2, slot_text, opaque_text, rows_text, code_text, held_text, sized_text, attribute_text, member_text, pool_text, counted_text, class_text, ReadsAs, IsClass};
-ghost use Rattle.jm_class.specs.Views.{slot_of, pool_of, opaque_of, code_of, body_of, attribute_of, member_of, plain};
-ghost use Rattle.jm_classout.specs.Fits.{FitsSlot, OfSomeCode, SomeCode, SomeBody, SomeAttribute, SomeMember};
+ghost use Rattle.jm_class.specs.Classes.{u2, slot_text, opaque_text, rows_text, code_text};
+ghost use Rattle.jm_class.specs.Classes.{held_text, sized_text, attribute_text, member_text};
+ghost use Rattle.jm_class.specs.Classes.{pool_text, counted_text, class_text, ReadsAs, IsClass};
+ghost use Rattle.jm_class.specs.Views.{slot_of, pool_of, opaque_of, code_of, body_of, attribute_of};
+ghost use Rattle.jm_class.specs.Views.{member_of, plain};
+ghost use Rattle.jm_classout.specs.Fits.{FitsSlot, OfSomeCode, SomeCode, SomeBody, SomeAttribute};
+ghost use Rattle.jm_classout.specs.Fits.{SomeMember};
 
 use crate::parts::{put, put_sized, put8, put16, put32};
 use crate::sizes::code_size;

@@ -1,5 +1,6 @@
 -- The least texts, computed in one pass over a list (this project's rule).
-use Rattle.std.specs.Prelude.{if◌then◌else◌, ℕ, Bool, true, List, [], ◌∷◌, Option, Some, None, filter, is_none, map, not}
+use Rattle.std.specs.Prelude.{if◌then◌else◌, ℕ, Bool, true, List, [], ◌∷◌, Option, Some, None}
+use Rattle.std.specs.Prelude.{filter, is_none, map, not}
 use Rattle.std.specs.List.{list_any}
 use Rattle.std.specs.Str.{bytes_eq}
 use Rattle.jm_closure.specs.declared.candidate.Candidate.{Candidate}

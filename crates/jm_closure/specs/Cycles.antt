@@ -1,5 +1,6 @@
 -- Nodes that lead to themselves, found by rounds against the edges (this project's rule).
-use Rattle.std.specs.Prelude.{ℕ, ◌≡◌, ◌≢◌, ◌↔◌, List, ◌∷◌, ◌++◌, Option, Some, None, All, Contains, length}
+use Rattle.std.specs.Prelude.{ℕ, ◌≡◌, ◌≢◌, ◌↔◌, List, ◌∷◌, ◌++◌, Option, Some, None, All, Contains}
+use Rattle.std.specs.Prelude.{length}
 use Rattle.jm_closure.specs.declared.candidate.Candidate.{Candidate}
 use Rattle.jm_closure.specs.Graphs.{round_of, EndsWithin, HasEdge}
 use Rattle.jm_closure.specs.Modules.{Requires}

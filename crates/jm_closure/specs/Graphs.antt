@@ -1,6 +1,8 @@
 -- Nodes by their numbers, each with the nodes to which it has an edge, and what is reached from
 -- some of them (this project's rule).
-use Rattle.std.specs.Prelude.{ℕ, ◌≡◌, ◌<◌, ◌≤◌, ◌==◌, ◌⊎◌, true, false, Bool, List, [], ◌∷◌, ◌++◌, Contains, count_by, if◌then◌else◌, length, map, not, slice_index, slice_index_or, slice_set}
+use Rattle.std.specs.Prelude.{ℕ, ◌≡◌, ◌<◌, ◌≤◌, ◌==◌, ◌⊎◌, true, false, Bool, List, [], ◌∷◌, ◌++◌}
+use Rattle.std.specs.Prelude.{Contains, count_by, if◌then◌else◌, length, map, not, slice_index}
+use Rattle.std.specs.Prelude.{slice_index_or, slice_set}
 use Rattle.jm_closure.specs.Modules.{Leads}
 
 -- the nodes to which a node has an edge

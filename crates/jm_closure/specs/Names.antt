@@ -1,5 +1,6 @@
 -- Found modules by their names (this project's rule).
-use Rattle.std.specs.Prelude.{ℕ, ◌≡◌, ◌<◌, ◌↔◌, List, Some, AllPairs, All, Contains, IsTrue, length, slice_get, filter_map, map}
+use Rattle.std.specs.Prelude.{ℕ, ◌≡◌, ◌<◌, ◌↔◌, List, Some, AllPairs, All, Contains, IsTrue, length}
+use Rattle.std.specs.Prelude.{slice_get, filter_map, map}
 use Rattle.std.specs.Cmp.Lexicographic.{slice_cmp}
 use Rattle.std.specs.Ordering.{is_lt, nat_cmp}
 use Rattle.jm_closure.specs.declared.candidate.Candidate.{Candidate}

@@ -1,5 +1,6 @@
 -- Texts, each with a place (this project's rule).
-use Rattle.std.specs.Prelude.{if◌then◌else◌, ℕ, ◌≡◌, List, [], ◌∷◌, Option, Some, None, AllPairs, IsTrue, map}
+use Rattle.std.specs.Prelude.{if◌then◌else◌, ℕ, ◌≡◌, List, [], ◌∷◌, Option, Some, None, AllPairs}
+use Rattle.std.specs.Prelude.{IsTrue, map}
 use Rattle.std.specs.Str.{bytes_eq}
 use Rattle.std.specs.Cmp.Lexicographic.{slice_cmp}
 use Rattle.std.specs.Ordering.{is_lt, nat_cmp}

@@ -1,12 +1,14 @@
 -- What a closure of modules is refused for (this project's rule), each with the least values that
 -- show it. `Chosen` says which modules the closure has, by their places.
-use Rattle.std.specs.Prelude.{ℕ, ◌+◌, ◌≡◌, ◌≢◌, ◌↔◌, List, Some, Contains, IsTrue, Result, Ok, Err, slice_get}
+use Rattle.std.specs.Prelude.{ℕ, ◌+◌, ◌≡◌, ◌≢◌, ◌↔◌, List, Some, Contains, IsTrue, Result, Ok, Err}
+use Rattle.std.specs.Prelude.{slice_get}
 use Rattle.std.specs.Cmp.Lexicographic.{slice_cmp}
 use Rattle.std.specs.Ordering.{is_le, is_lt, nat_cmp}
 use Rattle.jm_closure.specs.declared.candidate.Candidate.{Candidate}
 use Rattle.jm_closure.specs.declared.error.CloseError.{CloseError}
 use Rattle.jm_closure.specs.declared.error.CloseError.TheVariants as refusal
-use Rattle.jm_closure.specs.Modules.{name_of, HasName, HasPackage, IsFound, ReachesItself, RequiresName}
+use Rattle.jm_closure.specs.Modules.{name_of, HasName, HasPackage, IsFound, ReachesItself}
+use Rattle.jm_closure.specs.Modules.{RequiresName}
 
 -- in byte order, a proper prefix first
 abbrev pub IsAtMost : List ℕ → List ℕ → Type 0

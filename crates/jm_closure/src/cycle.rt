@@ -2,7 +2,8 @@
 ghost use Rattle.std.specs.Prelude.{◌≡◌, ◌<◌, ◌↔◌, All, length, vec_len, IfOk, IsTrue, OnOk};
 ghost use Rattle.std.specs.Bool.{OnFalse};
 ghost use Rattle.jm_closure.specs.Cycles.{IsFirstOf, LeavesRound, Turns};
-ghost use Rattle.jm_closure.specs.Graphs.{EndsWithin, IsMarked, IsReversed, OnCycle, RoundsRise, RoundsSoFar};
+ghost use Rattle.jm_closure.specs.Graphs.{EndsWithin, IsMarked, IsReversed, OnCycle, RoundsRise};
+ghost use Rattle.jm_closure.specs.Graphs.{RoundsSoFar};
 
 use crate::graph::Graph;
 use crate::reach::{no_rounds, reach, reached};

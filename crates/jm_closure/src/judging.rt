@@ -1,9 +1,11 @@
 //! What a choice of modules is refused for, and their places.
-ghost use Rattle.std.specs.Prelude.{◌≡◌, ◌<◌, [], All, length, filter, slice_index_or, false, IfOk, IfErr, OnOk, IsTrue};
+ghost use Rattle.std.specs.Prelude.{◌≡◌, ◌<◌, [], All, length, filter, slice_index_or, false, IfOk};
+ghost use Rattle.std.specs.Prelude.{IfErr, OnOk, IsTrue};
 ghost use Rattle.jm_closure.specs.Cycles.{IsGraphOf};
 ghost use Rattle.jm_closure.specs.Graphs.{IsMarked};
 ghost use Rattle.jm_closure.specs.Names.{Indexes, IsOrder, NamesDiffer};
-ghost use Rattle.jm_closure.specs.Refusals.{Closes, IsAcyclic, IsUnsplit, NeedsFound, RefusesCycle, RefusesNeeds, RefusesSplit};
+ghost use Rattle.jm_closure.specs.Refusals.{Closes, IsAcyclic, IsUnsplit, NeedsFound, RefusesCycle};
+ghost use Rattle.jm_closure.specs.Refusals.{RefusesNeeds, RefusesSplit};
 ghost use Rattle.jm_closure.specs.declared.error.CloseError.TheVariants.{Missing, SplitPackage};
 
 use crate::candidate::Candidate;

@@ -2,7 +2,8 @@
 ghost use Rattle.std.specs.Prelude.{◌≡◌, ◌&&◌, None, true, length, not, flat_map, option_map};
 ghost use Rattle.std.specs.Str.{bytes_eq};
 ghost use Rattle.jm_modinfo.specs.Flags.{is_static};
-ghost use Rattle.jm_closure.specs.ComputedLeast.{chosen_of, is_lost, is_required, least_of, names_where};
+ghost use Rattle.jm_closure.specs.ComputedLeast.{chosen_of, is_lost, is_required, least_of};
+ghost use Rattle.jm_closure.specs.ComputedLeast.{names_where};
 ghost use Rattle.jm_closure.specs.Modules.{required_by};
 
 use crate::candidate::Candidate;

@@ -1,6 +1,8 @@
 //! What nodes lead to.
-ghost use Rattle.std.specs.Prelude.{◌≡◌, ◌+◌, ◌<◌, ◌↔◌, All, length, replicate, IfOk, OnOk, vec_len, ℕ};
-ghost use Rattle.jm_closure.specs.Graphs.{marks_of, unreached, with_queued, with_reached, EndsWithin, IsMarked, IsRound, LedFrom, Reaches};
+ghost use Rattle.std.specs.Prelude.{◌≡◌, ◌+◌, ◌<◌, ◌↔◌, All, length, replicate, IfOk, OnOk};
+ghost use Rattle.std.specs.Prelude.{vec_len, ℕ};
+ghost use Rattle.jm_closure.specs.Graphs.{marks_of, unreached, with_queued, with_reached};
+ghost use Rattle.jm_closure.specs.Graphs.{EndsWithin, IsMarked, IsRound, LedFrom, Reaches};
 
 use crate::graph::{Graph, push};
 use jm_bytes::NoMemory;

@@ -17,7 +17,7 @@ use Rattle.jm_commands.specs.declared.complaint.Complaint.TheVariants as complai
 use Rattle.jm_link.specs.declared.refusal.Refusal.TheVariants as refusal
 use Rattle.jm_commands.specs.declared.stop.Stop.{Stop}
 use Rattle.jm_commands.specs.declared.stop.Stop.TheVariants as stop
-use Rattle.jm_commands.specs.DescribeText.{describe_text}
+use Rattle.jm_texts.specs.DescribeText.{describe_text}
 use Rattle.jm_commands.specs.Outcome.{Outcome, bad_info, class_outcome, describe_outcome, descriptor_outcome, done}
 use Rattle.jm_commands.specs.Run.{PutDoes}
 use Rattle.jm_commands.specs.Sinks.{Seen}

@@ -1,12 +1,14 @@
 pub mod DescribeLaws
-pub mod FrontLaws
+pub mod ExtractLaws
+pub mod GenLaws
 pub mod Gotten
 pub mod LinkLaws
-pub mod ListingLaws
 mod ListingVectors
 pub mod Made
 pub mod OutcomeLaws
 pub mod PluginLaws
 pub mod RunLaws
+pub mod ServedLaws
+pub mod SessionLaws
 pub mod StepLaws
 mod Vectors

@@ -4,7 +4,7 @@ use Rattle.std.specs.Fmt.{digits}
 use Rattle.std.specs.Prelude.{codes}
 use Rattle.jm_form.proofs.Vectors.{tiny, side_by_side, empty}
 use Rattle.jm_pattern.specs.declared.signs.Sign.TheVariants.{AnyRun, Byte}
-use Rattle.jm_commands.specs.Taken.{list_text}
+use Rattle.jm_commands.specs.ListText.{list_text}
 
 -- `/m/b` stands in slot 0
 by_name_not_slot : list_text side_by_side None ≡ codes "0 /m/a\n0 /m/b\n"

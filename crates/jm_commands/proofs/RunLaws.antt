@@ -1,17 +1,22 @@
 -- What a run does, from what its step did.
-use Rattle.std.proofs.Common.{◌≡◌, inl, inr, ℕ, List, Ok, Err, refl, sym, ◌∙◌, subst}
-use Rattle.jm_outside.specs.Files.{Files}
+use Rattle.std.proofs.Common.{◌≡◌, inl, inr, ℕ, List, Option, Some, None, Result, Ok, Err, refl, sym, ap, ◌∙◌, subst}
+use Rattle.jm_files.specs.Made.{Writes}
+use Rattle.jm_files.proofs.MadeLaws.{part_of_all}
+use Rattle.jm_jrt.specs.declared.serve_error.ServeError.{ServeError}
+use Rattle.jm_jrt.specs.declared.serve_error.ServeError.TheVariants as serve_error
 use Rattle.jm_commands.specs.declared.complaint.Complaint.{Complaint}
 use Rattle.jm_commands.specs.declared.complaint.Complaint.TheVariants as complaint
 use Rattle.jm_commands.specs.declared.status.Status.{Status}
 use Rattle.jm_commands.specs.declared.status.Status.TheVariants as status
+use Rattle.jm_commands.specs.declared.stop.Stop.{Stop}
 use Rattle.jm_commands.specs.declared.stop.Stop.TheVariants as stop
 use Rattle.jm_commands.specs.Outcome.{Outcome}
-use Rattle.jm_commands.specs.Run.{DoesAll, DoesFront, ReportDoes, RunComesTo, RunDoes, StepComesTo, StepDoes, status_of}
+use Rattle.jm_commands.specs.Run.{DoesAll, DoesFront, EndsWith, IsFailed, IsFailure, ReportDoes, RunComesTo, RunDoes, StepComesTo, StepDoes, status_of}
+use Rattle.jm_commands.specs.SessionHeld.{EndsAs, EndsBroken, SourceRead, StopsAs}
 use Rattle.jm_commands.specs.Sinks.{Gets, GetsFront, Seen}
 use Rattle.jm_commands.specs.Texts.{line_of}
+use Rattle.jm_commands.specs.World.{AnyRose, World}
 use Rattle.jm_commands.proofs.Gotten.{front_of_all, front_of_nothing, gets_nothing}
-use Rattle.jm_commands.proofs.Made.{front_of_made}
 
 -- a complaint's line was put
 pub reported : (given : Complaint) (is : Status) (err new_err : Seen (List ℕ)) → is ≡ status_of given → Gets (line_of given) err new_err → ReportDoes given is err new_err
@@ -22,43 +27,116 @@ reported given is err new_err same put = subst (λ (s : Status). ReportDoes give
     go (complaint.Damaged damage) put = (refl, put)
     go (complaint.NotThere text) put = (refl, put)
     go (complaint.Refused refusal) put = (refl, put)
+    go (complaint.BadNode at) put = (refl, put)
+    go complaint.NotFolder put = (refl, put)
+    go (complaint.LongLine k) put = (refl, put)
+    go complaint.TooManyLines put = (refl, put)
 
-module _ (due : Outcome) (shelf new_shelf : Seen Files) (out new_out : Seen (List ℕ)) where
+-- What was read from the source
+
+source_map : (session : Option (List ℕ)) (failed also : Type 0) (Ends Also : Result ℕ ServeError → Type 0) (old new : World) → (failed → also) → ((answered : Result ℕ ServeError) → Ends answered → Also answered) → SourceRead session failed Ends old new → SourceRead session also Also old new
+source_map None failed also Ends Also old new f g read = read
+source_map (Some b) failed also Ends Also old new f g (inl (fails, unbegun)) = inl (f fails, unbegun)
+source_map (Some b) failed also Ends Also old new f g (inr held) = inr (record { answered = held.answered; ends = g held.answered held.ends; reads = held.reads; new_reads = held.new_reads; serves = held.serves })
+
+ends_done : (answered : Result ℕ ServeError) → StopsAs (Ok tt) answered → EndsAs status.Done answered
+ends_done (Ok n) stops = refl
+ends_done (Err serve_error.ReadFault) stops = cc
+ends_done (Err serve_error.WriteFault) stops = cc
+ends_done (Err (serve_error.LongLine k)) stops = cc
+ends_done (Err serve_error.TooManyLines) stops = cc
+ends_done (Err serve_error.Memory) stops = cc
+
+ends_outside : (answered : Result ℕ ServeError) → StopsAs (Err stop.Outside) answered → EndsAs status.Outside answered
+ends_outside (Ok n) stops = cc
+ends_outside (Err serve_error.ReadFault) stops = refl
+ends_outside (Err serve_error.WriteFault) stops = refl
+ends_outside (Err (serve_error.LongLine k)) stops = cc
+ends_outside (Err serve_error.TooManyLines) stops = cc
+ends_outside (Err serve_error.Memory) stops = cc
+
+ends_memory : (answered : Result ℕ ServeError) → StopsAs (Err stop.Memory) answered → EndsAs status.Memory answered
+ends_memory (Ok n) stops = cc
+ends_memory (Err serve_error.ReadFault) stops = cc
+ends_memory (Err serve_error.WriteFault) stops = cc
+ends_memory (Err (serve_error.LongLine k)) stops = cc
+ends_memory (Err serve_error.TooManyLines) stops = cc
+ends_memory (Err serve_error.Memory) stops = refl
+
+-- the status of a complaint
+abbrev status_in : Result (Unit {0}) Stop → Status
+status_in (Err (stop.Complaint given)) = status_of given
+status_in _ = status.Done
+
+module _ (given : Complaint) (err new_err : Seen (List ℕ)) where
+  broken : (is : Status) → ReportDoes given is err new_err → status_of given ≡ status.Session → EndsBroken is
+  broken status.Outside report same = inr (inl refl)
+  broken status.Memory report same = inr (inr refl)
+  broken status.Done report same = inl (report.0 ∙ same)
+  broken status.Words report same = inl (report.0 ∙ same)
+  broken status.Refused report same = inl (report.0 ∙ same)
+  broken status.Damaged report same = inl (report.0 ∙ same)
+  broken status.NotThere report same = inl (report.0 ∙ same)
+  broken status.Session report same = inl refl
+
+  ends_complaint : (is : Status) → ReportDoes given is err new_err → (answered : Result ℕ ServeError) → StopsAs (Err (stop.Complaint given)) answered → EndsAs is answered
+  ends_complaint is report (Ok n) stops = cc
+  ends_complaint is report (Err serve_error.ReadFault) stops = cc
+  ends_complaint is report (Err serve_error.WriteFault) stops = cc
+  ends_complaint is report (Err (serve_error.LongLine k)) stops = broken is report (ap status_in stops)
+  ends_complaint is report (Err serve_error.TooManyLines) stops = broken is report (ap status_in stops)
+  ends_complaint is report (Err serve_error.Memory) stops = cc
+
+-- The whole run
+
+module _ (due : Outcome) (old new : World) where
   -- the step did its work
-  pub ran_done : (err : Seen (List ℕ)) → StepDoes due (Ok tt) shelf new_shelf out new_out → RunDoes due status.Done shelf new_shelf out new_out err err
-  ran_done err step = (
-    sym step.answers.0,
-    record {
-      output = step.output;
-      line = subst (λ (text : List ℕ). Gets text err err) (sym step.answers.1) (gets_nothing err err refl);
-      files = step.files;
-    },
-  )
+  pub ran_done : (err : Seen (List ℕ)) → StepDoes due (Ok tt) old new → RunDoes due status.Done old new err err
+  ran_done err step = record {
+    ends = (
+      sym step.answers.0,
+      record {
+        output = step.output;
+        line = subst (λ (text : List ℕ). Gets text err err) (sym step.answers.1) (gets_nothing err err refl);
+        files = step.files;
+      },
+    );
+    source = source_map due.session (IsFailure (Ok tt)) (IsFailed status.Done) (StopsAs (Ok tt)) (EndsAs status.Done) old new (λ failed. absurd failed) ends_done step.source;
+  }
 
   -- the outside failed
-  pub ran_outside : (err : Seen (List ℕ)) → StepDoes due (Err stop.Outside) shelf new_shelf out new_out → RunDoes due status.Outside shelf new_shelf out new_out err err
-  ran_outside err step = (record { output = step.output; line = front_of_nothing due.line err err refl; files = step.files }, elim (step.outside refl) [ inl rose ↦ inl rose | inr rose ↦ inr (inl rose) ])
+  pub ran_outside : (err : Seen (List ℕ)) → StepDoes due (Err stop.Outside) old new → RunDoes due status.Outside old new err err
+  ran_outside err step = record {
+    ends = (record { output = step.output; line = front_of_nothing due.line err err refl; files = step.files }, inl (step.outside refl));
+    source = source_map due.session (IsFailure (Err stop.Outside)) (IsFailed status.Outside) (StopsAs (Err stop.Outside)) (EndsAs status.Outside) old new (λ failed. inl refl) ends_outside step.source;
+  }
 
   -- no memory was found
-  pub ran_memory : (err : Seen (List ℕ)) → StepDoes due (Err stop.Memory) shelf new_shelf out new_out → RunDoes due status.Memory shelf new_shelf out new_out err err
-  ran_memory err step = record { output = step.output; line = front_of_nothing due.line err err refl; files = step.files }
+  pub ran_memory : (err : Seen (List ℕ)) → StepDoes due (Err stop.Memory) old new → RunDoes due status.Memory old new err err
+  ran_memory err step = record {
+    ends = record { output = step.output; line = front_of_nothing due.line err err refl; files = step.files };
+    source = source_map due.session (IsFailure (Err stop.Memory)) (IsFailed status.Memory) (StopsAs (Err stop.Memory)) (EndsAs status.Memory) old new (λ failed. inr refl) ends_memory step.source;
+  }
 
   -- a complaint was reported
-  pub ran_complaint : (complaint : Complaint) (is : Status) (err new_err : Seen (List ℕ)) → StepDoes due (Err (stop.Complaint complaint)) shelf new_shelf out new_out → ReportDoes complaint is err new_err → RunDoes due is shelf new_shelf out new_out err new_err
-  ran_complaint complaint is err new_err step report = go is report
+  pub ran_complaint : (given : Complaint) (is : Status) (err new_err : Seen (List ℕ)) → StepDoes due (Err (stop.Complaint given)) old new → ReportDoes given is err new_err → RunDoes due is old new err new_err
+  ran_complaint given is err new_err step report = record {
+    ends = go is report;
+    source = source_map due.session (IsFailure (Err (stop.Complaint given))) (IsFailed is) (StopsAs (Err (stop.Complaint given))) (EndsAs is) old new (λ failed. absurd failed) (ends_complaint given err new_err is report) step.source;
+  }
     where
-      all : Gets (line_of complaint) err new_err → DoesAll due shelf new_shelf out new_out err new_err
+      all : Gets (line_of given) err new_err → DoesAll due old new err new_err
       all put = record { output = step.output; line = subst (λ (text : List ℕ). Gets text err new_err) (sym step.answers.1) put; files = step.files }
 
-      front : GetsFront (line_of complaint) err new_err → DoesFront due shelf new_shelf out new_out err new_err
+      front : GetsFront (line_of given) err new_err → DoesFront due old new err new_err
       front put = record {
-        output = front_of_all due.output out new_out step.output;
+        output = front_of_all due.output old.out new.out step.output;
         line = subst (λ (text : List ℕ). GetsFront text err new_err) (sym step.answers.1) put;
-        files = front_of_made due.writes shelf new_shelf step.files;
+        files = part_of_all due.writes old.shelf.told new.shelf.told step.files;
       }
 
-      go : (s : Status) → ReportDoes complaint s err new_err → RunDoes due s shelf new_shelf out new_out err new_err
-      go status.Outside report = (front report.0, inr (inr report.1))
+      go : (s : Status) → ReportDoes given s err new_err → EndsWith due s old new err new_err
+      go status.Outside report = (front report.0, inr report.1)
       go status.Memory report = front report
       go status.Done report = (report.0 ∙ sym step.answers.0, all report.1)
       go status.Words report = (report.0 ∙ sym step.answers.0, all report.1)
@@ -68,25 +146,26 @@ module _ (due : Outcome) (shelf new_shelf : Seen Files) (out new_out : Seen (Lis
       go status.Session report = (report.0 ∙ sym step.answers.0, all report.1)
 
 -- from what a step comes to, whatever is due
-module _ (Due : Outcome → Type 0) (shelf new_shelf : Seen Files) (out new_out : Seen (List ℕ)) where
-  pub comes_done : (err : Seen (List ℕ)) → StepComesTo Due (Ok tt) shelf new_shelf out new_out → RunComesTo Due status.Done shelf new_shelf out new_out err err
+module _ (Due : Outcome → Type 0) (early : Writes) (old new : World) where
+  pub comes_done : (err : Seen (List ℕ)) → StepComesTo Due early (Ok tt) old new → RunComesTo Due early status.Done old new err err
   comes_done err (inl fails) = absurd fails.failed
-  comes_done err (inr (due, is, step)) = inr (due, is, ran_done due shelf new_shelf out new_out err step)
+  comes_done err (inr (due, is, step)) = inr (due, is, ran_done due old new err step)
 
-  pub comes_outside : (err : Seen (List ℕ)) → StepComesTo Due (Err stop.Outside) shelf new_shelf out new_out → RunComesTo Due status.Outside shelf new_shelf out new_out err err
+  pub comes_outside : (err : Seen (List ℕ)) → StepComesTo Due early (Err stop.Outside) old new → RunComesTo Due early status.Outside old new err err
   comes_outside err (inl fails) = inl (record {
     failed = inl refl;
     files = fails.files;
+    source = fails.source;
     output = fails.output;
     line = refl;
-    outside = λ failed. elim (fails.outside refl) [ inl rose ↦ inl rose | inr rose ↦ inr (inl rose) ];
+    outside = λ failed. inl (fails.outside refl);
   })
-  comes_outside err (inr (due, is, step)) = inr (due, is, ran_outside due shelf new_shelf out new_out err step)
+  comes_outside err (inr (due, is, step)) = inr (due, is, ran_outside due old new err step)
 
-  pub comes_memory : (err : Seen (List ℕ)) → StepComesTo Due (Err stop.Memory) shelf new_shelf out new_out → RunComesTo Due status.Memory shelf new_shelf out new_out err err
-  comes_memory err (inl fails) = inl (record { failed = inr refl; files = fails.files; output = fails.output; line = refl; outside = λ failed. cc })
-  comes_memory err (inr (due, is, step)) = inr (due, is, ran_memory due shelf new_shelf out new_out err step)
+  pub comes_memory : (err : Seen (List ℕ)) → StepComesTo Due early (Err stop.Memory) old new → RunComesTo Due early status.Memory old new err err
+  comes_memory err (inl fails) = inl (record { failed = inr refl; files = fails.files; source = fails.source; output = fails.output; line = refl; outside = λ failed. cc })
+  comes_memory err (inr (due, is, step)) = inr (due, is, ran_memory due old new err step)
 
-  pub comes_complaint : (complaint : Complaint) (is : Status) (err new_err : Seen (List ℕ)) → StepComesTo Due (Err (stop.Complaint complaint)) shelf new_shelf out new_out → ReportDoes complaint is err new_err → RunComesTo Due is shelf new_shelf out new_out err new_err
-  comes_complaint complaint is err new_err (inl fails) report = absurd fails.failed
-  comes_complaint complaint is err new_err (inr (due, comes, step)) report = inr (due, comes, ran_complaint due shelf new_shelf out new_out complaint is err new_err step report)
+  pub comes_complaint : (given : Complaint) (is : Status) (err new_err : Seen (List ℕ)) → StepComesTo Due early (Err (stop.Complaint given)) old new → ReportDoes given is err new_err → RunComesTo Due early is old new err new_err
+  comes_complaint given is err new_err (inl fails) report = absurd fails.failed
+  comes_complaint given is err new_err (inr (due, comes, step)) report = inr (due, comes, ran_complaint due old new given is err new_err step report)

@@ -1,5 +1,6 @@
 -- What `cat` puts of an image (this project's rule).
-use Rattle.std.specs.Prelude.{ℕ, ◌≡◌, true, false, Bool, List, [], Option, Some, None, is_some, Result, Ok, IfOk, OnOk, OnErr, IsErrOf}
+use Rattle.std.specs.Prelude.{ℕ, ◌≡◌, true, false, Bool, List, [], Option, Some, None, is_some}
+use Rattle.std.specs.Prelude.{Result, Ok, IfOk, OnOk, OnErr, IsErrOf}
 use Rattle.jm_form.specs.declared.rows.Row.{Row}
 use Rattle.jm_outside.specs.Outcome.{CountsFaults}
 use Rattle.jm_outside.specs.declared.streams.SinkError.{SinkError}
@@ -11,8 +12,8 @@ abbrev pub content_of : Option (Row × List ℕ) → List ℕ
 content_of None = []
 content_of (Some found) = found.1
 
--- the answer says whether there is an entry, and its content was put; where the put failed, there is
--- one, and a front of its content was put, or nothing of it after want of memory
+-- the answer says whether there is an entry, and its content was put; where the put failed, there
+-- is one, and a front of its content was put, or nothing of it after want of memory
 pub record CatDoes (found : Option (Row × List ℕ)) (answer : Result Bool SinkError)
     (out new_out : Seen (List ℕ)) : Type 0 where
   pub there : IfOk answer (λ there. there ≡ is_some found)

@@ -1,5 +1,5 @@
--- The text of `link` (this project's rule): the modules of the closure, the resources, and the length
--- of the image in bytes.
+-- The texts of `link` and `gen` (this project's rule): the modules of the closure, the resources,
+-- and the length of the image in bytes; of `gen` the slots of its table besides.
 use Rattle.std.specs.Prelude.{ℕ, List, [], ◌∷◌, codes}
 use Rattle.std.specs.Fmt.{decimal}
 use Rattle.std.specs.List.{concat}
@@ -10,3 +10,10 @@ link_text summary =
     concat (codes "modules " ∷ decimal summary.modules
     ∷ codes "\nresources " ∷ decimal summary.resources
     ∷ codes "\nbytes " ∷ decimal summary.length ∷ codes "\n" ∷ [])
+
+abbrev pub gen_text : Summary → List ℕ
+gen_text summary =
+    concat (codes "modules " ∷ decimal summary.modules
+    ∷ codes "\nresources " ∷ decimal summary.resources
+    ∷ codes "\nbytes " ∷ decimal summary.length
+    ∷ codes "\nslots " ∷ decimal summary.slots ∷ codes "\n" ∷ [])

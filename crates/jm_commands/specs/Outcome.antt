@@ -1,15 +1,24 @@
--- What a command comes to: plain data, a function of the command and of the file that it names
--- (this project's rule).
-use Rattle.std.specs.Prelude.{ℕ, Bool, true, false, List, [], ◌∷◌, ◌++◌, codes}
+-- What a command comes to: plain data, a function of the command, of the file that it names and of
+-- the text of the source (this project's rule).
+use Rattle.std.specs.Prelude.{ℕ, ◌+◌, nat_lt, Bool, true, false, List, [], ◌∷◌, ◌++◌, length, codes}
 use Rattle.std.specs.Prelude.{Option, Some, None, Result, Ok, Err, if◌then◌else◌}
+use Rattle.std.specs.Fmt.{decimal}
 use Rattle.std.specs.List.{list_any}
 use Rattle.jm_bytes.specs.declared.words.Order.{Order}
 use Rattle.jm_form.specs.declared.damage.Damage.{Damage}
 use Rattle.jm_form.specs.declared.rows.Row.{Row}
+use Rattle.jm_form.specs.declared.trees.Holds.{Holds}
 use Rattle.jm_form.specs.DamageText.{damage_text}
 use Rattle.jm_form.specs.Damages.{first_damage}
 use Rattle.jm_form.specs.Validity.{look}
+use Rattle.jm_jrt.specs.declared.jrt_error.JrtError.{JrtError}
+use Rattle.jm_jrt.specs.declared.jrt_error.JrtError.TheVariants.{BadNode, NotFolder, NotThere}
+use Rattle.jm_jrt.specs.Lines.{lines_of, replies}
+use Rattle.jm_jrt.specs.Reply.{held_lines}
+use Rattle.jm_jrt.specs.Sessions.{answered_in}
+use Rattle.jm_jrt.specs.Stat.{held, stat}
 use Rattle.jm_names.specs.UtfForms.{utf}
+use Rattle.jm_files.specs.Made.{Writes}
 use Rattle.jm_words.specs.declared.commands.Command.{Command}
 use Rattle.jm_words.specs.declared.commands.Command.TheVariants as command
 use Rattle.jm_words.specs.declared.errors.WordsError.{WordsError}
@@ -26,35 +35,55 @@ use Rattle.jm_modinfo.specs.declared.faults.InfoFault.{InfoFault}
 use Rattle.jm_modinfo.specs.ComputedInfo.{info_of}
 use Rattle.jm_plugins.specs.declared.Plugin.{Plugin}
 use Rattle.jm_plugins.specs.declared.Plugin.TheVariants as plugin
+use Rattle.jm_extract.specs.Extracted.{extracted, writes_of}
+use Rattle.jm_link.specs.ByName.{Named}
+use Rattle.jm_link.specs.declared.linking.Summary.{Summary}
 use Rattle.jm_link.specs.declared.refusal.Refusal.{Refusal}
 use Rattle.jm_link.specs.Linked.{LinkedImage, Request}
 use Rattle.jm_link.specs.Links.{request_of, summary_of}
 use Rattle.jm_link.specs.declared.refusal.Refusal.TheVariants as refusal
+use Rattle.jm_commands.specs.declared.complaint.Complaint.{Complaint}
+use Rattle.jm_commands.specs.declared.complaint.Complaint.TheVariants as complaint
 use Rattle.jm_commands.specs.declared.link.LinkWords.{LinkWords}
-use Rattle.jm_commands.specs.DescribeText.{describe_text}
+use Rattle.jm_texts.specs.DescribeText.{describe_text}
 use Rattle.jm_link.specs.RefusalText.{refusal_text}
 use Rattle.jm_commands.specs.declared.status.Status.{Status}
 use Rattle.jm_commands.specs.declared.status.Status.TheVariants as status
+use Rattle.jm_commands.specs.ExtractText.{extract_text}
 use Rattle.jm_commands.specs.HelpText.{help_text, version_text}
-use Rattle.jm_commands.specs.InfoText.{info_text}
-use Rattle.jm_commands.specs.LinkText.{link_text}
-use Rattle.jm_commands.specs.Taken.{list_text}
+use Rattle.jm_texts.specs.InfoText.{info_text}
+use Rattle.jm_commands.specs.Gen.{Gen, gen_of, gen_request, image_path, made_first}
+use Rattle.jm_commands.specs.LinkText.{gen_text, link_text}
+use Rattle.jm_commands.specs.ListText.{list_text}
+use Rattle.jm_commands.specs.Texts.{line_of}
 use Rattle.jm_commands.specs.VerifyText.{verify_text}
 
--- the status, what the output gets, the line that the error sink gets, and the files that are
--- made, each a path and its bytes, one after another
+-- the status, what the output gets, the line that the error sink gets, the files that are made, and
+-- the image's bytes where the source is read by a session over them
 pub record Outcome : Type 0 where
   pub status : Status
   pub output : List ℕ
   pub line : List ℕ
-  pub writes : List (List ℕ × List ℕ)
+  pub writes : Writes
+  pub session : Option (List ℕ)
 
 abbrev pub done : List ℕ → Outcome
-done output = record { status = status.Done; output = output; line = []; writes = [] }
+done output = record {
+  status = status.Done;
+  output = output;
+  line = [];
+  writes = [];
+  session = None;
+}
 
 abbrev pub refused : Status → List ℕ → Outcome
-refused status text =
-    record { status = status; output = []; line = text ++ 10 ∷ []; writes = [] }
+refused status text = record {
+  status = status;
+  output = [];
+  line = text ++ 10 ∷ [];
+  writes = [];
+  session = None;
+}
 
 abbrev pub faulty : WordsError → Outcome
 faulty fault = refused status.Words (codes "words: " ++ error_text fault)
@@ -68,12 +97,58 @@ not_there text = refused status.NotThere (codes "not there: " ++ text)
 abbrev pub refusing : Refusal → Outcome
 refusing refusal = refused status.Refused (codes "refused: " ++ refusal_text refusal)
 
+-- a folder of `ls` whose node has a bad content at this place
+abbrev pub bad_node : ℕ → Outcome
+bad_node at = refused status.Damaged (codes "damaged: BadNode " ++ decimal at)
+
+-- what `ls` was asked for is no folder
+abbrev pub not_folder : Outcome
+not_folder = refused status.Refused (codes "refused: NotFolder")
+
 -- The commands
 
 -- `cat`: the content of the entry of that name, by what the look-up found
 abbrev pub cat_outcome : List ℕ → Option (Row × List ℕ) → Outcome
 cat_outcome name None = not_there (utf name)
 cat_outcome name (Some found) = done found.1
+
+-- `ls`: the lines of what the folder at the path holds
+abbrev pub ls_outcome : List ℕ → Result Holds JrtError → Outcome
+ls_outcome path (Ok holds) = done (held_lines path holds)
+ls_outcome path (Err NotThere) = not_there (utf path)
+ls_outcome path (Err (BadNode at)) = bad_node at
+ls_outcome path (Err NotFolder) = not_folder
+
+-- `serve`: the replies to the lines of the text, up to the first that is too long or one too many
+
+-- the complaint of a session, by how many lines its text has and how many of them are answered
+abbrev pub session_fault : ℕ → ℕ → Option Complaint
+session_fault lines answered =
+    if nat_lt answered lines
+    then Some (if nat_lt answered 1000000 then complaint.LongLine (answered + 1)
+    else complaint.TooManyLines)
+    else None
+
+abbrev pub session_with : List ℕ → List ℕ → Option Complaint → Outcome
+session_with b output None = record {
+  status = status.Done;
+  output = output;
+  line = [];
+  writes = [];
+  session = Some b;
+}
+session_with b output (Some complaint) = record {
+  status = status.Session;
+  output = output;
+  line = line_of complaint;
+  writes = [];
+  session = Some b;
+}
+
+abbrev pub session_outcome : List ℕ → List ℕ → Outcome
+session_outcome b text =
+    session_with b (replies b (answered_in text))
+    (session_fault (length (lines_of text)) (length (answered_in text)))
 
 -- `describe`: what the class of a module says, by the class that the file's bytes read as
 
@@ -93,27 +168,44 @@ describe_outcome path b = class_outcome path (class_of b)
 
 -- `link`: the image stands at the path, and the output says what it has
 
--- what a link is asked for, and the path of its output
+-- what a link is asked for, the path of its output, and the text on what was linked
 pub record Link : Type 0 where
   pub asked : Request
   pub output : List ℕ
+  pub text : Summary → List ℕ
 
 -- the words of a link
 abbrev pub link_from : LinkWords → Link
-link_from words =
-    record { asked = request_of words.asked; output = words.asked.output.now }
-
-abbrev pub linked : List ℕ → LinkedImage → Outcome
-linked path image = record {
-  status = status.Done;
-  output = link_text (summary_of image);
-  line = [];
-  writes = (path, image.bytes) ∷ [];
+link_from words = record {
+  asked = request_of words.asked;
+  output = words.asked.output.now;
+  text = link_text;
 }
 
-abbrev pub link_outcome : List ℕ → Result LinkedImage Refusal → Outcome
-link_outcome path (Ok image) = linked path image
-link_outcome path (Err refusal) = refusing refusal
+abbrev pub linked : Link → LinkedImage → Outcome
+linked link image = record {
+  status = status.Done;
+  output = link.text (summary_of image);
+  line = [];
+  writes = (link.output, image.bytes) ∷ [];
+  session = None;
+}
+
+abbrev pub link_outcome : Link → Result LinkedImage Refusal → Outcome
+link_outcome link (Ok image) = linked link image
+link_outcome link (Err refusal) = refusing refusal
+
+-- `extract`: a file of each taken entry below the directory, and the output says how many
+
+abbrev pub extract_outcome : List ℕ → Result (List Named) Refusal → Outcome
+extract_outcome dir (Ok entries) = record {
+  status = status.Done;
+  output = extract_text (length entries);
+  line = [];
+  writes = writes_of dir entries;
+  session = None;
+}
+extract_outcome dir (Err refusal) = refusing refusal
 
 -- the plug-in that is to come
 abbrev pub is_compact : Plugin → Bool
@@ -133,15 +225,41 @@ link_of (command.Link dirs roots output plugins order bind None jobs) =
         order = order;
       };
       output = output;
+      text = link_text;
     })
 link_of _ = None
+
+-- `gen`: files are made, and then they are linked
+
+-- what is due, with files made before
+abbrev pub behind : Writes → Outcome → Outcome
+behind made due = record {
+  status = due.status;
+  output = due.output;
+  line = due.line;
+  writes = made ++ due.writes;
+  session = due.session;
+}
+
+-- the link of a `gen`
+abbrev pub gen_link : Gen → Link
+gen_link gen =
+    record { asked = gen_request gen; output = image_path gen; text = gen_text }
+
+-- the files of a `gen`; other commands make none first
+abbrev pub first_writes : Option Gen → Writes
+first_writes (Some gen) = made_first gen
+first_writes None = []
 
 -- which of the other commands are built yet; one that isn't is as unknown as its name
 abbrev pub is_built : Command → Bool
 is_built (command.Cat image name jobs) = true
 is_built (command.List image include jobs) = true
+is_built (command.Ls image path jobs) = true
 is_built (command.Info image jobs) = true
+is_built (command.Extract image dir include jobs) = true
 is_built (command.Verify image jobs) = true
+is_built (command.Serve image jobs) = true
 is_built (command.Describe file jobs) = true
 is_built (command.Help jobs) = true
 is_built (command.Version jobs) = true
@@ -150,17 +268,21 @@ is_built _ = false
 abbrev pub unbuilt : Outcome
 unbuilt = faulty (error.Fault 1 kind.UnknownCommand)
 
--- a command on an image, by the bytes of its file, which have no damage
-abbrev pub image_outcome : Command → List ℕ → Outcome
-image_outcome (command.Cat image name jobs) b = cat_outcome name (look b name)
-image_outcome (command.List image include jobs) b = done (list_text b include)
-image_outcome (command.Info image jobs) b = done (info_text b)
-image_outcome (command.Verify image jobs) b = done (verify_text b)
-image_outcome _ b = unbuilt
+-- a command on an image, by the bytes of its file, which have no damage, and by the source's text
+abbrev pub image_outcome : Command → List ℕ → List ℕ → Outcome
+image_outcome (command.Cat image name jobs) b text = cat_outcome name (look b name)
+image_outcome (command.List image include jobs) b text = done (list_text b include)
+image_outcome (command.Ls image path jobs) b text = ls_outcome path (held (stat b path))
+image_outcome (command.Info image jobs) b text = done (info_text b)
+image_outcome (command.Extract image dir include jobs) b text =
+    extract_outcome dir (extracted b include)
+image_outcome (command.Verify image jobs) b text = done (verify_text b)
+image_outcome (command.Serve image jobs) b text = session_outcome b text
+image_outcome _ b text = unbuilt
 
-abbrev pub opened_outcome : Command → List ℕ → Option Damage → Outcome
-opened_outcome command b None = image_outcome command b
-opened_outcome command b (Some damage) = damaged damage
+abbrev pub opened_outcome : Command → List ℕ → Option Damage → List ℕ → Outcome
+opened_outcome command b None text = image_outcome command b text
+opened_outcome command b (Some damage) text = damaged damage
 
 -- the file that the command reads is a class and no image
 abbrev pub reads_class : Command → Bool
@@ -168,11 +290,11 @@ reads_class (command.Describe file jobs) = true
 reads_class _ = false
 
 -- a command on the file of a path, if it is there
-abbrev pub file_outcome : Command → List ℕ → Option (List ℕ) → Outcome
-file_outcome command path None = not_there path
-file_outcome command path (Some b) =
+abbrev pub file_outcome : Command → List ℕ → Option (List ℕ) → List ℕ → Outcome
+file_outcome command path None text = not_there path
+file_outcome command path (Some b) text =
     if reads_class command then describe_outcome path b
-    else opened_outcome command b (first_damage b)
+    else opened_outcome command b (first_damage b) text
 
 -- the path of the one file that a command reads, if it reads one
 abbrev pub read_path : Command → Option (List ℕ)
@@ -192,11 +314,20 @@ plain_outcome (command.Help jobs) = done help_text
 plain_outcome (command.Version jobs) = done version_text
 plain_outcome _ = unbuilt
 
--- a command that is built, by the path that it reads, and the file there
-abbrev pub built_outcome : Command → Option (List ℕ) → Option (List ℕ) → Outcome
-built_outcome command None file = plain_outcome command
-built_outcome command (Some path) file = file_outcome command path file
+-- a command that is built, by the path that it reads, the file there, and the source's text
+abbrev pub built_outcome : Command → Option (List ℕ) → Option (List ℕ) → List ℕ → Outcome
+built_outcome command None file text = plain_outcome command
+built_outcome command (Some path) file text = file_outcome command path file text
 
-abbrev pub command_outcome : Command → Option (List ℕ) → Outcome
-command_outcome command file =
-    if is_built command then built_outcome command (read_path command) file else unbuilt
+abbrev pub command_outcome : Command → Option (List ℕ) → List ℕ → Outcome
+command_outcome command file text =
+    if is_built command then built_outcome command (read_path command) file text else unbuilt
+
+-- the files that a command makes before it is known what it comes to
+abbrev pub early_writes : Command → Writes
+early_writes command = first_writes (gen_of command)
+
+-- the same of all words
+abbrev pub early_of : Result Command WordsError → Writes
+early_of (Ok command) = early_writes command
+early_of (Err fault) = []

@@ -1,5 +1,7 @@
 -- What a run did to the outside, said by what its command comes to (this project's rule).
-use Rattle.std.specs.Prelude.{ℕ, ◌≡◌, ◌⊎◌, List, [], Option, Some, None, Result, Ok, Err}
+use Rattle.std.specs.Prelude.{ℕ, ◌≡◌, ◌⊎◌, List, [], Option, Some, None, option_map}
+use Rattle.std.specs.Prelude.{Result, Ok, Err}
+use Rattle.jm_files.specs.Made.{MadeAll, MadePart, Writes, written}
 use Rattle.jm_jrt.specs.TreesShown.{ShowsTrees}
 use Rattle.jm_link.specs.declared.refusal.Refusal.{Refusal}
 use Rattle.jm_link.specs.Linked.{LinkedImage}
@@ -14,11 +16,14 @@ use Rattle.jm_commands.specs.declared.status.Status.{Status}
 use Rattle.jm_commands.specs.declared.status.Status.TheVariants as status
 use Rattle.jm_commands.specs.declared.stop.Stop.{Stop}
 use Rattle.jm_commands.specs.declared.stop.Stop.TheVariants as stop
-use Rattle.jm_commands.specs.Outcome.{Link, Outcome, command_outcome, damaged, done, faulty}
-use Rattle.jm_commands.specs.Outcome.{link_of, link_outcome, not_there, read_path, refusing}
+use Rattle.jm_commands.specs.Gen.{Gen, gen_of, made_first}
+use Rattle.jm_commands.specs.Outcome.{Link, Outcome, behind, command_outcome, done, faulty}
+use Rattle.jm_commands.specs.Outcome.{gen_link, link_of, link_outcome, not_there, read_path}
+use Rattle.jm_commands.specs.Outcome.{refused}
+use Rattle.jm_commands.specs.SessionHeld.{EndsAs, SourceRead, StopsAs}
 use Rattle.jm_commands.specs.Sinks.{Seen, Gets, GetsFront}
-use Rattle.jm_commands.specs.Texts.{line_of}
-use Rattle.jm_commands.specs.Writes.{Makes, MakesFront}
+use Rattle.jm_commands.specs.Texts.{complaint_text, line_of}
+use Rattle.jm_commands.specs.World.{AnyRose, World}
 
 -- What the words come to
 
@@ -27,12 +32,14 @@ abbrev pub HasFile : Option Files → Option (List ℕ) → Option (List ℕ) �
 HasFile told None found = Unit {0}
 HasFile told (Some path) found = Shows told (λ files. found ≡ file files path)
 
--- a command that reads one file or none comes to one outcome, whether the shelf tells its files or
--- not: over a shelf that tells nothing, to that of some file
-abbrev pub FileComesTo : Option Files → Command → Outcome → Type 0
-FileComesTo told command due =
+-- a command that reads one file or none comes to one outcome, whether the shelf tells its files and
+-- the source its rest or not: over a shelf that tells nothing, to that of some file, and over a
+-- source that tells nothing, to that of some text
+abbrev pub FileComesTo : Option Files → Option (List ℕ) → Command → Outcome → Type 0
+FileComesTo told rest command due =
     (found : Option (List ℕ)) × HasFile told (read_path command) found
-    × (due ≡ command_outcome command found)
+    × ((text : List ℕ) × Shows rest (λ told_text. text ≡ told_text)
+    × (due ≡ command_outcome command found text))
 
 -- at every path of an image's trees stands what the trees of its resources have there, and nothing
 -- else; of a refusal, nothing
@@ -45,20 +52,31 @@ ShowsLinked (Err refusal) = Unit {0}
 abbrev pub LinkComesTo : Option Files → Link → Outcome → Type 0
 LinkComesTo told link due =
     ((result : Result LinkedImage Refusal) × ComesTo told link.asked result
-    × Shows told (λ files. ShowsLinked result) × (due ≡ link_outcome link.output result))
+    × Shows told (λ files. ShowsLinked result) × (due ≡ link_outcome link result))
     ⊎ ((listed : List ℕ) × Shows told (λ files. ⊥) × (due ≡ not_there listed))
 
-abbrev pub CommandWith : Option Files → Command → Option Link → Outcome → Type 0
-CommandWith told command (Some link) due = LinkComesTo told link due
-CommandWith told command None due = FileComesTo told command due
+-- a `gen` comes to what its link does, where the files that it makes first are there
+abbrev pub GenComesTo : Option Files → Gen → Outcome → Type 0
+GenComesTo told gen due =
+    (linked : Outcome)
+    × LinkComesTo (option_map (λ files. written files (made_first gen)) told) (gen_link gen) linked
+    × (due ≡ behind (made_first gen) linked)
 
-abbrev pub CommandComesTo : Option Files → Command → Outcome → Type 0
-CommandComesTo told command due = CommandWith told command (link_of command) due
+abbrev pub CommandWith : Option Files → Option (List ℕ) → Command → Option Gen → Option Link
+    → Outcome → Type 0
+CommandWith told rest command (Some gen) link due = GenComesTo told gen due
+CommandWith told rest command None (Some link) due = LinkComesTo told link due
+CommandWith told rest command None None due = FileComesTo told rest command due
+
+abbrev pub CommandComesTo : Option Files → Option (List ℕ) → Command → Outcome → Type 0
+CommandComesTo told rest command due =
+    CommandWith told rest command (gen_of command) (link_of command) due
 
 -- what all words come to: their command, or their first fault
-abbrev pub WordsComeTo : Option Files → Result Command WordsError → Outcome → Type 0
-WordsComeTo told (Ok command) due = CommandComesTo told command due
-WordsComeTo told (Err fault) due = due ≡ faulty fault
+abbrev pub WordsComeTo
+    : Option Files → Option (List ℕ) → Result Command WordsError → Outcome → Type 0
+WordsComeTo told rest (Ok command) due = CommandComesTo told rest command due
+WordsComeTo told rest (Err fault) due = due ≡ faulty fault
 
 -- A step of a run
 
@@ -67,6 +85,10 @@ status_of (complaint.Words fault) = status.Words
 status_of (complaint.Damaged damage) = status.Damaged
 status_of (complaint.NotThere text) = status.NotThere
 status_of (complaint.Refused refusal) = status.Refused
+status_of (complaint.BadNode at) = status.Damaged
+status_of complaint.NotFolder = status.Refused
+status_of (complaint.LongLine k) = status.Session
+status_of complaint.TooManyLines = status.Session
 
 -- the step's answer is that of the outcome, unless the outside failed or no memory was found
 abbrev pub Answers : Outcome → Result (Unit {0}) Stop → Type 0
@@ -84,21 +106,11 @@ Outputs (Err stop.Outside) output old new = GetsFront output old new
 Outputs (Err stop.Memory) output old new = GetsFront output old new
 
 -- so are the files that are made
-abbrev pub FilesMade : Result (Unit {0}) Stop → List (List ℕ × List ℕ) → Seen Files → Seen Files
-    → Type 0
-FilesMade (Ok _) writes old new = Makes writes old new
-FilesMade (Err (stop.Complaint complaint)) writes old new = Makes writes old new
-FilesMade (Err stop.Outside) writes old new = MakesFront writes old new
-FilesMade (Err stop.Memory) writes old new = MakesFront writes old new
-
--- any step, where this is what the command comes to
-pub record StepDoes (due : Outcome) (answer : Result (Unit {0}) Stop)
-    (shelf new_shelf : Seen Files) (out new_out : Seen (List ℕ)) : Type 0 where
-  pub answers : Answers due answer
-  pub output : Outputs answer due.output out new_out
-  pub files : FilesMade answer due.writes shelf new_shelf
-  pub outside : answer ≡ Err stop.Outside →
-      (Rose shelf.faults new_shelf.faults) ⊎ (Rose out.faults new_out.faults)
+abbrev pub FilesMade : Result (Unit {0}) Stop → Writes → Option Files → Option Files → Type 0
+FilesMade (Ok _) writes old new = MadeAll writes old new
+FilesMade (Err (stop.Complaint complaint)) writes old new = MadeAll writes old new
+FilesMade (Err stop.Outside) writes old new = MadePart writes old new
+FilesMade (Err stop.Memory) writes old new = MadePart writes old new
 
 -- a failure of the outside, or want of memory
 abbrev pub IsFailure : Result (Unit {0}) Stop → Type 0
@@ -107,28 +119,40 @@ IsFailure (Err (stop.Complaint complaint)) = ⊥
 IsFailure (Err stop.Outside) = Unit {0}
 IsFailure (Err stop.Memory) = Unit {0}
 
--- it failed before it made a file or put a byte
-pub record FailsAtOnce (answer : Result (Unit {0}) Stop)
-    (shelf new_shelf : Seen Files) (out new_out : Seen (List ℕ)) : Type 0 where
+-- any step, where this is what the command comes to
+pub record StepDoes (due : Outcome) (answer : Result (Unit {0}) Stop) (old new : World)
+    : Type 0 where
+  pub answers : Answers due answer
+  pub output : Outputs answer due.output old.out new.out
+  pub files : FilesMade answer due.writes old.shelf.told new.shelf.told
+  pub source : SourceRead due.session (IsFailure answer) (StopsAs answer) old new
+  pub outside : answer ≡ Err stop.Outside → AnyRose old new
+
+-- a step does what is due for the text of the source; where that isn't told, for some text
+abbrev pub StepOnText : (List ℕ → Outcome) → Result (Unit {0}) Stop → World → World → Type 0
+StepOnText due answer old new =
+    (text : List ℕ) × Shows old.input.told (λ told. text ≡ told)
+    × StepDoes (due text) answer old new
+
+-- it failed before it was known what the command comes to: with nothing put and nothing read from
+-- the source, and of these files some made
+pub record FailsAtOnce (early : Writes) (answer : Result (Unit {0}) Stop) (old new : World)
+    : Type 0 where
   pub failed : IsFailure answer
-  pub files : new_shelf.told ≡ shelf.told
-  pub output : new_out.told ≡ out.told
-  pub outside : answer ≡ Err stop.Outside →
-      (Rose shelf.faults new_shelf.faults) ⊎ (Rose out.faults new_out.faults)
+  pub files : MadePart early old.shelf.told new.shelf.told
+  pub source : new.input.told ≡ old.input.told
+  pub output : new.out.told ≡ old.out.told
+  pub outside : answer ≡ Err stop.Outside → AnyRose old new
 
 -- a step does what is due, or fails at once, whatever would have been due
-abbrev pub StepComesTo : (Outcome → Type 0) → Result (Unit {0}) Stop
-    → (shelf new_shelf : Seen Files) → (out new_out : Seen (List ℕ)) → Type 0
-StepComesTo Due answer shelf new_shelf out new_out =
-    FailsAtOnce answer shelf new_shelf out new_out
-    ⊎ ((due : Outcome) × Due due × StepDoes due answer shelf new_shelf out new_out)
+abbrev pub StepComesTo : (Outcome → Type 0) → Writes → Result (Unit {0}) Stop → World → World
+    → Type 0
+StepComesTo Due early answer old new =
+    FailsAtOnce early answer old new ⊎ ((due : Outcome) × Due due × StepDoes due answer old new)
 
 -- what a complaint comes to by itself
 abbrev pub outcome_of : Complaint → Outcome
-outcome_of (complaint.Words fault) = faulty fault
-outcome_of (complaint.Damaged damage) = damaged damage
-outcome_of (complaint.NotThere text) = not_there text
-outcome_of (complaint.Refused refusal) = refusing refusal
+outcome_of complaint = refused (status_of complaint) (complaint_text complaint)
 
 -- the answer of a command that makes no file is the whole outcome
 abbrev pub AnswersAll : Outcome → Result (Unit {0}) Stop → Type 0
@@ -155,45 +179,53 @@ ReportDoes complaint is err new_err =
     (is ≡ status_of complaint) × Gets (line_of complaint) err new_err
 
 -- all was done: the sinks got their texts, and the files were made
-pub record DoesAll (due : Outcome) (shelf new_shelf : Seen Files)
-    (out new_out err new_err : Seen (List ℕ)) : Type 0 where
-  pub output : Gets due.output out new_out
+pub record DoesAll (due : Outcome) (old new : World) (err new_err : Seen (List ℕ)) : Type 0 where
+  pub output : Gets due.output old.out new.out
   pub line : Gets due.line err new_err
-  pub files : Makes due.writes shelf new_shelf
+  pub files : MadeAll due.writes old.shelf.told new.shelf.told
 
 -- a front of it was done
-pub record DoesFront (due : Outcome) (shelf new_shelf : Seen Files)
-    (out new_out err new_err : Seen (List ℕ)) : Type 0 where
-  pub output : GetsFront due.output out new_out
+pub record DoesFront (due : Outcome) (old new : World) (err new_err : Seen (List ℕ)) : Type 0 where
+  pub output : GetsFront due.output old.out new.out
   pub line : GetsFront due.line err new_err
-  pub files : MakesFront due.writes shelf new_shelf
+  pub files : MadePart due.writes old.shelf.told new.shelf.told
 
--- a whole run: with the outcome's status all was done; else the status is `Outside`, and a count
--- rose, or `Memory`, and a front was done
-abbrev pub RunDoes : Outcome → Status → (shelf new_shelf : Seen Files)
-    → (out new_out err new_err : Seen (List ℕ)) → Type 0
-RunDoes due status.Outside shelf new_shelf out new_out err new_err =
-    DoesFront due shelf new_shelf out new_out err new_err
-    × ((Rose shelf.faults new_shelf.faults)
-    ⊎ ((Rose out.faults new_out.faults) ⊎ (Rose err.faults new_err.faults)))
-RunDoes due status.Memory shelf new_shelf out new_out err new_err =
-    DoesFront due shelf new_shelf out new_out err new_err
-RunDoes due is shelf new_shelf out new_out err new_err =
-    (is ≡ due.status) × DoesAll due shelf new_shelf out new_out err new_err
+-- a count rose, that of the error sink too
+abbrev pub RunRose : World → World → Seen (List ℕ) → Seen (List ℕ) → Type 0
+RunRose old new err new_err = AnyRose old new ⊎ Rose err.faults new_err.faults
 
--- it failed before it made a file or put a byte
-pub record RunStops (is : Status) (shelf new_shelf : Seen Files)
-    (out new_out err new_err : Seen (List ℕ)) : Type 0 where
-  pub failed : (is ≡ status.Outside) ⊎ (is ≡ status.Memory)
-  pub files : new_shelf.told ≡ shelf.told
-  pub output : new_out.told ≡ out.told
+-- with the outcome's status all was done; else the status is `Outside`, and a count rose, or
+-- `Memory`, and a front was done
+abbrev pub EndsWith : Outcome → Status → World → World → Seen (List ℕ) → Seen (List ℕ) → Type 0
+EndsWith due status.Outside old new err new_err =
+    DoesFront due old new err new_err × RunRose old new err new_err
+EndsWith due status.Memory old new err new_err = DoesFront due old new err new_err
+EndsWith due is old new err new_err = (is ≡ due.status) × DoesAll due old new err new_err
+
+-- the status of a failure
+abbrev pub IsFailed : Status → Type 0
+IsFailed is = (is ≡ status.Outside) ⊎ (is ≡ status.Memory)
+
+-- a whole run, where this is what the words come to
+pub record RunDoes (due : Outcome) (is : Status) (old new : World) (err new_err : Seen (List ℕ))
+    : Type 0 where
+  pub ends : EndsWith due is old new err new_err
+  pub source : SourceRead due.session (IsFailed is) (EndsAs is) old new
+
+-- it failed before it was known what the words come to: with nothing put and nothing read from the
+-- source, and of these files some made
+pub record RunStops (early : Writes) (is : Status) (old new : World) (err new_err : Seen (List ℕ))
+    : Type 0 where
+  pub failed : IsFailed is
+  pub files : MadePart early old.shelf.told new.shelf.told
+  pub source : new.input.told ≡ old.input.told
+  pub output : new.out.told ≡ old.out.told
   pub line : new_err.told ≡ err.told
-  pub outside : is ≡ status.Outside → (Rose shelf.faults new_shelf.faults)
-      ⊎ ((Rose out.faults new_out.faults) ⊎ (Rose err.faults new_err.faults))
+  pub outside : is ≡ status.Outside → RunRose old new err new_err
 
 -- a run does what is due, or fails at once, whatever would have been due
-abbrev pub RunComesTo : (Outcome → Type 0) → Status → (shelf new_shelf : Seen Files)
-    → (out new_out err new_err : Seen (List ℕ)) → Type 0
-RunComesTo Due is shelf new_shelf out new_out err new_err =
-    RunStops is shelf new_shelf out new_out err new_err
-    ⊎ ((due : Outcome) × Due due × RunDoes due is shelf new_shelf out new_out err new_err)
+abbrev pub RunComesTo : (Outcome → Type 0) → Writes → Status → World → World
+    → Seen (List ℕ) → Seen (List ℕ) → Type 0
+RunComesTo Due early is old new err new_err =
+    RunStops early is old new err new_err
+    ⊎ ((due : Outcome) × Due due × RunDoes due is old new err new_err)

@@ -1,7 +1,8 @@
 -- The exit statuses (this project's rule).
 use Rattle.std.specs.Prelude.{ℕ}
 use Rattle.jm_commands.specs.declared.status.Status.{Status}
-use Rattle.jm_commands.specs.declared.status.Status.TheVariants.{Done, Words, Refused, Damaged, NotThere, Outside, Memory, Session}
+use Rattle.jm_commands.specs.declared.status.Status.TheVariants.{Done, Words, Refused, Damaged}
+use Rattle.jm_commands.specs.declared.status.Status.TheVariants.{NotThere, Outside, Memory, Session}
 
 abbrev pub value_of : Status → ℕ
 value_of Done = 0

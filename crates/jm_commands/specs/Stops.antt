@@ -1,5 +1,9 @@
 -- Why a command stops (this project's rule).
-use Rattle.std.specs.Prelude.{ℕ, ◌≡◌, List}
+use Rattle.std.specs.Prelude.{ℕ, ◌≡◌, List, Result, Ok, Err}
+use Rattle.jm_extract.specs.declared.extracting.ExtractStop.{ExtractStop}
+use Rattle.jm_extract.specs.declared.extracting.ExtractStop.TheVariants as extract_stop
+use Rattle.jm_jrt.specs.declared.serve_error.ServeError.{ServeError}
+use Rattle.jm_jrt.specs.declared.serve_error.ServeError.TheVariants as serve_error
 use Rattle.jm_outside.specs.declared.shelf.ShelfError.{ShelfError}
 use Rattle.jm_outside.specs.declared.shelf.ShelfError.TheVariants as shelf_error
 use Rattle.jm_outside.specs.declared.streams.SinkError.{SinkError}
@@ -24,12 +28,27 @@ abbrev pub stop_of_sink : SinkError → Stop
 stop_of_sink sink_error.Failed = stop.Outside
 stop_of_sink sink_error.Memory = stop.Memory
 
+-- an extraction that stopped
+abbrev pub stop_of_extract : ExtractStop → Stop
+stop_of_extract (extract_stop.Refused refusal) = stop.Complaint (complaint.Refused refusal)
+stop_of_extract extract_stop.Outside = stop.Outside
+stop_of_extract extract_stop.Memory = stop.Memory
+
 -- a link that stopped
 abbrev pub stop_of_link : LinkStop → Stop
 stop_of_link (link_stop.Refused refusal) = stop.Complaint (complaint.Refused refusal)
 stop_of_link (link_stop.NotThere path) = stop.Complaint (complaint.NotThere path)
 stop_of_link link_stop.Outside = stop.Outside
 stop_of_link link_stop.Memory = stop.Memory
+
+-- a session that ended
+abbrev pub stop_of_session : Result ℕ ServeError → Result (Unit {0}) Stop
+stop_of_session (Ok lines) = Ok tt
+stop_of_session (Err serve_error.ReadFault) = Err stop.Outside
+stop_of_session (Err serve_error.WriteFault) = Err stop.Outside
+stop_of_session (Err (serve_error.LongLine k)) = Err (stop.Complaint (complaint.LongLine k))
+stop_of_session (Err serve_error.TooManyLines) = Err (stop.Complaint complaint.TooManyLines)
+stop_of_session (Err serve_error.Memory) = Err stop.Memory
 
 -- a command that isn't built yet
 abbrev pub unbuilt_stop : Stop

@@ -1,5 +1,6 @@
 -- The lines on what a run ends with in place of its output (this project's rule).
 use Rattle.std.specs.Prelude.{ℕ, List, [], ◌∷◌, ◌++◌, codes}
+use Rattle.std.specs.Fmt.{decimal}
 use Rattle.jm_form.specs.DamageText.{damage_text}
 use Rattle.jm_words.specs.FaultText.{error_text}
 use Rattle.jm_link.specs.RefusalText.{refusal_text}
@@ -11,6 +12,10 @@ complaint_text (complaint.Words fault) = codes "words: " ++ error_text fault
 complaint_text (complaint.Damaged damage) = codes "damaged: " ++ damage_text damage
 complaint_text (complaint.NotThere text) = codes "not there: " ++ text
 complaint_text (complaint.Refused refusal) = codes "refused: " ++ refusal_text refusal
+complaint_text (complaint.BadNode at) = codes "damaged: BadNode " ++ decimal at
+complaint_text complaint.NotFolder = codes "refused: NotFolder"
+complaint_text (complaint.LongLine k) = codes "session: LongLine " ++ decimal k
+complaint_text complaint.TooManyLines = codes "session: TooManyLines 1000001"
 
 -- a line ends with one newline byte
 abbrev pub line_of : Complaint → List ℕ

@@ -1,15 +1,14 @@
-ghost use Rattle.std.specs.Prelude.{◌≡◌, ◌∷◌, ◌++◌, [], codes, IfOk};
-ghost use Rattle.jm_link.specs.RefusalText.{refusal_text};
+ghost use Rattle.std.specs.Prelude.{◌≡◌, ◌∷◌, ◌++◌, [], IfOk, IsOk, string_bytes};
 ghost use Rattle.jm_commands.specs.Run.{status_of};
 ghost use Rattle.jm_commands.specs.Texts.{line_of};
 
-use crate::output::extend;
 use crate::status::Status;
 use jm_bytes::{NoMemory, Text};
 use jm_form::Damage;
 use jm_link::Refusal;
+use jm_texts::extend;
 use jm_words::WordsError;
-use std::alloc::Global;
+use std::alloc::{AllocError, Global};
 
 /// What a run ends with in place of its output; it has a line that says so.
 #[derive(Debug, Drop)]
@@ -22,6 +21,14 @@ pub enum Complaint {
     NotThere(Text),
     /// The command refuses its input.
     Refused(Refusal),
+    /// The node of the folder that `ls` was asked for has a bad content at this place.
+    BadNode(usize),
+    /// `ls` was asked for what is no folder.
+    NotFolder,
+    /// The line of a session of this number, counted from 1, is too long.
+    LongLine(u64),
+    /// A session has too many lines.
+    TooManyLines,
 }
 
 impl Complaint {
@@ -31,9 +38,10 @@ impl Complaint {
     {
         match self {
             Complaint::Words(_) => Status::Words,
-            Complaint::Damaged(_) => Status::Damaged,
+            Complaint::Damaged(_) | Complaint::BadNode(_) => Status::Damaged,
             Complaint::NotThere(_) => Status::NotThere,
-            Complaint::Refused(_) => Status::Refused,
+            Complaint::Refused(_) | Complaint::NotFolder => Status::Refused,
+            Complaint::LongLine(_) | Complaint::TooManyLines => Status::Session,
         }
     }
 
@@ -42,20 +50,31 @@ impl Complaint {
         ensures { IfOk result (λ line. line.items ≡ line_of self.now) }
     {
         match self {
-            Complaint::Words(fault) => match format!(in alloc; "words: {fault}\n") {
-                Ok(line) => Ok(line.into_bytes()),
-                Err(_) => Err(NoMemory),
-            },
-            Complaint::Damaged(damage) => match format!(in alloc; "damaged: {damage}\n") {
-                Ok(line) => Ok(line.into_bytes()),
-                Err(_) => Err(NoMemory),
-            },
+            Complaint::Words(fault) => bytes_of(format!(in alloc; "words: {fault}\n")),
+            Complaint::Damaged(damage) => bytes_of(format!(in alloc; "damaged: {damage}\n")),
             Complaint::NotThere(text) => line_with(alloc, b"not there: ", text.as_slice()),
             Complaint::Refused(refusal) => {
                 let text = refusal.text(alloc)?;
                 line_with(alloc, b"refused: ", text.as_slice())
             }
+            Complaint::BadNode(at) => bytes_of(format!(in alloc; "damaged: BadNode {at}\n")),
+            Complaint::NotFolder => line_with(alloc, b"refused: ", b"NotFolder"),
+            Complaint::LongLine(number) => {
+                bytes_of(format!(in alloc; "session: LongLine {number}\n"))
+            }
+            Complaint::TooManyLines => line_with(alloc, b"session: ", b"TooManyLines 1000001"),
         }
+    }
+}
+
+/// The bytes of a text for which memory was found.
+fn bytes_of(text: Result<String, AllocError>) -> Result<Vec<u8>, NoMemory>
+    ensures bytes { IfOk result (λ bytes. IfOk text (λ text. bytes.items ≡ string_bytes text)) }
+    ensures ok { IsOk result → IsOk text }
+{
+    match text {
+        Ok(text) => Ok(text.into_bytes()),
+        Err(_) => Err(NoMemory),
     }
 }
 

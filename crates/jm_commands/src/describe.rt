@@ -7,7 +7,6 @@ ghost use Rattle.jm_commands.specs.Sinks.{seen};
 ghost use Rattle.jm_commands.specs.Stops.{Refuses};
 
 use crate::complaint::Complaint;
-use crate::describe_text::describe_text;
 use crate::output::put_output;
 use crate::stop::Stop;
 use jm_bytes::Text;
@@ -15,6 +14,7 @@ use jm_class::{Class, ReadError, read};
 use jm_link::Refusal;
 use jm_modinfo::{DescriptorFault, InfoError, describe};
 use jm_outside::Sink;
+use jm_texts::describe_text;
 use std::alloc::Global;
 
 /// The refusal of the file at a path, which doesn't read as the class of a module.

@@ -22,17 +22,17 @@ commands:
   list IMAGE [--include PATTERNS]
       puts the size and the name of each resource
   ls IMAGE PATH
-      puts what a folder of the image holds (not built yet)
+      puts what a folder of the image holds
   info IMAGE
       puts what the header says
   extract IMAGE --dir DIR [--include PATTERNS]
-      writes each resource to a file below DIR (not built yet)
+      writes each resource to a file below DIR
   verify IMAGE
       checks the image and puts the number of its entries
   serve IMAGE
-      answers the lines of the input (not built yet)
+      answers the lines of the input
   gen DIR --modules N --classes N --seed N
-      makes modules below DIR and links them (not built yet)
+      makes modules below DIR and links them
   describe FILE
       puts what a module-info.class says
   --help

@@ -1,23 +1,28 @@
 ghost use Rattle.std.specs.Prelude.{◌≡◌, ◌<◌, List, ℕ, Option, Some, IsUtf8};
 ghost use Rattle.jm_form.specs.Damages.{first_damage};
 ghost use Rattle.jm_form.specs.Validity.{look};
+ghost use Rattle.jm_words.specs.Paths.{FilePathsAreText};
 ghost use Rattle.jm_commands.specs.Cat.{CatDoes};
 ghost use Rattle.jm_commands.specs.Outcome.{cat_outcome, file_outcome, reads_class};
 ghost use Rattle.jm_commands.specs.Outcome.{image_outcome, opened_outcome};
-ghost use Rattle.jm_commands.specs.Run.{HasFile, PutDoes, StepDoes};
+ghost use Rattle.jm_commands.specs.Run.{HasFile, PutDoes, StepOnText};
 ghost use Rattle.jm_commands.specs.Sinks.{seen};
+ghost use Rattle.jm_commands.specs.World.{world};
 
 use crate::cat::cat_command;
 use crate::complaint::Complaint;
 use crate::describe::describe_command;
+use crate::extract::extract_command;
 use crate::info::info_command;
 use crate::listing::list_command;
+use crate::ls::ls_command;
+use crate::serve::serve_command;
 use crate::stop::{Stop, unbuilt};
 use crate::verify::verify_command;
 use jm_bytes::{Meter, Steps, Text};
 use jm_halves::Gate;
 use jm_names::to_utf8;
-use jm_outside::{Shelf, Sink, SinkError};
+use jm_outside::{Shelf, Sink, SinkError, Source};
 use jm_valid::{Image, OpenError, open_image};
 use jm_words::Command;
 use std::alloc::Global;
@@ -74,44 +79,59 @@ fn cat_step<O: Sink>(
 }
 
 /// Does the work of a command on an image, which these bytes are.
-fn do_on_image<O: Sink>(
+fn do_on_image<S: Shelf, I: Source, O: Sink>(
     alloc: Global,
     command: &Command,
     image: &Image,
     bytes: &[u8],
+    shelf: &mut S,
+    input: &mut I,
     out: &mut O,
 ) -> Result<(), Stop>
-    requires { image.now ≡ bytes.now }
-    ensures { PutDoes (image_outcome command.now bytes.now) result
-        (seen (O.content out.old) (O.faults out.old))
-        (seen (O.content out.new) (O.faults out.new)) }
+    requires bytes { image.now ≡ bytes.now }
+    requires paths { FilePathsAreText command.now }
+    ensures { StepOnText (image_outcome command.now bytes.now) result
+        (world (S.files shelf.old) (S.faults shelf.old) (I.rest input.old) (I.faults input.old)
+        (O.content out.old) (O.faults out.old))
+        (world (S.files shelf.new) (S.faults shelf.new) (I.rest input.new) (I.faults input.new)
+        (O.content out.new) (O.faults out.new)) }
 {
     match command {
         Command::Cat { name, .. } => cat_step(alloc, image, bytes, name.as_slice(), out),
         Command::List { include, .. } => list_command(alloc, image, bytes, include, out),
+        Command::Ls { path, .. } => ls_command(alloc, image, bytes, path.as_slice(), out),
         Command::Info { .. } => info_command(alloc, image, out),
+        Command::Extract { dir, include, .. } => {
+            extract_command(alloc, image, bytes, include, dir.as_slice(), shelf, out)
+        }
         Command::Verify { .. } => verify_command(alloc, image, out),
+        Command::Serve { .. } => serve_command(alloc, image, bytes, input, out),
         _ => Err(unbuilt()),
     }
 }
 
 /// Opens the image that these bytes are, and does the work of a command on it.
-fn do_on_bytes<T: Threads + Sync, O: Sink, G: Gate + Sync>(
+fn do_on_bytes<T: Threads + Sync, S: Shelf, I: Source, O: Sink, G: Gate + Sync>(
     rt: &T,
     alloc: Global,
     command: &Command,
     jobs: u32,
     bytes: &[u8],
+    shelf: &mut S,
+    input: &mut I,
     out: &mut O,
     gate: &G,
 ) -> Result<(), Stop>
-    requires { 0 < jobs }
-    ensures { PutDoes (opened_outcome command.now bytes.now (first_damage bytes.now)) result
-        (seen (O.content out.old) (O.faults out.old))
-        (seen (O.content out.new) (O.faults out.new)) }
+    requires paths { FilePathsAreText command.now }
+    requires jobs { 0 < jobs }
+    ensures { StepOnText (opened_outcome command.now bytes.now (first_damage bytes.now)) result
+        (world (S.files shelf.old) (S.faults shelf.old) (I.rest input.old) (I.faults input.old)
+        (O.content out.old) (O.faults out.old))
+        (world (S.files shelf.new) (S.faults shelf.new) (I.rest input.new) (I.faults input.new)
+        (O.content out.new) (O.faults out.new)) }
 {
     match open_image(rt, alloc, jobs, bytes, gate) {
-        Ok(image) => do_on_image(alloc, command, &image, bytes, out),
+        Ok(image) => do_on_image(alloc, command, &image, bytes, shelf, input, out),
         Err(OpenError::Damaged(damage)) => Err(Stop::Complaint(Complaint::Damaged(damage))),
         Err(OpenError::Memory) => Err(Stop::Memory),
     }
@@ -125,52 +145,62 @@ fn reads_class(command: &Command) -> bool
 }
 
 /// Does the work of a command on the bytes of the file at a path.
-fn do_on_found<T: Threads + Sync, O: Sink, G: Gate + Sync>(
+fn do_on_found<T: Threads + Sync, S: Shelf, I: Source, O: Sink, G: Gate + Sync>(
     rt: &T,
     alloc: Global,
     command: &Command,
     path: &[u8],
     jobs: u32,
     bytes: &[u8],
+    shelf: &mut S,
+    input: &mut I,
     out: &mut O,
     gate: &G,
 ) -> Result<(), Stop>
-    requires { 0 < jobs }
-    ensures { PutDoes (file_outcome command.now path.now (Some bytes.now)) result
-        (seen (O.content out.old) (O.faults out.old))
-        (seen (O.content out.new) (O.faults out.new)) }
+    requires paths { FilePathsAreText command.now }
+    requires jobs { 0 < jobs }
+    ensures { StepOnText (file_outcome command.now path.now (Some bytes.now)) result
+        (world (S.files shelf.old) (S.faults shelf.old) (I.rest input.old) (I.faults input.old)
+        (O.content out.old) (O.faults out.old))
+        (world (S.files shelf.new) (S.faults shelf.new) (I.rest input.new) (I.faults input.new)
+        (O.content out.new) (O.faults out.new)) }
 {
     if reads_class(command) {
         describe_command(alloc, path, bytes, out)
     } else {
-        do_on_bytes(rt, alloc, command, jobs, bytes, out, gate)
+        do_on_bytes(rt, alloc, command, jobs, bytes, shelf, input, out, gate)
     }
 }
 
 /// Reads the file of a command, and does its work on it.
-pub fn do_on_file<T: Threads + Sync, S: Shelf, O: Sink, G: Gate + Sync>(
+pub fn do_on_file<T: Threads + Sync, S: Shelf, I: Source, O: Sink, G: Gate + Sync>(
     rt: &T,
     alloc: Global,
     command: &Command,
     path: &[u8],
     jobs: u32,
     shelf: &mut S,
+    input: &mut I,
     out: &mut O,
     gate: &G,
 ) -> Result<(), Stop>
     requires path { IsUtf8 path.now }
+    requires paths { FilePathsAreText command.now }
     requires jobs { 0 < jobs }
     ensures { (found : Option (List ℕ)) × HasFile (S.files shelf.old) (Some path.now) found
-        × StepDoes (file_outcome command.now path.now found) result
-        (seen (S.files shelf.old) (S.faults shelf.old))
-        (seen (S.files shelf.new) (S.faults shelf.new))
-        (seen (O.content out.old) (O.faults out.old))
-        (seen (O.content out.new) (O.faults out.new)) }
+        × StepOnText (file_outcome command.now path.now found) result
+        (world (S.files shelf.old) (S.faults shelf.old) (I.rest input.old) (I.faults input.old)
+        (O.content out.old) (O.faults out.old))
+        (world (S.files shelf.new) (S.faults shelf.new) (I.rest input.new) (I.faults input.new)
+        (O.content out.new) (O.faults out.new)) }
 {
     let found = shelf.read(alloc, path)?;
     let Some(bytes) = found else {
         let text = Text::copy_of(alloc, path)?;
         return Err(Stop::Complaint(Complaint::NotThere(text)));
     };
-    do_on_found(rt, alloc, command, path, jobs, bytes.as_slice(), out, gate)
+    let bytes = bytes.as_slice();
+    do_on_found(
+        rt, alloc, command, path, jobs, bytes, shelf, input, out, gate,
+    )
 }

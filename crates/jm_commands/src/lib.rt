@@ -4,17 +4,19 @@
 mod cat;
 mod complaint;
 mod describe;
-mod describe_text;
+mod extract;
+mod generator;
 mod help;
 mod image_file;
 mod info;
 mod link;
 mod listing;
+mod ls;
 mod output;
 mod program;
+mod serve;
 mod status;
 mod stop;
-mod taken_name;
 #[cfg(test)]
 mod tests;
 mod verify;

@@ -1,5 +1,6 @@
 //! The command `link`.
-ghost use Rattle.std.specs.Prelude.{◌≡◌, ◌<◌, All, IfOk, IfSome, IsUtf8, option_map, string_bytes};
+ghost use Rattle.std.specs.Prelude.{◌≡◌, ◌<◌, ℕ, [], All, IfOk, IfSome, IsUtf8, List, Option};
+ghost use Rattle.std.specs.Prelude.{option_map, string_bytes};
 ghost use Rattle.std.specs.List.{list_any};
 ghost use Rattle.jm_plugins.specs.Plugins.{NoCompact};
 ghost use Rattle.jm_words.specs.Paths.{FilePathsAreText, jobs_in};
@@ -8,6 +9,7 @@ ghost use Rattle.jm_commands.specs.Outcome.{done, is_compact, link_from, link_of
 ghost use Rattle.jm_commands.specs.Run.{LinkComesTo, PutDoes, StepComesTo};
 ghost use Rattle.jm_commands.specs.Sinks.{seen};
 ghost use Rattle.jm_commands.specs.Stops.{stop_of_link};
+ghost use Rattle.jm_commands.specs.World.{world};
 
 use crate::complaint::Complaint;
 use crate::output::put_output;
@@ -34,7 +36,7 @@ fn link_text(alloc: Global, summary: &Summary) -> Result<String, AllocError>
 }
 
 /// How a link that stopped ends.
-fn stop_of_link(stop: LinkStop) -> Stop
+pub fn stop_of_link(stop: LinkStop) -> Stop
     ensures { result ≡ stop_of_link stop }
 {
     match stop {
@@ -116,7 +118,7 @@ pub fn link_words<'a>(command: &'a Command) -> Option<LinkWords<'a>>
 }
 
 /// `link` from a module path: writes the image of the closure of the roots to a file, after the
-/// plug-ins acted on its resources, and puts what it has.
+/// plug-ins acted on its resources, and puts what it has. The source of the run isn't lent to it.
 pub fn link_command<T: Threads + Sync, S: Shelf, O: Sink, G: Gate + Sync>(
     rt: &T,
     alloc: Global,
@@ -129,11 +131,12 @@ pub fn link_command<T: Threads + Sync, S: Shelf, O: Sink, G: Gate + Sync>(
     requires directories { All IsUtf8 words.now.asked.directories.now }
     requires output { IsUtf8 words.now.asked.output.now }
     requires jobs { 0 < words.now.jobs }
-    ensures { StepComesTo (LinkComesTo (S.files shelf.old) (link_from words.now)) result
-        (seen (S.files shelf.old) (S.faults shelf.old))
-        (seen (S.files shelf.new) (S.faults shelf.new))
-        (seen (O.content out.old) (O.faults out.old))
-        (seen (O.content out.new) (O.faults out.new)) }
+    ensures { (rest : Option (List ℕ)) (faults : ℕ) →
+        StepComesTo (LinkComesTo (S.files shelf.old) (link_from words.now)) [] result
+        (world (S.files shelf.old) (S.faults shelf.old) rest faults
+        (O.content out.old) (O.faults out.old))
+        (world (S.files shelf.new) (S.faults shelf.new) rest faults
+        (O.content out.new) (O.faults out.new)) }
 {
     match link(rt, alloc, words.jobs, &words.asked, shelf, gate) {
         Ok(summary) => put_summary(alloc, &summary, out),

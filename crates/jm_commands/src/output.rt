@@ -1,10 +1,9 @@
-ghost use Rattle.std.specs.Prelude.{◌≡◌, ◌++◌, OnOk};
+ghost use Rattle.std.specs.Prelude.{◌≡◌};
 ghost use Rattle.jm_commands.specs.Outcome.{done};
 ghost use Rattle.jm_commands.specs.Run.{PutDoes};
 ghost use Rattle.jm_commands.specs.Sinks.{seen};
 
 use crate::stop::Stop;
-use jm_bytes::NoMemory;
 use jm_outside::Sink;
 use std::alloc::Global;
 
@@ -16,14 +15,4 @@ pub fn put_output<O: Sink>(alloc: Global, text: &[u8], out: &mut O) -> Result<()
 {
     out.put(alloc, text)?;
     Ok(())
-}
-
-/// Puts bytes at the end of a text.
-pub fn extend(text: &mut Vec<u8>, bytes: &[u8]) -> Result<(), NoMemory>
-    ensures { OnOk result (text.new.items ≡ text.old.items ++ bytes.now) }
-{
-    match text.extend_from_slice(bytes) {
-        Ok(()) => Ok(()),
-        Err(_) => Err(NoMemory),
-    }
 }

@@ -1,5 +1,8 @@
+mod extracting;
+mod generating;
 mod linking;
 mod modules;
+mod serving;
 mod vectors;
 mod written;
 
@@ -82,8 +85,33 @@ fn sink_of(alloc: Global, fails: Option<u64>) -> Result<MemSink, Fail> {
     Ok(sink)
 }
 
-/// What a run gives: the digit of its status, the output and the error sink's text, with a bar
-/// between them.
+/// What a run with this input gives: the digit of its status, the output and the error sink's text,
+/// with a bar between them.
+fn run_fed<T: Threads + Sync, G: Gate + Sync>(
+    rt: &T,
+    alloc: Global,
+    image: &[u8],
+    input: &mut MemSource,
+    fails: Fails,
+    words: &str,
+    gate: &G,
+) -> Result<Vec<u8>, Fail> {
+    let mut shelf = shelf_of(alloc, image, fails.shelf)?;
+    let mut out = sink_of(alloc, fails.out)?;
+    let mut err = sink_of(alloc, fails.err)?;
+    let words = words_of(alloc, words)?;
+    let words = words.as_slice();
+    let status = run(
+        rt, alloc, words, &mut shelf, input, &mut out, &mut err, gate,
+    );
+    let mut given = vec![in alloc; b'0'.wrapping_add(status.value()), b'|']?;
+    given.extend_from_slice(out.bytes())?;
+    given.push(b'|')?;
+    given.extend_from_slice(err.bytes())?;
+    Ok(given)
+}
+
+/// What a run without an input gives.
 fn run_on<T: Threads + Sync, G: Gate + Sync>(
     rt: &T,
     alloc: Global,
@@ -92,20 +120,8 @@ fn run_on<T: Threads + Sync, G: Gate + Sync>(
     words: &str,
     gate: &G,
 ) -> Result<Vec<u8>, Fail> {
-    let mut shelf = shelf_of(alloc, image, fails.shelf)?;
     let mut input = MemSource::new(Text::new(alloc), List::new(alloc));
-    let mut out = sink_of(alloc, fails.out)?;
-    let mut err = sink_of(alloc, fails.err)?;
-    let words = words_of(alloc, words)?;
-    let words = words.as_slice();
-    let status = run(
-        rt, alloc, words, &mut shelf, &mut input, &mut out, &mut err, gate,
-    );
-    let mut given = vec![in alloc; b'0'.wrapping_add(status.value()), b'|']?;
-    given.extend_from_slice(out.bytes())?;
-    given.push(b'|')?;
-    given.extend_from_slice(err.bytes())?;
-    Ok(given)
+    run_fed(rt, alloc, image, &mut input, fails, words, gate)
 }
 
 /// Whether a run on an image gives this.
@@ -190,7 +206,6 @@ fn faulty_words_are_named(rt: HostRuntime) -> Result<(), Fail> {
         ("cat --zap", "2||words: UnknownOption at 2\n"),
         ("--help x", "2||words: TooManyArguments at 2\n"),
         ("cat --help", "2||words: UnknownOption at 2\n"),
-        ("serve img", "2||words: UnknownCommand at 1\n"),
     ] {
         let holds = gives(&rt, rt.alloc(), tiny(), NO_FAILS, words, want)?;
         assert!(rt; holds, "{words}");
@@ -228,6 +243,10 @@ index 55\ncontents 2\n|";
         (tiny(), "describe other", "5||not there: other\n"),
         (no_entries(), "list img", "0||"),
         (bad_node(), "list img", "0||"),
+        (bad_node(), "ls img /", "0|/packages\n|"),
+        (bad_node(), "ls img /packages", "4||damaged: BadNode 0\n"),
+        (no_entries(), "ls img /modules", "5||not there: /modules\n"),
+        (bad_node(), "verify img", "0|valid 1\n|"),
         (apart(), "list img", "0|0 /m/a\n0 /m/b\n|"),
         (apart(), "list img --include /m/a", "0|0 /m/a\n|"),
         (apart(), "list --include=*a,/m/? img", "0|0 /m/a\n0 /m/b\n|"),
@@ -301,24 +320,25 @@ impl Gate for Meeting {
 
 #[test]
 fn both_pieces_meet(rt: HostRuntime) -> Result<(), Fail> {
-    let gate = Meeting {
-        flags: [AtomicBool::new(false), AtomicBool::new(false)],
-        missed: AtomicBool::new(false),
-    };
-    let given = run_on(
-        &rt,
-        rt.alloc(),
-        apart(),
-        NO_FAILS,
-        "verify img --jobs 2",
-        &gate,
-    )?;
-    assert!(rt; given.as_slice() == b"0|valid 2\n|".as_slice());
-    assert!(rt;
-        !gate.missed.load(Ordering::SeqCst),
-        "the pieces met at the gate"
-    );
-    assert!(rt; gate.flags[0].load(Ordering::SeqCst) && gate.flags[1].load(Ordering::SeqCst));
+    let generating = "gen d --modules 1 --classes 2 --seed 0 --jobs 2";
+    for (words, want) in [
+        ("verify img --jobs 2", "0|valid 2\n|"),
+        (generating, "0|modules 1\nresources 3\n"),
+    ] {
+        let gate = Meeting {
+            flags: [AtomicBool::new(false), AtomicBool::new(false)],
+            missed: AtomicBool::new(false),
+        };
+        let given = run_on(&rt, rt.alloc(), apart(), NO_FAILS, words, &gate)?;
+        assert!(rt; given.as_slice().starts_with(want.as_bytes()), "{words}");
+        let missed = gate.missed.load(Ordering::SeqCst);
+        assert!(rt; !missed, "the pieces met at the gate: {words}");
+        let [first, second] = &gate.flags;
+        assert!(rt;
+            first.load(Ordering::SeqCst) && second.load(Ordering::SeqCst),
+            "{words}"
+        );
+    }
     Ok(())
 }
 

@@ -1,5 +1,6 @@
 -- The first overlap as a value: the computed form of `IsFirstOverlap`, for ranges by rising slot.
-use Rattle.std.specs.Prelude.{ℕ, ◌==◌, nat_lt, ◌&&◌, not, min, max, Bool, List, find, Option, Some, None, option_map}
+use Rattle.std.specs.Prelude.{ℕ, ◌==◌, nat_lt, ◌&&◌, not, min, max, Bool, List, find, Option, Some}
+use Rattle.std.specs.Prelude.{None, option_map}
 use Rattle.std.specs.List.{list_any}
 use Rattle.jm_form.specs.declared.ranges.Range.{Range}
 

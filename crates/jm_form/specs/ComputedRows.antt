@@ -1,5 +1,6 @@
 -- The row that is spelled at the front of some bytes, as a value: the computed form of `Spells`.
-use Rattle.std.specs.Prelude.{ℕ, zero, suc, ◌+◌, ◌-◌, ◌/◌, ◌%◌, nat_lt, nat_le, ◌&&◌, List, [], ◌∷◌, length, drop, Option, Some, None, option_map, if◌then◌else◌}
+use Rattle.std.specs.Prelude.{ℕ, zero, suc, ◌+◌, ◌-◌, ◌/◌, ◌%◌, nat_lt, nat_le, ◌&&◌, List, [], ◌∷◌}
+use Rattle.std.specs.Prelude.{length, drop, Option, Some, None, option_map, if◌then◌else◌}
 use Rattle.byteorder.specs.Endian.{big_number}
 use Rattle.jm_form.specs.declared.rows.Row.{Row}
 use Rattle.jm_form.specs.Rows.{blank, with_value}

@@ -1,5 +1,6 @@
 -- The entries of an image: rows, names and contents of its slots (jimage 1.0).
-use Rattle.std.specs.Prelude.{ℕ, ◌==◌, nat_lt, Bool, List, take, drop, filter, filter_map, find, Option, Some, None, option_map, if◌then◌else◌}
+use Rattle.std.specs.Prelude.{ℕ, ◌==◌, nat_lt, Bool, List, take, drop, filter, filter_map, find}
+use Rattle.std.specs.Prelude.{Option, Some, None, option_map, if◌then◌else◌}
 use Rattle.std.specs.List.{range_with_len}
 use Rattle.std.specs.Str.{bytes_eq}
 use Rattle.jm_names.specs.Names.{join}

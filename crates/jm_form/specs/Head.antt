@@ -1,5 +1,6 @@
 -- The header of an image: seven words (jimage 1.0).
-use Rattle.std.specs.Prelude.{ℕ, ◌+◌, ◌*◌, ◌==◌, nat_lt, not, List, [], ◌∷◌, length, Option, Some, None, is_none, unwrap_or, Result, if◌then◌else◌}
+use Rattle.std.specs.Prelude.{ℕ, ◌+◌, ◌*◌, ◌==◌, nat_lt, not, List, [], ◌∷◌, length, Option, Some}
+use Rattle.std.specs.Prelude.{None, is_none, unwrap_or, Result, if◌then◌else◌}
 use Rattle.jm_bytes.specs.Checks.{fault_if, first_fault, unless_fault}
 use Rattle.jm_bytes.specs.Word.{word}
 use Rattle.jm_bytes.specs.declared.words.Order.{Order}

@@ -1,5 +1,6 @@
 -- Which bytes are an image, and what an image stands for (jimage 1.0; JEP 220 for the nodes).
-use Rattle.std.specs.Prelude.{ℕ, ◌+◌, ◌<◌, ◌≤◌, ◌≡◌, true, not, List, length, filter, map, Option, None, option_map, Ok, Err, Result, IsPermutation}
+use Rattle.std.specs.Prelude.{ℕ, ◌+◌, ◌<◌, ◌≤◌, ◌≡◌, true, not, List, length, filter, map, Option}
+use Rattle.std.specs.Prelude.{None, option_map, Ok, Err, Result, IsPermutation}
 use Rattle.jm_names.specs.Names.{is_node}
 use Rattle.jm_form.specs.declared.container.Header.{Header}
 use Rattle.jm_form.specs.declared.container.HeaderFault.{HeaderFault}

@@ -6,6 +6,7 @@ use Rattle.std.specs.List.{flat_map, range_with_len}
 use Rattle.jm_bytes.proofs.Pairs.{range_more}
 use Rattle.jm_outside.specs.Files.{Files}
 use Rattle.jm_files.specs.Made.{MadeAll, MadePart, Writes}
+use Rattle.jm_gen.specs.Generated.{module_name, module_names}
 use Rattle.jm_files.proofs.MadeLaws.{made_append, part_append, part_longer}
 
 -- Numbers one after another
@@ -32,6 +33,9 @@ range_next : (n : ℕ) → range_with_len 0 (n + 1) ≡ range_with_len 0 n ++ n 
 range_next n =
     let start : 0 + n ≡ n = omega arith in
     range_more 0 n ∙ ap (λ (k : ℕ). range_with_len 0 n ++ k ∷ []) start
+
+pub name_next : (n : ℕ) → module_names n ++ module_name n ∷ [] ≡ module_names (n + 1)
+name_next n = sym (ap (map module_name) (range_next n) ∙ map-append module_name (range_with_len 0 n) (n ∷ []))
 
 -- A file, and then one for each number
 

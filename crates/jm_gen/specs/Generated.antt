@@ -20,6 +20,10 @@ digit n = 48 + n % 10
 abbrev pub module_name : ℕ → List ℕ
 module_name k = 109 ∷ digit (k / 100) ∷ digit (k / 10) ∷ digit k ∷ []
 
+-- the names of so many modules, from the first on
+abbrev pub module_names : ℕ → List (List ℕ)
+module_names modules = map module_name (range_with_len 0 modules)
+
 -- `C` and the number in four digits
 abbrev pub class_name : ℕ → List ℕ
 class_name c = 67 ∷ digit (c / 1000) ∷ digit (c / 100) ∷ digit (c / 10) ∷ digit c ∷ []

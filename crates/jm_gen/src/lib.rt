@@ -8,6 +8,7 @@ mod infos;
 mod names;
 
 pub use generating::generate;
+pub use names::module_names;
 
 #[cfg(test)]
 mod tests;

@@ -1,7 +1,8 @@
 ghost use Rattle.std.specs.Prelude.{◌≡◌, ◌<◌, ◌≤◌, ◌++◌, codes, OnOk, IfOk, IsUtf8};
-ghost use Rattle.jm_gen.specs.Generated.{class_name, class_path, digit, module_name, path_in};
+ghost use Rattle.jm_gen.specs.Generated.{class_name, class_path, digit, module_name, module_names};
+ghost use Rattle.jm_gen.specs.Generated.{path_in};
 
-use jm_bytes::NoMemory;
+use jm_bytes::{List, NoMemory, Text};
 use jm_classout::put;
 use std::alloc::Global;
 
@@ -17,6 +18,17 @@ pub fn module_name(number: u32) -> [u8; 4]
     ensures { result ≡ module_name number }
 {
     [b'm', digit(number / 100), digit(number / 10), digit(number)]
+}
+
+/// The names of so many modules, from the first on.
+pub fn module_names(alloc: Global, modules: u32) -> Result<List<Text>, NoMemory>
+    ensures { IfOk result (λ names. names ≡ module_names modules) }
+{
+    let mut names = List::new(alloc);
+    for number in 0..modules {
+        names.push(Text::copy_of(alloc, &module_name(number))?)?;
+    }
+    Ok(names)
 }
 
 /// The name of a class in its package: `C` and its number in four digits.

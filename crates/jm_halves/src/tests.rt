@@ -1,4 +1,5 @@
-ghost use Rattle.std.specs.Prelude.{◌≡◌, ◌*◌, ◌<◌, IfOk, IfSome, IfNone, length, map, slice_index, ℕ};
+ghost use Rattle.std.specs.Prelude.{◌≡◌, ◌*◌, ◌<◌, IfOk, IfSome, IfNone, length, map, slice_index};
+ghost use Rattle.std.specs.Prelude.{ℕ};
 
 use crate::{Gate, NoGate, first_some, map_halves};
 use jm_bytes::{List, NoMemory};

@@ -10,7 +10,7 @@ use Rattle.jm_jrt.specs.declared.serve_error.ServeError.{ServeError}
 use Rattle.jm_jrt.specs.declared.serve_error.ServeError.TheVariants.{ReadFault, WriteFault, LongLine, TooManyLines, Memory}
 use Rattle.jm_jrt.specs.Lines.{answered, ended_lines, last_line, lines_bytes, lines_of, replies}
 use Rattle.jm_jrt.specs.Reply.{IsWithin, line_bytes, reply}
-use Rattle.jm_jrt.specs.Sessions.{Breaks, Ended, IsFree, IsLine, IsOpen, IsTooLong, IsTooMany, Moment, Passes, Put, PutFails, Serves, answered_in, joined}
+use Rattle.jm_jrt.specs.Sessions.{Breaks, Ended, IsFree, IsLine, IsOpen, IsTooLong, IsTooMany, Moment, Passes, Put, PutBehind, PutFails, Serves, answered_in, joined}
 use Rattle.jm_jrt.proofs.LineLaws.{Begins, answered_all, answered_long, answered_nothing, ended_joined, line_begins, lines_joined, lines_next, lines_part, some_lines}
 use Rattle.jm_jrt.proofs.SessionSteps.{breaks_at_once, breaks_more, put_then, replies_append}
 use Rattle.jm_jrt.proofs.WithinLaws.{within_append, within_one}
@@ -50,11 +50,6 @@ told_end (Some old) (Some new) given told ends = (told ∙ ap (λ (t : List ℕ)
 
 -- What is told of the sink
 
-told_put : (out new_out : Option (List ℕ)) (more : List ℕ) (P : List ℕ → Type 0) → new_out ≡ option_map (λ put. put ++ more) out → P more → Told out new_out (λ old new. (m : List ℕ) × (new ≡ old ++ m) × P m)
-told_put None new_out more P is fact = tt
-told_put (Some old) None more P is fact = cc
-told_put (Some old) (Some new) more P is fact = (more, same_some new (old ++ more) is, fact)
-
 told_front : (out new_out : Option (List ℕ)) (first last : List ℕ) (P : List ℕ → Type 0) → Told (option_map (λ put. put ++ first) out) new_out (λ old new. PutsFront old new last) → ((n : ℕ) → n ≤ length last → P (first ++ take n last)) → Told out new_out (λ old new. (m : List ℕ) × (new ≡ old ++ m) × P m)
 told_front None new_out first last P told from = tt
 told_front (Some old) None first last P told from = absurd told
@@ -80,16 +75,35 @@ due_answered text done first later lines good line within =
 
 -- After a fault of the source
 
-pub serves_given : (b : List ℕ) (rest new_rest : Option (List ℕ)) (given part : List ℕ) (old new : Moment) (reads new_reads : Metered) → Told rest new_rest (λ o n. o ≡ given ++ n) → Passes b given old part new → IsFree part → Serves b (Err ReadFault) rest new_rest old.put new.put reads new_reads
-serves_given b rest new_rest given part old new reads new_reads told passes free = record {
-  text = given ++ left_of new_rest;
-  left = left_of new_rest;
-  told = told_left rest new_rest given told;
-  ended = tt;
-  put = told_put old.put new.put (replies b passes.done) (λ m. Put b (Err ReadFault) (given ++ left_of new_rest) (left_of new_rest) m) passes.put
-      (given, refl, ap (replies b) (sym (ap ended_lines passes.is ∙ ended_joined passes.done part passes.good free)));
-  reads = tt;
-}
+-- the lines that ended in what came are among those that are answered
+given_answered : (given left part : List ℕ) (done : List (List ℕ)) → given ≡ joined done ++ part → All IsLine done → IsFree part → length done ≤ 1000000 → ended_lines given ≡ take (length done) (answered_in (given ++ left))
+given_answered given left part done is good free within =
+    let lines : lines_of (given ++ left) ≡ done ++ lines_of (part ++ left) = ap lines_of (ap (λ (t : List ℕ). t ++ left) is ∙ append_assoc (joined done) part left) ∙ lines_joined done (part ++ left) good in
+    let all = answered_joined (given ++ left) done (lines_of (part ++ left)) lines good within in
+    ap ended_lines is ∙ ended_joined done part good free
+    ∙ sym (ap (take (length done)) all ∙ take-append_seam done (answered (1000000 - length done) (lines_of (part ++ left))))
+
+pub serves_given : (b : List ℕ) (rest new_rest : Option (List ℕ)) (given part : List ℕ) (old new : Moment) (reads new_reads : Metered) → Told rest new_rest (λ o n. o ≡ given ++ n) → Passes b given old part new → IsOpen new.lines part → Serves b (Err ReadFault) rest new_rest old.put new.put reads new_reads
+serves_given b rest new_rest given part old new reads new_reads told passes further_on =
+    let most = further_on.within in
+    let count = passes.lines in
+    record {
+      text = given ++ left_of new_rest;
+      left = left_of new_rest;
+      told = told_left rest new_rest given told;
+      ended = tt;
+      put = (
+        replies b passes.done,
+        passes.put,
+        (
+          given,
+          refl,
+          ap (replies b) (sym (ap ended_lines passes.is ∙ ended_joined passes.done part passes.good further_on.free)),
+          (length passes.done, given_answered given (left_of new_rest) part passes.done passes.is passes.good further_on.free (omega arith)),
+        ),
+      );
+      reads = tt;
+    }
 
 -- After a line that wasn't answered
 
@@ -146,7 +160,7 @@ module _ (b text : List ℕ) (old : Moment) (none : old.lines ≡ 0) (new_put : 
   ends_so (LongLine k) breaks left = (long_line k breaks).0
   ends_so TooManyLines breaks left = (many_lines breaks).0
 
-  puts_so : (error : ServeError) → Breaks error b text old new_put → (left : List ℕ) → Told old.put new_put (λ o n. (m : List ℕ) × (n ≡ o ++ m) × Put b (Err error) text left m)
+  puts_so : (error : ServeError) → Breaks error b text old new_put → (left : List ℕ) → PutBehind b (Err error) text left old.put new_put
   puts_so ReadFault breaks left = absurd breaks.fails
   puts_so WriteFault breaks left =
       let first = breaks.fails.0 in
@@ -161,12 +175,11 @@ module _ (b text : List ℕ) (old : Moment) (none : old.lines ≡ 0) (new_put : 
   puts_so Memory breaks left =
       let most = breaks.most in
       let all = answered_joined text breaks.done (lines_of breaks.behind) (lines_behind Memory breaks) breaks.good (omega arith) in
-      told_put old.put new_put (replies b breaks.done) (λ m. Put b (Err Memory) text left m) breaks.fails
-      (length breaks.done, ap (replies b) (sym (ap (take (length breaks.done)) all ∙ take-append_seam breaks.done (answered (1000000 - length breaks.done) (lines_of breaks.behind)))))
+      (replies b breaks.done, breaks.fails, (length breaks.done, ap (replies b) (sym (ap (take (length breaks.done)) all ∙ take-append_seam breaks.done (answered (1000000 - length breaks.done) (lines_of breaks.behind))))))
   puts_so (LongLine k) breaks left =
-      told_put old.put new_put (replies b breaks.done) (λ m. Put b (Err (LongLine k)) text left m) breaks.fails.3 (ap (replies b) (sym (long_line k breaks).1))
+      (replies b breaks.done, breaks.fails.3, ap (replies b) (sym (long_line k breaks).1))
   puts_so TooManyLines breaks left =
-      told_put old.put new_put (replies b breaks.done) (λ m. Put b (Err TooManyLines) text left m) breaks.fails.2 (ap (replies b) (sym (many_lines breaks).1))
+      (replies b breaks.done, breaks.fails.2, ap (replies b) (sym (many_lines breaks).1))
 
 pub serves_broken : (error : ServeError) (b : List ℕ) (rest new_rest : Option (List ℕ)) (given : List ℕ) (old : Moment) (new_put : Option (List ℕ)) (reads new_reads : Metered) → old.lines ≡ 0 → Told rest new_rest (λ o n. o ≡ given ++ n) → Breaks error b given old new_put → Serves b (Err error) rest new_rest old.put new_put reads new_reads
 serves_broken error b rest new_rest given old new_put reads new_reads none told breaks =
@@ -202,7 +215,7 @@ serves_whole b rest new_rest given lines n put new_put reads new_reads told ends
       left = [];
       told = told_end rest new_rest given told ends;
       ended = record { count = count ∙ ap length (sym are); answered = all ∙ sym are; nothing = refl };
-      put = told_put put new_put (replies b lines) (λ m. Put b (Ok n) given [] m) is (ap (replies b) (sym all));
+      put = (replies b lines, is, ap (replies b) (sym all));
       reads = subst (λ (l : List (List ℕ)). IsWithin (lines_bytes b l) reads new_reads) (sym are) cost;
     }
 
@@ -260,7 +273,7 @@ serves_not_last error b rest new_rest given part old new last_put reads new_read
         let below = further_on.numbered some in
         due_answered given passes.done part [] (last_lines b given part old new passes further_on.free some) passes.good (record { free = further_on.free; short = further_on.short }) (omega arith)
 
-    puts : (error : ServeError) → PutFails error (reply b part) new.put last_put → Told old.put last_put (λ o n. (m : List ℕ) × (n ≡ o ++ m) × Put b (Err error) given [] m)
+    puts : (error : ServeError) → PutFails error (reply b part) new.put last_put → PutBehind b (Err error) given [] old.put last_put
     puts ReadFault fails = absurd fails
     puts (LongLine k) fails = absurd fails
     puts TooManyLines fails = absurd fails
@@ -268,8 +281,7 @@ serves_not_last error b rest new_rest given part old new last_put reads new_read
         told_front old.put last_put (replies b passes.done) (reply b part) (λ m. Put b (Err WriteFault) given [] m) (subst (λ (put : Option (List ℕ)). Told put last_put (λ o n. PutsFront o n (reply b part))) passes.put fails)
         (λ n within. (length (replies b passes.done) + n, front_put b passes.done part (answered (1000000 - length (passes.done ++ part ∷ [])) []) n within ∙ ap (λ (l : List (List ℕ)). take (length (replies b passes.done) + n) (replies b l)) (sym all)))
     puts Memory fails =
-        told_put old.put last_put (replies b passes.done) (λ m. Put b (Err Memory) given [] m) (fails ∙ passes.put)
-        (length passes.done, ap (replies b) (sym (ap (take (length passes.done)) all ∙ take-append_seam passes.done (part ∷ answered (1000000 - length (passes.done ++ part ∷ [])) []))))
+        (replies b passes.done, fails ∙ passes.put, (length passes.done, ap (replies b) (sym (ap (take (length passes.done)) all ∙ take-append_seam passes.done (part ∷ answered (1000000 - length (passes.done ++ part ∷ [])) [])))))
 
 -- Each piece brings a session further
 

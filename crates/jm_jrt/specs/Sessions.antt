@@ -46,16 +46,28 @@ Ended (Err ReadFault) text left = Unit {0}
 Ended (Err WriteFault) text left = Unit {0}
 Ended (Err Memory) text left = Unit {0}
 
--- what was put: all replies; after a fault of the source, those to the lines whose newline it gave;
--- after one of the sink a front of all; after want of memory a front that ends with a reply
+-- what was put: all replies; after a fault of the source, those to the lines whose newline it gave,
+-- which are among those that are answered; after one of the sink a front of all; after want of
+-- memory a front that ends with a reply
 abbrev pub Put : List ℕ → Result ℕ ServeError → List ℕ → List ℕ → List ℕ → Type 0
 Put b (Ok n) text left put = put ≡ replies b (answered_in text)
 Put b (Err (LongLine k)) text left put = put ≡ replies b (answered_in text)
 Put b (Err TooManyLines) text left put = put ≡ replies b (answered_in text)
 Put b (Err ReadFault) text left put =
     (given : List ℕ) × (text ≡ given ++ left) × (put ≡ replies b (ended_lines given))
+    × ((n : ℕ) × (ended_lines given ≡ take n (answered_in text)))
 Put b (Err WriteFault) text left put = (n : ℕ) × (put ≡ take n (replies b (answered_in text)))
 Put b (Err Memory) text left put = (n : ℕ) × (put ≡ replies b (take n (answered_in text)))
+
+-- what the sink got behind what it had; a sink that failed may have begun to tell something
+abbrev pub PutBehind : List ℕ → Result ℕ ServeError → List ℕ → List ℕ → Option (List ℕ)
+    → Option (List ℕ) → Type 0
+PutBehind b (Err WriteFault) text left out new_out =
+    Told out new_out (λ old new. (more : List ℕ) × (new ≡ old ++ more)
+    × Put b (Err WriteFault) text left more)
+PutBehind b answer text left out new_out =
+    (more : List ℕ) × (new_out ≡ option_map (λ old. old ++ more) out)
+    × Put b answer text left more
 
 -- a session over the image's bytes: some text was served; it is what the source had, where that
 -- tells its rest
@@ -65,8 +77,7 @@ pub record Serves (b : List ℕ) (answer : Result ℕ ServeError)
   pub left : List ℕ
   pub told : Told rest new_rest (λ old new. (old ≡ text) × (new ≡ left))
   pub ended : Ended answer text left
-  pub put : Told out new_out (λ old new. (more : List ℕ) × (new ≡ old ++ more)
-      × Put b answer text left more)
+  pub put : PutBehind b answer text left out new_out
   pub reads : OnOk answer (IsWithin (lines_bytes b (lines_of text)) old new)
 
 -- Its steps

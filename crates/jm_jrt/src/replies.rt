@@ -200,7 +200,11 @@ fn extend_child(
 }
 
 /// Puts the lines of the children that a list still has at the end of a text: what `ls` of the
-/// folder at this path says.
+/// folder at this path says (this project's rule). Afterwards the list has none left. A child that
+/// is a node is said by its name, a resource by its path below `/modules`, and an owner by the path
+/// and its module, with ` empty` where the package is empty there.
+///
+/// After want of memory some of the lines stand.
 pub fn extend_children<R: Ledger>(
     alloc: Global,
     text: &mut Vec<u8>,

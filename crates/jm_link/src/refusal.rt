@@ -39,7 +39,8 @@ pub enum Refusal {
         name: Text,
         fault: NameFault,
     },
-    /// The bytes of this resource, which has the name of a class and is to be stripped, are no class.
+    /// The bytes of this resource, which has the name of a class and is to be stripped, are no
+    /// class.
     BadClass {
         name: Text,
         fault: ClassFault,

@@ -1,9 +1,11 @@
 -- The fields of the Module attribute in their order (JVMS 4.7.25), each with its fault (this
 -- project's rule): the computed form of `InfoOf`. Places are in bytes from the front of the body.
-use Rattle.std.specs.Prelude.{ℕ, nat_lt, List, [], ◌∷◌, Option, Some, None, option_and_then, Result, Ok, Err, if◌then◌else◌, not}
+use Rattle.std.specs.Prelude.{ℕ, nat_lt, List, [], ◌∷◌, Option, Some, None, option_and_then, Result}
+use Rattle.std.specs.Prelude.{Ok, Err, if◌then◌else◌, not}
 use Rattle.std.specs.Int.{w16}
 use Rattle.jm_class.specs.Classes.{SlotData, ClassData}
-use Rattle.jm_class.specs.Readings.{Outcome, Reading, value, continued, and_then, number, list_of, checked, ended}
+use Rattle.jm_class.specs.Readings.{Outcome, Reading, value, continued, and_then, number, list_of}
+use Rattle.jm_class.specs.Readings.{checked, ended}
 use Rattle.jm_modinfo.specs.Constants.{number_in, named_at, version_at, is_allowed}
 use Rattle.jm_modinfo.specs.declared.constants.Kind.{Kind}
 use Rattle.jm_modinfo.specs.declared.constants.Kind.TheVariants.{Class, Module, Package}
@@ -12,7 +14,9 @@ use Rattle.jm_modinfo.specs.declared.descriptor.Need.{Need}
 use Rattle.jm_modinfo.specs.declared.descriptor.Opened.{Opened}
 use Rattle.jm_modinfo.specs.declared.descriptor.Provides.{Provides}
 use Rattle.jm_modinfo.specs.declared.faults.InfoFault.{InfoFault}
-use Rattle.jm_modinfo.specs.declared.faults.InfoFault.TheVariants.{NotModule, OldVersion, NoModule, TwoModule, Index, Short, Rest, Name, Main}
+use Rattle.jm_modinfo.specs.declared.faults.InfoFault.TheVariants.{NotModule, OldVersion, NoModule}
+use Rattle.jm_modinfo.specs.declared.faults.InfoFault.TheVariants.{TwoModule, Index, Short, Rest}
+use Rattle.jm_modinfo.specs.declared.faults.InfoFault.TheVariants.{Name, Main}
 use Rattle.jm_modinfo.specs.Descriptors.{module_bodies, main_bodies}
 use Rattle.jm_modinfo.specs.Flags.{is_module}
 

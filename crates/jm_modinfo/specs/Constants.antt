@@ -1,6 +1,7 @@
 -- The constants that a descriptor names, and their texts (JVMS 4.4, 4.7.25). Which names of modules
 -- are legal is this project's rule.
-use Rattle.std.specs.Prelude.{ℕ, nat_le, ◌==◌, Bool, true, not, ◌&&◌, ◌||◌, List, length, Option, Some, None, option_map, option_and_then, if◌then◌else◌}
+use Rattle.std.specs.Prelude.{ℕ, nat_le, ◌==◌, Bool, true, not, ◌&&◌, ◌||◌, List, length, Option}
+use Rattle.std.specs.Prelude.{Some, None, option_map, option_and_then, if◌then◌else◌}
 use Rattle.std.specs.Int.{w16, from_be_bytes}
 use Rattle.std.specs.List.{list_all}
 use Rattle.jm_class.specs.Classes.{SlotData, Constant, Hole, slot_at, utf8_at}

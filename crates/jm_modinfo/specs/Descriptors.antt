@@ -1,9 +1,11 @@
 -- What the class of a module says: the Module attribute, field by field, and the main class (JVMS
 -- 4.7.25, 4.7.27).
-use Rattle.std.specs.Prelude.{◌≡◌, ℕ, ◌^◌, ◌<◌, ◌≤◌, Bool, true, false, List, [], ◌∷◌, ◌++◌, length, Option, Some, None, if◌then◌else◌, codes}
+use Rattle.std.specs.Prelude.{◌≡◌, ℕ, ◌^◌, ◌<◌, ◌≤◌, Bool, true, false, List, [], ◌∷◌, ◌++◌, length}
+use Rattle.std.specs.Prelude.{Option, Some, None, if◌then◌else◌, codes}
 use Rattle.std.specs.List.{filter_map}
 use Rattle.std.specs.Str.{bytes_eq}
-use Rattle.jm_class.specs.Classes.{SlotData, BodyData, Opaque, Coded, AttributeData, ClassData, u2, utf8_at}
+use Rattle.jm_class.specs.Classes.{SlotData, BodyData, Opaque, Coded, AttributeData, ClassData, u2}
+use Rattle.jm_class.specs.Classes.{utf8_at}
 use Rattle.jm_modinfo.specs.Constants.{named_at, version_at, is_allowed}
 use Rattle.jm_modinfo.specs.declared.constants.Kind.{Kind}
 use Rattle.jm_modinfo.specs.declared.constants.Kind.TheVariants.{Class, Module, Package}

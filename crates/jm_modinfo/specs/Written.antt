@@ -1,5 +1,6 @@
 -- The class of a module that only requires others (this project's rule on its constants).
-use Rattle.std.specs.Prelude.{◌≡◌, ℕ, zero, suc, ◌+◌, ◌^◌, ◌<◌, true, List, [], ◌∷◌, ◌++◌, length, None, codes}
+use Rattle.std.specs.Prelude.{◌≡◌, ℕ, zero, suc, ◌+◌, ◌^◌, ◌<◌, true, List, [], ◌∷◌, ◌++◌, length}
+use Rattle.std.specs.Prelude.{None, codes}
 use Rattle.jm_class.specs.Classes.{SlotData, Constant, Opaque, ClassData, joined, u2, class_text}
 use Rattle.jm_modinfo.specs.Constants.{is_legal}
 use Rattle.jm_modinfo.specs.declared.descriptor.Descriptor.{Descriptor}

@@ -1,9 +1,11 @@
-ghost use Rattle.std.specs.Prelude.{◌≡◌, [], ◌∷◌, Some, option_map, option_and_then, map, IfSome, IfNone, IfOk};
+ghost use Rattle.std.specs.Prelude.{◌≡◌, [], ◌∷◌, Some, option_map, option_and_then, map, IfSome};
+ghost use Rattle.std.specs.Prelude.{IfNone, IfOk};
 ghost use Rattle.jm_modinfo.specs.Constants.{number_in, named_at};
 ghost use Rattle.jm_modinfo.specs.declared.constants.Kind.TheVariants as kind;
 ghost use Rattle.jm_class.specs.Views.{plain, attribute_of};
 ghost use Rattle.jm_modinfo.specs.ComputedInfo.{only_body, main_of};
-ghost use Rattle.jm_modinfo.specs.Descriptors.{bytes_named, bodies, module_bodies, main_bodies, IsIndex, IsMain};
+ghost use Rattle.jm_modinfo.specs.Descriptors.{bytes_named, bodies, module_bodies, main_bodies};
+ghost use Rattle.jm_modinfo.specs.Descriptors.{IsIndex, IsMain};
 ghost use Rattle.jm_modinfo.specs.Views.{Answers};
 
 use crate::constants::{Kind, named, number_in};

@@ -2,7 +2,8 @@ ghost use Rattle.std.specs.Prelude.{◌≡◌, option_map, IfSome};
 ghost use Rattle.std.specs.List.{list_all};
 ghost use Rattle.jm_class.specs.Views.{plain};
 ghost use Rattle.jm_modinfo.specs.Descriptors.{IsNumber};
-ghost use Rattle.jm_modinfo.specs.Constants.{number_in, tag_of, named_at, is_legal_byte, is_legal, is_allowed};
+ghost use Rattle.jm_modinfo.specs.Constants.{number_in, tag_of, named_at, is_legal_byte, is_legal};
+ghost use Rattle.jm_modinfo.specs.Constants.{is_allowed};
 
 use jm_class::{Class, Slot, utf8};
 

@@ -1,6 +1,8 @@
 ghost use Rattle.jm_class.specs.Readings.{list_of};
 ghost use Rattle.jm_class.specs.Views.{plain};
-ghost use Rattle.jm_modinfo.specs.ComputedInfo.{short_number, named_field, names_field, version_field, need_field, opened_field, provides_field, module_field};
+ghost use Rattle.jm_modinfo.specs.ComputedInfo.{short_number, named_field, names_field};
+ghost use Rattle.jm_modinfo.specs.ComputedInfo.{version_field, need_field, opened_field};
+ghost use Rattle.jm_modinfo.specs.ComputedInfo.{provides_field, module_field};
 ghost use Rattle.jm_modinfo.specs.declared.faults.InfoFault.TheVariants.{Short};
 ghost use Rattle.jm_modinfo.specs.Views.{Gives};
 

@@ -2,7 +2,9 @@ ghost use Rattle.std.specs.Prelude.{◌≡◌, ◌++◌, ◌<◌, ◌≤◌, ◌
 ghost use Rattle.jm_class.specs.Classes.{ReadsAs, IsClass, u2};
 ghost use Rattle.jm_class.specs.Views.{slot_of, pool_of, plain};
 ghost use Rattle.jm_modinfo.specs.Descriptors.{InfoOf};
-ghost use Rattle.jm_modinfo.specs.Written.{IsName, IsWritable, utf8, numbers_text, need_slots, needs_text, info_pool, info_body, info_class, info_text, plain_descriptor};
+ghost use Rattle.jm_modinfo.specs.Written.{IsName, IsWritable, utf8, numbers_text, need_slots};
+ghost use Rattle.jm_modinfo.specs.Written.{needs_text, info_pool, info_body, info_class, info_text};
+ghost use Rattle.jm_modinfo.specs.Written.{plain_descriptor};
 
 use crate::descriptor::Need;
 use jm_bytes::{List, NoMemory, Text};

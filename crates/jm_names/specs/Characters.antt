@@ -1,6 +1,7 @@
 -- Modified UTF-8 (JVMS 4, "The CONSTANT_Utf8_info Structure"), with a zero byte as a character of
 -- its own.
-use Rattle.std.specs.Prelude.{◌≡◌, ℕ, ◌<◌, ◌≤◌, Bool, true, false, nat_le, ◌==◌, ◌&&◌, ◌||◌, List, [], ◌∷◌, length, take}
+use Rattle.std.specs.Prelude.{◌≡◌, ℕ, ◌<◌, ◌≤◌, Bool, true, false, nat_le, ◌==◌, ◌&&◌, ◌||◌, List}
+use Rattle.std.specs.Prelude.{[], ◌∷◌, length, take}
 use Rattle.std.specs.List.{list_all, concat}
 
 -- a number from low to high

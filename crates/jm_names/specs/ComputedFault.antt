@@ -7,7 +7,8 @@ use Rattle.jm_names.specs.Names.{is_empty}
 use Rattle.jm_names.specs.NameFaults.{has_module, parts, is_dots, is_zero}
 use Rattle.jm_names.specs.ComputedText.{text_len}
 use Rattle.jm_names.specs.declared.check.NameFault.{NameFault}
-use Rattle.jm_names.specs.declared.check.NameFault.TheVariants.{Empty, EmptyPart, Dots, Zero, TooLong, NotText}
+use Rattle.jm_names.specs.declared.check.NameFault.TheVariants.{Empty, EmptyPart, Dots, Zero}
+use Rattle.jm_names.specs.declared.check.NameFault.TheVariants.{TooLong, NotText}
 
 -- the checks of a name, in the order of the faults
 abbrev pub name_checks : List ℕ → List (Option NameFault)

@@ -1,11 +1,13 @@
 -- What makes a name unfit for an image (this project's rule).
-use Rattle.std.specs.Prelude.{◌≡◌, ℕ, ◌<◌, ◌≤◌, Bool, true, false, ◌==◌, ◌&&◌, ◌||◌, List, [], ◌∷◌, length, drop, codes}
+use Rattle.std.specs.Prelude.{◌≡◌, ℕ, ◌<◌, ◌≤◌, Bool, true, false, ◌==◌, ◌&&◌, ◌||◌, List, [], ◌∷◌}
+use Rattle.std.specs.Prelude.{length, drop, codes}
 use Rattle.std.specs.List.{list_any, slice_split}
 use Rattle.std.specs.Str.{bytes_eq}
 use Rattle.jm_names.specs.Names.{is_slash, is_empty}
 use Rattle.jm_names.specs.Characters.{IsText, IsLongestText}
 use Rattle.jm_names.specs.declared.check.NameFault.{NameFault}
-use Rattle.jm_names.specs.declared.check.NameFault.TheVariants.{Empty, EmptyPart, Dots, Zero, TooLong, NotText}
+use Rattle.jm_names.specs.declared.check.NameFault.TheVariants.{Empty, EmptyPart, Dots, Zero}
+use Rattle.jm_names.specs.declared.check.NameFault.TheVariants.{TooLong, NotText}
 
 -- the name begins with a slash and has a second one
 abbrev pub has_module : List ℕ → Bool

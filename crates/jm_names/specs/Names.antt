@@ -1,6 +1,8 @@
 -- The names of an image (jimage 1.0): a name is a list of bytes that is kept in four pieces.
-use Rattle.std.specs.Prelude.{ℕ, Bool, true, false, nat_eq, map, ◌==◌, ◌&&◌, ◌||◌, not, List, [], ◌∷◌, ◌++◌, if◌then◌else◌, codes}
-use Rattle.std.specs.List.{list_any, before_first, after_first, before_last, after_last, starts_with}
+use Rattle.std.specs.Prelude.{ℕ, Bool, true, false, nat_eq, map, ◌==◌, ◌&&◌, ◌||◌, not, List, []}
+use Rattle.std.specs.Prelude.{◌∷◌, ◌++◌, if◌then◌else◌, codes}
+use Rattle.std.specs.List.{list_any, before_first, after_first, before_last, after_last}
+use Rattle.std.specs.List.{starts_with}
 use Rattle.std.specs.Str.{bytes_eq}
 
 -- the four pieces of a name

@@ -1,5 +1,6 @@
 ghost use Rattle.std.specs.Prelude.{◌≡◌, ◌<◌, true, IfSome, IfNone, take, nat_le, ◌&&◌};
-ghost use Rattle.jm_names.specs.Characters.{IsLongestText, begins_three, from_to, goes_on, is_character, is_surrogate};
+ghost use Rattle.jm_names.specs.Characters.{IsLongestText, begins_three, from_to, goes_on};
+ghost use Rattle.jm_names.specs.Characters.{is_character, is_surrogate};
 ghost use Rattle.jm_names.specs.ComputedText.{character_len, text_len};
 
 /// The length in bytes of the longest front that is a run of characters of Modified UTF-8.

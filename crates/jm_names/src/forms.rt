@@ -1,5 +1,6 @@
 ghost use Rattle.std.specs.Prelude.{◌≡◌, ◌≤◌, ◌<◌, ◌∷◌, ◌++◌, length, IfOk, IfSome, IfNone, OnOk};
-ghost use Rattle.jm_names.specs.UtfForms.{is_four, four_number, four_bytes, is_pair, pair_number, pair_bytes, modified, utf, FirstStays};
+ghost use Rattle.jm_names.specs.UtfForms.{is_four, four_number, four_bytes, is_pair, pair_number};
+ghost use Rattle.jm_names.specs.UtfForms.{pair_bytes, modified, utf, FirstStays};
 
 use crate::characters::{goes_on, is_surrogate};
 use jm_bytes::{NoMemory, Text};

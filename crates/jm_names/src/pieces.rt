@@ -1,6 +1,7 @@
 ghost use Rattle.std.specs.Prelude.{◌≡◌, ◌==◌, true, false, IfSome, IfNone};
 ghost use Rattle.std.specs.List.{list_any, before_first, after_first, before_last, after_last};
-ghost use Rattle.jm_names.specs.Names.{split, join, base_only, cut_rest, cut_tail, is_empty, is_slash, is_tree};
+ghost use Rattle.jm_names.specs.Names.{split, join, base_only, cut_rest, cut_tail, is_empty};
+ghost use Rattle.jm_names.specs.Names.{is_slash, is_tree};
 ghost use Rattle.jm_names.specs.Pieces.{cut_of};
 
 use memchr::{memchr, memrchr};

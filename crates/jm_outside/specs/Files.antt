@@ -1,6 +1,7 @@
 -- The files that a shelf tells: a finite map from path to bytes, as a list of pairs (this project's
 -- rule).
-use Rattle.std.specs.Prelude.{ℕ, List, [], ◌∷◌, ◌++◌, Option, Some, None, map, unwrap_or, All, IsUtf8, if◌then◌else◌, ◌==◌}
+use Rattle.std.specs.Prelude.{ℕ, List, [], ◌∷◌, ◌++◌, Option, Some, None, map, unwrap_or, All}
+use Rattle.std.specs.Prelude.{IsUtf8, if◌then◌else◌, ◌==◌}
 use Rattle.std.specs.List.{filter_map}
 use Rattle.std.specs.List.Sorted.{IsStrictlySortedBy}
 use Rattle.std.specs.Str.{bytes_eq}

@@ -1,6 +1,7 @@
 -- What is known of the content of a shelf, a source or a sink that may tell it, and of its count of
 -- faults (this project's rule).
-use Rattle.std.specs.Prelude.{◌≡◌, ◌<◌, ◌≤◌, ◌-◌, ◌^◌, ℕ, List, [], ◌++◌, Option, Some, None, ◌⊎◌, length, take}
+use Rattle.std.specs.Prelude.{◌≡◌, ◌<◌, ◌≤◌, ◌-◌, ◌^◌, ℕ, List, [], ◌++◌, Option, Some, None, ◌⊎◌}
+use Rattle.std.specs.Prelude.{length, take}
 use Rattle.jm_outside.specs.Files.{Files, put, add}
 
 -- a fact about what is told, if it is

@@ -1,4 +1,5 @@
-ghost use Rattle.std.specs.Prelude.{◌≡◌, ◌≤◌, ◌<◌, ◌/◌, ◌↔◌, ◌++◌, [], Some, IfOk, OnOk, OnErr, IsErr, IsErrOf, is_err, take, drop, length, min};
+ghost use Rattle.std.specs.Prelude.{◌≡◌, ◌≤◌, ◌<◌, ◌/◌, ◌↔◌, ◌++◌, [], Some, IfOk, OnOk, OnErr};
+ghost use Rattle.std.specs.Prelude.{IsErr, IsErrOf, is_err, take, drop, length, min};
 ghost use Rattle.jm_outside.specs.ComputedCalls.{no_calls, IsListed, after_call};
 ghost use Rattle.jm_outside.specs.ComputedCuts.{given_count, first_half};
 ghost use Rattle.jm_outside.specs.Outcome.{CountsFaults};

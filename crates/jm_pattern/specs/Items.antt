@@ -1,5 +1,6 @@
 -- How a comma list of patterns is cut and read (this project's rule); 44 is `,` and 92 is `\`.
-use Rattle.std.specs.Prelude.{◌==◌, ◌||◌, ◌+◌, ◌++◌, ◌∷◌, [], ℕ, Bool, List, Result, Ok, Err, drop, nat_eq, if◌then◌else◌, codes}
+use Rattle.std.specs.Prelude.{◌==◌, ◌||◌, ◌+◌, ◌++◌, ◌∷◌, [], ℕ, Bool, List, Result, Ok, Err, drop}
+use Rattle.std.specs.Prelude.{nat_eq, if◌then◌else◌, codes}
 use Rattle.std.specs.List.{starts_with}
 use Rattle.jm_pattern.specs.ComputedReading.{with_front, pattern_of}
 use Rattle.jm_pattern.specs.declared.signs.Sign.{Sign}

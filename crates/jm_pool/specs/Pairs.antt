@@ -1,5 +1,6 @@
 -- A pool of resources: pairs of a name and its bytes, in an order (this project's rule).
-use Rattle.std.specs.Prelude.{ℕ, ◌≢◌, Bool, List, Option, map, filter, slice_get, slice_set, IsPermutation}
+use Rattle.std.specs.Prelude.{ℕ, ◌≢◌, Bool, List, Option, map, filter, slice_get, slice_set}
+use Rattle.std.specs.Prelude.{IsPermutation}
 use Rattle.std.specs.List.{zip, filter_map, range_with_len, AllPairs}
 use Rattle.std.specs.Map.{lookup}
 use Rattle.std.specs.Str.{bytes_eq}

@@ -1,5 +1,7 @@
-ghost use Rattle.std.specs.Prelude.{◌≡◌, ◌<◌, ◌↔◌, ◌∷◌, ◌++◌, [], Some, Err, length, slice_get, option_map, IsSome, IfOk, OnOk, OnErr};
-ghost use Rattle.jm_pool.specs.Pairs.{NamesDiffer, bytes_of, flagged_items, items_at, IsOrderOf, with_bytes_at};
+ghost use Rattle.std.specs.Prelude.{◌≡◌, ◌<◌, ◌↔◌, ◌∷◌, ◌++◌, [], Some, Err, length, slice_get};
+ghost use Rattle.std.specs.Prelude.{option_map, IsSome, IfOk, OnOk, OnErr};
+ghost use Rattle.jm_pool.specs.Pairs.{NamesDiffer, bytes_of, flagged_items, items_at, IsOrderOf};
+ghost use Rattle.jm_pool.specs.Pairs.{with_bytes_at};
 ghost use Rattle.jm_pool.specs.declared.pool.PushError.TheVariants.{Twice};
 
 use crate::pairs;

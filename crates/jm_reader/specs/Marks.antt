@@ -1,5 +1,6 @@
 -- A name as texts with marks around them (jimage 1.0: `/module/parent/base.extension`).
-use Rattle.std.specs.Prelude.{ℕ, ◌==◌, List, [], ◌∷◌, ◌++◌, Option, Some, None, option_to_list, if◌then◌else◌}
+use Rattle.std.specs.Prelude.{ℕ, ◌==◌, List, [], ◌∷◌, ◌++◌, Option, Some, None, option_to_list}
+use Rattle.std.specs.Prelude.{if◌then◌else◌}
 use Rattle.std.specs.List.{flat_map}
 use Rattle.jm_form.specs.Texts.{text_at}
 use Rattle.jm_reader.specs.declared.marks.MarkedText.{MarkedText}

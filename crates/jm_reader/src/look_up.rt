@@ -98,11 +98,12 @@ fn find_in<'a, H: Ledger, R: Ledger>(
     Some(Found { row, bytes })
 }
 
-/// The entry of that name, or None where no entry has it (jimage 1.0). The name is compared with the
-/// entry's own, byte by byte.
+/// The entry of that name, or None where no entry has it (jimage 1.0). The name is compared with
+/// the entry's own, byte by byte.
 ///
-/// It costs at most two hashes, and at most the name's bytes, 76 more and those of the content: four
-/// of a redirect word, four of an offset word, 64 of a row and one at the end of each of four texts.
+/// It costs at most two hashes, and at most the name's bytes, 76 more and those of the content:
+/// four of a redirect word, four of an offset word, 64 of a row and one at the end of each of four
+/// texts.
 pub fn find<'a, H: Ledger, R: Ledger>(
     image: &Image<'a>,
     name: &[u8],

@@ -1,4 +1,5 @@
-ghost use Rattle.std.specs.Prelude.{◌≡◌, ◌≢◌, ℕ, ◌+◌, ◌<◌, ◌≤◌, length, take, ◌++◌, option_to_list, IfSome, IfNone, IsTrue, ◌↔◌, All};
+ghost use Rattle.std.specs.Prelude.{◌≡◌, ◌≢◌, ℕ, ◌+◌, ◌<◌, ◌≤◌, length, take, ◌++◌, option_to_list};
+ghost use Rattle.std.specs.Prelude.{IfSome, IfNone, IsTrue, ◌↔◌, All};
 ghost use Rattle.jm_bytes.specs.Metered.{CostsAtMost};
 ghost use Rattle.jm_form.specs.Texts.{EndsWithin};
 ghost use Rattle.jm_reader.specs.Marks.{behind_mark, marked_text, spelling};
@@ -18,8 +19,8 @@ pub struct MarkedText {
     pub after: Option<u8>,
 }
 
-/// How many bytes a name's mark takes, and what stands behind it; nothing where the name doesn't begin
-/// with the mark.
+/// How many bytes a name's mark takes, and what stands behind it; nothing where the name doesn't
+/// begin with the mark.
 fn behind_mark(mark: Option<u8>, name: &[u8]) -> (usize, &[u8])
     ensures taken { result.0 ≡ (behind_mark mark name.now).0 }
     ensures rest { result.1.now ≡ (behind_mark mark name.now).1 }
@@ -46,8 +47,8 @@ fn mark_length(mark: Option<u8>, name: &[u8], at: usize) -> Option<usize>
     }
 }
 
-/// How many bytes of the front of `name` are the text with its marks, or None where they are no front
-/// of `name`. It costs the bytes of the text that agree and one more.
+/// How many bytes of the front of `name` are the text with its marks, or None where they are no
+/// front of `name`. It costs the bytes of the text that agree and one more.
 fn marked_front<R: Ledger>(
     buf: &Buf,
     text: &MarkedText,
@@ -71,8 +72,8 @@ fn marked_front<R: Ledger>(
     Some(skipped + n + last)
 }
 
-/// Whether the texts with their marks, one behind the other, are the name. It costs at most the name's
-/// bytes and one for each text.
+/// Whether the texts with their marks, one behind the other, are the name. It costs at most the
+/// name's bytes and one for each text.
 pub fn spells<R: Ledger>(buf: &Buf, texts: &[MarkedText], name: &[u8], reads: &mut Meter<R>) -> bool
     requires metered { reads.old.bytes ≡ buf.now }
     requires ends { All (λ text. EndsWithin buf.now text.place) texts.now }

@@ -1,4 +1,5 @@
-ghost use Rattle.std.specs.Prelude.{◌≡◌, ◌≢◌, ◌++◌, ◌+◌, ◌<◌, ◌^◌, ℕ, List, length, IfOk, IsTrue, IsFalse, ◌↔◌, nat_eq};
+ghost use Rattle.std.specs.Prelude.{◌≡◌, ◌≢◌, ◌++◌, ◌+◌, ◌<◌, ◌^◌, ℕ, List, length, IfOk, IsTrue};
+ghost use Rattle.std.specs.Prelude.{IsFalse, ◌↔◌, nat_eq};
 ghost use Rattle.std.specs.List.{starts_with};
 ghost use Rattle.jm_names.specs.Names.{is_node, join};
 ghost use Rattle.jm_names.specs.Pieces.{cut_of};
@@ -10,8 +11,8 @@ use jm_names::Pieces;
 use std::alloc::Global;
 use std::marker::Model;
 
-/// The name of an entry, `/module/parent/base.ext` without the marks of the pieces that are empty. It
-/// borrows its four pieces from the image.
+/// The name of an entry, `/module/parent/base.ext` without the marks of the pieces that are empty.
+/// It borrows its four pieces from the image.
 #[derive(Debug, Drop)]
 pub struct NameView<'a> {
     module: &'a [u8],
@@ -44,8 +45,8 @@ fn marked_length(piece: &[u8], marks: usize) -> usize
     }
 }
 
-/// Takes the bytes of `front` from some bytes; false where they don't begin with it, and then some of
-/// them are taken.
+/// Takes the bytes of `front` from some bytes; false where they don't begin with it, and then some
+/// of them are taken.
 fn takes_front(bytes: &mut NameBytes, front: &[u8]) -> bool
     ensures yes { IsTrue result → bytes.old ≡ front.now ++ bytes.new }
     ensures no { IsFalse result → (rest : List ℕ) → bytes.old ≢ front.now ++ rest }
@@ -97,8 +98,8 @@ impl<'a> NameView<'a> {
         takes_front(&mut self.bytes(), front)
     }
 
-    /// Whether it is a name of one of the two trees' nodes (JEP 220): `/modules`, `/packages`, and what
-    /// begins with one of these and a slash.
+    /// Whether it is a name of one of the two trees' nodes (JEP 220): `/modules`, `/packages`, and
+    /// what begins with one of these and a slash.
     pub fn is_node(&self) -> bool
         ensures { result ≡ is_node self.now }
     {

@@ -8,8 +8,8 @@ use jm_form::{Header, Redirect, redirect_at};
 use jm_names::{DEFAULT_SEED, hash};
 use std::sync::ledger::Ledger;
 
-/// The slot to which the table of an image leads a name, whatever name the slot has. It costs at most
-/// two hashes and the four bytes of one redirect word.
+/// The slot to which the table of an image leads a name, whatever name the slot has. It costs at
+/// most two hashes and the four bytes of one redirect word.
 pub fn probe<H: Ledger, R: Ledger>(
     buf: &Buf,
     header: &Header,

@@ -1,4 +1,5 @@
-ghost use Rattle.std.specs.Prelude.{◌≡◌, ◌<◌, ◌≤◌, ◌↔◌, ◌∷◌, ◌++◌, [], Some, Err, None, length, All, Contains, IsSome, IfOk, OnOk, OnErr, codes};
+ghost use Rattle.std.specs.Prelude.{◌≡◌, ◌<◌, ◌≤◌, ◌↔◌, ◌∷◌, ◌++◌, [], Some, Err, None, length};
+ghost use Rattle.std.specs.Prelude.{All, Contains, IsSome, IfOk, OnOk, OnErr, codes};
 ghost use Rattle.std.specs.Map.{lookup};
 ghost use Rattle.std.specs.Str.{bytes_eq};
 ghost use Rattle.jm_strings.specs.Texts.{limit, section_of, place_of, with_text, IsZeroFree};

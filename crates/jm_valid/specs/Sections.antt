@@ -6,7 +6,8 @@ use Rattle.jm_form.specs.declared.rows.Row.{Row}
 use Rattle.jm_form.specs.declared.slots.SlotRow.{SlotRow}
 use Rattle.jm_form.specs.declared.table.Redirect.{Redirect}
 use Rattle.jm_form.specs.Damages.{entries_checks, image_checks, row_checks, slot_fault, slot_faults}
-use Rattle.jm_form.specs.Entries.{Entry, entries, entry_of, is_reached, name_of, row_at, row_of_slot}
+use Rattle.jm_form.specs.Entries.{Entry, entries, entry_of, is_reached, name_of, row_at}
+use Rattle.jm_form.specs.Entries.{row_of_slot}
 use Rattle.jm_form.specs.Places.{strings, contents}
 use Rattle.jm_form.specs.Table.{probe, redirect_at}
 use Rattle.jm_form.specs.Validity.{SoundSlots}

@@ -1,4 +1,5 @@
-ghost use Rattle.std.specs.Prelude.{◌≡◌, ◌≤◌, ◌<◌, ◌⊎◌, ◌++◌, ◌∷◌, [], List, All, AllPairs, IsPermutation, IfSome, option_map};
+ghost use Rattle.std.specs.Prelude.{◌≡◌, ◌≤◌, ◌<◌, ◌⊎◌, ◌++◌, ◌∷◌, [], List, All, AllPairs};
+ghost use Rattle.std.specs.Prelude.{IsPermutation, IfSome, option_map};
 ghost use Rattle.jm_form.specs.ComputedOverlap.{first_overlap, meets};
 ghost use Rattle.jm_form.specs.Overlap.{Meets, MeetsOne};
 ghost use Rattle.jm_valid.specs.Ranges.{Follows, IsLeastIfAny};
@@ -112,8 +113,8 @@ fn least_partner(ranges: &[Range], range: &Range) -> Option<Range>
 }
 
 /// The least slot whose range has a byte in common with another one, and the least slot of another
-/// range that has one in common with it, which no image may have (this project's rule). The ranges are
-/// left in another order.
+/// range that has one in common with it, which no image may have (this project's rule). The ranges
+/// are left in another order.
 pub fn first_overlap(ranges: &mut [Range]) -> Option<Damage>
     requires rising { AllPairs (λ r s. r.slot < s.slot) ranges.old }
     requires some { All (λ r. r.start < r.end) ranges.old }

@@ -12,7 +12,8 @@ use memchr::memrchr;
 pub struct Sections<'a> {
     pub bytes: &'a [u8],
     pub header: Header,
-    /// The front of the strings up to and with their last zero byte; the texts that end begin in it.
+    /// The front of the strings up to and with their last zero byte; the texts that end begin in
+    /// it.
     pub texts: &'a [u8],
     pub contents: &'a [u8],
     pub ghost header_read: { header_of bytes.now ≡ Ok header },

@@ -1,5 +1,5 @@
 -- Words that are text make a command whose paths are text.
-use Rattle.std.proofs.Common.{◌≡◌, ℕ, ◌+◌, ◌<◌, ◌&&◌, not, nat_le, Bool, true, false, cond, List, [], ◌∷◌, ◌++◌, length, get_or, map, string_bytes, String, inl, inr, Option, Some, None, Result, Ok, Err, IfOk, IfSome, All, IsUtf8, refl, sym, subst, arith}
+use Rattle.std.proofs.Common.{◌≡◌, ℕ, ◌+◌, ◌<◌, ◌≤◌, ◌&&◌, not, nat_le, Bool, true, false, cond, List, [], ◌∷◌, ◌++◌, length, get_or, map, string_bytes, String, inl, inr, Option, Some, None, Result, Ok, Err, IfOk, IfSome, All, IsUtf8, refl, sym, subst, arith}
 use Rattle.std.specs.Prelude.{codes, option_map, unwrap_or}
 use Rattle.std.specs.List.{after_first, before_first, find, list_any}
 use Rattle.std.specs.Str.{bytes_eq}
@@ -16,7 +16,7 @@ use Rattle.jm_words.specs.declared.tables.Choice.{Choice}
 use Rattle.jm_words.specs.declared.tables.Verb.{Verb}
 use Rattle.jm_words.specs.declared.tables.Verb.TheVariants as verb_is
 use Rattle.jm_words.specs.Commands.{command_after, command_in, command_of, command_unless_fault, jobs_of, look, module_path, number_or_low, text_of, verb_named}
-use Rattle.jm_words.specs.Paths.{FilePathsAreText, jobs_in}
+use Rattle.jm_words.specs.Paths.{FilePathsAreText, NumbersFit, jobs_in}
 use Rattle.jm_words.specs.Reading.{GivenText, Standing, UnlessMemory, after_argument, after_choice, after_option, after_plain_word, after_word, after_words, before_words, given_texts, is_chosen, is_equals, is_flag, is_missing, is_option, option_named, texts_at_end, texts_unless_fault, value_behind, with_checked_text}
 use Rattle.jm_words.specs.Tables.{argument_row, option_row, options}
 use Rattle.jm_words.specs.Values.{decimal_from, is_numeral, is_of_form}
@@ -143,19 +143,19 @@ command_is_text verb given are = go verb
     go verb_is.Help = tt
     go verb_is.Version = tt
 
--- a number from 1 on, or 1
-number_is_positive : (high : ℕ) (text : List ℕ) → 0 < number_or_low 1 high text
-number_is_positive high text = go (is_numeral text && (nat_le 1 (decimal_from 0 text) && nat_le (decimal_from 0 text) high)) refl
+-- a number within its limits, or the lower one
+number_is_within : (low high : ℕ) (text : List ℕ) → low ≤ high → (low ≤ number_or_low low high text) × (number_or_low low high text ≤ high)
+number_is_within low high text rises = go (is_numeral text && (nat_le low (decimal_from 0 text) && nat_le (decimal_from 0 text) high)) refl
   where
-    go : (fits : Bool) → (is_numeral text && (nat_le 1 (decimal_from 0 text) && nat_le (decimal_from 0 text) high)) ≡ fits → 0 < unwrap_or (cond fits (Some (decimal_from 0 text)) None) 1
+    go : (fits : Bool) → (is_numeral text && (nat_le low (decimal_from 0 text) && nat_le (decimal_from 0 text) high)) ≡ fits → (low ≤ unwrap_or (cond fits (Some (decimal_from 0 text)) None) low) × (unwrap_or (cond fits (Some (decimal_from 0 text)) None) low ≤ high)
     go true fits =
-        let within = (and_parts (is_numeral text) (nat_le 1 (decimal_from 0 text) && nat_le (decimal_from 0 text) high) fits).1 in
-        let low = leb-true 1 (decimal_from 0 text) (and_parts (nat_le 1 (decimal_from 0 text)) (nat_le (decimal_from 0 text) high) within).0 in
-        omega (arith, low)
-    go false fails = omega arith
+        let within = (and_parts (is_numeral text) (nat_le low (decimal_from 0 text) && nat_le (decimal_from 0 text) high) fits).1 in
+        let both = and_parts (nat_le low (decimal_from 0 text)) (nat_le (decimal_from 0 text) high) within in
+        (leb-true low (decimal_from 0 text) both.0, leb-true (decimal_from 0 text) high both.1)
+    go false fails = (omega arith, rises)
 
 some_job_of : (verb : Verb) (given : List GivenText) → 0 < jobs_in (command_of verb given)
-some_job_of verb given = go verb (number_is_positive 64 (text_of (codes "--jobs") given))
+some_job_of verb given = go verb (let within = number_is_within 1 64 (text_of (codes "--jobs") given) (omega arith) in omega (arith, within.0))
   where
     go : (v : Verb) → 0 < jobs_of given → 0 < jobs_in (command_of v given)
     go verb_is.Link some = some
@@ -171,6 +171,23 @@ some_job_of verb given = go verb (number_is_positive 64 (text_of (codes "--jobs"
     go verb_is.Help some = some
     go verb_is.Version some = some
 
+numbers_fit_of : (verb : Verb) (given : List GivenText) → NumbersFit (command_of verb given)
+numbers_fit_of verb_is.Link given = tt
+numbers_fit_of verb_is.Cat given = tt
+numbers_fit_of verb_is.List given = tt
+numbers_fit_of verb_is.Ls given = tt
+numbers_fit_of verb_is.Info given = tt
+numbers_fit_of verb_is.Extract given = tt
+numbers_fit_of verb_is.Verify given = tt
+numbers_fit_of verb_is.Serve given = tt
+numbers_fit_of verb_is.Gen given = (
+  number_is_within 1 256 (text_of (codes "--modules") given) (omega arith),
+  number_is_within 1 1024 (text_of (codes "--classes") given) (omega arith),
+)
+numbers_fit_of verb_is.Describe given = tt
+numbers_fit_of verb_is.Help given = tt
+numbers_fit_of verb_is.Version given = tt
+
 -- All words of the command line
 
 pub paths_are_text : (words : List (List ℕ)) → All IsUtf8 words → IfOk (command_in words) FilePathsAreText
@@ -185,17 +202,24 @@ paths_are_text (name ∷ words) are = go (verb_named name)
     go None = tt
     go (Some verb) = read verb (given_texts verb words) (given_are_text verb words (All-tail IsUtf8 name words are))
 
-pub some_job : (words : List (List ℕ)) → IfOk (command_in words) (λ command. 0 < jobs_in command)
-some_job [] = tt
-some_job (name ∷ words) = go (verb_named name)
-  where
-    read : (verb : Verb) (given : Result (List GivenText) WordsError) → IfOk (command_unless_fault verb given) (λ command. 0 < jobs_in command)
-    read verb (Ok given) = some_job_of verb given
-    read verb (Err fault) = tt
+module _ (P : Command → Type 0) (holds : (verb : Verb) (given : List GivenText) → P (command_of verb given)) where
+  any_command : (words : List (List ℕ)) → IfOk (command_in words) P
+  any_command [] = tt
+  any_command (name ∷ words) = go (verb_named name)
+    where
+      read : (verb : Verb) (given : Result (List GivenText) WordsError) → IfOk (command_unless_fault verb given) P
+      read verb (Ok given) = holds verb given
+      read verb (Err fault) = tt
 
-    go : (verb : Option Verb) → IfOk (command_after verb words) (λ command. 0 < jobs_in command)
-    go None = tt
-    go (Some verb) = read verb (given_texts verb words)
+      go : (verb : Option Verb) → IfOk (command_after verb words) P
+      go None = tt
+      go (Some verb) = read verb (given_texts verb words)
+
+pub some_job : (words : List (List ℕ)) → IfOk (command_in words) (λ command. 0 < jobs_in command)
+some_job = any_command (λ command. 0 < jobs_in command) some_job_of
+
+pub numbers_fit : (words : List (List ℕ)) → IfOk (command_in words) NumbersFit
+numbers_fit = any_command NumbersFit numbers_fit_of
 
 -- what holds of the command that the words make holds of the one that was read
 pub read_unless_memory : (P : Command → Type 0) (result given : Result Command WordsError) → UnlessMemory result given → IfOk given P → IfOk result P

@@ -1,5 +1,6 @@
 -- The command that words make (this project's rule).
-use Rattle.std.specs.Prelude.{ℕ, ◌-◌, ◌^◌, List, [], ◌∷◌, Option, Some, None, Result, Ok, Err, option_map, unwrap_or, if◌then◌else◌, codes}
+use Rattle.std.specs.Prelude.{ℕ, ◌-◌, ◌^◌, List, [], ◌∷◌, Option, Some, None, Result, Ok, Err}
+use Rattle.std.specs.Prelude.{option_map, unwrap_or, if◌then◌else◌, codes}
 use Rattle.std.specs.List.{find, filter_map}
 use Rattle.std.specs.Str.{bytes_eq}
 use Rattle.jm_names.specs.UtfForms.{modified}
@@ -13,7 +14,8 @@ use Rattle.jm_words.specs.declared.errors.WordsKind.TheVariants as kind
 use Rattle.jm_words.specs.declared.tables.Verb.{Verb}
 use Rattle.jm_words.specs.declared.tables.Verb.TheVariants as verb
 use Rattle.jm_words.specs.Tables.{verbs, verb_name}
-use Rattle.jm_words.specs.Values.{folders_of, names_of, number_of, order_of, patterns_of, without_slashes}
+use Rattle.jm_words.specs.Values.{folders_of, names_of, number_of, order_of, patterns_of}
+use Rattle.jm_words.specs.Values.{without_slashes}
 use Rattle.jm_words.specs.Reading.{GivenText, fault_at, given_texts, stands}
 
 -- the text that was given first by a name

@@ -1,5 +1,5 @@
--- What is known of a command whose words are text (this project's rule).
-use Rattle.std.specs.Prelude.{ℕ, IfSome, All, IsUtf8}
+-- What is known of a command that words make (this project's rule).
+use Rattle.std.specs.Prelude.{ℕ, ◌≤◌, IfSome, All, IsUtf8}
 use Rattle.jm_words.specs.declared.commands.Command.{Command}
 use Rattle.jm_words.specs.declared.commands.Command.TheVariants as command
 
@@ -33,3 +33,9 @@ jobs_in (command.Gen dir modules classes seed jobs) = jobs
 jobs_in (command.Describe file jobs) = jobs
 jobs_in (command.Help jobs) = jobs
 jobs_in (command.Version jobs) = jobs
+
+-- the numbers of a generator are within its limits
+abbrev pub NumbersFit : Command → Type 0
+NumbersFit (command.Gen dir modules classes seed jobs) =
+    ((1 ≤ modules) × (modules ≤ 256)) × ((1 ≤ classes) × (classes ≤ 1024))
+NumbersFit _ = Unit {0}

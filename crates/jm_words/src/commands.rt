@@ -1,11 +1,14 @@
-ghost use Rattle.std.specs.Prelude.{◌≡◌, ◌<◌, ◌≤◌, ◌-◌, ◌^◌, codes, map, option_map, string_bytes, IfOk};
+ghost use Rattle.std.specs.Prelude.{◌≡◌, ◌<◌, ◌≤◌, ◌-◌, ◌^◌, codes, map, option_map, string_bytes};
+ghost use Rattle.std.specs.Prelude.{IfOk};
 ghost use Rattle.std.specs.List.{filter_map, find};
 ghost use Rattle.std.specs.Str.{bytes_eq};
 ghost use Rattle.jm_words.specs.Tables.{verb_name};
 ghost use Rattle.jm_words.specs.Values.{without_slashes};
 ghost use Rattle.jm_names.specs.UtfForms.{modified};
-ghost use Rattle.jm_words.specs.Commands.{command_in, command_of, include_of, jobs_of, look, module_path, number_or_low, plugin_of, text_of, verb_named};
-ghost use Rattle.jm_words.specs.Paths.{FilePathsAreText, jobs_in};
+ghost use Rattle.jm_words.specs.Commands.{command_in, command_of, include_of, jobs_of, look};
+ghost use Rattle.jm_words.specs.Commands.{module_path, number_or_low, plugin_of, text_of};
+ghost use Rattle.jm_words.specs.Commands.{verb_named};
+ghost use Rattle.jm_words.specs.Paths.{FilePathsAreText, NumbersFit, jobs_in};
 ghost use Rattle.jm_words.specs.Reading.{UnlessMemory};
 
 use crate::errors::{WordsError, WordsKind};
@@ -91,6 +94,7 @@ pub fn read_words(alloc: Global, words: &[String]) -> Result<Command, WordsError
     ensures command { UnlessMemory result (command_in (map string_bytes words.now)) }
     ensures paths { IfOk result FilePathsAreText }
     ensures jobs { IfOk result (λ command. 0 < jobs_in command) }
+    ensures numbers { IfOk result NumbersFit }
 {
     let (name, behind) = match words.split_first() {
         Some((name, behind)) => (name, behind),

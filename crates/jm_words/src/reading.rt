@@ -1,6 +1,12 @@
-ghost use Rattle.std.specs.Prelude.{◌≡◌, ◌+◌, ◌==◌, ◌∷◌, [], None, map, length, option_map, string_bytes, IfOk, Ok};
+ghost use Rattle.std.specs.Prelude.{◌≡◌, ◌+◌, ◌==◌, ◌∷◌, [], None, map, length, option_map};
+ghost use Rattle.std.specs.Prelude.{string_bytes, IfOk, Ok};
 ghost use Rattle.std.specs.List.{list_any, before_first, after_first, find};
-ghost use Rattle.jm_words.specs.Reading.{UnlessMemory, after_argument, texts_at_end, fault_at, with_checked_text, given_texts, is_chosen, is_flag, is_missing, is_option, lacks, before_words, is_equals, value_behind, after_choice, option_named, after_option, stands, with_text, after_plain_word, after_word, after_words};
+ghost use Rattle.jm_words.specs.Reading.{UnlessMemory, after_argument, texts_at_end, fault_at};
+ghost use Rattle.jm_words.specs.Reading.{with_checked_text, given_texts, is_chosen, is_flag};
+ghost use Rattle.jm_words.specs.Reading.{is_missing, is_option, lacks, before_words, is_equals};
+ghost use Rattle.jm_words.specs.Reading.{value_behind, after_choice, option_named, after_option};
+ghost use Rattle.jm_words.specs.Reading.{stands, with_text, after_plain_word, after_word};
+ghost use Rattle.jm_words.specs.Reading.{after_words};
 
 use crate::errors::{WordsError, WordsKind};
 use crate::forms::Form;

@@ -1,5 +1,8 @@
-ghost use Rattle.std.specs.Prelude.{◌≡◌, ◌≤◌, ◌<◌, ◌^◌, ◌*◌, ◌+◌, ◌-◌, ◌==◌, ◌∷◌, true, false, length, option_map, IfOk, IfSome, IfNone};
-ghost use Rattle.jm_words.specs.Values.{decimal_from, folders_of, is_digit, is_numeral, is_of_form, is_order, names_of, number_of, order_of, patterns_of, without_slashes};
+ghost use Rattle.std.specs.Prelude.{◌≡◌, ◌≤◌, ◌<◌, ◌^◌, ◌*◌, ◌+◌, ◌-◌, ◌==◌, ◌∷◌, true, false};
+ghost use Rattle.std.specs.Prelude.{length, option_map, IfOk, IfSome, IfNone};
+ghost use Rattle.jm_words.specs.Values.{decimal_from, folders_of, is_digit, is_numeral, is_of_form};
+ghost use Rattle.jm_words.specs.Values.{is_order, names_of, number_of, order_of, patterns_of};
+ghost use Rattle.jm_words.specs.Values.{without_slashes};
 ghost use Rattle.std.specs.List.{list_all, list_any, before_first, after_first};
 ghost use Rattle.jm_words.specs.Values.{reads, parts_at, parts_of};
 ghost use Rattle.jm_pattern.specs.Items.{list_of};

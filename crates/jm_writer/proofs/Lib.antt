@@ -25,6 +25,7 @@ mod LaidVectors
 pub mod LaidWritable
 pub mod LayoutLaws
 pub mod LedLaws
+pub mod PlaceLaws
 pub mod PlanLaws
 pub mod SlotLaws
 pub mod StringLaws

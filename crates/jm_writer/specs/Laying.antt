@@ -15,9 +15,10 @@ use Rattle.jm_writer.specs.declared.draft.Draft.{Draft}
 use Rattle.jm_writer.specs.declared.draft.PlanError.{PlanError}
 use Rattle.jm_writer.specs.declared.draft.PlanError.TheVariants as refusal
 use Rattle.jm_writer.specs.declared.entries.Entries.{Entries}
+use Rattle.jm_writer.specs.declared.interning.Interned.{Interned}
 use Rattle.jm_writer.specs.declared.laying.Laid.{Laid}
 use Rattle.jm_writer.specs.Drafts.{entry_limit, image_limit}
-use Rattle.jm_writer.specs.Parts.{index_bytes, locations_of, places_from, rows_in_slots}
+use Rattle.jm_writer.specs.Parts.{index_bytes, locations_of, places_from, places_of, rows_in_slots}
 use Rattle.jm_writer.specs.Parts.{sized_as, tail_bytes}
 
 -- The table
@@ -45,9 +46,14 @@ Tables names (Err other) = ⊥
 
 -- The strings
 
--- the texts of the names, whose section isn't too long
-abbrev pub Interns : List (List ℕ) → Result (List (List ℕ)) PlanError → Type 0
-Interns names (Ok texts) = (texts ≡ texts_of names) × (length (section_of texts) ≤ limit)
+-- the texts of the names, whose section isn't too long, and the places of the names' pieces
+pub record AreInterned (names : List (List ℕ)) (interned : Interned) : Type 0 where
+  pub texts : interned.strings ≡ texts_of names
+  pub places : interned.places.items ≡ places_of names
+  pub within : length (section_of interned.strings) ≤ limit
+
+abbrev pub Interns : List (List ℕ) → Result Interned PlanError → Type 0
+Interns names (Ok interned) = AreInterned names interned
 Interns names (Err (refusal.TooLarge number)) =
     (number ≡ 0) × (limit < length (section_of (texts_of names)))
 Interns names (Err refusal.Memory) = Unit {0}

@@ -7,17 +7,20 @@ use Rattle.std.specs.Prelude.{Option, Some, None, unwrap_or}
 use Rattle.std.specs.List.{flat_map, range_with_len, zip}
 use Rattle.std.specs.Map.{lookup}
 use Rattle.jm_bytes.specs.declared.words.Order.{Order}
+use Rattle.jm_names.specs.Names.{Cut, split}
+use Rattle.jm_strings.specs.Texts.{place_of}
 use Rattle.jm_form.specs.declared.rows.Row.{Row}
 use Rattle.jm_form.specs.declared.trees.Holds.{Holds}
 use Rattle.jm_form.specs.declared.trees.Holds.TheVariants.{Children, Owners}
 use Rattle.jm_form.specs.declared.trees.Owner.{Owner}
 use Rattle.jm_form.specs.declared.trees.TreeNode.{TreeNode}
 use Rattle.jm_form.specs.Greedy.{bucket_of}
-use Rattle.jm_form.specs.Layout.{Sized, location_of, text_place}
+use Rattle.jm_form.specs.Layout.{Sized, location_of, text_place, texts_of}
 use Rattle.jm_form.specs.Nodes.{empty_flag, words_text}
 use Rattle.jm_form.specs.Table.{redirect_of, slot_of}
 use Rattle.jm_redirect.specs.declared.building.Table.{Table}
 use Rattle.jm_writer.specs.declared.entries.Entries.{Entries}
+use Rattle.jm_writer.specs.declared.interning.TextPlaces.{TextPlaces}
 
 -- Entries
 
@@ -32,6 +35,48 @@ sized_as (name ∷ names) (size ∷ sizes) =
 pub record IsOfEntries (es : List Sized) (entries : Entries) : Type 0 where
   pub names : entries.names ≡ map (λ e. e.name) es
   pub sizes : entries.sizes ≡ map (λ e. e.size) es
+
+-- Rows
+
+-- the four pieces of a name are held, and stand at these places
+pub record StandAt (texts : List (List ℕ)) (cut : Cut) (places : TextPlaces) : Type 0 where
+  pub «module» : place_of cut.module texts ≡ Some places.module
+  pub parent : place_of cut.parent texts ≡ Some places.parent
+  pub base : place_of cut.base texts ≡ Some places.base
+  pub ext : place_of cut.ext texts ≡ Some places.ext
+
+-- the places of the four pieces of a name
+abbrev pub places_in : List (List ℕ) → Cut → TextPlaces
+places_in texts cut = record {
+  «module» = text_place texts cut.module;
+  parent = text_place texts cut.parent;
+  base = text_place texts cut.base;
+  ext = text_place texts cut.ext;
+}
+
+-- the places of the pieces of each name among the texts of all
+abbrev pub places_of : List (List ℕ) → List TextPlaces
+places_of names = map (λ name. places_in (texts_of names) (split name)) names
+
+-- the row of an entry by the places of its pieces
+abbrev pub row_at : TextPlaces → ℕ → ℕ → Row
+row_at places offset size = record {
+  «module» = places.module;
+  parent = places.parent;
+  base = places.base;
+  ext = places.ext;
+  offset = offset;
+  packed = 0;
+  size = size;
+}
+
+-- the rows of entries by the places of their pieces and their sizes, whose contents stand one
+-- behind another from an offset on
+abbrev pub rows_at : ℕ → List TextPlaces → List ℕ → List Row
+rows_at offset [] sizes = []
+rows_at offset (places ∷ others) [] = []
+rows_at offset (places ∷ others) (size ∷ sizes) =
+    row_at places offset size ∷ rows_at (offset + size) others sizes
 
 -- Slots
 

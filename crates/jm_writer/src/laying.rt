@@ -1,15 +1,15 @@
 //! What is known of an image before its bytes: its table, strings, locations and length.
 ghost use Rattle.std.specs.Prelude.{◌≡◌, ◌+◌, ◌*◌, ◌^◌, ◌<◌, ◌≤◌, length, sum, All, IfOk, IfSome};
 ghost use Rattle.jm_strings.specs.Texts.{IsZeroFree};
-ghost use Rattle.jm_form.specs.Layout.{rows_from};
 ghost use Rattle.jm_writer.specs.Laying.{AreFit, Interns, IsTable, Lays, Tables, length_of};
-ghost use Rattle.jm_writer.specs.Parts.{rows_in_slots, sized_as};
+ghost use Rattle.jm_writer.specs.Laying.{slot_rows};
+ghost use Rattle.jm_writer.specs.Parts.{places_of};
 
 use crate::draft::PlanError;
 use crate::entries::Entries;
-use crate::interning::strings_of;
+use crate::interning::{Interned, TextPlaces, strings_of};
 use crate::locations::{Locations, locate};
-use crate::rows::{in_slots, rows_of};
+use crate::rows::{in_slots, rows_at};
 use jm_bytes::{NoMemory, Text};
 use jm_form::Row;
 use jm_redirect::{BuildError, Table, build};
@@ -43,14 +43,14 @@ pub fn table_of(alloc: Global, names: &[Text]) -> Result<Table, PlanError>
 }
 
 /// The strings of the names, where they aren't too long.
-fn strings_within(alloc: Global, names: &[Text]) -> Result<Strings, PlanError>
+fn strings_within(alloc: Global, names: &[Text]) -> Result<Interned, PlanError>
     requires { All IsZeroFree names.now }
     ensures { Interns names.now result }
 {
     match strings_of(alloc, names) {
-        Ok(strings) => {
-            let _within = strings.bytes();
-            Ok(strings)
+        Ok(interned) => {
+            let _within = interned.strings.bytes();
+            Ok(interned)
         }
         Err(StringsError::Full) => Err(PlanError::TooLarge(0)),
         Err(StringsError::Zero) => unreachable!(),
@@ -61,18 +61,18 @@ fn strings_within(alloc: Global, names: &[Text]) -> Result<Strings, PlanError>
 /// The rows of the entries by slot, and how many bytes all contents have.
 fn rows_by_slot(
     alloc: Global,
-    strings: &Strings,
+    places: &[TextPlaces],
     entries: &Entries,
     table: &Table,
 ) -> Result<(Vec<Option<Row>>, u64), NoMemory>
     requires entries { AreFit entries.now }
     requires table { IsTable entries.now.names table.now }
-    ensures rows { IfOk result (λ r. r.0.items ≡ rows_in_slots table.now.slot_of
-        (rows_from strings.now 0 (sized_as entries.now.names entries.now.sizes)) table.now.length) }
+    requires places { places.now ≡ places_of entries.now.names }
+    ensures rows { IfOk result (λ r. r.0.items ≡ slot_rows entries.now table.now) }
     ensures few { IfOk result (λ r. length r.0.items ≤ 33554432) }
     ensures contents { IfOk result (λ r. r.1 ≡ sum entries.now.sizes) }
 {
-    let (rows, contents) = rows_of(alloc, strings, entries)?;
+    let (rows, contents) = rows_at(alloc, places, entries.sizes.as_slice())?;
     let rows = in_slots(alloc, table.slot_of.as_slice(), &rows, table.length)?;
     Ok((rows, contents))
 }
@@ -93,8 +93,8 @@ pub fn lay_out(alloc: Global, entries: &Entries, table: &Table) -> Result<Laid, 
     requires table { IsTable entries.now.names table.now }
     ensures { Lays entries.now table.now result }
 {
-    let strings = strings_within(alloc, entries.names.as_slice())?;
-    let (rows, contents) = rows_by_slot(alloc, &strings, entries, table)?;
+    let Interned { strings, places } = strings_within(alloc, entries.names.as_slice())?;
+    let (rows, contents) = rows_by_slot(alloc, &places, entries, table)?;
     let locations = locate(alloc, &rows)?;
     let known = length_of(
         table.length,

@@ -1,15 +1,13 @@
 //! The rows of all entries, by entry and by slot.
 ghost use Rattle.std.specs.Prelude.{◌≡◌, ◌≢◌, ◌<◌, None, length, replicate, sum, All, AllPairs};
 ghost use Rattle.std.specs.Prelude.{IfOk};
-ghost use Rattle.jm_names.specs.Names.{split};
-ghost use Rattle.jm_form.specs.Layout.{row_with, rows_from, text_place};
-ghost use Rattle.jm_writer.specs.Parts.{rows_in_slots, sized_as};
+ghost use Rattle.jm_form.specs.Layout.{text_place};
+ghost use Rattle.jm_writer.specs.Parts.{row_at, rows_at, rows_in_slots};
 
-use crate::entries::Entries;
+use crate::interning::TextPlaces;
 use crate::lists::{push, room_for};
 use jm_bytes::NoMemory;
 use jm_form::Row;
-use jm_names::split;
 use jm_strings::Strings;
 use std::alloc::Global;
 
@@ -20,41 +18,37 @@ pub fn text_place(strings: &Strings, text: &[u8]) -> u32
     strings.place(text).unwrap_or(0)
 }
 
-/// The row of an entry.
-fn row_of(strings: &Strings, name: &[u8], offset: u64, size: u64) -> Row
-    ensures { result ≡ row_with strings.now (split name.now) offset size }
+/// The row of an entry by the places of its name's pieces.
+fn row_at(places: &TextPlaces, offset: u64, size: u64) -> Row
+    ensures { result ≡ row_at places.now offset size }
 {
-    let pieces = split(name);
     Row {
-        module: u64::from(text_place(strings, pieces.module)),
-        parent: u64::from(text_place(strings, pieces.parent)),
-        base: u64::from(text_place(strings, pieces.base)),
-        ext: u64::from(text_place(strings, pieces.ext)),
+        module: u64::from(places.module),
+        parent: u64::from(places.parent),
+        base: u64::from(places.base),
+        ext: u64::from(places.ext),
         offset,
         packed: 0,
         size,
     }
 }
 
-/// The rows of the entries, whose contents stand one behind another, and how many bytes all
-/// contents have.
-pub fn rows_of(
+/// The rows of entries by the places of their names' pieces and by their sizes in bytes, and how
+/// many bytes all contents have, which stand one behind another.
+pub fn rows_at(
     alloc: Global,
-    strings: &Strings,
-    entries: &Entries,
+    places: &[TextPlaces],
+    sizes: &[u64],
 ) -> Result<(Vec<Row>, u64), NoMemory>
-    requires { length entries.now.names ≡ length entries.now.sizes }
-    ensures rows { IfOk result (λ r. r.0.items ≡
-        rows_from strings.now 0 (sized_as entries.now.names entries.now.sizes)) }
-    ensures contents { IfOk result (λ r. r.1 ≡ sum entries.now.sizes) }
+    requires { length places.now ≡ length sizes.now }
+    ensures rows { IfOk result (λ r. r.0.items ≡ rows_at 0 places.now sizes.now) }
+    ensures contents { IfOk result (λ r. r.1 ≡ sum sizes.now) }
 {
-    let mut rows = room_for(alloc, entries.names.len())?;
+    let mut rows = room_for(alloc, sizes.len())?;
     let mut offset: u64 = 0;
-    let sizes = entries.sizes.as_slice();
-    for (place, name) in entries.names.as_slice().iter().enumerate() {
-        let size = sizes[place];
-        push(&mut rows, row_of(strings, name.as_slice(), offset, size))?;
-        offset = offset.checked_add(size).ok_or(NoMemory)?;
+    for (place, size) in sizes.iter().enumerate() {
+        push(&mut rows, row_at(&places[place], offset, *size))?;
+        offset = offset.checked_add(*size).ok_or(NoMemory)?;
     }
     Ok((rows, offset))
 }

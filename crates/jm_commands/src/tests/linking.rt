@@ -52,7 +52,7 @@ fn runs<T: Threads + Sync>(
 }
 
 /// Whether words and then a second command give this, one behind the other.
-fn gives<T: Threads + Sync>(
+pub fn gives<T: Threads + Sync>(
     rt: &T,
     alloc: Global,
     files: (&str, &str, &str),
@@ -182,6 +182,12 @@ fn link_writes_the_closure_or_says_why_not(rt: HostRuntime) -> Result<(), Fail> 
             link,
             "cat img /b/p/s/Z.class",
             "0|modules 3\nresources 7\nbytes 1134\n|0|Z|",
+        ),
+        (
+            (THREE, "", BELOW),
+            link,
+            "ls img /packages/p",
+            "0|modules 3\nresources 7\nbytes 1134\n|0|/packages/p/a\n/packages/p/b empty\n|",
         ),
         (
             (ALONE, "", AGAIN),

@@ -101,7 +101,7 @@ fn info(alloc: Global, words: &str) -> Result<Vec<u8>, Fail> {
 
 /// What a file holds: the class of a module where the text begins with `M`, a class with a source
 /// file where it is `C`, else the text.
-fn content(alloc: Global, text: &str) -> Result<Text, Fail> {
+pub fn content(alloc: Global, text: &str) -> Result<Text, Fail> {
     if text == "C" {
         return Ok(Text::copy_of(alloc, &WITH_SOURCE)?);
     }

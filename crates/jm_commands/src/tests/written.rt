@@ -17,7 +17,7 @@ use std::test::Fail;
 use std::thread::Threads;
 
 /// The image of three modules in an order of bytes.
-fn image_in<T: Threads + Sync>(rt: &T, alloc: Global, order: &str) -> Result<Vec<u8>, Fail> {
+pub fn image_in<T: Threads + Sync>(rt: &T, alloc: Global, order: &str) -> Result<Vec<u8>, Fail> {
     let mut shelf = MemShelf::new(alloc);
     put_files(alloc, &mut shelf, THREE, "")?;
     let link = "link --module-path mods --add-modules a --output img --endian ";

@@ -1,7 +1,7 @@
-use Rattle.jm_commands.proofs.RunLaws.{comes_complaint, comes_done, comes_memory, comes_outside}
+use Rattle.std.proofs.Common.{Global, map, string_bytes}
+use Rattle.jm_words.specs.Commands.{command_in}
+use Rattle.jm_commands.proofs.ServedLaws.{run_serves}
 use Rattle.jm_commands.proofs.program.run.Goals as goal
 
-pub returns-in-Err-Complaint : goal.returns-in-Err-Complaint
-returns-in-Err-Complaint g c =
-    let step = c.in-Err-Complaint.ensures in
-    comes_complaint _ _ _ _ _ c.in-Err-Complaint.complaint _ _ _ (rw c.in-Err-Complaint.field-0-is at step) c.report.ensures
+pub returns-clause-session : goal.returns-clause-session
+returns-clause-session g c = run_serves (command_in (map (string_bytes {Z = Global}) c.args.words.now)) _ _ _ _ _ _ c.run_words.ensures

@@ -57,7 +57,7 @@ returns-in_err-count-clause-err g c =
     let told : Told (rest c.args.input.now) (rest c.take.new.input) (λ o n. o ≡ arrives.given ++ n) = subst (λ r. Told (rest c.args.input.now) r (λ o n. o ≡ arrives.given ++ n)) (sym c.in_err-count.ensures.err) arrives.told in
     err_with (λ e. Serves b (Err e) (rest c.args.input.now) (rest c.take.new.input) (content c.args.out.now) (content c.loop-progress.out) c.args.reads.now c.loop-progress.reads) c.from_residual-in_err-count.result c.in_err-count.field-0.0 c.from_residual-in_err-count.ensures.1
     (subst (λ e. Serves b (Err e) (rest c.args.input.now) (rest c.take.new.input) (content c.args.out.now) (content c.loop-progress.out) c.args.reads.now c.loop-progress.reads) (sym c.in_err-count.ensures.fault)
-    (serves_given b (rest c.args.input.now) (rest c.take.new.input) arrives.given c.loop-progress.progress.part.items old now c.args.reads.now c.loop-progress.reads told arrives.passes arrives.goes_on.free))
+    (serves_given b (rest c.args.input.now) (rest c.take.new.input) arrives.given c.loop-progress.progress.part.items old now c.args.reads.now c.loop-progress.reads told arrives.passes arrives.goes_on))
 
 pub returns-then-count-eq0-clause-ok : goal.returns-then-count-eq0-clause-ok
 returns-then-count-eq0-clause-ok g c =

@@ -1,0 +1,78 @@
+-- What `extract` does, from what its call answered.
+use Rattle.std.proofs.Common.{◌≡◌, inl, inr, ℕ, List, [], length, Option, Some, None, Result, Ok, Err, refl, sym, ap, ◌∙◌, subst}
+use Rattle.jm_files.specs.Made.{MadeAll, MadePart}
+use Rattle.jm_files.proofs.MadeLaws.{part_of_all}
+use Rattle.jm_link.specs.ByName.{Named}
+use Rattle.jm_link.specs.declared.refusal.Refusal.{Refusal}
+use Rattle.jm_extract.specs.declared.extracting.ExtractStop.{ExtractStop}
+use Rattle.jm_extract.specs.declared.extracting.ExtractStop.TheVariants as extract_stop
+use Rattle.jm_extract.specs.Extracted.{BreaksOff, Extracts, writes_of}
+use Rattle.jm_outside.specs.Files.{Files}
+use Rattle.jm_outside.specs.Outcome.{Rose}
+use Rattle.jm_commands.specs.declared.complaint.Complaint.TheVariants as complaint
+use Rattle.jm_commands.specs.declared.stop.Stop.{Stop}
+use Rattle.jm_commands.specs.declared.stop.Stop.TheVariants as stop
+use Rattle.jm_commands.specs.ExtractText.{extract_text}
+use Rattle.jm_commands.specs.Outcome.{Outcome, done, extract_outcome, refusing}
+use Rattle.jm_commands.specs.Run.{PutDoes, StepDoes}
+use Rattle.jm_commands.specs.Stops.{stop_of_extract}
+use Rattle.jm_commands.specs.World.{World}
+use Rattle.jm_commands.proofs.Gotten.{front_of_nothing}
+use Rattle.jm_commands.proofs.LinkLaws.{never_done}
+use Rattle.jm_commands.proofs.Made.{stays_part}
+use Rattle.jm_commands.proofs.StepLaws.{complained, put_step}
+
+-- no session is due of an extraction
+pub extract_session : (dir : List ℕ) (due : Result (List Named) Refusal) → (extract_outcome dir due).session ≡ None
+extract_session dir (Ok entries) = refl
+extract_session dir (Err refusal) = refl
+
+-- files that were broken off were made in part
+broken_part : (dir : List ℕ) (due : Result (List Named) Refusal) (old new : Option Files) → BreaksOff due dir old new → MadePart (extract_outcome dir due).writes old new
+broken_part dir (Ok entries) old new part = part
+broken_part dir (Err refusal) old new same = stays_part [] old new same
+
+module _ (dir : List ℕ) (due : Result (List Named) Refusal) (old new : World) (source : new.input.told ≡ old.input.told) where
+  abbrev Does : Result (Unit {0}) Stop → Type 0
+  Does answer = StepDoes (extract_outcome dir due) answer old new
+
+  -- the files were made, and then the text was put
+  pub extract_put : (count : ℕ) (answer : Result (Unit {0}) Stop) → Extracts due dir (Ok count) old.shelf.told new.shelf.told → PutDoes (done (extract_text count)) answer old.out new.out → Does answer
+  extract_put count answer (entries, is, counted, all) put =
+      subst (λ (d : Result (List Named) Refusal). StepDoes (extract_outcome dir d) answer old new) (sym is)
+      (go answer (subst (λ (n : ℕ). PutDoes (done (extract_text n)) answer old.out new.out) counted put))
+    where
+      made : Outcome
+      made = extract_outcome dir (Ok entries)
+
+      part : MadePart made.writes old.shelf.told new.shelf.told
+      part = part_of_all made.writes old.shelf.told new.shelf.told all
+
+      go : (answer : Result (Unit {0}) Stop) → PutDoes (done (extract_text (length entries))) answer old.out new.out → StepDoes made answer old new
+      go (Ok _) put = record { answers = (refl, refl); output = put.output; files = all; source = source; outside = λ failed. cc }
+      go (Err (stop.Complaint given)) put = absurd (never_done given (extract_text (length entries)) put.answers)
+      go (Err stop.Outside) put = record { answers = tt; output = put.output; files = part; source = source; outside = λ failed. inr (inr (put.outside failed)) }
+      go (Err stop.Memory) put = record { answers = tt; output = put.output; files = part; source = source; outside = λ failed. cc }
+
+  -- it stopped before anything was put
+  pub extract_stopped : (given : ExtractStop) → Extracts due dir (Err given) old.shelf.told new.shelf.told → (given ≡ extract_stop.Outside → Rose old.shelf.faults new.shelf.faults) → new.out.told ≡ old.out.told → Does (Err (stop_of_extract given))
+  extract_stopped (extract_stop.Refused refusal) (is, files) rose unput =
+      subst (λ (d : Result (List Named) Refusal). StepDoes (extract_outcome dir d) answer old new) (sym is)
+      (put_step (refusing refusal) old new files source refl answer (complained (refusing refusal) (complaint.Refused refusal) old.out new.out refl unput))
+    where
+      answer : Result (Unit {0}) Stop
+      answer = Err (stop.Complaint (complaint.Refused refusal))
+  extract_stopped extract_stop.Outside broken rose unput = record {
+    answers = tt;
+    output = front_of_nothing (extract_outcome dir due).output old.out new.out unput;
+    files = broken_part dir due old.shelf.told new.shelf.told broken;
+    source = rw (extract_session dir due) source;
+    outside = λ failed. inl (rose refl);
+  }
+  extract_stopped extract_stop.Memory broken rose unput = record {
+    answers = tt;
+    output = front_of_nothing (extract_outcome dir due).output old.out new.out unput;
+    files = broken_part dir due old.shelf.told new.shelf.told broken;
+    source = rw (extract_session dir due) source;
+    outside = λ failed. cc;
+  }

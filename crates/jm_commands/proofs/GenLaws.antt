@@ -1,0 +1,104 @@
+-- What `gen` does, from what its calls answered.
+use Rattle.std.proofs.Common.{◌≡◌, ◌≤◌, ◌⊎◌, inl, inr, ℕ, List, [], ◌++◌, ◌∷◌, Option, option_map, Result, Ok, Err, false, refl, ap, ◌∙◌, subst, append-nil}
+use Rattle.jm_bytes.specs.declared.words.Order.TheVariants.{Little}
+use Rattle.jm_outside.specs.Files.{Files}
+use Rattle.jm_outside.specs.Outcome.{Rose}
+use Rattle.jm_outside.specs.declared.shelf.ShelfError.{ShelfError}
+use Rattle.jm_outside.specs.declared.shelf.ShelfError.TheVariants as shelf_error
+use Rattle.jm_files.specs.Made.{MadeAll, MadePart, Writes, written}
+use Rattle.jm_files.proofs.MadeLaws.{made_append, part_append}
+use Rattle.jm_link.specs.declared.linking.LinkStop.{LinkStop}
+use Rattle.jm_link.specs.declared.linking.Summary.{Summary}
+use Rattle.jm_link.specs.Linked.{Request}
+use Rattle.jm_link.specs.Links.{Links}
+use Rattle.jm_gen.specs.Generated.{module_names}
+use Rattle.jm_plugins.specs.declared.Plugin.TheVariants as plugin
+use Rattle.jm_commands.specs.declared.stop.Stop.{Stop}
+use Rattle.jm_commands.specs.declared.stop.Stop.TheVariants as stop
+use Rattle.jm_commands.specs.Gen.{Gen, gen_request, image_path, made_first, modules_path}
+use Rattle.jm_commands.specs.LinkText.{gen_text}
+use Rattle.jm_commands.specs.Outcome.{Outcome, behind, done, gen_link}
+use Rattle.jm_commands.specs.Run.{Answers, FilesMade, GenComesTo, LinkComesTo, PutDoes, StepComesTo}
+use Rattle.jm_commands.specs.Sinks.{Seen}
+use Rattle.jm_commands.specs.Stops.{stop_of_link, stop_of_shelf}
+use Rattle.jm_commands.specs.World.{World}
+use Rattle.jm_commands.proofs.LinkLaws.{link_put, link_stopped}
+use Rattle.jm_commands.proofs.StepLaws.{rises, source_behind}
+
+-- the answer is that of what is due with files made before
+answers_behind : (made : Writes) (due : Outcome) (answer : Result (Unit {0}) Stop) → Answers due answer → Answers (behind made due) answer
+answers_behind made due (Ok _) is = is
+answers_behind made due (Err (stop.Complaint given)) is = is
+answers_behind made due (Err stop.Outside) is = tt
+answers_behind made due (Err stop.Memory) is = tt
+
+-- files that were made behind others
+files_behind : (made writes : Writes) (answer : Result (Unit {0}) Stop) (old now new : Option Files) → MadeAll made old now → FilesMade answer writes now new → FilesMade answer (made ++ writes) old new
+files_behind made writes (Ok _) old now new first more = made_append made writes old now new first more
+files_behind made writes (Err (stop.Complaint given)) old now new first more = made_append made writes old now new first more
+files_behind made writes (Err stop.Outside) old now new first more = part_append made writes old now new first more
+files_behind made writes (Err stop.Memory) old now new first more = part_append made writes old now new first more
+
+module _ (made : Writes) (shelf : Seen Files) (now new : World) (first : MadeAll made shelf.told now.shelf.told) (up : shelf.faults ≤ now.shelf.faults) where
+  abbrev old : World
+  old = record { shelf = shelf; input = now.input; out = now.out }
+
+  -- a step behind the making of files
+  pub step_after : (Due : Outcome → Type 0) (answer : Result (Unit {0}) Stop) → StepComesTo Due [] answer now new → StepComesTo (λ due. (last : Outcome) × Due last × (due ≡ behind made last)) made answer old new
+  step_after Due answer (inl fails) = inl (record {
+    failed = fails.failed;
+    files = subst (λ (writes : Writes). MadePart writes shelf.told new.shelf.told) (append-nil made) (part_append made [] shelf.told now.shelf.told new.shelf.told first fails.files);
+    source = fails.source;
+    output = fails.output;
+    outside = λ failed. rises shelf now new up (fails.outside failed);
+  })
+  step_after Due answer (inr (due, is, step)) = inr (
+    behind made due,
+    (due, is, refl),
+    record {
+      answers = answers_behind made due answer step.answers;
+      output = step.output;
+      files = files_behind made due.writes answer shelf.told now.shelf.told new.shelf.told first step.files;
+      source = source_behind shelf now new due.session _ _ step.source;
+      outside = λ failed. rises shelf now new up (step.outside failed);
+    },
+  )
+
+-- what a link of so many modules is asked for
+abbrev asked_with : List (List ℕ) → List (List ℕ) → Request
+asked_with directories roots = record { directories = directories; roots = roots; bind = false; plugins = plugin.Strip ∷ []; order = Little }
+
+-- the link of a `gen`, by what its parts are
+pub links_as : (gen : Gen) (directories roots : List (List ℕ)) (output : List ℕ) (answer : Result Summary LinkStop) (old new : Option Files) (faults new_faults : ℕ) → directories ≡ modules_path gen ∷ [] → roots ≡ module_names gen.modules → output ≡ image_path gen → Links (asked_with directories roots) output answer old new faults new_faults → Links (gen_request gen) (image_path gen) answer old new faults new_faults
+links_as gen directories roots output answer old new faults new_faults one two three links =
+    let same : asked_with directories roots ≡ gen_request gen = ap (λ ds. asked_with ds roots) one ∙ ap (asked_with (modules_path gen ∷ [])) two in
+    subst (λ (path : List ℕ). Links (gen_request gen) path answer old new faults new_faults) three
+    (subst (λ (asked : Request). Links asked output answer old new faults new_faults) same links)
+
+module _ (gen : Gen) (shelf : Seen Files) (now new : World) where
+  abbrev before : World
+  before = record { shelf = shelf; input = now.input; out = now.out }
+
+  abbrev Does : Result (Unit {0}) Stop → Type 0
+  Does answer = StepComesTo (GenComesTo shelf.told gen) (made_first gen) answer before new
+
+  -- the link of all that was made
+  linked_after : (answer : Result (Unit {0}) Stop) → MadeAll (made_first gen) shelf.told now.shelf.told → shelf.faults ≤ now.shelf.faults → StepComesTo (LinkComesTo now.shelf.told (gen_link gen)) [] answer now new → Does answer
+  linked_after answer made up step =
+      subst (λ (told : Option Files). StepComesTo (λ due. (last : Outcome) × LinkComesTo told (gen_link gen) last × (due ≡ behind (made_first gen) last)) (made_first gen) answer before new) made
+      (step_after (made_first gen) shelf now new made up (LinkComesTo now.shelf.told (gen_link gen)) answer step)
+
+  -- all was made and linked, and then the text was put
+  pub gen_put : (summary : Summary) (answer : Result (Unit {0}) Stop) → MadeAll (made_first gen) shelf.told now.shelf.told → shelf.faults ≤ now.shelf.faults → new.input.told ≡ now.input.told → Links (gen_request gen) (image_path gen) (Ok summary) now.shelf.told new.shelf.told now.shelf.faults new.shelf.faults → PutDoes (done (gen_text summary)) answer now.out new.out → Does answer
+  gen_put summary answer made up source links put =
+      linked_after answer made up (link_put (gen_link gen) now new source summary answer links put)
+
+  -- all was made, and the link stopped
+  pub gen_stopped : (given : LinkStop) → MadeAll (made_first gen) shelf.told now.shelf.told → shelf.faults ≤ now.shelf.faults → new.input.told ≡ now.input.told → Links (gen_request gen) (image_path gen) (Err given) now.shelf.told new.shelf.told now.shelf.faults new.shelf.faults → new.out.told ≡ now.out.told → Does (Err (stop_of_link given))
+  gen_stopped given made up source links unput =
+      linked_after (Err (stop_of_link given)) made up (link_stopped (gen_link gen) now new source given links unput)
+
+-- the making was broken off
+pub gen_unmade : (gen : Gen) (error : ShelfError) (old new : World) → MadePart (made_first gen) old.shelf.told new.shelf.told → new.input.told ≡ old.input.told → new.out.told ≡ old.out.told → (error ≡ shelf_error.Failed → Rose old.shelf.faults new.shelf.faults) → StepComesTo (GenComesTo old.shelf.told gen) (made_first gen) (Err (stop_of_shelf error)) old new
+gen_unmade gen shelf_error.Failed old new part source unput rose = inl (record { failed = tt; files = part; source = source; output = unput; outside = λ failed. inl (rose refl) })
+gen_unmade gen shelf_error.Memory old new part source unput rose = inl (record { failed = tt; files = part; source = source; output = unput; outside = λ failed. cc })

@@ -1,0 +1,108 @@
+//! The command `extract`.
+ghost use Rattle.std.specs.Prelude.{◌≡◌, ◌<◌, ◌++◌, ℕ, IfOk, IsErrOf, IsUtf8, List, OnOk, Option};
+ghost use Rattle.jm_outside.specs.Outcome.{CountsFaults};
+ghost use Rattle.jm_extract.specs.Extracted.{Extracts, extracted};
+ghost use Rattle.jm_commands.specs.ExtractText.{extract_text};
+ghost use Rattle.jm_commands.specs.Outcome.{done, extract_outcome};
+ghost use Rattle.jm_commands.specs.Run.{PutDoes, StepDoes};
+ghost use Rattle.jm_commands.specs.Sinks.{seen};
+ghost use Rattle.jm_commands.specs.Stops.{stop_of_extract};
+ghost use Rattle.jm_commands.specs.World.{world};
+
+use crate::complaint::Complaint;
+use crate::output::put_output;
+use crate::stop::Stop;
+use itoa::Buffer;
+use jm_bytes::{List, Meter, NoMemory, Text};
+use jm_extract::{ExtractStop, extract};
+use jm_outside::{Shelf, Sink};
+use jm_pattern::Pattern;
+use jm_texts::extend;
+use jm_valid::Image;
+use std::alloc::Global;
+use std::marker::Brand;
+use std::sync::ledger::{Blank, Ledger};
+
+/// The line on how many files were made.
+fn extract_text(alloc: Global, count: usize) -> Result<Text, NoMemory>
+    ensures { IfOk result (λ text. text ≡ extract_text count) }
+{
+    let mut text = Vec::new(alloc);
+    let mut number = Buffer::new();
+    extend(&mut text, b"extracted ")?;
+    extend(&mut text, number.format(count).as_bytes())?;
+    extend(&mut text, b"\n")?;
+    Ok(Text::from_vec(text))
+}
+
+/// How an extraction that stopped ends.
+fn stop_of_extract(stop: ExtractStop) -> Stop
+    ensures { result ≡ stop_of_extract stop }
+{
+    match stop {
+        ExtractStop::Refused(refusal) => Stop::Complaint(Complaint::Refused(refusal)),
+        ExtractStop::Outside => Stop::Outside,
+        ExtractStop::Memory => Stop::Memory,
+    }
+}
+
+/// Puts how many files were made.
+fn put_count<O: Sink>(alloc: Global, count: usize, out: &mut O) -> Result<(), Stop>
+    ensures { PutDoes (done (extract_text count)) result
+        (seen (O.content out.old) (O.faults out.old))
+        (seen (O.content out.new) (O.faults out.new)) }
+{
+    let text = extract_text(alloc, count)?;
+    put_output(alloc, text.as_slice(), out)
+}
+
+/// Does what `extract` of jm_extract does, with a meter of its own.
+fn extract_counted<S: Shelf, R: Ledger>(
+    alloc: Global,
+    image: &Image,
+    bytes: &[u8],
+    include: &Option<List<Pattern>>,
+    dir: &[u8],
+    shelf: &mut S,
+    reads: Blank,
+) -> Result<usize, ExtractStop>
+    requires bytes { image.now ≡ bytes.now }
+    requires text { IsUtf8 dir.now }
+    requires reads_name { reads.name ≡ R.name }
+    requires reads_parts { reads.parts ≡ R.parts }
+    requires reads_some { 0 < reads.parts }
+    ensures extracts { Extracts (extracted bytes.now include.now) dir.now result
+        (S.files shelf.old) (S.files shelf.new) }
+    ensures faults { CountsFaults (S.faults shelf.old) (S.faults shelf.new)
+        (IsErrOf result ExtractStop.Outside) }
+{
+    let mut reads = Meter::<R>::new(bytes, reads);
+    extract(alloc, image, include, dir, shelf, &mut reads)
+}
+
+/// Makes, below the directory, a file of each taken entry of the image that these bytes are, and
+/// then puts how many they are. A refusal changes no file; if the put fails, all files stand.
+pub fn extract_command<S: Shelf, O: Sink>(
+    alloc: Global,
+    image: &Image,
+    bytes: &[u8],
+    include: &Option<List<Pattern>>,
+    dir: &[u8],
+    shelf: &mut S,
+    out: &mut O,
+) -> Result<(), Stop>
+    requires bytes { image.now ≡ bytes.now }
+    requires text { IsUtf8 dir.now }
+    ensures { (rest : Option (List ℕ)) (faults : ℕ) →
+        StepDoes (extract_outcome dir.now (extracted bytes.now include.now)) result
+        (world (S.files shelf.old) (S.faults shelf.old) rest faults
+        (O.content out.old) (O.faults out.old))
+        (world (S.files shelf.new) (S.faults shelf.new) rest faults
+        (O.content out.new) (O.faults out.new)) }
+{
+    let reads = Blank::new(1);
+    match extract_counted::<S, Brand>(alloc, image, bytes, include, dir, shelf, reads) {
+        Ok(count) => put_count(alloc, count, out),
+        Err(stop) => Err(stop_of_extract(stop)),
+    }
+}

@@ -1,0 +1,88 @@
+//! The command `serve`.
+ghost use Rattle.std.specs.Prelude.{◌≡◌, ◌<◌, ℕ, IsErrOf, Option};
+ghost use Rattle.jm_bytes.specs.Metered.{Metered};
+ghost use Rattle.jm_outside.specs.Files.{Files};
+ghost use Rattle.jm_outside.specs.Outcome.{CountsFaults};
+ghost use Rattle.jm_jrt.specs.Sessions.{Serves};
+ghost use Rattle.jm_commands.specs.Outcome.{session_outcome};
+ghost use Rattle.jm_commands.specs.Run.{StepOnText};
+ghost use Rattle.jm_commands.specs.Stops.{stop_of_session};
+ghost use Rattle.jm_commands.specs.World.{world};
+
+use crate::complaint::Complaint;
+use crate::stop::Stop;
+use jm_bytes::{Meter, Steps};
+use jm_jrt::{ServeError, serve};
+use jm_outside::{Sink, Source};
+use jm_valid::Image;
+use std::alloc::Global;
+use std::marker::Brand;
+use std::sync::ledger::{Blank, Ledger};
+
+/// Does what `serve` of jm_jrt does, with counters of its own.
+fn serve_counted<I: Source, O: Sink, H: Ledger, R: Ledger>(
+    alloc: Global,
+    image: &Image,
+    bytes: &[u8],
+    input: &mut I,
+    out: &mut O,
+    hashes: Blank,
+    reads: Blank,
+) -> Result<u64, ServeError>
+    requires bytes { image.now ≡ bytes.now }
+    requires hashes_name { hashes.name ≡ H.name }
+    requires hashes_parts { hashes.parts ≡ H.parts }
+    requires hashes_some { 0 < hashes.parts }
+    requires reads_name { reads.name ≡ R.name }
+    requires reads_parts { reads.parts ≡ R.parts }
+    requires reads_some { 0 < reads.parts }
+    ensures serves { (before : Metered) × (after : Metered) × Serves bytes.now result
+        (I.rest input.old) (I.rest input.new) (O.content out.old) (O.content out.new)
+        before after }
+    ensures input_faults { CountsFaults (I.faults input.old) (I.faults input.new)
+        (IsErrOf result ServeError.ReadFault) }
+    ensures out_faults { CountsFaults (O.faults out.old) (O.faults out.new)
+        (IsErrOf result ServeError.WriteFault) }
+{
+    let mut hashes = Steps::<H>::new(hashes);
+    let mut reads = Meter::<R>::new(bytes, reads);
+    serve(alloc, image, input, out, &mut hashes, &mut reads)
+}
+
+/// How the step of a session ends.
+fn stop_of_session(answered: Result<u64, ServeError>) -> Result<(), Stop>
+    ensures { result ≡ stop_of_session answered }
+{
+    match answered {
+        Ok(_) => Ok(()),
+        Err(ServeError::ReadFault) => Err(Stop::Outside),
+        Err(ServeError::WriteFault) => Err(Stop::Outside),
+        Err(ServeError::LongLine(number)) => Err(Stop::Complaint(Complaint::LongLine(number))),
+        Err(ServeError::TooManyLines) => Err(Stop::Complaint(Complaint::TooManyLines)),
+        Err(ServeError::Memory) => Err(Stop::Memory),
+    }
+}
+
+/// `serve`: puts the replies to the lines of the source, one `put` for each, until the source ends
+/// or the session breaks its limits. The shelf of the run isn't lent to it.
+pub fn serve_command<I: Source, O: Sink>(
+    alloc: Global,
+    image: &Image,
+    bytes: &[u8],
+    input: &mut I,
+    out: &mut O,
+) -> Result<(), Stop>
+    requires { image.now ≡ bytes.now }
+    ensures { (files : Option Files) (faults : ℕ) →
+        StepOnText (session_outcome bytes.now) result
+        (world files faults (I.rest input.old) (I.faults input.old)
+        (O.content out.old) (O.faults out.old))
+        (world files faults (I.rest input.new) (I.faults input.new)
+        (O.content out.new) (O.faults out.new)) }
+{
+    let (hashes, reads) = (Blank::new(1), Blank::new(1));
+    let answered = serve_counted::<I, O, Brand, Brand>(
+        alloc, image, bytes, input, out, hashes, reads,
+    );
+    stop_of_session(answered)
+}

@@ -1,0 +1,52 @@
+-- What an extraction came to, from what its steps did.
+use Rattle.std.proofs.Common.{◌≡◌, ℕ, ◌+◌, ◌<◌, List, [], ◌∷◌, ◌++◌, drop, length, map, take, get_or, Option, Result, Ok, Err, IsErrAnd, refl, sym, ap, subst, ◌∙◌}
+use Rattle.std.proofs.lemmas.List.{map-append, take-append-drop, take_more}
+use Rattle.jm_outside.specs.Files.{Files}
+use Rattle.jm_files.specs.Made.{MadeAll, MadePart, Writes}
+use Rattle.jm_files.proofs.MadeLaws.{made_append, part_append, part_longer, part_of_none}
+use Rattle.jm_link.specs.ByName.{Named}
+use Rattle.jm_link.specs.declared.refusal.Refusal.{Refusal}
+use Rattle.jm_extract.specs.declared.extracting.ExtractStop.{ExtractStop}
+use Rattle.jm_extract.specs.declared.extracting.ExtractStop.TheVariants as stop
+use Rattle.jm_extract.specs.declared.taking.TakenEntry.{TakenEntry}
+use Rattle.jm_extract.specs.Extracted.{BreaksOff, Extracts, write_of, writes_of}
+use Rattle.jm_extract.specs.Taken.{taken_as}
+
+-- One file more
+
+next_write : (dir : List ℕ) (ts : List TakenEntry) (i : ℕ) (t : TakenEntry) → i < length ts → get_or ts i t ≡ t → writes_of dir (map taken_as (take i ts)) ++ write_of dir (taken_as t) ∷ [] ≡ writes_of dir (map taken_as (take (i + 1) ts))
+next_write dir ts i t within is =
+    sym (ap (λ us. writes_of dir (map taken_as us)) (take_more ts i t within)
+    ∙ ap (writes_of dir) (map-append taken_as (take i ts) (get_or ts i t ∷ []))
+    ∙ map-append (write_of dir) (map taken_as (take i ts)) (taken_as (get_or ts i t) ∷ [])
+    ∙ ap (λ (s : TakenEntry). writes_of dir (map taken_as (take i ts)) ++ write_of dir (taken_as s) ∷ []) is)
+
+pub made_next : (dir : List ℕ) (ts : List TakenEntry) (i : ℕ) (t : TakenEntry) (old now new : Option Files) → i < length ts → get_or ts i t ≡ t → MadeAll (writes_of dir (map taken_as (take i ts))) old now → MadeAll (write_of dir (taken_as t) ∷ []) now new → MadeAll (writes_of dir (map taken_as (take (i + 1) ts))) old new
+made_next dir ts i t old now new within is done made =
+    subst (λ (ws : Writes). MadeAll ws old new) (next_write dir ts i t within is)
+    (made_append (writes_of dir (map taken_as (take i ts))) (write_of dir (taken_as t) ∷ []) old now new done made)
+
+pub part_next : (dir : List ℕ) (ts : List TakenEntry) (i : ℕ) (t : TakenEntry) (old now new : Option Files) → i < length ts → get_or ts i t ≡ t → MadeAll (writes_of dir (map taken_as (take i ts))) old now → MadePart (write_of dir (taken_as t) ∷ []) now new → MadePart (writes_of dir (map taken_as ts)) old new
+part_next dir ts i t old now new within is done part =
+    subst (λ (ws : Writes). MadePart ws old new) whole
+    (part_longer (writes_of dir (map taken_as (take (i + 1) ts))) (writes_of dir (map taken_as (drop (i + 1) ts))) old new
+    (subst (λ (ws : Writes). MadePart ws old new) (next_write dir ts i t within is)
+    (part_append (writes_of dir (map taken_as (take i ts))) (write_of dir (taken_as t) ∷ []) old now new done part)))
+  where
+    whole : writes_of dir (map taken_as (take (i + 1) ts)) ++ writes_of dir (map taken_as (drop (i + 1) ts)) ≡ writes_of dir (map taken_as ts)
+    whole =
+        sym (map-append (write_of dir) (map taken_as (take (i + 1) ts)) (map taken_as (drop (i + 1) ts)))
+        ∙ ap (writes_of dir) (sym (map-append taken_as (take (i + 1) ts) (drop (i + 1) ts)))
+        ∙ ap (λ us. writes_of dir (map taken_as us)) (take-append-drop (i + 1) ts)
+
+-- The answer
+
+breaks_off : (due : Result (List Named) Refusal) (dir : List ℕ) (told : Option Files) → BreaksOff due dir told told
+breaks_off (Ok es) dir told = part_of_none (writes_of dir es) told
+breaks_off (Err refusal) dir told = refl
+
+-- no memory, before a file was changed
+pub out_of_memory : (due : Result (List Named) Refusal) (dir : List ℕ) (answer : Result ℕ ExtractStop) (told : Option Files) → IsErrAnd answer (λ is. is ≡ stop.Memory) → Extracts due dir answer told told
+out_of_memory due dir (Ok count) told gives = absurd gives
+out_of_memory due dir (Err is) told gives =
+    subst (λ (s : ExtractStop). Extracts due dir (Err s) told told) (sym gives) (breaks_off due dir told)

@@ -1,0 +1,7 @@
+pub mod ExtractLaws
+pub mod FrontLaws
+pub mod FrontNames
+pub mod PathLaws
+pub mod RefusalLaws
+pub mod TakingLaws
+mod Vectors

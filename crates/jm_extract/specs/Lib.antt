@@ -1,0 +1,4 @@
+pub mod Extracted
+pub mod Fronts
+pub mod Stops
+pub mod Taken

@@ -1,0 +1,38 @@
+-- The entries that `list` and `extract` take (this project's rule). A name and the content that
+-- stands under it are a pair.
+use Rattle.std.specs.Prelude.{ℕ, ◌&&◌, not, Bool, true, List, [], ◌∷◌, map, filter}
+use Rattle.std.specs.Prelude.{Option, Some, None, if◌then◌else◌}
+use Rattle.std.specs.List.{list_any}
+use Rattle.jm_names.specs.Names.{is_node}
+use Rattle.jm_form.specs.Entries.{Entry}
+use Rattle.jm_pattern.specs.ComputedMatching.{matches}
+use Rattle.jm_pattern.specs.declared.signs.Sign.{Sign}
+use Rattle.jm_reader.specs.Walk.{entries_of}
+use Rattle.jm_link.specs.ByName.{Named, by_name}
+use Rattle.jm_extract.specs.declared.taking.TakenEntry.{TakenEntry}
+
+abbrev pub named : Entry → Named
+named e = (e.name, e.content)
+
+abbrev pub taken_as : TakenEntry → Named
+taken_as t = (t.name, t.bytes.now)
+
+-- one of the patterns matches, or none are given
+abbrev pub is_included : Option (List (List Sign)) → List ℕ → Bool
+is_included None name = true
+is_included (Some patterns) name = list_any (λ signs. matches signs name) patterns
+
+-- no node's name, and included
+abbrev pub is_taken : Option (List (List Sign)) → List ℕ → Bool
+is_taken include name = not (is_node name) && is_included include name
+
+abbrev pub taken_among : Option (List (List Sign)) → List Entry → List Named
+taken_among include entries = filter (λ e. is_taken include e.0) (map named entries)
+
+-- one pair, if it is taken
+abbrev pub taken_alone : Option (List (List Sign)) → Named → List Named
+taken_alone include e = if is_taken include e.0 then e ∷ [] else []
+
+-- what `list` and `extract` take of an image
+abbrev pub taken : List ℕ → Option (List (List Sign)) → List Named
+taken b include = by_name (taken_among include (entries_of b))

@@ -1,0 +1,168 @@
+//! The taken entries as files below a directory.
+ghost use Rattle.std.specs.Prelude.{◌≡◌, ◌∷◌, ◌++◌, [], All, IsUtf8, IfOk, OnOk, OnErr, IsErrOf};
+ghost use Rattle.std.specs.Prelude.{map};
+ghost use Rattle.jm_names.specs.NameFaults.{IsSound};
+ghost use Rattle.jm_names.specs.UtfForms.{utf};
+ghost use Rattle.jm_outside.specs.Outcome.{CountsFaults};
+ghost use Rattle.jm_files.specs.Made.{MadeAll, MadePart};
+ghost use Rattle.jm_reader.specs.Walk.{IsLater};
+ghost use Rattle.jm_link.specs.ByName.{RisesByName};
+ghost use Rattle.jm_extract.specs.Extracted.{Extracts, extracted, unless_refused, write_of};
+ghost use Rattle.jm_extract.specs.Extracted.{writes_of};
+ghost use Rattle.jm_extract.specs.Stops.{stop_of};
+ghost use Rattle.jm_extract.specs.Taken.{taken_as};
+
+use crate::refusals::refusal_of;
+use crate::taking::{TakenEntry, taken};
+use jm_bytes::{List, Meter, NoMemory, Text};
+use jm_files::make_file;
+use jm_link::Refusal;
+use jm_names::to_utf8;
+use jm_outside::{Shelf, ShelfError};
+use jm_pattern::Pattern;
+use jm_valid::Image;
+use std::alloc::Global;
+use std::sync::ledger::Ledger;
+
+/// Why an extraction stopped.
+#[derive(Debug, Drop)]
+pub enum ExtractStop {
+    /// The taken entries are refused.
+    Refused(Refusal),
+    /// A call of the shelf failed.
+    Outside,
+    /// No memory was found.
+    Memory,
+}
+
+impl From<NoMemory> for ExtractStop {
+    ghost use Rattle.jm_extract.specs.declared.extracting.ExtractStop.TheVariants as stop;
+
+    ghost from_gives = { λ _ is. is ≡ stop.Memory };
+
+    fn from(_: NoMemory) -> ExtractStop {
+        ExtractStop::Memory
+    }
+}
+
+impl From<ShelfError> for ExtractStop {
+    ghost from_gives = { λ error is. is ≡ stop_of error };
+
+    fn from(error: ShelfError) -> ExtractStop {
+        match error {
+            ShelfError::Failed => ExtractStop::Outside,
+            ShelfError::Memory => ExtractStop::Memory,
+        }
+    }
+}
+
+/// Puts bytes at the end of a path.
+fn extend(path: &mut Vec<u8>, bytes: &[u8]) -> Result<(), NoMemory>
+    ensures { OnOk result (path.new.items ≡ path.old.items ++ bytes.now) }
+{
+    match path.extend_from_slice(bytes) {
+        Ok(()) => Ok(()),
+        Err(_) => Err(NoMemory),
+    }
+}
+
+/// The path of an entry's file: the directory, and the name in UTF-8, which begins with a slash.
+fn path_of(alloc: Global, dir: &[u8], name: &[u8]) -> Result<Text, NoMemory>
+    ensures { IfOk result (λ path. path ≡ dir.now ++ utf name.now) }
+{
+    let name = to_utf8(alloc, name)?;
+    let mut path = Vec::new(alloc);
+    extend(&mut path, dir)?;
+    extend(&mut path, name.as_slice())?;
+    Ok(Text::from_vec(path))
+}
+
+/// Makes the file of an entry.
+fn make_entry<S: Shelf>(
+    alloc: Global,
+    shelf: &mut S,
+    dir: &[u8],
+    entry: &TakenEntry,
+) -> Result<(), ShelfError>
+    requires text { IsUtf8 dir.now }
+    requires sound { IsSound entry.now.name }
+    ensures ok { OnOk result (MadeAll (write_of dir.now (taken_as entry.now) ∷ [])
+        (S.files shelf.old) (S.files shelf.new)) }
+    ensures err { OnErr result (MadePart (write_of dir.now (taken_as entry.now) ∷ [])
+        (S.files shelf.old) (S.files shelf.new)) }
+    ensures faults { CountsFaults (S.faults shelf.old) (S.faults shelf.new)
+        (IsErrOf result ShelfError.Failed) }
+{
+    let path = path_of(alloc, dir, entry.name.as_slice())?;
+    make_file(alloc, shelf, path.as_slice(), entry.bytes)
+}
+
+/// Makes the files of some entries in their order.
+fn make_entries<S: Shelf>(
+    alloc: Global,
+    shelf: &mut S,
+    dir: &[u8],
+    entries: &[TakenEntry],
+) -> Result<(), ShelfError>
+    requires text { IsUtf8 dir.now }
+    requires sound { All (λ e. IsSound e.name) entries.now }
+    ensures ok { OnOk result (MadeAll (writes_of dir.now (map taken_as entries.now))
+        (S.files shelf.old) (S.files shelf.new)) }
+    ensures err { OnErr result (MadePart (writes_of dir.now (map taken_as entries.now))
+        (S.files shelf.old) (S.files shelf.new)) }
+    ensures faults { CountsFaults (S.faults shelf.old) (S.faults shelf.new)
+        (IsErrOf result ShelfError.Failed) }
+{
+    for entry in entries {
+        make_entry(alloc, shelf, dir, entry)?;
+    }
+    Ok(())
+}
+
+/// Makes the files of some entries, which rise by name, unless they are refused.
+fn extract_entries<S: Shelf>(
+    alloc: Global,
+    shelf: &mut S,
+    dir: &[u8],
+    entries: &[TakenEntry],
+) -> Result<usize, ExtractStop>
+    requires text { IsUtf8 dir.now }
+    requires rises { RisesByName (map taken_as entries.now) }
+    ensures extracts { Extracts (unless_refused (map taken_as entries.now)) dir.now result
+        (S.files shelf.old) (S.files shelf.new) }
+    ensures faults { CountsFaults (S.faults shelf.old) (S.faults shelf.new)
+        (IsErrOf result ExtractStop.Outside) }
+{
+    if let Some(refusal) = refusal_of(alloc, entries)? {
+        return Err(ExtractStop::Refused(refusal));
+    }
+    make_entries(alloc, shelf, dir, entries)?;
+    Ok(entries.len())
+}
+
+/// Makes, below the directory, a file of each entry that is taken, by rising name, and gives how
+/// many they are. Its path is the directory and the name in UTF-8.
+///
+/// It refuses a name that may not stand in an image, so none leads out of the directory, and then
+/// a name that is another one's folder, before the first file is made. After a failure of the shelf
+/// or want of memory some of the files stand, the last one whole or a front of it; other files are
+/// as before.
+pub fn extract<S: Shelf, R: Ledger>(
+    alloc: Global,
+    image: &Image,
+    include: &Option<List<Pattern>>,
+    dir: &[u8],
+    shelf: &mut S,
+    reads: &mut Meter<R>,
+) -> Result<usize, ExtractStop>
+    requires metered { reads.old.bytes ≡ image.now }
+    requires text { IsUtf8 dir.now }
+    ensures extracts { Extracts (extracted image.now include.now) dir.now result
+        (S.files shelf.old) (S.files shelf.new) }
+    ensures faults { CountsFaults (S.faults shelf.old) (S.faults shelf.new)
+        (IsErrOf result ExtractStop.Outside) }
+    ensures reads { IsLater reads.old reads.new }
+{
+    let entries = taken(alloc, image, include, reads)?;
+    extract_entries(alloc, shelf, dir, entries.as_slice())
+}

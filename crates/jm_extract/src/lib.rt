@@ -1,0 +1,11 @@
+//! The entries of an image that are taken, and the files that are made of them.
+#![tactic(auto)]
+
+mod extracting;
+mod refusals;
+mod taken_name;
+mod taking;
+
+pub use extracting::{ExtractStop, extract};
+pub use taken_name::TakenName;
+pub use taking::{TakenEntry, taken};

@@ -1,0 +1,2 @@
+pub mod DescribeText
+pub mod InfoText

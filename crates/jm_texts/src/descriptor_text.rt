@@ -1,0 +1,217 @@
+//! The text of a module's descriptor.
+ghost use Rattle.std.specs.Prelude.{◌≡◌, ◌++◌, ◌∷◌, [], codes, OnOk, IfOk};
+ghost use Rattle.std.specs.List.{flat_map};
+ghost use Rattle.jm_names.specs.UtfForms.{utf};
+ghost use Rattle.jm_texts.specs.DescribeText.{behind_comma, describe_text, is_marked, listed};
+ghost use Rattle.jm_texts.specs.DescribeText.{listed_behind, main_line, module_line, need_line};
+ghost use Rattle.jm_texts.specs.DescribeText.{opened_line, provides_line, uses_line, word_if};
+
+use crate::extending::extend;
+use jm_bytes::{NoMemory, Text};
+use jm_modinfo::{Descriptor, Need, Opened, Provides};
+use jm_names::to_utf8;
+use std::alloc::Global;
+
+/// Puts a stored text at the end, in UTF-8.
+fn extend_utf(alloc: Global, text: &mut Vec<u8>, stored: &[u8]) -> Result<(), NoMemory>
+    ensures { OnOk result (text.new.items ≡ text.old.items ++ utf stored.now) }
+{
+    let bytes = to_utf8(alloc, stored)?;
+    extend(text, bytes.as_slice())
+}
+
+/// Puts a word at the end, if it is due.
+fn extend_if(text: &mut Vec<u8>, due: bool, word: &[u8]) -> Result<(), NoMemory>
+    ensures { OnOk result (text.new.items ≡ text.old.items ++ word_if due word.now) }
+{
+    if due { extend(text, word) } else { Ok(()) }
+}
+
+/// The flag 0x0020 is set.
+fn is_marked(flags: u16) -> bool
+    ensures { result ≡ is_marked flags }
+{
+    flags & 0x0020 != 0
+}
+
+/// Puts texts at the end, with commas between them.
+fn extend_listed(alloc: Global, text: &mut Vec<u8>, texts: &[Text]) -> Result<(), NoMemory>
+    ensures { OnOk result (text.new.items ≡ text.old.items ++ listed texts.now) }
+{
+    match texts.split_first() {
+        Some((first, others)) => {
+            extend_utf(alloc, text, first.as_slice())?;
+            extend_others(alloc, text, others)
+        }
+        None => Ok(()),
+    }
+}
+
+/// Puts each text at the end behind a comma.
+fn extend_others(alloc: Global, text: &mut Vec<u8>, others: &[Text]) -> Result<(), NoMemory>
+    ensures { OnOk result (text.new.items ≡ text.old.items ++ flat_map behind_comma others.now) }
+{
+    for other in others {
+        extend_other(alloc, text, other)?;
+    }
+    Ok(())
+}
+
+/// Puts a text at the end behind a comma.
+fn extend_other(alloc: Global, text: &mut Vec<u8>, other: &Text) -> Result<(), NoMemory>
+    ensures { OnOk result (text.new.items ≡ text.old.items ++ behind_comma other.now) }
+{
+    extend(text, b",")?;
+    extend_utf(alloc, text, other.as_slice())
+}
+
+/// Puts a word and texts at the end, if there is a text.
+fn extend_listed_behind(
+    alloc: Global,
+    text: &mut Vec<u8>,
+    word: &[u8],
+    texts: &[Text],
+) -> Result<(), NoMemory>
+    ensures { OnOk result
+        (text.new.items ≡ text.old.items ++ listed_behind word.now texts.now) }
+{
+    if texts.is_empty() {
+        return Ok(());
+    }
+    extend(text, word)?;
+    extend_listed(alloc, text, texts)
+}
+
+/// Puts the line on the module at the end: its name, and its version if it has one.
+fn extend_module(alloc: Global, text: &mut Vec<u8>, d: &Descriptor) -> Result<(), NoMemory>
+    ensures { OnOk result (text.new.items ≡ text.old.items ++ module_line d.now) }
+{
+    extend_if(text, is_marked(d.flags), b"open ")?;
+    extend(text, b"module ")?;
+    extend_utf(alloc, text, d.name.as_slice())?;
+    if let Some(version) = &d.version {
+        extend(text, b"@")?;
+        extend_utf(alloc, text, version.as_slice())?;
+    }
+    extend(text, b"\n")
+}
+
+/// Puts the line on a module that is required at the end.
+fn extend_need(alloc: Global, text: &mut Vec<u8>, need: &Need) -> Result<(), NoMemory>
+    ensures { OnOk result (text.new.items ≡ text.old.items ++ need_line need.now) }
+{
+    extend(text, b"requires ")?;
+    extend_if(text, is_marked(need.flags), b"transitive ")?;
+    extend_if(text, need.is_static(), b"static ")?;
+    extend_utf(alloc, text, need.name.as_slice())?;
+    extend(text, b"\n")
+}
+
+/// Puts the lines on the modules that are required at the end.
+fn extend_needs(alloc: Global, text: &mut Vec<u8>, needs: &[Need]) -> Result<(), NoMemory>
+    ensures { OnOk result (text.new.items ≡ text.old.items ++ flat_map need_line needs.now) }
+{
+    for need in needs {
+        extend_need(alloc, text, need)?;
+    }
+    Ok(())
+}
+
+/// Puts the line on a package at the end that is exported or opened, as the word says.
+fn extend_opened(
+    alloc: Global,
+    text: &mut Vec<u8>,
+    word: &[u8],
+    opened: &Opened,
+) -> Result<(), NoMemory>
+    ensures { OnOk result (text.new.items ≡ text.old.items ++ opened_line word.now opened.now) }
+{
+    extend(text, word)?;
+    extend_utf(alloc, text, opened.package.as_slice())?;
+    extend_listed_behind(alloc, text, b" to ", opened.to.as_slice())?;
+    extend(text, b"\n")
+}
+
+/// Puts the lines on such packages at the end.
+fn extend_packages(
+    alloc: Global,
+    text: &mut Vec<u8>,
+    word: &[u8],
+    packages: &[Opened],
+) -> Result<(), NoMemory>
+    ensures { OnOk result
+        (text.new.items ≡ text.old.items ++ flat_map (opened_line word.now) packages.now) }
+{
+    for opened in packages {
+        extend_opened(alloc, text, word, opened)?;
+    }
+    Ok(())
+}
+
+/// Puts the line on a service at the end that is used.
+fn extend_use(alloc: Global, text: &mut Vec<u8>, service: &Text) -> Result<(), NoMemory>
+    ensures { OnOk result (text.new.items ≡ text.old.items ++ uses_line service.now) }
+{
+    extend(text, b"uses ")?;
+    extend_utf(alloc, text, service.as_slice())?;
+    extend(text, b"\n")
+}
+
+/// Puts the lines on the services at the end that are used.
+fn extend_uses(alloc: Global, text: &mut Vec<u8>, services: &[Text]) -> Result<(), NoMemory>
+    ensures { OnOk result (text.new.items ≡ text.old.items ++ flat_map uses_line services.now) }
+{
+    for service in services {
+        extend_use(alloc, text, service)?;
+    }
+    Ok(())
+}
+
+/// Puts the line on a service at the end that is provided.
+fn extend_provided(alloc: Global, text: &mut Vec<u8>, provides: &Provides) -> Result<(), NoMemory>
+    ensures { OnOk result (text.new.items ≡ text.old.items ++ provides_line provides.now) }
+{
+    extend(text, b"provides ")?;
+    extend_utf(alloc, text, provides.service.as_slice())?;
+    extend(text, b" with")?;
+    extend_listed_behind(alloc, text, b" ", provides.classes.as_slice())?;
+    extend(text, b"\n")
+}
+
+/// Puts the lines on the services at the end that are provided.
+fn extend_provides(alloc: Global, text: &mut Vec<u8>, provides: &[Provides]) -> Result<(), NoMemory>
+    ensures { OnOk result
+        (text.new.items ≡ text.old.items ++ flat_map provides_line provides.now) }
+{
+    for one in provides {
+        extend_provided(alloc, text, one)?;
+    }
+    Ok(())
+}
+
+/// Puts the line on the main class at the end, if there is one.
+fn extend_main(alloc: Global, text: &mut Vec<u8>, main: &Option<Text>) -> Result<(), NoMemory>
+    ensures { OnOk result (text.new.items ≡ text.old.items ++ main_line main.now) }
+{
+    let Some(class) = main else {
+        return Ok(());
+    };
+    extend(text, b"main ")?;
+    extend_utf(alloc, text, class.as_slice())?;
+    extend(text, b"\n")
+}
+
+/// The text of `describe`: a line for each thing that the descriptor says.
+pub fn describe_text(alloc: Global, d: &Descriptor) -> Result<Vec<u8>, NoMemory>
+    ensures { IfOk result (λ text. text.items ≡ describe_text d.now) }
+{
+    let mut text = Vec::new(alloc);
+    extend_module(alloc, &mut text, d)?;
+    extend_needs(alloc, &mut text, d.needs.as_slice())?;
+    extend_packages(alloc, &mut text, b"exports ", d.exports.as_slice())?;
+    extend_packages(alloc, &mut text, b"opens ", d.opens.as_slice())?;
+    extend_uses(alloc, &mut text, d.uses.as_slice())?;
+    extend_provides(alloc, &mut text, d.provides.as_slice())?;
+    extend_main(alloc, &mut text, &d.main)?;
+    Ok(text)
+}
