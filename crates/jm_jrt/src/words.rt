@@ -130,9 +130,9 @@ pub fn owners_fault<R: Ledger>(
         (told.is_pair_sound buf.now header.now content.now) (2 * told.pair_count content.now) }
     ensures reads { IsLater reads.old reads.new }
 {
-    for k in 0..2 * pair_count(content) {
-        if !is_pair_sound(buf, header, content, k, reads) {
-            return Some(JrtError::BadNode(4 * k));
+    for half in 0..2 * pair_count(content) {
+        if !is_pair_sound(buf, header, content, half, reads) {
+            return Some(JrtError::BadNode(4 * half));
         }
     }
     None
