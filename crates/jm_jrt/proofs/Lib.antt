@@ -4,6 +4,7 @@ pub mod PairLaws
 pub mod LinkLaws
 mod SessionVectors
 mod StatVectors
+pub mod PlainNames
 pub mod Vectors
 pub mod FreeLaws
 pub mod LineLaws

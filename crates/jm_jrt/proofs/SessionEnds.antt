@@ -3,7 +3,6 @@ use Rattle.std.proofs.Common.{◌≡◌, ◌<◌, ◌≤◌, ◌+◌, ◌-◌, �
 use Rattle.std.proofs.Math.Seq.{take-append-add, take-append_seam}
 use Rattle.std.proofs.lemmas.List.{append_assoc, length-append, take-append-le, take_all}
 use Rattle.std.proofs.lemmas.List.Elements.{All-push}
-use Rattle.jm_bytes.proofs.Choice.{same_some}
 use Rattle.jm_bytes.specs.Metered.{Metered}
 use Rattle.jm_outside.specs.Outcome.{PutsFront, Shows, Told}
 use Rattle.jm_jrt.specs.declared.serve_error.ServeError.{ServeError}

@@ -1,5 +1,5 @@
 -- Small images whose nodes are right, and one whose node isn't, byte for byte.
-use Rattle.std.specs.Prelude.{ℕ, List, [], ◌∷◌, ◌++◌, codes}
+use Rattle.std.specs.Prelude.{ℕ, ◌+◌, List, [], ◌∷◌, ◌++◌, codes, take, drop}
 use Rattle.jm_form.proofs.Vectors.{first_strings, little, little_front, to_slot_0}
 
 -- `/packages` with two bytes, which are no word; 61 bytes
@@ -25,3 +25,26 @@ one =
     103 ∷ 101 ∷ 115 ∷ 0 ∷ 109 ∷ 111 ∷ 100 ∷ 117 ∷ 108 ∷ 101 ∷ 115 ∷ 0 ∷ 97 ∷ 47 ∷ 112 ∷ 0 ∷
     47 ∷ 109 ∷ 111 ∷ 100 ∷ 117 ∷ 108 ∷ 101 ∷ 115 ∷ 0 ∷ 104 ∷ 105 ∷ 0 ∷ 0 ∷ 0 ∷ 0 ∷ 7 ∷ 0 ∷ 0 ∷
     0 ∷ 35 ∷ 0 ∷ 0 ∷ 0 ∷ 1 ∷ 0 ∷ 0 ∷ 0 ∷ 17 ∷ 0 ∷ 0 ∷ 0 ∷ 26 ∷ 0 ∷ 0 ∷ 0 ∷ []
+
+-- `/packages/`, the package without a name, which the module m has; 68 bytes
+abbrev pub nameless : List ℕ
+nameless =
+    little_front ++ little 1 ++ little 1 ++ little 6 ++ little 18
+    ++ to_slot_0 ++ little 1
+    ++ (0 ∷ 8 ∷ 7 ∷ 56 ∷ 8 ∷ 0 ∷ [])
+    ++ first_strings ++ codes "packages" ++ (0 ∷ 109 ∷ 0 ∷ [])
+    ++ little 0 ++ little 16
+
+-- an image with another byte at a place
+abbrev pub with_byte : ℕ → ℕ → List ℕ → List ℕ
+with_byte place byte image = take place image ++ byte ∷ drop (place + 1) image
+
+-- `one` with 16 bytes as the content of `/packages/p`, from place 182 on: a module called `class`
+-- has the package too, and it is empty there
+abbrev pub two_owners : List ℕ
+two_owners = with_byte 118 16 (with_byte 190 1 one)
+
+-- `one` with 8 bytes as the content of `/modules/a`, from place 198 on: the folder itself is its
+-- second child
+abbrev pub two_children : List ℕ
+two_children = with_byte 109 8 one

@@ -68,14 +68,14 @@ entry_line name = named (if is_node name then [] else codes "/modules") name
 abbrev pub empty_mark : Bool → List ℕ
 empty_mark empty = if empty then codes " empty" else []
 
--- the line of an owner in the package at a path
+-- the line of an owner in the package at a path in UTF-8
 abbrev pub owner_line : List ℕ → Owner → List ℕ
-owner_line path owner = line (utf path ++ 47 ∷ utf owner.module ++ empty_mark owner.empty)
+owner_line path owner = line (path ++ 47 ∷ utf owner.module ++ empty_mark owner.empty)
 
 -- the lines of what a folder at a path holds
 abbrev pub held_lines : List ℕ → Holds → List ℕ
 held_lines path (Children names) = flat_map entry_line names
-held_lines path (Owners owners) = flat_map (owner_line path) owners
+held_lines path (Owners owners) = flat_map (owner_line (utf path)) owners
 
 abbrev pub ls_reply : List ℕ → Result Holds JrtError → List ℕ
 ls_reply path (Err error) = error_reply error

@@ -1,8 +1,6 @@
 -- What is handed out, as plain data.
 use Rattle.std.specs.Prelude.{ℕ, ◌≡◌, ◌∷◌, length}
 use Rattle.std.specs.Prelude.{Result, Ok, Err}
-use Rattle.jm_names.specs.Names.{join}
-use Rattle.jm_names.specs.Pieces.{cut_of}
 use Rattle.jm_form.specs.declared.trees.Holds.{Holds}
 use Rattle.jm_form.specs.declared.trees.Holds.TheVariants.{Children, Owners}
 use Rattle.jm_form.specs.declared.trees.Owner.{Owner}
@@ -17,7 +15,7 @@ owner_as owned = record { empty = owned.empty; «module» = owned.module.now }
 
 -- the child that is handed out is the first of some children, and the rest follows it
 abbrev pub IsFirst : Holds → Child → Holds → Type 0
-IsFirst (Children names) (child.Entry pieces) (Children rest) = names ≡ join (cut_of pieces) ∷ rest
+IsFirst (Children names) (child.Entry name) (Children rest) = names ≡ name ∷ rest
 IsFirst (Owners owners) (child.Owner empty «module») (Owners rest) =
     owners ≡ (record { empty = empty; «module» = «module».now }) ∷ rest
 IsFirst all other rest = ⊥

@@ -9,19 +9,20 @@ ghost use Rattle.jm_jrt.specs.Told as told;
 ghost use Rattle.jm_jrt.specs.Views.{count_of, IsFirst};
 
 use crate::owners::owner_at;
-use crate::rows::pieces;
+use crate::rows::name_at;
 use crate::words::{pair_count, word, word_count};
 use jm_bytes::{Buf, Meter};
 use jm_form::Header;
 use jm_names::Pieces;
+use jm_reader::NameView;
 use std::marker::Model;
 use std::sync::ledger::Ledger;
 
 /// A child of a folder.
-#[derive(Clone, Copy, Debug)]
+#[derive(Debug, Drop)]
 pub enum Child<'a> {
-    /// An entry, by the pieces of its name.
-    Entry(Pieces<'a>),
+    /// An entry, by its name.
+    Entry(NameView<'a>),
     /// A module that has the package, and whether the package is empty there.
     Owner { empty: bool, module: &'a [u8] },
 }
@@ -109,15 +110,13 @@ fn root_child<'a>(modules: bool, packages: bool) -> Option<(Child<'a>, bool)>
         (false, true) => (b"/packages", false),
         (false, false) => return None,
     };
-    Some((
-        Child::Entry(Pieces {
-            module: &[],
-            parent: &[],
-            base,
-            ext: &[],
-        }),
-        rest,
-    ))
+    let name = NameView::of(&Pieces {
+        module: &[],
+        parent: &[],
+        base,
+        ext: &[],
+    });
+    Some((Child::Entry(name), rest))
 }
 
 /// The child that word `next` of a content tells, and the number of the word behind it; None
@@ -142,8 +141,8 @@ fn word_child<'a, R: Ledger>(
     if next >= word_count(content) {
         return None;
     }
-    let pieces = pieces(buf, header, word(header, content, next), reads)?;
-    Some((Child::Entry(pieces), next + 1))
+    let name = name_at(buf, header, word(header, content, next), reads)?;
+    Some((Child::Entry(name), next + 1))
 }
 
 /// The child that pair `next` of a content tells, and the number of the pair behind it; None

@@ -1,8 +1,7 @@
 //! The texts of replies.
-ghost use Rattle.std.specs.Prelude.{◌≡◌, ◌++◌, codes, length, IfOk, IfSome, OnOk, map, option_map};
-ghost use Rattle.std.specs.Fmt.{decimal};
-ghost use Rattle.jm_names.specs.Names.{join, module_front, parent_front, ext_end};
-ghost use Rattle.jm_names.specs.Pieces.{cut_of};
+ghost use Rattle.std.specs.Prelude.{◌≡◌, ◌==◌, ◌++◌, codes, length, IfOk, OnOk};
+ghost use Rattle.std.specs.List.{list_any};
+ghost use Rattle.jm_names.specs.UtfForms.{utf};
 ghost use Rattle.jm_reader.specs.Walk.{IsLater};
 ghost use Rattle.jm_jrt.specs.Nodes.{item_as};
 ghost use Rattle.jm_jrt.specs.Reply as reply;
@@ -13,7 +12,9 @@ use crate::jrt_error::JrtError;
 use crate::node::Node;
 use itoa::Buffer;
 use jm_bytes::{Meter, NoMemory};
-use jm_names::{Pieces, is_node, to_utf8};
+use jm_names::to_utf8;
+use jm_reader::NameView;
+use memchr::memchr;
 use std::alloc::Global;
 use std::sync::ledger::Ledger;
 
@@ -49,13 +50,31 @@ pub fn numbered(alloc: Global, word: &[u8], number: usize) -> Result<Vec<u8>, No
     Ok(text)
 }
 
+/// A byte of the name is one with which a surrogate begins.
+fn has_surrogate(name: &[u8]) -> bool
+    ensures { result ≡ list_any (λ byte. byte == 0xED) name.now }
+{
+    memchr(0xED, name).is_some()
+}
+
+/// Puts a name in UTF-8 at the end. One without surrogates is the same in UTF-8, and takes no
+/// memory but that of the text.
+fn extend_utf8(alloc: Global, text: &mut Vec<u8>, name: &[u8]) -> Result<(), NoMemory>
+    ensures { OnOk result (text.new.items ≡ text.old.items ++ utf name.now) }
+{
+    if !has_surrogate(name) {
+        return extend(text, name);
+    }
+    let name = to_utf8(alloc, name)?;
+    extend(text, name.as_slice())
+}
+
 /// Puts a word with its space, or a path, and a name in UTF-8, and a newline at the end.
 fn extend_named(alloc: Global, text: &mut Vec<u8>, word: &[u8], name: &[u8]) -> Result<(), NoMemory>
     ensures { OnOk result (text.new.items ≡ text.old.items ++ reply.named word.now name.now) }
 {
-    let name = to_utf8(alloc, name)?;
     extend(text, word)?;
-    extend(text, name.as_slice())?;
+    extend_utf8(alloc, text, name)?;
     extend(text, b"\n")
 }
 
@@ -102,67 +121,16 @@ pub fn node_reply(alloc: Global, node: &Node) -> Result<Vec<u8>, NoMemory>
     }
 }
 
-/// Puts a module with its slashes at the end, or nothing.
-fn extend_module(text: &mut Vec<u8>, module: &[u8]) -> Result<(), NoMemory>
-    ensures { OnOk result (text.new.items ≡ text.old.items ++ module_front «module».now) }
-{
-    if module.is_empty() {
-        return Ok(());
-    }
-    extend(text, b"/")?;
-    extend(text, module)?;
-    extend(text, b"/")
-}
-
-/// Puts a parent with its slash at the end, or nothing.
-fn extend_parent(text: &mut Vec<u8>, parent: &[u8]) -> Result<(), NoMemory>
-    ensures { OnOk result (text.new.items ≡ text.old.items ++ parent_front parent.now) }
-{
-    if parent.is_empty() {
-        return Ok(());
-    }
-    extend(text, parent)?;
-    extend(text, b"/")
-}
-
-/// Puts an extension with its dot at the end, or nothing.
-fn extend_ext(text: &mut Vec<u8>, ext: &[u8]) -> Result<(), NoMemory>
-    ensures { OnOk result (text.new.items ≡ text.old.items ++ ext_end ext.now) }
-{
-    if ext.is_empty() {
-        return Ok(());
-    }
-    extend(text, b".")?;
-    extend(text, ext)
-}
-
-/// The name that the pieces make.
-fn name_of(alloc: Global, pieces: &Pieces) -> Result<Vec<u8>, NoMemory>
-    ensures { IfOk result (λ text. text.items ≡ join (cut_of pieces.now)) }
-{
-    let mut text = Vec::new(alloc);
-    extend_module(&mut text, pieces.module)?;
-    extend_parent(&mut text, pieces.parent)?;
-    extend(&mut text, pieces.base)?;
-    extend_ext(&mut text, pieces.ext)?;
-    Ok(text)
-}
-
 /// Puts the line of an entry at the end.
-fn extend_entry(alloc: Global, text: &mut Vec<u8>, pieces: &Pieces) -> Result<(), NoMemory>
-    ensures { OnOk result (text.new.items
-        ≡ text.old.items ++ reply.entry_line (join (cut_of pieces.now))) }
+fn extend_entry(alloc: Global, text: &mut Vec<u8>, name: &NameView) -> Result<(), NoMemory>
+    ensures { OnOk result (text.new.items ≡ text.old.items ++ reply.entry_line name.now) }
 {
-    let name = name_of(alloc, pieces)?;
-    let name = name.as_slice();
-    if is_node(name) {
-        extend_named(alloc, text, b"", name)
-    } else {
-        extend_named(alloc, text, b"/modules", name)
-    }
+    let word: &[u8] = if name.is_node() { b"" } else { b"/modules" };
+    let name = name.to_text(alloc)?;
+    extend_named(alloc, text, word, name.as_slice())
 }
 
-/// Puts the line of an owner in the package at a path at the end.
+/// Puts the line of an owner in the package at a path, which is given in UTF-8, at the end.
 fn extend_owner(
     alloc: Global,
     text: &mut Vec<u8>,
@@ -173,18 +141,16 @@ fn extend_owner(
     ensures { OnOk result (text.new.items ≡ text.old.items
         ++ reply.owner_line path.now (record { empty = empty; «module» = «module».now })) }
 {
-    let path = to_utf8(alloc, path)?;
-    let module = to_utf8(alloc, module)?;
-    extend(text, path.as_slice())?;
+    extend(text, path)?;
     extend(text, b"/")?;
-    extend(text, module.as_slice())?;
+    extend_utf8(alloc, text, module)?;
     if empty {
         extend(text, b" empty")?;
     }
     extend(text, b"\n")
 }
 
-/// Puts the line of a child of the folder at a path at the end.
+/// Puts the line of a child of the folder at a path, which is given in UTF-8, at the end.
 fn extend_child(
     alloc: Global,
     text: &mut Vec<u8>,
@@ -194,7 +160,7 @@ fn extend_child(
     ensures { OnOk result (text.new.items ≡ text.old.items ++ child_line path.now child.now) }
 {
     match child {
-        Child::Entry(pieces) => extend_entry(alloc, text, pieces),
+        Child::Entry(name) => extend_entry(alloc, text, name),
         Child::Owner { empty, module } => extend_owner(alloc, text, path, *empty, module),
     }
 }
@@ -217,8 +183,9 @@ pub fn extend_children<R: Ledger>(
         ≡ text.old.items ++ reply.held_lines path.now list.old.rest) }
     ensures reads { IsLater reads.old reads.new }
 {
+    let path = to_utf8(alloc, path)?;
     while let Some(child) = list.step(reads) {
-        extend_child(alloc, text, path, &child)?;
+        extend_child(alloc, text, path.as_slice(), &child)?;
     }
     Ok(())
 }

@@ -1,17 +1,15 @@
 ghost use Rattle.std.specs.Prelude.{◌≡◌, ◌<◌, ◌≤◌, ◌^◌, length, is_some, IfSome, Ok};
-ghost use Rattle.jm_names.specs.Names.{join};
-ghost use Rattle.jm_names.specs.Pieces.{cut_of};
 ghost use Rattle.jm_form.specs.Entries.{row_read, spelled_row};
 ghost use Rattle.jm_form.specs.Head.{header_of};
 ghost use Rattle.jm_form.specs.Places.{strings};
 ghost use Rattle.jm_form.specs.Texts.{text_at, text_ends};
-ghost use Rattle.jm_reader.specs.Views.{ShortPieces};
 ghost use Rattle.jm_reader.specs.Walk.{IsLater};
 ghost use Rattle.jm_jrt.specs.Told.{is_row_sound, name_told, row_told};
 
 use jm_bytes::{Buf, Meter};
 use jm_form::{Header, Row, read_row};
 use jm_names::Pieces;
+use jm_reader::NameView;
 use memchr::memchr;
 use std::sync::ledger::Ledger;
 
@@ -85,21 +83,19 @@ pub fn text<'a, R: Ledger>(
     front(buf.part(start, strings as usize - place as usize, reads))
 }
 
-/// The pieces of the name that is spelled at a place of the locations, or None where the row there
-/// is blank, isn't there, or has a text that doesn't end.
-pub fn pieces<'a, R: Ledger>(
+/// The name that is spelled at a place of the locations, or None where the row there is blank,
+/// isn't there, or has a text that doesn't end.
+pub fn name_at<'a, R: Ledger>(
     buf: &Buf<'a>,
     header: &Header,
     place: u32,
     reads: &mut Meter<R>,
-) -> Option<Pieces<'a>>
+) -> Option<NameView<'a>>
     requires read { header_of buf.now ≡ Ok header.now }
     requires metered { reads.old.bytes ≡ buf.now }
-    ensures name { IfSome result (λ pieces. join (cut_of pieces)
-        ≡ name_told buf.now header.now place) }
+    ensures name { IfSome result (λ name. name ≡ name_told buf.now header.now place) }
     ensures sound { is_some result
         ≡ is_row_sound (strings buf.now header.now) (row_told buf.now header.now place) }
-    ensures short { IfSome result (λ pieces. ShortPieces (cut_of pieces)) }
     ensures reads { IsLater reads.old reads.new }
 {
     let row = row_at(buf, header, place, reads)?;
@@ -107,10 +103,10 @@ pub fn pieces<'a, R: Ledger>(
     let parent = text(buf, header, row.parent, reads)?;
     let base = text(buf, header, row.base, reads)?;
     let ext = text(buf, header, row.ext, reads)?;
-    Some(Pieces {
+    Some(NameView::of(&Pieces {
         module,
         parent,
         base,
         ext,
-    })
+    }))
 }

@@ -5,7 +5,7 @@ ghost use Rattle.jm_reader.specs.Walk.{IsLater};
 ghost use Rattle.jm_jrt.specs.Told as told;
 
 use crate::jrt_error::JrtError;
-use crate::rows::{pieces, text};
+use crate::rows::{name_at, text};
 use jm_bytes::{Buf, Meter, word_at};
 use jm_form::Header;
 use std::sync::ledger::Ledger;
@@ -55,7 +55,7 @@ fn is_child_sound<R: Ledger>(
     if !fits(content, k) {
         return false;
     }
-    pieces(buf, header, word(header, content, k), reads).is_some()
+    name_at(buf, header, word(header, content, k), reads).is_some()
 }
 
 /// The number is right for word `k` of a content of pairs.
@@ -130,9 +130,9 @@ pub fn owners_fault<R: Ledger>(
         (told.is_pair_sound buf.now header.now content.now) (2 * told.pair_count content.now) }
     ensures reads { IsLater reads.old reads.new }
 {
-    for k in 0..2 * pair_count(content) {
-        if !is_pair_sound(buf, header, content, k, reads) {
-            return Some(JrtError::BadNode(4 * k));
+    for half in 0..2 * pair_count(content) {
+        if !is_pair_sound(buf, header, content, half, reads) {
+            return Some(JrtError::BadNode(4 * half));
         }
     }
     None

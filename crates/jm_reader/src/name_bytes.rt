@@ -1,8 +1,9 @@
-ghost use Rattle.std.specs.Prelude.{◌≡◌, ◌++◌, [], option_to_list, IfNone};
+ghost use Rattle.std.specs.Prelude.{◌≡◌, ◌++◌, [], option_to_list, IfNone, OnOk};
 ghost use Rattle.jm_names.specs.Names.{join};
 ghost use Rattle.jm_names.specs.Pieces.{cut_of};
 ghost use Rattle.jm_reader.specs.Views.{mark_of};
 
+use jm_bytes::NoMemory;
 use jm_names::Pieces;
 use std::marker::Model;
 
@@ -46,6 +47,16 @@ fn pop(bytes: &mut &[u8]) -> Option<u8>
     Some(*first)
 }
 
+/// Puts bytes at the end of a text.
+fn extend(text: &mut Vec<u8>, bytes: &[u8]) -> Result<(), NoMemory>
+    ensures { OnOk result (text.new.items ≡ text.old.items ++ bytes.now) }
+{
+    match text.extend_from_slice(bytes) {
+        Ok(()) => Ok(()),
+        Err(_) => Err(NoMemory),
+    }
+}
+
 impl<'a> NameBytes<'a> {
     /// The bytes of the name that the pieces make.
     pub(crate) fn of(pieces: &Pieces<'a>) -> NameBytes<'a>
@@ -61,6 +72,20 @@ impl<'a> NameBytes<'a> {
             behind_parent: mark(pieces.parent, b"/"),
             before_ext: mark(pieces.ext, b"."),
         }
+    }
+
+    /// Puts all of them at the end of a text.
+    pub(crate) fn put_all(&self, text: &mut Vec<u8>) -> Result<(), NoMemory>
+        ensures { OnOk result (text.new.items ≡ text.old.items ++ self.now) }
+    {
+        extend(text, self.before_module)?;
+        extend(text, self.module)?;
+        extend(text, self.behind_module)?;
+        extend(text, self.parent)?;
+        extend(text, self.behind_parent)?;
+        extend(text, self.base)?;
+        extend(text, self.before_ext)?;
+        extend(text, self.ext)
     }
 }
 

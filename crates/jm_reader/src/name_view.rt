@@ -1,5 +1,5 @@
 ghost use Rattle.std.specs.Prelude.{◌≡◌, ◌≢◌, ◌++◌, ◌+◌, ◌<◌, ◌^◌, ℕ, List, length, IfOk, IsTrue};
-ghost use Rattle.std.specs.Prelude.{IsFalse, ◌↔◌, nat_eq};
+ghost use Rattle.std.specs.Prelude.{IsFalse, ◌↔◌, nat_eq, []};
 ghost use Rattle.std.specs.List.{starts_with};
 ghost use Rattle.jm_names.specs.Names.{is_node, join};
 ghost use Rattle.jm_names.specs.Pieces.{cut_of};
@@ -59,9 +59,19 @@ fn takes_front(bytes: &mut NameBytes, front: &[u8]) -> bool
     true
 }
 
+/// An empty text with room for so many bytes.
+fn empty_with_room(alloc: Global, size: usize) -> Result<Vec<u8>, NoMemory>
+    ensures { IfOk result (λ text. text.items ≡ []) }
+{
+    match Vec::with_capacity(alloc, size) {
+        Ok(text) => Ok(text),
+        Err(_) => Err(NoMemory),
+    }
+}
+
 impl<'a> NameView<'a> {
-    /// The name that the pieces make.
-    pub(crate) fn of(pieces: &Pieces<'a>) -> NameView<'a>
+    /// The name that the pieces make, each of which has fewer than 2^32 bytes.
+    pub fn of(pieces: &Pieces<'a>) -> NameView<'a>
         requires { ShortPieces (cut_of pieces.now) }
         ensures { result ≡ join (cut_of pieces.now) }
     {
@@ -121,14 +131,12 @@ impl<'a> NameView<'a> {
         })
     }
 
-    /// A text of its own with the same bytes.
+    /// A text of its own with the same bytes, for which memory is taken once.
     pub fn to_text(&self, alloc: Global) -> Result<Text, NoMemory>
         ensures { IfOk result (λ text. text ≡ self.now) }
     {
-        let mut text = Text::new(alloc);
-        for byte in self.bytes() {
-            text.push(byte)?;
-        }
-        Ok(text)
+        let mut text = empty_with_room(alloc, self.len())?;
+        self.bytes().put_all(&mut text)?;
+        Ok(Text::from_vec(text))
     }
 }

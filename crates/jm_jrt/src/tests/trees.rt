@@ -4,7 +4,6 @@ use super::vectors::one;
 use crate::{Child, ChildList, JrtError, Node, children, owner, stat};
 use jm_bytes::{Meter, Steps};
 use jm_halves::NoGate;
-use jm_names::Pieces;
 use jm_valid::{Image, open_image};
 use std::alloc::Global;
 use std::marker::Brand;
@@ -21,41 +20,23 @@ fn bad_node() -> &'static [u8] {
     ]
 }
 
-/// Puts a name by its pieces.
-fn put_name(given: &mut Vec<u8>, pieces: &Pieces) -> Result<(), Fail> {
-    if !pieces.module.is_empty() {
-        given.push(b'/')?;
-        given.extend_from_slice(pieces.module)?;
-        given.push(b'/')?;
-    }
-    if !pieces.parent.is_empty() {
-        given.extend_from_slice(pieces.parent)?;
-        given.push(b'/')?;
-    }
-    given.extend_from_slice(pieces.base)?;
-    if !pieces.ext.is_empty() {
-        given.push(b'.')?;
-        given.extend_from_slice(pieces.ext)?;
+/// Puts a child behind a space: a name, or a module behind a 1 where the package is empty there and
+/// behind a 0 where it isn't.
+fn put_child(alloc: Global, given: &mut Vec<u8>, child: Child) -> Result<(), Fail> {
+    given.push(b' ')?;
+    match child {
+        Child::Entry(name) => given.extend_from_slice(name.to_text(alloc)?.as_slice())?,
+        Child::Owner { empty, module } => {
+            given.push(b'0'.wrapping_add(u8::from(empty)))?;
+            given.extend_from_slice(module)?;
+        }
     }
     Ok(())
 }
 
-/// Puts a child behind a space: a name, or a module behind a 1 where the package is empty there and
-/// behind a 0 where it isn't.
-fn put_child(given: &mut Vec<u8>, child: Child) -> Result<(), Fail> {
-    given.push(b' ')?;
-    match child {
-        Child::Entry(pieces) => put_name(given, &pieces),
-        Child::Owner { empty, module } => {
-            given.push(b'0'.wrapping_add(u8::from(empty)))?;
-            given.extend_from_slice(module)?;
-            Ok(())
-        }
-    }
-}
-
 /// Puts the children of a folder.
 fn put_list<R: Ledger>(
+    alloc: Global,
     given: &mut Vec<u8>,
     list: ChildList,
     reads: &mut Meter<R>,
@@ -66,7 +47,7 @@ fn put_list<R: Ledger>(
     given.extend_from_slice(b"folder")?;
     for _place in 0..list.len() {
         match list.step(reads) {
-            Some(child) => put_child(given, child)?,
+            Some(child) => put_child(alloc, given, child)?,
             None => return Ok(()),
         }
     }
@@ -85,6 +66,7 @@ fn put_error(given: &mut Vec<u8>, error: JrtError) -> Result<(), Fail> {
 
 /// Puts what stands at a path of the image that these bytes are.
 fn put_stat<H: Ledger, R: Ledger>(
+    alloc: Global,
     given: &mut Vec<u8>,
     image: &Image,
     bytes: &[u8],
@@ -104,7 +86,7 @@ fn put_stat<H: Ledger, R: Ledger>(
     let mut reads = Meter::<R>::new(bytes, reads);
     match stat(image, path, &mut hashes, &mut reads) {
         Err(error) => put_error(given, error),
-        Ok(Node::Folder(list)) => put_list(given, list, &mut reads),
+        Ok(Node::Folder(list)) => put_list(alloc, given, list, &mut reads),
         Ok(Node::File(bytes)) => {
             given.extend_from_slice(b"file ")?;
             given.extend_from_slice(bytes)?;
@@ -120,6 +102,7 @@ fn put_stat<H: Ledger, R: Ledger>(
 
 /// Puts the children at a path of the image that these bytes are.
 fn put_children<H: Ledger, R: Ledger>(
+    alloc: Global,
     given: &mut Vec<u8>,
     image: &Image,
     bytes: &[u8],
@@ -139,7 +122,7 @@ fn put_children<H: Ledger, R: Ledger>(
     let mut reads = Meter::<R>::new(bytes, reads);
     match children(image, path, &mut hashes, &mut reads) {
         Err(error) => put_error(given, error),
-        Ok(list) => put_list(given, list, &mut reads),
+        Ok(list) => put_list(alloc, given, list, &mut reads),
     }
 }
 
@@ -176,14 +159,20 @@ fn put_owner<H: Ledger, R: Ledger>(
 }
 
 /// Puts the three answers for a path of the image that these bytes are, with a bar between them.
-fn put_answers(given: &mut Vec<u8>, image: &Image, bytes: &[u8], path: &[u8]) -> Result<(), Fail>
+fn put_answers(
+    alloc: Global,
+    given: &mut Vec<u8>,
+    image: &Image,
+    bytes: &[u8],
+    path: &[u8],
+) -> Result<(), Fail>
     requires { image.now ≡ bytes.now }
 {
     let (hashes, reads) = (Blank::new(1), Blank::new(1));
-    put_stat::<Brand, Brand>(given, image, bytes, path, hashes, reads)?;
+    put_stat::<Brand, Brand>(alloc, given, image, bytes, path, hashes, reads)?;
     given.push(b'|')?;
     let (hashes, reads) = (Blank::new(1), Blank::new(1));
-    put_children::<Brand, Brand>(given, image, bytes, path, hashes, reads)?;
+    put_children::<Brand, Brand>(alloc, given, image, bytes, path, hashes, reads)?;
     given.push(b'|')?;
     let (hashes, reads) = (Blank::new(1), Blank::new(1));
     put_owner::<Brand, Brand>(given, image, bytes, path, hashes, reads)
@@ -201,7 +190,7 @@ fn answers<T: Threads + Sync>(
         return Ok(false);
     };
     let mut given = Vec::new(alloc);
-    put_answers(&mut given, &image, bytes, path.as_bytes())?;
+    put_answers(alloc, &mut given, &image, bytes, path.as_bytes())?;
     Ok(given.as_slice() == told.as_bytes())
 }
 

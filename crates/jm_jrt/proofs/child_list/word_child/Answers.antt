@@ -11,14 +11,14 @@ word-requires g c =
     let below = c.if-next-word_count.false in
     (child_at c.args.buf.now c.args.header.now c.args.content.now c.args.next c.requires.sound (omega arith)).fits
 
-pub returns-in_err-pieces-clause-end : goal.returns-in_err-pieces-clause-end
-returns-in_err-pieces-clause-end g c =
+pub returns-in_err-name-clause-end : goal.returns-in_err-name-clause-end
+returns-in_err-name-clause-end g c =
     let b = c.args.buf.now in
     let h = c.args.header.now in
     let count = c.word_count.ensures in
     let below = c.if-next-word_count.false in
     let sound = (child_at b h c.args.content.now c.args.next c.requires.sound (omega arith)).sound in
-    absurd (false≢true (c.in_err-pieces.ensures.sound ∙ ap (λ (n : ℕ). is_row_sound (strings b h) (row_told b h n)) c.word.ensures ∙ sound))
+    absurd (false≢true (c.in_err-name.ensures.sound ∙ ap (λ (n : ℕ). is_row_sound (strings b h) (row_told b h n)) c.word.ensures ∙ sound))
 
 pub returns-clause-child : goal.returns-clause-child
 returns-clause-child g c =
@@ -28,4 +28,4 @@ returns-clause-child g c =
     let next = c.args.next in
     let count = c.word_count.ensures in
     let below = c.if-next-word_count.false in
-    names_more b h content next (omega arith) ∙ ap (λ (n : List ℕ). n ∷ names_left b h content (next + 1)) (sym (c.in_ok-pieces.ensures.name ∙ ap (name_told b h) c.word.ensures))
+    names_more b h content next (omega arith) ∙ ap (λ (n : List ℕ). n ∷ names_left b h content (next + 1)) (sym (c.in_ok-name.ensures.name ∙ ap (name_told b h) c.word.ensures))
