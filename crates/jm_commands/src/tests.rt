@@ -207,6 +207,7 @@ fn faulty_words_are_named(rt: HostRuntime) -> Result<(), Fail> {
         ("cat --zap", "2||words: UnknownOption at 2\n"),
         ("--help x", "2||words: TooManyArguments at 2\n"),
         ("cat --help", "2||words: UnknownOption at 2\n"),
+        ("link --endian middle", "2||words: BadValue at 3\n"),
     ] {
         let holds = gives(&rt, rt.alloc(), tiny(), NO_FAILS, words, want)?;
         assert!(rt; holds, "{words}");

@@ -93,11 +93,11 @@ const BELOW_FILE: &str = "mods/a/p=p";
 /// A class with a source file in the place of a text.
 const CLASS: &str = "mods/a/p/A.class=C";
 
-const SERVICES: &str = "mods/a/module-info.class=M a - s/S
-mods/b/module-info.class=M b c - s/S
-mods/c/module-info.class=M c - t/T
-mods/d/module-info.class=M d - - t/T
-mods/e/module-info.class=M e - - u/U";
+const SERVICES: &str = "mods/a/module-info.class=S a - s/S - -
+mods/b/module-info.class=S b c - s/S b/P
+mods/c/module-info.class=S c - t/T - -
+mods/d/module-info.class=S d - - t/T -
+mods/e/module-info.class=S e - - u/U -";
 
 #[test]
 fn link_writes_the_closure_or_says_why_not(rt: HostRuntime) -> Result<(), Fail> {
@@ -252,14 +252,21 @@ entries 21\nslots 21\nlocations 217\nstrings 166\nindex 579\ncontents 427\n|";
             (SERVICES, "", ""),
             link,
             list,
-            "0|modules 1\nresources 1\nbytes 245\n|0|90 /a/module-info.class\n|",
+            "0|modules 1\nresources 1\nbytes 266\n|0|111 /a/module-info.class\n|",
         ),
         (
             (SERVICES, "", ""),
             "link --bind-services --module-path mods --add-modules a --output img",
             list,
-            "0|modules 4\nresources 4\nbytes 669\n|0|90 /a/module-info.class
-105 /b/module-info.class\n90 /c/module-info.class\n92 /d/module-info.class\n|",
+            "0|modules 4\nresources 4\nbytes 750\n|0|111 /a/module-info.class
+123 /b/module-info.class\n111 /c/module-info.class\n113 /d/module-info.class\n|",
+        ),
+        (
+            (SERVICES, "", ""),
+            "link --bind-services --module-path mods --add-modules a --output img",
+            "describe mods/b/module-info.class",
+            "0|modules 4\nresources 4\nbytes 750\n|0|module b\nrequires c
+provides s/S with b/P\n|",
         ),
         (
             three,
