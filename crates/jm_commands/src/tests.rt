@@ -16,9 +16,10 @@ use std::sync::atomic::{AtomicBool, Ordering};
 use std::test::Fail;
 use std::thread::Threads;
 use vectors::{
-    above_ffff, apart, bad_node, big_tiny, far, module_a, no_entries, overlapping, seeded_tiny,
-    smallest_class, tiny,
+    above_ffff, apart, bad_node, big_tiny, clashing, empty, far, module_a, no_entries, overlapping,
+    seeded_tiny, smallest_class, tiny,
 };
+use written::image_in;
 
 /// The number of the call that fails on the shelf, the output and the error sink.
 #[derive(Clone, Copy)]
@@ -206,6 +207,7 @@ fn faulty_words_are_named(rt: HostRuntime) -> Result<(), Fail> {
         ("cat --zap", "2||words: UnknownOption at 2\n"),
         ("--help x", "2||words: TooManyArguments at 2\n"),
         ("cat --help", "2||words: UnknownOption at 2\n"),
+        ("link --endian middle", "2||words: BadValue at 3\n"),
     ] {
         let holds = gives(&rt, rt.alloc(), tiny(), NO_FAILS, words, want)?;
         assert!(rt; holds, "{words}");
@@ -248,6 +250,7 @@ index 55\ncontents 2\n|";
         (no_entries(), "ls img /modules", "5||not there: /modules\n"),
         (bad_node(), "verify img", "0|valid 1\n|"),
         (apart(), "list img", "0|0 /m/a\n0 /m/b\n|"),
+        (clashing(), "list img", "0|0 /m/a\n0 /m/a/b\n|"),
         (apart(), "list img --include /m/a", "0|0 /m/a\n|"),
         (apart(), "list --include=*a,/m/? img", "0|0 /m/a\n0 /m/b\n|"),
         (apart(), "list img --include ?", "0||"),
@@ -318,26 +321,28 @@ impl Gate for Meeting {
     }
 }
 
+/// Whether each piece raised its flag and saw the other's.
+fn met(gate: &Meeting) -> bool {
+    let [first, second] = &gate.flags;
+    let raised = first.load(Ordering::SeqCst) && second.load(Ordering::SeqCst);
+    raised && !gate.missed.load(Ordering::SeqCst)
+}
+
 #[test]
 fn both_pieces_meet(rt: HostRuntime) -> Result<(), Fail> {
     let generating = "gen d --modules 1 --classes 2 --seed 0 --jobs 2";
     for (words, want) in [
-        ("verify img --jobs 2", "0|valid 2\n|"),
+        ("verify img --jobs 2", "0|valid 21\n|"),
         (generating, "0|modules 1\nresources 3\n"),
     ] {
         let gate = Meeting {
             flags: [AtomicBool::new(false), AtomicBool::new(false)],
             missed: AtomicBool::new(false),
         };
-        let given = run_on(&rt, rt.alloc(), apart(), NO_FAILS, words, &gate)?;
+        let image = image_in(&rt, rt.alloc(), "little")?;
+        let given = run_on(&rt, rt.alloc(), image.as_slice(), NO_FAILS, words, &gate)?;
         assert!(rt; given.as_slice().starts_with(want.as_bytes()), "{words}");
-        let missed = gate.missed.load(Ordering::SeqCst);
-        assert!(rt; !missed, "the pieces met at the gate: {words}");
-        let [first, second] = &gate.flags;
-        assert!(rt;
-            first.load(Ordering::SeqCst) && second.load(Ordering::SeqCst),
-            "{words}"
-        );
+        assert!(rt; met(&gate), "the pieces met at the gate: {words}");
     }
     Ok(())
 }
@@ -423,6 +428,8 @@ fn damages_are_found_with_each_number_of_jobs(rt: HostRuntime) -> Result<(), Fai
         ),
         (apart(), 70, [(0, 0xDA); 4], "0|valid 2\n|"),
         (far(), 66, [(0, 0xDA); 4], "4||damaged: Range 0\n"),
+        (empty(), 85, [(0, 0xDA); 4], "0|valid 2\n|"),
+        (empty(), 84, [(0, 0xDA); 4], "4||damaged: Header Sizes\n"),
     ] {
         let holds = verifies(&rt, rt.alloc(), (image, most, changes), want)?;
         assert!(rt; holds, "{want}");

@@ -1,35 +1,14 @@
 //! The files of images, and images that are refused.
 
-use super::linking::put_run;
-use super::modules::content;
-use super::vectors::{above_ffff, tiny};
+use super::linking::{ALONE, WIDE, put_run};
+use super::modules::{content, put_files};
+use super::vectors::{above_ffff, clashing, dots, nameless, tiny};
 use super::written::image_in;
-use super::{Fails, NO_FAILS, shelf_of};
+use super::{Fails, NO_FAILS, changed, shelf_of};
 use jm_outside::MemShelf;
 use std::alloc::Global;
 use std::test::Fail;
 use std::thread::Threads;
-
-/// `/m/a/b` and `/m/a`, both empty.
-const CLASHING: &[u8] = &[
-    0xDA, 0xDA, 0xFE, 0xCA, 0, 0, 1, 0, 0, 0, 0, 0, 2, 0, 0, 0, 2, 0, 0, 0, 13, 0, 0, 0, 13, 0, 0,
-    0, 0xFF, 0xFF, 0xFF, 0xFF, 0xFE, 0xFF, 0xFF, 0xFF, 1, 0, 0, 0, 8, 0, 0, 0, 0, 8, 7, 16, 9, 24,
-    11, 0, 8, 7, 24, 9, 0, 0, 99, 108, 97, 115, 115, 0, 109, 0, 97, 0, 98, 0,
-];
-
-/// One entry, `/m/..`, that holds `hi`.
-const DOTS: &[u8] = &[
-    0xDA, 0xDA, 0xFE, 0xCA, 0, 0, 1, 0, 0, 0, 0, 0, 1, 0, 0, 0, 1, 0, 0, 0, 8, 0, 0, 0, 12, 0, 0,
-    0, 0xFF, 0xFF, 0xFF, 0xFF, 1, 0, 0, 0, 0, 8, 7, 24, 9, 56, 2, 0, 0, 99, 108, 97, 115, 115, 0,
-    109, 0, 46, 46, 0, 104, 105,
-];
-
-/// One entry of the empty name, that holds `hi`.
-const NAMELESS: &[u8] = &[
-    0xDA, 0xDA, 0xFE, 0xCA, 0, 0, 1, 0, 0, 0, 0, 0, 1, 0, 0, 0, 1, 0, 0, 0, 8, 0, 0, 0, 11, 0, 0,
-    0, 0xFF, 0xFF, 0xFF, 0xFF, 1, 0, 0, 0, 0, 8, 0, 24, 0, 56, 2, 0, 0, 99, 108, 97, 115, 115, 0,
-    109, 0, 97, 0, 104, 105,
-];
 
 /// Whether the file at a path holds what a text says.
 fn holds(alloc: Global, shelf: &MemShelf, path: &str, text: &str) -> Result<bool, Fail> {
@@ -61,13 +40,13 @@ fn makes<T: Threads + Sync>(
     alloc: Global,
     (image, fails): (&[u8], Fails),
     words: &str,
-    want: &str,
+    want: &[u8],
     files: &str,
 ) -> Result<bool, Fail> {
     let mut shelf = shelf_of(alloc, image, fails.shelf)?;
     let mut given = Vec::new(alloc);
     put_run(rt, alloc, &mut shelf, fails, words, &mut given)?;
-    Ok(given.as_slice() == want.as_bytes() && stand(alloc, &shelf, files)?)
+    Ok(given.as_slice() == want && stand(alloc, &shelf, files)?)
 }
 
 #[test]
@@ -83,30 +62,91 @@ fn extract_makes_the_files_or_says_why_not(rt: HostRuntime) -> Result<(), Fail> 
             none,
         ),
         (above_ffff(), all, "0|extracted 1\n|", "out/a/\u{1F600}=hi"),
-        (CLASHING, all, clash, none),
+        (clashing(), all, clash, none),
         (
-            CLASHING,
+            clashing(),
             "extract img --dir out --include /m/a/*",
             "0|extracted 1\n|",
             "out/m/a/b=\nout/m/a",
         ),
         (
-            CLASHING,
+            clashing(),
             "extract img --dir out --include /x",
             "0|extracted 0\n|",
             none,
         ),
         (
-            DOTS,
+            dots(),
             all,
             "3||refused: BadName /m/.. Dots\n",
             "out/m/..\nout\nm",
         ),
-        (NAMELESS, all, "3||refused: BadName  Empty\n", "out"),
+        (nameless(), all, "3||refused: BadName  Empty\n", "out"),
     ] {
-        let holds = makes(&rt, rt.alloc(), (image, NO_FAILS), words, want, files)?;
+        let image = (image, NO_FAILS);
+        let holds = makes(&rt, rt.alloc(), image, words, want.as_bytes(), files)?;
         assert!(rt; holds, "{words} {want}");
     }
+    Ok(())
+}
+
+/// Whether `extract` of `/m/..` with two of its bytes changed gives this, and makes no file where
+/// the name could lead.
+fn is_refused<T: Threads + Sync>(
+    rt: &T,
+    alloc: Global,
+    [one, two]: [(usize, u8); 2],
+    want: &[u8],
+) -> Result<bool, Fail> {
+    let image = changed(alloc, dots(), 58, [one, two, one, two])?;
+    let image = (image.as_slice(), NO_FAILS);
+    let none = "out\nout/m\nout/m/\nout/m//x\nout/m/x\nout/x\nm/x\nx\n/x\nout/m/.\nout/..\n..";
+    makes(rt, alloc, image, "extract img --dir out", want, none)
+}
+
+#[test]
+fn no_name_leads_out_of_the_directory(rt: HostRuntime) -> Result<(), Fail> {
+    for (changes, want) in [
+        (
+            [(53, 0x2F), (54, 0x78)],
+            &b"3||refused: BadName /m//x EmptyPart\n"[..],
+        ),
+        (
+            [(53, 0x00), (54, 0x78)],
+            b"3||refused: BadName /m/ EmptyPart\n",
+        ),
+        ([(53, 0x2E), (54, 0x00)], b"3||refused: BadName /m/. Dots\n"),
+        (
+            [(53, 0xED), (54, 0xA0)],
+            b"3||refused: BadName /m/\xED\xA0 NotText 3\n",
+        ),
+        ([(38, 0), (38, 0)], b"3||refused: BadName .. Empty\n"),
+        ([(38, 0), (53, 0x2F)], b"3||refused: BadName /. Empty\n"),
+    ] {
+        let holds = is_refused(&rt, rt.alloc(), changes, want)?;
+        assert!(rt; holds, "{changes:?}");
+    }
+    Ok(())
+}
+
+/// Whether a link of files whose names are above U+FFFF makes an image of which `extract` makes
+/// these files.
+fn come_back<T: Threads + Sync>(rt: &T, alloc: Global, files: &str) -> Result<bool, Fail> {
+    let mut shelf = MemShelf::new(alloc);
+    put_files(alloc, &mut shelf, ALONE, "")?;
+    put_files(alloc, &mut shelf, WIDE, "")?;
+    let link = "link --module-path mods --add-modules a --output img";
+    let mut given = Vec::new(alloc);
+    put_run(rt, alloc, &mut shelf, NO_FAILS, link, &mut given)?;
+    let words = "extract img --dir out";
+    put_run(rt, alloc, &mut shelf, NO_FAILS, words, &mut given)?;
+    Ok(given.as_slice().ends_with(b"\n|0|extracted 3\n|") && stand(alloc, &shelf, files)?)
+}
+
+#[test]
+fn names_above_ffff_are_extracted(rt: HostRuntime) -> Result<(), Fail> {
+    let files = "out/a/module-info.class=M a -\nout/a/\u{1F600}=x\nout/a/\u{FFFD}=yy";
+    assert!(rt; come_back(&rt, rt.alloc(), files)?);
     Ok(())
 }
 
@@ -144,7 +184,8 @@ fn a_failing_call_leaves_some_of_the_files(rt: HostRuntime) -> Result<(), Fail> 
             err: None,
         };
         let image = (image.as_slice(), fails);
-        let holds = makes(&rt, rt.alloc(), image, "extract img --dir out", want, files)?;
+        let words = "extract img --dir out";
+        let holds = makes(&rt, rt.alloc(), image, words, want.as_bytes(), files)?;
         assert!(rt; holds, "{want}");
     }
     Ok(())

@@ -72,7 +72,7 @@ const SPLIT: &str = "mods/b/p/Z.class=Z";
 
 const BELOW: &str = "mods/b/p/s/Z.class=Z";
 
-const ALONE: &str = "mods/a/module-info.class=M a -";
+pub const ALONE: &str = "mods/a/module-info.class=M a -";
 
 const AGAIN: &str = "mods/c/module-info.class=M a -";
 
@@ -84,7 +84,7 @@ const TWO: &str = "x/a/module-info.class=M a b
 y/a/module-info.class=M a z
 y/b/module-info.class=M b -";
 
-const WIDE: &str = "mods/a/\u{1F600}=x\nmods/a/\u{FFFD}=yy";
+pub const WIDE: &str = "mods/a/\u{1F600}=x\nmods/a/\u{FFFD}=yy";
 
 const DOTS: &str = "mods/a/../x=x";
 
@@ -93,16 +93,18 @@ const BELOW_FILE: &str = "mods/a/p=p";
 /// A class with a source file in the place of a text.
 const CLASS: &str = "mods/a/p/A.class=C";
 
-const SERVICES: &str = "mods/a/module-info.class=M a - s/S
-mods/b/module-info.class=M b c - s/S
-mods/c/module-info.class=M c - t/T
-mods/d/module-info.class=M d - - t/T
-mods/e/module-info.class=M e - - u/U";
+const SERVICES: &str = "mods/a/module-info.class=S a - s/S - -
+mods/b/module-info.class=S b c - s/S b/P
+mods/c/module-info.class=S c - t/T - -
+mods/d/module-info.class=S d - - t/T -
+mods/e/module-info.class=S e - - u/U -";
 
 #[test]
 fn link_writes_the_closure_or_says_why_not(rt: HostRuntime) -> Result<(), Fail> {
     let link = "link --module-path mods --add-modules a --output img";
     let list = "list img";
+    let info = "0|modules 3\nresources 6\nbytes 1006\n|0|order little\nversion 1.0\nflags 0
+entries 21\nslots 21\nlocations 217\nstrings 166\nindex 579\ncontents 427\n|";
     let three = (THREE, "", "");
     let ordered = "link --module-path mods --add-modules a --output img \
         --order-resources=**/B.class,/java.base/**";
@@ -123,6 +125,7 @@ fn link_writes_the_closure_or_says_why_not(rt: HostRuntime) -> Result<(), Fail> 
             "verify img",
             "0|modules 3\nresources 6\nbytes 1006\n|0|valid 21\n|",
         ),
+        (three, link, "info img", info),
         (
             three,
             link,
@@ -249,14 +252,21 @@ fn link_writes_the_closure_or_says_why_not(rt: HostRuntime) -> Result<(), Fail> 
             (SERVICES, "", ""),
             link,
             list,
-            "0|modules 1\nresources 1\nbytes 245\n|0|90 /a/module-info.class\n|",
+            "0|modules 1\nresources 1\nbytes 266\n|0|111 /a/module-info.class\n|",
         ),
         (
             (SERVICES, "", ""),
             "link --bind-services --module-path mods --add-modules a --output img",
             list,
-            "0|modules 4\nresources 4\nbytes 669\n|0|90 /a/module-info.class
-105 /b/module-info.class\n90 /c/module-info.class\n92 /d/module-info.class\n|",
+            "0|modules 4\nresources 4\nbytes 750\n|0|111 /a/module-info.class
+123 /b/module-info.class\n111 /c/module-info.class\n113 /d/module-info.class\n|",
+        ),
+        (
+            (SERVICES, "", ""),
+            "link --bind-services --module-path mods --add-modules a --output img",
+            "describe mods/b/module-info.class",
+            "0|modules 4\nresources 4\nbytes 750\n|0|module b\nrequires c
+provides s/S with b/P\n|",
         ),
         (
             three,
@@ -278,6 +288,15 @@ fn link_writes_the_closure_or_says_why_not(rt: HostRuntime) -> Result<(), Fail> 
 2 /a/p/A.class\n100 /b/module-info.class\n3 /b/q/r/B.class\n6 /java.base/java/lang/Object.class
 87 /java.base/module-info.class\n|",
         ),
+        (
+            three,
+            "link --exclude-resources=** --endian big --module-path mods --add-modules a \
+             --output img",
+            "info img",
+            "0|modules 3\nresources 0\nbytes 85\n|0|order big\nversion 1.0\nflags 0\nentries 2
+slots 3\nlocations 7\nstrings 26\nindex 85\ncontents 0\n|",
+        ),
+        (three, ordered, "info img", info),
         (
             three,
             ordered,

@@ -1,6 +1,6 @@
 //! Sessions and lists of folders, over images that `link` wrote and over small ones.
 
-use super::vectors::{bad_node, tiny};
+use super::vectors::bad_node;
 use super::written::image_in;
 use super::{Fails, NO_FAILS, gives, numbers, run_fed};
 use jm_bytes::{List, Text};
@@ -77,6 +77,20 @@ fn a_session_answers_each_line(rt: HostRuntime) -> Result<(), Fail> {
         ("little", false, never, "serve --jobs=64 img", REPLIES),
         ("big", false, never, "serve img", REPLIES),
         ("little", false, (Some(0), None), "serve img", "6||"),
+        (
+            "little",
+            false,
+            (Some(0), None),
+            "serve img --jobs 2",
+            "6||",
+        ),
+        (
+            "little",
+            false,
+            (Some(0), None),
+            "serve img --jobs 64",
+            "6||",
+        ),
         ("little", true, (None, Some(1)), "serve img", broken),
     ] {
         let image = image_in(&rt, rt.alloc(), order)?;
@@ -102,7 +116,9 @@ fn a_session_ends_at_its_limits(rt: HostRuntime) -> Result<(), Fail> {
         let text = Vec::from_elem(rt.alloc(), b'x', count)?;
         let text = (text.as_slice(), false);
         let never = (None, None);
-        let holds = session_gives(&rt, rt.alloc(), tiny(), text, never, words, want)?;
+        let image = image_in(&rt, rt.alloc(), "little")?;
+        let image = image.as_slice();
+        let holds = session_gives(&rt, rt.alloc(), image, text, never, words, want)?;
         assert!(rt; holds, "{count} {words}");
     }
     let text = (&b"stat /packages\n"[..], false);
@@ -112,45 +128,48 @@ fn a_session_ends_at_its_limits(rt: HostRuntime) -> Result<(), Fail> {
     Ok(())
 }
 
+/// Whether words give this on the image of three modules in either order of bytes.
+fn both_give<T: Threads + Sync>(
+    rt: &T,
+    alloc: Global,
+    words: &str,
+    want: &str,
+) -> Result<bool, Fail> {
+    for order in ["little", "big"] {
+        let image = image_in(rt, alloc, order)?;
+        if !gives(rt, alloc, image.as_slice(), NO_FAILS, words, want)? {
+            return Ok(false);
+        }
+    }
+    Ok(true)
+}
+
 #[test]
-fn ls_puts_what_a_folder_holds(rt: HostRuntime) -> Result<(), Fail> {
-    for (order, words, want) in [
-        ("little", "ls img /", "0|/modules\n/packages\n|"),
+fn both_orders_put_the_same(rt: HostRuntime) -> Result<(), Fail> {
+    for (words, want) in [
         (
-            "little",
+            "list img",
+            "0|113 /a/module-info.class\n2 /a/p/A.class\n100 /b/module-info.class
+3 /b/q/r/B.class\n6 /java.base/java/lang/Object.class\n87 /java.base/module-info.class\n|",
+        ),
+        ("ls img /", "0|/modules\n/packages\n|"),
+        (
             "ls img /packages",
             "0|/packages/java\n/packages/java.lang\n/packages/p\n/packages/q\n/packages/q.r\n|",
         ),
-        ("little", "ls img /packages/q", "0|/packages/q/b empty\n|"),
+        ("ls img /packages/q", "0|/packages/q/b empty\n|"),
         (
-            "little",
             "ls img /packages/java",
             "0|/packages/java/java.base empty\n|",
         ),
         (
-            "big",
             "ls img /modules/a",
             "0|/modules/a/module-info.class\n/modules/a/p\n|",
         ),
-        (
-            "little",
-            "ls img /modules/a",
-            "0|/modules/a/module-info.class\n/modules/a/p\n|",
-        ),
-        (
-            "little",
-            "ls img /modules/a/p/A.class",
-            "3||refused: NotFolder\n",
-        ),
-        (
-            "little",
-            "ls img /packages/p/a/x",
-            "5||not there: /packages/p/a/x\n",
-        ),
+        ("ls img /modules/a/p/A.class", "3||refused: NotFolder\n"),
+        ("ls img /packages/p/a/x", "5||not there: /packages/p/a/x\n"),
     ] {
-        let image = image_in(&rt, rt.alloc(), order)?;
-        let holds = gives(&rt, rt.alloc(), image.as_slice(), NO_FAILS, words, want)?;
-        assert!(rt; holds, "{words}");
+        assert!(rt; both_give(&rt, rt.alloc(), words, want)?, "{words}");
     }
     Ok(())
 }

@@ -81,6 +81,53 @@ pub fn bad_node() -> &'static [u8] {
     ]
 }
 
+/// `/m/a/b` and `/m/a`, both empty.
+pub fn clashing() -> &'static [u8] {
+    &[
+        0xDA, 0xDA, 0xFE, 0xCA, 0, 0, 1, 0, 0, 0, 0, 0, 2, 0, 0, 0, 2, 0, 0, 0, 13, 0, 0, 0, 13, 0,
+        0, 0, 0xFF, 0xFF, 0xFF, 0xFF, 0xFE, 0xFF, 0xFF, 0xFF, 1, 0, 0, 0, 8, 0, 0, 0, 0, 8, 7, 16,
+        9, 24, 11, 0, 8, 7, 24, 9, 0, 0, 99, 108, 97, 115, 115, 0, 109, 0, 97, 0, 98, 0,
+    ]
+}
+
+/// One entry, `/m/..`, that holds `hi`.
+pub fn dots() -> &'static [u8] {
+    &[
+        0xDA, 0xDA, 0xFE, 0xCA, 0, 0, 1, 0, 0, 0, 0, 0, 1, 0, 0, 0, 1, 0, 0, 0, 8, 0, 0, 0, 12, 0,
+        0, 0, 0xFF, 0xFF, 0xFF, 0xFF, 1, 0, 0, 0, 0, 8, 7, 24, 9, 56, 2, 0, 0, 99, 108, 97, 115,
+        115, 0, 109, 0, 46, 46, 0, 104, 105,
+    ]
+}
+
+/// One entry of the empty name, that holds `hi`.
+pub fn nameless() -> &'static [u8] {
+    &[
+        0xDA, 0xDA, 0xFE, 0xCA, 0, 0, 1, 0, 0, 0, 0, 0, 1, 0, 0, 0, 1, 0, 0, 0, 8, 0, 0, 0, 11, 0,
+        0, 0, 0xFF, 0xFF, 0xFF, 0xFF, 1, 0, 0, 0, 0, 8, 0, 24, 0, 56, 2, 0, 0, 99, 108, 97, 115,
+        115, 0, 109, 0, 97, 0, 104, 105,
+    ]
+}
+
+/// The image of no resource: `/modules` and `/packages`, both empty.
+pub fn empty() -> &'static [u8] {
+    &[
+        0xDA, 0xDA, 0xFE, 0xCA, 0, 0, 1, 0, 0, 0, 0, 0, 2, 0, 0, 0, 3, 0, 0, 0, 7, 0, 0, 0, 26, 0,
+        0, 0, 0xFF, 0xFF, 0xFF, 0xFF, 0xFE, 0xFF, 0xFF, 0xFF, 0, 0, 0, 0, 1, 0, 0, 0, 4, 0, 0, 0,
+        0, 0, 0, 0, 0, 24, 17, 0, 24, 7, 0, 0, 99, 108, 97, 115, 115, 0, 47, 112, 97, 99, 107, 97,
+        103, 101, 115, 0, 47, 109, 111, 100, 117, 108, 101, 115, 0,
+    ]
+}
+
+/// The same with the highest byte first in all words.
+pub fn big_empty() -> &'static [u8] {
+    &[
+        0xCA, 0xFE, 0xDA, 0xDA, 0, 1, 0, 0, 0, 0, 0, 0, 0, 0, 0, 2, 0, 0, 0, 3, 0, 0, 0, 7, 0, 0,
+        0, 26, 0xFF, 0xFF, 0xFF, 0xFF, 0xFF, 0xFF, 0xFF, 0xFE, 0, 0, 0, 0, 0, 0, 0, 1, 0, 0, 0, 4,
+        0, 0, 0, 0, 0, 24, 17, 0, 24, 7, 0, 0, 99, 108, 97, 115, 115, 0, 47, 112, 97, 99, 107, 97,
+        103, 101, 115, 0, 47, 109, 111, 100, 117, 108, 101, 115, 0,
+    ]
+}
+
 /// A class of no constant, which is none of a module.
 pub fn smallest_class() -> &'static [u8] {
     &[
