@@ -5,6 +5,7 @@ pub mod HolderLaws
 pub mod JudgeLaws
 pub mod LeastLaws
 pub mod NameLaws
+pub mod OnceLaws
 pub mod OrderLaws
 pub mod PlaceLaws
 pub mod ReachLaws

@@ -6,7 +6,7 @@ pub mod EntryLaws
 pub mod FitsLaws
 pub mod FreeLaws
 pub mod HeadLaws
-mod LayoutVectors
+pub mod LayoutVectors
 pub mod LookLaws
 pub mod OverlapLaws
 pub mod OverlapNone

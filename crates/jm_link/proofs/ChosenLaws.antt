@@ -11,7 +11,8 @@ use Rattle.jm_bytes.proofs.Choice.{same_some}
 use Rattle.jm_bind.specs.Binding.{Bound, IsClosed}
 use Rattle.jm_bytes.proofs.Members.{contains_range, from_range}
 use Rattle.jm_closure.specs.declared.candidate.Candidate.{Candidate}
-use Rattle.jm_closure.specs.Modules.{HasName, Leads, Reached, Requires, name_of}
+use Rattle.jm_closure.proofs.OnceLaws.{reached_found}
+use Rattle.jm_closure.specs.Modules.{HasName, Reached, name_of}
 use Rattle.jm_closure.specs.Refusals.{AreChosen}
 use Rattle.jm_link.specs.Closing.{ClosesWith}
 use Rattle.jm_link.proofs.FileLaws.{got}
@@ -24,16 +25,7 @@ below (y ∷ xs) (suc i) x is = let rest = below xs i x is in omega (arith, rest
 named_below : (found : List Candidate) (i : ℕ) (name : List ℕ) → HasName found i name → i < length found
 named_below found i name (c, is, named) = below found i c is
 
-led_below : (found : List Candidate) (i : ℕ) (places : List ℕ) (j : ℕ) → i < length found → Leads (Requires found) i places j → j < length found
-led_below found i [] j within same = subst (λ k. k < length found) same within
-led_below found i (k ∷ places) j within (required, leads) =
-    led_below found k places j (named_below found k required.0 required.2) leads
-
-reached_below : (found : List Candidate) (roots : List (List ℕ)) (j : ℕ) → Reached found roots j → j < length found
-reached_below found roots j (i, places, (name, rooted, named), leads) =
-    led_below found i places j (named_below found i name named) leads
-
-bound_below : (found : List Candidate) (roots : List (List ℕ)) (j : ℕ) → Bound found roots j → j < length found
+pub bound_below : (found : List Candidate) (roots : List (List ℕ)) (j : ℕ) → Bound found roots j → j < length found
 bound_below found roots j bound = let all = from_range 0 (length found) j (bound (range_with_len 0 (length found)) closed) in omega (arith, all.1)
   where
     inside : (k : ℕ) → k < length found → Contains (range_with_len 0 (length found)) k
@@ -108,7 +100,7 @@ module _ (found : List Candidate) (Chosen : ℕ → Type 0) (places : List ℕ) 
 module _ (found : List Candidate) (roots : List (List ℕ)) where
   pub chosen_within : (bind : Bool) (places : List ℕ) → ClosesWith bind found roots (Ok places) → (i : ℕ) → Contains places i → i < length found
   chosen_within true places closes i has = bound_below found roots i ((closes.4.exactly i).0 has)
-  chosen_within false places closes i has = reached_below found roots i ((closes.4.exactly i).0 has)
+  chosen_within false places closes i has = reached_found found roots i ((closes.4.exactly i).0 has)
 
   pub chosen_differ : (bind : Bool) (places : List ℕ) → ClosesWith bind found roots (Ok places) → AllPairs (λ i j. i ≢ j) places
   chosen_differ true places closes = places_differ found (Bound found roots) places closes.4 (chosen_within true places closes)

@@ -6,6 +6,7 @@ pub mod LinkVectors
 pub mod LinkingLaws
 pub mod ListedLaws
 pub mod NameOrder
+pub mod OnceLaws
 pub mod ResourceLaws
 pub mod ResourceNames
 pub mod ResourcesApart

@@ -24,7 +24,8 @@ use Rattle.jm_form.specs.Layout.{Index, Written, layout_index, layout_table, lay
 use Rattle.jm_form.specs.Trees.{node_names}
 use Rattle.jm_form.specs.Validity.{look}
 use Rattle.jm_writer.specs.Laid.{CanLay}
-use Rattle.jm_writer.specs.Writable.{Writable, image_limit}
+use Rattle.jm_writer.specs.Drafts.{image_limit}
+use Rattle.jm_writer.specs.Writable.{Writable}
 use Rattle.jm_writer.proofs.ImageValid.{image_valid_as, look_unwritten, look_written}
 use Rattle.jm_writer.proofs.LaidWritable.{from_written, laid_writable}
 

@@ -18,7 +18,8 @@ use Rattle.jm_form.specs.Layout.{Index, Written, all_names, contents_text, index
 use Rattle.jm_form.specs.Nodes.{LeadsTo, NodesOf, StandsAt, Tells, nodes_among, words_text}
 use Rattle.jm_form.specs.Trees.{children, holds_of, is_package_node, module_of, node_names, owners, package_nodes}
 use Rattle.jm_writer.specs.Laid.{CanLay}
-use Rattle.jm_writer.specs.Writable.{Writable, header_with, image_limit}
+use Rattle.jm_writer.specs.Drafts.{image_limit}
+use Rattle.jm_writer.specs.Writable.{Writable, header_with}
 use Rattle.jm_writer.proofs.ImageEntries.{index_is_fit}
 use Rattle.jm_writer.proofs.ImagePlaces.{name_place_leads, owner_stands}
 use Rattle.jm_writer.proofs.ImageStands.{image_nodes}

@@ -9,7 +9,7 @@ use Rattle.jm_form.specs.declared.rows.Row.{Row}
 use Rattle.jm_form.specs.Trees.{node_names}
 use Rattle.jm_form.specs.Validity.{look}
 use Rattle.jm_writer.specs.Laid.{CanLay, IsLaidOut}
-use Rattle.jm_writer.specs.Writable.{image_limit}
+use Rattle.jm_writer.specs.Drafts.{image_limit}
 use Rattle.jm_writer.proofs.LaidLooks.{laid_answers, laid_ordered}
 use Rattle.jm_writer.proofs.LaidNodes.{laid_nodes}
 use Rattle.jm_writer.proofs.LaidTable.{layout_from}

@@ -14,7 +14,8 @@ use Rattle.jm_names.specs.ComputedFault.{name_fault}
 use Rattle.jm_names.specs.NameFaults.{IsSound}
 use Rattle.jm_names.specs.declared.check.NameFault.{NameFault}
 use Rattle.jm_names.specs.Names.{is_node}
-use Rattle.jm_form.specs.Layout.{Written, layout, names_of}
+use Rattle.jm_form.proofs.LayoutVectors.{six}
+use Rattle.jm_form.specs.Layout.{layout, names_of}
 use Rattle.jm_bytes.specs.declared.words.Order.TheVariants.{Little}
 use Rattle.jm_form.specs.Greedy.{seeds, table_lengths}
 use Rattle.jm_form.specs.Validity.{look}
@@ -58,13 +59,6 @@ resources_from (name ∷ names) test =
 
 -- Resources of three modules
 
-abbrev six : List Written
-six =
-    (codes "/a/module-info.class", codes "1") ∷ (codes "/a/p/A.class", codes "A!")
-    ∷ (codes "/b/module-info.class", codes "2") ∷ (codes "/b/q/r/B.class", codes "BBB")
-    ∷ (codes "/java.base/java/lang/Object.class", codes "object")
-    ∷ (codes "/java.base/module-info.class", codes "3") ∷ []
-
 six_can : CanLay six
 six_can = record {
   differ = apart_from (names_of six) refl;
@@ -89,7 +83,7 @@ six_laid : IsLaidOut Little six six_bytes
 unfolding seeds table_lengths six_bytes
 six_laid = laid_out Little six six_bytes six_can refl (omega arith)
 
-six_length : length six_bytes ≡ 694
+six_length : length six_bytes ≡ 1006
 unfolding seeds table_lengths six_bytes
 six_length = refl
 

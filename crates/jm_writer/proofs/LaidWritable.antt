@@ -15,7 +15,8 @@ use Rattle.jm_form.specs.Serves.{Serves}
 use Rattle.jm_form.specs.Trees.{holds_of, node_names, tree_nodes}
 use Rattle.jm_form.specs.Validity.{Stands, Valid}
 use Rattle.jm_writer.specs.Laid.{CanLay}
-use Rattle.jm_writer.specs.Writable.{Writable, image_limit}
+use Rattle.jm_writer.specs.Drafts.{image_limit}
+use Rattle.jm_writer.specs.Writable.{Writable}
 use Rattle.jm_writer.proofs.ImagePrefixes.{prefix_damaged}
 use Rattle.jm_writer.proofs.ImageStands.{image_stands}
 use Rattle.jm_writer.proofs.ImageValid.{image_valid}

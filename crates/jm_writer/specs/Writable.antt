@@ -1,16 +1,13 @@
 -- What entries and a table must keep so that their image can be read (this project's rule for the
 -- size; jimage 1.0 for the rest).
-use Rattle.std.specs.Prelude.{ℕ, ◌^◌, ◌≢◌, ◌<◌, ◌≤◌, List, [], length, map, All}
+use Rattle.std.specs.Prelude.{◌^◌, ◌≢◌, ◌<◌, ◌≤◌, List, [], length, map, All}
 use Rattle.jm_bytes.specs.declared.words.Order.{Order}
 use Rattle.jm_strings.specs.Texts.{IsZeroFree, section_of}
 use Rattle.jm_form.specs.declared.container.Header.{Header}
 use Rattle.jm_form.specs.Greedy.{GreedyTable, word_of}
 use Rattle.jm_form.specs.Layout.{Index, Written, image_of, locations_text, names_of}
 use Rattle.jm_form.specs.Serves.{Serves}
-
--- the most bytes that a written image has
-abbrev pub image_limit : ℕ
-image_limit = 1073741824
+use Rattle.jm_writer.specs.Drafts.{image_limit}
 
 -- names that have a byte and no zero byte, a table that serves them (so they differ), whose
 -- redirects have words, and an image of no more bytes than that
