@@ -1,5 +1,5 @@
 -- Flags of slots: one name more that is sent, and marks that are set and taken away.
-use Rattle.std.proofs.Common.{◌≡◌, ℕ, suc, ◌+◌, ◌-◌, ◌%◌, ◌==◌, ◌<◌, inl, inr, Bool, true, false, cond, ◌||◌, List, [], ◌∷◌, ◌++◌, Some, length, set, take, drop, get_or, refl, sym, ap, ◌∙◌, arith}
+use Rattle.std.proofs.Common.{◌≡◌, ℕ, suc, ◌+◌, ◌-◌, ◌%◌, ◌==◌, ◌<◌, inl, inr, Bool, true, false, cond, ◌||◌, List, [], ◌∷◌, ◌++◌, Some, length, map, set, take, drop, get_or, refl, sym, ap, ◌∙◌, arith, Bor}
 use Rattle.std.proofs.lemmas.Bool.{or_from, or_left, or_right, cases_eq, eq-eqb, ne_eqb, lt-ltb}
 use Rattle.std.proofs.lemmas.List.{take_more, drop_more, take-append-drop, get_or-set_same, get_or-set_other, length-set, map-append}
 use Rattle.std.proofs.lemmas.List.Elements.{filter_map-append}
@@ -9,8 +9,7 @@ use Rattle.jm_form.specs.declared.table.Redirect.TheVariants as redirect
 use Rattle.jm_form.specs.Greedy.{is_among, are_free, slots_led}
 use Rattle.jm_form.specs.Table.{slot_of}
 use Rattle.jm_form.proofs.FreeLaws.{among_append, free_untaken}
-use Rattle.jm_redirect.specs.declared.turns.Turn.{Turn}
-use Rattle.jm_redirect.specs.Marks.{Marks, names_at, slots_sent}
+use Rattle.jm_redirect.specs.Marks.{Marks, slots_sent}
 
 -- the slot to which a seed sends one name
 sent_one : (slots seed : ℕ) (name : List ℕ) → 0 < slots → slots_led slots (redirect.Seed seed) (name ∷ []) ≡ (hash seed name % slots) ∷ []
@@ -19,11 +18,11 @@ sent_one slots seed name some =
     rw (lt-ltb (hash seed name % slots) slots below) refl
 
 -- one name more is sent
-pub sent_more : (names : List (List ℕ)) (slots seed : ℕ) (turns : List Turn) (i : ℕ) (d : Turn) → 0 < slots → i < length turns → slots_sent names slots seed (take (i + 1) turns) ≡ slots_sent names slots seed (take i turns) ++ (hash seed (get_or names (get_or turns i d).place []) % slots) ∷ []
-sent_more names slots seed turns i d some inside =
-    let one = get_or turns i d in
-    let name = get_or names one.place [] in
-    ap (slots_sent names slots seed) (take_more turns i d inside) ∙ ap (slots_led slots (redirect.Seed seed)) (map-append (λ turn. get_or names turn.place []) (take i turns) (one ∷ [])) ∙ filter_map-append (λ n. slot_of slots n (redirect.Seed seed)) (names_at names (take i turns)) (name ∷ []) ∙ ap (λ l. slots_sent names slots seed (take i turns) ++ l) (sent_one slots seed name some)
+pub sent_more : (names : List (Bor (List ℕ))) (slots seed i : ℕ) (d : Bor (List ℕ)) → 0 < slots → i < length names → slots_sent slots seed (map (λ name. name.now) (take (i + 1) names)) ≡ slots_sent slots seed (map (λ name. name.now) (take i names)) ++ (hash seed (get_or names i d).now % slots) ∷ []
+sent_more names slots seed i d some inside =
+    let now : Bor (List ℕ) → List ℕ = λ name. name.now in
+    let one = get_or names i d in
+    ap (λ l. slots_sent slots seed (map now l)) (take_more names i d inside) ∙ ap (slots_sent slots seed) (map-append now (take i names) (one ∷ [])) ∙ filter_map-append (λ n. slot_of slots n (redirect.Seed seed)) (map now (take i names)) (one.now ∷ []) ∙ ap (λ l. slots_sent slots seed (map now (take i names)) ++ l) (sent_one slots seed one.now some)
 
 -- one mark less, at a slot
 pub unmarked_more : (flags now : List Bool) (sent : List ℕ) (gone slot : ℕ) → gone < length now → get_or now slot false ≡ cond (is_among sent slot) false (get_or flags slot false) → get_or (set now gone false) slot false ≡ cond (is_among (sent ++ gone ∷ []) slot) false (get_or flags slot false)
@@ -90,11 +89,10 @@ find_next p i n below fails =
     ap (λ m. find p (range_with_len i m)) left ∙ ap (λ b. cond b (Some i) (find p (range_with_len (i + 1) (n - (i + 1))))) fails
 
 -- the slots of all names, around the one at a place
-pub sent_split : (names : List (List ℕ)) (slots seed : ℕ) (turns : List Turn) (i : ℕ) (d : Turn) → 0 < slots → i < length turns → slots_sent names slots seed turns ≡ slots_sent names slots seed (take i turns) ++ (hash seed (get_or names (get_or turns i d).place []) % slots) ∷ slots_sent names slots seed (drop (i + 1) turns)
-sent_split names slots seed turns i d some inside =
-    let one = get_or turns i d in
-    let name = get_or names one.place [] in
-    let send : List (List ℕ) → List ℕ = slots_led slots (redirect.Seed seed) in
-    let named : List Turn → List (List ℕ) = names_at names in
-    let whole : turns ≡ take i turns ++ one ∷ drop (i + 1) turns = sym (take-append-drop i turns) ∙ ap (λ l. take i turns ++ l) (drop_more turns i d inside) in
-    ap (slots_sent names slots seed) whole ∙ ap send (map-append (λ turn. get_or names turn.place []) (take i turns) (one ∷ drop (i + 1) turns)) ∙ filter_map-append (λ n. slot_of slots n (redirect.Seed seed)) (named (take i turns)) (name ∷ named (drop (i + 1) turns)) ∙ ap (λ l. send (named (take i turns)) ++ l) (filter_map-append (λ n. slot_of slots n (redirect.Seed seed)) (name ∷ []) (named (drop (i + 1) turns)) ∙ ap (λ l. l ++ send (named (drop (i + 1) turns))) (sent_one slots seed name some))
+pub sent_split : (names : List (Bor (List ℕ))) (slots seed i : ℕ) (d : Bor (List ℕ)) → 0 < slots → i < length names → slots_sent slots seed (map (λ name. name.now) names) ≡ slots_sent slots seed (map (λ name. name.now) (take i names)) ++ (hash seed (get_or names i d).now % slots) ∷ slots_sent slots seed (map (λ name. name.now) (drop (i + 1) names))
+sent_split names slots seed i d some inside =
+    let now : Bor (List ℕ) → List ℕ = λ name. name.now in
+    let one = get_or names i d in
+    let send : List (List ℕ) → List ℕ = slots_sent slots seed in
+    let whole : names ≡ take i names ++ one ∷ drop (i + 1) names = sym (take-append-drop i names) ∙ ap (λ l. take i names ++ l) (drop_more names i d inside) in
+    ap (λ l. send (map now l)) whole ∙ ap send (map-append now (take i names) (one ∷ drop (i + 1) names)) ∙ filter_map-append (λ n. slot_of slots n (redirect.Seed seed)) (map now (take i names)) (one.now ∷ map now (drop (i + 1) names)) ∙ ap (λ l. send (map now (take i names)) ++ l) (filter_map-append (λ n. slot_of slots n (redirect.Seed seed)) (one.now ∷ []) (map now (drop (i + 1) names)) ∙ ap (λ l. l ++ send (map now (drop (i + 1) names))) (sent_one slots seed one.now some))

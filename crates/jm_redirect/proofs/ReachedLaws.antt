@@ -8,6 +8,7 @@ use Rattle.std.proofs.lemmas.List.FromFn.{fill_by_all, length-map-range_with_len
 use Rattle.std.proofs.Math.Seq.{drop-append_seam}
 use Rattle.std.specs.List.{flat_map, range_with_len}
 use Rattle.jm_bytes.proofs.Members.{all_from_contains}
+use Rattle.jm_bytes.proofs.SameOrder.{from_flat_map}
 use Rattle.jm_form.specs.declared.table.Redirect.{Redirect}
 use Rattle.jm_form.specs.declared.table.Redirect.TheVariants as redirect
 use Rattle.jm_form.specs.Greedy.{greedy, given_in_turn, buckets_in_turn, names_in, redirect_in, redirect_for, slots_led, is_among, table_of}
@@ -86,9 +87,13 @@ says names slots bucket later turns d some split =
 pub first_says : (names : List (List ℕ)) (slots : ℕ) (turns : List Turn) (buckets : List ℕ) (d : Turn) (first : First names slots turns buckets) → Says names slots first.bucket first.later turns (get_or turns 0 d)
 first_says names slots turns buckets d first = says names slots first.bucket first.later turns d first.some first.split
 
--- the turns of a bucket are those of names in the list
-pub turns_within : (names : List (List ℕ)) (slots bucket : ℕ) → AllWithin names (turns_in names slots bucket)
-turns_within names slots bucket = all_from_contains (λ (turn : Turn). turn.place < length names) (turns_in names slots bucket) (λ turn there. (from_turns_in names slots bucket turn there).within)
+-- the turns of buckets are those of names in the list
+pub turns_within : (names : List (List ℕ)) (slots : ℕ) (buckets : List ℕ) → AllWithin names (flat_map (turns_in names slots) buckets)
+turns_within names slots buckets =
+    all_from_contains (λ (turn : Turn). turn.place < length names) (flat_map (turns_in names slots) buckets)
+    (λ turn there.
+    let from = from_flat_map (turns_in names slots) buckets turn there in
+    (from_turns_in names slots from.0 turn from.2).within)
 
 -- what all buckets got, with one more
 redirect_set : (slots bucket : ℕ) (r : Redirect) (given : List (ℕ × Redirect)) (redirects : List Redirect) → bucket < slots → redirects ≡ map (redirect_in given) (range_with_len 0 slots) → set redirects bucket r ≡ map (redirect_in ((bucket, r) ∷ given)) (range_with_len 0 slots)

@@ -1,9 +1,9 @@
 -- The turns of names in order are those of the buckets in turn.
-use Rattle.std.proofs.Common.{◌≡◌, ◌≢◌, ℕ, ◌+◌, ◌-◌, ◌%◌, ◌==◌, ◌<◌, ◌≤◌, ◌⊎◌, inl, inr, Bool, false, List, [], length, map, get_or, AllPairs, Contains, IsPermutation, IsSorted, refl, sym, ap, ◌∙◌, arith}
+use Rattle.std.proofs.Common.{◌≡◌, ◌≢◌, ℕ, ◌+◌, ◌-◌, ◌%◌, ◌==◌, ◌<◌, ◌≤◌, ◌⊎◌, inl, inr, Bool, false, List, [], length, map, take, drop, get_or, AllPairs, Contains, IsPermutation, IsSorted, refl, sym, ap, ◌∙◌, arith, Bor}
 use Rattle.std.proofs.lemmas.Bool.{eqb-true, eq-eqb, cases_eq}
 use Rattle.std.proofs.lemmas.Bool.Decides.{nat_tests}
 use Rattle.std.proofs.lemmas.Cmp.{on_total, then_total, nat_cmp_total}
-use Rattle.std.proofs.lemmas.List.{length-map, get_or-map}
+use Rattle.std.proofs.lemmas.List.{length-map, get_or-map, take-map, drop-map}
 use Rattle.std.proofs.lemmas.List.FromFn.{fill_by_all, length-range_with_len, get_or-range_with_len}
 use Rattle.std.proofs.lemmas.List.Kept.{AllPairs-filter}
 use Rattle.std.proofs.lemmas.List.Sorted.{ranks_by, sorted_far, Contains-permutation, IsPermutation-sym}
@@ -188,3 +188,17 @@ sorted_in_turn names slots ts some moved sorted =
     (λ t there.
     let from = from_flat_map (turns_in names slots) buckets t there in
     Contains-permutation all ts t moved (from_filter (λ (x : Turn). x.bucket == from.0) all t from.2).0)
+
+-- Names beside their turns
+
+pub same_long : (names : List (List ℕ)) (named : List (Bor (List ℕ))) (turns : List Turn) → map (λ name. name.now) named ≡ names_at names turns → length named ≡ length turns
+same_long names named turns is =
+    sym (length-map named (λ (name : Bor (List ℕ)). name.now)) ∙ ap length is ∙ length-map turns (λ (turn : Turn). get_or names turn.place [])
+
+pub front_named : (names : List (List ℕ)) (named : List (Bor (List ℕ))) (turns : List Turn) (n : ℕ) {front : List (Bor (List ℕ))} → map (λ name. name.now) named ≡ names_at names turns → front ≡ take n named → map (λ name. name.now) front ≡ names_at names (take n turns)
+front_named names named turns n is cut =
+    ap (map (λ (name : Bor (List ℕ)). name.now)) cut ∙ sym (take-map (λ (name : Bor (List ℕ)). name.now) n named) ∙ ap (take n) is ∙ take-map (λ (turn : Turn). get_or names turn.place []) n turns
+
+pub back_named : (names : List (List ℕ)) (named : List (Bor (List ℕ))) (turns : List Turn) (n : ℕ) {back : List (Bor (List ℕ))} → map (λ name. name.now) named ≡ names_at names turns → back ≡ drop n named → map (λ name. name.now) back ≡ names_at names (drop n turns)
+back_named names named turns n is cut =
+    ap (map (λ (name : Bor (List ℕ)). name.now)) cut ∙ sym (drop-map (λ (name : Bor (List ℕ)). name.now) n named) ∙ ap (drop n) is ∙ drop-map (λ (turn : Turn). get_or names turn.place []) n turns

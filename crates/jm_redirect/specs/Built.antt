@@ -1,12 +1,18 @@
 -- The table that is built (jimage 1.0), with its redirect words as signed numbers.
-use Rattle.std.specs.Prelude.{ℕ, ◌≡◌, ℤ, List, length, map, All, Option, None}
+use Rattle.std.specs.Prelude.{ℕ, ◌≡◌, ◌%◌, ℤ, List, length, map, All, None}
+use Rattle.std.specs.Prelude.{slice_index_or}
 use Rattle.std.specs.Int.{w32, cast_signed, cast_unsigned}
 use Rattle.jm_form.specs.declared.table.Redirect.{Redirect}
+use Rattle.jm_form.specs.declared.table.Redirect.TheVariants.{Nowhere}
 use Rattle.jm_form.specs.Greedy.{GreedyTable, greedy, table_lengths, word_of}
 use Rattle.jm_form.specs.Serves.{Serves}
 use Rattle.jm_redirect.specs.declared.building.BuildError.{BuildError}
 use Rattle.jm_redirect.specs.declared.building.BuildError.TheVariants.{NoTable, Memory}
 use Rattle.jm_redirect.specs.declared.building.Table.{Table}
+
+-- the redirect of a hash's bucket
+abbrev pub redirect_at : List Redirect → ℕ → Redirect
+redirect_at redirects hash = slice_index_or redirects (hash % length redirects) Nowhere
 
 -- the redirects as words
 abbrev pub words_of : List Redirect → List ℤ

@@ -21,6 +21,6 @@ AllWithin names turns = All (λ turn. turn.place < length names) turns
 abbrev pub names_at : List (List ℕ) → List Turn → List (List ℕ)
 names_at names turns = map (λ turn. slice_index_or names turn.place []) turns
 
--- the slots to which a seed sends the names that have these turns
-abbrev pub slots_sent : List (List ℕ) → ℕ → ℕ → List Turn → List ℕ
-slots_sent names slots seed turns = slots_led slots (redirect.Seed seed) (names_at names turns)
+-- the slots to which a seed sends names
+abbrev pub slots_sent : ℕ → ℕ → List (List ℕ) → List ℕ
+slots_sent slots seed names = slots_led slots (redirect.Seed seed) names

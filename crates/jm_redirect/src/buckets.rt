@@ -7,7 +7,7 @@ ghost use Rattle.jm_form.specs.Greedy.{greedy, least_seed, least_free, redirect_
 ghost use Rattle.jm_redirect.specs.Marks.{Marks, TakenBelow, AllWithin, names_at, slots_sent};
 ghost use Rattle.jm_redirect.specs.Reached.{Reached};
 
-use crate::lists::{flags, nowhere};
+use crate::lists::{flags, nowhere, room_for};
 use crate::marks::{mark, unmarked_from};
 use crate::turns::{Turn, turns_in_order};
 use jm_bytes::{List, NoMemory, Text};
@@ -18,17 +18,16 @@ use std::alloc::Global;
 const LAST_SEED: u32 = 1000;
 
 /// The least seed that sends the names to slots which differ and aren't taken. They are marked.
-fn least_seed(names: &[Text], turns: &[Turn], slots: u32, taken: &mut [bool]) -> Option<u32>
-    requires within { AllWithin names.now turns.now }
+fn least_seed(names: &[&[u8]], slots: u32, taken: &mut [bool]) -> Option<u32>
     requires some { 0 < slots }
     requires size { length taken.old ≡ slots }
     ensures seed { (before : List ℕ) → Marks taken.old before →
-        result ≡ least_seed slots before (names_at names.now turns.now) }
-    ensures marks { (before : List ℕ) → Marks taken.old before → IfSome result
-        (λ seed. Marks taken.new (slots_sent names.now slots seed turns.now ++ before)) }
+        result ≡ least_seed slots before (map (λ name. name.now) names.now) }
+    ensures marks { (before : List ℕ) → Marks taken.old before → IfSome result (λ seed.
+        Marks taken.new (slots_sent slots seed (map (λ name. name.now) names.now) ++ before)) }
 {
     for seed in 1..LAST_SEED + 1 {
-        if mark(names, turns, seed, slots, taken) {
+        if mark(names, seed, slots, taken) {
             return Some(seed);
         }
     }
@@ -55,71 +54,105 @@ fn least_free(free: &mut usize, taken: &mut [bool]) -> Option<u32>
 
 /// What the bucket of these names gets. Its slots are marked.
 fn redirect_for(
-    names: &[Text],
-    turns: &[Turn],
+    names: &[&[u8]],
     slots: u32,
     free: &mut usize,
     taken: &mut [bool],
 ) -> Option<Redirect>
-    requires within { AllWithin names.now turns.now }
     requires some { 0 < slots }
     requires size { length taken.old ≡ slots }
     ensures redirect { (before : List ℕ) → Marks taken.old before → TakenBelow free.old before →
-        result ≡ redirect_for slots before (names_at names.now turns.now) }
-    ensures marks { (before : List ℕ) → Marks taken.old before → IfSome result
-        (λ r. Marks taken.new (slots_led slots r (names_at names.now turns.now) ++ before)) }
+        result ≡ redirect_for slots before (map (λ name. name.now) names.now) }
+    ensures marks { (before : List ℕ) → Marks taken.old before → IfSome result (λ r.
+        Marks taken.new (slots_led slots r (map (λ name. name.now) names.now) ++ before)) }
     ensures free { (before : List ℕ) → Marks taken.old before → TakenBelow free.old before →
         TakenBelow free.new before }
 {
-    if turns.len() == 1 {
+    if names.len() == 1 {
         Some(Redirect::Slot(least_free(free, taken)?))
     } else {
-        Some(Redirect::Seed(least_seed(names, turns, slots, taken)?))
+        Some(Redirect::Seed(least_seed(names, slots, taken)?))
     }
 }
 
-/// Gives the first of the buckets in turn its redirect, and answers the turns of the others.
-fn give_first<'a>(
+/// Turns that are left, and the names that have them.
+#[derive(Clone, Copy, Debug)]
+struct Left<'t, 'n> {
+    turns: &'t [Turn],
+    names: &'t [&'n [u8]],
+}
+
+/// Gives the first of the buckets in turn its redirect, and answers what is left for the others.
+fn give_first<'t, 'n>(
     names: &[Text],
-    turns: &'a [Turn],
+    left: Left<'t, 'n>,
     free: &mut usize,
     taken: &mut [bool],
     redirects: &mut [Redirect],
-) -> Option<&'a [Turn]>
-    requires some { 0 < length turns.now }
+) -> Option<Left<'t, 'n>>
+    requires some { 0 < length left.turns.now }
     requires few { length redirects.old < 2 ^ 32 }
+    requires named { map (λ name. name.now) left.names.now ≡ names_at names.now left.turns.now }
     requires reached { Reached names.now (length redirects.old)
-        taken.old redirects.old free.old turns.now }
-    ensures reached { IfSome result (λ others.
-        Reached names.now (length redirects.old) taken.new redirects.new free.new others.now) }
-    ensures shorter { IfSome result (λ others. length others.now < length turns.now) }
+        taken.old redirects.old free.old left.turns.now }
+    ensures named { IfSome result (λ others.
+        map (λ name. name.now) others.names.now ≡ names_at names.now others.turns.now) }
+    ensures reached { IfSome result (λ others. Reached names.now (length redirects.old)
+        taken.new redirects.new free.new others.turns.now) }
+    ensures shorter { IfSome result (λ others.
+        length others.turns.now < length left.entry.turns.now) }
     ensures none { IfNone result (greedy names.now (length redirects.old) ≡ None) }
 {
-    let size = names.len() - turns[0].others as usize;
-    let (bucket, others) = turns.split_at(size);
-    let redirect = redirect_for(names, bucket, redirects.len() as u32, free, taken)?;
-    redirects[turns[0].bucket as usize] = redirect;
-    Some(others)
+    let size = names.len() - left.turns[0].others as usize;
+    let (_, turns) = left.turns.split_at(size);
+    let (bucket, others) = left.names.split_at(size);
+    let redirect = redirect_for(bucket, redirects.len() as u32, free, taken)?;
+    redirects[left.turns[0].bucket as usize] = redirect;
+    Some(Left {
+        turns,
+        names: others,
+    })
 }
 
 /// Gives the buckets of the turns their redirects, in turn, or answers that one of them gets none.
-fn give_all(names: &[Text], turns: &[Turn], taken: &mut [bool], redirects: &mut [Redirect]) -> bool
+fn give_all(names: &[Text], all: Left, taken: &mut [bool], redirects: &mut [Redirect]) -> bool
     requires few { length redirects.old < 2 ^ 32 }
+    requires named { map (λ name. name.now) all.names.now ≡ names_at names.now all.turns.now }
     requires reached { Reached names.now (length redirects.old)
-        taken.old redirects.old 0 turns.now }
+        taken.old redirects.old 0 all.turns.now }
     ensures all { OnTrue result (option_map (λ table. table.redirects)
         (greedy names.now (length redirects.old)) ≡ Some redirects.new) }
     ensures none { OnFalse result (greedy names.now (length redirects.old) ≡ None) }
 {
     let mut free = 0;
-    let mut left = turns;
-    while !left.is_empty() {
+    let mut left = all;
+    while !left.turns.is_empty() {
         match give_first(names, left, &mut free, taken, redirects) {
             Some(others) => left = others,
             None => return false,
         }
     }
     true
+}
+
+/// The names that have these turns.
+///
+/// They lie far apart, and are read here one after another, with no choice in between, so that the
+/// processor reads many at a time.
+fn names_in_turn<'n>(
+    alloc: Global,
+    names: &'n [Text],
+    turns: &[Turn],
+) -> Result<List<&'n [u8]>, NoMemory>
+    requires { AllWithin names.now turns.now }
+    ensures { IfOk result
+        (λ found. map (λ name. name.now) found ≡ names_at names.now turns.now) }
+{
+    let mut found = room_for(alloc, turns.len())?;
+    for turn in turns {
+        found.push(names[turn.place as usize].as_slice())?;
+    }
+    Ok(found)
 }
 
 /// The redirect of each bucket in the greedy table of so many slots, if there is one.
@@ -135,9 +168,14 @@ pub fn redirects_at(
         option_map (λ table. table.redirects) (greedy names.now slots)) }
 {
     let turns = turns_in_order(alloc, hashes, slots)?;
+    let named = names_in_turn(alloc, names, turns.as_slice())?;
+    let left = Left {
+        turns: turns.as_slice(),
+        names: named.as_slice(),
+    };
     let mut taken = flags(alloc, slots as usize)?;
     let mut redirects = nowhere(alloc, slots as usize)?;
-    if give_all(names, turns.as_slice(), &mut taken, &mut redirects) {
+    if give_all(names, left, &mut taken, &mut redirects) {
         Ok(Some(List::from_vec(redirects)))
     } else {
         Ok(None)

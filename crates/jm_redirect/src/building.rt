@@ -6,7 +6,7 @@ ghost use Rattle.jm_names.specs.Hash.{hash, default_seed};
 ghost use Rattle.jm_form.specs.declared.table.Redirect.TheVariants.{Nowhere};
 ghost use Rattle.jm_form.specs.Greedy.{greedy, bucket_of, first_table, next_length, word_of};
 ghost use Rattle.jm_form.specs.Table.{slot_of};
-ghost use Rattle.jm_redirect.specs.Built.{words_of, with_words, IsRefusal};
+ghost use Rattle.jm_redirect.specs.Built.{redirect_at, words_of, with_words, IsRefusal};
 ghost use Rattle.jm_redirect.specs.Built.{ServesNames};
 
 use crate::buckets::redirects_at;
@@ -72,6 +72,26 @@ fn push_some(slots: &mut List<u32>, slot: Option<u32>) -> Result<(), NoMemory>
     }
 }
 
+/// The redirect of each hash's bucket.
+///
+/// They lie far apart, and no choice hangs on one here, so that the processor reads many at a time.
+fn redirects_of(
+    alloc: Global,
+    hashes: &[u32],
+    redirects: &[Redirect],
+) -> Result<List<Redirect>, NoMemory>
+    requires some { 0 < length hashes.now → 0 < length redirects.now }
+    requires few { length redirects.now < 2 ^ 32 }
+    ensures { IfOk result (λ found. found ≡ map (redirect_at redirects.now) hashes.now) }
+{
+    let mut found = room_for(alloc, hashes.len())?;
+    let length = redirects.len() as u32;
+    for hash in hashes {
+        found.push(redirects[(*hash % length) as usize])?;
+    }
+    Ok(found)
+}
+
 /// The slots to which the redirects of their buckets lead the names.
 fn slots_of(
     alloc: Global,
@@ -87,11 +107,12 @@ fn slots_of(
         (slice_index_or redirects.now (bucket_of (length redirects.now) name) Nowhere))
         names.now) }
 {
+    let found = redirects_of(alloc, hashes, redirects)?;
+    let given = found.as_slice();
     let mut slots = room_for(alloc, names.len())?;
     let length = redirects.len() as u32;
     for place in 0..names.len() {
-        let redirect = redirects[(hashes[place] % length) as usize];
-        let slot = slot_of(length, names[place].as_slice(), redirect);
+        let slot = slot_of(length, names[place].as_slice(), given[place]);
         push_some(&mut slots, slot)?;
     }
     Ok(slots)

@@ -1,13 +1,16 @@
 //! The slots to which a table leads names.
-ghost use Rattle.std.specs.Prelude.{◌≡◌, ◌<◌};
+ghost use Rattle.std.specs.Prelude.{◌≡◌, ◌<◌, map, IfOk};
 ghost use Rattle.jm_names.specs.Hash.{hash};
 ghost use Rattle.jm_form.specs.Table.{redirect_of, slot_of};
-ghost use Rattle.jm_writer.specs.Parts.{slot_in};
+ghost use Rattle.jm_writer.specs.Parts.{slot_or_first, word_in};
 
 use crate::index::unsigned;
+use crate::lists::{push, room_for};
+use jm_bytes::{NoMemory, Text};
 use jm_form::Redirect;
 use jm_names::{DEFAULT_SEED, Pieces, hash_pieces};
 use jm_redirect::Table;
+use std::alloc::Global;
 
 /// The hash of a name from a seed.
 fn hash_of(seed: u32, name: &[u8]) -> u32
@@ -39,27 +42,60 @@ fn redirect_of(word: u32) -> Redirect
 
 /// The slot to which a redirect leads a name in a table of so many slots.
 fn slot_of(slots: u32, name: &[u8], redirect: Redirect) -> Option<u32>
-    requires { 0 < slots }
     ensures { result ≡ slot_of slots name.now redirect }
 {
     match redirect {
         Redirect::Nowhere => None,
         Redirect::Slot(slot) => (slot < slots).then_some(slot),
-        Redirect::Seed(seed) => Some(hash_of(seed, name) % slots),
+        Redirect::Seed(seed) => Some(hash_of(seed, name).checked_rem(slots)?),
     }
 }
 
-/// The slot to which the table leads a name, if it leads it to one. A name of the table is led to
-/// its own; no name is looked at.
-pub fn slot_in(table: &Table, name: &[u8]) -> Option<u32>
-    ensures { result ≡ slot_in table.now name.now }
+/// The redirect word of a name's bucket; 0 in a table of no slot.
+fn word_in(table: &Table, name: &[u8]) -> u32
+    ensures { result ≡ word_in table.now name.now }
 {
     if table.length == 0 {
-        return None;
+        return 0;
     }
     let bucket = hash_of(DEFAULT_SEED, name) % table.length;
     match table.redirect.as_slice().get(bucket as usize) {
-        Some(word) => slot_of(table.length, name, redirect_of(unsigned(*word))),
-        None => None,
+        Some(word) => unsigned(*word),
+        None => 0,
     }
+}
+
+/// The redirect words of the names' buckets. They lie far apart, and no choice hangs on one here,
+/// so that the processor reads many at a time.
+fn words_in(alloc: Global, table: &Table, names: &[Text]) -> Result<Vec<u32>, NoMemory>
+    ensures { IfOk result (λ words. words.items ≡ map (word_in table.now) names.now) }
+{
+    let mut words = room_for(alloc, names.len())?;
+    for name in names {
+        push(&mut words, word_in(table, name.as_slice()))?;
+    }
+    Ok(words)
+}
+
+/// The slot to which the table leads a name by the redirect word of its bucket; 0 where it leads it
+/// to none.
+fn slot_by(table: &Table, name: &[u8], word: u32) -> u32
+    requires { word ≡ word_in table.now name.now }
+    ensures { result ≡ slot_or_first table.now name.now }
+{
+    slot_of(table.length, name, redirect_of(word)).unwrap_or(0)
+}
+
+/// The slots to which the table leads the names, 0 for a name that it leads to none. A name of the
+/// table is led to its own; no name is looked at.
+pub fn slots_in(alloc: Global, table: &Table, names: &[Text]) -> Result<Vec<u32>, NoMemory>
+    ensures { IfOk result (λ slots. slots.items ≡ map (slot_or_first table.now) names.now) }
+{
+    let words = words_in(alloc, table, names)?;
+    let mut slots = room_for(alloc, names.len())?;
+    for place in 0..names.len() {
+        let slot = slot_by(table, names[place].as_slice(), words[place]);
+        push(&mut slots, slot)?;
+    }
+    Ok(slots)
 }

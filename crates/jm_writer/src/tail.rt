@@ -1,5 +1,5 @@
 //! The contents of the nodes.
-ghost use Rattle.std.specs.Prelude.{◌≡◌, ◌∷◌, ◌++◌, [], map, IfOk, OnOk};
+ghost use Rattle.std.specs.Prelude.{◌≡◌, ◌∷◌, ◌++◌, [], map, slice_get, unwrap_or, IfOk, OnOk};
 ghost use Rattle.std.specs.List.{flat_map};
 ghost use Rattle.jm_form.specs.Nodes.{empty_flag, words_text};
 ghost use Rattle.jm_form.specs.Layout.{text_place};
@@ -8,27 +8,43 @@ ghost use Rattle.jm_writer.specs.Parts.{child_word, holds_words, owner_pair, tai
 use crate::index::put_words;
 use crate::lists::room_for;
 use crate::rows::text_place;
-use crate::slots::slot_in;
+use crate::slots::slots_in;
 use jm_bytes::{List, NoMemory, Order, Text};
 use jm_form::{Holds, Owner, TreeNode};
 use jm_redirect::Table;
 use jm_strings::Strings;
 use std::alloc::Global;
 
-/// The place of the row at the slot to which the table leads a name; of slot 0 where it leads it to
-/// none.
-fn child_word(table: &Table, places: &[u32], name: &[u8]) -> u32
-    ensures { result ≡ child_word table.now places.now name.now }
+/// The place of the row at a slot; 0 where there is no such slot.
+fn place_at(places: &[u32], slot: u32) -> u32
+    ensures { result ≡ unwrap_or (slice_get places.now slot) 0 }
 {
-    let slot = slot_in(table, name).unwrap_or(0);
     match places.get(slot as usize) {
         Some(place) => *place,
         None => 0,
     }
 }
 
-/// Puts a word for each child at the end.
+/// Puts the places of the rows at these slots at the end.
+fn put_places(
+    text: &mut Vec<u8>,
+    order: Order,
+    places: &[u32],
+    slots: &[u32],
+) -> Result<(), NoMemory>
+    ensures { OnOk result (text.new.items ≡ text.old.items
+        ++ words_text order (map (λ slot. unwrap_or (slice_get places.now slot) 0) slots.now)) }
+{
+    for slot in slots {
+        put_words(text, order, &[place_at(places, *slot)])?;
+    }
+    Ok(())
+}
+
+/// Puts a word for each child at the end: the place of the row at the slot to which the table leads
+/// its name; of slot 0 where it leads it to none.
 fn put_children(
+    alloc: Global,
     text: &mut Vec<u8>,
     order: Order,
     table: &Table,
@@ -38,10 +54,8 @@ fn put_children(
     ensures { OnOk result (text.new.items ≡ text.old.items
         ++ words_text order (map (child_word table.now places.now) names.now)) }
 {
-    for name in names {
-        put_words(text, order, &[child_word(table, places, name.as_slice())])?;
-    }
-    Ok(())
+    let slots = slots_in(alloc, table, names)?;
+    put_places(text, order, places, slots.as_slice())
 }
 
 /// Puts two words for each owner at the end: whether the package is empty there, and the place of
@@ -65,6 +79,7 @@ fn put_owners(
 
 /// Puts the content of a node at the end.
 fn put_holds(
+    alloc: Global,
     text: &mut Vec<u8>,
     order: Order,
     strings: &Strings,
@@ -76,7 +91,9 @@ fn put_holds(
         ++ words_text order (holds_words strings.now table.now places.now holds.now)) }
 {
     match holds {
-        Holds::Children(names) => put_children(text, order, table, places, names.as_slice()),
+        Holds::Children(names) => {
+            put_children(alloc, text, order, table, places, names.as_slice())
+        }
         Holds::Owners(owners) => put_owners(text, order, strings, owners.as_slice()),
     }
 }
@@ -95,7 +112,7 @@ pub fn tail_bytes(
 {
     let mut text = room_for(alloc, 0)?;
     for node in nodes {
-        put_holds(&mut text, order, strings, table, places, &node.holds)?;
+        put_holds(alloc, &mut text, order, strings, table, places, &node.holds)?;
     }
     Ok(Text::from_vec(text))
 }
