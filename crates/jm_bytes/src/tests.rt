@@ -38,8 +38,12 @@ fn texts_and_lists_grow(rt: HostRuntime) -> Result<(), Fail> {
         b"abc".as_slice()
     );
     assert_eq!(rt; Text::new(rt.alloc()).len(), 0);
+    let mut bytes = copy_of(rt.alloc(), b"ab")?;
+    extend(&mut bytes, b"cd")?;
+    assert_eq!(rt; bytes.as_slice(), b"abcd".as_slice());
 
-    let mut numbers = List::new(rt.alloc());
+    let mut numbers = List::with_capacity(rt.alloc(), 1)?;
+    assert_eq!(rt; List::<u32>::new(rt.alloc()).len(), 0);
     numbers.push(7u32)?;
     numbers.push(8)?;
     assert_eq!(rt; numbers.len(), 2);
