@@ -1,7 +1,7 @@
 ghost use Rattle.std.specs.Prelude.{◌≡◌, ◌++◌, ◌∷◌, [], IfOk, OnOk, OnErr, option_map};
 ghost use Rattle.jm_outside.specs.Files.{file, put, add, after_front, names_below};
 
-use jm_bytes::{List, NoMemory, Text, copy_of};
+use jm_bytes::{List, NoMemory, Text, copy_of, extend};
 use std::alloc::Global;
 use std::collections::BTreeMap;
 use std::marker::Model;
@@ -86,14 +86,4 @@ fn name_below<'a>(folder: &[u8], path: &'a [u8]) -> Option<&'a [u8]>
     ensures { option_map (λ name. name.now) result ≡ after_front (folder.now ++ 47 ∷ []) path.now }
 {
     path.strip_prefix(folder)?.strip_prefix(b"/")
-}
-
-fn extend(file: &mut Vec<u8>, bytes: &[u8]) -> Result<(), NoMemory>
-    ensures ok { OnOk result (file.new.items ≡ file.old.items ++ bytes.now) }
-    ensures err { OnErr result (file.new.items ≡ file.old.items) }
-{
-    match file.extend_from_slice(bytes) {
-        Ok(()) => Ok(()),
-        Err(_) => Err(NoMemory),
-    }
 }

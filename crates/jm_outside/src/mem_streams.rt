@@ -6,7 +6,7 @@ ghost use Rattle.jm_outside.specs.Outcome.{CountsFaults};
 
 use crate::calls::Calls;
 use crate::streams::{Failed, Sink, SinkError, Source};
-use jm_bytes::{List, NoMemory, Text};
+use jm_bytes::{List, NoMemory, Text, extend};
 use std::alloc::Global;
 
 /// A source of bytes in memory, which tells its rest.
@@ -173,10 +173,7 @@ impl MemSink {
         ensures err { OnErr result (bytes_in self.new ≡ bytes_in self.old) }
         ensures calls { sink_calls self.new ≡ sink_calls self.old }
     {
-        match self.bytes.extend_from_slice(bytes) {
-            Ok(()) => Ok(()),
-            Err(_) => Err(NoMemory),
-        }
+        extend(&mut self.bytes, bytes)
     }
 }
 

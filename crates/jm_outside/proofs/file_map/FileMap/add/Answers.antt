@@ -9,9 +9,9 @@ returns-in-Some-clause-ok c =
     let there = sym c.get_mut.ensures.value ∙ ap option_copied_mut c.in-Some.is in
     on_ok_weaker c.extend.result
     (λ grown. rw (← c.self.view_is)
-    (files_in-grown (λ k. k.items) (λ v. v.items) c.args.path.now c.args.bytes.now c.in-Some.file.now c.extend.new.file
-    c.self.inside.files.entries (c.get_mut.follows.lender c.extend.new.file).entries
-    c.get_mut.ensures.ordered there (c.get_mut.follows.holds c.extend.new.file).0 grown))
+    (files_in-grown (λ k. k.items) (λ v. v.items) c.args.path.now c.args.bytes.now c.in-Some.file.now c.extend.new.text
+    c.self.inside.files.entries (c.get_mut.follows.lender c.extend.new.text).entries
+    c.get_mut.ensures.ordered there (c.get_mut.follows.holds c.extend.new.text).0 grown))
     c.extend.ensures.ok
 
 pub returns-in-Some-clause-err : goal.returns-in-Some-clause-err
@@ -19,9 +19,9 @@ returns-in-Some-clause-err c =
     let there = sym c.get_mut.ensures.value ∙ ap option_copied_mut c.in-Some.is in
     on_err_weaker c.extend.result
     (λ same. rw (← c.self.view_is)
-    (files_in-kept (λ k. k.items) (λ v. v.items) c.args.path.now c.in-Some.file.now c.extend.new.file
-    c.self.inside.files.entries (c.get_mut.follows.lender c.extend.new.file).entries
-    there (c.get_mut.follows.holds c.extend.new.file).0 same))
+    (files_in-kept (λ k. k.items) (λ v. v.items) c.args.path.now c.in-Some.file.now c.extend.new.text
+    c.self.inside.files.entries (c.get_mut.follows.lender c.extend.new.text).entries
+    there (c.get_mut.follows.holds c.extend.new.text).0 same))
     c.extend.ensures.err
 
 pub returns-in_ok-copy_of-in-None-2-clause-ok : goal.returns-in_ok-copy_of-in-None-2-clause-ok
