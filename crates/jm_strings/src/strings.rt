@@ -6,7 +6,7 @@ ghost use Rattle.jm_strings.specs.Texts.{limit, section_of, place_of, with_text,
 ghost use Rattle.jm_strings.specs.declared.strings.StringsError.TheVariants.{Zero, Full};
 
 use indexmap::IndexMap;
-use jm_bytes::{NoMemory, copy_of};
+use jm_bytes::{NoMemory, copy_of, extend};
 use std::alloc::Global;
 use std::marker::Model;
 
@@ -136,9 +136,7 @@ fn append(section: &mut Vec<u8>, text: &[u8]) -> Result<(), NoMemory>
     ensures err { OnErr result (section.new.items ≡ section.old.items) }
 {
     let len = section.len();
-    if section.extend_from_slice(text).is_err() {
-        return Err(NoMemory);
-    }
+    extend(section, text)?;
     if section.push(0).is_err() {
         section.truncate(len);
         return Err(NoMemory);
