@@ -5,7 +5,7 @@ ghost use Rattle.jm_form.specs.Rows.{Spells, byte_count, usual_attribute, usual}
 
 use crate::rows::Row;
 use byteorder::{BigEndian, ByteOrder};
-use jm_bytes::{NoMemory, Text};
+use jm_bytes::{NoMemory, Text, extend};
 use std::alloc::Global;
 
 /// A row in its usual spelling: values of 0 are left out, each other one has as few bytes as it
@@ -26,7 +26,7 @@ pub fn write_row(alloc: Global, row: &Row) -> Result<Text, NoMemory>
     put_attribute(&mut text, 5, row.offset)?;
     put_attribute(&mut text, 6, row.packed)?;
     put_attribute(&mut text, 7, row.size)?;
-    put(&mut text, &[0])?;
+    extend(&mut text, &[0])?;
     Ok(Text::from_vec(text))
 }
 
@@ -40,10 +40,10 @@ fn put_attribute(text: &mut Vec<u8>, kind: u8, value: u64) -> Result<(), NoMemor
         return Ok(());
     }
     let count = byte_count(value);
-    put(text, &[kind * 8 + (count - 1) as u8])?;
+    extend(text, &[kind * 8 + (count - 1) as u8])?;
     let mut bytes = [0; 8];
     BigEndian::write_uint(&mut bytes, value, count);
-    put(text, &bytes[..count])
+    extend(text, &bytes[..count])
 }
 
 /// The least number of bytes that a value fits in.
@@ -59,15 +59,5 @@ fn byte_count(value: u64) -> usize
         0x100_0000_0000..=0xFFFF_FFFF_FFFF => 6,
         0x1_0000_0000_0000..=0xFF_FFFF_FFFF_FFFF => 7,
         _ => 8,
-    }
-}
-
-/// Puts bytes at the end.
-fn put(text: &mut Vec<u8>, bytes: &[u8]) -> Result<(), NoMemory>
-    ensures { OnOk result (text.new.items ≡ text.old.items ++ bytes.now) }
-{
-    match text.extend_from_slice(bytes) {
-        Ok(()) => Ok(()),
-        Err(_) => Err(NoMemory),
     }
 }
