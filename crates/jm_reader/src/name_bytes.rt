@@ -3,7 +3,7 @@ ghost use Rattle.jm_names.specs.Names.{join};
 ghost use Rattle.jm_names.specs.Pieces.{cut_of};
 ghost use Rattle.jm_reader.specs.Views.{mark_of};
 
-use jm_bytes::NoMemory;
+use jm_bytes::{NoMemory, extend};
 use jm_names::Pieces;
 use std::marker::Model;
 
@@ -45,16 +45,6 @@ fn pop(bytes: &mut &[u8]) -> Option<u8>
     let (first, rest) = bytes.split_first()?;
     *bytes = rest;
     Some(*first)
-}
-
-/// Puts bytes at the end of a text.
-fn extend(text: &mut Vec<u8>, bytes: &[u8]) -> Result<(), NoMemory>
-    ensures { OnOk result (text.new.items ≡ text.old.items ++ bytes.now) }
-{
-    match text.extend_from_slice(bytes) {
-        Ok(()) => Ok(()),
-        Err(_) => Err(NoMemory),
-    }
 }
 
 impl<'a> NameBytes<'a> {
