@@ -3,7 +3,7 @@ ghost use Rattle.std.specs.Prelude.{◌≡◌, ◌++◌, true, false, IfSome, If
 ghost use Rattle.std.specs.List.{after_first, before_first, before_last, list_any};
 ghost use Rattle.jm_names.specs.Names.{is_slash};
 
-use jm_bytes::{NoMemory, Text, copy_of};
+use jm_bytes::{NoMemory, Text, copy_of, extend};
 use memchr::{memchr, memrchr};
 use std::alloc::Global;
 
@@ -12,10 +12,8 @@ pub fn joined(alloc: Global, front: &[u8], text: &[u8]) -> Result<Text, NoMemory
     ensures { IfOk result (λ joined. joined ≡ front.now ++ text.now) }
 {
     let mut joined = copy_of(alloc, front)?;
-    match joined.extend_from_slice(text) {
-        Ok(()) => Ok(Text::from_vec(joined)),
-        Err(_) => Err(NoMemory),
-    }
+    extend(&mut joined, text)?;
+    Ok(Text::from_vec(joined))
 }
 
 /// What stands before the last slash; nothing where there is none.
