@@ -1,4 +1,4 @@
--- CallNumbers calls of the objects in memory, some of which fail, as values that compute (this
+-- Numbered calls of the objects in memory, some of which fail, as values that compute (this
 -- project's rule).
 use Rattle.std.specs.Prelude.{◌+◌, ◌-◌, ◌^◌, ℕ, List, [], Contains, min, Bool, if◌then◌else◌}
 
