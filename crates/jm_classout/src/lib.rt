@@ -5,7 +5,7 @@ mod parts;
 mod sizes;
 mod writing;
 
-pub use parts::{put, put16, put32};
+pub use parts::{put16, put32};
 pub use sizes::size;
 pub use writing::write;
 

@@ -1,37 +1,27 @@
 ghost use Rattle.std.specs.Prelude.{◌≡◌, ◌++◌, ◌<◌, ◌^◌, ℕ, length, OnOk};
 ghost use Rattle.jm_class.specs.Classes.{u1, u2, u4, sized_text, FitsSized};
 
-use jm_bytes::NoMemory;
-
-/// Puts bytes at the end.
-pub fn put(text: &mut Vec<u8>, bytes: &[u8]) -> Result<(), NoMemory>
-    ensures { OnOk result (text.new.items ≡ text.old.items ++ bytes.now) }
-{
-    match text.extend_from_slice(bytes) {
-        Ok(()) => Ok(()),
-        Err(_) => Err(NoMemory),
-    }
-}
+use jm_bytes::{NoMemory, extend};
 
 /// Puts a byte at the end.
 pub fn put8(text: &mut Vec<u8>, n: u8) -> Result<(), NoMemory>
     ensures { OnOk result (text.new.items ≡ text.old.items ++ u1 n) }
 {
-    put(text, &n.to_be_bytes())
+    extend(text, &n.to_be_bytes())
 }
 
 /// Puts a number of two bytes at the end, the highest first.
 pub fn put16(text: &mut Vec<u8>, n: u16) -> Result<(), NoMemory>
     ensures { OnOk result (text.new.items ≡ text.old.items ++ u2 n) }
 {
-    put(text, &n.to_be_bytes())
+    extend(text, &n.to_be_bytes())
 }
 
 /// Puts a number of four bytes at the end, the highest first.
 pub fn put32(text: &mut Vec<u8>, n: u32) -> Result<(), NoMemory>
     ensures { OnOk result (text.new.items ≡ text.old.items ++ u4 n) }
 {
-    put(text, &n.to_be_bytes())
+    extend(text, &n.to_be_bytes())
 }
 
 /// Puts a length of four bytes and so many bytes at the end.
@@ -40,5 +30,5 @@ pub fn put_sized(text: &mut Vec<u8>, bytes: &[u8]) -> Result<(), NoMemory>
     ensures { OnOk result (text.new.items ≡ text.old.items ++ sized_text bytes.now) }
 {
     put32(text, bytes.len() as u32)?;
-    put(text, bytes)
+    extend(text, bytes)
 }

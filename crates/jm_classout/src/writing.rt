@@ -7,9 +7,9 @@ ghost use Rattle.jm_class.specs.Views.{member_of, plain};
 ghost use Rattle.jm_classout.specs.Fits.{FitsSlot, OfSomeCode, SomeCode, SomeBody, SomeAttribute};
 ghost use Rattle.jm_classout.specs.Fits.{SomeMember};
 
-use crate::parts::{put, put_sized, put8, put16, put32};
+use crate::parts::{put_sized, put8, put16, put32};
 use crate::sizes::code_size;
-use jm_bytes::{NoMemory, Text};
+use jm_bytes::{NoMemory, Text, extend};
 use jm_class::{Attribute, Body, Class, Code, Member, Plain, Slot};
 use std::alloc::Global;
 
@@ -26,7 +26,7 @@ fn put_slot(text: &mut Vec<u8>, slot: &Slot) -> Result<(), NoMemory>
             if *tag == UTF8 {
                 put16(text, body.len() as u16)?;
             }
-            put(text, body)
+            extend(text, body)
         }
         Slot::Hole => Ok(()),
     }
@@ -84,7 +84,7 @@ fn put_rows(text: &mut Vec<u8>, rows: &[u8]) -> Result<(), NoMemory>
     ensures { OnOk result (text.new.items ≡ text.old.items ++ rows_text rows.now) }
 {
     put16(text, (rows.len() / 8) as u16)?;
-    put(text, rows)
+    extend(text, rows)
 }
 
 /// Puts a Code without its length at the end.

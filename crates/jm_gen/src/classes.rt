@@ -6,9 +6,9 @@ ghost use Rattle.jm_gen.specs.Generated.{class_data, class_with, code, method, p
 ghost use Rattle.jm_gen.specs.Generated.{source_file, source_name};
 
 use crate::names::{class_name, class_path};
-use jm_bytes::{List, NoMemory, Text};
+use jm_bytes::{List, NoMemory, Text, extend};
 use jm_class::{Attribute, Body, Class, Code, Member, Plain, Slot};
-use jm_classout::{put, write};
+use jm_classout::write;
 use std::alloc::Global;
 
 /// A Utf8.
@@ -133,8 +133,8 @@ fn source_name(alloc: Global, class: u32) -> Result<Vec<u8>, NoMemory>
     ensures { IfOk result (λ name. name.items ≡ source_name class) }
 {
     let mut name = Vec::new(alloc);
-    put(&mut name, &class_name(class))?;
-    put(&mut name, b".java")?;
+    extend(&mut name, &class_name(class))?;
+    extend(&mut name, b".java")?;
     Ok(name)
 }
 

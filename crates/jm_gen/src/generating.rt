@@ -8,7 +8,7 @@ use crate::classes::class_bytes;
 use crate::draws::Draws;
 use crate::infos::info;
 use crate::names::{class_path, path_in};
-use jm_classout::put;
+use jm_bytes::extend;
 use jm_files::make_file;
 use jm_outside::{Shelf, ShelfError};
 use std::alloc::Global;
@@ -53,7 +53,7 @@ fn make_class<S: Shelf>(
 {
     let bytes = class_bytes(alloc, number, class, value)?;
     let mut rest = class_path(alloc, number, class)?;
-    put(&mut rest, b".class")?;
+    extend(&mut rest, b".class")?;
     let path = path_in(alloc, dir, number, rest.as_slice())?;
     make_file(alloc, shelf, path.as_slice(), bytes.as_slice())
 }

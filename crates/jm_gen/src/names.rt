@@ -2,8 +2,7 @@ ghost use Rattle.std.specs.Prelude.{◌≡◌, ◌<◌, ◌≤◌, ◌++◌, cod
 ghost use Rattle.jm_gen.specs.Generated.{class_name, class_path, digit, module_name, module_names};
 ghost use Rattle.jm_gen.specs.Generated.{path_in};
 
-use jm_bytes::{List, NoMemory, Text};
-use jm_classout::put;
+use jm_bytes::{List, NoMemory, Text, extend};
 use std::alloc::Global;
 
 /// The last digit of a number.
@@ -49,11 +48,11 @@ pub fn class_path(alloc: Global, number: u32, class: u32) -> Result<Vec<u8>, NoM
     ensures { IfOk result (λ path. path.items ≡ class_path number class) }
 {
     let mut path = Vec::new(alloc);
-    put(&mut path, &module_name(number))?;
-    put(&mut path, b"/p")?;
-    put(&mut path, &[b'0' + (class % 8) as u8])?;
-    put(&mut path, b"/")?;
-    put(&mut path, &class_name(class))?;
+    extend(&mut path, &module_name(number))?;
+    extend(&mut path, b"/p")?;
+    extend(&mut path, &[b'0' + (class % 8) as u8])?;
+    extend(&mut path, b"/")?;
+    extend(&mut path, &class_name(class))?;
     Ok(path)
 }
 
@@ -62,10 +61,10 @@ pub fn path_in(alloc: Global, dir: &[u8], number: u32, rest: &[u8]) -> Result<Ve
     ensures { IfOk result (λ path. path.items ≡ path_in dir.now number rest.now) }
 {
     let mut path = Vec::new(alloc);
-    put(&mut path, dir)?;
-    put(&mut path, b"/")?;
-    put(&mut path, &module_name(number))?;
-    put(&mut path, b"/")?;
-    put(&mut path, rest)?;
+    extend(&mut path, dir)?;
+    extend(&mut path, b"/")?;
+    extend(&mut path, &module_name(number))?;
+    extend(&mut path, b"/")?;
+    extend(&mut path, rest)?;
     Ok(path)
 }

@@ -7,7 +7,7 @@ ghost use Rattle.jm_modinfo.specs.Written.{needs_text, info_pool, info_body, inf
 ghost use Rattle.jm_modinfo.specs.Written.{plain_descriptor};
 
 use crate::descriptor::Need;
-use jm_bytes::{List, NoMemory, Text};
+use jm_bytes::{List, NoMemory, Text, extend};
 use jm_class::{Attribute, Body, Class, Slot};
 use jm_classout::write;
 use std::alloc::Global;
@@ -17,10 +17,7 @@ fn put16(text: &mut Vec<u8>, n: u16) -> Result<(), NoMemory>
     ensures text { OnOk result (text.new.items ≡ text.old.items ++ u2 n) }
     ensures fits { n < 2 ^ 16 }
 {
-    match text.extend_from_slice(&n.to_be_bytes()) {
-        Ok(()) => Ok(()),
-        Err(_) => Err(NoMemory),
-    }
+    extend(text, &n.to_be_bytes())
 }
 
 /// The numbers of the constants that hold the names of so many needs, two bytes each.

@@ -7,9 +7,10 @@ ghost use Rattle.jm_class.specs.Views.{Gives, fault_at};
 ghost use Rattle.jm_strip.specs.Walks.{Puts};
 
 use crate::pool::Pool;
+use jm_bytes::extend;
 use jm_class::fields::{Missing, number16, number32, part};
 use jm_class::{ClassFault, Cursor, ReadError};
-use jm_classout::{put, put16, put32};
+use jm_classout::{put16, put32};
 
 /// The name of an attribute: the number of a Utf8.
 pub fn name(cursor: &mut Cursor, pool: &Pool, missing: Missing) -> Result<u16, ReadError>
@@ -46,7 +47,7 @@ pub fn copy_sized(
     let size = number32(cursor, missing)?;
     let bytes = part(cursor, size as usize, missing)?;
     put32(text, size)?;
-    put(text, bytes)?;
+    extend(text, bytes)?;
     Ok(())
 }
 
@@ -58,6 +59,6 @@ pub fn copy_rows(cursor: &mut Cursor, text: &mut Vec<u8>, missing: Missing) -> R
     let count = number16(cursor, missing)?;
     let rows = part(cursor, 8 * usize::from(count), missing)?;
     put16(text, count)?;
-    put(text, rows)?;
+    extend(text, rows)?;
     Ok(())
 }

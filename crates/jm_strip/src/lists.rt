@@ -9,9 +9,10 @@ ghost use Rattle.jm_strip.specs.Walks.{shown, filtered, Puts};
 use crate::copies::name;
 use crate::patches::patch16;
 use crate::pool::Pool;
+use jm_bytes::extend;
 use jm_class::fields::{Missing, number16, number32, part};
 use jm_class::{Cursor, ReadError};
-use jm_classout::{put, put16, put32};
+use jm_classout::{put16, put32};
 
 /// Puts an attribute, unless it is debug information, and answers how many it put.
 fn keep(
@@ -36,7 +37,7 @@ fn keep(
     }
     put16(text, name)?;
     put32(text, size)?;
-    put(text, bytes)?;
+    extend(text, bytes)?;
     Ok(1)
 }
 

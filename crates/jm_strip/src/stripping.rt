@@ -14,10 +14,9 @@ use crate::lists::keep_attributes;
 use crate::methods::strip_methods;
 use crate::pool::{Pool, read_pool};
 use crate::skips::{skip_fields, skip_interfaces};
-use jm_bytes::{NoMemory, Text};
+use jm_bytes::{NoMemory, Text, extend};
 use jm_class::fields::{Missing, number16};
 use jm_class::{ClassFault, Cursor, ReadError, magic, major};
-use jm_classout::put;
 use std::alloc::Global;
 
 /// The attributes of the class.
@@ -36,7 +35,7 @@ fn with_room(alloc: Global, bytes: &[u8], room: usize) -> Result<Vec<u8>, NoMemo
 {
     match Vec::with_capacity(alloc, room) {
         Ok(mut text) => {
-            put(&mut text, bytes)?;
+            extend(&mut text, bytes)?;
             Ok(text)
         }
         Err(_) => Err(NoMemory),

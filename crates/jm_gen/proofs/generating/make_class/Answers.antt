@@ -6,7 +6,7 @@ use Rattle.jm_gen.proofs.generating.make_class.Goals as goal
 
 pub make_file-requires : goal.make_file-requires
 make_file-requires g c =
-    let rest = c.as_slice.ensures.value ∙ c.in_ok-put.ensures ∙ ap (λ (p : List ℕ). p ++ codes ".class") c.in_ok-rest.ensures in
+    let rest = c.as_slice.ensures.value ∙ c.in_ok-extend.ensures.ok ∙ ap (λ (p : List ℕ). p ++ codes ".class") c.in_ok-rest.ensures in
     let path = c.as_slice-2.ensures.value ∙ c.in_ok-path.ensures ∙ ap (path_in c.args.dir.now c.args.number) rest in
     record {
       text = subst (λ (p : List ℕ). IsUtf8 p) (sym path)
@@ -15,7 +15,7 @@ make_file-requires g c =
 
 pub returns-clause-ok : goal.returns-clause-ok
 returns-clause-ok g c =
-    let rest = c.as_slice.ensures.value ∙ c.in_ok-put.ensures ∙ ap (λ (p : List ℕ). p ++ codes ".class") c.in_ok-rest.ensures in
+    let rest = c.as_slice.ensures.value ∙ c.in_ok-extend.ensures.ok ∙ ap (λ (p : List ℕ). p ++ codes ".class") c.in_ok-rest.ensures in
     let path = c.as_slice-2.ensures.value ∙ c.in_ok-path.ensures ∙ ap (path_in c.args.dir.now c.args.number) rest in
     let bytes = c.as_slice-3.ensures ∙ c.in_ok-bytes.ensures in
     let whole = class_file c.args.dir.now c.args.number c.args.class c.args.value in
@@ -27,7 +27,7 @@ returns-clause-ok g c =
 
 pub returns-clause-err : goal.returns-clause-err
 returns-clause-err g c =
-    let rest = c.as_slice.ensures.value ∙ c.in_ok-put.ensures ∙ ap (λ (p : List ℕ). p ++ codes ".class") c.in_ok-rest.ensures in
+    let rest = c.as_slice.ensures.value ∙ c.in_ok-extend.ensures.ok ∙ ap (λ (p : List ℕ). p ++ codes ".class") c.in_ok-rest.ensures in
     let path = c.as_slice-2.ensures.value ∙ c.in_ok-path.ensures ∙ ap (path_in c.args.dir.now c.args.number) rest in
     let bytes = c.as_slice-3.ensures ∙ c.in_ok-bytes.ensures in
     let whole = class_file c.args.dir.now c.args.number c.args.class c.args.value in
