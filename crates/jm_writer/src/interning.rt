@@ -58,7 +58,7 @@ fn start(alloc: Global, count: usize) -> Result<Interned, NoMemory>
     ensures places { IfOk result (λ interned. interned.places ≡ []) }
 {
     Ok(Interned {
-        strings: Strings::new(alloc)?,
+        strings: Strings::with_capacity(alloc, count)?,
         places: List::with_capacity(alloc, count)?,
     })
 }
