@@ -1,13 +1,12 @@
 //! The slots to which a table leads names.
 ghost use Rattle.std.specs.Prelude.{◌≡◌, map, IfOk};
 ghost use Rattle.jm_form.specs.Table.{redirect_of};
-ghost use Rattle.jm_writer.specs.Parts.{slot_or_first, word_in};
+ghost use Rattle.jm_writer.specs.Parts.{slot_or_first, word_at, word_in};
 
 use crate::index::unsigned;
 use jm_bytes::{List, NoMemory, Text};
 use jm_form::Redirect;
-use jm_names::DEFAULT_SEED;
-use jm_redirect::{Table, hash_of, slot_of};
+use jm_redirect::{Table, default_hashes, slot_of};
 use std::alloc::Global;
 
 /// What a redirect word says of the names of its bucket.
@@ -23,30 +22,41 @@ fn redirect_of(word: u32) -> Redirect
     }
 }
 
-/// The redirect word of a name's bucket; 0 in a table of no slot.
-fn word_in(table: &Table, name: &[u8]) -> u32
-    ensures { result ≡ word_in table.now name.now }
+/// The redirect word of a hash's bucket; 0 in a table of no slot.
+fn word_at(table: &Table, hash: u32) -> u32
+    ensures { result ≡ word_at table.now hash }
 {
     if table.length == 0 {
         return 0;
     }
-    let bucket = hash_of(DEFAULT_SEED, name) % table.length;
-    match table.redirect.as_slice().get(bucket as usize) {
+    match table
+        .redirect
+        .as_slice()
+        .get((hash % table.length) as usize)
+    {
         Some(word) => unsigned(*word),
         None => 0,
     }
 }
 
-/// The redirect words of the names' buckets. They lie far apart, and no choice hangs on one here,
-/// so that the processor reads many at a time.
+/// The redirect words of the hashes' buckets. They lie far apart, and nothing else is done between
+/// two of them here, so that the processor reads many at a time.
+fn words_at(alloc: Global, table: &Table, hashes: &[u32]) -> Result<List<u32>, NoMemory>
+    ensures { IfOk result (λ words. words ≡ map (word_at table.now) hashes.now) }
+{
+    let mut words = List::with_capacity(alloc, hashes.len())?;
+    for hash in hashes {
+        words.push(word_at(table, *hash))?;
+    }
+    Ok(words)
+}
+
+/// The redirect words of the names' buckets.
 fn words_in(alloc: Global, table: &Table, names: &[Text]) -> Result<List<u32>, NoMemory>
     ensures { IfOk result (λ words. words ≡ map (word_in table.now) names.now) }
 {
-    let mut words = List::with_capacity(alloc, names.len())?;
-    for name in names {
-        words.push(word_in(table, name.as_slice()))?;
-    }
-    Ok(words)
+    let hashes = default_hashes(alloc, names)?;
+    words_at(alloc, table, hashes.as_slice())
 }
 
 /// The slot to which the table leads a name by the redirect word of its bucket; 0 where it leads it
