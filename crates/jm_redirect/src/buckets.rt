@@ -7,7 +7,7 @@ ghost use Rattle.jm_form.specs.Greedy.{greedy, least_seed, least_free, redirect_
 ghost use Rattle.jm_redirect.specs.Marks.{Marks, TakenBelow, AllWithin, names_at, slots_sent};
 ghost use Rattle.jm_redirect.specs.Reached.{Reached};
 
-use crate::lists::{flags, nowhere, room_for};
+use crate::lists::{flags, nowhere};
 use crate::marks::{mark, unmarked_from};
 use crate::turns::{Turn, turns_in_order};
 use jm_bytes::{List, NoMemory, Text};
@@ -148,7 +148,7 @@ fn names_in_turn<'n>(
     ensures { IfOk result
         (λ found. map (λ name. name.now) found ≡ names_at names.now turns.now) }
 {
-    let mut found = room_for(alloc, turns.len())?;
+    let mut found = List::with_capacity(alloc, turns.len())?;
     for turn in turns {
         found.push(names[turn.place as usize].as_slice())?;
     }

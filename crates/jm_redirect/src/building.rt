@@ -11,7 +11,6 @@ ghost use Rattle.jm_redirect.specs.Built.{ServesNames};
 
 use crate::buckets::redirects_at;
 use crate::hashes::{default_hashes, slot_of};
-use crate::lists::room_for;
 use jm_bytes::{List, NoMemory, Text};
 use jm_form::Redirect;
 use std::alloc::Global;
@@ -55,7 +54,7 @@ fn word_of(redirect: Redirect) -> i32
 fn words_of(alloc: Global, redirects: &[Redirect]) -> Result<List<i32>, NoMemory>
     ensures { IfOk result (λ words. words ≡ words_of redirects.now) }
 {
-    let mut words = room_for(alloc, redirects.len())?;
+    let mut words = List::with_capacity(alloc, redirects.len())?;
     for redirect in redirects {
         words.push(word_of(*redirect))?;
     }
@@ -84,7 +83,7 @@ fn redirects_of(
     requires few { length redirects.now < 2 ^ 32 }
     ensures { IfOk result (λ found. found ≡ map (redirect_at redirects.now) hashes.now) }
 {
-    let mut found = room_for(alloc, hashes.len())?;
+    let mut found = List::with_capacity(alloc, hashes.len())?;
     let length = redirects.len() as u32;
     for hash in hashes {
         found.push(redirects[(*hash % length) as usize])?;
@@ -109,7 +108,7 @@ fn slots_of(
 {
     let found = redirects_of(alloc, hashes, redirects)?;
     let given = found.as_slice();
-    let mut slots = room_for(alloc, names.len())?;
+    let mut slots = List::with_capacity(alloc, names.len())?;
     let length = redirects.len() as u32;
     for place in 0..names.len() {
         let slot = slot_of(length, names[place].as_slice(), given[place]);

@@ -10,6 +10,7 @@ mod marks;
 mod turns;
 
 pub use building::{BuildError, Table, build};
+pub use hashes::{default_hashes, slot_of};
 
 #[cfg(test)]
 mod tests;

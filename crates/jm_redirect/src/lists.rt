@@ -1,20 +1,10 @@
-//! Lists of a known length.
-ghost use Rattle.std.specs.Prelude.{◌≡◌, [], false, IfOk, replicate};
+//! Vectors of a known length.
+ghost use Rattle.std.specs.Prelude.{◌≡◌, false, IfOk, replicate};
 ghost use Rattle.jm_form.specs.declared.table.Redirect.TheVariants.{Nowhere};
 
-use jm_bytes::{List, NoMemory};
+use jm_bytes::NoMemory;
 use jm_form::Redirect;
 use std::alloc::Global;
-
-/// A list of no item, with room for so many.
-pub fn room_for<T>(alloc: Global, count: usize) -> Result<List<T>, NoMemory>
-    ensures { IfOk result (λ list. list ≡ []) }
-{
-    match Vec::with_capacity(alloc, count) {
-        Ok(items) => Ok(List::from_vec(items)),
-        Err(_) => Err(NoMemory),
-    }
-}
 
 /// So many zeros.
 pub fn zeros(alloc: Global, count: usize) -> Result<Vec<u32>, NoMemory>

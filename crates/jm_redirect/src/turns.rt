@@ -3,8 +3,8 @@ ghost use Rattle.std.specs.Prelude.{◌≡◌, ◌<◌, ◌^◌, length, map, If
 ghost use Rattle.std.specs.List.{range_with_len};
 ghost use Rattle.jm_redirect.specs.Turns.{size_of, turns_of, turn_cmp};
 
-use crate::lists::{room_for, zeros};
-use jm_bytes::NoMemory;
+use crate::lists::zeros;
+use jm_bytes::{List, NoMemory};
 use std::alloc::Global;
 
 /// A name's turn. Turns in order have the buckets by falling size, then by rising number, and the
@@ -40,7 +40,7 @@ fn turns_of(alloc: Global, hashes: &[u32], slots: u32, sizes: &[u32]) -> Result<
     requires sizes { sizes.now ≡ map (size_of hashes.now slots) (range_with_len 0 slots) }
     ensures { IfOk result (λ turns. turns.items ≡ turns_of hashes.now slots) }
 {
-    let mut turns = room_for(alloc, hashes.len())?;
+    let mut turns = List::with_capacity(alloc, hashes.len())?;
     for place in 0..hashes.len() {
         let bucket = hashes[place] % slots;
         turns.push(Turn {

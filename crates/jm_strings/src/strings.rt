@@ -47,18 +47,28 @@ impl Strings {
     pub fn new(alloc: Global) -> Result<Strings, NoMemory>
         ensures { IfOk result (λ strings. strings ≡ [] ∷ codes "class" ∷ []) }
     {
-        let mut strings = Strings::empty(alloc);
+        Strings::with_capacity(alloc, 0)
+    }
+
+    /// The same, with room to look so many texts up.
+    pub fn with_capacity(alloc: Global, count: usize) -> Result<Strings, NoMemory>
+        ensures { IfOk result (λ strings. strings ≡ [] ∷ codes "class" ∷ []) }
+    {
+        let mut strings = Strings::empty(alloc, count)?;
         strings.add(b"")?;
         strings.add(b"class")?;
         Ok(strings)
     }
 
-    fn empty(alloc: Global) -> Strings
-        ensures { result ≡ [] }
+    fn empty(alloc: Global, count: usize) -> Result<Strings, NoMemory>
+        ensures { IfOk result (λ strings. strings ≡ []) }
     {
-        Strings {
-            section: Vec::new(alloc),
-            places: IndexMap::new(alloc),
+        match IndexMap::with_capacity(alloc, count) {
+            Ok(places) => Ok(Strings {
+                section: Vec::new(alloc),
+                places,
+            }),
+            Err(_) => Err(NoMemory),
         }
     }
 

@@ -22,15 +22,15 @@ use Rattle.jm_writer.proofs.ImageSections.{IndexFits, locations_are, locations_b
 -- One row
 
 -- a row of one byte is blank
-usual_alone : (row : Row) → RowFits row → length (usual row) ≡ 1 → row ≡ blank
-usual_alone row fits one =
-    let front : List ℕ = flat_map (λ v. usual_attribute v.0 v.1) (values_of row) in
+usual_alone : (spelled : Row) → RowFits spelled → length (usual spelled) ≡ 1 → spelled ≡ blank
+usual_alone spelled fits one =
+    let front : List ℕ = flat_map (λ v. usual_attribute v.0 v.1) (values_of spelled) in
     let size = length-append front (0 ∷ []) in
     let none : front ≡ [] = nil_from_length front (omega arith) in
-    let alone : usual row ≡ 0 ∷ [] = ap (λ l. l ++ 0 ∷ []) none in
-    let back = usual_read_back row [] fits in
+    let alone : usual spelled ≡ 0 ∷ [] = ap (λ l. l ++ 0 ∷ []) none in
+    let back = usual_read_back spelled [] fits in
     let same = sym (ap (λ l. row_front (l ++ [])) alone) ∙ back in
-    sym (same_first blank row 1 (length (usual row)) same)
+    sym (same_first blank spelled 1 (length (usual spelled)) same)
 
 some_usual : (row : Row) → 0 < length (usual row)
 some_usual row = omega (arith, length-append (flat_map (λ v. usual_attribute v.0 v.1) (values_of row)) (0 ∷ []))

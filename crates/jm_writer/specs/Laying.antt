@@ -49,7 +49,7 @@ Tables names (Err other) = ⊥
 -- the texts of the names, whose section isn't too long, and the places of the names' pieces
 pub record AreInterned (names : List (List ℕ)) (interned : Interned) : Type 0 where
   pub texts : interned.strings ≡ texts_of names
-  pub places : interned.places.items ≡ places_of names
+  pub places : interned.places ≡ places_of names
   pub within : length (section_of interned.strings) ≤ limit
 
 abbrev pub Interns : List (List ℕ) → Result Interned PlanError → Type 0

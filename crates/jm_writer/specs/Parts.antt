@@ -1,12 +1,13 @@
 -- The parts of an image that is written, from the lists that the code has (jimage 1.0). Their laws
 -- say that they are those of the layout.
-use Rattle.std.specs.Prelude.{ℕ, ◌+◌, ◌==◌, ◌≡◌, List, [], ◌∷◌, ◌++◌, length, map, slice_get}
+use Rattle.std.specs.Prelude.{ℕ, ◌+◌, ◌%◌, ◌==◌, ◌≡◌, List, [], ◌∷◌, ◌++◌, length, map, slice_get}
 use Rattle.std.specs.Prelude.{slice_index, if◌then◌else◌}
 use Rattle.std.specs.Int.{w32, cast_unsigned}
 use Rattle.std.specs.Prelude.{Option, Some, None, unwrap_or}
 use Rattle.std.specs.List.{flat_map, range_with_len, zip}
 use Rattle.std.specs.Map.{lookup}
 use Rattle.jm_bytes.specs.declared.words.Order.{Order}
+use Rattle.jm_names.specs.Hash.{hash, default_seed}
 use Rattle.jm_names.specs.Names.{Cut, split}
 use Rattle.jm_strings.specs.Texts.{place_of}
 use Rattle.jm_form.specs.declared.rows.Row.{Row}
@@ -94,9 +95,15 @@ bucket_word table name =
 abbrev pub slot_in : Table → List ℕ → Option ℕ
 slot_in table name = slot_of table.length name (redirect_of (bucket_word table name))
 
+-- the redirect word of a hash's bucket, or 0 in a table of no slot
+abbrev pub word_at : Table → ℕ → ℕ
+word_at table hash =
+    if table.length == 0 then 0
+    else slice_index (map (cast_unsigned w32) table.redirect) (hash % table.length)
+
 -- the redirect word of a name's bucket, or 0 in a table of no slot
 abbrev pub word_in : Table → List ℕ → ℕ
-word_in table name = if table.length == 0 then 0 else bucket_word table name
+word_in table name = word_at table (hash default_seed name)
 
 -- the slot to which the table leads a name, or slot 0 where it leads it to none
 abbrev pub slot_or_first : Table → List ℕ → ℕ

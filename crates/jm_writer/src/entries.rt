@@ -3,7 +3,6 @@ ghost use Rattle.std.specs.Prelude.{◌≡◌, ◌∷◌, ◌++◌, [], map, IfO
 ghost use Rattle.jm_form.specs.Layout.{holds_size, sized, sized_node};
 ghost use Rattle.jm_writer.specs.Parts.{IsOfEntries};
 
-use crate::lists::room_for;
 use jm_bytes::{List, NoMemory, Text};
 use jm_form::{Holds, TreeNode};
 use jm_pool::Pool;
@@ -32,8 +31,8 @@ fn resources_of(alloc: Global, pool: &Pool, count: usize) -> Result<Entries, NoM
     ensures { IfOk result (IsOfEntries (map sized pool.now)) }
 {
     let mut entries = Entries {
-        names: List::from_vec(room_for(alloc, count)?),
-        sizes: List::from_vec(room_for(alloc, count)?),
+        names: List::with_capacity(alloc, count)?,
+        sizes: List::with_capacity(alloc, count)?,
     };
     for place in 0..pool.len() {
         let (name, bytes) = pool.at(place);

@@ -4,9 +4,8 @@ ghost use Rattle.std.specs.Int.{w32, cast_unsigned};
 ghost use Rattle.jm_form.specs.Nodes.{words_text};
 ghost use Rattle.jm_writer.specs.Parts.{index_bytes};
 
-use crate::lists::{put, room_for};
 use crate::locations::Locations;
-use jm_bytes::{NoMemory, Order, Text, put_word};
+use jm_bytes::{NoMemory, Order, Text, extend, put_word};
 use std::alloc::Global;
 
 /// Puts words at the end.
@@ -14,7 +13,7 @@ pub fn put_words(text: &mut Vec<u8>, order: Order, words: &[u32]) -> Result<(), 
     ensures { OnOk result (text.new.items ≡ text.old.items ++ words_text order words.now) }
 {
     for word in words {
-        put(text, &put_word(order, *word))?;
+        extend(text, &put_word(order, *word))?;
     }
     Ok(())
 }
@@ -32,7 +31,7 @@ fn put_redirect(text: &mut Vec<u8>, order: Order, redirect: &[i32]) -> Result<()
         text.old.items ++ words_text order (map (cast_unsigned w32) redirect.now)) }
 {
     for word in redirect {
-        put(text, &put_word(order, unsigned(*word)))?;
+        extend(text, &put_word(order, unsigned(*word)))?;
     }
     Ok(())
 }
@@ -62,11 +61,11 @@ pub fn index_bytes(
         locations.text.len() as u32,
         strings.len() as u32,
     ];
-    let mut text = room_for(alloc, 0)?;
+    let mut text = Vec::new(alloc);
     put_words(&mut text, order, &header)?;
     put_redirect(&mut text, order, redirect)?;
     put_words(&mut text, order, locations.places.as_slice())?;
-    put(&mut text, locations.text.as_slice())?;
-    put(&mut text, strings)?;
+    extend(&mut text, locations.text.as_slice())?;
+    extend(&mut text, strings)?;
     Ok(Text::from_vec(text))
 }

@@ -7,8 +7,7 @@ ghost use Rattle.jm_strings.specs.declared.strings.StringsError.TheVariants.{Ful
 ghost use Rattle.jm_form.specs.Layout.{pieces, texts_of, with_texts};
 ghost use Rattle.jm_writer.specs.Parts.{StandAt, places_of};
 
-use crate::lists::{push, room_for};
-use jm_bytes::{NoMemory, Text};
+use jm_bytes::{List, NoMemory, Text};
 use jm_names::split;
 use jm_strings::{Strings, StringsError};
 use std::alloc::Global;
@@ -28,7 +27,7 @@ pub struct Interned {
     /// The pieces of all names.
     pub strings: Strings,
     /// The places of the pieces of each name.
-    pub places: Vec<TextPlaces>,
+    pub places: List<TextPlaces>,
 }
 
 /// Adds the four pieces of a name, each last where it isn't held, and answers their places.
@@ -56,11 +55,11 @@ fn intern_pieces(strings: &mut Strings, name: &[u8]) -> Result<TextPlaces, Strin
 /// No text but the first two, and room for the places of so many names.
 fn start(alloc: Global, count: usize) -> Result<Interned, NoMemory>
     ensures strings { IfOk result (λ interned. interned.strings ≡ [] ∷ codes "class" ∷ []) }
-    ensures places { IfOk result (λ interned. interned.places.items ≡ []) }
+    ensures places { IfOk result (λ interned. interned.places ≡ []) }
 {
     Ok(Interned {
-        strings: Strings::new(alloc)?,
-        places: room_for(alloc, count)?,
+        strings: Strings::with_capacity(alloc, count)?,
+        places: List::with_capacity(alloc, count)?,
     })
 }
 
@@ -69,7 +68,7 @@ fn start(alloc: Global, count: usize) -> Result<Interned, NoMemory>
 pub fn strings_of(alloc: Global, names: &[Text]) -> Result<Interned, StringsError>
     requires { All IsZeroFree names.now }
     ensures texts { IfOk result (λ interned. interned.strings ≡ texts_of names.now) }
-    ensures places { IfOk result (λ interned. interned.places.items ≡ places_of names.now) }
+    ensures places { IfOk result (λ interned. interned.places ≡ places_of names.now) }
     ensures full { result ≡ Err Full → limit < length (section_of (texts_of names.now)) }
     ensures zero { result ≢ Err Zero }
 {
@@ -78,7 +77,7 @@ pub fn strings_of(alloc: Global, names: &[Text]) -> Result<Interned, StringsErro
     };
     for name in names {
         let places = intern_pieces(&mut interned.strings, name.as_slice())?;
-        match push(&mut interned.places, places) {
+        match interned.places.push(places) {
             Ok(()) => {}
             Err(NoMemory) => return Err(StringsError::Memory),
         }

@@ -94,7 +94,7 @@ pub fn lay_out(alloc: Global, entries: &Entries, table: &Table) -> Result<Laid, 
     ensures { Lays entries.now table.now result }
 {
     let Interned { strings, places } = strings_within(alloc, entries.names.as_slice())?;
-    let (rows, contents) = rows_by_slot(alloc, &places, entries, table)?;
+    let (rows, contents) = rows_by_slot(alloc, places.as_slice(), entries, table)?;
     let locations = locate(alloc, &rows)?;
     let known = length_of(
         table.length,

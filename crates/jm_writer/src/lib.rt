@@ -6,7 +6,6 @@ mod entries;
 mod index;
 mod interning;
 mod laying;
-mod lists;
 mod locations;
 mod planning;
 mod rows;

@@ -3,8 +3,7 @@ ghost use Rattle.std.specs.Prelude.{◌≡◌, ◌+◌, ◌*◌, ◌^◌, ◌<�
 ghost use Rattle.jm_form.specs.Layout.{location_of};
 ghost use Rattle.jm_writer.specs.Parts.{locations_of, place_at, places_from};
 
-use crate::lists::{push, put, room_for};
-use jm_bytes::NoMemory;
+use jm_bytes::{List, NoMemory, extend};
 use jm_form::{Row, write_row};
 use std::alloc::Global;
 
@@ -27,7 +26,7 @@ fn put_row(alloc: Global, text: &mut Vec<u8>, row: &Option<Row>) -> Result<u32, 
     match row {
         Some(row) => {
             let place = text.len() as u32;
-            put(text, write_row(alloc, row)?.as_slice())?;
+            extend(text, write_row(alloc, row)?.as_slice())?;
             Ok(place)
         }
         None => Ok(0),
@@ -41,12 +40,15 @@ pub fn locate(alloc: Global, rows: &[Option<Row>]) -> Result<Locations, NoMemory
     ensures places { IfOk result (λ l. l.places.items ≡ places_from 1 rows.now) }
     ensures short { IfOk result (λ l. length l.text.items ≤ 1 + 64 * length rows.now) }
 {
-    let mut text = room_for(alloc, rows.len())?;
-    let mut places = room_for(alloc, rows.len())?;
-    push(&mut text, 0)?;
+    let mut text = List::with_capacity(alloc, rows.len())?.into_vec();
+    let mut places = List::with_capacity(alloc, rows.len())?;
+    extend(&mut text, &[0])?;
     for row in rows {
         let place = put_row(alloc, &mut text, row)?;
-        push(&mut places, place)?;
+        places.push(place)?;
     }
-    Ok(Locations { text, places })
+    Ok(Locations {
+        text,
+        places: places.into_vec(),
+    })
 }

@@ -5,8 +5,7 @@ ghost use Rattle.jm_form.specs.Layout.{text_place};
 ghost use Rattle.jm_writer.specs.Parts.{row_at, rows_at, rows_in_slots};
 
 use crate::interning::TextPlaces;
-use crate::lists::{push, room_for};
-use jm_bytes::NoMemory;
+use jm_bytes::{List, NoMemory};
 use jm_form::Row;
 use jm_strings::Strings;
 use std::alloc::Global;
@@ -44,13 +43,13 @@ pub fn rows_at(
     ensures rows { IfOk result (λ r. r.0.items ≡ rows_at 0 places.now sizes.now) }
     ensures contents { IfOk result (λ r. r.1 ≡ sum sizes.now) }
 {
-    let mut rows = room_for(alloc, sizes.len())?;
+    let mut rows = List::with_capacity(alloc, sizes.len())?;
     let mut offset: u64 = 0;
     for (place, size) in sizes.iter().enumerate() {
-        push(&mut rows, row_at(&places[place], offset, *size))?;
+        rows.push(row_at(&places[place], offset, *size))?;
         offset = offset.checked_add(*size).ok_or(NoMemory)?;
     }
-    Ok((rows, offset))
+    Ok((rows.into_vec(), offset))
 }
 
 /// So many slots without a row.

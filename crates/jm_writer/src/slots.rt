@@ -1,31 +1,13 @@
 //! The slots to which a table leads names.
-ghost use Rattle.std.specs.Prelude.{◌≡◌, ◌<◌, map, IfOk};
-ghost use Rattle.jm_names.specs.Hash.{hash};
-ghost use Rattle.jm_form.specs.Table.{redirect_of, slot_of};
-ghost use Rattle.jm_writer.specs.Parts.{slot_or_first, word_in};
+ghost use Rattle.std.specs.Prelude.{◌≡◌, map, IfOk};
+ghost use Rattle.jm_form.specs.Table.{redirect_of};
+ghost use Rattle.jm_writer.specs.Parts.{slot_or_first, word_at, word_in};
 
 use crate::index::unsigned;
-use crate::lists::{push, room_for};
-use jm_bytes::{NoMemory, Text};
+use jm_bytes::{List, NoMemory, Text};
 use jm_form::Redirect;
-use jm_names::{DEFAULT_SEED, Pieces, hash_pieces};
-use jm_redirect::Table;
+use jm_redirect::{Table, default_hashes, slot_of};
 use std::alloc::Global;
-
-/// The hash of a name from a seed.
-fn hash_of(seed: u32, name: &[u8]) -> u32
-    ensures { result ≡ hash seed name.now }
-{
-    hash_pieces(
-        seed,
-        &Pieces {
-            module: &[],
-            parent: &[],
-            base: name,
-            ext: &[],
-        },
-    )
-}
 
 /// What a redirect word says of the names of its bucket.
 fn redirect_of(word: u32) -> Redirect
@@ -40,41 +22,41 @@ fn redirect_of(word: u32) -> Redirect
     }
 }
 
-/// The slot to which a redirect leads a name in a table of so many slots.
-fn slot_of(slots: u32, name: &[u8], redirect: Redirect) -> Option<u32>
-    ensures { result ≡ slot_of slots name.now redirect }
-{
-    match redirect {
-        Redirect::Nowhere => None,
-        Redirect::Slot(slot) => (slot < slots).then_some(slot),
-        Redirect::Seed(seed) => Some(hash_of(seed, name).checked_rem(slots)?),
-    }
-}
-
-/// The redirect word of a name's bucket; 0 in a table of no slot.
-fn word_in(table: &Table, name: &[u8]) -> u32
-    ensures { result ≡ word_in table.now name.now }
+/// The redirect word of a hash's bucket; 0 in a table of no slot.
+fn word_at(table: &Table, hash: u32) -> u32
+    ensures { result ≡ word_at table.now hash }
 {
     if table.length == 0 {
         return 0;
     }
-    let bucket = hash_of(DEFAULT_SEED, name) % table.length;
-    match table.redirect.as_slice().get(bucket as usize) {
+    match table
+        .redirect
+        .as_slice()
+        .get((hash % table.length) as usize)
+    {
         Some(word) => unsigned(*word),
         None => 0,
     }
 }
 
-/// The redirect words of the names' buckets. They lie far apart, and no choice hangs on one here,
-/// so that the processor reads many at a time.
-fn words_in(alloc: Global, table: &Table, names: &[Text]) -> Result<Vec<u32>, NoMemory>
-    ensures { IfOk result (λ words. words.items ≡ map (word_in table.now) names.now) }
+/// The redirect words of the hashes' buckets. They lie far apart, and nothing else is done between
+/// two of them here, so that the processor reads many at a time.
+fn words_at(alloc: Global, table: &Table, hashes: &[u32]) -> Result<List<u32>, NoMemory>
+    ensures { IfOk result (λ words. words ≡ map (word_at table.now) hashes.now) }
 {
-    let mut words = room_for(alloc, names.len())?;
-    for name in names {
-        push(&mut words, word_in(table, name.as_slice()))?;
+    let mut words = List::with_capacity(alloc, hashes.len())?;
+    for hash in hashes {
+        words.push(word_at(table, *hash))?;
     }
     Ok(words)
+}
+
+/// The redirect words of the names' buckets.
+fn words_in(alloc: Global, table: &Table, names: &[Text]) -> Result<List<u32>, NoMemory>
+    ensures { IfOk result (λ words. words ≡ map (word_in table.now) names.now) }
+{
+    let hashes = default_hashes(alloc, names)?;
+    words_at(alloc, table, hashes.as_slice())
 }
 
 /// The slot to which the table leads a name by the redirect word of its bucket; 0 where it leads it
@@ -88,14 +70,15 @@ fn slot_by(table: &Table, name: &[u8], word: u32) -> u32
 
 /// The slots to which the table leads the names, 0 for a name that it leads to none. A name of the
 /// table is led to its own; no name is looked at.
-pub fn slots_in(alloc: Global, table: &Table, names: &[Text]) -> Result<Vec<u32>, NoMemory>
-    ensures { IfOk result (λ slots. slots.items ≡ map (slot_or_first table.now) names.now) }
+pub fn slots_in(alloc: Global, table: &Table, names: &[Text]) -> Result<List<u32>, NoMemory>
+    ensures { IfOk result (λ slots. slots ≡ map (slot_or_first table.now) names.now) }
 {
     let words = words_in(alloc, table, names)?;
-    let mut slots = room_for(alloc, names.len())?;
+    let given = words.as_slice();
+    let mut slots = List::with_capacity(alloc, names.len())?;
     for place in 0..names.len() {
-        let slot = slot_by(table, names[place].as_slice(), words[place]);
-        push(&mut slots, slot)?;
+        let slot = slot_by(table, names[place].as_slice(), given[place]);
+        slots.push(slot)?;
     }
     Ok(slots)
 }

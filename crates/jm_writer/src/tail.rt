@@ -6,7 +6,6 @@ ghost use Rattle.jm_form.specs.Layout.{text_place};
 ghost use Rattle.jm_writer.specs.Parts.{child_word, holds_words, owner_pair, tail_bytes};
 
 use crate::index::put_words;
-use crate::lists::room_for;
 use crate::rows::text_place;
 use crate::slots::slots_in;
 use jm_bytes::{List, NoMemory, Order, Text};
@@ -110,7 +109,7 @@ pub fn tail_bytes(
     ensures { IfOk result
         (λ text. text ≡ tail_bytes order strings.now table.now places.now nodes.now) }
 {
-    let mut text = room_for(alloc, 0)?;
+    let mut text = Vec::new(alloc);
     for node in nodes {
         put_holds(alloc, &mut text, order, strings, table, places, &node.holds)?;
     }

@@ -47,11 +47,11 @@ loop-name-preserved c =
     let own = c.in_ok-places.places in
     let stand = subst (λ s. StandAt s (split name) own) texts (pieces_stay more rest (split name) own c.in_ok-places.ensures.places) in
     let found = stand_in (texts_of names) (split name) own stand in
-    let before : List TextPlaces = c.loop-name.interned.places.items in
+    let before : List TextPlaces = c.loop-name.interned.places in
     let behind = map (λ n. places_in (texts_of names) (split n)) (drop (i + 1) names) in
     let step = sym (ap (λ l. before ++ map (λ n. places_in (texts_of names) (split n)) l) there) ∙ c.loop-name.invariant.places in
     let one = sym (ap (λ p. before ++ (p ∷ behind)) found) ∙ step in
     record {
       texts = texts;
-      places = ap (λ l. l ++ behind) c.in-Ok-push.ensures ∙ (append_assoc before (own ∷ []) behind ∙ one);
+      places = ap (λ l. l ++ behind) c.in-Ok-push.ensures.ok ∙ (append_assoc before (own ∷ []) behind ∙ one);
     }

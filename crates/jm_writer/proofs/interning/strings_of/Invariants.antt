@@ -8,5 +8,5 @@ use Rattle.jm_writer.proofs.interning.strings_of.Given as goal
 abbrev pub invariant-loop-name : goal.invariant-loop-name
 invariant-loop-name l = record {
   texts : with_texts l.interned.strings (flat_map (λ name. pieces (split name)) (drop l.name-index l.names)) ≡ texts_of l.names;
-  places : l.interned.places.items ++ map (λ name. places_in (texts_of l.names) (split name)) (drop l.name-index l.names) ≡ places_of l.names;
+  places : l.interned.places ++ map (λ name. places_in (texts_of l.names) (split name)) (drop l.name-index l.names) ≡ places_of l.names;
 }

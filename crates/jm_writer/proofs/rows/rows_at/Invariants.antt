@@ -5,6 +5,6 @@ use Rattle.jm_writer.proofs.rows.rows_at.Given as goal
 
 abbrev pub invariant-loop-place : goal.invariant-loop-place
 invariant-loop-place l = record {
-  rows : l.rows.items ++ rows_at l.offset (drop l.place l.places) (drop l.place l.sizes) ≡ rows_at 0 l.places l.sizes;
+  rows : l.rows ++ rows_at l.offset (drop l.place l.places) (drop l.place l.sizes) ≡ rows_at 0 l.places l.sizes;
   contents : l.offset + sum (drop l.place l.sizes) ≡ sum l.sizes;
 }
