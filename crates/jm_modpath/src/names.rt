@@ -2,19 +2,9 @@
 ghost use Rattle.std.specs.Prelude.{◌≡◌, ◌++◌, IfOk, OnOk};
 ghost use Rattle.jm_modpath.specs.Modules.{inside, resource_name};
 
-use jm_bytes::{NoMemory, Text, copy_of};
+use jm_bytes::{NoMemory, Text, copy_of, extend};
 use jm_names::to_modified;
 use std::alloc::Global;
-
-/// Puts bytes at the end of a text.
-fn extend(text: &mut Vec<u8>, bytes: &[u8]) -> Result<(), NoMemory>
-    ensures { OnOk result (text.new.items ≡ text.old.items ++ bytes.now) }
-{
-    match text.extend_from_slice(bytes) {
-        Ok(()) => Ok(()),
-        Err(_) => Err(NoMemory),
-    }
-}
 
 /// A name within a folder, as a path.
 pub fn inside(alloc: Global, folder: &[u8], name: &[u8]) -> Result<Text, NoMemory>
