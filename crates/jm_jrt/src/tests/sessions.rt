@@ -161,3 +161,30 @@ fn long_lines_end_a_session(rt: HostRuntime) -> Result<(), Fail> {
     }
     Ok(())
 }
+
+/// So many replies to a line that is no request, and how the session ended.
+fn replies_and(alloc: Global, count: usize, end: &str) -> Result<Vec<u8>, Fail> {
+    let mut text = Vec::new(alloc);
+    for _ in 0..count {
+        text.extend_from_slice(b"error Request\n")?;
+    }
+    text.extend_from_slice(end.as_bytes())?;
+    Ok(text)
+}
+
+#[test]
+fn a_session_has_a_million_lines(rt: HostRuntime) -> Result<(), Fail> {
+    for (count, end) in [(1_000_000, "|1000000"), (1_000_001, "|TooManyLines")] {
+        let input = line_and(rt.alloc(), "", b'\n', count)?;
+        let served = Served {
+            input: input.as_slice(),
+            cut: None,
+            failing_take: None,
+            failing_put: None,
+        };
+        let given = session(&rt, rt.alloc(), served)?;
+        let want = replies_and(rt.alloc(), 1_000_000, end)?;
+        assert!(rt; given.as_slice() == want.as_slice(), "{count}");
+    }
+    Ok(())
+}
