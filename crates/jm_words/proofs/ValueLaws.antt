@@ -7,10 +7,10 @@ use Rattle.std.proofs.lemmas.List.Folds.{list_any_at}
 use Rattle.jm_bytes.proofs.Firsts.{position_below}
 use Rattle.jm_words.specs.Values.{before_text, without_slashes, decimal_from, parts_at}
 
--- a slash at the end is dropped
-pub slash_dropped : (text : List ℕ) → without_slashes (text ++ 47 ∷ []) ≡ without_slashes text
-slash_dropped [] = refl
-slash_dropped (b ∷ text) = ap (before_text b) (slash_dropped text)
+-- a slash at the end goes
+pub slash_goes : (text : List ℕ) → without_slashes (text ++ 47 ∷ []) ≡ without_slashes text
+slash_goes [] = refl
+slash_goes (b ∷ text) = ap (before_text b) (slash_goes text)
 
 -- another byte at the end stays, and all in front of it
 pub other_stays : (text : List ℕ) (last : ℕ) → last ≢ 47 → without_slashes (text ++ last ∷ []) ≡ text ++ last ∷ []

@@ -54,7 +54,7 @@ fn are_names(text: &[u8]) -> bool
 }
 
 /// A text without the slashes at its end.
-#[tactic(auto, using(crate::proofs::ValueLaws::slash_dropped, crate::proofs::ValueLaws::other_stays))]
+#[tactic(auto, using(crate::proofs::ValueLaws::slash_goes, crate::proofs::ValueLaws::other_stays))]
 pub fn without_slashes(text: &[u8]) -> &[u8]
     ensures { result.now ≡ without_slashes text.now }
 {
