@@ -14,7 +14,7 @@ ghost use Rattle.jm_extract.specs.Taken.{taken_as};
 
 use crate::refusals::refusal_of;
 use crate::taking::{TakenEntry, taken};
-use jm_bytes::{List, Meter, NoMemory, Text};
+use jm_bytes::{List, Meter, NoMemory, Text, extend};
 use jm_files::make_file;
 use jm_link::Refusal;
 use jm_names::to_utf8;
@@ -53,16 +53,6 @@ impl From<ShelfError> for ExtractStop {
             ShelfError::Failed => ExtractStop::Outside,
             ShelfError::Memory => ExtractStop::Memory,
         }
-    }
-}
-
-/// Puts bytes at the end of a path.
-fn extend(path: &mut Vec<u8>, bytes: &[u8]) -> Result<(), NoMemory>
-    ensures { OnOk result (path.new.items ≡ path.old.items ++ bytes.now) }
-{
-    match path.extend_from_slice(bytes) {
-        Ok(()) => Ok(()),
-        Err(_) => Err(NoMemory),
     }
 }
 

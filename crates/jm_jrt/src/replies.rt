@@ -11,22 +11,12 @@ use crate::child_list::{Child, ChildList};
 use crate::jrt_error::JrtError;
 use crate::node::Node;
 use itoa::Buffer;
-use jm_bytes::{Meter, NoMemory};
+use jm_bytes::{Meter, NoMemory, extend};
 use jm_names::to_utf8;
 use jm_reader::NameView;
 use memchr::memchr;
 use std::alloc::Global;
 use std::sync::ledger::Ledger;
-
-/// Puts bytes at the end of a text.
-pub fn extend(text: &mut Vec<u8>, bytes: &[u8]) -> Result<(), NoMemory>
-    ensures { OnOk result (text.new.items ≡ text.old.items ++ bytes.now) }
-{
-    match text.extend_from_slice(bytes) {
-        Ok(()) => Ok(()),
-        Err(_) => Err(NoMemory),
-    }
-}
 
 /// A text of these bytes and a newline.
 pub fn line(alloc: Global, bytes: &[u8]) -> Result<Vec<u8>, NoMemory>

@@ -9,10 +9,10 @@ ghost use Rattle.jm_jrt.specs.Reply as reply;
 ghost use Rattle.jm_jrt.specs.Stat as answers;
 
 use crate::replies::{
-    error_reply, extend, extend_children, found_reply, line, named, node_reply, numbered,
+    error_reply, extend_children, found_reply, line, named, node_reply, numbered,
 };
 use crate::trees::{children, owner, stat};
-use jm_bytes::{Meter, NoMemory, Steps, Text};
+use jm_bytes::{Meter, NoMemory, Steps, Text, extend};
 use jm_names::to_modified;
 use jm_reader::find;
 use jm_valid::Image;

@@ -10,10 +10,9 @@ ghost use Rattle.jm_jrt.specs.Reply.{IsWithin, line_bytes, reply};
 ghost use Rattle.jm_jrt.specs.Sessions.{Arrives, Breaks, IsAnswered, IsFree, IsOpen, LineFails};
 ghost use Rattle.jm_jrt.specs.Sessions.{Passes, PutFails, Refuses, Serves, moment};
 
-use crate::replies::extend;
 use crate::requests::answer;
 use crate::serve_error::ServeError;
-use jm_bytes::{Meter, NoMemory, Steps};
+use jm_bytes::{Meter, NoMemory, Steps, extend};
 use jm_outside::{Sink, SinkError, Source};
 use jm_valid::Image;
 use memchr::memchr;

@@ -7,21 +7,11 @@ ghost use Rattle.jm_link.specs.RefusalText.{name_fault_text, refusal_text, space
 
 use crate::refusal::Refusal;
 use itoa::Buffer;
-use jm_bytes::{NoMemory, Text, copy_of};
+use jm_bytes::{NoMemory, Text, copy_of, extend};
 use jm_class::ClassFault;
 use jm_modinfo::DescriptorFault;
 use jm_names::{NameFault, to_utf8};
 use std::alloc::Global;
-
-/// Puts bytes at the end of a text.
-fn extend(text: &mut Vec<u8>, bytes: &[u8]) -> Result<(), NoMemory>
-    ensures { OnOk result (text.new.items ≡ text.old.items ++ bytes.now) }
-{
-    match text.extend_from_slice(bytes) {
-        Ok(()) => Ok(()),
-        Err(_) => Err(NoMemory),
-    }
-}
 
 /// Puts a name behind a space at the end, in UTF-8.
 fn extend_name(alloc: Global, text: &mut Vec<u8>, name: &Text) -> Result<(), NoMemory>

@@ -6,8 +6,7 @@ ghost use Rattle.jm_texts.specs.DescribeText.{behind_comma, describe_text, is_ma
 ghost use Rattle.jm_texts.specs.DescribeText.{listed_behind, main_line, module_line, need_line};
 ghost use Rattle.jm_texts.specs.DescribeText.{opened_line, provides_line, uses_line, word_if};
 
-use crate::extending::extend;
-use jm_bytes::{NoMemory, Text};
+use jm_bytes::{NoMemory, Text, extend};
 use jm_modinfo::{Descriptor, Need, Opened, Provides};
 use jm_names::to_utf8;
 use std::alloc::Global;

@@ -39,8 +39,8 @@ fn lengths_text(alloc: Global, header: &Header, contents: usize) -> Result<Strin
     )
 }
 
-/// What `info` puts: nine lines on the header of an image that has so many bytes of contents. Answers
-/// want of memory alone.
+/// What `info` puts: nine lines on the header of an image that has so many bytes of contents.
+/// Answers want of memory alone.
 pub fn header_text(alloc: Global, header: &Header, contents: usize) -> Result<String, AllocError>
     ensures { IfOk result (λ text. string_bytes text ≡ header_text header.now contents) }
 {

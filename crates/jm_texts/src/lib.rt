@@ -2,9 +2,7 @@
 #![tactic(auto)]
 
 mod descriptor_text;
-mod extending;
 mod headers;
 
 pub use descriptor_text::describe_text;
-pub use extending::extend;
 pub use headers::header_text;
