@@ -3,7 +3,8 @@ ghost use Rattle.std.specs.List.{after_last, before_last, list_any};
 ghost use Rattle.jm_names.specs.Names.{is_slash};
 ghost use Rattle.jm_jrt.specs.Stat.{is_package, is_root};
 
-use memchr::{memchr, memrchr};
+use jm_names::cut_at_last;
+use memchr::memchr;
 
 /// The path is that of one of the two trees.
 pub fn is_root(path: &[u8]) -> bool
@@ -32,8 +33,5 @@ pub fn cut_last(path: &[u8]) -> Option<(&[u8], &[u8])>
     ensures after { IfSome result (λ cut. cut.1.now ≡ after_last is_slash path.now) }
     ensures none { IfNone result (before_last is_slash path.now ≡ []) }
 {
-    let at = memrchr(b'/', path)?;
-    let (before, from_there) = path.split_at(at);
-    let (_, after) = from_there.split_at(1);
-    Some((before, after))
+    cut_at_last(b'/', path)
 }

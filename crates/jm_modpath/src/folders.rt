@@ -15,27 +15,14 @@ ghost use Rattle.jm_modpath.specs.TextView.{items_of};
 
 use crate::rising::rising;
 use jm_bytes::{List, NoMemory, Text, copy_of};
-use memchr::memchr;
+use jm_names::cut_at_first;
 use std::alloc::Global;
-
-/// What stands before and behind the first slash.
-pub fn cut_at_slash(text: &[u8]) -> Option<(&[u8], &[u8])>
-    ensures found { IfSome result (λ cut. list_any is_slash text.now ≡ true) }
-    ensures before { IfSome result (λ cut. cut.0.now ≡ before_first is_slash text.now) }
-    ensures after { IfSome result (λ cut. cut.1.now ≡ after_first is_slash text.now) }
-    ensures none { IfNone result (list_any is_slash text.now ≡ false) }
-{
-    let at = memchr(b'/', text)?;
-    let (before, from_there) = text.split_at(at);
-    let (_, after) = from_there.split_at(1);
-    Some((before, after))
-}
 
 /// The folder of a file `FOLDER/module-info.class`.
 fn folder_with_info(name: &[u8]) -> Option<&[u8]>
     ensures { option_map (λ folder. folder.now) result ≡ folder_with_info name.now }
 {
-    let (folder, file) = cut_at_slash(name)?;
+    let (folder, file) = cut_at_first(b'/', name)?;
     if !folder.is_empty() && file == b"module-info.class".as_slice() {
         Some(folder)
     } else {

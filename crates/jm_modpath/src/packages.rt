@@ -9,12 +9,10 @@ ghost use Rattle.jm_names.specs.Names.{is_slash};
 ghost use Rattle.std.specs.Prelude.{IfSome, IfNone, true, false};
 ghost use Rattle.std.specs.List.{before_last, list_any};
 
-use crate::folders::cut_at_slash;
 use crate::names::resource_name;
 use crate::rising::rising;
 use jm_bytes::{List, NoMemory, Text};
-use jm_names::dotted;
-use memchr::memrchr;
+use jm_names::{cut_at_first, cut_at_last, dotted};
 use std::alloc::Global;
 
 /// The path of a resource within its module.
@@ -24,21 +22,10 @@ fn path_of(name: &[u8]) -> &[u8]
     let Some((_, rest)) = name.split_first() else {
         return &[];
     };
-    match cut_at_slash(rest) {
+    match cut_at_first(b'/', rest) {
         Some((_, path)) => path,
         None => &[],
     }
-}
-
-/// What stands before the last slash.
-fn folder_of(path: &[u8]) -> Option<&[u8]>
-    ensures found { IfSome result (λ folder. list_any is_slash path.now ≡ true) }
-    ensures folder { IfSome result (λ folder. folder.now ≡ before_last is_slash path.now) }
-    ensures none { IfNone result (list_any is_slash path.now ≡ false) }
-{
-    let at = memrchr(b'/', path)?;
-    let (folder, _) = path.split_at(at);
-    Some(folder)
 }
 
 /// The folder of a resource that is a class in a package.
@@ -48,7 +35,7 @@ fn class_folder(name: &[u8]) -> Option<&[u8]>
     if !name.ends_with(b".class") {
         return None;
     }
-    let folder = folder_of(path_of(name))?;
+    let (folder, _) = cut_at_last(b'/', path_of(name))?;
     if folder.is_empty() || folder.starts_with(b"META-INF") {
         None
     } else {

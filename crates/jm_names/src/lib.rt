@@ -16,4 +16,4 @@ pub use forms::{to_modified, to_utf8};
 pub use hashing::{DEFAULT_SEED, hash, hash_pieces};
 pub use nodes::is_node;
 pub use packages::dotted;
-pub use pieces::{Pieces, split};
+pub use pieces::{Pieces, cut_at_first, cut_at_last, split};

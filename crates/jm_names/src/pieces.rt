@@ -116,8 +116,8 @@ fn is_tree(module: &[u8]) -> bool
     module == b"modules".as_slice() || module == b"packages".as_slice()
 }
 
-/// What stands before and after the first such byte.
-pub(crate) fn cut_at_first(byte: u8, text: &[u8]) -> Option<(&[u8], &[u8])>
+/// What stands before and after the first such byte, if there is one.
+pub fn cut_at_first(byte: u8, text: &[u8]) -> Option<(&[u8], &[u8])>
     ensures found { IfSome result (λ cut. list_any (λ x. x == byte) text.now ≡ true) }
     ensures before { IfSome result (λ cut. cut.0.now ≡ before_first (λ x. x == byte) text.now) }
     ensures after { IfSome result (λ cut. cut.1.now ≡ after_first (λ x. x == byte) text.now) }
@@ -129,8 +129,8 @@ pub(crate) fn cut_at_first(byte: u8, text: &[u8]) -> Option<(&[u8], &[u8])>
     Some((before, after))
 }
 
-/// What stands before and after the last such byte.
-fn cut_at_last(byte: u8, text: &[u8]) -> Option<(&[u8], &[u8])>
+/// What stands before and after the last such byte, if there is one.
+pub fn cut_at_last(byte: u8, text: &[u8]) -> Option<(&[u8], &[u8])>
     ensures found { IfSome result (λ cut. list_any (λ x. x == byte) text.now ≡ true) }
     ensures before { IfSome result (λ cut. cut.0.now ≡ before_last (λ x. x == byte) text.now) }
     ensures after { IfSome result (λ cut. cut.1.now ≡ after_last (λ x. x == byte) text.now) }
