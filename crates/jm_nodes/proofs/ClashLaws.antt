@@ -1,5 +1,5 @@
 -- The least name that is also that of another's folder is the first that is a front.
-use Rattle.std.proofs.Common.{◌≡◌, ℕ, inl, inr, Bool, true, false, cond, List, [], ◌∷◌, ◌++◌, drop, Some, None, Contains, refl, sym, ap, ◌∙◌, subst, slice_get}
+use Rattle.std.proofs.Common.{◌≡◌, ℕ, inl, inr, Bool, true, cond, List, [], ◌∷◌, ◌++◌, drop, Some, None, Contains, refl, sym, ap, ◌∙◌, subst, slice_get}
 use Rattle.std.specs.Prelude.{filter}
 use Rattle.std.specs.Cmp.{both_ways}
 use Rattle.std.specs.List.{find, flat_map, list_any}
@@ -14,16 +14,8 @@ use Rattle.jm_form.specs.Rising.{rising}
 use Rattle.jm_form.specs.Trees.{first_clash, folder_name, folders, fronts, is_folder, module_of, path_of}
 use Rattle.jm_nodes.specs.Order.{is_among, SameElements}
 use Rattle.jm_nodes.proofs.FolderLaws.{front_of, front_there_of}
-use Rattle.jm_nodes.proofs.RisingLaws.{contains_rising, from_rising, rising_only, rising_rises, Before}
+use Rattle.jm_nodes.proofs.RisingLaws.{contains_rising, first_found, from_rising, rising_only, rising_rises, Before}
 use Rattle.jm_nodes.proofs.SoundLaws.{any_behind, IsCut}
-
-first_found : {X : Type 0} (p : X → Bool) (xs : List X) → slice_get (filter p xs) 0 ≡ find p xs
-first_found p [] = refl
-first_found {X} p (x ∷ xs) = go (p x) (first_found p xs)
-  where
-    go : (b : Bool) → slice_get (filter p xs) 0 ≡ find p xs → slice_get (cond b (x ∷ filter p xs) (filter p xs)) 0 ≡ cond b (Some x) (find p xs)
-    go true rest = refl
-    go false rest = rest
 
 find_same : {X : Type 0} (p q : X → Bool) (xs : List X) → ((x : X) → Contains xs x → p x ≡ q x) → find p xs ≡ find q xs
 find_same p q [] same = refl

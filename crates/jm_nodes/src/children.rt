@@ -51,7 +51,7 @@ pub fn child_table<'a>(
         (child_filings (map (λ name. name.now) names.now) (map (λ front. front.now) fronts.now))
         (map filing_of table)) }
 {
-    let mut list = List::new(alloc);
+    let mut list = List::with_capacity(alloc, names.len().saturating_add(fronts.len()))?;
     put_children(&mut list, names, false)?;
     put_children(&mut list, fronts, true)?;
     in_order(list)
@@ -73,8 +73,9 @@ pub fn children(alloc: Global, table: &[Filed], front: &[u8]) -> Result<List<Tex
     requires { IsFiledInOrder (map filing_of table.now) }
     ensures { IfOk result (λ names. names ≡ children_of (map filing_of table.now) front.now) }
 {
-    let mut names = List::new(alloc);
-    for child in filed_under(table, front) {
+    let found = filed_under(table, front);
+    let mut names = List::with_capacity(alloc, found.len())?;
+    for child in found {
         names.push(entry_name(alloc, child)?)?;
     }
     Ok(names)

@@ -14,7 +14,7 @@ use std::alloc::Global;
 fn names_in_order<'a>(alloc: Global, pool: &'a Pool) -> Result<List<&'a [u8]>, NoMemory>
     ensures { IfOk result (λ names. map (λ name. name.now) names ≡ names_of pool.now) }
 {
-    let mut names = List::new(alloc);
+    let mut names = List::with_capacity(alloc, pool.len())?;
     for place in 0..pool.len() {
         names.push(pool.at(place).0)?;
     }
@@ -28,16 +28,17 @@ pub fn rising_names<'a>(alloc: Global, pool: &'a Pool) -> Result<List<&'a [u8]>,
     Ok(rising(names_in_order(alloc, pool)?))
 }
 
-/// The first of the names that is a front of another.
-pub fn first_front<'a>(names: &[&'a [u8]], fronts: &[&[u8]]) -> Option<&'a [u8]>
-    requires { IsRising (map (λ front. front.now) fronts.now) }
+/// The first of the names that is a front of another: the first of the fronts that is a name.
+pub fn first_front<'a>(names: &[&[u8]], fronts: &[&'a [u8]]) -> Option<&'a [u8]>
+    requires names { IsRising (map (λ name. name.now) names.now) }
+    requires fronts { IsRising (map (λ front. front.now) fronts.now) }
     ensures { option_map (λ name. name.now) result
         ≡ find (λ name. is_among name (map (λ front. front.now) fronts.now))
         (map (λ name. name.now) names.now) }
 {
-    for name in names {
-        if is_among(name, fronts) {
-            return Some(name);
+    for front in fronts {
+        if is_among(front, names) {
+            return Some(front);
         }
     }
     None

@@ -18,10 +18,9 @@ ghost use Rattle.jm_nodes.specs.FrontTrees.{
 use crate::children::is_bare;
 use crate::filed::{Filed, filed_under, in_order, is_filed};
 use crate::rising::rising;
-use crate::texts::cut_at_slash;
 use jm_bytes::{List, NoMemory, Text};
 use jm_form::Owner;
-use jm_names::dotted;
+use jm_names::{cut_at_first, dotted};
 use std::alloc::Global;
 
 /// A folder that is a package of its module.
@@ -38,7 +37,7 @@ fn package_folder<'a>(front: &'a [u8]) -> Option<PackageFolder<'a>>
     ensures { option_map folder_of result ≡ package_folder front.now }
 {
     let (_, name) = front.split_at(1.min(front.len()));
-    let (module, path) = cut_at_slash(name)?;
+    let (module, path) = cut_at_first(b'/', name)?;
     if path.starts_with(b"META-INF") {
         return None;
     }
@@ -71,7 +70,7 @@ pub fn package_folders<'a>(
     ensures { IfOk result (λ folders. map folder_of folders
         ≡ filter_map package_folder (map (λ front. front.now) fronts.now)) }
 {
-    let mut folders = List::new(alloc);
+    let mut folders = List::with_capacity(alloc, fronts.len())?;
     for front in fronts {
         put_package_folder(&mut folders, front)?;
     }
@@ -82,7 +81,7 @@ pub fn package_folders<'a>(
 pub fn called_all(alloc: Global, folders: &[PackageFolder]) -> Result<List<Text>, NoMemory>
     ensures { IfOk result (λ called. called ≡ called_all (map folder_of folders.now)) }
 {
-    let mut called = List::new(alloc);
+    let mut called = List::with_capacity(alloc, folders.len())?;
     for folder in folders {
         called.push(dotted(alloc, folder.path)?)?;
     }
@@ -93,7 +92,7 @@ pub fn called_all(alloc: Global, folders: &[PackageFolder]) -> Result<List<Text>
 pub fn packages<'a>(alloc: Global, called: &'a [Text]) -> Result<List<&'a [u8]>, NoMemory>
     ensures { IfOk result (λ packages. map (λ text. text.now) packages ≡ rising called.now) }
 {
-    let mut packages = List::new(alloc);
+    let mut packages = List::with_capacity(alloc, called.len())?;
     for text in called {
         packages.push(text.as_slice())?;
     }
@@ -130,7 +129,7 @@ pub fn package_table<'u, 'n>(
         (package_filings (map filing_of table.now) (map folder_of folders.now))
         (map filing_of owned)) }
 {
-    let mut list = List::new(alloc);
+    let mut list = List::with_capacity(alloc, folders.len())?;
     for place in 0..folders.len() {
         list.push(package_child(table, &folders[place], called[place].as_slice()))?;
     }
@@ -167,8 +166,9 @@ pub fn owners(alloc: Global, owned: &[Filed], called: &[u8]) -> Result<List<Owne
     requires { IsFiledInOrder (map filing_of owned.now) }
     ensures { IfOk result (λ list. list ≡ owners_of (map filing_of owned.now) called.now) }
 {
-    let mut list = List::new(alloc);
-    for filed in filed_under(owned, called) {
+    let found = filed_under(owned, called);
+    let mut list = List::with_capacity(alloc, found.len())?;
+    for filed in found {
         put_owner(alloc, &mut list, owned, filed)?;
     }
     Ok(list)

@@ -1,10 +1,10 @@
-//! Texts that are put together, and cut at a slash.
-ghost use Rattle.std.specs.Prelude.{◌≡◌, ◌++◌, true, false, IfSome, IfNone, IfOk};
-ghost use Rattle.std.specs.List.{after_first, before_first, before_last, list_any};
+//! Texts that are put together, and cut at their last slash.
+ghost use Rattle.std.specs.Prelude.{◌≡◌, ◌++◌, IfOk};
+ghost use Rattle.std.specs.List.{before_last};
 ghost use Rattle.jm_names.specs.Names.{is_slash};
 
 use jm_bytes::{NoMemory, Text, copy_of, extend};
-use memchr::{memchr, memrchr};
+use jm_names::cut_at_last;
 use std::alloc::Global;
 
 /// A text behind a front.
@@ -20,21 +20,8 @@ pub fn joined(alloc: Global, front: &[u8], text: &[u8]) -> Result<Text, NoMemory
 pub fn before_last_slash(text: &[u8]) -> &[u8]
     ensures { result.now ≡ before_last is_slash text.now }
 {
-    match memrchr(b'/', text) {
-        Some(at) => text.split_at(at).0,
+    match cut_at_last(b'/', text) {
+        Some((before, _)) => before,
         None => &[],
     }
-}
-
-/// What stands before and after the first slash.
-pub fn cut_at_slash(text: &[u8]) -> Option<(&[u8], &[u8])>
-    ensures found { IfSome result (λ cut. list_any is_slash text.now ≡ true) }
-    ensures before { IfSome result (λ cut. cut.0.now ≡ before_first is_slash text.now) }
-    ensures after { IfSome result (λ cut. cut.1.now ≡ after_first is_slash text.now) }
-    ensures none { IfNone result (list_any is_slash text.now ≡ false) }
-{
-    let at = memchr(b'/', text)?;
-    let (before, from_there) = text.split_at(at);
-    let (_, after) = from_there.split_at(1);
-    Some((before, after))
 }

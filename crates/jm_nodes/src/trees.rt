@@ -59,7 +59,7 @@ fn package_names(alloc: Global, packages: &[&[u8]]) -> Result<List<Text>, NoMemo
     ensures { IfOk result
         (λ names. names ≡ map package_node (map (λ called. called.now) packages.now)) }
 {
-    let mut names = List::new(alloc);
+    let mut names = List::with_capacity(alloc, packages.len())?;
     for called in packages {
         names.push(joined(alloc, b"/packages/", called)?)?;
     }

@@ -4,4 +4,4 @@ use Rattle.jm_nodes.specs.FrontTrees.{entry_of}
 use Rattle.jm_nodes.proofs.children.children.Given as goal
 
 abbrev pub invariant-loop-child : goal.invariant-loop-child
-invariant-loop-child l = l.names ≡ map entry_of (map filing_of (take l.child-index l.child-items))
+invariant-loop-child l = l.names ≡ map entry_of (map filing_of (take l.child-index l.found))

@@ -6,8 +6,11 @@ use Rattle.jm_nodes.proofs.EndLaws.{clash_is, nodes_are}
 use Rattle.jm_nodes.proofs.RisingLaws.{rising_rises}
 use Rattle.jm_nodes.proofs.trees.nodes.Goals as goal
 
-pub first_front-requires : goal.first_front-requires
-first_front-requires c = rw (c.as_slice-3.ensures, c.in_ok-fronts.ensures) (rising_rises (flat_map fronts (map (λ name. name.now) c.as_slice.result.now)))
+pub first_front-requires-clause-names : goal.first_front-requires-clause-names
+first_front-requires-clause-names c = rw (c.as_slice-2.ensures, c.in_ok-names.ensures) (rising_rises (names_of c.args.pool.now))
+
+pub first_front-requires-clause-fronts : goal.first_front-requires-clause-fronts
+first_front-requires-clause-fronts c = rw (c.as_slice-3.ensures, c.in_ok-fronts.ensures) (rising_rises (flat_map fronts (map (λ name. name.now) c.as_slice.result.now)))
 
 pub returns-in-Some-clause-clash : goal.returns-in-Some-clause-clash
 returns-in-Some-clause-clash c =
