@@ -1,5 +1,5 @@
 -- Rows that are put into their slots, one after another.
-use Rattle.std.proofs.Common.{◌≡◌, ◌≢◌, ℕ, ◌+◌, ◌<◌, ◌≤◌, ◌==◌, Bool, true, false, cond, List, length, drop, get_or, set, Option, Some, None, AllPairs, refl, sym, ap, ◌∙◌, arith, inl, inr, get_or-set_other, get_or-set_same, replicate}
+use Rattle.std.proofs.Common.{◌∷◌, [], ◌≡◌, ◌≢◌, ℕ, ◌+◌, ◌<◌, ◌≤◌, ◌==◌, Bool, true, false, cond, List, length, drop, get_or, set, Option, Some, None, AllPairs, refl, sym, ap, ◌∙◌, arith, inl, inr, get_or-set_other, get_or-set_same, replicate}
 use Rattle.std.proofs.lemmas.Bool.{eqb-true, eqb-false, cases_lt}
 use Rattle.std.proofs.lemmas.List.{get_or_past, get_or-replicate, length-replicate, length-set}
 use Rattle.std.specs.List.{zip}
@@ -7,7 +7,9 @@ use Rattle.std.specs.Map.{lookup}
 use Rattle.std.specs.Option.{option_or}
 use Rattle.std.proofs.lemmas.List.FromFn.{length-map-range_with_len, get_or-map-range_with_len}
 use Rattle.jm_form.specs.declared.rows.Row.{Row}
-use Rattle.jm_writer.specs.Parts.{rows_in_slots}
+use Rattle.jm_writer.specs.Parts.{rows_at, rows_in_slots}
+use Rattle.jm_writer.specs.Parts as parts
+use Rattle.jm_writer.specs.declared.interning.TextPlaces.{TextPlaces}
 use Rattle.jm_writer.proofs.ItemLaws.{drop_at_index, drop_none, same_items}
 
 -- the row of a slot among rows beside their slots
@@ -93,3 +95,27 @@ placed_all slots rows count found placed =
     none_left : (a b : Option Row) → b ≡ None → a ≡ option_or a b
     none_left None b is = sym is
     none_left (Some row) b is = refl
+
+-- Rows of entries, one behind another
+
+-- there is a row for each entry
+pub length_rows_at : (offset : ℕ) (places : List TextPlaces) (sizes : List ℕ) → length places ≡ length sizes → length (rows_at offset places sizes) ≡ length sizes
+length_rows_at offset [] [] same = refl
+length_rows_at offset [] (size ∷ sizes) same = absurd (omega arith)
+length_rows_at offset (places ∷ others) [] same = absurd (omega arith)
+length_rows_at offset (places ∷ others) (size ∷ sizes) same = let next = length_rows_at (offset + size) others sizes (omega arith) in omega arith
+
+-- rows that are left begin with that of the entry at this place
+pub row_there : (offset : ℕ) (places : List TextPlaces) (sizes : List ℕ) (rows : List Row) (entry : ℕ) (p : TextPlaces) (d : Row) → length places ≡ length sizes → length rows ≡ length sizes → entry < length sizes → rows_at offset (drop entry places) (drop entry sizes) ≡ drop entry rows → parts.row_at (get_or places entry p) offset (get_or sizes entry 0) ≡ get_or rows entry d
+row_there offset places sizes rows entry p d beside same inside left =
+    go (sym (rw (drop_at_index places entry p (omega arith), drop_at_index sizes entry 0 inside) refl) ∙ left ∙ drop_at_index rows entry d (omega arith))
+  where
+    go : parts.row_at (get_or places entry p) offset (get_or sizes entry 0) ∷ rows_at (offset + get_or sizes entry 0) (drop (entry + 1) places) (drop (entry + 1) sizes) ≡ get_or rows entry d ∷ drop (entry + 1) rows → parts.row_at (get_or places entry p) offset (get_or sizes entry 0) ≡ get_or rows entry d
+    go same = cc
+
+pub rows_behind : (offset : ℕ) (places : List TextPlaces) (sizes : List ℕ) (rows : List Row) (entry : ℕ) (p : TextPlaces) (d : Row) → length places ≡ length sizes → length rows ≡ length sizes → entry < length sizes → rows_at offset (drop entry places) (drop entry sizes) ≡ drop entry rows → rows_at (offset + get_or sizes entry 0) (drop (entry + 1) places) (drop (entry + 1) sizes) ≡ drop (entry + 1) rows
+rows_behind offset places sizes rows entry p d beside same inside left =
+    go (sym (rw (drop_at_index places entry p (omega arith), drop_at_index sizes entry 0 inside) refl) ∙ left ∙ drop_at_index rows entry d (omega arith))
+  where
+    go : parts.row_at (get_or places entry p) offset (get_or sizes entry 0) ∷ rows_at (offset + get_or sizes entry 0) (drop (entry + 1) places) (drop (entry + 1) sizes) ≡ get_or rows entry d ∷ drop (entry + 1) rows → rows_at (offset + get_or sizes entry 0) (drop (entry + 1) places) (drop (entry + 1) sizes) ≡ drop (entry + 1) rows
+    go same = cc

@@ -9,9 +9,8 @@ use crate::draft::PlanError;
 use crate::entries::Entries;
 use crate::interning::{Interned, TextPlaces, strings_of};
 use crate::locations::{Locations, locate};
-use crate::rows::{in_slots, rows_at};
+use crate::rows::{EntryRow, rows_in_slots};
 use jm_bytes::{NoMemory, Text};
-use jm_form::Row;
 use jm_redirect::{BuildError, Table, build};
 use jm_strings::{Strings, StringsError};
 use std::alloc::Global;
@@ -64,7 +63,7 @@ fn rows_by_slot(
     places: &[TextPlaces],
     entries: &Entries,
     table: &Table,
-) -> Result<(Vec<Option<Row>>, u64), NoMemory>
+) -> Result<(Vec<Option<EntryRow>>, u64), NoMemory>
     requires entries { AreFit entries.now }
     requires table { IsTable entries.now.names table.now }
     requires places { places.now ≡ places_of entries.now.names }
@@ -72,9 +71,13 @@ fn rows_by_slot(
     ensures few { IfOk result (λ r. length r.0.items ≤ 33554432) }
     ensures contents { IfOk result (λ r. r.1 ≡ sum entries.now.sizes) }
 {
-    let (rows, contents) = rows_at(alloc, places, entries.sizes.as_slice())?;
-    let rows = in_slots(alloc, table.slot_of.as_slice(), &rows, table.length)?;
-    Ok((rows, contents))
+    rows_in_slots(
+        alloc,
+        table.slot_of.as_slice(),
+        places,
+        entries.sizes.as_slice(),
+        table.length,
+    )
 }
 
 /// The length of an image from its slots and the lengths of its parts, where it has 64 bits.

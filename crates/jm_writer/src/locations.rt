@@ -3,8 +3,9 @@ ghost use Rattle.std.specs.Prelude.{◌≡◌, ◌+◌, ◌*◌, ◌^◌, ◌<�
 ghost use Rattle.jm_form.specs.Layout.{location_of};
 ghost use Rattle.jm_writer.specs.Parts.{locations_of, place_at, places_from};
 
+use crate::rows::EntryRow;
 use jm_bytes::{List, NoMemory, extend};
-use jm_form::{Row, write_row};
+use jm_form::write_row;
 use std::alloc::Global;
 
 /// The locations section of an image.
@@ -17,7 +18,7 @@ pub struct Locations {
 }
 
 /// Puts the row of a slot at the end, where it has one, and answers its place.
-fn put_row(alloc: Global, text: &mut Vec<u8>, row: &Option<Row>) -> Result<u32, NoMemory>
+fn put_row(alloc: Global, text: &mut Vec<u8>, row: &Option<EntryRow>) -> Result<u32, NoMemory>
     requires { length text.old.items < 2 ^ 32 }
     ensures text { OnOk result (text.new.items ≡ text.old.items ++ location_of row.now) }
     ensures place { IfOk result (λ place. place ≡ place_at (length text.old.items) row.now) }
@@ -26,7 +27,7 @@ fn put_row(alloc: Global, text: &mut Vec<u8>, row: &Option<Row>) -> Result<u32, 
     match row {
         Some(row) => {
             let place = text.len() as u32;
-            extend(text, write_row(alloc, row)?.as_slice())?;
+            extend(text, write_row(alloc, &row.row())?.as_slice())?;
             Ok(place)
         }
         None => Ok(0),
@@ -34,7 +35,7 @@ fn put_row(alloc: Global, text: &mut Vec<u8>, row: &Option<Row>) -> Result<u32, 
 }
 
 /// The rows of the slots in their usual spelling, behind one byte 0.
-pub fn locate(alloc: Global, rows: &[Option<Row>]) -> Result<Locations, NoMemory>
+pub fn locate(alloc: Global, rows: &[Option<EntryRow>]) -> Result<Locations, NoMemory>
     requires { length rows.now ≤ 33554432 }
     ensures text { IfOk result (λ l. l.text.items ≡ locations_of rows.now) }
     ensures places { IfOk result (λ l. l.places.items ≡ places_from 1 rows.now) }
