@@ -5,7 +5,7 @@ use std::alloc::Global;
 use std::fs::{OpenFile, OpenOptions};
 use std::io::{ErrorKind, Read, Write};
 use std::rt::Files;
-use std::{fs, str};
+use std::{fs, io, str};
 
 /// The most bytes that a file may have which is read.
 const MOST_BYTES: u64 = 4_294_967_296;
@@ -74,20 +74,63 @@ fn add_piece(bytes: &mut Vec<u8>, piece: &[u8], size: usize) -> Result<(), FileE
     Ok(())
 }
 
-/// Makes an empty file at a path, with its folders.
-pub fn create_at(rt: &impl Files, path: &[u8]) -> Result<(), FileError> {
-    let path = text_of(path)?;
-    if let Some((folder, _)) = path.rsplit_once('/') {
-        fs::create_dir_all(rt, folder)?;
+/// Opens the file at a path, so that bytes go to its end. It is made where it isn't there.
+fn open_to_append<R: Files>(rt: &R, path: &str) -> io::Result<R::File> {
+    OpenOptions::new().append(true).create(true).open(rt, path)
+}
+
+/// As `open_to_append`. Where a folder of the path is missing, the folders are made first.
+fn open_with_folders<R: Files>(rt: &R, path: &str) -> io::Result<R::File> {
+    match open_to_append(rt, path) {
+        Err(e) if e.kind() == ErrorKind::NotFound => {
+            if let Some((folder, _)) = path.rsplit_once('/') {
+                fs::create_dir_all(rt, folder)?;
+            }
+            open_to_append(rt, path)
+        }
+        answer => answer,
     }
-    fs::create(rt, path)?;
-    Ok(())
+}
+
+/// Makes an empty file at a path, with its folders, or empties the one that is there. It is open.
+pub fn create_at<R: Files>(rt: &R, path: &[u8]) -> Result<R::File, FileError> {
+    let file = open_with_folders(rt, text_of(path)?)?;
+    if file.metadata()?.len() > 0 {
+        file.set_len(0)?;
+    }
+    Ok(file)
 }
 
 /// Adds bytes to the end of the file at a path, which is made where it isn't there.
-pub fn append_to(rt: &impl Files, path: &[u8], bytes: &[u8]) -> Result<(), FileError> {
-    let path = text_of(path)?;
-    let mut file = OpenOptions::new().append(true).create(true).open(rt, path)?;
+pub fn append_at<R: Files>(rt: &R, path: &[u8], bytes: &[u8]) -> Result<(), FileError> {
+    let mut file = open_to_append(rt, text_of(path)?)?;
     file.write_all(bytes)?;
     Ok(())
+}
+
+/// A file that stays open for what is added to it, and the path at which it was made.
+#[derive(Drop)]
+pub struct KeptFile<F: Write + Drop> {
+    path: Vec<u8>,
+    file: F,
+}
+
+impl<F: Write + Drop> KeptFile<F> {
+    /// Keeps a file that was made at this path. None where there is no memory for the path.
+    pub fn new(alloc: Global, path: &[u8], file: F) -> Option<KeptFile<F>> {
+        let mut kept = Vec::new(alloc);
+        kept.extend_from_slice(path).ok()?;
+        Some(KeptFile { path: kept, file })
+    }
+
+    /// Whether the file was made at this path.
+    pub fn is_at(&self, path: &[u8]) -> bool {
+        self.path.as_slice() == path
+    }
+
+    /// Adds bytes to the end of the file.
+    pub fn append(&mut self, bytes: &[u8]) -> Result<(), FileError> {
+        self.file.write_all(bytes)?;
+        Ok(())
+    }
 }

@@ -1,7 +1,7 @@
 ghost use Rattle.std.specs.Prelude.{◌≡◌, None, Ok, IfOk, IsErrOf};
 ghost use Rattle.jm_outside.specs.Outcome.{CountsFaults};
 
-use crate::contents::{append_to, create_at, read_at};
+use crate::contents::{KeptFile, append_at, create_at, read_at};
 use crate::file_error::FileError;
 use crate::folders::names_in;
 use crate::shelf::{Shelf, ShelfError};
@@ -13,10 +13,14 @@ use std::str;
 /// The shelf of the file system, which tells no files. A path is the system's: one that begins with
 /// no slash goes from the folder in which the program runs.
 ///
+/// The file that was made last stays open until the next is made, so that what is added to it needs
+/// no further look at its path. Bytes go to the system at once, and to the end of the file.
+///
 /// Each error of the system counts as one fault.
 #[derive(Drop)]
 pub struct FileShelf<'a, R: Files + AllocGlobal> {
     rt: &'a R,
+    made_last: Option<KeptFile<R::File>>,
     faults: u64,
     last_failure: Option<String>,
 }
@@ -34,6 +38,7 @@ impl<'a, R: Files + AllocGlobal> FileShelf<'a, R> {
     {
         FileShelf {
             rt,
+            made_last: None,
             faults: 0,
             last_failure: None,
         }
@@ -96,13 +101,19 @@ impl<'a, R: Files + AllocGlobal> Shelf for FileShelf<'a, R> {
 
     /// Makes the folders of the path that are missing.
     fn create(&mut self, alloc: Global, path: &[u8]) -> Result<(), ShelfError> {
+        self.made_last = None;
         let answer = create_at(self.rt, path);
-        self.judge(alloc, path, answer)
+        let file = self.judge(alloc, path, answer)?;
+        self.made_last = KeptFile::new(alloc, path, file);
+        Ok(())
     }
 
     /// Makes no folder: one that is missing is a fault.
     fn append(&mut self, alloc: Global, path: &[u8], bytes: &[u8]) -> Result<(), ShelfError> {
-        let answer = append_to(self.rt, path, bytes);
+        let answer = match &mut self.made_last {
+            Some(kept) if kept.is_at(path) => kept.append(bytes),
+            _ => append_at(self.rt, path, bytes),
+        };
         self.judge(alloc, path, answer)
     }
 

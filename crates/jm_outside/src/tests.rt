@@ -74,12 +74,13 @@ fn write<S: Shelf>(
     shelf.append(alloc, path.as_bytes(), back.as_bytes())
 }
 
-/// Writes some files below a folder.
+/// Writes some files below a folder, and adds to one of them once another was made.
 fn write_tree<S: Shelf>(alloc: Global, shelf: &mut S) -> Result<(), ShelfError> {
     write(alloc, shelf, "d/a/b/two words.txt", "", "4444")?;
     write(alloc, shelf, "d/a b", "33", "3")?;
-    write(alloc, shelf, "d/a b", "2", "2")?;
-    write(alloc, shelf, "d/a/b.txt", "", "")
+    write(alloc, shelf, "d/a b", "2", "")?;
+    write(alloc, shelf, "d/a/b.txt", "", "")?;
+    shelf.append(alloc, b"d/a b", b"2")
 }
 
 const TREE: &[u8] = b"a b:22\na/b.txt:\na/b/two words.txt:4444\n";
@@ -158,13 +159,15 @@ fn make_links(rt: &HostRuntime) -> io::Result<()> {
 /// The listing with the link to a file, and with no other.
 const LINKED: &[u8] = b"a b:22\na/b.txt:\na/b/two words.txt:4444\nlink:22\n";
 
-/// Whether links are as they should, and a file in the place of a folder is no fault, but a folder
-/// in the place of a file is one, and so is a folder that isn't there.
+/// Whether links are as they should, and for a read a file in the place of a folder is no fault, but
+/// a folder in the place of a file is one. For a write both are, and so is a folder that isn't there.
 fn keeps_links<S: Shelf>(alloc: Global, shelf: &mut S) -> bool {
     lists(alloc, shelf, "d", LINKED)
         && lists(alloc, shelf, "d/empty", b"")
         && read_mark(alloc, shelf, "d/a/b.txt/c") == b'-'
         && read_mark(alloc, shelf, "d/empty") == b'!'
+        && create_mark(alloc, shelf, "d/a/b.txt/c") == b'!'
+        && create_mark(alloc, shelf, "d/empty") == b'!'
         && append_mark(alloc, shelf, "e/a", "1") == b'!'
 }
 
