@@ -1,12 +1,11 @@
 //! The folders of a directory that are modules, and their files, from the names below the
 //! directory.
-ghost use Rattle.std.specs.Prelude.{◌≡◌, ◌≤◌, ◌∷◌, ◌++◌, [], All, IsUtf8, IfOk, IfSome, IfNone};
+ghost use Rattle.std.specs.Prelude.{◌≡◌, ◌≤◌, ◌∷◌, ◌++◌, [], All, IsUtf8, IfOk};
 ghost use Rattle.std.specs.Prelude.{OnOk, length, take, drop};
-ghost use Rattle.std.specs.Prelude.{IsTrue, IsFalse, true, false, option_map};
-ghost use Rattle.std.specs.List.{list_any, before_first, after_first, filter_map};
+ghost use Rattle.std.specs.Prelude.{IsTrue, IsFalse, option_map};
+ghost use Rattle.std.specs.List.{filter_map};
 ghost use Rattle.std.specs.Cmp.Lexicographic.{slice_cmp};
 ghost use Rattle.std.specs.Ordering.{is_lt, nat_cmp};
-ghost use Rattle.jm_names.specs.Names.{is_slash};
 ghost use Rattle.jm_outside.specs.Files.{Rising, after_front};
 ghost use Rattle.jm_modpath.specs.ByteOrder.{is_before};
 ghost use Rattle.jm_modpath.specs.Finding.{folders_among, names_within};

@@ -5,9 +5,6 @@ ghost use Rattle.jm_form.specs.Trees.{class_packages, path_of};
 ghost use Rattle.jm_modpath.specs.Finding.{class_folder, class_package};
 ghost use Rattle.jm_modpath.specs.Modules.{resource_name};
 ghost use Rattle.jm_modpath.specs.TextView.{items_of};
-ghost use Rattle.jm_names.specs.Names.{is_slash};
-ghost use Rattle.std.specs.Prelude.{IfSome, IfNone, true, false};
-ghost use Rattle.std.specs.List.{before_last, list_any};
 
 use crate::names::resource_name;
 use crate::rising::rising;
