@@ -24,20 +24,17 @@ fn place_at(places: &[u32], slot: u32) -> u32
     }
 }
 
-/// Puts the places of the rows at these slots at the end.
-fn put_places(
-    text: &mut Vec<u8>,
-    order: Order,
-    places: &[u32],
-    slots: &[u32],
-) -> Result<(), NoMemory>
-    ensures { OnOk result (text.new.items ≡ text.old.items
-        ++ words_text order (map (λ slot. unwrap_or (slice_get places.now slot) 0) slots.now)) }
+/// The places of the rows at these slots. They lie far apart, and nothing else is done between two
+/// of them here, so that the processor reads many at a time.
+fn places_at(alloc: Global, places: &[u32], slots: &[u32]) -> Result<List<u32>, NoMemory>
+    ensures { IfOk result
+        (λ found. found ≡ map (λ slot. unwrap_or (slice_get places.now slot) 0) slots.now) }
 {
+    let mut found = List::with_capacity(alloc, slots.len())?;
     for slot in slots {
-        put_words(text, order, &[place_at(places, *slot)])?;
+        found.push(place_at(places, *slot))?;
     }
-    Ok(())
+    Ok(found)
 }
 
 /// Puts a word for each child at the end: the place of the row at the slot to which the table leads
@@ -54,7 +51,8 @@ fn put_children(
         ++ words_text order (map (child_word table.now places.now) names.now)) }
 {
     let slots = slots_in(alloc, table, names)?;
-    put_places(text, order, places, slots.as_slice())
+    let found = places_at(alloc, places, slots.as_slice())?;
+    put_words(text, order, found.as_slice())
 }
 
 /// Puts two words for each owner at the end: whether the package is empty there, and the place of

@@ -7,7 +7,7 @@ use Rattle.jm_writer.proofs.tail.put_children.Goals as goal
 pub returns : goal.returns
 returns c =
     let place : ℕ → ℕ = λ slot. unwrap_or (slice_get c.args.places.now slot) 0 in
-    let same : map place c.as_slice.result.now ≡ map (child_word c.args.table.now c.args.places.now) c.args.names.now =
-    ap (map place) (c.as_slice.ensures ∙ c.in_ok-slots.ensures) ∙ mapped_twice place (slot_or_first c.args.table.now) c.args.names.now
+    let same : c.as_slice-2.result.now ≡ map (child_word c.args.table.now c.args.places.now) c.args.names.now =
+    c.as_slice-2.ensures ∙ c.in_ok-found.ensures ∙ ap (map place) (c.as_slice.ensures ∙ c.in_ok-slots.ensures) ∙ mapped_twice place (slot_or_first c.args.table.now) c.args.names.now
     in
-    subst (λ l. OnOk c.put_places.result (c.put_places.new.text.items ≡ c.args.text.now.items ++ words_text c.args.order l)) same c.put_places.ensures
+    subst (λ l. OnOk c.put_words.result (c.put_words.new.text.items ≡ c.args.text.now.items ++ words_text c.args.order l)) same c.put_words.ensures
