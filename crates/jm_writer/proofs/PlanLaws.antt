@@ -72,11 +72,6 @@ entries_are es entries is =
     ap (λ n. record { names = n; sizes = entries.sizes }) is.names
     ∙ ap (λ s. record { names = map (λ e. e.name) es; sizes = s }) is.sizes
 
-pub length_sized : (names : List (List ℕ)) (sizes : List ℕ) → length names ≡ length sizes → length (sized_as names sizes) ≡ length names
-length_sized [] sizes same = refl
-length_sized (name ∷ names) [] same = absurd (omega arith)
-length_sized (name ∷ names) (size ∷ sizes) same = ap suc (length_sized names sizes (omega arith))
-
 pub length_rows : (texts : List (List ℕ)) (offset : ℕ) (es : List Sized) → length (rows_from texts offset es) ≡ length es
 length_rows texts offset [] = refl
 length_rows texts offset (e ∷ es) = ap suc (length_rows texts (offset + e.size) es)
