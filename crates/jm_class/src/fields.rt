@@ -7,7 +7,7 @@ use crate::class::{ClassFault, ReadError};
 use crate::cursor::Cursor;
 
 /// What is said of a field that doesn't fit.
-#[derive(Clone, Copy, Debug)]
+#[derive(Clone, Copy)]
 pub enum Missing {
     /// It is short, at its own place.
     Here,

@@ -6,7 +6,7 @@ use jm_bytes::NoMemory;
 use std::alloc::Global;
 
 /// What a walk does next.
-#[derive(Clone, Copy, Debug)]
+#[derive(Clone, Copy)]
 enum Step {
     Enter(usize),
     Leave(usize),
@@ -14,7 +14,7 @@ enum Step {
 
 /// A walk: the nodes that it entered, what is still to be done, the last first, and the nodes that
 /// it left.
-#[derive(Debug, Drop)]
+#[derive(Drop)]
 struct Walk {
     entered: Vec<bool>,
     steps: Vec<Step>,

@@ -10,7 +10,7 @@ use jm_words::WordsError;
 use std::alloc::{AllocError, Global};
 
 /// What a run ends with in place of its output; it has a line that says so.
-#[derive(Debug, Drop)]
+#[derive(Drop)]
 pub enum Complaint {
     /// The words make no command.
     Words(WordsError),

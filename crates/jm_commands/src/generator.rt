@@ -24,7 +24,7 @@ use std::alloc::{AllocError, Global};
 use std::thread::Threads;
 
 /// What the words of a `gen` say.
-#[derive(Clone, Copy, Debug)]
+#[derive(Clone, Copy)]
 pub struct GenWords<'a> {
     /// The folder that gets the modules and the image.
     pub dir: &'a [u8],

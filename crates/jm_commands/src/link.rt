@@ -58,7 +58,7 @@ fn put_summary<O: Sink>(alloc: Global, summary: &Summary, out: &mut O) -> Result
 }
 
 /// What the words of a `link` from a module path say, with plug-ins that are built.
-#[derive(Clone, Copy, Debug)]
+#[derive(Clone, Copy)]
 pub struct LinkWords<'a> {
     pub asked: Asked<'a>,
     /// How many pieces work at the same time.

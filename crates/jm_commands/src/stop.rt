@@ -8,7 +8,7 @@ use jm_words::{WordsError, WordsKind};
 use std::alloc::AllocError;
 
 /// Why a command has not put its whole output.
-#[derive(Debug, Drop)]
+#[derive(Drop)]
 pub enum Stop {
     /// It ends with this complaint.
     Complaint(Complaint),

@@ -4,7 +4,7 @@ ghost use Rattle.jm_gen.specs.Draws.{draw};
 use std::marker::Model;
 
 /// Numbers that are drawn one after another; the first is made of a seed.
-#[derive(Debug, Drop)]
+#[derive(Drop)]
 pub struct Draws {
     last: u64,
 }

@@ -28,7 +28,7 @@ pub enum Child<'a> {
 }
 
 /// What a list's children are read from.
-#[derive(Clone, Copy, Debug)]
+#[derive(Clone, Copy)]
 enum ToCome<'a> {
     /// The roots that are there.
     Roots { modules: bool, packages: bool },

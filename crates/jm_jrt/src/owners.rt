@@ -15,7 +15,7 @@ use jm_form::Header;
 use std::sync::ledger::Ledger;
 
 /// A module that has a package, and whether the package is empty there.
-#[derive(Clone, Copy, Debug)]
+#[derive(Clone, Copy)]
 pub struct Owned<'a> {
     pub empty: bool,
     pub module: &'a [u8],

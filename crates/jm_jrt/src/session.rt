@@ -29,7 +29,7 @@ const MOST_LINES: u64 = 1_000_000;
 const PIECE: usize = 65_536;
 
 /// How far a session has come.
-#[derive(Debug, Drop)]
+#[derive(Drop)]
 struct Progress {
     /// How many lines were answered.
     lines: u64,

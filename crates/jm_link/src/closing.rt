@@ -15,7 +15,7 @@ use jm_modpath::VisibleModule;
 use std::alloc::Global;
 
 /// The folder of a module with its files.
-#[derive(Debug, Drop)]
+#[derive(Drop)]
 pub struct ModuleFolder {
     folder: Text,
     files: List<Text>,

@@ -22,7 +22,7 @@ use jm_pool::Pool;
 use std::alloc::Global;
 
 /// A file that is linked.
-#[derive(Debug, Drop)]
+#[derive(Drop)]
 pub struct ResourceFile {
     /// Its name as a resource.
     pub name: Text,

@@ -8,7 +8,7 @@ ghost use Rattle.jm_modinfo.specs.Constants.{is_allowed};
 use jm_class::{Class, Slot, utf8};
 
 /// A kind of constant that stands for a text.
-#[derive(Clone, Copy, Debug)]
+#[derive(Clone, Copy)]
 pub enum Kind {
     /// The name of a class, with slashes between its parts.
     Class,

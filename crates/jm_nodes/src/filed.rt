@@ -15,7 +15,7 @@ ghost use Rattle.jm_nodes.specs.Filings.{
 use jm_bytes::{List, NoMemory};
 
 /// A name that is filed under a text, with a mark.
-#[derive(Clone, Copy, Debug, PartialEq, Eq, PartialOrd, Ord)]
+#[derive(Clone, Copy, PartialEq, Eq, PartialOrd, Ord)]
 pub struct Filed<'u, 'n> {
     /// What it is looked for by.
     pub under: &'u [u8],

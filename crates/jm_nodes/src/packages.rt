@@ -24,7 +24,7 @@ use jm_names::{cut_at_first, dotted};
 use std::alloc::Global;
 
 /// A folder that is a package of its module.
-#[derive(Debug, Drop)]
+#[derive(Drop)]
 pub struct PackageFolder<'a> {
     /// The front of names: the module and the folder.
     pub front: &'a [u8],

@@ -13,7 +13,7 @@ use std::alloc::Global;
 use std::thread::Threads;
 
 /// What stripping the class at a place of the pool gave.
-#[derive(Debug, Drop)]
+#[derive(Drop)]
 pub struct Stripped {
     place: usize,
     outcome: Result<Text, ReadError>,

@@ -13,7 +13,7 @@ use std::thread::Threads;
 
 /// A place of the pool, and the number of the first pattern that matches the name there; that is
 /// the number of the patterns where none does.
-#[derive(Clone, Copy, Debug, PartialEq, Eq)]
+#[derive(Clone, Copy, PartialEq, Eq)]
 struct Turn {
     rank: usize,
     place: usize,

@@ -9,7 +9,7 @@ use jm_bytes::{Buf, Meter};
 use std::sync::ledger::Ledger;
 
 /// A text of an image, and the marks that stand around it in a name where it isn't empty.
-#[derive(Clone, Copy, Debug)]
+#[derive(Clone, Copy)]
 pub struct MarkedText {
     /// The place of the text in the image, in bytes.
     pub place: usize,

@@ -76,7 +76,7 @@ fn redirect_for(
 }
 
 /// Turns that are left, and the names that have them.
-#[derive(Clone, Copy, Debug)]
+#[derive(Clone, Copy)]
 struct Left<'t, 'n> {
     turns: &'t [Turn],
     names: &'t [&'n [u8]],

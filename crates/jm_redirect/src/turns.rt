@@ -9,7 +9,7 @@ use std::alloc::Global;
 
 /// A name's turn. Turns in order have the buckets by falling size, then by rising number, and the
 /// names of a bucket by rising place.
-#[derive(Clone, Copy, Debug, PartialEq, Eq, PartialOrd, Ord)]
+#[derive(Clone, Copy, PartialEq, Eq, PartialOrd, Ord)]
 pub struct Turn {
     /// How many names are in other buckets.
     pub others: u32,

@@ -10,7 +10,7 @@ use jm_class::Slot;
 const UTF8: u8 = 1;
 
 /// What a constant is, as far as the names of attributes go.
-#[derive(Clone, Copy, Debug, PartialEq, Eq)]
+#[derive(Clone, Copy, PartialEq, Eq)]
 pub enum Kind {
     /// No Utf8.
     Other,

@@ -1,5 +1,5 @@
 /// How the text of an argument, or of an option's value, is read.
-#[derive(Clone, Copy, Debug)]
+#[derive(Clone, Copy)]
 pub enum Form {
     /// No value at all: the option is a flag.
     Flag,

@@ -19,7 +19,7 @@ use std::alloc::Global;
 use std::marker::Model;
 
 /// What was given: the name of an argument or of an option, with its text. A flag's text is empty.
-#[derive(Debug, Drop)]
+#[derive(Drop)]
 pub struct Given<'a> {
     pub name: &'a [u8],
     pub text: &'a [u8],
@@ -34,7 +34,7 @@ impl<'a> Model for Given<'a> {
 }
 
 /// What stands after some words.
-#[derive(Debug, Drop)]
+#[derive(Drop)]
 pub struct Progress<'a> {
     given: List<Given<'a>>,
     /// The arguments still to come.

@@ -6,7 +6,7 @@ use crate::forms::Form;
 use std::marker::Model;
 
 /// The commands.
-#[derive(Clone, Copy, Debug)]
+#[derive(Clone, Copy)]
 pub enum Verb {
     Link,
     Cat,
@@ -23,7 +23,7 @@ pub enum Verb {
 }
 
 /// The arguments of the commands.
-#[derive(Clone, Copy, Debug)]
+#[derive(Clone, Copy)]
 pub enum Argument {
     Image,
     Name,
@@ -33,7 +33,7 @@ pub enum Argument {
 }
 
 /// The options of the commands.
-#[derive(Clone, Copy, Debug)]
+#[derive(Clone, Copy)]
 pub enum Choice {
     Jobs,
     ModulePath,
@@ -54,7 +54,7 @@ pub enum Choice {
 }
 
 /// An argument's name and form.
-#[derive(Debug, Drop)]
+#[derive(Drop)]
 pub struct ArgumentRow {
     pub name: &'static [u8],
     pub form: Form,
@@ -69,7 +69,7 @@ impl Model for ArgumentRow {
 }
 
 /// An option's name and form, and how often it stands.
-#[derive(Debug, Drop)]
+#[derive(Drop)]
 pub struct OptionRow {
     pub name: &'static [u8],
     pub form: Form,

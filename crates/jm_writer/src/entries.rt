@@ -9,7 +9,7 @@ use jm_pool::Pool;
 use std::alloc::Global;
 
 /// Entries by their names and the sizes of their contents, one list beside the other.
-#[derive(Debug, Drop)]
+#[derive(Drop)]
 pub struct Entries {
     /// Their names.
     pub names: List<Text>,

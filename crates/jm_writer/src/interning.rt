@@ -13,7 +13,7 @@ use jm_strings::{Strings, StringsError};
 use std::alloc::Global;
 
 /// The places of the four pieces of a name among the strings, in bytes from the section's front.
-#[derive(Clone, Copy, Debug)]
+#[derive(Clone, Copy)]
 pub struct TextPlaces {
     pub module: u32,
     pub parent: u32,

@@ -9,7 +9,7 @@ use jm_form::write_row;
 use std::alloc::Global;
 
 /// The locations section of an image.
-#[derive(Debug, Drop)]
+#[derive(Drop)]
 pub struct Locations {
     /// Its bytes.
     pub text: Vec<u8>,

@@ -20,7 +20,7 @@ pub fn text_place(strings: &Strings, text: &[u8]) -> u32
 
 /// The row of an entry by the places of its name's pieces, seen as a [`Row`], which has 56 bytes
 /// where this has 32.
-#[derive(Clone, Copy, Debug)]
+#[derive(Clone, Copy)]
 pub struct EntryRow {
     places: TextPlaces,
     offset: u64,
