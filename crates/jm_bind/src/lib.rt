@@ -6,6 +6,3 @@ mod binding;
 mod nodes;
 
 pub use binding::bind;
-
-#[cfg(test)]
-mod tests;

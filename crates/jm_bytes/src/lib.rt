@@ -5,8 +5,6 @@
 mod buffer;
 mod counters;
 mod lists;
-#[cfg(test)]
-mod tests;
 mod texts;
 mod words;
 

@@ -13,6 +13,3 @@ pub use class::{Attribute, Body, Class, ClassFault, Code, Member, Plain, ReadErr
 pub use constants::{is_wide_slot, slot};
 pub use cursor::Cursor;
 pub use reading::{magic, major, read, utf8};
-
-#[cfg(test)]
-mod tests;

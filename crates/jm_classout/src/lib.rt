@@ -8,6 +8,3 @@ mod writing;
 pub use parts::{put16, put32};
 pub use sizes::size;
 pub use writing::write;
-
-#[cfg(test)]
-mod tests;

@@ -24,6 +24,3 @@ pub use missing::least_lost_root;
 pub use names::{edges_of, names_differ, names_of, places_among};
 pub use places::Places;
 pub use reach::reached;
-
-#[cfg(test)]
-mod tests;

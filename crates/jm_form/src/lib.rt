@@ -9,8 +9,6 @@ mod rows;
 mod slots;
 mod spelling;
 mod table;
-#[cfg(test)]
-mod tests;
 mod trees;
 
 pub use container::{Header, HeaderFault, read_header};

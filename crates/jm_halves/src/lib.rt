@@ -18,6 +18,3 @@ mod search;
 pub use gate::{Gate, NoGate};
 pub use map::map_halves;
 pub use search::first_some;
-
-#[cfg(test)]
-mod tests;

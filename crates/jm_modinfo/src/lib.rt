@@ -13,6 +13,3 @@ pub use describing::describe;
 pub use descriptor::{Descriptor, Need, Opened, Provides};
 pub use faults::{DescriptorFault, InfoError, InfoFault};
 pub use writing::write_info;
-
-#[cfg(test)]
-mod tests;

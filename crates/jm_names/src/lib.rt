@@ -8,8 +8,6 @@ mod hashing;
 mod nodes;
 mod packages;
 mod pieces;
-#[cfg(test)]
-mod tests;
 
 pub use check::{NameFault, check_name};
 pub use forms::{to_modified, to_utf8};

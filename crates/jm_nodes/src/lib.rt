@@ -14,6 +14,3 @@ mod trees;
 pub use error::NodesError;
 pub use jm_form::{Holds, Owner, TreeNode};
 pub use trees::nodes;
-
-#[cfg(test)]
-mod tests;

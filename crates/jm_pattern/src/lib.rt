@@ -9,6 +9,3 @@ mod signs;
 
 pub use items::read_list;
 pub use signs::{Pattern, PatternError, Sign};
-
-#[cfg(test)]
-mod tests;

@@ -23,6 +23,3 @@ pub enum Plugin {
     /// The constants that nothing names are left out of classes.
     Compact,
 }
-
-#[cfg(test)]
-mod tests;

@@ -5,6 +5,3 @@ mod pairs;
 mod pool;
 
 pub use pool::{Pool, PushError};
-
-#[cfg(test)]
-mod tests;

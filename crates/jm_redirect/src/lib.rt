@@ -11,6 +11,3 @@ mod turns;
 
 pub use building::{BuildError, Table, build};
 pub use hashes::{default_hashes, slot_of};
-
-#[cfg(test)]
-mod tests;

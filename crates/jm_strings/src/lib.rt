@@ -4,6 +4,3 @@
 mod strings;
 
 pub use strings::{Strings, StringsError};
-
-#[cfg(test)]
-mod tests;

@@ -12,6 +12,3 @@ mod skips;
 mod stripping;
 
 pub use stripping::strip;
-
-#[cfg(test)]
-mod tests;

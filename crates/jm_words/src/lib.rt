@@ -11,6 +11,3 @@ mod values;
 
 pub use commands::{Command, read_words};
 pub use errors::{WordsError, WordsKind};
-
-#[cfg(test)]
-mod tests;

@@ -1,4 +1,0 @@
-use Rattle.jm_bytes.proofs.tests.a_buffer_gives_its_parts.Given as goal
-
-abbrev pub ghosts-parts_of : goal.ghosts-parts_of
-ghosts-parts_of g a = record { name = a.blank.name; parts = a.blank.parts }
