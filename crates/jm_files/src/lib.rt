@@ -4,6 +4,3 @@
 mod making;
 
 pub use making::make_file;
-
-#[cfg(test)]
-mod tests;

@@ -9,6 +9,3 @@ mod names;
 
 pub use generating::generate;
 pub use names::module_names;
-
-#[cfg(test)]
-mod tests;

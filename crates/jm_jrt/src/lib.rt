@@ -23,6 +23,3 @@ pub use requests::answer;
 pub use serve_error::ServeError;
 pub use session::serve;
 pub use trees::{children, owner, stat};
-
-#[cfg(test)]
-mod tests;

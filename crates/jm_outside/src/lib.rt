@@ -14,8 +14,6 @@ mod mem_streams;
 mod shelf;
 mod std_streams;
 mod streams;
-#[cfg(test)]
-mod tests;
 
 pub use file_shelf::FileShelf;
 pub use mem_shelf::MemShelf;

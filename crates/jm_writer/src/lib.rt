@@ -11,8 +11,6 @@ mod planning;
 mod rows;
 mod slots;
 mod tail;
-#[cfg(test)]
-mod tests;
 mod writing;
 
 pub use draft::{Draft, PlanError};

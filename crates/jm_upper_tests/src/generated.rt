@@ -1,5 +1,5 @@
-use super::*;
 use jm_bytes::{List, Text};
+use jm_gen::generate;
 use jm_outside::{MemShelf, Shelf};
 use std::alloc::Global;
 use std::test::Fail;

@@ -1,5 +1,5 @@
-use super::*;
 use jm_bytes::{List, Text};
+use jm_files::make_file;
 use jm_outside::MemShelf;
 use std::test::Fail;
 

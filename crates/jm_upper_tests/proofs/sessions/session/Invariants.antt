@@ -1,4 +1,4 @@
-use Rattle.jm_jrt.proofs.tests.sessions.session.Given as goal
+use Rattle.jm_upper_tests.proofs.sessions.session.Given as goal
 
 abbrev pub ghosts-counted-H-Ledger : goal.ghosts-counted-H-Ledger
 ghosts-counted-H-Ledger g a = record { name = a.hashes.name; parts = a.hashes.parts }

@@ -1,9 +1,9 @@
 ghost use Rattle.std.specs.Prelude.{◌≡◌, ◌<◌};
 
-use super::vectors::one;
-use crate::{Child, ChildList, JrtError, Node, children, owner, stat};
+use crate::vectors::one;
 use jm_bytes::{Meter, Steps};
 use jm_halves::NoGate;
+use jm_jrt::{Child, ChildList, JrtError, Node, children, owner, stat};
 use jm_valid::{Image, open_image};
 use std::alloc::Global;
 use std::marker::Brand;

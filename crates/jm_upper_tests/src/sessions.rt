@@ -1,10 +1,10 @@
 //! Sessions over a small image: in pieces, to their end, and with calls that fail.
 ghost use Rattle.std.specs.Prelude.{◌≡◌, ◌<◌};
 
-use super::vectors::one;
-use crate::{ServeError, serve};
+use crate::vectors::one;
 use jm_bytes::{List, Meter, Steps, Text};
 use jm_halves::NoGate;
+use jm_jrt::{ServeError, serve};
 use jm_outside::{MemSink, MemSource};
 use jm_valid::{Image, open_image};
 use std::alloc::Global;

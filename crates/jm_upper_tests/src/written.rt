@@ -4,11 +4,11 @@ ghost use Rattle.jm_names.specs.Names.{is_node};
 ghost use Rattle.jm_form.specs.Layout.{names_of};
 ghost use Rattle.jm_writer.specs.Drafts.{IsDraft};
 
-use super::*;
 use jm_bytes::{List, Order, Text};
 use jm_names::{check_name, is_node};
 use jm_outside::{MemShelf, ShelfError};
 use jm_pool::Pool;
+use jm_writer::{PlanError, plan, write};
 use std::alloc::Global;
 use std::test::Fail;
 

@@ -3,11 +3,11 @@
 //!
 //! An answer is put down as one character, so that a test compares few texts: a helper that holds
 //! no value of its own is proved fast, and a test with many is not.
-use crate::{
+use jm_bytes::{List, NoMemory, Text};
+use jm_outside::{
     FileShelf, MemShelf, MemSink, MemSource, Shelf, ShelfError, Sink, SinkError, Source, StdSink,
     StdSource,
 };
-use jm_bytes::{List, NoMemory, Text};
 use std::alloc::{AllocError, Global};
 use std::io::{ErrorKind, Read, Write};
 use std::os::unix::fs::symlink;

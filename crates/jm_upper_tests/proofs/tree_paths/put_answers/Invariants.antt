@@ -1,4 +1,4 @@
-use Rattle.jm_jrt.proofs.tests.trees.put_answers.Given as goal
+use Rattle.jm_upper_tests.proofs.tree_paths.put_answers.Given as goal
 
 abbrev pub ghosts-put_stat-H-Ledger : goal.ghosts-put_stat-H-Ledger
 ghosts-put_stat-H-Ledger a = record { name = a.hashes.name; parts = a.hashes.parts }

@@ -1,3 +1,0 @@
-mod sessions;
-mod trees;
-mod vectors;

@@ -1,0 +1,11 @@
+use Rattle.std.proofs.Common.{◌≡◌, ℕ, length}
+use Rattle.jm_upper_tests.proofs.linked.walked.Given as goal
+
+abbrev pub invariant-loop-count : goal.invariant-loop-count
+invariant-loop-count g l = record {
+  bytes : l.entries.bytes ≡ l.image;
+  metered : l.reads.bytes ≡ l.image;
+}
+
+abbrev pub decreases-loop-count : goal.decreases-loop-count
+decreases-loop-count g l = length l.entries.rest
