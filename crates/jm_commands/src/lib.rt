@@ -17,8 +17,6 @@ mod program;
 mod serve;
 mod status;
 mod stop;
-#[cfg(test)]
-mod tests;
 mod verify;
 mod version;
 
