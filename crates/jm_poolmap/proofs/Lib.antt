@@ -1,1 +1,4 @@
+pub mod Loops
+pub mod Runs
+pub mod Shrinks
 mod Vectors

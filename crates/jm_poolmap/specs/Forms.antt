@@ -22,9 +22,13 @@ Form = List Found → Reading NoForm (List Found)
 abbrev pub nowhere : Form
 nowhere found left = Err tt
 
+-- what is read has no site
+abbrev pub without : {A : Type 0} → Reading NoForm A → Form
+without reading found = and_then reading (λ a. value found)
+
 -- n bytes without a site
 abbrev pub skip : ℕ → Form
-skip n found = and_then (part unfit n) (λ bytes. value found)
+skip n = without (part unfit n)
 
 -- the number of a constant, in two bytes or in one; where it is optional 0 means none
 abbrev pub site_of_width : Width → Bool → Bool → Form

@@ -35,5 +35,8 @@ frame_part Distance = skip 2
 frame_part OneType = type
 frame_part Types = counted w16 type
 
+abbrev pub frame_parts : List FramePart → Form
+frame_parts parts = in_order (map frame_part parts)
+
 abbrev pub frame : Form
-frame = by_byte frame_rows (λ parts. in_order (map frame_part parts))
+frame = by_byte frame_rows frame_parts

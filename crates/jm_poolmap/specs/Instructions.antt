@@ -1,11 +1,12 @@
 -- The instructions of a code, by their opcodes (JVMS 6.5).
-use Rattle.std.specs.Prelude.{ℕ, ◌+◌, ◌-◌, ◌*◌, ◌%◌, ◌^◌, nat_le, nat_lt, List, [], ◌∷◌}
+use Rattle.std.specs.Prelude.{ℕ, ◌+◌, ◌-◌, ◌*◌, ◌%◌, ◌^◌, nat_le, nat_lt, List, [], ◌∷◌, Err}
 use Rattle.std.specs.Prelude.{if◌then◌else◌}
 use Rattle.std.specs.Int.{w32}
-use Rattle.jm_class.specs.Readings.{and_then, number}
+use Rattle.jm_class.specs.Readings.{Reading, and_then, part, number}
 use Rattle.jm_poolmap.specs.declared.forms.Item.{Item}
 use Rattle.jm_poolmap.specs.declared.forms.Item.TheVariants.{Bytes, Site, ByteSite}
-use Rattle.jm_poolmap.specs.Forms.{Form, Rows, unfit, nowhere, skip, in_order, run, by_byte}
+use Rattle.jm_poolmap.specs.Forms.{Form, NoForm, Rows, unfit, without, skip, in_order, run}
+use Rattle.jm_poolmap.specs.Forms.{by_byte}
 use Rattle.jm_poolmap.specs.Items.{items, one}
 
 -- what follows an opcode
@@ -38,36 +39,35 @@ wide_rows =
     ∷ []
 
 -- bytes up to a multiple of four from a place
-abbrev pub filling : ℕ → Form
-filling start found left = skip ((4 - (left.place - start) % 4) % 4) found left
+abbrev pub filling : ℕ → Reading NoForm (List ℕ)
+filling start left = part unfit ((4 - (left.place - start) % 4) % 4) left
 
--- a number of four bytes by its place in the order of the signed ones, the least at 0
+-- the place of a number of four bytes in the order of the signed ones
 abbrev pub from_least : ℕ → ℕ
 from_least n = if nat_lt n (2 ^ 31) then n + 2 ^ 31 else n - 2 ^ 31
 
--- as many words as there are numbers from the lowest case to the highest
-abbrev pub cases : ℕ → ℕ → Form
-cases low high =
-    if nat_le (from_least low) (from_least high)
-    then skip (4 * (from_least high - from_least low + 1))
-    else nowhere
+-- a word for each number from the lowest case to the highest, which isn't lower
+abbrev pub words : ℕ → ℕ → Reading NoForm (List ℕ)
+words low high left =
+    if nat_le low high then part unfit (4 * (high - low + 1)) left else Err tt
 
--- two words for each case; a count isn't negative
-abbrev pub pairs : ℕ → Form
-pairs count = if nat_lt count (2 ^ 31) then skip (8 * count) else nowhere
+abbrev pub table_cases : Reading NoForm (List ℕ)
+table_cases =
+    and_then (number unfit w32)
+    (λ low. and_then (number unfit w32) (λ high. words (from_least low) (from_least high)))
 
-abbrev pub table_cases : Form
-table_cases found =
-    and_then (number unfit w32) (λ low. and_then (number unfit w32) (λ high. cases low high found))
+-- two words for each case; their count isn't negative
+abbrev pub pairs : ℕ → Reading NoForm (List ℕ)
+pairs count left = if nat_lt count (2 ^ 31) then part unfit (8 * count) left else Err tt
 
-abbrev pub lookup_cases : Form
-lookup_cases found = and_then (number unfit w32) (λ count. pairs count found)
+abbrev pub lookup_cases : Reading NoForm (List ℕ)
+lookup_cases = and_then (number unfit w32) pairs
 
 -- what follows an opcode, in a code that begins at a place
 abbrev pub operands : ℕ → Operands → Form
 operands start (Items list) = items list
-operands start Table = in_order (filling start ∷ skip 4 ∷ table_cases ∷ [])
-operands start Lookup = in_order (filling start ∷ skip 4 ∷ lookup_cases ∷ [])
+operands start Table = in_order (without (filling start) ∷ skip 4 ∷ without table_cases ∷ [])
+operands start Lookup = in_order (without (filling start) ∷ skip 4 ∷ without lookup_cases ∷ [])
 operands start Wide = by_byte wide_rows items
 
 abbrev pub instruction : ℕ → Form

@@ -4,14 +4,14 @@ use Rattle.jm_poolmap.specs.declared.forms.Item.{Item}
 use Rattle.jm_poolmap.specs.declared.forms.Item.TheVariants.{Bytes, Site, OptionalSite, ByteSite}
 use Rattle.jm_poolmap.specs.Forms.{Form, skip, site, optional_site, byte_site, in_order}
 
-abbrev pub item : Item → Form
-item (Bytes n) = skip n
-item Site = site
-item OptionalSite = optional_site
-item ByteSite = byte_site
+abbrev pub item_form : Item → Form
+item_form (Bytes n) = skip n
+item_form Site = site
+item_form OptionalSite = optional_site
+item_form ByteSite = byte_site
 
 abbrev pub items : List Item → Form
-items list = in_order (map item list)
+items list = in_order (map item_form list)
 
 -- the rows of a table for one byte, and for the bytes from one to another
 abbrev pub one : ℕ → ℕ × ℕ

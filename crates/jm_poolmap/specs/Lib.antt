@@ -1,7 +1,9 @@
 pub mod Attributes
+pub mod Finds
 pub mod Forms
 pub mod Frames
 pub mod Instructions
 pub mod Items
 pub mod Live
 pub mod Sites
+pub mod Views

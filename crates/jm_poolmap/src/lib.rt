@@ -2,6 +2,11 @@
 #![tactic(auto)]
 
 mod forms;
+mod frames;
+mod instructions;
+mod items;
+mod readings;
 mod site;
+mod stop;
 
 pub use site::Site;

@@ -1,0 +1,17 @@
+-- What the code answers of a reading, and of a form.
+use Rattle.std.specs.Prelude.{◌≡◌, List, Result, Ok, Err}
+use Rattle.jm_class.specs.Readings.{Left, Outcome}
+use Rattle.jm_poolmap.specs.declared.site.Found.{Found}
+use Rattle.jm_poolmap.specs.declared.stop.Stop.{Stop}
+use Rattle.jm_poolmap.specs.declared.stop.Stop.TheVariants.{Unknown, Memory}
+use Rattle.jm_poolmap.specs.Forms.{NoForm}
+
+-- a reading gives this and leaves this, or nothing, unless no memory is found
+abbrev pub Reads : {T A : Type 0} → (T → A) → Outcome NoForm A → Result T Stop → Left → Type 0
+Reads data_of outcome (Ok v) left = outcome ≡ Ok (data_of v, left)
+Reads data_of outcome (Err Unknown) left = outcome ≡ Err tt
+Reads data_of outcome (Err Memory) left = Unit {0}
+
+-- the same of a form: the sites are those that it gives
+abbrev pub Finds : {T : Type 0} → Outcome NoForm (List Found) → Result T Stop → List Found → Left → Type 0
+Finds outcome result found left = Reads (λ _. found) outcome result left
