@@ -87,7 +87,7 @@ content_at place pool index = option_and_then (named (rows_at place)) (utf8_at p
 
 -- a method, and its arguments
 abbrev pub bootstrap_method : Form
-bootstrap_method = in_order (site ∷ counted w16 site ∷ [])
+bootstrap_method = in_order (site ∷ counted w16 (items (Site ∷ [])) ∷ [])
 
 -- a handler: from, to and where it goes on, and the class that it catches
 abbrev pub handler : Form

@@ -1,6 +1,8 @@
 //! Where the numbers of constants stand in a class, and which constants are live.
 #![tactic(auto)]
 
+mod attributes;
+mod bodies;
 mod forms;
 mod frames;
 mod instructions;
