@@ -1,4 +1,6 @@
 pub mod Loops
+pub mod Over
 pub mod Runs
 pub mod Shrinks
 mod Vectors
+pub mod Walking

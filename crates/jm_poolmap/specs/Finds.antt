@@ -4,6 +4,8 @@ use Rattle.jm_class.specs.Readings.{Left, Outcome}
 use Rattle.jm_poolmap.specs.declared.site.Found.{Found}
 use Rattle.jm_poolmap.specs.declared.stop.Stop.{Stop}
 use Rattle.jm_poolmap.specs.declared.stop.Stop.TheVariants.{Unknown, Memory}
+use Rattle.jm_poolmap.specs.declared.walk.Walk.{Walk}
+use Rattle.jm_poolmap.specs.ComputedSites.{Walked}
 use Rattle.jm_poolmap.specs.Forms.{NoForm}
 
 -- a reading gives this and leaves this, or nothing, unless no memory is found
@@ -15,3 +17,9 @@ Reads data_of outcome (Err Memory) left = Unit {0}
 -- the same of a form: the sites are those that it gives
 abbrev pub Finds : {T : Type 0} → Outcome NoForm (List Found) → Result T Stop → List Found → Left → Type 0
 Finds outcome result found left = Reads (λ _. found) outcome result left
+
+-- the same of steps over a class
+abbrev pub Walks : {T : Type 0} → Walked → Result T Stop → Walk → Type 0
+Walks walked (Ok v) new = walked ≡ Ok new
+Walks walked (Err Unknown) new = walked ≡ Err tt
+Walks walked (Err Memory) new = Unit {0}

@@ -1,7 +1,9 @@
 ghost use Rattle.std.specs.Prelude.{◌≡◌, replicate};
+ghost use Rattle.std.specs.Int.{w16};
 ghost use Rattle.jm_poolmap.specs.Attributes.{bootstrap_method, body};
 ghost use Rattle.jm_poolmap.specs.Finds.{Finds};
-ghost use Rattle.jm_poolmap.specs.Forms.{nowhere, in_order};
+ghost use Rattle.jm_poolmap.specs.Forms.{nowhere, in_order, counted};
+ghost use Rattle.jm_poolmap.specs.Items.{items};
 ghost use Rattle.jm_poolmap.specs.Views.{content_of};
 
 use crate::forms::{Content, Item};
@@ -13,13 +15,21 @@ use crate::stop::Stop;
 use jm_bytes::List;
 use jm_class::Cursor;
 
+/// A count of two bytes, and so many rows of the same items.
+fn counted(found: &mut List<Found>, cursor: &mut Cursor, row: &[Item]) -> Result<(), Stop>
+    ensures { Finds (counted w16 (items row.now) found.old cursor.old)
+        result found.new cursor.new }
+{
+    let count = number16(cursor)?;
+    rows(found, cursor, usize::from(count), row)
+}
+
 /// A bootstrap method, and its arguments.
 fn method(found: &mut List<Found>, cursor: &mut Cursor) -> Result<(), Stop>
     ensures { Finds (bootstrap_method found.old cursor.old) result found.new cursor.new }
 {
     site(found, cursor)?;
-    let count = number16(cursor)?;
-    rows(found, cursor, count, &[Item::Site])
+    counted(found, cursor, &[Item::Site])
 }
 
 /// So many bootstrap methods.
@@ -47,12 +57,9 @@ pub fn body(found: &mut List<Found>, cursor: &mut Cursor, content: Content) -> R
         Content::Items(list) => items(found, cursor, list),
         Content::ShortRows(row) => {
             let count = number8(cursor)?;
-            rows(found, cursor, u16::from(count), row)
+            rows(found, cursor, usize::from(count), row)
         }
-        Content::Rows(row) => {
-            let count = number16(cursor)?;
-            rows(found, cursor, count, row)
-        }
+        Content::Rows(row) => counted(found, cursor, row),
         Content::Methods => {
             let count = number16(cursor)?;
             methods(found, cursor, count)

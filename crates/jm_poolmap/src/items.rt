@@ -83,7 +83,7 @@ pub fn items(found: &mut List<Found>, cursor: &mut Cursor, list: &[Item]) -> Res
 pub fn rows(
     found: &mut List<Found>,
     cursor: &mut Cursor,
-    count: u16,
+    count: usize,
     row: &[Item],
 ) -> Result<(), Stop>
     ensures { Finds (in_order (replicate count (items row.now)) found.old cursor.old)

@@ -7,8 +7,10 @@ mod forms;
 mod frames;
 mod instructions;
 mod items;
+mod members;
 mod readings;
 mod site;
 mod stop;
+mod walk;
 
 pub use site::Site;
