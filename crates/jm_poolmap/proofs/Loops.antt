@@ -1,5 +1,5 @@
 -- One form behind another: what is still to come, and a form that isn't there.
-use Rattle.std.proofs.Common.{◌≡◌, ℕ, zero, suc, ◌+◌, ◌-◌, ◌<◌, ◌≤◌, List, [], ◌∷◌, get_or, length, map, drop, Result, Ok, Err, IsErrAnd, refl, sym, ap, ◌∙◌, arith, replicate}
+use Rattle.std.proofs.Common.{◌≡◌, ℕ, zero, suc, ◌+◌, ◌-◌, ◌<◌, ◌≤◌, List, ◌∷◌, get_or, length, map, drop, Result, Ok, Err, IsErrAnd, refl, sym, ap, ◌∙◌, arith, replicate}
 use Rattle.std.proofs.lemmas.List.{at_drop_more, at_drop_all}
 use Rattle.jm_class.specs.Readings.{Left, Outcome}
 use Rattle.jm_poolmap.specs.declared.site.Found.{Found}

@@ -1,12 +1,12 @@
 -- Bytes, all of which are of a form: with nothing left, with a rest, and where there is no such form.
-use Rattle.std.proofs.Common.{◌≡◌, ◌≢◌, ℕ, ◌+◌, List, length, Result, Ok, Err, IsErrAnd, refl, ap, ◌∙◌}
+use Rattle.std.proofs.Common.{◌≡◌, ◌≢◌, ℕ, ◌+◌, List, length, Result, Ok, Err, IsErrAnd, ap}
 use Rattle.jm_class.specs.Readings.{Left}
 use Rattle.jm_class.proofs.WholeReadings.{ended-all, ended-rest, ended-stop}
 use Rattle.jm_poolmap.specs.declared.site.Found.{Found}
 use Rattle.jm_poolmap.specs.declared.stop.Stop.{Stop}
 use Rattle.jm_poolmap.specs.declared.stop.Stop.TheVariants.{Unknown, Memory}
 use Rattle.jm_poolmap.specs.declared.walk.Walk.{Walk}
-use Rattle.jm_poolmap.specs.ComputedSites.{Walked, over, behind_all}
+use Rattle.jm_poolmap.specs.ComputedSites.{over, behind_all}
 use Rattle.jm_poolmap.specs.Finds.{Finds, Walks}
 use Rattle.jm_poolmap.specs.Forms.{Form, unfit}
 

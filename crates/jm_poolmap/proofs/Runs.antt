@@ -1,5 +1,5 @@
 -- Forms up to the last byte: what is still to come.
-use Rattle.std.proofs.Common.{◌≡◌, ◌≢◌, ℕ, zero, suc, ◌<◌, ◌≤◌, List, length, Ok, Err, refl, ◌∙◌, sym, arith}
+use Rattle.std.proofs.Common.{◌≡◌, ◌≢◌, ℕ, zero, suc, ◌<◌, ◌≤◌, List, length, Ok, Err, refl, sym, arith}
 use Rattle.std.proofs.lemmas.Bool.{eq-eqb, ne_eqb}
 use Rattle.jm_class.specs.Readings.{Left, Outcome}
 use Rattle.jm_poolmap.specs.declared.site.Found.{Found}

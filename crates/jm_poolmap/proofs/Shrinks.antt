@@ -1,18 +1,18 @@
 -- What a form leaves isn't more than what it was given, and a form by a byte takes one.
-use Rattle.std.proofs.Common.{◌≡◌, ℕ, zero, suc, ◌+◌, ◌-◌, ◌*◌, ◌%◌, ◌^◌, ◌<◌, ◌≤◌, ◌⊎◌, inl, inr, Bool, true, false, List, [], ◌∷◌, length, map, drop, take, Option, Some, None, Result, Ok, Err, refl, sym, ap, ◌∙◌, subst, arith, cond}
+use Rattle.std.proofs.Common.{◌≡◌, ℕ, ◌+◌, ◌-◌, ◌*◌, ◌%◌, ◌^◌, ◌<◌, ◌≤◌, ◌⊎◌, inl, inr, Bool, true, false, List, [], ◌∷◌, length, map, drop, take, Option, Some, None, Ok, Err, sym, arith, cond}
 use Rattle.std.proofs.lemmas.List.{length-drop}
 use Rattle.std.proofs.lemmas.Bool.{leb-true}
 use Rattle.std.specs.Int.{Width, w8, w16, w32, byte_len, from_be_bytes}
 use Rattle.std.specs.Prelude.{nat_le, nat_lt}
 use Rattle.jm_bytes.proofs.Choice.{chosen}
-use Rattle.jm_class.specs.Readings.{Left, Outcome, Reading, behind, value, continued, and_then, part, number}
+use Rattle.jm_class.specs.Readings.{Left, Outcome, Reading, behind, value, and_then, part, number}
 use Rattle.jm_class.proofs.ReadingLaws.{same_left, Passed, passed}
 use Rattle.jm_poolmap.specs.declared.site.Found.{Found}
 use Rattle.jm_poolmap.specs.declared.forms.Item.{Item}
 use Rattle.jm_poolmap.specs.declared.forms.Item.TheVariants.{Bytes, Site, OptionalSite, ByteSite}
 use Rattle.jm_poolmap.specs.Forms.{NoForm, Form, Rows, unfit, without, skip, site_of_width, in_order, form_if, row_of, by_byte}
 use Rattle.jm_poolmap.specs.Items.{item_form, items}
-use Rattle.jm_poolmap.specs.Instructions.{Operands, Items, Table, Lookup, Wide, filling, from_least, words, table_cases, pairs, lookup_cases, operands, wide_rows, instruction_rows, instruction}
+use Rattle.jm_poolmap.specs.Instructions.{Operands, Items, Table, Lookup, Wide, filling, from_least, table_cases, lookup_cases, operands, wide_rows, instruction_rows, instruction}
 
 -- n bytes are taken where a reading has a value
 abbrev pub Shrinks : {A : Type 0} → ℕ → Reading NoForm A → Type 0

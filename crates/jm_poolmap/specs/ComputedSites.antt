@@ -2,8 +2,10 @@
 -- of what the class's text is read as.
 use Rattle.std.specs.Prelude.{ℕ, ◌+◌, ◌/◌, Bool, true, false, List, [], ◌∷◌, ◌++◌, length, map}
 use Rattle.std.specs.Prelude.{replicate, Result, Ok, Err}
+use Rattle.std.specs.List.{flat_map}
 use Rattle.jm_class.specs.Classes.{SlotData, OpaqueData, CodeData, BodyData, Opaque, Coded}
-use Rattle.jm_class.specs.Classes.{AttributeData, MemberData, ClassData, slot_text}
+use Rattle.jm_class.specs.Classes.{AttributeData, MemberData, ClassData, u2, slot_text, member_text}
+use Rattle.jm_class.specs.Classes.{attribute_text}
 use Rattle.jm_class.specs.Readings.{Outcome, ended}
 use Rattle.jm_poolmap.specs.declared.forms.Place as place
 use Rattle.jm_poolmap.specs.declared.forms.Place.TheVariants.{Class, Field, Method, Code}
@@ -93,11 +95,31 @@ member_step place pool m = steps (
 abbrev pub slot_step : SlotData → Step
 slot_step slot = passes (length (slot_text slot))
 
-abbrev pub class_step : ClassData → Step
-class_step c = steps (
+-- magic, versions, the constants, flags, the class and the one above, interfaces
+abbrev pub front_step : ClassData → Step
+front_step c = steps (
     passes 10 ∷ each slot_step c.pool
     ∷ passes 2 ∷ notes false c.this_class ∷ notes true c.super_class
-    ∷ passes 2 ∷ each (notes false) c.interfaces
-    ∷ passes 2 ∷ each (member_step Field c.pool) c.fields
+    ∷ passes 2 ∷ each (notes false) c.interfaces ∷ [])
+
+abbrev pub back_step : ClassData → Step
+back_step c = steps (
+    passes 2 ∷ each (member_step Field c.pool) c.fields
     ∷ passes 2 ∷ each (member_step Method c.pool) c.methods
     ∷ passes 2 ∷ each (attribute_step Class c.pool) c.attributes ∷ [])
+
+abbrev pub class_step : ClassData → Step
+class_step c = steps (front_step c ∷ back_step c ∷ [])
+
+-- how many bytes both have
+abbrev pub front_size : ClassData → ℕ
+front_size c = 18 + length (flat_map slot_text c.pool) + length (flat_map u2 c.interfaces)
+
+abbrev pub back_size : ClassData → ℕ
+back_size c =
+    6 + length (flat_map member_text c.fields) + length (flat_map member_text c.methods)
+    + length (flat_map attribute_text c.attributes)
+
+-- the sites of the whole
+abbrev pub walk_of : ClassData → Walked
+walk_of c = class_step c (record { found = []; place = 0 })

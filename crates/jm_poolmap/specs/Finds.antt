@@ -23,3 +23,9 @@ abbrev pub Walks : {T : Type 0} → Walked → Result T Stop → Walk → Type 0
 Walks walked (Ok v) new = walked ≡ Ok new
 Walks walked (Err Unknown) new = walked ≡ Err tt
 Walks walked (Err Memory) new = Unit {0}
+
+-- the same of the walk over a whole class
+abbrev pub Comes : Walked → Result Walk Stop → Type 0
+Comes walked (Ok walk) = walked ≡ Ok walk
+Comes walked (Err Unknown) = walked ≡ Err tt
+Comes walked (Err Memory) = Unit {0}

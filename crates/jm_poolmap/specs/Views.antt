@@ -1,5 +1,5 @@
 -- What the code's tables say, as plain data.
-use Rattle.std.specs.Prelude.{List, replicate}
+use Rattle.std.specs.Prelude.{replicate}
 use Rattle.jm_poolmap.specs.declared.forms.Content as content
 use Rattle.jm_poolmap.specs.declared.forms.Content.TheVariants as told
 use Rattle.jm_poolmap.specs.declared.forms.Operands as operands

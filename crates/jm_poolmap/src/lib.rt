@@ -12,5 +12,6 @@ mod readings;
 mod site;
 mod stop;
 mod walk;
+mod whole;
 
 pub use site::Site;

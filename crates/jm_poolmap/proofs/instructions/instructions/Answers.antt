@@ -1,4 +1,4 @@
-use Rattle.std.proofs.Common.{◌∙◌, sym}
+use Rattle.std.proofs.Common.{◌∙◌}
 use Rattle.jm_poolmap.specs.Instructions.{instruction, instructions}
 use Rattle.jm_poolmap.proofs.Loops.{finds_stop}
 use Rattle.jm_poolmap.proofs.Runs.{run_begins, run_next, run_stops}
