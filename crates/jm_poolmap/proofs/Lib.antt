@@ -1,3 +1,4 @@
+pub mod Following
 pub mod Loops
 pub mod Over
 pub mod Runs
