@@ -9,12 +9,12 @@ use Rattle.std.specs.Int.{w16, w32}
 use Rattle.std.specs.List.{flat_map}
 use Rattle.std.specs.Prelude.{All, nat_le}
 use Rattle.jm_bytes.proofs.Choice.{same_ok}
-use Rattle.jm_class.specs.Classes.{u2, u4, counted_text, FitsCounted}
-use Rattle.jm_class.specs.Readings.{Left, Outcome, continued, part, number}
+use Rattle.jm_class.specs.Classes.{u2, u4, counted_text, sized_text, FitsCounted}
+use Rattle.jm_class.specs.Readings.{Left, Outcome, continued, part, number, ended, whole}
 use Rattle.jm_poolmap.specs.declared.site.Found.{Found}
 use Rattle.jm_poolmap.specs.declared.walk.Walk.{Walk}
-use Rattle.jm_poolmap.specs.Forms.{NoForm, Form, unfit, skip, site_of_width, in_order, counted}
-use Rattle.jm_poolmap.specs.ComputedSites.{Walked, Step, step_on, steps, each, passes, notes}
+use Rattle.jm_poolmap.specs.Forms.{NoForm, Form, unfit, skip, site_of_width, in_order, counted, sized}
+use Rattle.jm_poolmap.specs.ComputedSites.{Walked, Step, step_on, steps, each, passes, notes, behind_all, over}
 
 -- Readings at the front of some bytes
 
@@ -135,3 +135,49 @@ module _ {A : Type 0} (form : Form) (text : A → List ℕ) (step : A → Step) 
           let size = length-append (u2 (length xs)) (flat_map text xs) in
           let place = all.goes (record walk { place = walk.place + 2 }) new e in
           omega (arith, size, place)
+
+-- So many bytes, all of which are of a form
+
+module _ (form : Form) (bytes : List ℕ) (fits : length bytes < 2 ^ 32) where
+  sized_reads : (found : List Found) (place : ℕ) (rest : List ℕ) → sized w32 form found (record { place = place; bytes = sized_text bytes ++ rest }) ≡ continued (ended unfit (form found) (record { place = place + 4; bytes = bytes })) (λ a end. Ok (a, record { place = (place + 4) + length bytes; bytes = rest }))
+  sized_reads found place rest =
+      let regrouped : sized_text bytes ++ rest ≡ u4 (length bytes) ++ (bytes ++ rest) = ap (λ t. (u4 (length bytes) ++ t) ++ rest) (append-nil bytes) ∙ append_assoc (u4 (length bytes)) bytes rest in
+      let size = number32_front place (length bytes) (bytes ++ rest) fits in
+      let inner = part_front (length bytes) (place + 4) bytes rest refl in
+      ap (λ t. sized w32 form found (record { place = place; bytes = t })) regrouped
+      ∙ ap (λ o. continued o (λ size. whole unfit unfit size (form found))) size
+      ∙ rw inner refl
+
+  sized_length : length (sized_text bytes) ≡ 4 + length bytes
+  sized_length = ap (λ t. length (u4 (length bytes) ++ t)) (append-nil bytes) ∙ length-append (u4 (length bytes)) bytes
+
+  pub follows_over : Follows (sized w32 form) (sized_text bytes) (later 4 (over form bytes))
+  follows_over = record {
+    reads = λ walk rest. sized_reads walk.found walk.place rest ∙ moved walk rest (ended unfit (form walk.found) (record { place = walk.place + 4; bytes = bytes }));
+    goes = λ walk new e. let size = sized_length in let place = over_goes (walk.place + 4) new (ended unfit (form walk.found) (record { place = walk.place + 4; bytes = bytes })) e in omega (arith, size, place);
+  }
+    where
+      moved : (walk : Walk) (rest : List ℕ) (o : Outcome NoForm (List Found)) → continued o (λ a end. Ok (a, record { place = (walk.place + 4) + length bytes; bytes = rest })) ≡ carried (behind_all ((walk.place + 4) + length bytes) o) rest
+      moved walk rest (Ok r) = refl
+      moved walk rest (Err fault) = refl
+
+      over_goes : (place : ℕ) (new : Walk) (o : Outcome NoForm (List Found)) → behind_all (place + length bytes) o ≡ Ok new → new.place ≡ place + length bytes
+      over_goes place new (Ok r) e = sym (ap (λ (w : Walk). w.place) (same_ok {E = NoForm} _ new e))
+      over_goes place new (Err fault) e = cc
+
+module _ (form : Form) (text : List ℕ) (step : Step) (fits : length text < 2 ^ 32) (law : Follows form text step) where
+  pub follows_sized : Follows (sized w32 form) (sized_text text) (later 4 step)
+  follows_sized = record {
+    reads = λ walk rest. sized_reads form text fits walk.found walk.place rest ∙ whole_text walk rest (step (record walk { place = walk.place + 4 })) refl;
+    goes = λ walk new e. let size = sized_length form text fits in let place = law.goes (record walk { place = walk.place + 4 }) new e in omega (arith, size, place);
+  }
+    where
+      -- the form of the text alone
+      alone : (walk : Walk) → form walk.found (record { place = walk.place; bytes = text }) ≡ carried (step walk) []
+      alone walk = ap (λ t. form walk.found (record { place = walk.place; bytes = t })) (sym (append-nil text)) ∙ law.reads walk []
+
+      whole_text : (walk : Walk) (rest : List ℕ) (walked : Walked) → step (record walk { place = walk.place + 4 }) ≡ walked → continued (ended unfit (form walk.found) (record { place = walk.place + 4; bytes = text })) (λ a end. Ok (a, record { place = (walk.place + 4) + length text; bytes = rest })) ≡ carried walked rest
+      whole_text walk rest (Ok new) is =
+          let place = law.goes (record walk { place = walk.place + 4 }) new is in
+          rw (alone (record walk { place = walk.place + 4 }), is, place) refl
+      whole_text walk rest (Err fault) is = rw (alone (record walk { place = walk.place + 4 }), is) refl

@@ -1,4 +1,5 @@
 pub mod Following
+pub mod Handlers
 pub mod Loops
 pub mod Over
 pub mod Runs
