@@ -1,3 +1,4 @@
+pub mod ComputedSitesLaws
 pub mod Following
 pub mod Handlers
 pub mod Loops
