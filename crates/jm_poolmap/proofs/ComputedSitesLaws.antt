@@ -3,7 +3,7 @@ use Rattle.std.proofs.Common.{◌≡◌, ℕ, ◌+◌, ◌/◌, ◌%◌, ◌^◌
 use Rattle.std.proofs.lemmas.List.{append-nil}
 use Rattle.std.specs.Int.{w16, w32}
 use Rattle.std.specs.List.{flat_map, list_all}
-use Rattle.std.specs.Prelude.{option_and_then, ◌&&◌, codes, All}
+use Rattle.std.specs.Prelude.{option_and_then, ◌&&◌, codes, nat_eq}
 use Rattle.std.specs.Str.{bytes_eq}
 use Rattle.std.proofs.lemmas.Bool.{and_parts}
 use Rattle.jm_class.specs.Classes.{SlotData, OpaqueData, CodeData, BodyData, Opaque, Coded, AttributeData, MemberData, ClassData, u2, u4, joined, counted_text, sized_text, slot_text, opaque_text, code_text, held_text, attribute_text, member_text, class_text, pool_text, rows_text, magic, utf8_at, is_code_name, IsOpaque, IsCode, IsBody, IsAttribute, IsMember, IsClass, FitsCounted}
@@ -16,7 +16,7 @@ use Rattle.jm_poolmap.specs.Attributes as attributes
 use Rattle.jm_poolmap.specs.Attributes.{Content, Named, rows_at, named, class_rows, field_rows, method_rows, code_rows, content_at, body, handler, attribute_with, attribute_of_code, attribute}
 use Rattle.jm_poolmap.specs.Forms.{NoForm, Form, unfit, nowhere, skip, site, optional_site, in_order, counted, sized, form_if}
 use Rattle.jm_poolmap.specs.Instructions.{instructions}
-use Rattle.jm_poolmap.specs.ComputedSites.{Walked, Step, step_on, steps, each, passes, notes, over, opaque_step, plain_step, handlers_form, code_step, held_step, attribute_step, member_step, slot_step, front_step, back_step, class_step, walk_of}
+use Rattle.jm_poolmap.specs.ComputedSites.{Walked, Step, step_on, steps, each, passes, notes, over, opaque_step, plain_step, handlers_form, code_step, held_step, attribute_step, member_step, slot_step, front_step, back_step, class_step, walk_of, found_by}
 use Rattle.jm_poolmap.specs.Sites as sites
 use Rattle.jm_poolmap.specs.Sites.{member, met, found_in}
 use Rattle.jm_poolmap.proofs.Following.{Follows, carried, later, number16_front, follows_text, follows_step, follows_form, follows_skip, follows_site, follows_nil, follows_cons, follows_counted, follows_over, follows_sized}
@@ -154,3 +154,98 @@ follows_member place pool m fits =
     (follows_cons (counted w16 (attribute place pool)) [] (counted_text attribute_text m.attributes) [] (later 2 (each (attribute_step place pool) m.attributes)) []
     (follows_counted (attribute place pool) attribute_text (attribute_step place pool) (IsAttribute pool (in_method place)) (follows_attribute place pool) m.attributes fits.attributes)
     follows_nil))))
+
+-- The class
+
+-- the numbers of the pool, one after another
+slots_pass : (pool : List SlotData) (walk : Walk) → each slot_step pool walk ≡ Ok (record walk { place = walk.place + length (flat_map slot_text pool) })
+slots_pass [] walk = let place : walk.place ≡ walk.place + 0 = omega arith in ap (λ m. Ok (record walk { place = m })) place
+slots_pass (slot ∷ pool) walk =
+    let size = length-append (slot_text slot) (flat_map slot_text pool) in
+    let place : (walk.place + length (slot_text slot)) + length (flat_map slot_text pool) ≡ walk.place + length (slot_text slot ++ flat_map slot_text pool) = omega (arith, size) in
+    slots_pass pool (record walk { place = walk.place + length (slot_text slot) }) ∙ ap (λ m. Ok (record walk { place = m })) place
+
+-- steps in two runs
+steps_joined : (first second : List Step) (walk : Walk) → steps (steps first ∷ steps second ∷ []) walk ≡ steps (first ++ second) walk
+steps_joined [] second walk = last (steps second walk)
+  where
+    last : (walked : Walked) → step_on walked (steps []) ≡ walked
+    last (Ok walk) = refl
+    last (Err fault) = refl
+steps_joined (step ∷ first) second walk = go (step walk) (steps_joined first second)
+  where
+    go : (walked : Walked) → ((walk : Walk) → steps (steps first ∷ steps second ∷ []) walk ≡ steps (first ++ second) walk) → step_on (step_on walked (steps first)) (λ walk. step_on (steps second walk) (steps [])) ≡ step_on walked (steps (first ++ second))
+    go (Ok walk) joined = joined walk
+    go (Err fault) joined = refl
+
+module _ (c : ClassData) (fits : IsClass c) where
+  -- from the flags on
+  abbrev class_parts : List Step
+  class_parts =
+      notes false c.this_class ∷ notes true c.super_class ∷ later 2 (each (notes false) c.interfaces)
+      ∷ later 2 (each (member_step Field c.pool) c.fields) ∷ later 2 (each (member_step Method c.pool) c.methods)
+      ∷ later 2 (each (attribute_step Class c.pool) c.attributes) ∷ []
+
+  class_begins : (walk : Walk) → steps (passes 8 ∷ passes (length (pool_text c.pool)) ∷ passes 2 ∷ class_parts) walk ≡ class_step c walk
+  class_begins walk =
+      let pool = slots_pass c.pool (record walk { place = walk.place + 10 }) in
+      let size = ap (λ t. length (u2 (length c.pool + 1) ++ t)) (append-nil (flat_map slot_text c.pool)) ∙ length-append (u2 (length c.pool + 1)) (flat_map slot_text c.pool) in
+      let place : (walk.place + 8) + length (pool_text c.pool) ≡ (walk.place + 10) + length (flat_map slot_text c.pool) = omega (arith, size) in
+      ap (λ m. steps (passes 2 ∷ class_parts) (record walk { place = m })) place
+      ∙ ap (λ w. step_on w (steps (passes 2 ∷ class_parts))) (sym pool)
+      ∙ sym (steps_joined
+      (passes 10 ∷ each slot_step c.pool ∷ passes 2 ∷ notes false c.this_class ∷ notes true c.super_class ∷ passes 2 ∷ each (notes false) c.interfaces ∷ [])
+      (passes 2 ∷ each (member_step Field c.pool) c.fields ∷ passes 2 ∷ each (member_step Method c.pool) c.methods ∷ passes 2 ∷ each (attribute_step Class c.pool) c.attributes ∷ [])
+      walk)
+
+  follows_back : Follows (in_order (counted w16 (member Field c.pool) ∷ counted w16 (member Method c.pool) ∷ counted w16 (attribute Class c.pool) ∷ [])) (counted_text member_text c.fields ++ (counted_text member_text c.methods ++ (counted_text attribute_text c.attributes ++ []))) (steps (later 2 (each (member_step Field c.pool) c.fields) ∷ later 2 (each (member_step Method c.pool) c.methods) ∷ later 2 (each (attribute_step Class c.pool) c.attributes) ∷ []))
+  follows_back =
+      follows_cons (counted w16 (member Field c.pool)) (counted w16 (member Method c.pool) ∷ counted w16 (attribute Class c.pool) ∷ []) (counted_text member_text c.fields) (counted_text member_text c.methods ++ (counted_text attribute_text c.attributes ++ [])) (later 2 (each (member_step Field c.pool) c.fields)) (later 2 (each (member_step Method c.pool) c.methods) ∷ later 2 (each (attribute_step Class c.pool) c.attributes) ∷ [])
+      (follows_counted (member Field c.pool) member_text (member_step Field c.pool) (IsMember c.pool false) (follows_member Field c.pool) c.fields fits.fields)
+      (follows_cons (counted w16 (member Method c.pool)) (counted w16 (attribute Class c.pool) ∷ []) (counted_text member_text c.methods) (counted_text attribute_text c.attributes ++ []) (later 2 (each (member_step Method c.pool) c.methods)) (later 2 (each (attribute_step Class c.pool) c.attributes) ∷ [])
+      (follows_counted (member Method c.pool) member_text (member_step Method c.pool) (IsMember c.pool true) (follows_member Method c.pool) c.methods fits.methods)
+      (follows_cons (counted w16 (attribute Class c.pool)) [] (counted_text attribute_text c.attributes) [] (later 2 (each (attribute_step Class c.pool) c.attributes)) []
+      (follows_counted (attribute Class c.pool) attribute_text (attribute_step Class c.pool) (IsAttribute c.pool false) (follows_attribute Class c.pool) c.attributes fits.attributes)
+      follows_nil))
+
+  abbrev back_forms : List Form
+  back_forms = counted w16 (member Field c.pool) ∷ counted w16 (member Method c.pool) ∷ counted w16 (attribute Class c.pool) ∷ []
+
+  abbrev back_steps : List Step
+  back_steps = later 2 (each (member_step Field c.pool) c.fields) ∷ later 2 (each (member_step Method c.pool) c.methods) ∷ later 2 (each (attribute_step Class c.pool) c.attributes) ∷ []
+
+  abbrev back_text : List ℕ
+  back_text = counted_text member_text c.fields ++ (counted_text member_text c.methods ++ (counted_text attribute_text c.attributes ++ []))
+
+  -- from the flags on
+  follows_names : Follows (in_order (skip 2 ∷ site ∷ optional_site ∷ counted w16 site ∷ back_forms)) (u2 c.access ++ (u2 c.this_class ++ (u2 c.super_class ++ (counted_text u2 c.interfaces ++ back_text)))) (steps (passes 2 ∷ class_parts))
+  follows_names =
+      follows_cons (skip 2) (site ∷ optional_site ∷ counted w16 site ∷ back_forms) (u2 c.access) (u2 c.this_class ++ (u2 c.super_class ++ (counted_text u2 c.interfaces ++ back_text))) (passes 2) class_parts
+      (follows_skip 2 (u2 c.access) refl)
+      (follows_cons site (optional_site ∷ counted w16 site ∷ back_forms) (u2 c.this_class) (u2 c.super_class ++ (counted_text u2 c.interfaces ++ back_text)) (notes false c.this_class) (notes true c.super_class ∷ later 2 (each (notes false) c.interfaces) ∷ back_steps)
+      (follows_site false c.this_class fits.this_class)
+      (follows_cons optional_site (counted w16 site ∷ back_forms) (u2 c.super_class) (counted_text u2 c.interfaces ++ back_text) (notes true c.super_class) (later 2 (each (notes false) c.interfaces) ∷ back_steps)
+      (follows_site true c.super_class fits.super_class)
+      (follows_cons (counted w16 site) back_forms (counted_text u2 c.interfaces) back_text (later 2 (each (notes false) c.interfaces)) back_steps
+      (follows_counted site u2 (notes false) (λ i. i < 2 ^ 16) (λ i below. follows_site false i below) c.interfaces fits.interfaces)
+      follows_back)))
+
+  follows_class : Follows (sites.class c.pool) (class_text c) (class_step c)
+  follows_class =
+      follows_step (sites.class c.pool) (class_text c) (steps (passes 8 ∷ passes (length (pool_text c.pool)) ∷ passes 2 ∷ class_parts)) (class_step c) class_begins
+      (follows_cons (skip 8) (skip (length (pool_text c.pool)) ∷ skip 2 ∷ site ∷ optional_site ∷ counted w16 site ∷ back_forms) (u4 magic ++ (u2 c.minor ++ u2 c.major)) (pool_text c.pool ++ (u2 c.access ++ (u2 c.this_class ++ (u2 c.super_class ++ (counted_text u2 c.interfaces ++ back_text))))) (passes 8) (passes (length (pool_text c.pool)) ∷ passes 2 ∷ class_parts)
+      (follows_skip 8 (u4 magic ++ (u2 c.minor ++ u2 c.major)) refl)
+      (follows_cons (skip (length (pool_text c.pool))) (skip 2 ∷ site ∷ optional_site ∷ counted w16 site ∷ back_forms) (pool_text c.pool) (u2 c.access ++ (u2 c.this_class ++ (u2 c.super_class ++ (counted_text u2 c.interfaces ++ back_text)))) (passes (length (pool_text c.pool))) (passes 2 ∷ class_parts)
+      (follows_skip (length (pool_text c.pool)) (pool_text c.pool) refl)
+      follows_names))
+
+  -- the sites of the text are those that the walk finds
+  pub found_is : found_in c ≡ found_by (walk_of c)
+  found_is =
+      let start : Walk = record { found = []; place = 0 } in
+      let all = ap (λ t. sites.class c.pool [] (record { place = 0; bytes = t })) (sym (append-nil (class_text c))) ∙ follows_class.reads start [] in
+      ap (λ o. met (continued o (λ a next. cond (nat_eq (length next.bytes) 0) (Ok (a, next)) (Err tt)))) all ∙ closes (walk_of c)
+    where
+      closes : (walked : Walked) → met (continued (carried walked []) (λ a next. cond (nat_eq (length next.bytes) 0) (Ok (a, next)) (Err tt))) ≡ found_by walked
+      closes (Ok walk) = refl
+      closes (Err fault) = refl

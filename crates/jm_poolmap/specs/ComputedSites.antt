@@ -1,7 +1,7 @@
 -- The sites of a class part by part, each with the place where it begins (JVMS 4): the computed form
 -- of what the class's text is read as.
 use Rattle.std.specs.Prelude.{ℕ, ◌+◌, ◌/◌, Bool, true, false, List, [], ◌∷◌, ◌++◌, length, map}
-use Rattle.std.specs.Prelude.{replicate, Result, Ok, Err}
+use Rattle.std.specs.Prelude.{replicate, Option, Some, None, Result, Ok, Err}
 use Rattle.std.specs.List.{flat_map}
 use Rattle.jm_class.specs.Classes.{SlotData, OpaqueData, CodeData, BodyData, Opaque, Coded}
 use Rattle.jm_class.specs.Classes.{AttributeData, MemberData, ClassData, u2, slot_text, member_text}
@@ -123,3 +123,8 @@ back_size c =
 -- the sites of the whole
 abbrev pub walk_of : ClassData → Walked
 walk_of c = class_step c (record { found = []; place = 0 })
+
+-- the sites that were found, or none
+abbrev pub found_by : Walked → Option (List Found)
+found_by (Ok walk) = Some walk.found
+found_by (Err fault) = None
