@@ -3,6 +3,7 @@ pub mod Following
 pub mod Handlers
 pub mod Loops
 pub mod Over
+pub mod PoolLaws
 pub mod Runs
 pub mod Shrinks
 mod Vectors

@@ -6,5 +6,6 @@ pub mod Frames
 pub mod Instructions
 pub mod Items
 pub mod Live
+pub mod Pools
 pub mod Sites
 pub mod Views

@@ -3,15 +3,18 @@
 
 mod attributes;
 mod bodies;
+mod finding;
 mod forms;
 mod frames;
 mod instructions;
 mod items;
 mod members;
+mod naming;
 mod readings;
 mod site;
 mod stop;
 mod walk;
 mod whole;
 
+pub use finding::sites;
 pub use site::Site;
