@@ -1,6 +1,7 @@
 -- Live constants: those that a site names, at once or by other constants (this project's rule).
-use Rattle.std.specs.Prelude.{ℕ, ◌≡◌, List, [], ◌∷◌, Some, Contains, map}
-use Rattle.jm_class.specs.Classes.{SlotData, ClassData, slot_at}
+use Rattle.std.specs.Prelude.{ℕ, ◌≡◌, ◌+◌, ◌<◌, ◌↔◌, Bool, true, false, List, [], ◌∷◌, Option, Some}
+use Rattle.std.specs.Prelude.{Contains, length, map, slice_get, slice_index_or}
+use Rattle.jm_class.specs.Classes.{SlotData, Hole, ClassData, slot_at}
 use Rattle.jm_poolmap.specs.declared.site.Found.{Found}
 use Rattle.jm_poolmap.specs.Sites.{found_in, named_by}
 
@@ -22,3 +23,17 @@ StandsAtSite c i =
 -- which each names the next
 abbrev pub IsLive : ClassData → ℕ → Type 0
 IsLive c j = (i : ℕ) × (between : List ℕ) × StandsAtSite c i × Leads c.pool i between j
+
+-- the number of the constant that takes the slot at a place: a hole is its second number
+abbrev pub first_number : Option SlotData → ℕ → ℕ
+first_number (Some Hole) place = place
+first_number _ place = place + 1
+
+abbrev pub number_of : List SlotData → ℕ → ℕ
+number_of pool place = first_number (slice_get pool place) place
+
+-- a flag for each slot of the pool: whether its constant is live
+pub record TellsLive (c : ClassData) (flags : List Bool) : Type 0 where
+  pub size : length flags ≡ length c.pool
+  pub exactly : (place : ℕ) → place < length c.pool
+      → (slice_index_or flags place false ≡ true) ↔ IsLive c (number_of c.pool place)

@@ -8,6 +8,7 @@ mod forms;
 mod frames;
 mod instructions;
 mod items;
+mod marking;
 mod members;
 mod naming;
 mod readings;
@@ -17,4 +18,5 @@ mod walk;
 mod whole;
 
 pub use finding::sites;
+pub use marking::live;
 pub use site::Site;
