@@ -1,25 +1,23 @@
 -- The text of a class, read as a form, has the sites that the walk over its parts finds.
-use Rattle.std.proofs.Common.{◌≡◌, ℕ, ◌+◌, ◌/◌, ◌%◌, ◌^◌, ◌<◌, Bool, true, false, cond, List, [], ◌∷◌, ◌++◌, length, map, Option, Some, None, Result, Ok, Err, refl, sym, ap, ◌∙◌, subst, arith, append_assoc, length-append}
+use Rattle.std.proofs.Common.{◌≡◌, ℕ, ◌+◌, ◌^◌, ◌<◌, Bool, true, false, cond, List, [], ◌∷◌, ◌++◌, length, Option, Some, None, Ok, Err, refl, sym, ap, ◌∙◌, subst, arith, append_assoc, length-append}
 use Rattle.std.proofs.lemmas.List.{append-nil}
 use Rattle.std.specs.Int.{w16, w32}
-use Rattle.std.specs.List.{flat_map, list_all}
+use Rattle.std.specs.List.{flat_map}
 use Rattle.std.specs.Prelude.{option_and_then, ◌&&◌, codes, nat_eq}
 use Rattle.std.specs.Str.{bytes_eq}
-use Rattle.std.proofs.lemmas.Bool.{and_parts}
-use Rattle.jm_class.specs.Classes.{SlotData, OpaqueData, CodeData, BodyData, Opaque, Coded, AttributeData, MemberData, ClassData, u2, u4, joined, counted_text, sized_text, slot_text, opaque_text, code_text, held_text, attribute_text, member_text, class_text, pool_text, rows_text, magic, utf8_at, is_code_name, IsOpaque, IsCode, IsBody, IsAttribute, IsMember, IsClass, FitsCounted}
-use Rattle.jm_class.specs.Readings.{Left, Outcome, continued, number, ended}
+use Rattle.jm_class.specs.Classes.{SlotData, OpaqueData, CodeData, BodyData, Opaque, Coded, AttributeData, MemberData, ClassData, u2, u4, joined, counted_text, sized_text, slot_text, opaque_text, code_text, held_text, attribute_text, member_text, class_text, pool_text, rows_text, magic, utf8_at, is_code_name, IsOpaque, IsCode, IsBody, IsAttribute, IsMember, IsClass}
+use Rattle.jm_class.specs.Readings.{Left, continued, number}
 use Rattle.jm_poolmap.specs.declared.forms.Place as place
 use Rattle.jm_poolmap.specs.declared.forms.Place.TheVariants.{Class, Field, Method, Code}
-use Rattle.jm_poolmap.specs.declared.site.Found.{Found}
 use Rattle.jm_poolmap.specs.declared.walk.Walk.{Walk}
 use Rattle.jm_poolmap.specs.Attributes as attributes
 use Rattle.jm_poolmap.specs.Attributes.{Content, Named, rows_at, named, class_rows, field_rows, method_rows, code_rows, content_at, body, handler, attribute_with, attribute_of_code, attribute}
-use Rattle.jm_poolmap.specs.Forms.{NoForm, Form, unfit, nowhere, skip, site, optional_site, in_order, counted, sized, form_if}
+use Rattle.jm_poolmap.specs.Forms.{Form, unfit, nowhere, skip, site, optional_site, in_order, counted, sized, form_if}
 use Rattle.jm_poolmap.specs.Instructions.{instructions}
-use Rattle.jm_poolmap.specs.ComputedSites.{Walked, Step, step_on, steps, each, passes, notes, over, opaque_step, plain_step, handlers_form, code_step, held_step, attribute_step, member_step, slot_step, front_step, back_step, class_step, walk_of, found_by}
+use Rattle.jm_poolmap.specs.ComputedSites.{Walked, Step, step_on, steps, each, passes, notes, over, opaque_step, plain_step, handlers_form, code_step, held_step, attribute_step, member_step, slot_step, class_step, walk_of, found_by}
 use Rattle.jm_poolmap.specs.Sites as sites
 use Rattle.jm_poolmap.specs.Sites.{member, met, found_in}
-use Rattle.jm_poolmap.proofs.Following.{Follows, carried, later, number16_front, follows_text, follows_step, follows_form, follows_skip, follows_site, follows_nil, follows_cons, follows_counted, follows_over, follows_sized}
+use Rattle.jm_poolmap.proofs.Following.{Follows, carried, later, number16_front, follows_step, follows_skip, follows_site, follows_nil, follows_cons, follows_counted, follows_over, follows_sized}
 use Rattle.jm_poolmap.proofs.Handlers.{follows_handlers}
 
 -- Bodies that are no Code

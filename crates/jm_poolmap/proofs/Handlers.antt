@@ -1,14 +1,14 @@
 -- The handlers of a code, 8 bytes each.
-use Rattle.std.proofs.Common.{◌≡◌, ℕ, zero, suc, ◌+◌, ◌*◌, ◌/◌, ◌%◌, ◌^◌, ◌<◌, true, List, [], ◌∷◌, ◌++◌, length, take, drop, replicate, Ok, Err, refl, sym, ap, ◌∙◌, arith, append_assoc, length-append}
+use Rattle.std.proofs.Common.{◌≡◌, ℕ, zero, suc, ◌+◌, ◌*◌, ◌/◌, ◌%◌, ◌^◌, ◌<◌, true, List, [], ◌∷◌, ◌++◌, length, take, drop, replicate, Ok, refl, sym, ap, ◌∙◌, arith, append_assoc, length-append}
 use Rattle.std.proofs.lemmas.List.{append-nil, take-append-drop, length-take-le, length-drop, nil_from_length}
 use Rattle.std.specs.Int.{w16, from_be_bytes}
 use Rattle.jm_bytes.proofs.Choice.{same_ok}
 use Rattle.jm_class.specs.Classes.{u2, rows_text}
-use Rattle.jm_class.specs.Readings.{Left, continued, number, ended}
+use Rattle.jm_class.specs.Readings.{continued}
 use Rattle.jm_poolmap.specs.declared.site.Found.{Found}
 use Rattle.jm_poolmap.specs.declared.walk.Walk.{Walk}
 use Rattle.jm_poolmap.specs.Attributes.{handler}
-use Rattle.jm_poolmap.specs.Forms.{NoForm, unfit, in_order, counted}
+use Rattle.jm_poolmap.specs.Forms.{NoForm, in_order, counted}
 use Rattle.jm_poolmap.specs.ComputedSites.{over, handlers_form}
 use Rattle.jm_poolmap.proofs.Following.{Follows, carried, later, part_front, number16_front}
 

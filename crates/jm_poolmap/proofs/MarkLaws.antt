@@ -1,5 +1,5 @@
 -- Which flags are up after marks, and after a round.
-use Rattle.std.proofs.Common.{◌≡◌, ◌≢◌, ℕ, zero, suc, ◌+◌, ◌-◌, ◌<◌, ◌≤◌, ◌⊎◌, inl, inr, Bool, true, false, cond, List, [], ◌∷◌, get_or, length, Some, Contains, refl, sym, ap, ◌∙◌, subst, arith, set, slice_get}
+use Rattle.std.proofs.Common.{◌≡◌, ◌≢◌, ℕ, zero, suc, ◌+◌, ◌-◌, ◌<◌, ◌≤◌, ◌⊎◌, inl, inr, Bool, true, false, cond, List, [], ◌∷◌, get_or, length, Some, Contains, refl, sym, ◌∙◌, subst, arith, set, slice_get}
 use Rattle.std.proofs.lemmas.Bool.{eqb-true, eqb-false, cases_eq}
 use Rattle.std.proofs.lemmas.List.{get_or-set_same, get_or-set_other, length-set}
 use Rattle.std.specs.Prelude.{nat_eq}

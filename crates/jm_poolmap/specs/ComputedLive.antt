@@ -1,5 +1,5 @@
 -- Live constants, marked round by round: the computed form of the flags.
-use Rattle.std.specs.Prelude.{ℕ, ◌+◌, ◌-◌, ◌==◌, Bool, true, false, List, [], ◌∷◌, length, map}
+use Rattle.std.specs.Prelude.{ℕ, ◌+◌, ◌-◌, ◌==◌, Bool, true, false, List, [], ◌∷◌, length}
 use Rattle.std.specs.Prelude.{replicate, slice_index_or, slice_set, if◌then◌else◌}
 use Rattle.jm_class.specs.Classes.{SlotData, Constant, Hole}
 use Rattle.jm_poolmap.specs.Sites.{named_by}
