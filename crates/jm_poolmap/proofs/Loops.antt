@@ -9,15 +9,12 @@ use Rattle.jm_poolmap.specs.Finds.{Reads, Finds}
 use Rattle.jm_poolmap.specs.Forms.{NoForm, Form, in_order}
 
 -- the error of a part is that of the whole, where the whole isn't there without the part
-pub reads_stop : {T U A B : Type 0} (part_of : T → A) (data_of : U → B) (part : Outcome NoForm A) (all : Outcome NoForm B) (error : Stop) (result : Result U Stop) (left next : Left) → IsErrAnd result (λ is. is ≡ error) → Reads part_of part (Err error) left → (part ≡ Err tt → all ≡ Err tt) → Reads data_of all result next
-reads_stop part_of data_of part all error (Ok v) left next is gives stops = absurd is
-reads_stop part_of data_of part all Unknown (Err Unknown) left next is gives stops = stops gives
-reads_stop part_of data_of part all Unknown (Err Memory) left next is gives stops = tt
-reads_stop part_of data_of part all Memory (Err Memory) left next is gives stops = tt
-reads_stop part_of data_of part all Memory (Err Unknown) left next is gives stops = cc
-
 pub finds_stop : (part all : Outcome NoForm (List Found)) (error : Stop) (result : Result (Unit {0}) Stop) (found new : List Found) (left next : Left) → IsErrAnd result (λ is. is ≡ error) → Finds {T = Unit {0}} part (Err error) found left → (part ≡ Err tt → all ≡ Err tt) → Finds all result new next
-finds_stop part all error result found new left next is gives stops = reads_stop {T = Unit {0}} (λ _. found) (λ _. new) part all error result left next is gives stops
+finds_stop part all error (Ok v) found new left next is gives stops = absurd is
+finds_stop part all Unknown (Err Unknown) found new left next is gives stops = stops gives
+finds_stop part all Unknown (Err Memory) found new left next is gives stops = tt
+finds_stop part all Memory (Err Memory) found new left next is gives stops = tt
+finds_stop part all Memory (Err Unknown) found new left next is gives stops = cc
 
 -- forms of the items of a list, from one on
 module _ {A : Type 0} (form : A → Form) (xs : List A) (i : ℕ) where

@@ -108,7 +108,7 @@ abbrev pub attribute_with : Form → place.Place → List SlotData → Form
 attribute_with code place pool found left =
     and_then (number unfit w16)
     (λ name next. in_order (
-        site ∷ sized w32 (form_if (body code) (content_at place pool name)) ∷ []) found left)
+    site ∷ sized w32 (form_if (body code) (content_at place pool name)) ∷ []) found left)
     left
 
 -- an attribute of a Code, which is no Code

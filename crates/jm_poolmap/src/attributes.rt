@@ -8,9 +8,11 @@ use crate::forms::{Content, Item, Place};
 use jm_class::{Class, utf8};
 
 const SITE: Content = Content::Items(&[Item::Site]);
+
 const SITES: Content = Content::Rows(&[Item::Site]);
-const VARIABLES: Content =
-    Content::Rows(&[Item::Bytes(4), Item::Site, Item::Site, Item::Bytes(2)]);
+
+const VARIABLES: Content = Content::Rows(&[Item::Bytes(4), Item::Site, Item::Site, Item::Bytes(2)]);
+
 const INNER_CLASSES: Content = Content::Rows(&[
     Item::Site,
     Item::OptionalSite,
@@ -24,7 +26,8 @@ fn class_row(name: &[u8]) -> Option<Content>
 {
     if name == b"Signature".as_slice()
         || name == b"SourceFile".as_slice()
-        || name == b"NestHost".as_slice() {
+        || name == b"NestHost".as_slice()
+    {
         Some(SITE)
     } else if name == b"NestMembers".as_slice() {
         Some(SITES)
@@ -36,7 +39,8 @@ fn class_row(name: &[u8]) -> Option<Content>
         Some(Content::Methods)
     } else if name == b"SourceDebugExtension".as_slice()
         || name == b"Deprecated".as_slice()
-        || name == b"Synthetic".as_slice() {
+        || name == b"Synthetic".as_slice()
+    {
         Some(Content::Any)
     } else {
         None
@@ -82,7 +86,8 @@ fn code_row(name: &[u8]) -> Option<Content>
     if name == b"LineNumberTable".as_slice() {
         Some(Content::Any)
     } else if name == b"LocalVariableTable".as_slice()
-        || name == b"LocalVariableTypeTable".as_slice() {
+        || name == b"LocalVariableTypeTable".as_slice()
+    {
         Some(VARIABLES)
     } else if name == b"StackMapTable".as_slice() {
         Some(Content::Frames)

@@ -41,11 +41,7 @@ fn places(alloc: Global, found: &[Found]) -> Result<List<Site>, NoMemory>
 
 /// The places of sites; none where a number is that of no constant, or a constant names one that
 /// isn't of a lower rank.
-fn judged(
-    alloc: Global,
-    pool: &[Slot],
-    found: &[Found],
-) -> Result<Option<List<Site>>, NoMemory>
+fn judged(alloc: Global, pool: &[Slot], found: &[Found]) -> Result<Option<List<Site>>, NoMemory>
     requires { AllFit (pool_of pool.now) }
     ensures { IfOk result (λ sites. sites ≡ judged (pool_of pool.now) found.now) }
 {

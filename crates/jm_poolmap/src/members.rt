@@ -14,13 +14,7 @@ use crate::walk::{Kind, Walk, note, over, pass};
 use jm_class::{Attribute, Body, Class, Code, Member, Plain};
 
 /// An attribute by its name and its bytes.
-fn opaque(
-    walk: &mut Walk,
-    class: &Class,
-    place: Place,
-    name: u16,
-    bytes: &[u8],
-) -> Result<(), Stop>
+fn opaque(walk: &mut Walk, class: &Class, place: Place, name: u16, bytes: &[u8]) -> Result<(), Stop>
     requires { walk.old.place + (6 + length bytes.now) < 2 ^ 64 }
     ensures step { Walks (opaque_step place (plain class.now).pool name bytes.now walk.old)
         result walk.new }
@@ -76,13 +70,7 @@ fn code(walk: &mut Walk, class: &Class, code: &Code) -> Result<(), Stop>
 }
 
 /// An attribute by its name and what it holds.
-fn held(
-    walk: &mut Walk,
-    class: &Class,
-    place: Place,
-    name: u16,
-    body: &Body,
-) -> Result<(), Stop>
+fn held(walk: &mut Walk, class: &Class, place: Place, name: u16, body: &Body) -> Result<(), Stop>
     requires { walk.old.place + (6 + length (held_text (body_of body.now))) < 2 ^ 64 }
     ensures step { Walks (held_step place (plain class.now).pool name (body_of body.now) walk.old)
         result walk.new }
@@ -154,12 +142,7 @@ fn member(walk: &mut Walk, class: &Class, place: Place, member: &Member) -> Resu
 }
 
 /// The fields or the methods.
-pub fn members(
-    walk: &mut Walk,
-    class: &Class,
-    place: Place,
-    members: &[Member],
-) -> Result<(), Stop>
+pub fn members(walk: &mut Walk, class: &Class, place: Place, members: &[Member]) -> Result<(), Stop>
     requires { walk.old.place + length (flat_map member_text (map member_of members.now))
         < 2 ^ 64 }
     ensures step { Walks

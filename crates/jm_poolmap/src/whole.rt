@@ -18,7 +18,8 @@ use std::alloc::Global;
 fn slot(walk: &mut Walk, slot: &Slot)
     requires { walk.old.place + length (slot_text (slot_of slot.now)) < 2 ^ 64 }
     ensures { walk.new ≡ record walk.old {
-        place = walk.old.place + length (slot_text (slot_of slot.now)) } }
+      place = walk.old.place + length (slot_text (slot_of slot.now));
+    } }
 {
     match slot {
         Slot::Constant { tag: 1, body } => pass(walk, 3 + body.len()),

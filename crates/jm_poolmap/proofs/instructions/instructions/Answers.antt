@@ -12,10 +12,11 @@ pub loop-found-smaller : goal.loop-found-smaller
 loop-found-smaller c = instruction-shrinks c.place-start.result c.loop-found.found c.instruction.new.found c.loop-found.cursor c.instruction.new.cursor c.in_ok-instruction.ensures
 
 pub loop-found-preserved : goal.loop-found-preserved
-loop-found-preserved c =
-    (c.place-start.ensures,
-    run_next (instruction c.place-start.result) c.loop-found.found c.loop-found.cursor (instructions c.args.found.now c.args.cursor.now) c.instruction.new.found c.instruction.new.cursor c.loop-found.invariant.1 (λ none. c.loop-found-test.true (c.len.ensures ∙ none)) c.in_ok-instruction.ensures
-    (instruction-shrinks c.place-start.result c.loop-found.found c.instruction.new.found c.loop-found.cursor c.instruction.new.cursor c.in_ok-instruction.ensures))
+loop-found-preserved c = (
+  c.place-start.ensures,
+  run_next (instruction c.place-start.result) c.loop-found.found c.loop-found.cursor (instructions c.args.found.now c.args.cursor.now) c.instruction.new.found c.instruction.new.cursor c.loop-found.invariant.1 (λ none. c.loop-found-test.true (c.len.ensures ∙ none)) c.in_ok-instruction.ensures
+      (instruction-shrinks c.place-start.result c.loop-found.found c.instruction.new.found c.loop-found.cursor c.instruction.new.cursor c.in_ok-instruction.ensures),
+)
 
 pub returns-in_err-instruction : goal.returns-in_err-instruction
 returns-in_err-instruction c =
