@@ -5,7 +5,7 @@ use Rattle.jm_class.specs.Readings.{Left, Outcome}
 use Rattle.jm_poolmap.specs.declared.site.Found.{Found}
 use Rattle.jm_poolmap.specs.declared.stop.Stop.{Stop}
 use Rattle.jm_poolmap.specs.declared.stop.Stop.TheVariants.{Unknown, Memory}
-use Rattle.jm_poolmap.specs.Finds.{Reads, Finds}
+use Rattle.jm_poolmap.specs.Finds.{Finds}
 use Rattle.jm_poolmap.specs.Forms.{NoForm, Form, in_order}
 
 -- the error of a part is that of the whole, where the whole isn't there without the part

@@ -1,5 +1,5 @@
--- The sites of a class part by part, each with the place where it begins (JVMS 4): the computed form
--- of what the class's text is read as.
+-- The sites of a class part by part, each from the place where it begins (JVMS 4): the computed
+-- form of what the class's text is read as.
 use Rattle.std.specs.Prelude.{ℕ, ◌+◌, ◌/◌, Bool, true, false, List, [], ◌∷◌, ◌++◌, length, map}
 use Rattle.std.specs.Prelude.{replicate, Option, Some, None, Result, Ok, Err}
 use Rattle.std.specs.List.{flat_map}

@@ -15,7 +15,8 @@ Reads data_of outcome (Err Unknown) left = outcome ≡ Err tt
 Reads data_of outcome (Err Memory) left = Unit {0}
 
 -- the same of a form: the sites are those that it gives
-abbrev pub Finds : {T : Type 0} → Outcome NoForm (List Found) → Result T Stop → List Found → Left → Type 0
+abbrev pub Finds : {T : Type 0} → Outcome NoForm (List Found) → Result T Stop → List Found
+    → Left → Type 0
 Finds outcome result found left = Reads (λ _. found) outcome result left
 
 -- the same of steps over a class

@@ -86,6 +86,9 @@ any found left = skip (length left.bytes) found left
 abbrev pub Rows : Type 0 → Type 0
 Rows A = List (List (ℕ × ℕ) × A)
 
+abbrev pub one : ℕ → ℕ × ℕ
+one byte = (byte, byte)
+
 abbrev pub is_in : ℕ → ℕ × ℕ → Bool
 is_in byte range = nat_le range.0 byte && nat_le byte range.1
 

@@ -5,8 +5,8 @@ use Rattle.jm_poolmap.specs.declared.forms.Item.{Item}
 use Rattle.jm_poolmap.specs.declared.forms.Item.TheVariants.{Bytes, Site}
 use Rattle.jm_poolmap.specs.declared.forms.FramePart.{FramePart}
 use Rattle.jm_poolmap.specs.declared.forms.FramePart.TheVariants.{Distance, OneType, Types}
-use Rattle.jm_poolmap.specs.Forms.{Form, Rows, skip, in_order, counted, by_byte}
-use Rattle.jm_poolmap.specs.Items.{items, one}
+use Rattle.jm_poolmap.specs.Forms.{Form, Rows, skip, in_order, counted, by_byte, one}
+use Rattle.jm_poolmap.specs.Items.{items}
 
 -- 7 is a class; 8 is an object that isn't initialised, by the place of its `new`
 abbrev pub type_rows : Rows (List Item)

@@ -6,8 +6,8 @@ use Rattle.jm_class.specs.Readings.{Reading, and_then, part, number}
 use Rattle.jm_poolmap.specs.declared.forms.Item.{Item}
 use Rattle.jm_poolmap.specs.declared.forms.Item.TheVariants.{Bytes, Site, ByteSite}
 use Rattle.jm_poolmap.specs.Forms.{Form, NoForm, Rows, unfit, without, skip, in_order, run}
-use Rattle.jm_poolmap.specs.Forms.{by_byte}
-use Rattle.jm_poolmap.specs.Items.{items, one}
+use Rattle.jm_poolmap.specs.Forms.{by_byte, one}
+use Rattle.jm_poolmap.specs.Items.{items}
 
 -- what follows an opcode
 pub data Operands : Type 0 where

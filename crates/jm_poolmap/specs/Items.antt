@@ -1,5 +1,5 @@
 -- Items of which the length is known, and the types of frames, which consist of them (JVMS 4.7.4).
-use Rattle.std.specs.Prelude.{ℕ, List, map}
+use Rattle.std.specs.Prelude.{List, map}
 use Rattle.jm_poolmap.specs.declared.forms.Item.{Item}
 use Rattle.jm_poolmap.specs.declared.forms.Item.TheVariants.{Bytes, Site, OptionalSite, ByteSite}
 use Rattle.jm_poolmap.specs.Forms.{Form, skip, site, optional_site, byte_site, in_order}
@@ -12,7 +12,3 @@ item_form ByteSite = byte_site
 
 abbrev pub items : List Item → Form
 items list = in_order (map item_form list)
-
--- the rows of a table for one byte, and for the bytes from one to another
-abbrev pub one : ℕ → ℕ × ℕ
-one byte = (byte, byte)

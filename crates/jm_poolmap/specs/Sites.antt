@@ -1,6 +1,7 @@
 -- The sites of a class: the places in its text where numbers of constants stand (JVMS 4; that a
 -- class with an unknown attribute has none is this project's rule).
-use Rattle.std.specs.Prelude.{ℕ, nat_lt, Bool, true, false, ◌==◌, ◌&&◌, ◌||◌, List, [], ◌∷◌, length, map}
+use Rattle.std.specs.Prelude.{ℕ, nat_lt, Bool, true, false, ◌==◌, ◌&&◌, ◌||◌, List, [], ◌∷◌, length}
+use Rattle.std.specs.Prelude.{map}
 use Rattle.std.specs.Prelude.{Option, Some, None, is_some, Ok, Err, take, drop, if◌then◌else◌}
 use Rattle.std.specs.Prelude.{option_and_then}
 use Rattle.std.specs.Int.{w16, from_be_bytes}
@@ -12,7 +13,8 @@ use Rattle.jm_poolmap.specs.declared.forms.Place as place
 use Rattle.jm_poolmap.specs.declared.forms.Place.TheVariants.{Class, Field, Method}
 use Rattle.jm_poolmap.specs.declared.site.Found.{Found}
 use Rattle.jm_poolmap.specs.declared.site.Site.{Site}
-use Rattle.jm_poolmap.specs.Forms.{Form, NoForm, unfit, skip, site, optional_site, in_order, counted}
+use Rattle.jm_poolmap.specs.Forms.{Form, NoForm, unfit, skip, site, optional_site, in_order}
+use Rattle.jm_poolmap.specs.Forms.{counted}
 use Rattle.jm_poolmap.specs.Attributes.{attribute}
 
 -- A class as a form

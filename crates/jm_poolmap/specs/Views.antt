@@ -7,7 +7,8 @@ use Rattle.jm_poolmap.specs.declared.forms.Operands.TheVariants as behind
 use Rattle.jm_poolmap.specs.declared.walk.Kind as walk
 use Rattle.jm_poolmap.specs.declared.walk.Kind.TheVariants as whole
 use Rattle.jm_poolmap.specs.Attributes.{body, handler}
-use Rattle.jm_poolmap.specs.Attributes.{Content, Any, Items, ShortRows, Rows, Methods, Frames, Coded}
+use Rattle.jm_poolmap.specs.Attributes.{Content, Any, Items, ShortRows, Rows, Methods}
+use Rattle.jm_poolmap.specs.Attributes.{Frames, Coded}
 use Rattle.jm_poolmap.specs.Forms.{Form, nowhere, in_order}
 use Rattle.jm_poolmap.specs.Instructions as instructions
 use Rattle.jm_poolmap.specs.Instructions.{instructions}

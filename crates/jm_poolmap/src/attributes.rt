@@ -1,6 +1,6 @@
 ghost use Rattle.std.specs.Prelude.{◌≡◌, option_map};
-ghost use Rattle.jm_poolmap.specs.Attributes.{class_rows, field_rows, method_rows, code_rows, rows_at};
-ghost use Rattle.jm_poolmap.specs.Attributes.{named, content_at};
+ghost use Rattle.jm_poolmap.specs.Attributes.{class_rows, field_rows, method_rows, code_rows};
+ghost use Rattle.jm_poolmap.specs.Attributes.{rows_at, named, content_at};
 ghost use Rattle.jm_class.specs.Views.{plain};
 ghost use Rattle.jm_poolmap.specs.Views.{content_of};
 

@@ -3,8 +3,8 @@ ghost use Rattle.std.specs.List.{flat_map};
 ghost use Rattle.jm_class.specs.Classes.{opaque_text, code_text, held_text, attribute_text};
 ghost use Rattle.jm_class.specs.Classes.{member_text};
 ghost use Rattle.jm_class.specs.Views.{plain, opaque_of, code_of, body_of, attribute_of, member_of};
-ghost use Rattle.jm_poolmap.specs.ComputedSites.{each, opaque_step, plain_step, code_step, held_step};
-ghost use Rattle.jm_poolmap.specs.ComputedSites.{attribute_step, member_step};
+ghost use Rattle.jm_poolmap.specs.ComputedSites.{each, opaque_step, plain_step, code_step};
+ghost use Rattle.jm_poolmap.specs.ComputedSites.{held_step, attribute_step, member_step};
 ghost use Rattle.jm_poolmap.specs.Finds.{Walks};
 
 use crate::attributes::content_at;

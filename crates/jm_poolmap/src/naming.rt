@@ -2,8 +2,8 @@ ghost use Rattle.std.specs.Prelude.{◌≡◌, ◌+◌, ◌≤◌, length, map, 
 ghost use Rattle.std.specs.Int.{w16, from_be_bytes};
 ghost use Rattle.std.specs.List.{list_all};
 ghost use Rattle.jm_class.specs.Views.{slot_of, pool_of};
-ghost use Rattle.jm_poolmap.specs.Sites.{rank, named_by, rank_of, rank_at, is_some_below, names_lower};
-ghost use Rattle.jm_poolmap.specs.Sites.{names_constant};
+ghost use Rattle.jm_poolmap.specs.Sites.{rank, named_by, rank_of, rank_at, is_some_below};
+ghost use Rattle.jm_poolmap.specs.Sites.{names_lower, names_constant};
 ghost use Rattle.jm_poolmap.specs.Pools.{FitsSlot, AllFit, numbers_of};
 
 use crate::site::Found;
