@@ -1,0 +1,12 @@
+pub mod Attributes
+pub mod ComputedLive
+pub mod ComputedSites
+pub mod Finds
+pub mod Forms
+pub mod Frames
+pub mod Instructions
+pub mod Items
+pub mod Live
+pub mod Pools
+pub mod Sites
+pub mod Views

@@ -1,0 +1,18 @@
+-- Constants by themselves: their bodies are as their tags say (JVMS 4.4).
+use Rattle.std.specs.Prelude.{ℕ, List, [], ◌∷◌}
+use Rattle.jm_class.specs.Classes.{SlotData, Constant, Hole, FitsTag}
+use Rattle.jm_poolmap.specs.declared.naming.Names.{Names}
+use Rattle.jm_poolmap.specs.declared.naming.Names.TheVariants as names
+
+abbrev pub FitsSlot : SlotData → Type 0
+FitsSlot (Constant tag body) = FitsTag tag body
+FitsSlot Hole = Unit {0}
+
+abbrev pub AllFit : List SlotData → Type 0
+AllFit [] = Unit {0}
+AllFit (slot ∷ pool) = FitsSlot slot × AllFit pool
+
+abbrev pub numbers_of : Names → List ℕ
+numbers_of names.None = []
+numbers_of (names.One index) = index ∷ []
+numbers_of (names.Two first second) = first ∷ second ∷ []

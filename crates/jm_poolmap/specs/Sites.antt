@@ -1,0 +1,106 @@
+-- The sites of a class: the places in its text where numbers of constants stand (JVMS 4; that a
+-- class with an unknown attribute has none is this project's rule).
+use Rattle.std.specs.Prelude.{ℕ, nat_lt, Bool, true, false, ◌==◌, ◌&&◌, ◌||◌, List, [], ◌∷◌, length}
+use Rattle.std.specs.Prelude.{map}
+use Rattle.std.specs.Prelude.{Option, Some, None, is_some, Ok, Err, take, drop, if◌then◌else◌}
+use Rattle.std.specs.Prelude.{option_and_then}
+use Rattle.std.specs.Int.{w16, from_be_bytes}
+use Rattle.std.specs.List.{list_all}
+use Rattle.jm_class.specs.Classes.{SlotData, Constant, Hole, ClassData, pool_text, class_text}
+use Rattle.jm_class.specs.Classes.{slot_at}
+use Rattle.jm_class.specs.Readings.{Outcome, ended}
+use Rattle.jm_poolmap.specs.declared.forms.Place as place
+use Rattle.jm_poolmap.specs.declared.forms.Place.TheVariants.{Class, Field, Method}
+use Rattle.jm_poolmap.specs.declared.site.Found.{Found}
+use Rattle.jm_poolmap.specs.declared.site.Site.{Site}
+use Rattle.jm_poolmap.specs.Forms.{Form, NoForm, unfit, skip, site, optional_site, in_order}
+use Rattle.jm_poolmap.specs.Forms.{counted}
+use Rattle.jm_poolmap.specs.Attributes.{attribute}
+
+-- A class as a form
+
+-- a field or a method: its flags, name and descriptor, and its attributes
+abbrev pub member : place.Place → List SlotData → Form
+member place pool =
+    in_order (skip 2 ∷ site ∷ site ∷ counted w16 (attribute place pool) ∷ [])
+
+-- magic and versions, the constants, the flags, the class and the one above, and the rest
+abbrev pub class : List SlotData → Form
+class pool = in_order (
+    skip 8 ∷ skip (length (pool_text pool)) ∷ skip 2 ∷ site ∷ optional_site
+    ∷ counted w16 site
+    ∷ counted w16 (member Field pool) ∷ counted w16 (member Method pool)
+    ∷ counted w16 (attribute Class pool) ∷ [])
+
+-- what a form that takes all bytes has met, or none where the bytes aren't of the form
+abbrev pub met : Outcome NoForm (List Found) → Option (List Found)
+met (Ok r) = Some r.0
+met (Err fault) = None
+
+abbrev pub found_in : ClassData → Option (List Found)
+found_in c = met (ended unfit (class c.pool []) (record { place = 0; bytes = class_text c }))
+
+-- Constants
+
+-- how far a constant is above those that name nothing, by its tag
+abbrev pub rank : ℕ → ℕ
+rank tag =
+    if tag == 7 || tag == 8 || tag == 12 || tag == 16 || tag == 19 || tag == 20 then 1
+    else if tag == 9 || tag == 10 || tag == 11 || tag == 17 || tag == 18 then 2
+    else if tag == 15 then 3
+    else 0
+
+-- where in a body the numbers of constants stand, two bytes each
+abbrev pub name_places : ℕ → List ℕ
+name_places tag =
+    if tag == 7 || tag == 8 || tag == 16 || tag == 19 || tag == 20 then 0 ∷ []
+    else if tag == 9 || tag == 10 || tag == 11 || tag == 12 then 0 ∷ 2 ∷ []
+    else if tag == 17 || tag == 18 then 2 ∷ []
+    else if tag == 15 then 1 ∷ []
+    else []
+
+-- the numbers that a constant names
+abbrev pub named_by : SlotData → List ℕ
+named_by (Constant tag body) =
+    map (λ place. from_be_bytes w16 (take 2 (drop place body))) (name_places tag)
+named_by Hole = []
+
+-- the rank of the constant of a number, or none: a hole is no constant
+abbrev pub rank_of : SlotData → Option ℕ
+rank_of (Constant tag body) = Some (rank tag)
+rank_of Hole = None
+
+abbrev pub rank_at : List SlotData → ℕ → Option ℕ
+rank_at pool index = option_and_then rank_of (slot_at pool index)
+
+-- Checks
+
+abbrev pub is_some_below : ℕ → Option ℕ → Bool
+is_some_below limit None = false
+is_some_below limit (Some n) = nat_lt n limit
+
+-- each constant that is named is of a lower rank
+abbrev pub names_lower : List SlotData → SlotData → Bool
+names_lower pool Hole = true
+names_lower pool (Constant tag body) =
+    list_all (λ index. is_some_below (rank tag) (rank_at pool index))
+    (named_by (Constant tag body))
+
+-- a constant has the number at a site, or it is an optional 0
+abbrev pub names_constant : List SlotData → Found → Bool
+names_constant pool found =
+    found.optional && found.number == 0 || is_some (rank_at pool found.number)
+
+-- The sites
+
+abbrev pub site_of : Found → Site
+site_of found = record { place = found.place; wide = found.wide }
+
+abbrev pub judged : List SlotData → List Found → Option (List Site)
+judged pool found =
+    if list_all (names_constant pool) found && list_all (names_lower pool) pool
+    then Some (map site_of found) else None
+
+-- the rule: none where the class isn't of the form, or a check fails
+abbrev pub sites_of : ClassData → Option (List Site)
+sites_of c = option_and_then (judged c.pool) (found_in c)

@@ -1,0 +1,65 @@
+/// Where an attribute stands.
+#[derive(Clone, Copy, Debug)]
+pub enum Place {
+    Class,
+    Field,
+    Method,
+    Code,
+}
+
+/// A part of which the length is known.
+#[derive(Clone, Copy, Debug)]
+pub enum Item {
+    /// So many bytes without a site.
+    Bytes(u8),
+    /// A site of two bytes.
+    Site,
+    /// A site of two bytes at which 0 may stand, which means none.
+    OptionalSite,
+    /// A site of one byte.
+    ByteSite,
+}
+
+/// What the body of an attribute consists of.
+#[derive(Clone, Copy, Debug)]
+pub enum Content {
+    /// Any bytes, without a site.
+    Any,
+    /// These items.
+    Items(&'static [Item]),
+    /// A count of one byte, and so many rows of these items.
+    ShortRows(&'static [Item]),
+    /// A count of two bytes, and so many rows of these items.
+    Rows(&'static [Item]),
+    /// A count of two bytes, and so many bootstrap methods.
+    Methods,
+    /// A count of two bytes, and so many frames.
+    Frames,
+    /// The parts of a Code.
+    Code,
+}
+
+/// A part of a frame.
+#[derive(Clone, Copy, Debug)]
+pub enum FramePart {
+    /// How far it is from the frame before, two bytes.
+    Distance,
+    /// A type.
+    OneType,
+    /// A count of two bytes, and so many types.
+    Types,
+}
+
+/// What follows an opcode.
+#[derive(Clone, Copy, Debug)]
+pub enum Operands {
+    /// These items.
+    Items(&'static [Item]),
+    /// Bytes up to a multiple of four, a default, the lowest and the highest case, and a word for
+    /// each of them.
+    Table,
+    /// Bytes up to a multiple of four, a default, a count, and two words for each case.
+    Lookup,
+    /// An opcode again, with wide operands.
+    Wide,
+}

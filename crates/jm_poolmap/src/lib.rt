@@ -1,0 +1,22 @@
+//! Where the numbers of constants stand in a class, and which constants are live.
+#![tactic(auto)]
+
+mod attributes;
+mod bodies;
+mod finding;
+mod forms;
+mod frames;
+mod instructions;
+mod items;
+mod marking;
+mod members;
+mod naming;
+mod readings;
+mod site;
+mod stop;
+mod walk;
+mod whole;
+
+pub use finding::sites;
+pub use marking::live;
+pub use site::Site;

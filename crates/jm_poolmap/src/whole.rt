@@ -1,0 +1,95 @@
+ghost use Rattle.std.specs.Prelude.{◌≡◌, ◌+◌, ◌<◌, ◌^◌, false, length, map, Ok, OnOk};
+ghost use Rattle.std.specs.List.{flat_map};
+ghost use Rattle.jm_class.specs.Classes.{u2, slot_text, class_text};
+ghost use Rattle.jm_class.specs.Views.{plain, slot_of};
+ghost use Rattle.jm_poolmap.specs.ComputedSites.{notes, each, slot_step, front_step, back_step};
+ghost use Rattle.jm_poolmap.specs.ComputedSites.{front_size, back_size, walk_of};
+ghost use Rattle.jm_poolmap.specs.Finds.{Comes, Walks};
+
+use crate::forms::Place;
+use crate::members::{attributes, members};
+use crate::stop::Stop;
+use crate::walk::{Walk, note, pass};
+use jm_bytes::List;
+use jm_class::{Class, Slot};
+use std::alloc::Global;
+
+/// A number of the pool.
+fn slot(walk: &mut Walk, slot: &Slot)
+    requires { walk.old.place + length (slot_text (slot_of slot.now)) < 2 ^ 64 }
+    ensures { walk.new ≡ record walk.old {
+      place = walk.old.place + length (slot_text (slot_of slot.now));
+    } }
+{
+    match slot {
+        Slot::Constant { tag: 1, body } => pass(walk, 3 + body.len()),
+        Slot::Constant { body, .. } => pass(walk, 1 + body.len()),
+        Slot::Hole => {}
+    }
+}
+
+fn slots(walk: &mut Walk, slots: &[Slot])
+    requires { walk.old.place + length (flat_map slot_text (map slot_of slots.now)) < 2 ^ 64 }
+    ensures step { each slot_step (map slot_of slots.now) walk.old ≡ Ok walk.new }
+    ensures place { walk.new.place
+        ≡ walk.old.place + length (flat_map slot_text (map slot_of slots.now)) }
+{
+    for next in slots {
+        slot(walk, next);
+    }
+}
+
+fn interfaces(walk: &mut Walk, interfaces: &[u16]) -> Result<(), Stop>
+    requires { walk.old.place + length (flat_map u2 interfaces.now) < 2 ^ 64 }
+    ensures step { Walks (each (notes false) interfaces.now walk.old) result walk.new }
+    ensures place { OnOk result
+        (walk.new.place ≡ walk.old.place + length (flat_map u2 interfaces.now)) }
+{
+    for interface in interfaces {
+        note(walk, false, *interface)?;
+    }
+    Ok(())
+}
+
+/// The parts of a class up to the interfaces.
+fn front(walk: &mut Walk, class: &Class) -> Result<(), Stop>
+    requires { walk.old.place + front_size (plain class.now) < 2 ^ 64 }
+    ensures step { Walks (front_step (plain class.now) walk.old) result walk.new }
+    ensures place { OnOk result
+        (walk.new.place ≡ walk.old.place + front_size (plain class.now)) }
+{
+    pass(walk, 10);
+    slots(walk, class.pool.as_slice());
+    pass(walk, 2);
+    note(walk, false, class.this_class)?;
+    note(walk, true, class.super_class)?;
+    pass(walk, 2);
+    interfaces(walk, class.interfaces.as_slice())
+}
+
+/// The parts of a class behind the interfaces.
+fn back(walk: &mut Walk, class: &Class) -> Result<(), Stop>
+    requires { walk.old.place + back_size (plain class.now) < 2 ^ 64 }
+    ensures { Walks (back_step (plain class.now) walk.old) result walk.new }
+{
+    pass(walk, 2);
+    members(walk, class, Place::Field, class.fields.as_slice())?;
+    pass(walk, 2);
+    members(walk, class, Place::Method, class.methods.as_slice())?;
+    pass(walk, 2);
+    attributes(walk, class, Place::Class, class.attributes.as_slice())
+}
+
+/// A walk over the whole of a class.
+pub fn walk_over(alloc: Global, class: &Class) -> Result<Walk, Stop>
+    requires { length (class_text (plain class.now)) < 2 ^ 64 }
+    ensures { Comes (walk_of (plain class.now)) result }
+{
+    let mut walk = Walk {
+        found: List::new(alloc),
+        place: 0,
+    };
+    front(&mut walk, class)?;
+    back(&mut walk, class)?;
+    Ok(walk)
+}
