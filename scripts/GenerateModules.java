@@ -10,7 +10,7 @@ import java.util.TreeMap;
 /**
  * Makes the files that `jm_tool gen` makes of the same numbers, by a program of its own: `GenerateModules MODULES
  * CLASSES SEED FOLDER` puts them below FOLDER. Without FOLDER it prints how many they are and the sum over them that
- * the tests of jm_gen take: of the bytes of each path below `x` and of each file, by rising path.
+ * the tests in jm_upper_tests take: of the bytes of each path below `x` and of each file, by rising path.
  */
 public class GenerateModules {
   private static long drawn;

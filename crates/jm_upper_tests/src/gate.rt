@@ -1,11 +1,15 @@
 //! A gate at which two pieces of work meet.
 
-use crate::linked::image_in;
-use crate::runs::run_on;
+use crate::calls::shelf_of;
+use crate::images::SIX_IMAGE;
+use crate::runs::run_words;
+use crate::wanted::Wanted;
 use jm_halves::Gate;
+use std::alloc::Global;
 use std::hint::spin_loop;
 use std::sync::atomic::{AtomicBool, Ordering};
 use std::test::Fail;
+use std::thread::Threads;
 
 /// How often a flag is looked for.
 const LOOKS: u32 = 200_000_000;
@@ -50,21 +54,41 @@ fn met(gate: &Meeting) -> bool {
     raised && !gate.missed.load(Ordering::SeqCst)
 }
 
+/// Whether words give a text with this front on a shelf with an image, and two pieces meet.
+fn meet<T: Threads + Sync>(
+    rt: &T,
+    alloc: Global,
+    words: &[&str],
+    front: &[u8],
+) -> Result<bool, Fail> {
+    let gate = Meeting {
+        flags: [AtomicBool::new(false), AtomicBool::new(false)],
+        missed: AtomicBool::new(false),
+    };
+    let mut shelf = shelf_of(alloc, &[("img", SIX_IMAGE)], &[])?;
+    let mut wanted = Wanted::new(front);
+    run_words(rt, alloc, words, &mut shelf, &gate, &mut wanted)?;
+    Ok(wanted.is_front() && met(&gate))
+}
+
+const VERIFY: &[&str] = &["verify", "img", "--jobs", "2"];
+
+const GENERATE: &[&str] = &[
+    "gen",
+    "d",
+    "--modules",
+    "1",
+    "--classes",
+    "2",
+    "--seed",
+    "0",
+    "--jobs",
+    "2",
+];
+
 #[test]
 fn both_pieces_meet(rt: HostRuntime) -> Result<(), Fail> {
-    let generating = "gen d --modules 1 --classes 2 --seed 0 --jobs 2";
-    for (words, want) in [
-        ("verify img --jobs 2", "0|valid 21\n|"),
-        (generating, "0|modules 1\nresources 3\n"),
-    ] {
-        let gate = Meeting {
-            flags: [AtomicBool::new(false), AtomicBool::new(false)],
-            missed: AtomicBool::new(false),
-        };
-        let image = image_in(&rt, rt.alloc(), "little")?;
-        let given = run_on(&rt, rt.alloc(), image.as_slice(), words, &gate)?;
-        assert!(rt; given.as_slice().starts_with(want.as_bytes()), "{words}");
-        assert!(rt; met(&gate), "the pieces met at the gate: {words}");
-    }
+    assert!(rt; meet(&rt, rt.alloc(), VERIFY, b"0|valid 21\n|")?);
+    assert!(rt; meet(&rt, rt.alloc(), GENERATE, b"0|modules 1\nresources 3\n")?);
     Ok(())
 }

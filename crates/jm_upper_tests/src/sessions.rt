@@ -1,32 +1,28 @@
 //! Sessions over a small image: in pieces, to their end, and with calls that fail.
 ghost use Rattle.std.specs.Prelude.{◌≡◌, ◌<◌};
 
-use crate::vectors::one;
-use jm_bytes::{List, Meter, Steps, Text};
-use jm_halves::NoGate;
+use crate::calls::{sink_of, source_of};
+use crate::images::{ONE, opened};
+use jm_bytes::{Meter, NoMemory, Steps, Text, copy_of, extend};
 use jm_jrt::{ServeError, serve};
 use jm_outside::{MemSink, MemSource};
-use jm_valid::{Image, open_image};
+use jm_valid::Image;
 use std::alloc::Global;
 use std::marker::Brand;
 use std::sync::ledger::{Blank, Ledger};
 use std::test::Fail;
 use std::thread::Threads;
 
-const LINES: &str = "ls /packages/p\nstat /packages/p/a\nowner p\nowner q\nstat /modules/a/p/A\n\
-                     find /a/p/A\nfind /a/p/B\nwhat";
-
-const REPLIES: &str = "folder 1\n/packages/p/a\nlink /modules/a\nowner a\nerror NotThere\nfile 2\n\
-                       found 2\nhi\nnone\nerror Request\n|8";
-
-/// What is served: the cut of each call of the source, if there is one, and the numbers of the
-/// calls that fail.
+/// What is served, with the cuts of the calls of its source and the numbers of the calls that fail,
+/// and what comes of it.
 #[derive(Clone, Copy)]
-struct Served<'a> {
+struct Session<'a> {
     input: &'a [u8],
-    cut: Option<usize>,
-    failing_take: Option<u64>,
-    failing_put: Option<u64>,
+    cuts: &'a [usize],
+    takes: &'a [u64],
+    puts: &'a [u64],
+    replies: &'a [u8],
+    end: Result<u64, ServeError>,
 }
 
 /// A session with counters of its own.
@@ -34,8 +30,7 @@ fn counted<H: Ledger, R: Ledger>(
     alloc: Global,
     image: &Image,
     bytes: &[u8],
-    input: &mut MemSource,
-    out: &mut MemSink,
+    streams: (&mut MemSource, &mut MemSink),
     hashes: Blank,
     reads: Blank,
 ) -> Result<u64, ServeError>
@@ -47,144 +42,256 @@ fn counted<H: Ledger, R: Ledger>(
     requires reads_parts { reads.parts ≡ R.parts }
     requires reads_some { 0 < reads.parts }
 {
+    let (input, out) = streams;
     let mut hashes = Steps::<H>::new(hashes);
     let mut reads = Meter::<R>::new(bytes, reads);
     serve(alloc, image, input, out, &mut hashes, &mut reads)
 }
 
-fn numbers(alloc: Global, number: Option<u64>) -> Result<List<u64>, Fail> {
-    let mut numbers = List::new(alloc);
-    if let Some(number) = number {
-        numbers.push(number)?;
-    }
-    Ok(numbers)
-}
-
-/// A source of these bytes, whose calls give at most so many of them.
-fn source_of(alloc: Global, served: Served) -> Result<MemSource, Fail> {
-    let mut cuts = List::new(alloc);
-    if let Some(cut) = served.cut {
-        for _ in 0..served.input.len() {
-            cuts.push(cut)?;
-        }
-    }
-    let mut source = MemSource::new(Text::copy_of(alloc, served.input)?, cuts);
-    source.fail_on(numbers(alloc, served.failing_take)?);
-    Ok(source)
-}
-
-/// What is put at the end: how a session ended.
-fn end_of(alloc: Global, answer: Result<u64, ServeError>) -> Result<String, Fail> {
-    let end = match answer {
-        Ok(lines) => format!(in alloc; "|{lines}")?,
-        Err(ServeError::ReadFault) => String::from_str(alloc, "|ReadFault")?,
-        Err(ServeError::WriteFault) => String::from_str(alloc, "|WriteFault")?,
-        Err(ServeError::LongLine(line)) => format!(in alloc; "|LongLine {line}")?,
-        Err(ServeError::TooManyLines) => String::from_str(alloc, "|TooManyLines")?,
-        Err(ServeError::Memory) => String::from_str(alloc, "|Memory")?,
-    };
-    Ok(end)
-}
-
-/// What a session puts, and how it ends, with a bar between them.
-fn session<T: Threads + Sync>(rt: &T, alloc: Global, served: Served) -> Result<Vec<u8>, Fail> {
-    let bytes = one();
-    let Ok(image) = open_image(rt, alloc, 1, bytes, &NoGate) else {
-        return Ok(Vec::new(alloc));
-    };
-    let mut input = source_of(alloc, served)?;
-    let mut out = MemSink::new(alloc);
-    out.fail_on(numbers(alloc, served.failing_put)?);
+/// Whether a session over the image that these bytes are puts and ends as it should.
+fn ends_so(
+    alloc: Global,
+    image: &Image,
+    bytes: &[u8],
+    input: &mut MemSource,
+    session: &Session,
+) -> Result<bool, NoMemory>
+    requires { image.now ≡ bytes.now }
+{
+    let mut out = sink_of(alloc, session.puts)?;
     let (hashes, reads) = (Blank::new(1), Blank::new(1));
-    let answer = counted::<Brand, Brand>(alloc, &image, bytes, &mut input, &mut out, hashes, reads);
-    let mut given = Vec::new(alloc);
-    given.extend_from_slice(out.bytes())?;
-    given.extend_from_slice(end_of(alloc, answer)?.as_bytes())?;
-    Ok(given)
+    let streams = (input, &mut out);
+    let end = counted::<Brand, Brand>(alloc, image, bytes, streams, hashes, reads);
+    Ok(end == session.end && out.bytes() == session.replies)
 }
+
+/// The same with its input.
+fn comes_so(alloc: Global, image: &Image, bytes: &[u8], session: &Session) -> Result<bool, NoMemory>
+    requires { image.now ≡ bytes.now }
+{
+    let mut input = source_of(alloc, session.input, session.cuts, session.takes)?;
+    ends_so(alloc, image, bytes, &mut input, session)
+}
+
+/// The same over a small image.
+fn holds<T: Threads + Sync>(rt: &T, alloc: Global, session: &Session) -> bool {
+    match opened(rt, alloc, 1, ONE) {
+        Some(image) => comes_so(alloc, &image, ONE, session).unwrap_or(false),
+        None => false,
+    }
+}
+
+const LINES: &[u8] = b"ls /packages/p\nstat /packages/p/a\nowner p\nowner q\n\
+                       stat /modules/a/p/A\nfind /a/p/A\nfind /a/p/B\nwhat";
+
+const REPLIES: &[u8] = b"folder 1\n/packages/p/a\nlink /modules/a\nowner a\nerror NotThere\n\
+                         file 2\nfound 2\nhi\nnone\nerror Request\n";
+
+const SESSIONS: &[(&str, Session)] = &[
+    (
+        "one piece",
+        Session {
+            input: LINES,
+            cuts: &[],
+            takes: &[],
+            puts: &[],
+            replies: REPLIES,
+            end: Ok(8),
+        },
+    ),
+    (
+        "single bytes",
+        Session {
+            input: LINES,
+            cuts: &[1; 98],
+            takes: &[],
+            puts: &[],
+            replies: REPLIES,
+            end: Ok(8),
+        },
+    ),
+    (
+        "seven bytes at a time",
+        Session {
+            input: LINES,
+            cuts: &[7; 98],
+            takes: &[],
+            puts: &[],
+            replies: REPLIES,
+            end: Ok(8),
+        },
+    ),
+    (
+        "no line",
+        Session {
+            input: b"",
+            cuts: &[],
+            takes: &[],
+            puts: &[],
+            replies: b"",
+            end: Ok(0),
+        },
+    ),
+    (
+        "an empty line",
+        Session {
+            input: b"\n",
+            cuts: &[],
+            takes: &[],
+            puts: &[],
+            replies: b"error Request\n",
+            end: Ok(1),
+        },
+    ),
+    (
+        "a line that no newline ends",
+        Session {
+            input: b"find /a/p/A",
+            cuts: &[],
+            takes: &[],
+            puts: &[],
+            replies: b"found 2\nhi\n",
+            end: Ok(1),
+        },
+    ),
+    (
+        "a carriage return is of the line",
+        Session {
+            input: b"owner p\r\n",
+            cuts: &[],
+            takes: &[],
+            puts: &[],
+            replies: b"error NotThere\n",
+            end: Ok(1),
+        },
+    ),
+    (
+        "the second take fails",
+        Session {
+            input: LINES,
+            cuts: &[40; 98],
+            takes: &[1],
+            puts: &[],
+            replies: b"folder 1\n/packages/p/a\nlink /modules/a\n",
+            end: Err(ServeError::ReadFault),
+        },
+    ),
+    (
+        "the first take fails",
+        Session {
+            input: LINES,
+            cuts: &[40; 98],
+            takes: &[0],
+            puts: &[],
+            replies: b"",
+            end: Err(ServeError::ReadFault),
+        },
+    ),
+    (
+        "the second put fails",
+        Session {
+            input: LINES,
+            cuts: &[],
+            takes: &[],
+            puts: &[1],
+            replies: b"folder 1\n/packages/p/a\nlink /mo",
+            end: Err(ServeError::WriteFault),
+        },
+    ),
+];
 
 #[test]
-fn lines_are_answered_however_they_are_cut(rt: HostRuntime) -> Result<(), Fail> {
-    let front = "folder 1\n/packages/p/a\nlink /modules/a\n|ReadFault";
-    let part = "folder 1\n/packages/p/a\nlink /mo|WriteFault";
-    for (input, cut, failing_take, failing_put, want) in [
-        (LINES, None, None, None, REPLIES),
-        (LINES, Some(1), None, None, REPLIES),
-        (LINES, Some(7), None, None, REPLIES),
-        ("", None, None, None, "|0"),
-        ("\n", None, None, None, "error Request\n|1"),
-        ("find /a/p/A", None, None, None, "found 2\nhi\n|1"),
-        ("owner p\r\n", None, None, None, "error NotThere\n|1"),
-        (LINES, Some(40), Some(1), None, front),
-        (LINES, Some(40), Some(0), None, "|ReadFault"),
-        (LINES, None, None, Some(1), part),
-    ] {
-        let served = Served {
-            input: input.as_bytes(),
-            cut,
-            failing_take,
-            failing_put,
-        };
-        let given = session(&rt, rt.alloc(), served)?;
-        assert!(rt; given.as_slice() == want.as_bytes(), "{input}");
+fn lines_are_answered_however_they_are_cut(rt: HostRuntime) {
+    for (shows, session) in SESSIONS {
+        assert!(rt; holds(&rt, rt.alloc(), session), "{shows}");
     }
-    Ok(())
 }
 
-/// So many bytes, all the same, behind a line.
-fn line_and(alloc: Global, line: &str, byte: u8, count: usize) -> Result<Vec<u8>, Fail> {
-    let mut text = Vec::new(alloc);
-    text.extend_from_slice(line.as_bytes())?;
+/// A text so many times behind a front.
+fn repeated(alloc: Global, front: &str, text: &str, count: usize) -> Result<Text, NoMemory> {
+    let mut all = copy_of(alloc, front.as_bytes())?;
     for _ in 0..count {
-        text.push(byte)?;
+        extend(&mut all, text.as_bytes())?;
     }
-    Ok(text)
+    Ok(Text::from_vec(all))
 }
 
+/// A text that stands so often behind a front is served. So many bad lines are answered, and the
+/// session ends so.
+struct Long {
+    front: &'static str,
+    text: &'static str,
+    count: usize,
+    bad: usize,
+    end: Result<u64, ServeError>,
+}
+
+/// Whether a long session comes to what it should.
+fn ends<T: Threads + Sync>(rt: &T, alloc: Global, long: &Long) -> Result<bool, NoMemory> {
+    let input = repeated(alloc, long.front, long.text, long.count)?;
+    let replies = repeated(alloc, "", "error Request\n", long.bad)?;
+    let session = Session {
+        input: input.as_slice(),
+        cuts: &[],
+        takes: &[],
+        puts: &[],
+        replies: replies.as_slice(),
+        end: long.end,
+    };
+    Ok(holds(rt, alloc, &session))
+}
+
+const LONG: &[Long] = &[
+    Long {
+        front: "",
+        text: "x",
+        count: 8192,
+        bad: 1,
+        end: Ok(1),
+    },
+    Long {
+        front: "",
+        text: "x",
+        count: 8193,
+        bad: 0,
+        end: Err(ServeError::LongLine(1)),
+    },
+    Long {
+        front: "what\n",
+        text: "x",
+        count: 8193,
+        bad: 1,
+        end: Err(ServeError::LongLine(2)),
+    },
+    Long {
+        front: "what\n",
+        text: "x",
+        count: 70_000,
+        bad: 1,
+        end: Err(ServeError::LongLine(2)),
+    },
+    Long {
+        front: "",
+        text: "\n",
+        count: 1_000_000,
+        bad: 1_000_000,
+        end: Ok(1_000_000),
+    },
+    Long {
+        front: "",
+        text: "\n",
+        count: 1_000_001,
+        bad: 1_000_000,
+        end: Err(ServeError::TooManyLines),
+    },
+];
+
+/// `rt try` doesn't come to its end.
 #[test]
-fn long_lines_end_a_session(rt: HostRuntime) -> Result<(), Fail> {
-    for (line, count, want) in [
-        ("", 8192, "error Request\n|1"),
-        ("", 8193, "|LongLine 1"),
-        ("what\n", 8193, "error Request\n|LongLine 2"),
-        ("what\n", 70_000, "error Request\n|LongLine 2"),
-    ] {
-        let input = line_and(rt.alloc(), line, b'x', count)?;
-        let served = Served {
-            input: input.as_slice(),
-            cut: None,
-            failing_take: None,
-            failing_put: None,
-        };
-        let given = session(&rt, rt.alloc(), served)?;
-        assert!(rt; given.as_slice() == want.as_bytes(), "{count}");
-    }
-    Ok(())
-}
-
-/// So many replies to a line that is no request, and how the session ended.
-fn replies_and(alloc: Global, count: usize, end: &str) -> Result<Vec<u8>, Fail> {
-    let mut text = Vec::new(alloc);
-    for _ in 0..count {
-        text.extend_from_slice(b"error Request\n")?;
-    }
-    text.extend_from_slice(end.as_bytes())?;
-    Ok(text)
-}
-
-#[test]
-fn a_session_has_a_million_lines(rt: HostRuntime) -> Result<(), Fail> {
-    for (count, end) in [(1_000_000, "|1000000"), (1_000_001, "|TooManyLines")] {
-        let input = line_and(rt.alloc(), "", b'\n', count)?;
-        let served = Served {
-            input: input.as_slice(),
-            cut: None,
-            failing_take: None,
-            failing_put: None,
-        };
-        let given = session(&rt, rt.alloc(), served)?;
-        let want = replies_and(rt.alloc(), 1_000_000, end)?;
-        assert!(rt; given.as_slice() == want.as_slice(), "{count}");
+fn long_lines_and_many_lines_end_a_session(rt: HostRuntime) -> Result<(), Fail> {
+    for long in LONG {
+        let holds = ends(&rt, rt.alloc(), long)?;
+        assert!(rt; holds, "{} times behind {}", long.count, long.front);
     }
     Ok(())
 }

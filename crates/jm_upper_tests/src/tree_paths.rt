@@ -1,115 +1,136 @@
-ghost use Rattle.std.specs.Prelude.{◌≡◌, ◌<◌};
+//! What stands at the paths of the two trees of an image.
+ghost use Rattle.std.specs.Prelude.{◌≡◌, ◌<◌, IfOk};
+ghost use Rattle.jm_jrt.specs.Nodes.{IsOf};
 
-use crate::vectors::one;
+use crate::images::{BAD_NODE, ONE, opened};
+use crate::wanted::Wanted;
 use jm_bytes::{Meter, Steps};
-use jm_halves::NoGate;
 use jm_jrt::{Child, ChildList, JrtError, Node, children, owner, stat};
-use jm_valid::{Image, open_image};
+use jm_valid::Image;
 use std::alloc::Global;
 use std::marker::Brand;
 use std::sync::ledger::{Blank, Ledger};
-use std::test::Fail;
 use std::thread::Threads;
 
-/// `/packages` with two bytes, which are no word.
-fn bad_node() -> &'static [u8] {
-    &[
-        0xDA, 0xDA, 0xFE, 0xCA, 0, 0, 1, 0, 0, 0, 0, 0, 1, 0, 0, 0, 1, 0, 0, 0, 6, 0, 0, 0, 17, 0,
-        0, 0, 0xFF, 0xFF, 0xFF, 0xFF, 1, 0, 0, 0, 0, 24, 7, 56, 2, 0, 0, 99, 108, 97, 115, 115, 0,
-        47, 112, 97, 99, 107, 97, 103, 101, 115, 0, 104, 105,
-    ]
-}
-
-/// Puts a child behind a space: a name, or a module behind a 1 where the package is empty there and
-/// behind a 0 where it isn't.
-fn put_child(alloc: Global, given: &mut Vec<u8>, child: Child) -> Result<(), Fail> {
-    given.push(b' ')?;
+/// Meets a child behind a space: a name, or a module behind a 1 where the package is empty there
+/// and behind a 0 where it isn't.
+fn meet_child(alloc: Global, child: Child, wanted: &mut Wanted) {
+    wanted.meet(b" ");
     match child {
-        Child::Entry(name) => given.extend_from_slice(name.to_text(alloc)?.as_slice())?,
+        Child::Entry(name) => match name.to_text(alloc) {
+            Ok(text) => wanted.meet(text.as_slice()),
+            Err(_) => wanted.meet(b"?"),
+        },
         Child::Owner { empty, module } => {
-            given.push(b'0'.wrapping_add(u8::from(empty)))?;
-            given.extend_from_slice(module)?;
+            wanted.meet(if empty { b"1" } else { b"0" });
+            wanted.meet(module);
         }
     }
-    Ok(())
 }
 
-/// Puts the children of a folder.
-fn put_list<R: Ledger>(
-    alloc: Global,
-    given: &mut Vec<u8>,
-    list: ChildList,
-    reads: &mut Meter<R>,
-) -> Result<(), Fail>
+/// Meets the children of a folder.
+fn meet_list<R: Ledger>(alloc: Global, list: ChildList, reads: &mut Meter<R>, wanted: &mut Wanted)
     requires { reads.old.bytes ≡ list.bytes }
+    ensures { reads.new.bytes ≡ reads.old.bytes }
 {
     let mut list = list;
-    given.extend_from_slice(b"folder")?;
+    wanted.meet(b"folder");
     for _place in 0..list.len() {
         match list.step(reads) {
-            Some(child) => put_child(alloc, given, child)?,
-            None => return Ok(()),
+            Some(child) => meet_child(alloc, child, wanted),
+            None => return,
         }
     }
-    Ok(())
 }
 
-fn put_error(given: &mut Vec<u8>, error: JrtError) -> Result<(), Fail> {
+fn meet_error(error: JrtError, wanted: &mut Wanted) {
     match error {
-        JrtError::NotThere => given.extend_from_slice(b"NotThere")?,
-        JrtError::BadNode(0) => given.extend_from_slice(b"BadNode 0")?,
-        JrtError::BadNode(_) => given.extend_from_slice(b"BadNode")?,
-        JrtError::NotFolder => given.extend_from_slice(b"NotFolder")?,
+        JrtError::NotThere => wanted.meet(b"NotThere"),
+        JrtError::BadNode(0) => wanted.meet(b"BadNode 0"),
+        JrtError::BadNode(_) => wanted.meet(b"BadNode"),
+        JrtError::NotFolder => wanted.meet(b"NotFolder"),
     }
-    Ok(())
 }
 
-/// Puts what stands at a path of the image that these bytes are.
-fn put_stat<H: Ledger, R: Ledger>(
+/// Meets what stands at a path.
+fn meet_node<R: Ledger>(
     alloc: Global,
-    given: &mut Vec<u8>,
-    image: &Image,
-    bytes: &[u8],
-    path: &[u8],
-    hashes: Blank,
-    reads: Blank,
-) -> Result<(), Fail>
-    requires same { image.now ≡ bytes.now }
-    requires hash_name { hashes.name ≡ H.name }
-    requires hash_parts { hashes.parts ≡ H.parts }
-    requires some_hashes { 0 < hashes.parts }
-    requires read_name { reads.name ≡ R.name }
-    requires read_parts { reads.parts ≡ R.parts }
-    requires some_reads { 0 < reads.parts }
+    node: Result<Node, JrtError>,
+    reads: &mut Meter<R>,
+    wanted: &mut Wanted,
+)
+    requires { IfOk node (λ node. IsOf reads.old.bytes node) }
+    ensures { reads.new.bytes ≡ reads.old.bytes }
 {
-    let mut hashes = Steps::<H>::new(hashes);
-    let mut reads = Meter::<R>::new(bytes, reads);
-    match stat(image, path, &mut hashes, &mut reads) {
-        Err(error) => put_error(given, error),
-        Ok(Node::Folder(list)) => put_list(alloc, given, list, &mut reads),
+    match node {
+        Err(error) => meet_error(error, wanted),
+        Ok(Node::Folder(list)) => meet_list(alloc, list, reads, wanted),
         Ok(Node::File(bytes)) => {
-            given.extend_from_slice(b"file ")?;
-            given.extend_from_slice(bytes)?;
-            Ok(())
+            wanted.meet(b"file ");
+            wanted.meet(bytes);
         }
         Ok(Node::Link(module)) => {
-            given.extend_from_slice(b"link ")?;
-            given.extend_from_slice(module)?;
-            Ok(())
+            wanted.meet(b"link ");
+            wanted.meet(module);
         }
     }
 }
 
-/// Puts the children at a path of the image that these bytes are.
-fn put_children<H: Ledger, R: Ledger>(
+/// Meets the children of a folder.
+fn meet_children<R: Ledger>(
     alloc: Global,
-    given: &mut Vec<u8>,
+    list: Result<ChildList, JrtError>,
+    reads: &mut Meter<R>,
+    wanted: &mut Wanted,
+)
+    requires { IfOk list (λ list. list.bytes ≡ reads.old.bytes) }
+    ensures { reads.new.bytes ≡ reads.old.bytes }
+{
+    match list {
+        Err(error) => meet_error(error, wanted),
+        Ok(list) => meet_list(alloc, list, reads, wanted),
+    }
+}
+
+/// Meets the first owner of a package that isn't empty there.
+fn meet_owner(owner: Result<Option<&[u8]>, JrtError>, wanted: &mut Wanted) {
+    match owner {
+        Err(error) => meet_error(error, wanted),
+        Ok(None) => wanted.meet(b"none"),
+        Ok(Some(module)) => wanted.meet(module),
+    }
+}
+
+/// Meets what stands at a path, its children and the owner of the package there, with a bar between
+/// them.
+fn meet_path<H: Ledger, R: Ledger>(
+    alloc: Global,
+    image: &Image,
+    path: &[u8],
+    hashes: &mut Steps<H>,
+    reads: &mut Meter<R>,
+    wanted: &mut Wanted,
+)
+    requires { reads.old.bytes ≡ image.now }
+{
+    let node = stat(image, path, hashes, reads);
+    meet_node(alloc, node, reads, wanted);
+    wanted.meet(b"|");
+    let list = children(image, path, hashes, reads);
+    meet_children(alloc, list, reads, wanted);
+    wanted.meet(b"|");
+    meet_owner(owner(image, path, hashes, reads), wanted);
+}
+
+/// Whether an image, which these bytes are, answers a path as told.
+fn answers<H: Ledger, R: Ledger>(
+    alloc: Global,
     image: &Image,
     bytes: &[u8],
-    path: &[u8],
+    row: (&[u8], &[u8]),
     hashes: Blank,
     reads: Blank,
-) -> Result<(), Fail>
+) -> bool
     requires same { image.now ≡ bytes.now }
     requires hash_name { hashes.name ≡ H.name }
     requires hash_parts { hashes.parts ≡ H.parts }
@@ -118,114 +139,78 @@ fn put_children<H: Ledger, R: Ledger>(
     requires read_parts { reads.parts ≡ R.parts }
     requires some_reads { 0 < reads.parts }
 {
+    let (path, told) = row;
     let mut hashes = Steps::<H>::new(hashes);
     let mut reads = Meter::<R>::new(bytes, reads);
-    match children(image, path, &mut hashes, &mut reads) {
-        Err(error) => put_error(given, error),
-        Ok(list) => put_list(alloc, given, list, &mut reads),
-    }
+    let mut wanted = Wanted::new(told);
+    meet_path(alloc, image, path, &mut hashes, &mut reads, &mut wanted);
+    wanted.is_all()
 }
 
-/// Puts the first owner that isn't empty, of the package at a path of the image of these bytes.
-fn put_owner<H: Ledger, R: Ledger>(
-    given: &mut Vec<u8>,
-    image: &Image,
-    bytes: &[u8],
-    path: &[u8],
-    hashes: Blank,
-    reads: Blank,
-) -> Result<(), Fail>
-    requires same { image.now ≡ bytes.now }
-    requires hash_name { hashes.name ≡ H.name }
-    requires hash_parts { hashes.parts ≡ H.parts }
-    requires some_hashes { 0 < hashes.parts }
-    requires read_name { reads.name ≡ R.name }
-    requires read_parts { reads.parts ≡ R.parts }
-    requires some_reads { 0 < reads.parts }
-{
-    let mut hashes = Steps::<H>::new(hashes);
-    let mut reads = Meter::<R>::new(bytes, reads);
-    match owner(image, path, &mut hashes, &mut reads) {
-        Err(error) => put_error(given, error),
-        Ok(None) => {
-            given.extend_from_slice(b"none")?;
-            Ok(())
-        }
-        Ok(Some(module)) => {
-            given.extend_from_slice(module)?;
-            Ok(())
-        }
-    }
-}
-
-/// Puts the three answers for a path of the image that these bytes are, with a bar between them.
-fn put_answers(
+/// The first path that isn't answered as its row tells.
+fn unlike_path(
     alloc: Global,
-    given: &mut Vec<u8>,
     image: &Image,
     bytes: &[u8],
-    path: &[u8],
-) -> Result<(), Fail>
+    rows: &'static [(&'static str, &'static str)],
+) -> Option<&'static str>
     requires { image.now ≡ bytes.now }
 {
-    let (hashes, reads) = (Blank::new(1), Blank::new(1));
-    put_stat::<Brand, Brand>(alloc, given, image, bytes, path, hashes, reads)?;
-    given.push(b'|')?;
-    let (hashes, reads) = (Blank::new(1), Blank::new(1));
-    put_children::<Brand, Brand>(alloc, given, image, bytes, path, hashes, reads)?;
-    given.push(b'|')?;
-    let (hashes, reads) = (Blank::new(1), Blank::new(1));
-    put_owner::<Brand, Brand>(given, image, bytes, path, hashes, reads)
+    for (path, told) in rows {
+        let row = (path.as_bytes(), told.as_bytes());
+        let (hashes, reads) = (Blank::new(1), Blank::new(1));
+        if !answers::<Brand, Brand>(alloc, image, bytes, row, hashes, reads) {
+            return Some(path);
+        }
+    }
+    None
 }
 
-/// The image answers so at a path.
-fn answers<T: Threads + Sync>(
+const PATHS: &[(&str, &str)] = &[
+    (
+        "/",
+        "folder /modules /packages|folder /modules /packages|NotThere",
+    ),
+    ("/modules", "folder /modules/a|folder /modules/a|NotThere"),
+    (
+        "/packages",
+        "folder /packages/p|folder /packages/p|NotThere",
+    ),
+    (
+        "/modules/a",
+        "folder /modules/a/p|folder /modules/a/p|NotThere",
+    ),
+    ("/modules/a/p", "folder /a/p/A|folder /a/p/A|NotThere"),
+    ("/modules/a/p/A", "file hi|NotFolder|NotThere"),
+    ("/packages/p", "folder 0a|folder 0a|a"),
+    ("/packages/p/a", "link a|NotFolder|NotThere"),
+    ("/packages/p/b", "NotThere|NotThere|NotThere"),
+    ("/packages/p/a/x", "NotThere|NotThere|NotThere"),
+    ("/modules/modules/a", "NotThere|NotThere|NotThere"),
+    ("/a/p/A", "NotThere|NotThere|NotThere"),
+    ("", "NotThere|NotThere|NotThere"),
+];
+
+const BAD_PATHS: &[(&str, &str)] = &[
+    ("/packages", "BadNode 0|BadNode 0|NotThere"),
+    ("/", "folder /packages|folder /packages|NotThere"),
+];
+
+/// The first path that some bytes, which are an image, answer otherwise.
+fn unlike<T: Threads + Sync>(
     rt: &T,
     alloc: Global,
     bytes: &[u8],
-    path: &str,
-    told: &str,
-) -> Result<bool, Fail> {
-    let Ok(image) = open_image(rt, alloc, 1, bytes, &NoGate) else {
-        return Ok(false);
-    };
-    let mut given = Vec::new(alloc);
-    put_answers(alloc, &mut given, &image, bytes, path.as_bytes())?;
-    Ok(given.as_slice() == told.as_bytes())
+    rows: &'static [(&'static str, &'static str)],
+) -> Option<&'static str> {
+    match opened(rt, alloc, 1, bytes) {
+        Some(image) => unlike_path(alloc, &image, bytes, rows),
+        None => Some("no image"),
+    }
 }
 
 #[test]
-fn paths_are_answered(rt: HostRuntime) -> Result<(), Fail> {
-    let told = [
-        (
-            "/",
-            "folder /modules /packages|folder /modules /packages|NotThere",
-        ),
-        ("/modules", "folder /modules/a|folder /modules/a|NotThere"),
-        (
-            "/packages",
-            "folder /packages/p|folder /packages/p|NotThere",
-        ),
-        (
-            "/modules/a",
-            "folder /modules/a/p|folder /modules/a/p|NotThere",
-        ),
-        ("/modules/a/p", "folder /a/p/A|folder /a/p/A|NotThere"),
-        ("/modules/a/p/A", "file hi|NotFolder|NotThere"),
-        ("/packages/p", "folder 0a|folder 0a|a"),
-        ("/packages/p/a", "link a|NotFolder|NotThere"),
-        ("/packages/p/b", "NotThere|NotThere|NotThere"),
-        ("/packages/p/a/x", "NotThere|NotThere|NotThere"),
-        ("/modules/modules/a", "NotThere|NotThere|NotThere"),
-        ("/a/p/A", "NotThere|NotThere|NotThere"),
-        ("", "NotThere|NotThere|NotThere"),
-    ];
-    for (path, answer) in told {
-        assert!(rt; answers(&rt, rt.alloc(), one(), path, answer)?, "{path}");
-    }
-    let bad = "BadNode 0|BadNode 0|NotThere";
-    assert!(rt; answers(&rt, rt.alloc(), bad_node(), "/packages", bad)?);
-    let root = "folder /packages|folder /packages|NotThere";
-    assert!(rt; answers(&rt, rt.alloc(), bad_node(), "/", root)?);
-    Ok(())
+fn paths_are_answered(rt: HostRuntime) {
+    assert_eq!(rt; unlike(&rt, rt.alloc(), ONE, PATHS), None);
+    assert_eq!(rt; unlike(&rt, rt.alloc(), BAD_NODE, BAD_PATHS), None);
 }

@@ -1,5 +1,5 @@
 use Rattle.std.proofs.Common.{◌≡◌, ℕ, length}
-use Rattle.jm_upper_tests.proofs.linked.walked.Given as goal
+use Rattle.jm_upper_tests.proofs.entries.walked.Given as goal
 
 abbrev pub invariant-loop-count : goal.invariant-loop-count
 invariant-loop-count g l = record {
