@@ -1,5 +1,5 @@
 /// Where an attribute stands.
-#[derive(Clone, Copy, Debug)]
+#[derive(Clone, Copy)]
 pub enum Place {
     Class,
     Field,
@@ -8,7 +8,7 @@ pub enum Place {
 }
 
 /// A part of which the length is known.
-#[derive(Clone, Copy, Debug)]
+#[derive(Clone, Copy)]
 pub enum Item {
     /// So many bytes without a site.
     Bytes(u8),
@@ -21,7 +21,7 @@ pub enum Item {
 }
 
 /// What the body of an attribute consists of.
-#[derive(Clone, Copy, Debug)]
+#[derive(Clone, Copy)]
 pub enum Content {
     /// Any bytes, without a site.
     Any,
@@ -40,7 +40,7 @@ pub enum Content {
 }
 
 /// A part of a frame.
-#[derive(Clone, Copy, Debug)]
+#[derive(Clone, Copy)]
 pub enum FramePart {
     /// How far it is from the frame before, two bytes.
     Distance,
@@ -51,7 +51,7 @@ pub enum FramePart {
 }
 
 /// What follows an opcode.
-#[derive(Clone, Copy, Debug)]
+#[derive(Clone, Copy)]
 pub enum Operands {
     /// These items.
     Items(&'static [Item]),

@@ -10,7 +10,7 @@ use crate::site::Found;
 use jm_class::Slot;
 
 /// The numbers that a constant names.
-#[derive(Clone, Copy, Debug)]
+#[derive(Clone, Copy)]
 pub enum Names {
     None,
     One(u16),

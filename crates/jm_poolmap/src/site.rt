@@ -8,7 +8,7 @@ pub struct Site {
 }
 
 /// A site as it is met: with the number that stands there.
-#[derive(Clone, Copy, Debug)]
+#[derive(Clone, Copy)]
 pub struct Found {
     pub place: u64,
     pub wide: bool,

@@ -3,7 +3,7 @@ ghost use Rattle.std.specs.Prelude.{◌≡◌};
 use jm_bytes::NoMemory;
 
 /// Why a class has no sites, or none were found.
-#[derive(Clone, Copy, Debug, PartialEq, Eq)]
+#[derive(Clone, Copy)]
 pub enum Stop {
     /// A part of the class isn't of the form that is known.
     Unknown,

@@ -13,7 +13,7 @@ use jm_bytes::List;
 use jm_class::Cursor;
 
 /// How far a walk over a class has come: the sites so far, and the place in its text.
-#[derive(Debug, Drop)]
+#[derive(Drop)]
 pub struct Walk {
     pub found: List<Found>,
     pub place: usize,
@@ -45,7 +45,7 @@ pub fn note(walk: &mut Walk, optional: bool, number: u16) -> Result<(), Stop>
 }
 
 /// What some bytes are, all of them.
-#[derive(Clone, Copy, Debug)]
+#[derive(Clone, Copy)]
 pub enum Kind {
     /// The body of an attribute.
     Body(Content),
