@@ -3,6 +3,7 @@
 
 mod attributes;
 mod bodies;
+mod cursor;
 mod finding;
 mod forms;
 mod frames;
