@@ -1,76 +1,89 @@
+use crate::class_bytes::{
+    GENERATED, LONG, SMALLEST, STRIPPED, WITH_DEBUG, WITH_SOURCE, WITHOUT_DEBUG, WITHOUT_SOURCE,
+    replaced,
+};
 use jm_class::{Body, Class, ClassFault, ReadError, read, utf8};
+use jm_classout::{size, write};
+use jm_strip::strip;
 use std::alloc::Global;
 use std::test::Fail;
 
-/// No constant, member or attribute.
-const SMALLEST: [u8; 24] = [
-    0xCA, 0xFE, 0xBA, 0xBE, 0, 0, 0, 0x34, 0, 1, 0, 0, 0, 0, 0, 0, 0, 0, 0, 0, 0, 0, 0, 0,
+/// A class, a stretch of it, what is put in its place, and the fault that comes of it.
+const FAULTS: &[(&[u8], usize, usize, &[u8], ClassFault)] = &[
+    (&SMALLEST, 0, 1, &[0], ClassFault::Magic),
+    (&SMALLEST, 3, 24, &[], ClassFault::Short(0)),
+    (&SMALLEST, 7, 8, &[44], ClassFault::Version(44)),
+    (&SMALLEST, 7, 8, &[66], ClassFault::Version(66)),
+    (&SMALLEST, 8, 24, &[255, 255], ClassFault::Short(10)),
+    (&SMALLEST, 9, 10, &[0], ClassFault::Index(8)),
+    (&SMALLEST, 9, 10, &[2], ClassFault::Tag(10)),
+    (&SMALLEST, 17, 18, &[1], ClassFault::Short(24)),
+    (&SMALLEST, 19, 20, &[1], ClassFault::Short(24)),
+    (&SMALLEST, 23, 24, &[1], ClassFault::Short(24)),
+    (&GENERATED, 0, 1, &[0], ClassFault::Magic),
+    (&GENERATED, 7, 8, &[44], ClassFault::Version(44)),
+    (&GENERATED, 9, 10, &[12], ClassFault::Index(112)),
+    (&GENERATED, 142, 143, &[13], ClassFault::Index(141)),
+    (&GENERATED, 143, 144, &[1], ClassFault::Short(147)),
+    (&GENERATED, 146, 147, &[27], ClassFault::CodeLength(143)),
+    (&GENERATED, 146, 147, &[29], ClassFault::CodeLength(143)),
+    (&GENERATED, 154, 155, &[5], ClassFault::Index(164)),
+    (&GENERATED, 164, 165, &[11], ClassFault::Index(163)),
+    (&GENERATED, 176, 177, &[0], ClassFault::Rest(177)),
+    (&GENERATED, 178, 179, &[0], ClassFault::Index(177)),
 ];
 
-/// A class of one method with a Code, which has a line number table, and with a source file.
-const GENERATED: [u8; 185] = [
-    0xCA, 0xFE, 0xBA, 0xBE, 0x00, 0x00, 0x00, 0x3D, 0x00, 0x0D, 0x01, 0x00, 0x0D, 0x6D, 0x30, 0x30,
-    0x30, 0x2F, 0x70, 0x30, 0x2F, 0x43, 0x30, 0x30, 0x30, 0x30, 0x07, 0x00, 0x01, 0x01, 0x00, 0x10,
-    0x6A, 0x61, 0x76, 0x61, 0x2F, 0x6C, 0x61, 0x6E, 0x67, 0x2F, 0x4F, 0x62, 0x6A, 0x65, 0x63, 0x74,
-    0x07, 0x00, 0x03, 0x01, 0x00, 0x01, 0x76, 0x01, 0x00, 0x03, 0x28, 0x29, 0x4A, 0x01, 0x00, 0x04,
-    0x43, 0x6F, 0x64, 0x65, 0x01, 0x00, 0x0F, 0x4C, 0x69, 0x6E, 0x65, 0x4E, 0x75, 0x6D, 0x62, 0x65,
-    0x72, 0x54, 0x61, 0x62, 0x6C, 0x65, 0x01, 0x00, 0x0A, 0x53, 0x6F, 0x75, 0x72, 0x63, 0x65, 0x46,
-    0x69, 0x6C, 0x65, 0x01, 0x00, 0x0A, 0x43, 0x30, 0x30, 0x30, 0x30, 0x2E, 0x6A, 0x61, 0x76, 0x61,
-    0x05, 0x14, 0x05, 0x7B, 0x7E, 0xF7, 0x67, 0x81, 0x4F, 0x00, 0x21, 0x00, 0x02, 0x00, 0x04, 0x00,
-    0x00, 0x00, 0x00, 0x00, 0x01, 0x00, 0x09, 0x00, 0x05, 0x00, 0x06, 0x00, 0x01, 0x00, 0x07, 0x00,
-    0x00, 0x00, 0x1C, 0x00, 0x02, 0x00, 0x00, 0x00, 0x00, 0x00, 0x04, 0x14, 0x00, 0x0B, 0xAD, 0x00,
-    0x00, 0x00, 0x01, 0x00, 0x08, 0x00, 0x00, 0x00, 0x06, 0x00, 0x01, 0x00, 0x00, 0x00, 0x01, 0x00,
-    0x01, 0x00, 0x09, 0x00, 0x00, 0x00, 0x02, 0x00, 0x0A,
+#[test]
+fn a_change_makes_a_fault(rt: HostRuntime) -> Result<(), Fail> {
+    for (class, start, end, put, fault) in FAULTS {
+        let bytes = replaced(rt.alloc(), class, *start, *end, put)?;
+        let due = Some(ReadError::Fault(*fault));
+        let found = read(rt.alloc(), bytes.as_slice()).err();
+        assert_eq!(rt; found, due, "{put:?} at {start} is read");
+        let found = strip(rt.alloc(), bytes.as_slice()).err();
+        assert_eq!(rt; found, due, "{put:?} at {start} is stripped");
+    }
+    Ok(())
+}
+
+/// Classes, and what is left of them without their debug information.
+const STRIPS: &[(&str, &[u8], &[u8])] = &[
+    ("the smallest", &SMALLEST, &SMALLEST),
+    ("of one Long", &LONG, &LONG),
+    ("a generated one", &GENERATED, &STRIPPED),
+    ("a generated one, stripped", &STRIPPED, &STRIPPED),
+    ("with debug information", &WITH_DEBUG, &WITHOUT_DEBUG),
+    ("without debug information", &WITHOUT_DEBUG, &WITHOUT_DEBUG),
+    ("with a source file", &WITH_SOURCE, &WITHOUT_SOURCE),
+    ("without a source file", &WITHOUT_SOURCE, &WITHOUT_SOURCE),
 ];
 
-fn refusal(alloc: Global, bytes: &[u8]) -> Option<ReadError> {
-    read(alloc, bytes).err()
+/// Whether the text of a class is these bytes, and has their length.
+fn comes_back(alloc: Global, bytes: &[u8]) -> bool {
+    let Ok(class) = read(alloc, bytes) else {
+        return false;
+    };
+    let len = size(&class);
+    match write(alloc, &class) {
+        Ok(text) => text.as_slice() == bytes && len == bytes.len() as u64,
+        Err(_) => false,
+    }
+}
+
+/// Whether what is left of some bytes is these.
+fn gives(alloc: Global, bytes: &[u8], left: &[u8]) -> bool {
+    match strip(alloc, bytes) {
+        Ok(text) => text.as_slice() == left,
+        Err(_) => false,
+    }
 }
 
 #[test]
-fn one_byte_makes_a_fault(rt: HostRuntime) {
-    for (at, byte, fault) in [
-        (0, 0, ClassFault::Magic),
-        (7, 44, ClassFault::Version(44)),
-        (7, 66, ClassFault::Version(66)),
-        (9, 0, ClassFault::Index(8)),
-        (9, 2, ClassFault::Tag(10)),
-        (17, 1, ClassFault::Short(24)),
-        (19, 1, ClassFault::Short(24)),
-        (23, 1, ClassFault::Short(24)),
-    ] {
-        let mut bytes = SMALLEST;
-        bytes[at] = byte;
-        assert_eq!(rt;
-            refusal(rt.alloc(), &bytes),
-            Some(ReadError::Fault(fault)),
-            "{at}"
-        );
+fn classes_are_written_and_stripped(rt: HostRuntime) {
+    for (name, given, left) in STRIPS {
+        assert!(rt; comes_back(rt.alloc(), given), "{name} is written");
+        assert!(rt; gives(rt.alloc(), given, left), "{name} is stripped");
     }
-    for (at, byte, fault) in [
-        (9, 12, ClassFault::Index(112)),
-        (142, 13, ClassFault::Index(141)),
-        (143, 1, ClassFault::Short(147)),
-        (146, 27, ClassFault::CodeLength(143)),
-        (146, 29, ClassFault::CodeLength(143)),
-        (154, 5, ClassFault::Index(164)),
-        (164, 11, ClassFault::Index(163)),
-        (176, 0, ClassFault::Rest(177)),
-        (178, 0, ClassFault::Index(177)),
-    ] {
-        let mut bytes = GENERATED;
-        bytes[at] = byte;
-        assert_eq!(rt;
-            refusal(rt.alloc(), &bytes),
-            Some(ReadError::Fault(fault)),
-            "{at}"
-        );
-    }
-    assert_eq!(rt; refusal(rt.alloc(), &SMALLEST), None);
-    assert_eq!(rt;
-        refusal(rt.alloc(), &SMALLEST[..3]),
-        Some(ReadError::Fault(ClassFault::Short(0)))
-    );
 }
 
 /// Whether the one method has one Code of these instructions.
@@ -87,19 +100,22 @@ fn has_code(class: &Class, code: &[u8]) -> bool {
     }
 }
 
+/// Numbers of constants of the generated class, and their texts.
+const TEXTS: &[(u16, Option<&[u8]>)] = &[
+    (5, Some(b"v")),
+    (0, None),
+    (4, None),
+    (12, None),
+    (13, None),
+];
+
 #[test]
 fn a_class_has_its_parts(rt: HostRuntime) -> Result<(), Fail> {
     let class = read(rt.alloc(), &GENERATED)?;
     assert_eq!(rt; class.pool.len(), 12);
     assert!(rt; has_code(&class, &[0x14, 0, 0x0B, 0xAD]));
-    for (index, text) in [
-        (5, Some(b"v".as_slice())),
-        (0, None),
-        (4, None),
-        (12, None),
-        (13, None),
-    ] {
-        assert_eq!(rt; utf8(&class, index), text, "{index}");
+    for (index, text) in TEXTS {
+        assert_eq!(rt; utf8(&class, *index), *text, "constant {index}");
     }
     Ok(())
 }

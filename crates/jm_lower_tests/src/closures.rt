@@ -1,97 +1,21 @@
+ghost use Rattle.jm_closure.specs.Names.{NamesDiffer};
+
+use crate::candidates::candidates;
+use crate::texts::{say, texts_of};
+use jm_bind::bind;
 use jm_bytes::{List, NoMemory, Text};
 use jm_closure::{Candidate, CloseError, close, names_differ};
-use jm_modinfo::{Descriptor, Need};
 use std::alloc::Global;
 use std::test::Fail;
 
-/// A name that is required, without `static` or, behind a `~`, with it.
-fn need(alloc: Global, word: &str) -> Result<Need, NoMemory> {
-    let (name, flags) = match word.strip_prefix("~") {
-        Some(name) => (name, 0x0040),
-        None => (word, 0x8000),
-    };
-    Ok(Need {
-        name: Text::copy_of(alloc, name.as_bytes())?,
-        flags,
-        version: None,
-    })
-}
-
-/// A module, as words: its name, the names that it requires, and behind a `/` a package.
-fn candidate(alloc: Global, line: &str) -> Result<Candidate, NoMemory> {
-    let mut name = Text::new(alloc);
-    let mut needs = List::new(alloc);
-    let mut packages = List::new(alloc);
-    for (place, word) in line.split(' ').enumerate() {
-        if place == 0 {
-            name = Text::copy_of(alloc, word.as_bytes())?;
-        } else if let Some(package) = word.strip_prefix("/") {
-            packages.push(Text::copy_of(alloc, package.as_bytes())?)?;
-        } else {
-            needs.push(need(alloc, word)?)?;
-        }
-    }
-    let descriptor = Descriptor {
-        name,
-        version: None,
-        flags: 0,
-        needs,
-        exports: List::new(alloc),
-        opens: List::new(alloc),
-        uses: List::new(alloc),
-        provides: List::new(alloc),
-        main: None,
-    };
-    Ok(Candidate {
-        descriptor,
-        packages,
-    })
-}
-
-fn candidates(alloc: Global, lines: &str) -> Result<List<Candidate>, NoMemory> {
-    let mut found = List::new(alloc);
-    for line in lines.split(',') {
-        found.push(candidate(alloc, line)?)?;
-    }
-    Ok(found)
-}
-
-fn roots(alloc: Global, words: &str) -> Result<List<Text>, NoMemory> {
-    let mut roots = List::new(alloc);
-    for word in words.split(' ') {
-        roots.push(Text::copy_of(alloc, word.as_bytes())?)?;
-    }
-    Ok(roots)
-}
-
-/// Adds words to a text, with a space in front of each but the first.
-fn say(out: &mut Vec<u8>, words: &[&[u8]]) -> Result<(), NoMemory> {
-    for word in words {
-        if !out.is_empty() && out.push(b' ').is_err() {
-            return Err(NoMemory);
-        }
-        if out.extend_from_slice(word).is_err() {
-            return Err(NoMemory);
-        }
-    }
-    Ok(())
-}
-
-/// The names of an answer, or its refusal in words.
-fn told(
+/// Says the names of an answer, or its refusal.
+fn tell(
     out: &mut Vec<u8>,
     found: &[Candidate],
     answer: &Result<List<usize>, CloseError>,
 ) -> Result<(), NoMemory> {
     match answer {
-        Ok(places) => {
-            for place in places.as_slice() {
-                if let Some(one) = found.get(*place) {
-                    say(out, &[one.descriptor.name.as_slice()])?;
-                }
-            }
-            Ok(())
-        }
+        Ok(places) => tell_names(out, found, places.as_slice()),
         Err(CloseError::NoRoot(name)) => say(out, &[b"NoRoot", name.as_slice()]),
         Err(CloseError::Missing { name, by }) => {
             say(out, &[b"Missing", name.as_slice(), by.as_slice()])
@@ -116,27 +40,60 @@ fn told(
     }
 }
 
-/// What `close` answers, in words.
-fn answered(alloc: Global, found: &[Candidate], roots: &[Text]) -> Result<Vec<u8>, NoMemory> {
-    let mut out = Vec::new(alloc);
-    if names_differ(alloc, found)? {
-        let answer = close(alloc, found, roots);
-        told(&mut out, found, &answer)?;
-    } else {
-        say(&mut out, &[b"one name twice"])?;
+/// Says the names of the modules at these places.
+fn tell_names(out: &mut Vec<u8>, found: &[Candidate], places: &[usize]) -> Result<(), NoMemory> {
+    for place in places {
+        if let Some(one) = found.get(*place) {
+            say(out, &[one.descriptor.name.as_slice()])?;
+        }
     }
+    Ok(())
+}
+
+/// Says what `close` answers, or what `bind` does and behind a `|` what `close` does.
+fn tell_answers(
+    alloc: Global,
+    out: &mut Vec<u8>,
+    found: &[Candidate],
+    roots: &[Text],
+    binds: bool,
+) -> Result<(), NoMemory>
+    requires { NamesDiffer found.now }
+{
+    if binds {
+        tell(out, found, &bind(alloc, found, roots))?;
+        say(out, &[b"|"])?;
+    }
+    tell(out, found, &close(alloc, found, roots))
+}
+
+/// Says the same, or that two modules have one name.
+fn tell_all(
+    alloc: Global,
+    out: &mut Vec<u8>,
+    found: &[Candidate],
+    roots: &[Text],
+    binds: bool,
+) -> Result<(), NoMemory> {
+    if names_differ(alloc, found)? {
+        tell_answers(alloc, out, found, roots, binds)
+    } else {
+        say(out, &[b"one name twice"])
+    }
+}
+
+/// What is answered for modules and roots that are given in words.
+fn answers(alloc: Global, lines: &str, words: &str, binds: bool) -> Result<Vec<u8>, NoMemory> {
+    let found = candidates(alloc, lines)?;
+    let roots = texts_of(alloc, words)?;
+    let mut out = Vec::new(alloc);
+    tell_all(alloc, &mut out, found.as_slice(), roots.as_slice(), binds)?;
     Ok(out)
 }
 
-/// What `close` answers for modules and roots that are given in words.
-fn answer(alloc: Global, lines: &str, words: &str) -> Result<Vec<u8>, NoMemory> {
-    let found = candidates(alloc, lines)?;
-    let roots = roots(alloc, words)?;
-    answered(alloc, found.as_slice(), roots.as_slice())
-}
-
-/// Graphs, roots and answers, these as a reader of the rules finds them.
-const GRAPHS: [(&str, &str, &str); 30] = [
+/// Graphs, roots and answers: of `close` alone, as a reader of the rules finds them, or of `bind`
+/// and behind a `|` of `close`, found by going through all sets of modules.
+const GRAPHS: &[(&str, &str, &str)] = &[
     // The first of two directories has the module, with what it requires.
     ("a b,b", "a", "a b"),
     ("a z,b", "a", "Missing z a"),
@@ -176,12 +133,65 @@ const GRAPHS: [(&str, &str, &str); 30] = [
     ("bb,b bb,ba b", "ba", "b ba bb"),
     ("d,c d d,b c d,a b", "d a", "a b c d"),
     ("a,a b,b", "a", "one name twice"),
+    // Two rounds of binding, and what they are refused for.
+    ("a ?s/S,b !s/S c,c ?t/T,d !t/T,e !u/U", "a", "a b c d | a"),
+    ("a ?s/S,b !s/S c,d !t/T,e !u/U", "a", "Missing c b | a"),
+    ("a ?s/S,b !s/S c a,c ?t/T,d !t/T,e !u/U", "a", "a b c d | a"),
+    ("a ?s/S,b !s/S c,c ?t/T,d !t/T b,e !u/U", "a", "a b c d | a"),
+    ("a ?s/S,b !s/S c,c ?t/T b,d !t/T,e !u/U", "a", "Cycle b | a"),
+    // A provider of what nobody uses, or what only an unbound module uses, is not bound.
+    ("a,b !S", "a", "a | a"),
+    ("a,b ?S,c !S", "a", "a | a"),
+    ("a !S,b ?S", "a", "a | a"),
+    ("a ?S", "a", "a | a"),
+    // All providers, each once, rising by name; the user may be one.
+    ("d !S,a ?S,c !S,b !T !S", "a", "a b c d | a"),
+    ("a ?S !S,b !S", "a", "a b | a"),
+    ("a ?S ?S ?T,b !S !S !T", "a", "a b | a"),
+    // A service is compared by its bytes.
+    ("a ?S,b !SS,c !s", "a", "a | a"),
+    ("a ?s/S,b !s.S,c !s/S", "a", "a c | a"),
+    // What a provider requires comes with it, but not with `static` alone.
+    ("a ?S,b !S ~c,c", "a", "a b | a"),
+    ("a ?S,b !S ~x", "a", "a b | a"),
+    ("a ?S,b !S c,c ~d ?T,d,e !T d", "a", "a b c d e | a"),
+    ("a ~b,b ?S,c !S", "a", "a | a"),
+    // Roots: each of them, none that isn't found.
+    ("a ?S,b ?T,c !S,d !T", "b a", "a b c d | a b"),
+    ("a ?S,b ?T,c !S,d !T", "b", "b d | b"),
+    ("a ?S,b !S", "b", "b | b"),
+    ("a ?S,b !S z", "c a", "NoRoot c | NoRoot c"),
+    // The least missing name of bound modules, and the least that requires it.
+    ("a ?S y,b !S x", "a", "Missing x b | Missing y a"),
+    ("d !S z,c !S z,a ?S,b z", "a", "Missing z c | a"),
+    // Uses and provides make no cycle; requires do, behind them too.
+    ("a ?S !T,b !S ?T", "a", "a b | a"),
+    ("a ?S,b !S a", "a", "a b | a"),
+    ("a ?S,c !S b,b c", "a", "Cycle b | a"),
+    ("a ?S b,b !S b", "a", "Cycle b | Cycle b"),
+    ("a ?S,b !S,c c", "a", "a b | a"),
+    // The least package of two bound modules.
+    ("a ?S /p,b !S /p", "a", "SplitPackage p a b | a"),
+    (
+        "a ?S,c !S /q /p,b !S /q,d !T /p",
+        "a",
+        "SplitPackage q b c | a",
+    ),
+    ("a ?S /p,b !S x /p", "a", "Missing x b | a"),
+    ("a ?S /p,b !S b /p", "a", "Cycle b | a"),
+    // A long way over several services.
+    (
+        "f !E /p,e !D ?E,d !C ?D,c !B ?C,b !A ?B,a ?A",
+        "a",
+        "a b c d e f | a",
+    ),
+    ("f !E,e !D ?E,d ?D,c !B ?C,b !A ?B,a ?A", "a", "a b c | a"),
 ];
 
 #[test]
-fn close_answers_by_the_rules(rt: HostRuntime) -> Result<(), Fail> {
+fn modules_are_closed_and_bound(rt: HostRuntime) -> Result<(), Fail> {
     for (lines, words, expected) in GRAPHS {
-        let told = answer(rt.alloc(), lines, words)?;
+        let told = answers(rt.alloc(), lines, words, expected.contains('|'))?;
         assert_eq!(rt;
             told.as_slice(),
             expected.as_bytes(),

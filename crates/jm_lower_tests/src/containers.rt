@@ -7,6 +7,18 @@ const HEADER: [u8; 28] = [
     0xDA, 0xDA, 0xFE, 0xCA, 0, 0, 1, 0, 7, 0, 0, 0, 1, 0, 0, 0, 0, 0, 0, 0, 0, 0, 0, 0, 0, 0, 0, 0,
 ];
 
+/// A place of the header, the byte that is put there, and the fault that comes of it.
+const FAULTS: &[(usize, u8, HeaderFault)] = &[
+    (0, 0, HeaderFault::Magic),
+    (3, 0xDA, HeaderFault::Magic),
+    (4, 1, HeaderFault::Version(0x0001_0001)),
+    (6, 2, HeaderFault::Version(0x0002_0000)),
+    (16, 1, HeaderFault::Sizes),
+    (20, 1, HeaderFault::Sizes),
+    (24, 1, HeaderFault::Sizes),
+    (27, 0xFF, HeaderFault::Sizes),
+];
+
 #[test]
 fn headers_are_read(rt: HostRuntime) {
     let header = Header {
@@ -20,19 +32,12 @@ fn headers_are_read(rt: HostRuntime) {
     assert_eq!(rt; read_header(&HEADER), Ok(header));
     assert_eq!(rt; read_header(&HEADER[..27]), Err(HeaderFault::Short));
     assert_eq!(rt; read_header(&[]), Err(HeaderFault::Short));
-    for (place, byte, fault) in [
-        (0, 0, HeaderFault::Magic),
-        (3, 0xDA, HeaderFault::Magic),
-        (4, 1, HeaderFault::Version(0x0001_0001)),
-        (6, 2, HeaderFault::Version(0x0002_0000)),
-        (16, 1, HeaderFault::Sizes),
-        (20, 1, HeaderFault::Sizes),
-        (24, 1, HeaderFault::Sizes),
-        (27, 0xFF, HeaderFault::Sizes),
-    ] {
+    for (place, byte, fault) in FAULTS {
         let mut bytes = HEADER;
-        bytes[place] = byte;
-        assert_eq!(rt; read_header(&bytes), Err(fault), "byte {place} as {byte}");
+        if let Some(place) = bytes.get_mut(*place) {
+            *place = *byte;
+        }
+        assert_eq!(rt; read_header(&bytes), Err(*fault), "{byte} at {place}");
     }
 }
 
@@ -56,102 +61,81 @@ fn the_big_order_is_read(rt: HostRuntime) {
     assert_eq!(rt; header.contents_place(), 31);
 }
 
-#[test]
-fn rows_are_read(rt: HostRuntime) {
-    let blank = Row {
-        module: 0,
-        parent: 0,
-        base: 0,
-        ext: 0,
-        offset: 0,
-        packed: 0,
-        size: 0,
-    };
-    let row = Row {
-        module: 7,
-        base: 9,
-        offset: 300,
-        size: 2,
-        ..blank
-    };
-    let largest = Row {
-        size: u64::MAX,
-        ..blank
-    };
-    let usual = [8, 7, 24, 9, 0x29, 1, 0x2C, 56, 2, 0];
-    for end in 0..10 {
-        assert_eq!(rt; read_row(&usual[..end]), None, "the first {end} bytes");
-    }
-    let cases: [(&[u8], Option<(Row, usize)>); 9] = [
-        (&usual, Some((row, 10))),
-        (
-            &[8, 7, 24, 9, 0x2A, 0, 1, 0x2C, 56, 2, 7, 8],
-            Some((row, 11)),
-        ),
-        (&[0], Some((blank, 1))),
-        (&[7, 8], Some((blank, 1))),
-        (&[8, 0, 0], Some((blank, 3))),
-        (&[8, 1, 8, 2, 0], None),
-        (&[24, 1, 8, 2, 0], None),
-        (&[64, 1, 0], None),
-        (
-            &[0x3F, 255, 255, 255, 255, 255, 255, 255, 255, 0],
-            Some((largest, 10)),
-        ),
-    ];
-    for (bytes, read) in cases {
-        assert_eq!(rt; read_row(bytes), read, "{bytes:?}");
-    }
-}
+const BLANK: Row = Row {
+    module: 0,
+    parent: 0,
+    base: 0,
+    ext: 0,
+    offset: 0,
+    packed: 0,
+    size: 0,
+};
+
+const USUAL: Row = Row {
+    module: 7,
+    base: 9,
+    offset: 300,
+    size: 2,
+    ..BLANK
+};
+
+const PACKED: Row = Row {
+    parent: 0x100,
+    ext: 0xFF,
+    packed: 0xFF_FFFF,
+    ..BLANK
+};
+
+const LARGEST: Row = Row {
+    size: u64::MAX,
+    ..BLANK
+};
+
+/// Rows, and the bytes that are written for them.
+const WRITTEN: &[(Row, &[u8])] = &[
+    (BLANK, &[0]),
+    (USUAL, &[8, 7, 0x18, 9, 0x29, 1, 0x2C, 0x38, 2, 0]),
+    (PACKED, &[0x11, 1, 0, 0x20, 255, 0x32, 255, 255, 255, 0]),
+    (LARGEST, &[0x3F, 255, 255, 255, 255, 255, 255, 255, 255, 0]),
+];
 
 #[test]
 fn rows_are_written(rt: HostRuntime) -> Result<(), Fail> {
-    let blank = Row {
-        module: 0,
-        parent: 0,
-        base: 0,
-        ext: 0,
-        offset: 0,
-        packed: 0,
-        size: 0,
-    };
-    let cases: [(Row, &[u8]); 4] = [
-        (
-            Row {
-                module: 7,
-                base: 9,
-                offset: 300,
-                size: 2,
-                ..blank
-            },
-            &[8, 7, 0x18, 9, 0x29, 1, 0x2C, 0x38, 2, 0],
-        ),
-        (blank, &[0]),
-        (
-            Row {
-                parent: 0x100,
-                ext: 0xFF,
-                packed: 0xFF_FFFF,
-                ..blank
-            },
-            &[0x11, 1, 0, 0x20, 255, 0x32, 255, 255, 255, 0],
-        ),
-        (
-            Row {
-                size: u64::MAX,
-                ..blank
-            },
-            &[0x3F, 255, 255, 255, 255, 255, 255, 255, 255, 0],
-        ),
-    ];
-    for (row, bytes) in cases {
-        let text = write_row(rt.alloc(), &row)?;
-        assert_eq!(rt; text.as_slice(), bytes, "{row:?}");
-        assert_eq!(rt;
-            read_row(text.as_slice()),
-            Some((row, bytes.len())),
-            "{row:?}"
-        );
+    for (row, bytes) in WRITTEN {
+        let text = write_row(rt.alloc(), row)?;
+        assert_eq!(rt; text.as_slice(), *bytes, "{row:?}");
+        assert_eq!(rt; read_row(bytes), Some((*row, bytes.len())), "{row:?}");
     }
     Ok(())
+}
+
+/// Bytes, and the row that stands at their front with its length.
+const READ: &[(&[u8], Option<(Row, usize)>)] = &[
+    (
+        &[8, 7, 24, 9, 0x2A, 0, 1, 0x2C, 56, 2, 7, 8],
+        Some((USUAL, 11)),
+    ),
+    (&[7, 8], Some((BLANK, 1))),
+    (&[8, 0, 0], Some((BLANK, 3))),
+    (&[8, 1, 8, 2, 0], None),
+    (&[24, 1, 8, 2, 0], None),
+    (&[64, 1, 0], None),
+    // Fronts of a row.
+    (&[], None),
+    (&[8], None),
+    (&[8, 7], None),
+    (&[8, 7, 24], None),
+    (&[8, 7, 24, 9], None),
+    (&[8, 7, 24, 9, 0x29], None),
+    (&[8, 7, 24, 9, 0x29, 1], None),
+    (&[8, 7, 24, 9, 0x29, 1, 0x2C], None),
+    (&[8, 7, 24, 9, 0x29, 1, 0x2C, 56], None),
+    (&[8, 7, 24, 9, 0x29, 1, 0x2C, 56, 2], None),
+];
+
+#[test]
+fn rows_are_read(rt: HostRuntime) {
+    for (bytes, read) in READ {
+        assert_eq!(rt; read_row(bytes), *read, "{bytes:?}");
+    }
 }

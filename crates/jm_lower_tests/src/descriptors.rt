@@ -1,82 +1,109 @@
-use jm_bytes::{List, NoMemory, Text};
-use jm_class::{ClassFault, read};
-use jm_modinfo::{DescriptorFault, InfoError, InfoFault, Need, describe, write_info};
+use crate::class_bytes::{ALONE, replaced};
+use crate::texts::say;
+use jm_bytes::{List, NoMemory, Text, copy_of, extend};
+use jm_class::{ClassFault, ReadError, read};
+use jm_modinfo::{Descriptor, DescriptorFault, InfoError, InfoFault, Need, describe, write_info};
 use std::alloc::Global;
+use std::test::Fail;
 
-/// A module `a` that requires nothing.
-const ALONE: [u8; 79] = [
-    0xCA, 0xFE, 0xBA, 0xBE, 0x00, 0x00, 0x00, 0x35, 0x00, 0x06, 0x01, 0x00, 0x0B, 0x6D, 0x6F, 0x64,
-    0x75, 0x6C, 0x65, 0x2D, 0x69, 0x6E, 0x66, 0x6F, 0x07, 0x00, 0x01, 0x01, 0x00, 0x06, 0x4D, 0x6F,
-    0x64, 0x75, 0x6C, 0x65, 0x01, 0x00, 0x01, 0x61, 0x13, 0x00, 0x04, 0x80, 0x00, 0x00, 0x02, 0x00,
-    0x00, 0x00, 0x00, 0x00, 0x00, 0x00, 0x00, 0x00, 0x01, 0x00, 0x03, 0x00, 0x00, 0x00, 0x10, 0x00,
-    0x05, 0x00, 0x00, 0x00, 0x00, 0x00, 0x00, 0x00, 0x00, 0x00, 0x00, 0x00, 0x00, 0x00, 0x00,
+/// The name of the attribute that tells a main class, with its length.
+const MAIN: &[u8] = b"\x00\x0FModuleMainClass";
+
+/// Stretches of the module with what is put in their place, the last one first, and the fault that
+/// comes of it. Constant 2 is a class.
+const FAULTS: &[(&str, &[(usize, usize, &[u8])], Option<InfoFault>)] = &[
+    ("the module", &[], None),
+    (
+        "another flag",
+        &[(43, 44, b"\x00")],
+        Some(InfoFault::NotModule),
+    ),
+    (
+        "version 52",
+        &[(7, 8, b"\x34")],
+        Some(InfoFault::OldVersion(52)),
+    ),
+    (
+        "an attribute of another name",
+        &[(30, 31, b"\x6E")],
+        Some(InfoFault::NoModule),
+    ),
+    (
+        "a name that is no module",
+        &[(64, 65, b"\x04")],
+        Some(InfoFault::Index(0)),
+    ),
+    (
+        "a version that is no text",
+        &[(68, 69, b"\x05")],
+        Some(InfoFault::Index(4)),
+    ),
+    (
+        "a provided service that isn't there",
+        &[(78, 79, b"\x01")],
+        Some(InfoFault::Short(16)),
+    ),
+    (
+        "a name that isn't legal",
+        &[(39, 40, b"\x2C")],
+        Some(InfoFault::Name(0)),
+    ),
+    (
+        "two attributes",
+        &[(79, 79, b"\0\x03\0\0\0\0"), (55, 57, b"\0\x02")],
+        Some(InfoFault::TwoModule),
+    ),
+    (
+        "two bytes too many",
+        &[(79, 79, b"\0\0"), (62, 63, b"\x12")],
+        Some(InfoFault::Rest(16)),
+    ),
+    (
+        "a main class that is none",
+        &[
+            (79, 79, b"\0\x01\0\0\0\x02\0\x03"),
+            (55, 57, b"\0\x02"),
+            (11, 24, MAIN),
+        ],
+        Some(InfoFault::Main),
+    ),
+    (
+        "a main class",
+        &[
+            (79, 79, b"\0\x01\0\0\0\x02\0\x02"),
+            (55, 57, b"\0\x02"),
+            (11, 24, MAIN),
+        ],
+        None,
+    ),
 ];
 
-/// The fault of the class as a descriptor that these parts make in a row.
-fn refusal(alloc: Global, parts: &[&[u8]]) -> Option<InfoError> {
-    let mut bytes = Text::new(alloc);
-    for part in parts {
-        for byte in *part {
-            if bytes.push(*byte).is_err() {
-                return Some(InfoError::Memory);
-            }
-        }
+/// The module with other bytes in place of some of its stretches.
+fn changed(alloc: Global, stretches: &[(usize, usize, &[u8])]) -> Result<Vec<u8>, NoMemory> {
+    let mut bytes = copy_of(alloc, &ALONE)?;
+    for (start, end, put) in stretches {
+        bytes = replaced(alloc, bytes.as_slice(), *start, *end, put)?;
     }
-    match read(alloc, bytes.as_slice()) {
-        Ok(class) => describe(alloc, &class).err(),
-        Err(_) => None,
-    }
+    Ok(bytes)
 }
 
-/// The parts of the class with a ModuleMainClass of these two bytes. Constant 2 is a class.
-fn with_main<'a>(index: &'a [u8]) -> [&'a [u8]; 7] {
-    [
-        &ALONE[..11],
-        b"\x00\x0FModuleMainClass",
-        &ALONE[24..55],
-        &[0, 2],
-        &ALONE[57..],
-        &[0, 1, 0, 0, 0, 2],
-        index,
-    ]
+/// The fault of a class as a descriptor.
+fn refusal(alloc: Global, bytes: &[u8]) -> Result<Option<InfoError>, ReadError> {
+    let class = read(alloc, bytes)?;
+    Ok(describe(alloc, &class).err())
 }
 
 #[test]
-fn the_first_fault_is_told(rt: HostRuntime) {
-    for (at, byte, fault) in [
-        (43, 0x00, InfoFault::NotModule),
-        (7, 0x34, InfoFault::OldVersion(52)),
-        (30, 0x6E, InfoFault::NoModule),
-        (64, 0x04, InfoFault::Index(0)),
-        (68, 0x05, InfoFault::Index(4)),
-        (78, 0x01, InfoFault::Short(16)),
-        (39, 0x2C, InfoFault::Name(0)),
-    ] {
-        let parts = [&ALONE[..at], &[byte], &ALONE[at + 1..]];
-        assert_eq!(rt;
-            refusal(rt.alloc(), &parts),
-            Some(InfoError::Fault(fault)),
-            "{at}"
-        );
+fn the_first_fault_is_told(rt: HostRuntime) -> Result<(), Fail> {
+    for (name, stretches, fault) in FAULTS {
+        let bytes = changed(rt.alloc(), stretches)?;
+        let found = refusal(rt.alloc(), bytes.as_slice())?;
+        assert_eq!(rt; found, fault.map(InfoError::Fault), "{name}");
     }
-    let two = [&ALONE[..55], &[0, 2], &ALONE[57..], &[0, 3, 0, 0, 0, 0]];
-    assert_eq!(rt;
-        refusal(rt.alloc(), &two),
-        Some(InfoError::Fault(InfoFault::TwoModule))
-    );
-    let more = [&ALONE[..62], &[18], &ALONE[63..], &[0, 0]];
-    assert_eq!(rt;
-        refusal(rt.alloc(), &more),
-        Some(InfoError::Fault(InfoFault::Rest(16)))
-    );
-    let other = with_main(&[0, 3]);
-    assert_eq!(rt;
-        refusal(rt.alloc(), &other),
-        Some(InfoError::Fault(InfoFault::Main))
-    );
-    assert_eq!(rt; refusal(rt.alloc(), &with_main(&[0, 2])), None);
-    assert_eq!(rt; refusal(rt.alloc(), &[&ALONE]), None);
+    Ok(())
 }
+
+const MANDATED: u16 = 0x8000;
 
 /// The text of a module `a` that requires `b` and `java.base`, which is mandated.
 fn two_needs(alloc: Global) -> Result<Text, NoMemory> {
@@ -88,54 +115,61 @@ fn two_needs(alloc: Global) -> Result<Text, NoMemory> {
     })?;
     needs.push(Need {
         name: Text::copy_of(alloc, b"java.base")?,
-        flags: 0x8000,
+        flags: MANDATED,
         version: None,
     })?;
     write_info(alloc, b"a", needs.as_slice())
 }
 
-/// Whether a text reads as a class of a module `a` that requires `b` and `java.base`.
-fn needs_two(alloc: Global, bytes: &[u8]) -> bool {
-    let Ok(class) = read(alloc, bytes) else {
-        return false;
-    };
-    let Ok(d) = describe(alloc, &class) else {
-        return false;
-    };
-    match d.needs.as_slice() {
-        [b, base] => {
-            d.name.as_slice() == b"a".as_slice()
-                && b.name.as_slice() == b"b".as_slice()
-                && base.name.as_slice() == b"java.base".as_slice()
-                && base.flags == 0x8000
+/// Says a module's name and its needs, with a `!` behind each that is mandated.
+fn tell(out: &mut Vec<u8>, found: &Descriptor) -> Result<(), NoMemory> {
+    say(out, &[found.name.as_slice()])?;
+    for need in found.needs.as_slice() {
+        say(out, &[need.name.as_slice()])?;
+        if need.flags == MANDATED {
+            extend(out, b"!")?;
         }
-        _ => false,
     }
+    Ok(())
+}
+
+/// What a class says of a module.
+fn told(alloc: Global, bytes: &[u8]) -> Result<Vec<u8>, Fail> {
+    let class = read(alloc, bytes)?;
+    let found = describe(alloc, &class)?;
+    let mut out = Vec::new(alloc);
+    tell(&mut out, &found)?;
+    Ok(out)
 }
 
 #[test]
-fn what_is_written_is_described(rt: HostRuntime) {
-    match write_info(rt.alloc(), b"a", &[]) {
-        Ok(text) => assert!(rt; text.as_slice() == ALONE.as_slice()),
-        Err(_) => assert!(rt; false),
-    }
-    match two_needs(rt.alloc()) {
-        Ok(text) => {
-            assert_eq!(rt; text.len(), 113);
-            assert!(rt; needs_two(rt.alloc(), text.as_slice()));
-        }
-        Err(_) => assert!(rt; false),
-    }
+fn what_is_written_is_described(rt: HostRuntime) -> Result<(), Fail> {
+    let alone = write_info(rt.alloc(), b"a", &[])?;
+    assert_eq!(rt; alone.as_slice(), ALONE.as_slice());
+    let two = two_needs(rt.alloc())?;
+    assert_eq!(rt; two.len(), 113);
+    let told = told(rt.alloc(), two.as_slice())?;
+    assert_eq!(rt; told.as_slice(), b"a b java.base!".as_slice());
+    Ok(())
 }
 
+/// Faults and their texts.
+const PRINTED: &[(DescriptorFault, &str)] = &[
+    (
+        DescriptorFault::Class(ClassFault::Short(22)),
+        "Class Short 22",
+    ),
+    (
+        DescriptorFault::Info(InfoFault::OldVersion(52)),
+        "Info OldVersion 52",
+    ),
+];
+
 #[test]
-fn faults_are_printed(rt: HostRuntime) {
-    let class = DescriptorFault::Class(ClassFault::Short(22));
-    let info = DescriptorFault::Info(InfoFault::OldVersion(52));
-    for (fault, text) in [(class, "Class Short 22"), (info, "Info OldVersion 52")] {
-        match format!(in rt.alloc(); "{fault}") {
-            Ok(printed) => assert_eq!(rt; printed.as_str(), text),
-            Err(_) => assert!(rt; false),
-        }
+fn faults_are_printed(rt: HostRuntime) -> Result<(), Fail> {
+    for (fault, text) in PRINTED {
+        let printed = format!(in rt.alloc(); "{fault}")?;
+        assert_eq!(rt; printed.as_str(), *text);
     }
+    Ok(())
 }

@@ -2,7 +2,9 @@
 #![tactic(auto)]
 
 #[cfg(test)]
-mod bindings;
+mod candidates;
+#[cfg(test)]
+mod class_bytes;
 #[cfg(test)]
 mod classes;
 #[cfg(test)]
@@ -13,6 +15,8 @@ mod command_words;
 mod containers;
 #[cfg(test)]
 mod descriptors;
+#[cfg(test)]
+mod meeting;
 #[cfg(test)]
 mod names;
 #[cfg(test)]
@@ -26,12 +30,10 @@ mod pools;
 #[cfg(test)]
 mod strings;
 #[cfg(test)]
-mod stripped_classes;
-#[cfg(test)]
 mod tables;
+#[cfg(test)]
+mod texts;
 #[cfg(test)]
 mod trees;
 #[cfg(test)]
 mod words_and_texts;
-#[cfg(test)]
-mod written_classes;

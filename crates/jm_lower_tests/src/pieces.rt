@@ -1,69 +1,13 @@
 ghost use Rattle.std.specs.Prelude.{◌≡◌, ◌*◌, ◌<◌, IfOk, IfSome, IfNone, length, map, slice_index};
 ghost use Rattle.std.specs.Prelude.{ℕ};
 
+use crate::meeting::{Meeting, sees};
 use jm_bytes::{List, NoMemory};
 use jm_halves::{Gate, NoGate, first_some, map_halves};
 use std::alloc::Global;
-use std::hint::spin_loop;
 use std::sync::atomic::{AtomicBool, AtomicUsize, Ordering};
 use std::test::Fail;
 use std::thread::Threads;
-
-/// How often a flag is looked for.
-const LOOKS: u32 = 200_000_000;
-
-/// Looks for a flag until it is up, and says whether it was ever seen.
-fn sees(flag: &AtomicBool) -> bool {
-    for _ in 0..LOOKS {
-        if flag.load(Ordering::SeqCst) {
-            return true;
-        }
-        spin_loop();
-    }
-    false
-}
-
-/// Two flags, each raised by one side, which then looks for the other side's.
-#[derive(Drop)]
-struct Meeting {
-    first: AtomicBool,
-    second: AtomicBool,
-    missed: AtomicBool,
-}
-
-impl Meeting {
-    fn new() -> Meeting {
-        Meeting {
-            first: AtomicBool::new(false),
-            second: AtomicBool::new(false),
-            missed: AtomicBool::new(false),
-        }
-    }
-
-    fn meet(&self, side: usize) {
-        let (mine, other) = if side == 0 {
-            (&self.first, &self.second)
-        } else {
-            (&self.second, &self.first)
-        };
-        mine.store(true, Ordering::SeqCst);
-        if !sees(other) {
-            self.missed.store(true, Ordering::SeqCst);
-        }
-    }
-
-    fn is_met(&self) -> bool {
-        self.first.load(Ordering::SeqCst)
-            && self.second.load(Ordering::SeqCst)
-            && !self.missed.load(Ordering::SeqCst)
-    }
-}
-
-impl Gate for Meeting {
-    fn enter(&self, piece: usize) {
-        self.meet(piece);
-    }
-}
 
 #[test]
 fn both_pieces_meet(rt: HostRuntime) -> Result<(), Fail> {

@@ -1,21 +1,20 @@
-use jm_bytes::Text;
+use crate::texts::texts_of;
 use jm_redirect::build;
 use std::alloc::Global;
 use std::test::Fail;
 
-/// Some names as texts.
-fn texts_of(alloc: Global, names: &[&str]) -> Result<Vec<Text>, Fail> {
-    let mut texts = Vec::new(alloc);
-    for name in names {
-        texts.push(Text::copy_of(alloc, name.as_bytes())?)?;
-    }
-    Ok(texts)
-}
+/// Names, the length of their table, its redirect words and its slots.
+const TABLES: &[(&str, u32, &[i32], &[u32])] = &[
+    ("", 0, &[], &[]),
+    ("a", 1, &[-1], &[0]),
+    ("a b c", 3, &[0, -3, 1], &[1, 0, 2]),
+    ("/packages /modules", 3, &[-1, -2, 0], &[1, 0]),
+];
 
 /// Whether the table of the names has this length, these redirect words and these slots.
 fn has_table(
     alloc: Global,
-    names: &[&str],
+    names: &str,
     length: u32,
     redirect: &[i32],
     slots: &[u32],
@@ -34,23 +33,11 @@ fn has_table(
 
 #[test]
 fn a_few_names_have_their_tables(rt: HostRuntime) -> Result<(), Fail> {
-    for (names, length, redirect, slots) in [
-        ([].as_slice(), 0, [].as_slice(), [].as_slice()),
-        (["a"].as_slice(), 1, [-1].as_slice(), [0].as_slice()),
-        (
-            ["a", "b", "c"].as_slice(),
-            3,
-            [0, -3, 1].as_slice(),
-            [1, 0, 2].as_slice(),
-        ),
-        (
-            ["/packages", "/modules"].as_slice(),
-            3,
-            [-1, -2, 0].as_slice(),
-            [1, 0].as_slice(),
-        ),
-    ] {
-        assert!(rt; has_table(rt.alloc(), names, length, redirect, slots)?);
+    for (names, length, redirect, slots) in TABLES {
+        assert!(rt;
+            has_table(rt.alloc(), names, *length, redirect, slots)?,
+            "{names}"
+        );
     }
     Ok(())
 }

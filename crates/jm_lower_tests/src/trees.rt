@@ -3,7 +3,8 @@ ghost use Rattle.jm_names.specs.NameFaults.{IsSound};
 ghost use Rattle.jm_names.specs.Names.{is_node};
 ghost use Rattle.jm_pool.specs.Pairs.{names_of};
 
-use jm_bytes::Text;
+use crate::pools::push;
+use jm_bytes::{NoMemory, Text, extend};
 use jm_names::{check_name, is_node};
 use jm_nodes::{Holds, NodesError, Owner, TreeNode, nodes};
 use jm_pool::Pool;
@@ -32,195 +33,135 @@ fn are_fit(pool: &Pool) -> bool
 }
 
 /// A pool of these names, without a byte behind them.
-fn pool_of(alloc: Global, names: &[&str]) -> Result<Pool, Fail> {
+fn pool_named(alloc: Global, names: &str) -> Result<Pool, NoMemory> {
     let mut pool = Pool::new(alloc);
-    for name in names {
-        pool.push(Text::copy_of(alloc, name.as_bytes())?, Text::new(alloc))?;
+    for name in names.split(' ') {
+        if !name.is_empty() && push(alloc, &mut pool, name, b"").is_err() {
+            return Err(NoMemory);
+        }
     }
     Ok(pool)
 }
 
-/// The texts are these.
-fn are_texts(texts: &[Text], held: &[&str]) -> bool {
-    if texts.len() != held.len() {
-        return false;
-    }
-    for place in 0..texts.len() {
-        if texts[place].as_slice() != held[place].as_bytes() {
-            return false;
-        }
-    }
-    true
-}
-
-/// The owner is told by its module behind a 1 where it is empty, and behind a 0 where it isn't.
-fn is_owner(owner: &Owner, held: &[u8]) -> bool {
-    match held.split_first() {
-        Some((flag, module)) => {
-            owner.empty == (*flag == b'1') && owner.module.as_slice() == module
-        }
-        None => false,
-    }
-}
-
-fn are_owners(owners: &[Owner], held: &[&str]) -> bool {
-    if owners.len() != held.len() {
-        return false;
-    }
-    for place in 0..owners.len() {
-        if !is_owner(&owners[place], held[place].as_bytes()) {
-            return false;
-        }
-    }
-    true
-}
-
-/// The node has this name and holds this.
-fn is_told(node: &TreeNode, name: &str, held: &[&str]) -> bool {
-    node.name.as_slice() == name.as_bytes()
-        && match &node.holds {
-            Holds::Children(names) => are_texts(names.as_slice(), held),
-            Holds::Owners(owners) => are_owners(owners.as_slice(), held),
-        }
-}
-
-/// The nodes are these, in this order.
-fn are_told(nodes: &[TreeNode], told: &[(&str, &[&str])]) -> bool {
-    if nodes.len() != told.len() {
-        return false;
-    }
-    for place in 0..nodes.len() {
-        if !is_told(&nodes[place], told[place].0, told[place].1) {
-            return false;
-        }
-    }
-    true
-}
-
-/// Resources of these names have these nodes.
-fn have_nodes(alloc: Global, names: &[&str], told: &[(&str, &[&str])]) -> Result<bool, Fail> {
-    let pool = pool_of(alloc, names)?;
-    if !are_fit(&pool) {
-        return Ok(false);
-    }
-    match nodes(alloc, &pool) {
-        Ok(nodes) => Ok(are_told(nodes.as_slice(), told)),
-        Err(_) => Ok(false),
-    }
-}
-
-/// Resources of these names are refused for this one.
-fn clash_at(alloc: Global, names: &[&str], clash: &str) -> Result<bool, Fail> {
-    let pool = pool_of(alloc, names)?;
-    if !are_fit(&pool) {
-        return Ok(false);
-    }
-    match nodes(alloc, &pool) {
-        Err(NodesError::Clash(name)) => Ok(name.as_slice() == clash.as_bytes()),
-        _ => Ok(false),
-    }
-}
-
-#[test]
-fn nodes_fall_by_name(rt: HostRuntime) -> Result<(), Fail> {
-    let told: [(&[&str], &[(&str, &[&str])]); 5] = [
-        (&[], &[("/packages", &[]), ("/modules", &[])]),
-        (
-            &["/m/p/A"],
-            &[
-                ("/packages/p", &["0m"]),
-                ("/packages", &["/packages/p"]),
-                ("/modules/m/p", &["/m/p/A"]),
-                ("/modules/m", &["/modules/m/p"]),
-                ("/modules", &["/modules/m"]),
-            ],
-        ),
-        (
-            &["/m/META-INF/x"],
-            &[
-                ("/packages", &[]),
-                ("/modules/m/META-INF", &["/m/META-INF/x"]),
-                ("/modules/m", &["/modules/m/META-INF"]),
-                ("/modules", &["/modules/m"]),
-            ],
-        ),
-        (
-            &["/b/p/s/Z", "/a/p/A", "/a/p-q"],
-            &[
-                ("/packages/p.s", &["0b"]),
-                ("/packages/p", &["0a", "1b"]),
-                ("/packages", &["/packages/p", "/packages/p.s"]),
-                ("/modules/b/p/s", &["/b/p/s/Z"]),
-                ("/modules/b/p", &["/modules/b/p/s"]),
-                ("/modules/b", &["/modules/b/p"]),
-                ("/modules/a/p", &["/a/p/A"]),
-                ("/modules/a", &["/modules/a/p", "/a/p-q"]),
-                ("/modules", &["/modules/a", "/modules/b"]),
-            ],
-        ),
-        (
-            &[
-                "/a/module-info.class",
-                "/a/p/A.class",
-                "/b/module-info.class",
-                "/b/q/r/B.class",
-                "/java.base/module-info.class",
-                "/java.base/java/lang/Object.class",
-            ],
-            &[
-                ("/packages/q.r", &["0b"]),
-                ("/packages/q", &["1b"]),
-                ("/packages/p", &["0a"]),
-                ("/packages/java.lang", &["0java.base"]),
-                ("/packages/java", &["1java.base"]),
-                (
-                    "/packages",
-                    &[
-                        "/packages/java",
-                        "/packages/java.lang",
-                        "/packages/p",
-                        "/packages/q",
-                        "/packages/q.r",
-                    ],
-                ),
-                (
-                    "/modules/java.base/java/lang",
-                    &["/java.base/java/lang/Object.class"],
-                ),
-                ("/modules/java.base/java", &["/modules/java.base/java/lang"]),
-                (
-                    "/modules/java.base",
-                    &["/modules/java.base/java", "/java.base/module-info.class"],
-                ),
-                ("/modules/b/q/r", &["/b/q/r/B.class"]),
-                ("/modules/b/q", &["/modules/b/q/r"]),
-                ("/modules/b", &["/b/module-info.class", "/modules/b/q"]),
-                ("/modules/a/p", &["/a/p/A.class"]),
-                ("/modules/a", &["/a/module-info.class", "/modules/a/p"]),
-                (
-                    "/modules",
-                    &["/modules/a", "/modules/b", "/modules/java.base"],
-                ),
-            ],
-        ),
-    ];
-    for (names, nodes) in told {
-        assert!(rt; have_nodes(rt.alloc(), names, nodes)?);
+/// Says the names, each behind a space.
+fn tell_names(out: &mut Vec<u8>, names: &[Text]) -> Result<(), NoMemory> {
+    for name in names {
+        extend(out, b" ")?;
+        extend(out, name.as_slice())?;
     }
     Ok(())
 }
 
+/// Says the modules, each behind a space and a 1 where it is empty, and a 0 where it isn't.
+fn tell_owners(out: &mut Vec<u8>, owners: &[Owner]) -> Result<(), NoMemory> {
+    for owner in owners {
+        let sign = if owner.empty { b" 1" } else { b" 0" };
+        extend(out, sign)?;
+        extend(out, owner.module.as_slice())?;
+    }
+    Ok(())
+}
+
+/// Says the nodes, each in a line: its name, and behind a `:` what it holds.
+fn tell_nodes(out: &mut Vec<u8>, nodes: &[TreeNode]) -> Result<(), NoMemory> {
+    for node in nodes {
+        extend(out, node.name.as_slice())?;
+        extend(out, b":")?;
+        match &node.holds {
+            Holds::Children(names) => tell_names(out, names.as_slice())?,
+            Holds::Owners(owners) => tell_owners(out, owners.as_slice())?,
+        }
+        extend(out, b"\n")?;
+    }
+    Ok(())
+}
+
+/// Says the nodes of a pool, or the name that is refused.
+fn tell(alloc: Global, out: &mut Vec<u8>, pool: &Pool) -> Result<(), NoMemory> {
+    if !are_fit(pool) {
+        return extend(out, b"names that aren't fit");
+    }
+    match nodes(alloc, pool) {
+        Ok(nodes) => tell_nodes(out, nodes.as_slice()),
+        Err(NodesError::Clash(name)) => {
+            extend(out, b"Clash ")?;
+            extend(out, name.as_slice())
+        }
+        Err(NodesError::Memory) => Err(NoMemory),
+    }
+}
+
+/// What is said of resources of these names.
+fn told(alloc: Global, names: &str) -> Result<Vec<u8>, NoMemory> {
+    let pool = pool_named(alloc, names)?;
+    let mut out = Vec::new(alloc);
+    tell(alloc, &mut out, &pool)?;
+    Ok(out)
+}
+
+/// Names of resources, and what is said of their nodes.
+const TREES: &[(&str, &str)] = &[
+    (
+        "",
+        "/packages:\n\
+         /modules:\n",
+    ),
+    (
+        "/m/p/A",
+        "/packages/p: 0m\n\
+         /packages: /packages/p\n\
+         /modules/m/p: /m/p/A\n\
+         /modules/m: /modules/m/p\n\
+         /modules: /modules/m\n",
+    ),
+    (
+        "/m/META-INF/x",
+        "/packages:\n\
+         /modules/m/META-INF: /m/META-INF/x\n\
+         /modules/m: /modules/m/META-INF\n\
+         /modules: /modules/m\n",
+    ),
+    (
+        "/b/p/s/Z /a/p/A /a/p-q",
+        "/packages/p.s: 0b\n\
+         /packages/p: 0a 1b\n\
+         /packages: /packages/p /packages/p.s\n\
+         /modules/b/p/s: /b/p/s/Z\n\
+         /modules/b/p: /modules/b/p/s\n\
+         /modules/b: /modules/b/p\n\
+         /modules/a/p: /a/p/A\n\
+         /modules/a: /modules/a/p /a/p-q\n\
+         /modules: /modules/a /modules/b\n",
+    ),
+    (
+        "/a/module-info.class /a/p/A.class \
+        /b/module-info.class /b/q/r/B.class \
+        /java.base/module-info.class /java.base/java/lang/Object.class",
+        "/packages/q.r: 0b\n\
+         /packages/q: 1b\n\
+         /packages/p: 0a\n\
+         /packages/java.lang: 0java.base\n\
+         /packages/java: 1java.base\n\
+         /packages: /packages/java /packages/java.lang /packages/p /packages/q /packages/q.r\n\
+         /modules/java.base/java/lang: /java.base/java/lang/Object.class\n\
+         /modules/java.base/java: /modules/java.base/java/lang\n\
+         /modules/java.base: /modules/java.base/java /java.base/module-info.class\n\
+         /modules/b/q/r: /b/q/r/B.class\n\
+         /modules/b/q: /modules/b/q/r\n\
+         /modules/b: /b/module-info.class /modules/b/q\n\
+         /modules/a/p: /a/p/A.class\n\
+         /modules/a: /a/module-info.class /modules/a/p\n\
+         /modules: /modules/a /modules/b /modules/java.base\n",
+    ),
+    ("/m/a /m/a/b", "Clash /m/a"),
+    ("/m/c /m/c/d /m/b /m/a /m/b/c/x /m/b/c", "Clash /m/b"),
+];
+
 #[test]
-fn the_least_name_of_a_folder_is_refused(rt: HostRuntime) -> Result<(), Fail> {
-    let told: [(&[&str], &str); 2] = [
-        (&["/m/a", "/m/a/b"], "/m/a"),
-        (
-            &["/m/c", "/m/c/d", "/m/b", "/m/a", "/m/b/c/x", "/m/b/c"],
-            "/m/b",
-        ),
-    ];
-    for (names, clash) in told {
-        assert!(rt; clash_at(rt.alloc(), names, clash)?);
+fn nodes_are_told(rt: HostRuntime) -> Result<(), Fail> {
+    for (names, expected) in TREES {
+        let told = told(rt.alloc(), names)?;
+        assert_eq!(rt; told.as_slice(), expected.as_bytes(), "{names}");
     }
     Ok(())
 }

@@ -1,56 +1,77 @@
 ghost use Rattle.std.specs.Prelude.{◌≡◌, ◌<◌};
 
-use jm_bytes::{Buf, List, Meter, Order, Text, copy_of, extend, put_word, word_at};
+use jm_bytes::{Buf, List, Meter, NoMemory, Order, Text, copy_of, extend, put_word, word_at};
+use std::alloc::Global;
 use std::marker::Brand;
 use std::sync::ledger::{Blank, Ledger};
 use std::test::Fail;
 
+/// Words, and their bytes with the lowest first and with the highest first.
+const WORDS: &[(u32, [u8; 4], [u8; 4])] = &[
+    (0, [0, 0, 0, 0], [0, 0, 0, 0]),
+    (1, [1, 0, 0, 0], [0, 0, 0, 1]),
+    (
+        0xCAFE_DADA,
+        [0xDA, 0xDA, 0xFE, 0xCA],
+        [0xCA, 0xFE, 0xDA, 0xDA],
+    ),
+    (u32::MAX, [0xFF; 4], [0xFF; 4]),
+];
+
 #[test]
 fn words_in_both_orders(rt: HostRuntime) {
-    for (word, little, big) in [
-        (0, [0, 0, 0, 0], [0, 0, 0, 0]),
-        (1, [1, 0, 0, 0], [0, 0, 0, 1]),
-        (
-            0xCAFE_DADA,
-            [0xDA, 0xDA, 0xFE, 0xCA],
-            [0xCA, 0xFE, 0xDA, 0xDA],
-        ),
-        (u32::MAX, [0xFF; 4], [0xFF; 4]),
-    ] {
-        assert_eq!(rt; put_word(Order::Little, word), little);
-        assert_eq!(rt; put_word(Order::Big, word), big);
-        assert_eq!(rt; word_at(Order::Little, &little, 0), word);
-        assert_eq!(rt; word_at(Order::Big, &big, 0), word);
+    for (word, little, big) in WORDS {
+        assert_eq!(rt; put_word(Order::Little, *word), *little);
+        assert_eq!(rt; put_word(Order::Big, *word), *big);
+        assert_eq!(rt; word_at(Order::Little, little, 0), *word);
+        assert_eq!(rt; word_at(Order::Big, big, 0), *word);
     }
     let bytes = [9, 1, 2, 3, 4, 9];
     assert_eq!(rt; word_at(Order::Little, &bytes, 1), 0x0403_0201);
     assert_eq!(rt; word_at(Order::Big, &bytes, 1), 0x0102_0304);
 }
 
-#[test]
-fn texts_and_lists_grow(rt: HostRuntime) -> Result<(), Fail> {
-    let mut text = Text::copy_of(rt.alloc(), b"ab")?;
+/// A text of two bytes, and a third one at its end.
+fn grown_text(alloc: Global) -> Result<Text, NoMemory> {
+    let mut text = Text::copy_of(alloc, b"ab")?;
     text.push(b'c')?;
+    Ok(text)
+}
+
+/// Two bytes, and two more at their end.
+fn grown_bytes(alloc: Global) -> Result<Vec<u8>, NoMemory> {
+    let mut bytes = copy_of(alloc, b"ab")?;
+    extend(&mut bytes, b"cd")?;
+    Ok(bytes)
+}
+
+/// A list of two numbers, with room for one at first.
+fn grown_list(alloc: Global) -> Result<List<u32>, NoMemory> {
+    let mut numbers = List::with_capacity(alloc, 1)?;
+    numbers.push(7)?;
+    numbers.push(8)?;
+    Ok(numbers)
+}
+
+#[test]
+fn texts_grow(rt: HostRuntime) -> Result<(), Fail> {
+    let text = grown_text(rt.alloc())?;
     assert_eq!(rt; text.len(), 3);
     assert_eq!(rt; text.as_slice(), b"abc".as_slice());
-    assert_eq!(rt;
-        Text::from_vec(text.into_vec()).as_slice(),
-        b"abc".as_slice()
-    );
+    let text = Text::from_vec(text.into_vec());
+    assert_eq!(rt; text.as_slice(), b"abc".as_slice());
     assert_eq!(rt; Text::new(rt.alloc()).len(), 0);
-    let mut bytes = copy_of(rt.alloc(), b"ab")?;
-    extend(&mut bytes, b"cd")?;
-    assert_eq!(rt; bytes.as_slice(), b"abcd".as_slice());
+    Ok(())
+}
 
-    let mut numbers = List::with_capacity(rt.alloc(), 1)?;
-    assert_eq!(rt; List::<u32>::new(rt.alloc()).len(), 0);
-    numbers.push(7u32)?;
-    numbers.push(8)?;
+#[test]
+fn lists_grow(rt: HostRuntime) -> Result<(), Fail> {
+    assert_eq!(rt; grown_bytes(rt.alloc())?.as_slice(), b"abcd".as_slice());
+    let numbers = grown_list(rt.alloc())?;
     assert_eq!(rt; numbers.len(), 2);
-    assert_eq!(rt;
-        List::from_vec(numbers.into_vec()).as_slice(),
-        [7, 8].as_slice()
-    );
+    let numbers = List::from_vec(numbers.into_vec());
+    assert_eq!(rt; numbers.as_slice(), [7, 8].as_slice());
+    assert_eq!(rt; List::<u32>::new(rt.alloc()).len(), 0);
     Ok(())
 }
 
