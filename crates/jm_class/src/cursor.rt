@@ -1,4 +1,4 @@
-ghost use Rattle.std.specs.Prelude.{◌≡◌, ◌+◌, ◌<◌, length, IfSome, IfNone};
+ghost use Rattle.std.specs.Prelude.{◌≡◌, ◌+◌, ◌<◌, ◌^◌, length, IfSome, IfNone};
 ghost use Rattle.std.specs.Int.{w8, w16, w32};
 
 use std::marker::Model;
@@ -33,6 +33,14 @@ impl<'a> Cursor<'a> {
             rest: bytes,
             place: 0,
         }
+    }
+
+    /// A cursor at the front of a part of a text, the first byte of which has this place in bytes.
+    pub fn at(place: usize, bytes: &'a [u8]) -> Cursor<'a>
+        requires { place + length bytes.now < 2 ^ 64 }
+        ensures { result ≡ record { place = place; bytes = bytes.now } }
+    {
+        Cursor { rest: bytes, place }
     }
 
     /// The place of the next byte.

@@ -6,7 +6,6 @@ ghost use Rattle.jm_poolmap.specs.Forms.{nowhere, in_order, counted};
 ghost use Rattle.jm_poolmap.specs.Items.{items};
 ghost use Rattle.jm_poolmap.specs.Views.{content_of};
 
-use crate::cursor::Cursor;
 use crate::forms::{Content, Item};
 use crate::frames::frames;
 use crate::items::{items, rows, site};
@@ -14,6 +13,7 @@ use crate::readings::{number8, number16, part};
 use crate::site::Found;
 use crate::stop::Stop;
 use jm_bytes::List;
+use jm_class::Cursor;
 
 /// A count of two bytes, and so many rows of the same items.
 fn counted(found: &mut List<Found>, cursor: &mut Cursor, row: &[Item]) -> Result<(), Stop>

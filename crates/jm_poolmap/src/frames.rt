@@ -4,13 +4,13 @@ ghost use Rattle.jm_poolmap.specs.Forms.{in_order, row_of};
 ghost use Rattle.jm_poolmap.specs.Frames.{type_rows, type, frame_rows, frame_part, frame_parts};
 ghost use Rattle.jm_poolmap.specs.Frames.{frame};
 
-use crate::cursor::Cursor;
 use crate::forms::{FramePart, Item};
 use crate::items::items;
 use crate::readings::{number8, number16, part};
 use crate::site::Found;
 use crate::stop::Stop;
 use jm_bytes::List;
+use jm_class::Cursor;
 
 /// What follows the first byte of a type.
 fn type_row(byte: u8) -> Option<&'static [Item]>

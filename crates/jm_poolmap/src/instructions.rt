@@ -7,13 +7,13 @@ ghost use Rattle.jm_poolmap.specs.Instructions.{table_cases, lookup_cases, opera
 ghost use Rattle.jm_poolmap.specs.Instructions.{instructions};
 ghost use Rattle.jm_poolmap.specs.Views.{operands_of};
 
-use crate::cursor::Cursor;
 use crate::forms::{Item, Operands};
 use crate::items::items;
 use crate::readings::{number8, number32, part};
 use crate::site::Found;
 use crate::stop::Stop;
 use jm_bytes::List;
+use jm_class::Cursor;
 
 /// What follows an opcode.
 fn instruction_row(opcode: u8) -> Option<Operands>

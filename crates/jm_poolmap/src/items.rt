@@ -3,12 +3,12 @@ ghost use Rattle.jm_poolmap.specs.Finds.{Finds};
 ghost use Rattle.jm_poolmap.specs.Forms.{site, optional_site, byte_site, in_order};
 ghost use Rattle.jm_poolmap.specs.Items.{item_form, items};
 
-use crate::cursor::Cursor;
 use crate::forms::Item;
 use crate::readings::{number8, number16, part};
 use crate::site::Found;
 use crate::stop::Stop;
 use jm_bytes::List;
+use jm_class::Cursor;
 
 /// A site of two bytes.
 pub fn site(found: &mut List<Found>, cursor: &mut Cursor) -> Result<(), Stop>

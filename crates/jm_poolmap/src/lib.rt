@@ -3,7 +3,6 @@
 
 mod attributes;
 mod bodies;
-mod cursor;
 mod finding;
 mod forms;
 mod frames;

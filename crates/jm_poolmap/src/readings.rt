@@ -4,8 +4,8 @@ ghost use Rattle.jm_class.specs.Readings.{number, part};
 ghost use Rattle.jm_poolmap.specs.Finds.{Reads};
 ghost use Rattle.jm_poolmap.specs.Forms.{unfit};
 
-use crate::cursor::Cursor;
 use crate::stop::Stop;
+use jm_class::Cursor;
 
 /// So many bytes.
 pub fn part<'a>(cursor: &mut Cursor<'a>, n: usize) -> Result<&'a [u8], Stop>

@@ -4,13 +4,13 @@ ghost use Rattle.jm_poolmap.specs.Finds.{Finds, Walks};
 ghost use Rattle.jm_poolmap.specs.Views.{whole_form};
 
 use crate::bodies::body;
-use crate::cursor::Cursor;
 use crate::forms::{Content, Item};
 use crate::instructions::instructions;
 use crate::items::rows;
 use crate::site::Found;
 use crate::stop::Stop;
 use jm_bytes::List;
+use jm_class::Cursor;
 
 /// How far a walk over a class has come: the sites so far, and the place in its text.
 #[derive(Drop)]
