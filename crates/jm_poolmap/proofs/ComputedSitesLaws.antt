@@ -53,7 +53,7 @@ abbrev rest_of : Named → Named
 rest_of [] = []
 rest_of (row ∷ rows) = rows
 
-abbrev in_method : place.Place → Bool
+abbrev pub in_method : place.Place → Bool
 in_method Method = true
 in_method _ = false
 
@@ -88,7 +88,7 @@ follows_named code place pool name form text step below same law = record {
     whole = follows_cons site (sized w32 (form_if (body code) (content_at place pool name)) ∷ []) (u2 name) (text ++ []) (notes false name) (step ∷ []) (follows_site false name below) (follows_cons (sized w32 (form_if (body code) (content_at place pool name))) [] text [] step [] (subst (λ f. Follows (sized w32 f) text step) (sym same) law) follows_nil)
 
 -- the form of a body that isn't a Code
-abbrev opaque_form : place.Place → List SlotData → ℕ → Form
+abbrev pub opaque_form : place.Place → List SlotData → ℕ → Form
 opaque_form place pool name = form_if (body nowhere) (content_at place pool name)
 
 follows_plain : (pool : List SlotData) (a : OpaqueData) → IsOpaque pool a → Follows (attribute_of_code pool) (opaque_text a) (plain_step pool a)
@@ -99,12 +99,12 @@ follows_plain pool a fits =
 -- A Code
 
 module _ (pool : List SlotData) (c : CodeData) (fits : IsCode pool c) where
-  abbrev code_parts : List Step
+  abbrev pub code_parts : List Step
   code_parts =
       later 4 (over instructions c.code) ∷ later 2 (over (handlers_form c.handlers) c.handlers)
       ∷ later 2 (each (plain_step pool) c.attributes) ∷ []
 
-  code_begins : (walk : Walk) → steps (passes 4 ∷ code_parts) walk ≡ code_step pool c walk
+  pub code_begins : (walk : Walk) → steps (passes 4 ∷ code_parts) walk ≡ code_step pool c walk
   code_begins walk =
       let place : (walk.place + 4) + 4 ≡ walk.place + 8 = omega arith in
       ap (λ m. step_on (over instructions c.code (record { found = walk.found; place = m })) (steps (later 2 (over (handlers_form c.handlers) c.handlers) ∷ later 2 (each (plain_step pool) c.attributes) ∷ []))) place
@@ -156,7 +156,7 @@ follows_member place pool m fits =
 -- The class
 
 -- the numbers of the pool, one after another
-slots_pass : (pool : List SlotData) (walk : Walk) → each slot_step pool walk ≡ Ok (record walk { place = walk.place + length (flat_map slot_text pool) })
+pub slots_pass : (pool : List SlotData) (walk : Walk) → each slot_step pool walk ≡ Ok (record walk { place = walk.place + length (flat_map slot_text pool) })
 slots_pass [] walk = let place : walk.place ≡ walk.place + 0 = omega arith in ap (λ m. Ok (record walk { place = m })) place
 slots_pass (slot ∷ pool) walk =
     let size = length-append (slot_text slot) (flat_map slot_text pool) in
@@ -178,13 +178,13 @@ steps_joined (step ∷ first) second walk = go (step walk) (steps_joined first s
 
 module _ (c : ClassData) (fits : IsClass c) where
   -- from the flags on
-  abbrev class_parts : List Step
+  abbrev pub class_parts : List Step
   class_parts =
       notes false c.this_class ∷ notes true c.super_class ∷ later 2 (each (notes false) c.interfaces)
       ∷ later 2 (each (member_step Field c.pool) c.fields) ∷ later 2 (each (member_step Method c.pool) c.methods)
       ∷ later 2 (each (attribute_step Class c.pool) c.attributes) ∷ []
 
-  class_begins : (walk : Walk) → steps (passes 8 ∷ passes (length (pool_text c.pool)) ∷ passes 2 ∷ class_parts) walk ≡ class_step c walk
+  pub class_begins : (walk : Walk) → steps (passes 8 ∷ passes (length (pool_text c.pool)) ∷ passes 2 ∷ class_parts) walk ≡ class_step c walk
   class_begins walk =
       let pool = slots_pass c.pool (record walk { place = walk.place + 10 }) in
       let size = ap (λ t. length (u2 (length c.pool + 1) ++ t)) (append-nil (flat_map slot_text c.pool)) ∙ length-append (u2 (length c.pool + 1)) (flat_map slot_text c.pool) in

@@ -8,5 +8,5 @@ pub mod Over
 pub mod PoolLaws
 pub mod Runs
 pub mod Shrinks
-mod Vectors
+pub mod Vectors
 pub mod Walking

@@ -28,7 +28,7 @@ wide list = Some (map (λ place. (place, true)) list)
 -- Whole classes
 
 -- the generated class without its debug information
-abbrev generated : List ℕ
+abbrev pub generated : List ℕ
 generated =
     202 ∷ 254 ∷ 186 ∷ 190 ∷ 0 ∷ 0 ∷ 0 ∷ 61 ∷ 0 ∷ 13 ∷ 1 ∷ 0 ∷ 13 ∷ 109 ∷ 48 ∷ 48 ∷ 48 ∷ 47 ∷
     112 ∷ 48 ∷ 47 ∷ 67 ∷ 48 ∷ 48 ∷ 48 ∷ 48 ∷ 7 ∷ 0 ∷ 1 ∷ 1 ∷ 0 ∷ 16 ∷ 106 ∷ 97 ∷ 118 ∷ 97 ∷ 47 ∷

@@ -1,0 +1,24 @@
+pub mod AllKept
+pub mod Carrying
+pub mod ClassCarried
+pub mod CompactClass
+pub mod Compacted
+pub mod CutLaws
+pub mod FormTokens
+pub mod FormsTold
+pub mod KeptSlots
+pub mod LocalReadings
+pub mod MovedParts
+pub mod Names
+pub mod NumberSteps
+pub mod NewNumbers
+pub mod PartBytes
+pub mod PartsCarried
+pub mod PutTogether
+pub mod Shapes
+pub mod SiteSteps
+pub mod Sizes
+pub mod Tokens
+pub mod Trees
+mod Vectors
+pub mod WholeText

@@ -1,0 +1,20 @@
+-- The definitions, evaluated on small classes.
+use Rattle.std.proofs.Common.{◌≡◌, ℕ, true, false, List, [], ◌∷◌, ◌++◌, length, take, drop, Ok, refl}
+use Rattle.jm_class.specs.Classes.{SlotData, Constant, Hole}
+use Rattle.jm_poolmap.proofs.Vectors.{generated}
+use Rattle.jm_compact.specs.Compact.{new_number, renamed, compact_pool, compact_of}
+
+-- the generated class loses its constants 8 to 10; the Long behind them gets their number
+abbrev compacted : List ℕ
+compacted =
+    take 8 generated ++ (0 ∷ 10 ∷ []) ++ take 58 (drop 10 generated) ++ take 43 (drop 112 generated)
+    ++ (20 ∷ 0 ∷ 8 ∷ 173 ∷ 0 ∷ 0 ∷ 0 ∷ 0 ∷ 0 ∷ 0 ∷ [])
+
+generated-length : length compacted ≡ 121
+generated-length = refl
+
+generated-compacted : compact_of generated ≡ Ok compacted
+generated-compacted = refl
+
+generated-again : compact_of compacted ≡ Ok compacted
+generated-again = refl

@@ -1,0 +1,100 @@
+-- Classes without the constants that aren't live, the others numbered anew in their order (this
+-- project's rule; what a constant pool is says JVMS 4.4).
+use Rattle.std.specs.Prelude.{ℕ, ◌≡◌, ◌+◌, ◌-◌, ◌==◌, Bool, true, List, [], ◌++◌, length, map}
+use Rattle.std.specs.Prelude.{filter, take, drop, Option, Some, None, Result, Ok, Err}
+use Rattle.std.specs.Prelude.{if◌then◌else◌}
+use Rattle.std.specs.List.{zip}
+use Rattle.jm_class.specs.declared.class.ClassFault.{ClassFault}
+use Rattle.jm_class.specs.declared.class.ReadError.{ReadError}
+use Rattle.jm_class.specs.declared.class.ReadError.TheVariants.{Fault, Memory}
+use Rattle.jm_class.specs.Classes.{SlotData, Constant, Hole, ClassData, pool_text, class_text}
+use Rattle.jm_class.specs.ComputedClass.{class_of}
+use Rattle.jm_poolmap.specs.declared.site.Found.{Found}
+use Rattle.jm_poolmap.specs.declared.site.Site.{Site}
+use Rattle.jm_poolmap.specs.ComputedLive.{flags_of}
+use Rattle.jm_poolmap.specs.Live.{TellsLive}
+use Rattle.jm_poolmap.specs.Sites.{name_places, found_in, sites_of}
+use Rattle.jm_compact.specs.Pieces.{renumbered}
+
+-- Numbers, by a flag for each slot that says whether it is kept
+
+-- how many of the slots in front of a place are kept
+abbrev pub kept_before : List Bool → ℕ → ℕ
+kept_before flags place = length (filter (λ flag. flag) (take place flags))
+
+-- the new number of a constant: 1 and the kept slots in front of its own; 0, which is none, stays
+abbrev pub new_number : List Bool → ℕ → ℕ
+new_number flags index = if index == 0 then 0 else 1 + kept_before flags (index - 1)
+
+-- Constants
+
+-- where a constant's body names others
+abbrev pub name_sites : ℕ → List Site
+name_sites tag = map (λ place. record { place = place; wide = true }) (name_places tag)
+
+-- a constant that names others by new numbers
+abbrev pub renamed : (ℕ → ℕ) → SlotData → SlotData
+renamed new (Constant tag body) = Constant tag (renumbered new (name_sites tag) 0 body)
+renamed new Hole = Hole
+
+-- the items whose flag is up, in order
+abbrev pub kept : {A : Type 0} → List Bool → List A → List A
+kept flags items = map (λ p. p.1) (filter (λ p. p.0) (zip flags items))
+
+abbrev pub compact_pool : List Bool → List SlotData → List SlotData
+compact_pool flags pool = map (renamed (new_number flags)) (kept flags pool)
+
+-- Classes
+
+-- magic and versions stand in front of the pool, in 8 bytes
+abbrev pub front : ClassData → List ℕ
+front c = take 8 (class_text c)
+
+abbrev pub pool_end : ClassData → ℕ
+pool_end c = 8 + length (pool_text c.pool)
+
+-- what stands behind the pool
+abbrev pub back : ClassData → List ℕ
+back c = drop (pool_end c) (class_text c)
+
+-- the text of a class of which these sites are known and these slots kept
+abbrev pub compact_with : List Bool → List Site → ClassData → List ℕ
+compact_with flags sites c =
+    front c ++ (pool_text (compact_pool flags c.pool)
+    ++ renumbered (new_number flags) sites (pool_end c) (back c))
+
+-- the rule: the kept slots are those of live constants; a class without sites stays
+pub data IsCompact (c : ClassData) (text : List ℕ) : Type 0 where
+  Whole : sites_of c ≡ None → text ≡ class_text c → IsCompact c text
+  Smaller : (sites : List Site) (flags : List Bool) → sites_of c ≡ Some sites
+      → TellsLive c flags → text ≡ compact_with flags sites c → IsCompact c text
+
+-- the same, computed
+
+abbrev pub flags_by : ClassData → Option (List Found) → List Bool
+flags_by c None = []
+flags_by c (Some found) = flags_of c.pool (map (λ f. f.number) found)
+
+abbrev pub live_flags : ClassData → List Bool
+live_flags c = flags_by c (found_in c)
+
+abbrev pub text_by : ClassData → Option (List Site) → List ℕ
+text_by c None = class_text c
+text_by c (Some sites) = compact_with (live_flags c) sites c
+
+abbrev pub compact_text : ClassData → List ℕ
+compact_text c = text_by c (sites_of c)
+
+-- of the bytes of a class
+abbrev pub with_text : Result ClassData ClassFault → Result (List ℕ) ClassFault
+with_text (Ok c) = Ok (compact_text c)
+with_text (Err fault) = Err fault
+
+abbrev pub compact_of : List ℕ → Result (List ℕ) ClassFault
+compact_of bytes = with_text (class_of bytes)
+
+-- the text is the compact one, or the bytes have this fault, unless no memory is found
+abbrev pub Compacts : List ℕ → Result (List ℕ) ReadError → Type 0
+Compacts bytes (Ok text) = compact_of bytes ≡ Ok text
+Compacts bytes (Err (Fault fault)) = compact_of bytes ≡ Err fault
+Compacts bytes (Err Memory) = Unit {0}

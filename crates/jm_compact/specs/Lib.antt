@@ -1,0 +1,4 @@
+pub mod Compact
+pub mod Meaning
+pub mod Pieces
+pub mod Steps
