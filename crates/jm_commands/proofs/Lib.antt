@@ -6,7 +6,6 @@ pub mod LinkLaws
 mod ListingVectors
 pub mod Made
 pub mod OutcomeLaws
-pub mod PluginLaws
 pub mod RunLaws
 pub mod ServedLaws
 pub mod SessionLaws

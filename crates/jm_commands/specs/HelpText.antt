@@ -64,7 +64,7 @@ plug_ins_text =
     ++ codes "  --strip-java-debug-attributes\n"
     ++ codes "      drops what a class says for debuggers\n"
     ++ codes "  --compact-pool\n"
-    ++ codes "      drops what a class holds and doesn't use (not built yet)\n"
+    ++ codes "      drops the constants of a class that nothing names\n"
     ++ codes "\n"
 
 -- the statuses

@@ -3,7 +3,6 @@
 use Rattle.std.specs.Prelude.{ℕ, ◌+◌, nat_lt, Bool, true, false, List, [], ◌∷◌, ◌++◌, length, codes}
 use Rattle.std.specs.Prelude.{Option, Some, None, Result, Ok, Err, if◌then◌else◌}
 use Rattle.std.specs.Fmt.{decimal}
-use Rattle.std.specs.List.{list_any}
 use Rattle.jm_bytes.specs.declared.words.Order.{Order}
 use Rattle.jm_form.specs.declared.damage.Damage.{Damage}
 use Rattle.jm_form.specs.declared.rows.Row.{Row}
@@ -33,8 +32,6 @@ use Rattle.jm_modinfo.specs.declared.faults.DescriptorFault.{DescriptorFault}
 use Rattle.jm_modinfo.specs.declared.faults.DescriptorFault.TheVariants as fault_of
 use Rattle.jm_modinfo.specs.declared.faults.InfoFault.{InfoFault}
 use Rattle.jm_modinfo.specs.ComputedInfo.{info_of}
-use Rattle.jm_plugins.specs.declared.Plugin.{Plugin}
-use Rattle.jm_plugins.specs.declared.Plugin.TheVariants as plugin
 use Rattle.jm_extract.specs.Extracted.{extracted, writes_of}
 use Rattle.jm_link.specs.ByName.{Named}
 use Rattle.jm_link.specs.declared.linking.Summary.{Summary}
@@ -207,16 +204,10 @@ extract_outcome dir (Ok entries) = record {
 }
 extract_outcome dir (Err refusal) = refusing refusal
 
--- the plug-in that is to come
-abbrev pub is_compact : Plugin → Bool
-is_compact plugin.Compact = true
-is_compact _ = false
-
--- a link from a module path, with plug-ins that are built; others are to come
+-- a link from a module path; one of another image's modules is to come
 abbrev pub link_of : Command → Option Link
 link_of (command.Link dirs roots output plugins order bind None jobs) =
-    if list_any is_compact plugins then None
-    else Some (record {
+    Some (record {
       asked = record {
         directories = dirs;
         roots = roots;

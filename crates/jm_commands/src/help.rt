@@ -58,7 +58,7 @@ plug-ins:
   --strip-java-debug-attributes
       drops what a class says for debuggers
   --compact-pool
-      drops what a class holds and doesn't use (not built yet)
+      drops the constants of a class that nothing names
 
 statuses:
   0 the output was put

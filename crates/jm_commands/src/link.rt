@@ -1,11 +1,9 @@
 //! The command `link`.
 ghost use Rattle.std.specs.Prelude.{◌≡◌, ◌<◌, ℕ, [], All, IfOk, IfSome, IsUtf8, List, Option};
 ghost use Rattle.std.specs.Prelude.{option_map, string_bytes};
-ghost use Rattle.std.specs.List.{list_any};
-ghost use Rattle.jm_plugins.specs.Plugins.{NoCompact};
 ghost use Rattle.jm_words.specs.Paths.{FilePathsAreText, jobs_in};
 ghost use Rattle.jm_commands.specs.LinkText.{link_text};
-ghost use Rattle.jm_commands.specs.Outcome.{done, is_compact, link_from, link_of};
+ghost use Rattle.jm_commands.specs.Outcome.{done, link_from, link_of};
 ghost use Rattle.jm_commands.specs.Run.{LinkComesTo, PutDoes, StepComesTo};
 ghost use Rattle.jm_commands.specs.Sinks.{seen};
 ghost use Rattle.jm_commands.specs.Stops.{stop_of_link};
@@ -17,7 +15,6 @@ use crate::stop::Stop;
 use jm_halves::Gate;
 use jm_link::{Asked, LinkStop, Summary, link};
 use jm_outside::{Shelf, Sink};
-use jm_plugins::Plugin;
 use jm_words::Command;
 use std::alloc::{AllocError, Global};
 use std::thread::Threads;
@@ -57,7 +54,7 @@ fn put_summary<O: Sink>(alloc: Global, summary: &Summary, out: &mut O) -> Result
     put_output(alloc, text.as_bytes(), out)
 }
 
-/// What the words of a `link` from a module path say, with plug-ins that are built.
+/// What the words of a `link` from a module path say.
 #[derive(Clone, Copy)]
 pub struct LinkWords<'a> {
     pub asked: Asked<'a>,
@@ -65,29 +62,11 @@ pub struct LinkWords<'a> {
     pub jobs: u32,
 }
 
-/// Whether a plug-in is to come.
-fn is_compact(plugin: &Plugin) -> bool
-    ensures { result ≡ is_compact plugin.now }
-{
-    match plugin {
-        Plugin::Compact => true,
-        Plugin::Exclude(_) | Plugin::Order(_) | Plugin::Strip => false,
-    }
-}
-
-/// Whether one of the plug-ins is to come.
-fn any_compact(plugins: &[Plugin]) -> bool
-    ensures { result ≡ list_any is_compact plugins.now }
-{
-    plugins.iter().any(|plugin| is_compact(plugin))
-}
-
 /// The words of a command that is such a `link`.
 pub fn link_words<'a>(command: &'a Command) -> Option<LinkWords<'a>>
     requires paths { FilePathsAreText command.now }
     requires jobs { 0 < jobs_in command.now }
     ensures link { option_map link_from result ≡ link_of command.now }
-    ensures known { IfSome result (λ words. NoCompact words.asked.plugins.now) }
     ensures directories { IfSome result (λ words. All IsUtf8 words.asked.directories.now) }
     ensures output { IfSome result (λ words. IsUtf8 words.asked.output.now) }
     ensures jobs { IfSome result (λ words. 0 < words.jobs) }
@@ -102,7 +81,7 @@ pub fn link_words<'a>(command: &'a Command) -> Option<LinkWords<'a>>
             bind,
             from_image: None,
             jobs,
-        } if !any_compact(plugins.as_slice()) => Some(LinkWords {
+        } => Some(LinkWords {
             asked: Asked {
                 directories: dirs.as_slice(),
                 roots: roots.as_slice(),
@@ -127,7 +106,6 @@ pub fn link_command<T: Threads + Sync, S: Shelf, O: Sink, G: Gate + Sync>(
     out: &mut O,
     gate: &G,
 ) -> Result<(), Stop>
-    requires known { NoCompact words.now.asked.plugins.now }
     requires directories { All IsUtf8 words.now.asked.directories.now }
     requires output { IsUtf8 words.now.asked.output.now }
     requires jobs { 0 < words.now.jobs }

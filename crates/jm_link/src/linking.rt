@@ -5,7 +5,6 @@ ghost use Rattle.jm_closure.specs.Names.{NamesDiffer};
 ghost use Rattle.jm_names.specs.Names.{is_node};
 ghost use Rattle.jm_outside.specs.Files.{file};
 ghost use Rattle.jm_outside.specs.Outcome.{Shows};
-ghost use Rattle.jm_plugins.specs.Plugins.{NoCompact};
 ghost use Rattle.jm_modpath.specs.Finding.{HasTexts};
 ghost use Rattle.jm_link.specs.Links.{FoundComesTo, Links, LinksBy, NamesComeTo, request_of};
 ghost use Rattle.jm_modpath.specs.Modules.{candidates};
@@ -81,7 +80,6 @@ fn link_named<T: Threads + Sync, S: Shelf, G: Gate + Sync>(
     gate: &G,
 ) -> Result<Summary, LinkStop>
     requires jobs { 0 < jobs }
-    requires known { NoCompact asked.now.plugins.now }
     requires texts { All (λ f. IsUtf8 f.path) files.now }
     requires differ { AllPairs (λ a b. a ≢ b) (file_names files.now) }
     requires free { All (λ name. is_node name ≡ false) (file_names files.now) }
@@ -113,7 +111,6 @@ fn link_closed<T: Threads + Sync, S: Shelf, G: Gate + Sync>(
     gate: &G,
 ) -> Result<Summary, LinkStop>
     requires jobs { 0 < jobs }
-    requires known { NoCompact asked.now.plugins.now }
     requires texts { All HasTexts found.now }
     requires differ { NamesDiffer (candidates found.now) }
     requires free { reserved found.now ≡ None }
@@ -143,7 +140,6 @@ fn link_found<T: Threads + Sync, S: Shelf, G: Gate + Sync>(
     gate: &G,
 ) -> Result<Summary, LinkStop>
     requires jobs { 0 < jobs }
-    requires known { NoCompact asked.now.plugins.now }
     requires texts { All HasTexts found }
     requires differ { NamesDiffer (candidates found) }
     requires told { Shows (S.files shelf.old) (λ told. ListsItsFiles told found) }
@@ -169,8 +165,6 @@ fn link_found<T: Threads + Sync, S: Shelf, G: Gate + Sync>(
 /// Links the modules of a module path that are reached from the roots, or bound by them, lets the
 /// plug-ins act on their resources, each on all jobs, and writes the image to the file at a path.
 /// The answer depends neither on the number of jobs nor on the gate.
-///
-/// The plug-in `Compact` is to come: the list has none.
 pub fn link<T: Threads + Sync, S: Shelf, G: Gate + Sync>(
     rt: &T,
     alloc: Global,
@@ -180,7 +174,6 @@ pub fn link<T: Threads + Sync, S: Shelf, G: Gate + Sync>(
     gate: &G,
 ) -> Result<Summary, LinkStop>
     requires jobs { 0 < jobs }
-    requires known { NoCompact asked.now.plugins.now }
     requires directories { All IsUtf8 asked.now.directories.now }
     requires output { IsUtf8 asked.now.output.now }
     ensures { Links (request_of asked.now) asked.now.output.now result

@@ -1,6 +1,6 @@
 //! The plug-ins, between the resources that were read and the image.
 ghost use Rattle.std.specs.Prelude.{◌≡◌, ◌<◌};
-ghost use Rattle.jm_plugins.specs.Plugins.{apply, NoCompact};
+ghost use Rattle.jm_plugins.specs.Plugins.{apply};
 ghost use Rattle.jm_link.specs.Stops.{PlugsTo, stop_of_plugins};
 
 use crate::linking::LinkStop;
@@ -32,8 +32,7 @@ pub fn plugged<T: Threads + Sync, G: Gate + Sync>(
     plugins: &[Plugin],
     gate: &G,
 ) -> Result<Pool, LinkStop>
-    requires jobs { 0 < jobs }
-    requires known { NoCompact plugins.now }
+    requires { 0 < jobs }
     ensures { PlugsTo (apply plugins.now pool) result }
 {
     match apply(rt, alloc, jobs, pool, plugins, gate) {

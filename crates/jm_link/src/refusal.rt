@@ -39,7 +39,7 @@ pub enum Refusal {
         name: Text,
         fault: NameFault,
     },
-    /// The bytes of this resource, which has the name of a class and is to be stripped, are no
+    /// The bytes of this resource, which has the name of a class and is to be made anew, are no
     /// class.
     BadClass {
         name: Text,

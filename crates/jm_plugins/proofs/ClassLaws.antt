@@ -1,22 +1,24 @@
--- Stripped classes put at their places one after another are the pairs without debug information.
+-- Classes made anew, put at their places one after another, are the pairs with these texts.
 use Rattle.std.proofs.Common.{◌≡◌, ℕ, zero, suc, ◌+◌, ◌<◌, inl, inr, List, [], ◌∷◌, ◌++◌, Bool, true, false, cond, Result, Ok, Err, IfOk, Some, All, length, drop, ◌≤◌, get_or, slice_get, nat_eq, refl, sym, ap, subst, ◌∙◌, arith, append_assoc, append-nil, codes}
 use Rattle.std.proofs.lemmas.List.{length_push, drop_more, drop_all}
 use Rattle.std.proofs.lemmas.Option.{get_or_from_slice_get}
 use Rattle.std.proofs.lemmas.List.Elements.{All-nil, All-cons, All-tail, All-weaker}
 use Rattle.std.specs.List.{AllZip, ends_with, zip}
+use Rattle.jm_bytes.proofs.Choice.{same_ok}
 use Rattle.jm_class.specs.Classes.{ClassData}
 use Rattle.jm_class.specs.ComputedClass.{class_of, class_fault, fault_of}
 use Rattle.jm_class.specs.declared.class.ClassFault.{ClassFault}
 use Rattle.jm_class.specs.declared.class.ReadError.{ReadError}
 use Rattle.jm_class.specs.declared.class.ReadError.TheVariants as read_error
 use Rattle.jm_class.proofs.ComputedClassLaws.{reads-class_of}
+use Rattle.jm_compact.specs.Compact.{compact_text, with_text, Compacts}
 use Rattle.jm_pool.specs.Pairs.{names_of, contents_of, with_bytes_at}
 use Rattle.jm_strip.specs.Strip.{StripsTo}
 use Rattle.jm_plugins.specs.declared.chain.ApplyError.{ApplyError}
 use Rattle.jm_plugins.specs.declared.chain.ApplyError.TheVariants.{BadClass}
-use Rattle.jm_plugins.specs.declared.classes.Stripped.{Stripped}
-use Rattle.jm_plugins.specs.Plugins.{followed, strip_pair, strip_pairs, UnlessMemory}
-use Rattle.jm_plugins.specs.Steps.{class_places, put_stripped, put_one, IsStripped, Refuses, StripsAs}
+use Rattle.jm_plugins.specs.declared.classes.Remade.{Remade}
+use Rattle.jm_plugins.specs.Plugins.{followed, remade_pair, remade_pairs, stripped_text, UnlessMemory}
+use Rattle.jm_plugins.specs.Steps.{class_places, put_remade, put_one, IsRemade, Refuses, RemadeAs}
 use Rattle.jm_plugins.proofs.Beside.{at_front}
 
 -- Pairs with other bytes at a place
@@ -72,20 +74,20 @@ module _ (pairs : List (List ℕ × List ℕ)) (place : ℕ) (pair : List ℕ ×
 pub classes_all : (pairs : List (List ℕ × List ℕ)) (place : ℕ) (found all : List ℕ) → length pairs ≤ place → found ++ class_places place (drop place pairs) ≡ all → found ≡ all
 classes_all pairs place found all past so_far = sym (append-nil found) ∙ ap (λ l. found ++ class_places place l) (sym (drop_all place pairs past)) ∙ so_far
 
--- stripped classes are at places of the pool
-pub stripped_within : (n : ℕ) (all : List (List ℕ × List ℕ)) (places : List ℕ) (outs : List Stripped) → AllZip (IsStripped all) places outs → All (λ place. place < n) places → All (λ one. one.place < n) outs
-stripped_within n all [] [] zipped within = All-nil (λ one. one.place < n)
-stripped_within n all [] (one ∷ outs) zipped within = absurd zipped
-stripped_within n all (place ∷ places) [] zipped within = absurd zipped
-stripped_within n all (place ∷ places) (one ∷ outs) zipped within =
+-- classes made anew are at places of the pool
+pub remade_within : (text : ClassData → List ℕ) (n : ℕ) (all : List (List ℕ × List ℕ)) (places : List ℕ) (outs : List Remade) → AllZip (IsRemade text all) places outs → All (λ place. place < n) places → All (λ one. one.place < n) outs
+remade_within text n all [] [] zipped within = All-nil (λ one. one.place < n)
+remade_within text n all [] (one ∷ outs) zipped within = absurd zipped
+remade_within text n all (place ∷ places) [] zipped within = absurd zipped
+remade_within text n all (place ∷ places) (one ∷ outs) zipped within =
     let own : place < n = within 0 0 (omega arith) in
-    All-cons (λ z. z.place < n) one outs (rw zipped.0.0 own) (stripped_within n all places outs zipped.1 (λ k d below. within (suc k) d (omega arith)))
+    All-cons (λ z. z.place < n) one outs (rw zipped.0.0 own) (remade_within text n all places outs zipped.1 (λ k d below. within (suc k) d (omega arith)))
 
--- What the stripper says
+-- What is said of one text
 
 pub strips_as : (bytes : List ℕ) (result : Result (List ℕ) ReadError)
     → IfOk result (λ text. StripsTo bytes text)
-    → ((fault : ClassFault) → result ≡ Err (read_error.Fault fault) → class_fault bytes ≡ Some fault) → StripsAs bytes result
+    → ((fault : ClassFault) → result ≡ Err (read_error.Fault fault) → class_fault bytes ≡ Some fault) → RemadeAs stripped_text bytes result
 strips_as bytes (Ok text) given fails =
     (given.class, reads-class_of bytes given.class given.reads, given.is)
 strips_as bytes (Err (read_error.Fault fault)) given fails = go (class_of bytes) refl (fails fault refl)
@@ -95,80 +97,94 @@ strips_as bytes (Err (read_error.Fault fault)) given fails = go (class_of bytes)
     go (Err found) is same = let found_is : found ≡ fault = cc in cc
 strips_as bytes (Err read_error.Memory) given fails = tt
 
+pub compacts_as : (bytes : List ℕ) (result : Result (List ℕ) ReadError) → Compacts bytes result → RemadeAs compact_text bytes result
+compacts_as bytes (Ok text) given = go (class_of bytes) refl given
+  where
+    go : (r : Result ClassData ClassFault) → class_of bytes ≡ r → with_text r ≡ Ok text → RemadeAs compact_text bytes (Ok text)
+    go (Ok c) is same = (c, is, sym (same_ok (compact_text c) text same))
+    go (Err found) is same = cc
+compacts_as bytes (Err (read_error.Fault fault)) given = go (class_of bytes) refl given
+  where
+    go : (r : Result ClassData ClassFault) → class_of bytes ≡ r → with_text r ≡ Err fault → class_of bytes ≡ Err fault
+    go (Ok c) is same = cc
+    go (Err found) is same = let found_is : found ≡ fault = cc in cc
+compacts_as bytes (Err read_error.Memory) given = tt
+
 -- All of them
 
 joined : (done : List (List ℕ × List ℕ)) (first : List ℕ × List ℕ) (o : Result (List (List ℕ × List ℕ)) ApplyError) → followed o (λ xs. Ok ((done ++ first ∷ []) ++ xs)) ≡ followed (followed o (λ xs. Ok (first ∷ xs))) (λ ys. Ok (done ++ ys))
 joined done first (Ok xs) = ap (λ l. Ok l) (append_assoc done (first ∷ []) xs)
 joined done first (Err refusal) = refl
 
--- a first pair that is given, and then what the rest comes to
-onward : (done rest : List (List ℕ × List ℕ)) (pair first : List ℕ × List ℕ) (outs : List Stripped) → strip_pair pair ≡ Ok first → UnlessMemory (put_stripped outs ((done ++ first ∷ []) ++ rest)) (followed (strip_pairs rest) (λ xs. Ok ((done ++ first ∷ []) ++ xs))) → UnlessMemory (put_stripped outs (done ++ first ∷ rest)) (followed (strip_pairs (pair ∷ rest)) (λ ys. Ok (done ++ ys)))
-onward done rest pair first outs is so_far =
-    let place : (done ++ first ∷ []) ++ rest ≡ done ++ first ∷ rest = append_assoc done (first ∷ []) rest in
-    let whole : followed (strip_pairs (pair ∷ rest)) (λ ys. Ok (done ++ ys)) ≡ followed (followed (strip_pairs rest) (λ xs. Ok (first ∷ xs))) (λ ys. Ok (done ++ ys)) = ap (λ o. followed (followed o (λ one. followed (strip_pairs rest) (λ xs. Ok (one ∷ xs)))) (λ ys. Ok (done ++ ys))) is in
-    rw (whole, sym (joined done first (strip_pairs rest)), sym place) so_far
+module _ (text : ClassData → List ℕ) where
+  -- a first pair that is given, and then what the rest comes to
+  onward : (done rest : List (List ℕ × List ℕ)) (pair first : List ℕ × List ℕ) (outs : List Remade) → remade_pair text pair ≡ Ok first → UnlessMemory (put_remade outs ((done ++ first ∷ []) ++ rest)) (followed (remade_pairs text rest) (λ xs. Ok ((done ++ first ∷ []) ++ xs))) → UnlessMemory (put_remade outs (done ++ first ∷ rest)) (followed (remade_pairs text (pair ∷ rest)) (λ ys. Ok (done ++ ys)))
+  onward done rest pair first outs is so_far =
+      let place : (done ++ first ∷ []) ++ rest ≡ done ++ first ∷ rest = append_assoc done (first ∷ []) rest in
+      let whole : followed (remade_pairs text (pair ∷ rest)) (λ ys. Ok (done ++ ys)) ≡ followed (followed (remade_pairs text rest) (λ xs. Ok (first ∷ xs))) (λ ys. Ok (done ++ ys)) = ap (λ o. followed (followed o (λ one. followed (remade_pairs text rest) (λ xs. Ok (one ∷ xs)))) (λ ys. Ok (done ++ ys))) is in
+      rw (whole, sym (joined done first (remade_pairs text rest)), sym place) so_far
 
-put_is : (all front done rest : List (List ℕ × List ℕ)) (outs : List Stripped) → all ≡ front ++ rest → length done ≡ length front → AllZip (IsStripped all) (class_places (length front) rest) outs → UnlessMemory (put_stripped outs (done ++ rest)) (followed (strip_pairs rest) (λ ys. Ok (done ++ ys)))
-put_is all front done [] [] is level zipped = inr refl
-put_is all front done [] (one ∷ outs) is level zipped = absurd zipped
-put_is all front done (pair ∷ rest) outs is level zipped = go (ends_with nat_eq pair.0 (codes ".class")) refl outs zipped (λ first later beside. put_is all (front ++ pair ∷ []) (done ++ first ∷ []) rest later (is ∙ sym (append_assoc front (pair ∷ []) rest)) (length_push done first ∙ ap (λ n. n + 1) level ∙ sym (length_push front pair)) (subst (λ n. AllZip (IsStripped all) (class_places n rest) later) (sym (length_push front pair)) beside))
-  where
-    there : slice_get all (length front) ≡ Some pair
-    there = ap (λ l. slice_get l (length front)) is ∙ at_front front rest pair
+  put_is : (all front done rest : List (List ℕ × List ℕ)) (outs : List Remade) → all ≡ front ++ rest → length done ≡ length front → AllZip (IsRemade text all) (class_places (length front) rest) outs → UnlessMemory (put_remade outs (done ++ rest)) (followed (remade_pairs text rest) (λ ys. Ok (done ++ ys)))
+  put_is all front done [] [] is level zipped = inr refl
+  put_is all front done [] (one ∷ outs) is level zipped = absurd zipped
+  put_is all front done (pair ∷ rest) outs is level zipped = go (ends_with nat_eq pair.0 (codes ".class")) refl outs zipped (λ first later beside. put_is all (front ++ pair ∷ []) (done ++ first ∷ []) rest later (is ∙ sym (append_assoc front (pair ∷ []) rest)) (length_push done first ∙ ap (λ n. n + 1) level ∙ sym (length_push front pair)) (subst (λ n. AllZip (IsRemade text all) (class_places n rest) later) (sym (length_push front pair)) beside))
+    where
+      there : slice_get all (length front) ≡ Some pair
+      there = ap (λ l. slice_get l (length front)) is ∙ at_front front rest pair
 
-    Onward : Type 0
-    Onward = (first : List ℕ × List ℕ) (later : List Stripped) → AllZip (IsStripped all) (class_places (length front + 1) rest) later → UnlessMemory (put_stripped later ((done ++ first ∷ []) ++ rest)) (followed (strip_pairs rest) (λ xs. Ok ((done ++ first ∷ []) ++ xs)))
+      Onward : Type 0
+      Onward = (first : List ℕ × List ℕ) (later : List Remade) → AllZip (IsRemade text all) (class_places (length front + 1) rest) later → UnlessMemory (put_remade later ((done ++ first ∷ []) ++ rest)) (followed (remade_pairs text rest) (λ xs. Ok ((done ++ first ∷ []) ++ xs)))
 
-    one_class : (one : Stripped) (later : List Stripped) (o : Result (List ℕ) ReadError) → ends_with nat_eq pair.0 (codes ".class") ≡ true → StripsAs pair.1 o → AllZip (IsStripped all) (class_places (length front + 1) rest) later → Onward → UnlessMemory (put_one (length done) o (put_stripped later) (done ++ pair ∷ rest)) (followed (strip_pairs (pair ∷ rest)) (λ ys. Ok (done ++ ys)))
-    one_class one later (Ok text) named strips beside on =
-        let own : strip_pair pair ≡ Ok (pair.0, text) = rw (named, strips.1, strips.2) refl in
-        rw (replaced done rest pair text) (onward done rest pair (pair.0, text) later own (on (pair.0, text) later beside))
-    one_class one later (Err (read_error.Fault fault)) named strips beside on =
-        let own : strip_pair pair ≡ Err (BadClass pair.0 fault) = rw (named, strips) refl in
-        inr (ap (λ name. Err (BadClass name fault)) (name_there done rest pair) ∙ sym (ap (λ o. followed (followed o (λ first. followed (strip_pairs rest) (λ xs. Ok (first ∷ xs)))) (λ ys. Ok (done ++ ys))) own))
-    one_class one later (Err read_error.Memory) named strips beside on = inl refl
+      one_class : (one : Remade) (later : List Remade) (o : Result (List ℕ) ReadError) → ends_with nat_eq pair.0 (codes ".class") ≡ true → RemadeAs text pair.1 o → AllZip (IsRemade text all) (class_places (length front + 1) rest) later → Onward → UnlessMemory (put_one (length done) o (put_remade later) (done ++ pair ∷ rest)) (followed (remade_pairs text (pair ∷ rest)) (λ ys. Ok (done ++ ys)))
+      one_class one later (Ok made) named own_text beside on =
+          let own : remade_pair text pair ≡ Ok (pair.0, made) = rw (named, own_text.1, own_text.2) refl in
+          rw (replaced done rest pair made) (onward done rest pair (pair.0, made) later own (on (pair.0, made) later beside))
+      one_class one later (Err (read_error.Fault fault)) named own_text beside on =
+          let own : remade_pair text pair ≡ Err (BadClass pair.0 fault) = rw (named, own_text) refl in
+          inr (ap (λ name. Err (BadClass name fault)) (name_there done rest pair) ∙ sym (ap (λ o. followed (followed o (λ first. followed (remade_pairs text rest) (λ xs. Ok (first ∷ xs)))) (λ ys. Ok (done ++ ys))) own))
+      one_class one later (Err read_error.Memory) named own_text beside on = inl refl
 
-    go : (b : Bool) → ends_with nat_eq pair.0 (codes ".class") ≡ b → (outs : List Stripped) → AllZip (IsStripped all) (class_places (length front) (pair ∷ rest)) outs → Onward → UnlessMemory (put_stripped outs (done ++ pair ∷ rest)) (followed (strip_pairs (pair ∷ rest)) (λ ys. Ok (done ++ ys)))
-    go false named outs zipped on =
-        let own : strip_pair pair ≡ Ok pair = rw named refl in
-        onward done rest pair pair outs own (on pair outs (rw named at zipped))
-    go true named [] zipped on = let none = rw named at zipped in absurd none
-    go true named (one ∷ later) zipped on =
-        let beside : AllZip (IsStripped all) (length front ∷ class_places (length front + 1) rest) (one ∷ later) = rw named at zipped in
-        let strips = beside.0.1 pair there in
-        let place : one.place ≡ length done = beside.0.0 ∙ sym level in
-        rw place (one_class one later one.outcome named strips beside.1 on)
+      go : (b : Bool) → ends_with nat_eq pair.0 (codes ".class") ≡ b → (outs : List Remade) → AllZip (IsRemade text all) (class_places (length front) (pair ∷ rest)) outs → Onward → UnlessMemory (put_remade outs (done ++ pair ∷ rest)) (followed (remade_pairs text (pair ∷ rest)) (λ ys. Ok (done ++ ys)))
+      go false named outs zipped on =
+          let own : remade_pair text pair ≡ Ok pair = rw named refl in
+          onward done rest pair pair outs own (on pair outs (rw named at zipped))
+      go true named [] zipped on = let none = rw named at zipped in absurd none
+      go true named (one ∷ later) zipped on =
+          let beside : AllZip (IsRemade text all) (length front ∷ class_places (length front + 1) rest) (one ∷ later) = rw named at zipped in
+          let own_text = beside.0.1 pair there in
+          let place : one.place ≡ length done = beside.0.0 ∙ sym level in
+          rw place (one_class one later one.outcome named own_text beside.1 on)
 
--- stripped classes put at their places are the pairs without debug information
-pub put_all : (pairs : List (List ℕ × List ℕ)) (outs : List Stripped) → AllZip (IsStripped pairs) (class_places 0 pairs) outs → UnlessMemory (put_stripped outs pairs) (strip_pairs pairs)
-put_all pairs outs zipped = subst (λ o. UnlessMemory (put_stripped outs pairs) o) (plain (strip_pairs pairs)) (put_is pairs [] [] pairs outs refl refl zipped)
-  where
-    plain : (o : Result (List (List ℕ × List ℕ)) ApplyError) → followed o (λ ys. Ok ys) ≡ o
-    plain (Ok ys) = refl
-    plain (Err refusal) = refl
+  -- put at their places, they are the pairs with these texts
+  pub put_all : (pairs : List (List ℕ × List ℕ)) (outs : List Remade) → AllZip (IsRemade text pairs) (class_places 0 pairs) outs → UnlessMemory (put_remade outs pairs) (remade_pairs text pairs)
+  put_all pairs outs zipped = subst (λ o. UnlessMemory (put_remade outs pairs) o) (plain (remade_pairs text pairs)) (put_is pairs [] [] pairs outs refl refl zipped)
+    where
+      plain : (o : Result (List (List ℕ × List ℕ)) ApplyError) → followed o (λ ys. Ok ys) ≡ o
+      plain (Ok ys) = refl
+      plain (Err refusal) = refl
 
 -- One after another
 
 -- one more is put
-pub put_more : (one : Stripped) (later : List Stripped) (pairs new : List (List ℕ × List ℕ)) (text : List ℕ) (all : Result (List (List ℕ × List ℕ)) ApplyError) → one.outcome ≡ Ok text → new ≡ with_bytes_at pairs one.place text → all ≡ put_stripped (one ∷ later) pairs → all ≡ put_stripped later new
+pub put_more : (one : Remade) (later : List Remade) (pairs new : List (List ℕ × List ℕ)) (text : List ℕ) (all : Result (List (List ℕ × List ℕ)) ApplyError) → one.outcome ≡ Ok text → new ≡ with_bytes_at pairs one.place text → all ≡ put_remade (one ∷ later) pairs → all ≡ put_remade later new
 put_more one later pairs new text all given is so_far =
-    so_far ∙ ap (λ o. put_one one.place o (put_stripped later) pairs) given ∙ ap (put_stripped later) (sym is)
+    so_far ∙ ap (λ o. put_one one.place o (put_remade later) pairs) given ∙ ap (put_remade later) (sym is)
 
-pub within_more : (one : Stripped) (later : List Stripped) (pairs new : List (List ℕ × List ℕ)) (text : List ℕ) → new ≡ with_bytes_at pairs one.place text → All (λ z. z.place < length pairs) (one ∷ later) → All (λ z. z.place < length new) later
+pub within_more : (one : Remade) (later : List Remade) (pairs new : List (List ℕ × List ℕ)) (text : List ℕ) → new ≡ with_bytes_at pairs one.place text → All (λ z. z.place < length pairs) (one ∷ later) → All (λ z. z.place < length new) later
 within_more one later pairs new text is within =
     let level : length new ≡ length pairs = ap length is ∙ as_many pairs one.place text in
     rw level (All-tail (λ z. z.place < length pairs) one later within)
 
 -- all were put
-pub put_none : (left : List Stripped) (count : ℕ) (pairs : List (List ℕ × List ℕ)) (all : Result (List (List ℕ × List ℕ)) ApplyError) → length left ≡ count → count ≡ 0 → all ≡ put_stripped left pairs → UnlessMemory (Ok pairs) all
+pub put_none : (left : List Remade) (count : ℕ) (pairs : List (List ℕ × List ℕ)) (all : Result (List (List ℕ × List ℕ)) ApplyError) → length left ≡ count → count ≡ 0 → all ≡ put_remade left pairs → UnlessMemory (Ok pairs) all
 put_none [] count pairs all long none so_far = inr (sym so_far)
 put_none (one ∷ left) count pairs all long none so_far = absurd (omega (arith, long, none))
 
 -- the first that was refused decides
-pub put_refused : (one : Stripped) (later : List Stripped) (pairs : List (List ℕ × List ℕ)) (error : ReadError) (refusal : ApplyError) (all : Result (List (List ℕ × List ℕ)) ApplyError) → one.outcome ≡ Err error → Refuses pairs one.place error refusal → all ≡ put_stripped (one ∷ later) pairs → UnlessMemory (Err refusal) all
-put_refused one later pairs error refusal all is refuses so_far = go error (so_far ∙ ap (λ o. put_one one.place o (put_stripped later) pairs) is) refuses
+pub put_refused : (one : Remade) (later : List Remade) (pairs : List (List ℕ × List ℕ)) (error : ReadError) (refusal : ApplyError) (all : Result (List (List ℕ × List ℕ)) ApplyError) → one.outcome ≡ Err error → Refuses pairs one.place error refusal → all ≡ put_remade (one ∷ later) pairs → UnlessMemory (Err refusal) all
+put_refused one later pairs error refusal all is refuses so_far = go error (so_far ∙ ap (λ o. put_one one.place o (put_remade later) pairs) is) refuses
   where
-    go : (e : ReadError) → all ≡ put_one one.place (Err e) (put_stripped later) pairs → Refuses pairs one.place e refusal → UnlessMemory (Err refusal) all
+    go : (e : ReadError) → all ≡ put_one one.place (Err e) (put_remade later) pairs → Refuses pairs one.place e refusal → UnlessMemory (Err refusal) all
     go (read_error.Fault fault) due (inl none) = inl (ap (λ r. Err r) none)
     go (read_error.Fault fault) due (inr same) = inr (ap (λ r. Err r) same ∙ sym due)
     go read_error.Memory due none = inl (ap (λ r. Err r) none)

@@ -15,15 +15,18 @@ named_b = AnyRun ∷ Byte 47 ∷ Byte 66 ∷ Byte 46 ∷ Byte 99 ∷ Byte 108 �
 abbrev below_a : List Sign
 below_a = Byte 47 ∷ Byte 97 ∷ Byte 47 ∷ AnyRun ∷ []
 
--- a class with a source file, and the same class without it
+-- a class with a source file, the same class without it, and this one without the attribute's name
 abbrev front : List ℕ
-front = 202 ∷ 254 ∷ 186 ∷ 190 ∷ 0 ∷ 0 ∷ 0 ∷ 52 ∷ 0 ∷ 2 ∷ 1 ∷ 0 ∷ 10 ∷ codes "SourceFile" ++ (0 ∷ 0 ∷ 0 ∷ 0 ∷ 0 ∷ 0 ∷ 0 ∷ 0 ∷ 0 ∷ 0 ∷ 0 ∷ 0 ∷ [])
+front = 202 ∷ 254 ∷ 186 ∷ 190 ∷ 0 ∷ 0 ∷ 0 ∷ 52 ∷ 0 ∷ 3 ∷ 1 ∷ 0 ∷ 10 ∷ codes "SourceFile" ++ (1 ∷ 0 ∷ 1 ∷ 97 ∷ 0 ∷ 0 ∷ 0 ∷ 2 ∷ 0 ∷ 0 ∷ 0 ∷ 0 ∷ 0 ∷ 0 ∷ 0 ∷ 0 ∷ [])
 
 abbrev with_file : List ℕ
-with_file = front ++ (0 ∷ 1 ∷ 0 ∷ 1 ∷ 0 ∷ 0 ∷ 0 ∷ 2 ∷ 0 ∷ 1 ∷ [])
+with_file = front ++ (0 ∷ 1 ∷ 0 ∷ 1 ∷ 0 ∷ 0 ∷ 0 ∷ 2 ∷ 0 ∷ 2 ∷ [])
 
 abbrev without_file : List ℕ
 without_file = front ++ (0 ∷ 0 ∷ [])
+
+abbrev without_name : List ℕ
+without_name = 202 ∷ 254 ∷ 186 ∷ 190 ∷ 0 ∷ 0 ∷ 0 ∷ 52 ∷ 0 ∷ 2 ∷ 1 ∷ 0 ∷ 1 ∷ 97 ∷ 0 ∷ 0 ∷ 0 ∷ 1 ∷ 0 ∷ 0 ∷ 0 ∷ 0 ∷ 0 ∷ 0 ∷ 0 ∷ 0 ∷ 0 ∷ 0 ∷ []
 
 abbrev pool : List ℕ → List (List ℕ × List ℕ)
 pool bytes = (codes "/a/B.class", bytes) ∷ (codes "/a/x", with_file) ∷ (codes "/b/B.class", bytes) ∷ (codes "/b/y", []) ∷ []
@@ -46,9 +49,25 @@ excluded_in_pool = refl
 stripped_in_pool : apply (plugin.Strip ∷ []) (pool with_file) ≡ Ok (pool without_file)
 stripped_in_pool = refl
 
+compacted_in_pool : apply (plugin.Compact ∷ []) (pool without_file) ≡ Ok ((codes "/a/B.class", without_name) ∷ (codes "/a/x", with_file) ∷ (codes "/b/B.class", without_name) ∷ (codes "/b/y", []) ∷ [])
+compacted_in_pool = refl
+
+-- what is named stays
+all_named : apply (plugin.Compact ∷ []) (pool with_file) ≡ Ok (pool with_file)
+all_named = refl
+
 -- one plug-in after another
 in_turn : apply (plugin.Exclude (below_a ∷ []) ∷ plugin.Strip ∷ []) (pool with_file) ≡ Ok ((codes "/b/B.class", without_file) ∷ (codes "/b/y", []) ∷ [])
 in_turn = refl
 
+strip_then_compact : apply (plugin.Exclude (below_a ∷ []) ∷ plugin.Strip ∷ plugin.Compact ∷ []) (pool with_file) ≡ Ok ((codes "/b/B.class", without_name) ∷ (codes "/b/y", []) ∷ [])
+strip_then_compact = refl
+
+compact_then_strip : apply (plugin.Exclude (below_a ∷ []) ∷ plugin.Compact ∷ plugin.Strip ∷ []) (pool with_file) ≡ Ok ((codes "/b/B.class", without_file) ∷ (codes "/b/y", []) ∷ [])
+compact_then_strip = refl
+
 bad_class : apply (plugin.Order (named_b ∷ []) ∷ plugin.Strip ∷ []) (pool (codes "no")) ≡ Err (BadClass (codes "/a/B.class") (Short 0))
 bad_class = refl
+
+uncompacted_class : apply (plugin.Order (named_b ∷ []) ∷ plugin.Compact ∷ []) (pool (codes "no")) ≡ Err (BadClass (codes "/a/B.class") (Short 0))
+uncompacted_class = refl

@@ -1,8 +1,8 @@
 ghost use Rattle.std.specs.Prelude.{◌<◌};
-ghost use Rattle.jm_plugins.specs.Plugins.{act, apply, NoCompact, UnlessMemory};
+ghost use Rattle.jm_plugins.specs.Plugins.{act, apply, UnlessMemory};
 
 use crate::Plugin;
-use crate::classes::strip_classes;
+use crate::classes::{Remaking, remake_classes};
 use crate::exclusion::exclude;
 use crate::order::order;
 use jm_bytes::{NoMemory, Text};
@@ -37,7 +37,7 @@ impl From<NoMemory> for ApplyError {
     }
 }
 
-/// What one plug-in makes of a pool. `Compact` is to come, and leaves it as it is.
+/// What one plug-in makes of a pool.
 fn act<R: Threads + Sync, G: Gate + Sync>(
     rt: &R,
     alloc: Global,
@@ -52,8 +52,8 @@ fn act<R: Threads + Sync, G: Gate + Sync>(
     match plugin {
         Plugin::Exclude(patterns) => Ok(exclude(rt, alloc, jobs, pool, patterns.as_slice(), gate)?),
         Plugin::Order(patterns) => Ok(order(rt, alloc, jobs, pool, patterns.as_slice(), gate)?),
-        Plugin::Strip => strip_classes(rt, alloc, jobs, pool, gate),
-        Plugin::Compact => Ok(pool),
+        Plugin::Strip => remake_classes(rt, alloc, jobs, pool, Remaking::Strip, gate),
+        Plugin::Compact => remake_classes(rt, alloc, jobs, pool, Remaking::Compact, gate),
     }
 }
 
@@ -83,8 +83,6 @@ fn act_all<R: Threads + Sync, G: Gate + Sync>(
 /// depends neither on the number of jobs nor on the gate. A refusal spends the pool: `BadClass`
 /// comes of the first plug-in that meets a class that doesn't read, and of the least place of such
 /// a class in the pool that it has then; want of memory at an earlier place is answered instead.
-///
-/// `Compact` is to come: of a list with it nothing is said.
 pub fn apply<R: Threads + Sync, G: Gate + Sync>(
     rt: &R,
     alloc: Global,
@@ -94,7 +92,7 @@ pub fn apply<R: Threads + Sync, G: Gate + Sync>(
     gate: &G,
 ) -> Result<Pool, ApplyError>
     requires { 0 < jobs }
-    ensures { NoCompact list.now → UnlessMemory result (apply list.now pool) }
+    ensures { UnlessMemory result (apply list.now pool) }
 {
     act_all(rt, alloc, jobs, pool, list, gate)
 }

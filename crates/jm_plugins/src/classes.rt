@@ -1,20 +1,31 @@
 ghost use Rattle.std.specs.Prelude.{◌≡◌, ◌<◌, All, length, IfOk};
 ghost use Rattle.std.specs.List.{AllZip};
-ghost use Rattle.jm_plugins.specs.Plugins.{strip_pairs, UnlessMemory};
-ghost use Rattle.jm_plugins.specs.Steps.{class_places, put_stripped, IsStripped, Refuses};
+ghost use Rattle.jm_plugins.specs.Plugins.{remade_pairs, UnlessMemory};
+ghost use Rattle.jm_plugins.specs.Steps.{class_places, put_remade, text_of, IsRemade, Refuses};
+ghost use Rattle.jm_plugins.specs.Steps.{RemadeAs};
 
 use crate::chain::ApplyError;
 use jm_bytes::{List, NoMemory, Text};
 use jm_class::ReadError;
+use jm_compact::compact;
 use jm_halves::{Gate, map_halves};
 use jm_pool::Pool;
 use jm_strip::strip;
 use std::alloc::Global;
 use std::thread::Threads;
 
-/// What stripping the class at a place of the pool gave.
+/// How classes are made anew.
+#[derive(Clone, Copy)]
+pub enum Remaking {
+    /// Without their debug attributes.
+    Strip,
+    /// Without the constants that nothing names.
+    Compact,
+}
+
+/// What making the class at a place of the pool anew gave.
 #[derive(Drop)]
-pub struct Stripped {
+pub struct Remade {
     place: usize,
     outcome: Result<Text, ReadError>,
 }
@@ -33,33 +44,43 @@ fn class_places(alloc: Global, pool: &Pool) -> Result<List<usize>, NoMemory>
     Ok(places)
 }
 
-/// Strips the class at a place.
-fn strip_at(alloc: Global, pool: &Pool, place: usize) -> Stripped
-    requires { place < length pool.now }
-    ensures { IsStripped pool.now place result }
+/// The other text of the class that some bytes are.
+fn remake(alloc: Global, bytes: &[u8], way: Remaking) -> Result<Text, ReadError>
+    ensures { RemadeAs (text_of way) bytes.now result }
 {
-    let (_, bytes) = pool.at(place);
-    Stripped {
-        place,
-        outcome: strip(alloc, bytes),
+    match way {
+        Remaking::Strip => strip(alloc, bytes),
+        Remaking::Compact => compact(alloc, bytes),
     }
 }
 
-/// Strips the classes at some places, by all jobs.
-fn strip_each<R: Threads + Sync, G: Gate + Sync>(
+/// Makes the class at a place anew.
+fn remake_at(alloc: Global, pool: &Pool, place: usize, way: Remaking) -> Remade
+    requires { place < length pool.now }
+    ensures { IsRemade (text_of way) pool.now place result }
+{
+    let (_, bytes) = pool.at(place);
+    Remade {
+        place,
+        outcome: remake(alloc, bytes, way),
+    }
+}
+
+/// Makes all classes of a pool anew, by all jobs.
+fn remake_each<R: Threads + Sync, G: Gate + Sync>(
     rt: &R,
     alloc: Global,
     jobs: u32,
     pool: &Pool,
-    places: &[usize],
+    way: Remaking,
     gate: &G,
-) -> Result<List<Stripped>, NoMemory>
-    requires jobs { 0 < jobs }
-    requires within { All (λ place. place < length pool.now) places.now }
-    ensures { IfOk result (AllZip (IsStripped pool.now) places.now) }
+) -> Result<List<Remade>, NoMemory>
+    requires { 0 < jobs }
+    ensures { IfOk result (AllZip (IsRemade (text_of way) pool.now) (class_places 0 pool.now)) }
 {
-    let work = |place: &usize| strip_at(alloc, pool, *place);
-    map_halves(rt, alloc, jobs, places, &work, gate)
+    let places = class_places(alloc, pool)?;
+    let work = |place: &usize| remake_at(alloc, pool, *place, way);
+    map_halves(rt, alloc, jobs, places.as_slice(), &work, gate)
 }
 
 /// The refusal of the class at a place.
@@ -77,13 +98,13 @@ fn refusal(alloc: Global, pool: &Pool, place: usize, error: ReadError) -> ApplyE
     }
 }
 
-/// Puts what was stripped, in the order of the pool; the first class that was refused decides.
-fn put_stripped(alloc: Global, pool: Pool, stripped: List<Stripped>) -> Result<Pool, ApplyError>
-    requires { All (λ one. one.place < length pool) stripped }
-    ensures { UnlessMemory result (put_stripped stripped pool) }
+/// Puts the classes made anew, in the order of the pool; the first that was refused decides.
+fn put_remade(alloc: Global, pool: Pool, remade: List<Remade>) -> Result<Pool, ApplyError>
+    requires { All (λ one. one.place < length pool) remade }
+    ensures { UnlessMemory result (put_remade remade pool) }
 {
     let mut pool = pool;
-    for Stripped { place, outcome } in stripped.into_vec() {
+    for Remade { place, outcome } in remade.into_vec() {
         match outcome {
             Ok(text) => pool.replace(place, text),
             Err(error) => return Err(refusal(alloc, &pool, place, error)),
@@ -92,18 +113,18 @@ fn put_stripped(alloc: Global, pool: Pool, stripped: List<Stripped>) -> Result<P
     Ok(pool)
 }
 
-/// Leaves the debug information out of all classes of a pool.
-pub fn strip_classes<R: Threads + Sync, G: Gate + Sync>(
+/// Puts for each class of a pool its text made anew.
+pub fn remake_classes<R: Threads + Sync, G: Gate + Sync>(
     rt: &R,
     alloc: Global,
     jobs: u32,
     pool: Pool,
+    way: Remaking,
     gate: &G,
 ) -> Result<Pool, ApplyError>
     requires { 0 < jobs }
-    ensures { UnlessMemory result (strip_pairs pool) }
+    ensures { UnlessMemory result (remade_pairs (text_of way) pool) }
 {
-    let places = class_places(alloc, &pool)?;
-    let stripped = strip_each(rt, alloc, jobs, &pool, places.as_slice(), gate)?;
-    put_stripped(alloc, pool, stripped)
+    let remade = remake_each(rt, alloc, jobs, &pool, way, gate)?;
+    put_remade(alloc, pool, remade)
 }

@@ -4,4 +4,4 @@ use Rattle.jm_commands.proofs.link.link_words.Goals as goal
 
 pub returns-in-Link-default-default-default-default-default-default-None-default-clause-directories : goal.returns-in-Link-default-default-default-default-default-default-None-default-clause-directories
 returns-in-Link-default-default-default-default-default-default-None-default-clause-directories c =
-    rw c.as_slice-in-Link-default-default-default-default-default-default-None-default.ensures (subst FilePathsAreText c.in-Link-default-default-default-default-default-default-None-default.is c.requires.paths).0
+    rw c.as_slice.ensures (subst FilePathsAreText c.in-Link-default-default-default-default-default-default-None-default.is c.requires.paths).0

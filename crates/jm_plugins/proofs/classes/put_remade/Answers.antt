@@ -1,8 +1,8 @@
 use Rattle.std.proofs.Common.{◌<◌, All, length, refl, sym, ap, subst, ◌∙◌}
 use Rattle.std.proofs.lemmas.List.Elements.{All-head}
-use Rattle.jm_plugins.specs.Steps.{put_stripped}
+use Rattle.jm_plugins.specs.Steps.{put_remade}
 use Rattle.jm_plugins.proofs.ClassLaws.{put_more, put_refused, put_none, within_more}
-use Rattle.jm_plugins.proofs.classes.put_stripped.Goals as goal
+use Rattle.jm_plugins.proofs.classes.put_remade.Goals as goal
 
 pub loop-place-init : goal.loop-place-init
 loop-place-init c =
@@ -20,7 +20,7 @@ loop-place-preserved c =
     let pool = c.loop-place.pool in
     let shape = c.in-Some.ensures.steps.0 in
     let later = c.next.new.self.rest.items in
-    let so_far = c.loop-place.invariant.0 ∙ ap (λ l. put_stripped l pool) shape in
+    let so_far = c.loop-place.invariant.0 ∙ ap (λ l. put_remade l pool) shape in
     let within = subst (All (λ one. one.place < length pool)) shape c.loop-place.invariant.1 in (
       put_more c.in-Some.field-0 later pool c.replace.new.self c.in-Ok.text _ c.in-Ok.is c.replace.ensures so_far,
       within_more c.in-Some.field-0 later pool c.replace.new.self c.in-Ok.text c.replace.ensures within,
@@ -34,7 +34,7 @@ refusal-requires c =
 
 pub returns-in-Err : goal.returns-in-Err
 returns-in-Err c =
-    let so_far = c.loop-place.invariant.0 ∙ ap (λ l. put_stripped l c.loop-place.pool) c.in-Some.ensures.steps.0 in
+    let so_far = c.loop-place.invariant.0 ∙ ap (λ l. put_remade l c.loop-place.pool) c.in-Some.ensures.steps.0 in
     put_refused c.in-Some.field-0 c.next.new.self.rest.items c.loop-place.pool c.in-Err.error c.refusal.result _ c.in-Err.is c.refusal.ensures so_far
 
 pub returns : goal.returns
