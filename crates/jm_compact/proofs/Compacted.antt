@@ -11,9 +11,10 @@ use Rattle.jm_poolmap.specs.Live.{Leads, StandsAtSite, IsLive, number_of, TellsL
 use Rattle.jm_poolmap.specs.Sites.{rank_of, rank_at, names_lower, names_constant, found_in, sites_of}
 use Rattle.jm_compact.specs.Compact.{new_number, compact_pool}
 use Rattle.jm_compact.specs.Meaning.{tree}
+use Rattle.jm_poolmap.proofs.ComputedLiveLaws.{all_at}
 use Rattle.jm_compact.proofs.AllKept.{compact_again}
 use Rattle.jm_compact.proofs.KeptSlots.{IsKept, kept_pool, kept_place, kept_rank, kept_utf8, length-compact, number_within}
-use Rattle.jm_compact.proofs.Names.{judged_parts, holes_follow, names_kept, live_kept, kept_live, site_kept, all_at}
+use Rattle.jm_compact.proofs.Names.{judged_parts, holes_follow, names_kept, live_kept, kept_live, site_kept}
 use Rattle.jm_compact.proofs.Sizes.{pool_shorter}
 use Rattle.jm_compact.proofs.Trees.{kept_lower, kept_leads, kept_tree}
 

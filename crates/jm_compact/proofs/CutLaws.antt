@@ -7,6 +7,7 @@ use Rattle.jm_poolmap.specs.declared.site.Site.{Site}
 use Rattle.jm_poolmap.specs.Sites.{site_of}
 use Rattle.jm_compact.specs.Pieces.{Piece, Plain, Number, width, size, cut, put_for_all, text_of, renumbered}
 use Rattle.jm_compact.specs.Steps.{AreIn}
+use Rattle.jm_compact.proofs.FormTokens.{number_size}
 use Rattle.jm_compact.proofs.Tokens.{Token, token_text, found_from, changed, Fit, Each}
 
 -- tokens with what stands between two sites in one piece, behind some bytes
@@ -23,10 +24,6 @@ number_back : (wide : Bool) (n : ℕ) → n < 2 ^ (8 * size wide) → from_be_by
 number_back true n below = from_be_bytes-to_be_bytes_2 n below
 number_back false n below = let same : n % 256 ≡ n = omega (arith, below) in same
 
-length-number : (wide : Bool) (n : ℕ) → length (to_be_bytes (width wide) n) ≡ size wide
-length-number true n = refl
-length-number false n = refl
-
 pub cut_tokens : (tokens : List Token) (at : ℕ) (front : List ℕ) → Fit tokens → cut (sites_from (at + length front) tokens) at (front ++ token_text tokens) ≡ merged front tokens
 cut_tokens [] at front fit = ap (λ t. Plain t ∷ []) (append-nil front)
 cut_tokens (Plain bytes ∷ tokens) at front fit =
@@ -40,8 +37,8 @@ cut_tokens (Number wide n ∷ tokens) at front fit =
     let number = to_be_bytes (width wide) n.1 in
     let before = take_at front (number ++ token_text tokens) (length front) refl in
     let behind = drop_at front (number ++ token_text tokens) (length front) refl in
-    let taken = take_at number (token_text tokens) (size wide) (length-number wide n.1) in
-    let left = drop_at number (token_text tokens) (size wide) (length-number wide n.1) in
+    let taken = take_at number (token_text tokens) (size wide) (number_size wide n.1) in
+    let left = drop_at number (token_text tokens) (size wide) (number_size wide n.1) in
     let back = number_back wide n.1 fit.0 in
     let none : (at + length front) + size wide ≡ ((at + length front) + size wide) + 0 = omega arith in
     rw (here, before, behind, taken, left, back)
@@ -82,5 +79,5 @@ tokens_in (Plain bytes ∷ tokens) at from end less fits =
     tokens_in tokens (at + length bytes) from end (omega (arith, less)) (omega (arith, fits, sizes))
 tokens_in (Number wide n ∷ tokens) at from end less fits =
     let sizes = length-append (to_be_bytes (width wide) n.1) (token_text tokens) in
-    let own = length-number wide n.1 in
+    let own = number_size wide n.1 in
     (less, tokens_in tokens (at + size wide) (at + size wide) end (omega arith) (omega (arith, fits, sizes, own)))

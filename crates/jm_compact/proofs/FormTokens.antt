@@ -162,7 +162,7 @@ number_back : (wide : Bool) (left next : Left) (n : ℕ) → IsBytes left.bytes 
 number_back true = (number16-lawful unfit).back
 number_back false = (number8-lawful unfit).back
 
-number_size : (wide : Bool) (n : ℕ) → length (to_be_bytes (width wide) n) ≡ size wide
+pub number_size : (wide : Bool) (n : ℕ) → length (to_be_bytes (width wide) n) ≡ size wide
 number_size true n = refl
 number_size false n = refl
 

@@ -7,6 +7,7 @@ use Rattle.std.specs.Prelude.{nat_eq, slice_index_or}
 use Rattle.jm_class.specs.Classes.{SlotData, Constant, Hole, IsPoolFrom, FitsTag, is_wide, slot_at, utf8_of, utf8_at}
 use Rattle.jm_poolmap.specs.Live.{first_number, number_of}
 use Rattle.jm_poolmap.specs.Sites.{rank_of, rank_at}
+use Rattle.jm_poolmap.proofs.ComputedLiveLaws.{no_hole}
 use Rattle.jm_compact.specs.Compact.{kept_before, new_number, renamed, kept, compact_pool}
 use Rattle.jm_compact.proofs.NewNumbers.{kept_before-more, new_number-at, new_number-some}
 use Rattle.jm_compact.proofs.Shapes.{fits_renumbered, renamed_utf8}
@@ -150,12 +151,6 @@ before_hole true (Hole ∷ Hole ∷ pool) is zero there = absurd is
 before_hole true (Hole ∷ Constant t b ∷ pool) is zero there = cc
 before_hole true (Hole ∷ pool) is (suc place) there = before_hole false pool is place there
 
--- the first slot is no hole
-pub no_hole_first : (pool : List SlotData) → IsPoolFrom false pool → slice_get pool 0 ≡ Some Hole → ⊥
-no_hole_first [] is there = cc
-no_hole_first (Constant tag body ∷ pool) is there = cc
-no_hole_first (Hole ∷ pool) is there = is
-
 -- the flag of a hole
 pub hole_flag : (before : Bool) (pool : List SlotData) (flags : List Bool) → HolesFollow before pool flags → (place : ℕ) → slice_get pool place ≡ Some Hole → get_or flags place false ≡ get_or (before ∷ flags) place false
 hole_flag before [] flags follow place there = cc
@@ -213,7 +208,7 @@ module _ (pool : List SlotData) (flags : List Bool) where
       slot_there slot there = slice_get-map (renamed (new_number flags)) (kept flags pool) place ∙ ap (option_map (renamed (new_number flags))) there
 
       of_hole : slice_get (kept flags pool) place ≡ Some Hole → (n : ℕ) → slice_get pool n ≡ Some Hole → get_or flags n false ≡ true → kept_before flags n ≡ place → (i : ℕ) × IsKept pool flags i × (number_of (compact_pool flags pool) place ≡ new_number flags i)
-      of_hole there zero is_hole up before = absurd (no_hole_first pool is is_hole)
+      of_hole there zero is_hole up before = absurd (no_hole pool is is_hole)
       of_hole there (suc n) is_hole up before =
           let one = before_hole false pool is n is_hole in
           let up_before = sym (hole_flag false pool flags follow (suc n) is_hole) ∙ up in

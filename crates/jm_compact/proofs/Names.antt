@@ -1,6 +1,6 @@
 -- What a class with sites names: constants, each of a lower rank.
 use Rattle.std.proofs.Common.{◌≡◌, ℕ, zero, suc, ◌+◌, ◌-◌, ◌^◌, ◌<◌, ◌≤◌, ◌⊎◌, inl, inr, Bool, true, false, cond, ◌&&◌, ◌||◌, List, [], ◌∷◌, ◌++◌, get_or, length, map, Option, Some, None, Contains, is_some, option_and_then, slice_get, refl, sym, ap, ap₂, ◌∙◌, subst, arith}
-use Rattle.std.proofs.lemmas.Bool.{and_parts, eqb-true, ltb-true}
+use Rattle.std.proofs.lemmas.Bool.{eqb-true}
 use Rattle.std.proofs.lemmas.Option.{slice_get_within}
 use Rattle.std.specs.Bool.{one_answer}
 use Rattle.std.specs.List.{list_all}
@@ -10,21 +10,14 @@ use Rattle.jm_bytes.proofs.Members.{contains_none, contains_here, contains_later
 use Rattle.jm_class.specs.Classes.{SlotData, Constant, Hole, ClassData, IsPoolFrom, slot_at}
 use Rattle.jm_poolmap.specs.declared.site.Found.{Found}
 use Rattle.jm_poolmap.specs.declared.site.Site.{Site}
-use Rattle.jm_poolmap.specs.Live.{Names, Leads, IsLive, first_number, number_of, TellsLive}
+use Rattle.jm_poolmap.specs.Live.{Leads, IsLive, first_number, number_of, TellsLive}
 use Rattle.jm_poolmap.specs.Sites.{rank, named_by, rank_of, rank_at, is_some_below, names_lower, names_constant, judged, site_of, found_in, sites_of}
-use Rattle.jm_compact.proofs.KeptSlots.{IsKept, HolesFollow, slot_of_number, number_within, before_hole, no_hole_first, flags_follow}
+use Rattle.jm_poolmap.proofs.ComputedLiveLaws.{leads_on, all_at, below_found, no_hole}
+use Rattle.jm_compact.proofs.KeptSlots.{IsKept, HolesFollow, slot_of_number, number_within, before_hole, flags_follow}
 use Rattle.jm_compact.proofs.NewNumbers.{place_of}
 use Rattle.jm_compact.proofs.Shapes.{AllFitTwo}
 
 -- Checks of all
-
-pub all_at : {A : Type 0} (test : A → Bool) (xs : List A) (x : A) → Contains xs x → list_all test xs ≡ true → test x ≡ true
-all_at test [] x there all = absurd (contains_none x there)
-all_at test (y ∷ xs) x there all = go (contains_cases y xs x there) (λ later. all_at test xs x later (and_parts (test y) (list_all test xs) all).1)
-  where
-    go : (y ≡ x) ⊎ Contains xs x → (Contains xs x → test x ≡ true) → test x ≡ true
-    go (inl same) rest = subst (λ z. test z ≡ true) same (and_parts (test y) (list_all test xs) all).0
-    go (inr later) rest = rest later
 
 pub all_from : {A : Type 0} (test : A → Bool) (xs : List A) → ((x : A) → Contains xs x → test x ≡ true) → list_all test xs ≡ true
 all_from test [] each = refl
@@ -88,10 +81,6 @@ ranked_slot pool i is = go (slot_at pool i) refl is
     go (Some Hole) e is = cc
     go (Some (Constant tag body)) e is = (tag, body, e)
 
-below_found : (limit : ℕ) (found : Option ℕ) → is_some_below limit found ≡ true → (r : ℕ) × (found ≡ Some r) × (r < limit)
-below_found limit None e = cc
-below_found limit (Some r) e = (r, refl, ltb-true r limit e)
-
 module _ (pool : List SlotData) (lower : list_all (names_lower pool) pool ≡ true) where
   -- what a constant names is a constant of a lower rank
   pub named_lower : (i tag : ℕ) (body : List ℕ) (k : ℕ) → slot_at pool i ≡ Some (Constant tag body) → Contains (named_by (Constant tag body)) k → (r : ℕ) × (rank_at pool k ≡ Some r) × (r < rank tag)
@@ -125,10 +114,6 @@ module _ (pool : List SlotData) (lower : list_all (names_lower pool) pool ≡ tr
       go : (k ≡ j) ⊎ (is_some (rank_at pool j) ≡ true) → (i ≡ j) ⊎ (is_some (rank_at pool j) ≡ true)
       go (inl same) = inr (subst (λ n. is_some (rank_at pool n) ≡ true) same (named_ranked i names.0 k names.1 names.2))
       go (inr is) = inr is
-
-pub leads_on : (pool : List SlotData) (i : ℕ) (between : List ℕ) (j k : ℕ) → Leads pool i between j → Names pool j k → Leads pool i (between ++ k ∷ []) k
-leads_on pool i [] j k same names = (subst (λ n. Names pool n k) (sym same) names, refl)
-leads_on pool i (m ∷ between) j k leads names = (leads.0, leads_on pool m between j k leads.1 names)
 
 -- Live constants
 
@@ -201,7 +186,7 @@ module _ (c : ClassData) (sites : List Site) (flags : List Bool) (is_sites : sit
   holes_follow is = flags_follow false c.pool flags tells.size at_place
     where
       at_place : (place : ℕ) → slice_get c.pool place ≡ Some Hole → get_or flags place false ≡ get_or (false ∷ flags) place false
-      at_place zero there = absurd (no_hole_first c.pool is there)
+      at_place zero there = absurd (no_hole c.pool is there)
       at_place (suc place) there =
           let before = before_hole false c.pool is place there in
           let within = slice_get_within c.pool (suc place) Hole there in

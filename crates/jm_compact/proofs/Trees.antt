@@ -11,7 +11,8 @@ use Rattle.jm_compact.specs.Compact.{name_sites, new_number, renamed, kept, comp
 use Rattle.jm_compact.specs.Meaning.{slot_tree, tree}
 use Rattle.jm_compact.specs.Pieces.{Piece, cut, put_for_all}
 use Rattle.jm_compact.proofs.KeptSlots.{IsKept, slot_of_number, kept_from, KeptFrom, kept_here, kept_slot, kept_rank, fits_at}
-use Rattle.jm_compact.proofs.Names.{all_at, all_from, contained_slot, slot_contained, named_fit}
+use Rattle.jm_poolmap.proofs.ComputedLiveLaws.{all_at}
+use Rattle.jm_compact.proofs.Names.{all_from, contained_slot, slot_contained, named_fit}
 use Rattle.jm_compact.proofs.NewNumbers.{new_number-small}
 use Rattle.jm_compact.proofs.Shapes.{AllFitTwo, numbers, numbers-cut, cut-renumbered, renamed_names, renamed_again, put_same, put_twice}
 

@@ -1,8 +1,7 @@
 -- The definitions, evaluated on small classes.
-use Rattle.std.proofs.Common.{◌≡◌, ℕ, true, false, List, [], ◌∷◌, ◌++◌, length, take, drop, Ok, refl}
-use Rattle.jm_class.specs.Classes.{SlotData, Constant, Hole}
+use Rattle.std.proofs.Common.{◌≡◌, ℕ, List, [], ◌∷◌, ◌++◌, length, take, drop, Ok, refl}
 use Rattle.jm_poolmap.proofs.Vectors.{generated}
-use Rattle.jm_compact.specs.Compact.{new_number, renamed, compact_pool, compact_of}
+use Rattle.jm_compact.specs.Compact.{compact_of}
 
 -- the generated class loses its constants 8 to 10; the Long behind them gets their number
 abbrev compacted : List ℕ

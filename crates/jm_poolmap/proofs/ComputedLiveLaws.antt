@@ -17,7 +17,7 @@ use Rattle.jm_poolmap.proofs.MarkLaws.{IsUp, HasFlag, length-marks, marks_here, 
 
 -- Lists of constants
 
-leads_on : (pool : List SlotData) (i : ℕ) (between : List ℕ) (j k : ℕ) → Leads pool i between j → Names pool j k → Leads pool i (between ++ k ∷ []) k
+pub leads_on : (pool : List SlotData) (i : ℕ) (between : List ℕ) (j k : ℕ) → Leads pool i between j → Names pool j k → Leads pool i (between ++ k ∷ []) k
 leads_on pool i [] j k same names = (subst (λ n. Names pool n k) (sym same) names, refl)
 leads_on pool i (m ∷ between) j k leads names = (leads.0, leads_on pool m between j k leads.1 names)
 
@@ -27,7 +27,7 @@ Led pool numbers j = (i : ℕ) × (between : List ℕ) × Contains numbers i × 
 
 -- Ranks
 
-all_at : {A : Type 0} (test : A → Bool) (xs : List A) (x : A) → Contains xs x → list_all test xs ≡ true → test x ≡ true
+pub all_at : {A : Type 0} (test : A → Bool) (xs : List A) (x : A) → Contains xs x → list_all test xs ≡ true → test x ≡ true
 all_at test [] x there all = absurd (contains_none x there)
 all_at test (y ∷ xs) x there all = go (contains_cases y xs x there) (λ later. all_at test xs x later (and_parts (test y) (list_all test xs) all).1)
   where
@@ -50,7 +50,7 @@ rank_within tag = go (nat_eq tag 7 || nat_eq tag 8 || nat_eq tag 12 || nat_eq ta
     go false false true = omega arith
     go false false false = omega arith
 
-below_found : (limit : ℕ) (found : Option ℕ) → is_some_below limit found ≡ true → (r : ℕ) × (found ≡ Some r) × (r < limit)
+pub below_found : (limit : ℕ) (found : Option ℕ) → is_some_below limit found ≡ true → (r : ℕ) × (found ≡ Some r) × (r < limit)
 below_found limit None e = cc
 below_found limit (Some r) e = (r, refl, ltb-true r limit e)
 
@@ -231,7 +231,7 @@ slot_some (slot ∷ pool) zero below = (slot, refl)
 slot_some (slot ∷ pool) (suc place) below = slot_some pool place (omega (arith, below))
 
 -- the first slot is no hole
-no_hole : (pool : List SlotData) → IsPoolFrom false pool → slice_get pool 0 ≡ Some Hole → ⊥
+pub no_hole : (pool : List SlotData) → IsPoolFrom false pool → slice_get pool 0 ≡ Some Hole → ⊥
 no_hole [] is there = cc
 no_hole (Constant tag body ∷ pool) is there = cc
 no_hole (Hole ∷ pool) is there = is
