@@ -1,4 +1,4 @@
-use crate::class_bytes::{WITH_SOURCE, WITHOUT_SOURCE};
+use crate::class_bytes::{COMPACTED, GENERATED, STRIPPED, WITH_SOURCE, WITHOUT_SOURCE};
 use crate::meeting::Meeting;
 use crate::pools::{holds, pool_of};
 use jm_bytes::List;
@@ -18,6 +18,9 @@ fn plug_in(alloc: Global, word: &str) -> Result<Plugin, PatternError> {
     }
     if let Some(patterns) = word.strip_prefix("exclude=") {
         return Ok(Plugin::Exclude(read_list(alloc, patterns.as_bytes())?));
+    }
+    if word == "compact" {
+        return Ok(Plugin::Compact);
     }
     Ok(Plugin::Strip)
 }
@@ -90,6 +93,22 @@ const TURNS: &[(&str, Pairs, Result<Pairs, (&str, ClassFault)>)] = &[
             ("/b/B.class", &WITHOUT_SOURCE),
         ]),
     ),
+    // All constants are named before the debug information goes.
+    (
+        "compact",
+        &[("/a/A.class", &GENERATED), ("/a/x", &STRIPPED)],
+        Ok(&[("/a/A.class", &GENERATED), ("/a/x", &STRIPPED)]),
+    ),
+    (
+        "strip compact",
+        &[("/a/A.class", &GENERATED), ("/a/B.class", &STRIPPED)],
+        Ok(&[("/a/A.class", &COMPACTED), ("/a/B.class", &COMPACTED)]),
+    ),
+    (
+        "compact strip",
+        &[("/a/A.class", &GENERATED), ("/a/B.class", &STRIPPED)],
+        Ok(&[("/a/A.class", &STRIPPED), ("/a/B.class", &COMPACTED)]),
+    ),
     // The first plug-in that meets a bad class decides, by the least place.
     (
         "strip order=/a/C.class strip",
@@ -98,6 +117,16 @@ const TURNS: &[(&str, Pairs, Result<Pairs, (&str, ClassFault)>)] = &[
     ),
     (
         "order=/a/C.class strip",
+        BAD,
+        Err(("/a/C.class", ClassFault::Magic)),
+    ),
+    (
+        "compact order=/a/C.class strip",
+        BAD,
+        Err(("/a/B.class", ClassFault::Short(0))),
+    ),
+    (
+        "order=/a/C.class compact strip",
         BAD,
         Err(("/a/C.class", ClassFault::Magic)),
     ),
@@ -145,7 +174,7 @@ const TWO: Pairs = &[("/a/B.class", &WITH_SOURCE), ("/b/B.class", &WITH_SOURCE)]
 
 #[test]
 fn both_pieces_meet(rt: HostRuntime) -> Result<(), Fail> {
-    for words in ["strip", "exclude=/c/**", "order=/c/**"] {
+    for words in ["strip", "compact", "exclude=/c/**", "order=/c/**"] {
         let list = plug_ins(rt.alloc(), words)?;
         let gate = Meeting::new();
         let left = apply(
