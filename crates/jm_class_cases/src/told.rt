@@ -1,24 +1,25 @@
 //! What a line comes to.
 
+use crate::described::put_described;
 use crate::digits::{bytes_of, put_digits};
+use crate::parts::put_read;
+use crate::texts::put_error;
+use jm_bytes::Text;
 use jm_class::ReadError;
 use jm_compact::compact;
+use jm_strip::strip;
 use std::alloc::{AllocError, Global};
 
-/// Puts why a class isn't compacted.
-fn put_error(told: &mut String, error: ReadError) -> Result<(), AllocError> {
-    match error {
-        ReadError::Fault(fault) => write!(told, "{fault}"),
-        ReadError::Memory => told.push_str("no memory"),
-    }
-}
-
-/// Puts the bytes of a compacted class, or that they are those that it had.
-fn put_class(told: &mut String, old: &[u8], new: &[u8]) -> Result<(), AllocError> {
-    if old == new {
-        told.push_str("same")
-    } else {
-        put_digits(told, new)
+/// Puts the bytes of a class that was made of another one, or that they are those of this one.
+fn put_made(
+    told: &mut String,
+    old: &[u8],
+    made: Result<Text, ReadError>,
+) -> Result<(), AllocError> {
+    match made {
+        Ok(new) if new.as_slice() == old => told.push_str("same"),
+        Ok(new) => put_digits(told, new.as_slice()),
+        Err(error) => put_error(told, error),
     }
 }
 
@@ -30,27 +31,44 @@ fn stays(alloc: Global, class: &[u8]) -> bool {
     }
 }
 
-/// The line on a class, and one more where compacting it twice changes it twice.
-fn line_of(alloc: Global, name: &str, class: &[u8]) -> Result<String, AllocError> {
-    let mut told = format!(in alloc; "{name}: ")?;
-    match compact(alloc, class) {
-        Ok(text) => {
-            put_class(&mut told, class, text.as_slice())?;
-            if !stays(alloc, text.as_slice()) {
-                write!(told, "\n{name}: again differs")?;
-            }
-        }
-        Err(error) => put_error(&mut told, error)?,
+/// Puts the compacted class, and where compacting it twice changes it twice, this too.
+fn put_compacted(told: &mut String, alloc: Global, bytes: &[u8]) -> Result<(), AllocError> {
+    let differs = match compact(alloc, bytes) {
+        Ok(text) => !stays(alloc, text.as_slice()),
+        Err(_) => false,
+    };
+    put_made(told, bytes, compact(alloc, bytes))?;
+    if differs {
+        told.push_str("; again differs")?;
     }
-    told.push('\n')?;
-    Ok(told)
+    Ok(())
 }
 
-/// What a line `NAME: HEX` comes to; any other line is told as it stands.
-pub fn told_of(alloc: Global, line: &str) -> Result<String, AllocError> {
-    let (name, digits) = line.split_once(": ").unwrap_or((line, ""));
-    match bytes_of(alloc, digits)? {
-        Some(class) => line_of(alloc, name, class.as_slice()),
-        None => format!(in alloc; "no class: {line}\n"),
+/// Puts what a verb makes of the bytes.
+fn put_answer(
+    told: &mut String,
+    alloc: Global,
+    verb: &str,
+    bytes: &[u8],
+) -> Result<(), AllocError> {
+    match verb {
+        "compact" => put_compacted(told, alloc, bytes),
+        "strip" => put_made(told, bytes, strip(alloc, bytes)),
+        "read" => put_read(told, alloc, bytes),
+        "describe" => put_described(told, alloc, bytes),
+        _ => told.push_str("no verb"),
     }
+}
+
+/// What a line `VERB NAME: HEX` comes to; any other line is told as it stands.
+pub fn told_of(alloc: Global, line: &str) -> Result<String, AllocError> {
+    let (head, digits) = line.split_once(": ").unwrap_or((line, ""));
+    let (verb, _) = head.split_once(' ').unwrap_or((head, ""));
+    let Some(bytes) = bytes_of(alloc, digits)? else {
+        return format!(in alloc; "no bytes: {line}\n");
+    };
+    let mut told = format!(in alloc; "{head}: ")?;
+    put_answer(&mut told, alloc, verb, bytes.as_slice())?;
+    told.push('\n')?;
+    Ok(told)
 }

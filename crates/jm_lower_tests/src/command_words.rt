@@ -1,139 +1,17 @@
 use jm_bytes::{List, Order, Text};
 use jm_plugins::Plugin;
-use jm_words::{Command, WordsError, WordsKind, read_words};
+use jm_words::{Command, WordsError, read_words};
 use std::alloc::Global;
 use std::test::Fail;
 
-/// Words, and their first fault.
-const FAULTS: &[(&[&str], WordsKind, usize)] = &[
-    (&[], WordsKind::NoCommand, 0),
-    (&["zap"], WordsKind::UnknownCommand, 1),
-    (&[""], WordsKind::UnknownCommand, 1),
-    (&["--help=1"], WordsKind::UnknownCommand, 1),
-    (&["--jobs", "2"], WordsKind::UnknownCommand, 1),
-    // Arguments.
-    (&["cat", "img"], WordsKind::Missing, 2),
-    (&["cat"], WordsKind::Missing, 1),
-    (&["cat", "a", "b", "c"], WordsKind::TooManyArguments, 4),
-    (&["cat", "", "b"], WordsKind::BadValue, 2),
-    (&["ls", "img", ""], WordsKind::BadValue, 3),
-    (&["gen", "///"], WordsKind::BadValue, 2),
-    (&["info", "img", ""], WordsKind::TooManyArguments, 3),
-    (&["--help", "x"], WordsKind::TooManyArguments, 2),
-    (&["--version", "-"], WordsKind::TooManyArguments, 2),
-    // Options.
-    (&["cat", "--zap"], WordsKind::UnknownOption, 2),
-    (&["cat", "--help"], WordsKind::UnknownOption, 2),
-    (&["--help", "--help"], WordsKind::UnknownOption, 2),
-    (&["cat", "a", "b", "--"], WordsKind::UnknownOption, 4),
-    (
-        &["cat", "a", "b", "--include=x"],
-        WordsKind::UnknownOption,
-        4,
-    ),
-    (&["cat", "--jobs"], WordsKind::NoValue, 2),
-    (&["cat", "a", "b", "--jobs"], WordsKind::NoValue, 4),
-    (&["extract", "img", "--dir"], WordsKind::NoValue, 3),
-    (&["extract", "img"], WordsKind::Missing, 2),
-    (
-        &["gen", "d", "--modules=1", "--classes=1"],
-        WordsKind::Missing,
-        4,
-    ),
-    // What stood before.
-    (
-        &["link", "--output", "a", "--output", "b"],
-        WordsKind::Repeated,
-        4,
-    ),
-    (&["cat", "--jobs=1", "--jobs"], WordsKind::Repeated, 3),
-    (&["cat", "--jobs=1", "--jobs=0"], WordsKind::Repeated, 3),
-    (
-        &["link", "--bind-services", "--bind-services=1"],
-        WordsKind::Repeated,
-        3,
-    ),
-    (
-        &["link", "--module-path", "m", "--from-image", ""],
-        WordsKind::Repeated,
-        4,
-    ),
-    (
-        &["link", "--from-image=i", "--module-path"],
-        WordsKind::Repeated,
-        3,
-    ),
-    (
-        &["list", "--include=a", "--include=b"],
-        WordsKind::Repeated,
-        3,
-    ),
-    // Values, at the word that holds them.
-    (&["cat", "a", "b", "--jobs", "0"], WordsKind::BadValue, 5),
-    (&["cat", "a", "b", "--jobs=0"], WordsKind::BadValue, 4),
-    (&["cat", "--jobs", "00"], WordsKind::BadValue, 3),
-    (&["cat", "--jobs", "01"], WordsKind::BadValue, 3),
-    (&["cat", "--jobs", "65"], WordsKind::BadValue, 3),
-    (&["cat", "--jobs", "+1"], WordsKind::BadValue, 3),
-    (&["cat", "--jobs", ""], WordsKind::BadValue, 3),
-    (&["cat", "--jobs", "--zap"], WordsKind::BadValue, 3),
-    (&["gen", "--modules", "257"], WordsKind::BadValue, 3),
-    (&["gen", "--modules", "0"], WordsKind::BadValue, 3),
-    (&["gen", "--classes", "1025"], WordsKind::BadValue, 3),
-    (
-        &["gen", "--seed", "18446744073709551616"],
-        WordsKind::BadValue,
-        3,
-    ),
-    (
-        &["gen", "--seed", "99999999999999999999999"],
-        WordsKind::BadValue,
-        3,
-    ),
-    (&["link", "--bind-services="], WordsKind::BadValue, 2),
-    (&["link", "--compact-pool=1"], WordsKind::BadValue, 2),
-    (&["link", "--endian", "Big"], WordsKind::BadValue, 3),
-    (&["link", "--output="], WordsKind::BadValue, 2),
-    (&["link", "--module-path", "a::b"], WordsKind::BadValue, 3),
-    (&["link", "--module-path", "a:/"], WordsKind::BadValue, 3),
-    (&["link", "--add-modules", "a,"], WordsKind::BadValue, 3),
-    (&["link", "--add-modules="], WordsKind::BadValue, 2),
-    (&["extract", "--dir", "//"], WordsKind::BadValue, 3),
-    (&["list", "--include", "a,regex:b"], WordsKind::BadValue, 3),
-    (&["list", "--include", "a\\"], WordsKind::BadValue, 3),
-    (&["list", "--include", ""], WordsKind::BadValue, 3),
-    // Several faults: the first from left to right, and what isn't there last.
-    (&["cat", "--jobs=0", "--zap"], WordsKind::BadValue, 2),
-    (&["cat", "--zap", "--jobs=0"], WordsKind::UnknownOption, 2),
-    (
-        &["cat", "--jobs=1", "--jobs=2", "--zap"],
-        WordsKind::Repeated,
-        3,
-    ),
-    (&["link", "x"], WordsKind::TooManyArguments, 2),
-    (
-        &["link", "--output=o", "--add-modules=m"],
-        WordsKind::Missing,
-        3,
-    ),
-    (
-        &["link", "--from-image=i", "--output=o"],
-        WordsKind::Missing,
-        3,
-    ),
-];
-
-fn words_of(alloc: Global, words: &[&str]) -> Result<Vec<String>, Fail> {
-    let mut all = Vec::new(alloc);
-    for word in words {
-        all.push(String::from_str(alloc, word)?)?;
+/// The command of a text's words, of which `""` is the empty one.
+fn read(alloc: Global, text: &str) -> Result<Result<Command, WordsError>, Fail> {
+    let mut words = Vec::new(alloc);
+    for word in text.split(' ') {
+        let word = if word == "\"\"" { "" } else { word };
+        words.push(String::from_str(alloc, word)?)?;
     }
-    Ok(all)
-}
-
-fn read(alloc: Global, words: &[&str]) -> Result<Result<Command, WordsError>, Fail> {
-    let all = words_of(alloc, words)?;
-    Ok(read_words(alloc, all.as_slice()))
+    Ok(read_words(alloc, words.as_slice()))
 }
 
 fn is_text(text: &Text, want: &str) -> bool {
@@ -147,25 +25,6 @@ fn are_texts(texts: &List<Text>, want: &[&str]) -> bool {
             .iter()
             .zip(want.iter())
             .all(|(text, word)| is_text(text, word))
-}
-
-#[test]
-fn first_faults(rt: HostRuntime) -> Result<(), Fail> {
-    for (words, kind, at) in FAULTS {
-        let found = read(rt.alloc(), words)?;
-        let want = WordsError::Fault {
-            at: *at,
-            kind: *kind,
-        };
-        assert!(rt; found.is_err_and(|error| error == want), "{words:?}");
-    }
-    let error = WordsError::Fault {
-        at: 2,
-        kind: WordsKind::Missing,
-    };
-    let shown = format!(in rt.alloc(); "{error}")?;
-    assert_eq!(rt; shown.as_str(), "Missing at 2");
-    Ok(())
 }
 
 /// Whether the command is the `link` of all options.
@@ -231,121 +90,189 @@ fn is_link_from_image(command: &Command) -> bool {
     }
 }
 
-/// Whether the words make the command that they are listed for.
-fn is_made(number: usize, command: &Command) -> bool {
-    match (number, command) {
-        (0, Command::Cat { image, name, jobs }) => {
-            is_text(image, "img") && is_text(name, "") && *jobs == 1
-        }
-        (1, Command::Cat { image, name, jobs }) => {
-            is_text(image, "-")
-                && name.as_slice() == b"/a/\xED\xA0\xBD\xED\xB8\x80".as_slice()
-                && *jobs == 3
-        }
-        (
-            2,
-            Command::List {
-                image,
-                include,
-                jobs,
-            },
-        ) => { is_text(image, "img/") && include.is_none() && *jobs == 1 }
-        (3, Command::List { include, .. }) => match include {
-            Some(patterns) => patterns.len() == 2,
-            None => false,
-        },
-        (4, Command::Ls { image, path, .. }) => is_text(image, "img") && is_text(path, "/modules/"),
-        (5, Command::Info { image, .. }) => is_text(image, "img"),
-        (
-            6,
-            Command::Extract {
-                image,
-                dir,
-                include,
-                ..
-            },
-        ) => { is_text(image, "img") && is_text(dir, "out") && include.is_some() }
-        (7, Command::Verify { image, .. }) => is_text(image, "img"),
-        (8, Command::Serve { image, .. }) => is_text(image, "img"),
-        (
-            9,
-            Command::Gen {
-                dir,
-                modules,
-                classes,
-                seed,
-                jobs,
-            },
-        ) => {
+/// Whether the command is the `gen` of all options.
+fn is_full_gen(command: &Command) -> bool {
+    match command {
+        Command::Gen {
+            dir,
+            modules,
+            classes,
+            seed,
+            jobs,
+        } => {
             is_text(dir, "/d")
                 && *modules == 256
                 && *classes == 1
                 && *seed == 18446744073709551615
                 && *jobs == 10
         }
-        (10, Command::Describe { file, .. }) => is_text(file, "f/"),
-        (11, Command::Help { jobs }) => *jobs == 2,
-        (12, Command::Version { jobs }) => *jobs == 1,
-        (13, command) => is_full_link(command),
-        (14, command) => is_link_from_image(command),
         _ => false,
     }
 }
 
 #[test]
+fn all_options(rt: HostRuntime) -> Result<(), Fail> {
+    let alloc = rt.alloc();
+    let full = read(
+        alloc,
+        "link --order-resources=/a/**,glob:/b/? --module-path mods//:/x/ \
+         --strip-java-debug-attributes --add-modules=a,b,a --exclude-resources **\\, --endian=big \
+         --output --o/ --bind-services --compact-pool --compact-pool --jobs=64",
+    )?;
+    assert!(rt; full.is_ok_and(|command| is_full_link(&command)), "link");
+    let linked = read(alloc, "link --from-image i/ --output=o --add-modules m")?;
+    assert!(rt;
+        linked.is_ok_and(|command| is_link_from_image(&command)),
+        "link from an image"
+    );
+    let made = read(
+        alloc,
+        "gen --seed=18446744073709551615 /d/ --modules 256 --jobs=10 --classes=1",
+    )?;
+    assert!(rt; made.is_ok_and(|command| is_full_gen(&command)), "gen");
+    Ok(())
+}
+
+/// The word of a command.
+fn word_of(command: &Command) -> &'static str {
+    match command {
+        Command::Link { .. } => "link",
+        Command::Cat { .. } => "cat",
+        Command::List { .. } => "list",
+        Command::Ls { .. } => "ls",
+        Command::Info { .. } => "info",
+        Command::Extract { .. } => "extract",
+        Command::Verify { .. } => "verify",
+        Command::Serve { .. } => "serve",
+        Command::Gen { .. } => "gen",
+        Command::Describe { .. } => "describe",
+        Command::Help { .. } => "--help",
+        Command::Version { .. } => "--version",
+    }
+}
+
+/// The file or folder that a command names first, or no byte.
+fn file_of<'a>(command: &'a Command) -> &'a [u8] {
+    match command {
+        Command::Cat { image, .. }
+        | Command::List { image, .. }
+        | Command::Ls { image, .. }
+        | Command::Info { image, .. }
+        | Command::Extract { image, .. }
+        | Command::Verify { image, .. }
+        | Command::Serve { image, .. } => image.as_slice(),
+        Command::Describe { file, .. } => file.as_slice(),
+        Command::Gen { dir, .. } => dir.as_slice(),
+        Command::Link { output, .. } => output.as_slice(),
+        Command::Help { .. } | Command::Version { .. } => &[],
+    }
+}
+
+/// What a command names besides: a resource, a path in an image or a folder, or no byte.
+fn place_of<'a>(command: &'a Command) -> &'a [u8] {
+    match command {
+        Command::Cat { name, .. } => name.as_slice(),
+        Command::Ls { path, .. } => path.as_slice(),
+        Command::Extract { dir, .. } => dir.as_slice(),
+        _ => &[],
+    }
+}
+
+/// How many jobs a command takes.
+fn jobs_of(command: &Command) -> u32 {
+    match command {
+        Command::Link { jobs, .. }
+        | Command::Cat { jobs, .. }
+        | Command::List { jobs, .. }
+        | Command::Ls { jobs, .. }
+        | Command::Info { jobs, .. }
+        | Command::Extract { jobs, .. }
+        | Command::Verify { jobs, .. }
+        | Command::Serve { jobs, .. }
+        | Command::Gen { jobs, .. }
+        | Command::Describe { jobs, .. }
+        | Command::Help { jobs }
+        | Command::Version { jobs } => *jobs,
+    }
+}
+
+/// How many patterns a command includes, if it has such.
+fn included(command: &Command) -> Option<usize> {
+    match command {
+        Command::List {
+            include: Some(patterns),
+            ..
+        }
+        | Command::Extract {
+            include: Some(patterns),
+            ..
+        } => Some(patterns.len()),
+        _ => None,
+    }
+}
+
+/// Whether a command is this one.
+fn is_made(
+    command: &Command,
+    word: &str,
+    file: &[u8],
+    place: &[u8],
+    jobs: u32,
+    patterns: Option<usize>,
+) -> bool {
+    word_of(command) == word
+        && file_of(command) == file
+        && place_of(command) == place
+        && jobs_of(command) == jobs
+        && included(command) == patterns
+}
+
+/// Words, and the command that they make: its word, what it names, its jobs and its patterns.
+const MADE: &[(&str, &str, &[u8], &[u8], u32, Option<usize>)] = &[
+    ("cat img \"\"", "cat", b"img", b"", 1, None),
+    (
+        "cat --jobs=3 - /a/\u{1F600}",
+        "cat",
+        b"-",
+        b"/a/\xED\xA0\xBD\xED\xB8\x80",
+        3,
+        None,
+    ),
+    ("list img/", "list", b"img/", b"", 1, None),
+    (
+        "list --include *,a\\,b img",
+        "list",
+        b"img",
+        b"",
+        1,
+        Some(2),
+    ),
+    ("ls img /modules/", "ls", b"img", b"/modules/", 1, None),
+    ("info img", "info", b"img", b"", 1, None),
+    (
+        "extract --include=** img --dir=out///",
+        "extract",
+        b"img",
+        b"out",
+        1,
+        Some(1),
+    ),
+    ("verify img", "verify", b"img", b"", 1, None),
+    ("serve img", "serve", b"img", b"", 1, None),
+    ("describe f/", "describe", b"f/", b"", 1, None),
+    ("--help --jobs 2", "--help", b"", b"", 2, None),
+    ("--version", "--version", b"", b"", 1, None),
+];
+
+#[test]
 fn all_commands(rt: HostRuntime) -> Result<(), Fail> {
-    let all: &[&[&str]] = &[
-        &["cat", "img", ""],
-        &["cat", "--jobs=3", "-", "/a/\u{1F600}"],
-        &["list", "img/"],
-        &["list", "--include", "*,a\\,b", "img"],
-        &["ls", "img", "/modules/"],
-        &["info", "img"],
-        &["extract", "--include=**", "img", "--dir=out///"],
-        &["verify", "img"],
-        &["serve", "img"],
-        &[
-            "gen",
-            "--seed=18446744073709551615",
-            "/d/",
-            "--modules",
-            "256",
-            "--jobs=10",
-            "--classes=1",
-        ],
-        &["describe", "f/"],
-        &["--help", "--jobs", "2"],
-        &["--version"],
-        &[
-            "link",
-            "--order-resources=/a/**,glob:/b/?",
-            "--module-path",
-            "mods//:/x/",
-            "--strip-java-debug-attributes",
-            "--add-modules=a,b,a",
-            "--exclude-resources",
-            "**\\,",
-            "--endian=big",
-            "--output",
-            "--o/",
-            "--bind-services",
-            "--compact-pool",
-            "--compact-pool",
-            "--jobs=64",
-        ],
-        &[
-            "link",
-            "--from-image",
-            "i/",
-            "--output=o",
-            "--add-modules",
-            "m",
-        ],
-    ];
-    for i in 0..all.len() {
-        match read(rt.alloc(), all[i])? {
-            Ok(command) => assert!(rt; is_made(i, &command), "{i}"),
-            Err(error) => assert!(rt; false, "{i}: {error}"),
+    for (words, word, file, place, jobs, patterns) in MADE {
+        match read(rt.alloc(), words)? {
+            Ok(command) => assert!(rt;
+                is_made(&command, word, file, place, *jobs, *patterns),
+                "{words}"
+            ),
+            Err(error) => assert!(rt; false, "{words}: {error}"),
         }
     }
     Ok(())

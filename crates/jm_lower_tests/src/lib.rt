@@ -6,8 +6,6 @@ mod candidates;
 #[cfg(test)]
 mod class_bytes;
 #[cfg(test)]
-mod classes;
-#[cfg(test)]
 mod closures;
 #[cfg(test)]
 mod command_words;

@@ -1,0 +1,21 @@
+//! Stored texts and faults as text.
+
+use crate::digits::put_digits;
+use jm_class::ReadError;
+use std::alloc::AllocError;
+
+/// Puts a stored text, in digits where it isn't UTF-8.
+pub fn put_stored(told: &mut String, bytes: &[u8]) -> Result<(), AllocError> {
+    match str::from_utf8(bytes) {
+        Ok(text) => told.push_str(text),
+        Err(_) => put_digits(told, bytes),
+    }
+}
+
+/// Puts why a class isn't read.
+pub fn put_error(told: &mut String, error: ReadError) -> Result<(), AllocError> {
+    match error {
+        ReadError::Fault(fault) => write!(told, "{fault}"),
+        ReadError::Memory => told.push_str("no memory"),
+    }
+}
