@@ -64,16 +64,16 @@ module _ (made : Writes) (shelf : Seen Files) (now new : World) (first : MadeAll
     },
   )
 
--- what a link of so many modules is asked for
-abbrev asked_with : List (List ℕ) → List (List ℕ) → Request
-asked_with directories roots = record { directories = directories; roots = roots; bind = false; plugins = plugin.Strip ∷ []; order = Little }
+-- what a link of these modules is asked for
+abbrev asked_with : List (List ℕ) → Request
+asked_with roots = record { roots = roots; bind = false; plugins = plugin.Strip ∷ []; order = Little }
 
 -- the link of a `gen`, by what its parts are
-pub links_as : (gen : Gen) (directories roots : List (List ℕ)) (output : List ℕ) (answer : Result Summary LinkStop) (old new : Option Files) (faults new_faults : ℕ) → directories ≡ modules_path gen ∷ [] → roots ≡ module_names gen.modules → output ≡ image_path gen → Links (asked_with directories roots) output answer old new faults new_faults → Links (gen_request gen) (image_path gen) answer old new faults new_faults
+pub links_as : (gen : Gen) (directories roots : List (List ℕ)) (output : List ℕ) (answer : Result Summary LinkStop) (old new : Option Files) (faults new_faults : ℕ) → directories ≡ modules_path gen ∷ [] → roots ≡ module_names gen.modules → output ≡ image_path gen → Links directories (asked_with roots) output answer old new faults new_faults → Links (modules_path gen ∷ []) (gen_request gen) (image_path gen) answer old new faults new_faults
 links_as gen directories roots output answer old new faults new_faults one two three links =
-    let same : asked_with directories roots ≡ gen_request gen = ap (λ ds. asked_with ds roots) one ∙ ap (asked_with (modules_path gen ∷ [])) two in
-    subst (λ (path : List ℕ). Links (gen_request gen) path answer old new faults new_faults) three
-    (subst (λ (asked : Request). Links asked output answer old new faults new_faults) same links)
+    subst (λ (path : List ℕ). Links (modules_path gen ∷ []) (gen_request gen) path answer old new faults new_faults) three
+    (subst (λ (ds : List (List ℕ)). Links ds (gen_request gen) output answer old new faults new_faults) one
+    (subst (λ (rs : List (List ℕ)). Links directories (asked_with rs) output answer old new faults new_faults) two links))
 
 module _ (gen : Gen) (shelf : Seen Files) (now new : World) where
   abbrev before : World
@@ -89,12 +89,12 @@ module _ (gen : Gen) (shelf : Seen Files) (now new : World) where
       (step_after (made_first gen) shelf now new made up (LinkComesTo now.shelf.told (gen_link gen)) answer step)
 
   -- all was made and linked, and then the text was put
-  pub gen_put : (summary : Summary) (answer : Result (Unit {0}) Stop) → MadeAll (made_first gen) shelf.told now.shelf.told → shelf.faults ≤ now.shelf.faults → new.input.told ≡ now.input.told → Links (gen_request gen) (image_path gen) (Ok summary) now.shelf.told new.shelf.told now.shelf.faults new.shelf.faults → PutDoes (done (gen_text summary)) answer now.out new.out → Does answer
+  pub gen_put : (summary : Summary) (answer : Result (Unit {0}) Stop) → MadeAll (made_first gen) shelf.told now.shelf.told → shelf.faults ≤ now.shelf.faults → new.input.told ≡ now.input.told → Links (modules_path gen ∷ []) (gen_request gen) (image_path gen) (Ok summary) now.shelf.told new.shelf.told now.shelf.faults new.shelf.faults → PutDoes (done (gen_text summary)) answer now.out new.out → Does answer
   gen_put summary answer made up source links put =
       linked_after answer made up (link_put (gen_link gen) now new source summary answer links put)
 
   -- all was made, and the link stopped
-  pub gen_stopped : (given : LinkStop) → MadeAll (made_first gen) shelf.told now.shelf.told → shelf.faults ≤ now.shelf.faults → new.input.told ≡ now.input.told → Links (gen_request gen) (image_path gen) (Err given) now.shelf.told new.shelf.told now.shelf.faults new.shelf.faults → new.out.told ≡ now.out.told → Does (Err (stop_of_link given))
+  pub gen_stopped : (given : LinkStop) → MadeAll (made_first gen) shelf.told now.shelf.told → shelf.faults ≤ now.shelf.faults → new.input.told ≡ now.input.told → Links (modules_path gen ∷ []) (gen_request gen) (image_path gen) (Err given) now.shelf.told new.shelf.told now.shelf.faults new.shelf.faults → new.out.told ≡ now.out.told → Does (Err (stop_of_link given))
   gen_stopped given made up source links unput =
       linked_after (Err (stop_of_link given)) made up (link_stopped (gen_link gen) now new source given links unput)
 

@@ -1,4 +1,4 @@
--- What all commands that are built have in common.
+-- What all commands have in common.
 use Rattle.std.proofs.Common.{◌≡◌, Bool, true, false, cond, ℕ, List, [], length, Option, Some, None, Result, Ok, Err, refl, ap, ◌∙◌, subst}
 use Rattle.jm_form.specs.declared.damage.Damage.{Damage}
 use Rattle.jm_form.specs.declared.rows.Row.{Row}
@@ -22,7 +22,7 @@ use Rattle.jm_outside.specs.Files.{Files}
 use Rattle.jm_commands.specs.declared.complaint.Complaint.{Complaint}
 use Rattle.jm_commands.specs.Run.{CommandComesTo, CommandWith, HasFile}
 use Rattle.jm_commands.specs.Gen.{Gen, gen_of}
-use Rattle.jm_commands.specs.Outcome.{Link, Outcome, early_writes, first_writes, link_of, built_outcome, cat_outcome, class_outcome, command_outcome, describe_outcome, descriptor_outcome, file_outcome, ls_outcome, reads_class, session_fault, session_with, image_outcome, read_path, is_built, opened_outcome, plain_outcome, unbuilt}
+use Rattle.jm_commands.specs.Outcome.{Link, Outcome, early_writes, first_writes, link_of, cat_outcome, class_outcome, command_outcome, describe_outcome, descriptor_outcome, file_outcome, ls_outcome, reads_class, session_fault, session_with, image_outcome, read_path, opened_outcome, outcome_at, plain_outcome}
 
 -- Whether a session is due
 
@@ -108,17 +108,13 @@ file_writes given path (Some b) text other = go (reads_class given)
     go true = class_writes path (class_of b)
     go false = opened_writes given b (first_damage b) text other
 
-built_writes : (given : Command) (path found : Option (List ℕ)) (text : List ℕ) → extracts given ≡ false → (built_outcome given path found text).writes ≡ []
-built_writes given None found text other = plain_writes given
-built_writes given (Some path) found text other = file_writes given path found text other
+writes_at : (given : Command) (path found : Option (List ℕ)) (text : List ℕ) → extracts given ≡ false → (outcome_at given path found text).writes ≡ []
+writes_at given None found text other = plain_writes given
+writes_at given (Some path) found text other = file_writes given path found text other
 
--- no command that is built but `link` and `extract` makes a file
+-- of the commands on one file or none, only `extract` makes files
 pub command_writes : (given : Command) (found : Option (List ℕ)) (text : List ℕ) → extracts given ≡ false → (command_outcome given found text).writes ≡ []
-command_writes given found text other = go (is_built given)
-  where
-    go : (built : Bool) → (cond built (built_outcome given (read_path given) found text) unbuilt).writes ≡ []
-    go true = built_writes given (read_path given) found text other
-    go false = refl
+command_writes given found text other = writes_at given (read_path given) found text other
 
 -- No number of jobs shows in what a command comes to
 
@@ -138,10 +134,6 @@ with_jobs n (command.Help jobs) = command.Help n
 with_jobs n (command.Version jobs) = command.Version n
 
 module _ (n : ℕ) where
-  built-with_jobs : (given : Command) → is_built (with_jobs n given) ≡ is_built given
-  built-with_jobs (command.Cat image name jobs) = refl
-  built-with_jobs _ = refl
-
   pub read_path-with_jobs : (given : Command) → read_path (with_jobs n given) ≡ read_path given
   read_path-with_jobs (command.Cat image name jobs) = refl
   read_path-with_jobs _ = refl
@@ -166,15 +158,15 @@ module _ (n : ℕ) where
   file-with_jobs given path None text = refl
   file-with_jobs given path (Some b) text = rw (class-with_jobs given) (ap (λ due. cond (reads_class given) (describe_outcome path b) due) (opened-with_jobs given b (first_damage b) text))
 
-  outcome-with_jobs : (given : Command) (path found : Option (List ℕ)) (text : List ℕ) → built_outcome (with_jobs n given) path found text ≡ built_outcome given path found text
+  outcome-with_jobs : (given : Command) (path found : Option (List ℕ)) (text : List ℕ) → outcome_at (with_jobs n given) path found text ≡ outcome_at given path found text
   outcome-with_jobs given None found text = plain-with_jobs given
   outcome-with_jobs given (Some path) found text = file-with_jobs given path found text
 
   pub command_outcome-with_jobs : (given : Command) (found : Option (List ℕ)) (text : List ℕ) → command_outcome (with_jobs n given) found text ≡ command_outcome given found text
-  command_outcome-with_jobs given found text = rw (built-with_jobs given, read_path-with_jobs given) (ap (λ due. cond (is_built given) due unbuilt) (outcome-with_jobs given (read_path given) found text))
+  command_outcome-with_jobs given found text = rw (read_path-with_jobs given) (outcome-with_jobs given (read_path given) found text)
 
   link_of-with_jobs : (given : Command) → link_of (with_jobs n given) ≡ link_of given
-  link_of-with_jobs (command.Link dirs roots output plugins order bind None jobs) = refl
+  link_of-with_jobs (command.Link dirs roots output plugins order bind from_image jobs) = refl
   link_of-with_jobs _ = refl
 
   gen_of-with_jobs : (given : Command) → gen_of (with_jobs n given) ≡ gen_of given

@@ -20,8 +20,8 @@ use Rattle.jm_commands.specs.declared.complaint.Complaint.{Complaint}
 use Rattle.jm_commands.specs.declared.status.Status.{Status}
 use Rattle.jm_commands.specs.declared.status.Status.TheVariants as status
 use Rattle.jm_commands.specs.Gen.{Gen, gen_of, made_first}
-use Rattle.jm_commands.specs.Outcome.{Link, Outcome, built_outcome, command_outcome, describe_outcome, file_outcome, gen_link, image_outcome, is_built, link_of, link_outcome, opened_outcome, read_path, reads_class, session_fault, session_outcome, session_with, unbuilt}
-use Rattle.jm_commands.specs.Run.{CommandComesTo, CommandWith, EndsWith, HasFile, IsFailed, LinkComesTo, RunComesTo, RunDoes, WordsComeTo}
+use Rattle.jm_commands.specs.Outcome.{Link, Outcome, command_outcome, describe_outcome, file_outcome, gen_link, image_outcome, link_of, link_outcome, opened_outcome, outcome_at, read_path, reads_class, session_fault, session_outcome, session_with}
+use Rattle.jm_commands.specs.Run.{CommandComesTo, CommandWith, EndsWith, HasFile, IsFailed, LinkComesFrom, LinkComesTo, OpenedLinkComesTo, RunComesTo, RunDoes, WordsComeTo}
 use Rattle.jm_commands.specs.Served.{ServesRun, served, served_in}
 use Rattle.jm_commands.specs.SessionHeld.{EndsAs, NotBegun, SourceRead}
 use Rattle.jm_commands.specs.Sinks.{Gets, GetsFront, Seen}
@@ -51,16 +51,12 @@ file_session given path (Some b) text none = go (reads_class given)
     go true = describe_session path b
     go false = opened_session given b (first_damage b) text none
 
-built_session : (given : Command) (path found : Option (List ℕ)) (text : List ℕ) → served given ≡ None → (built_outcome given path found text).session ≡ None
-built_session given None found text none = plain_session given
-built_session given (Some path) found text none = file_session given path found text none
+session_at : (given : Command) (path found : Option (List ℕ)) (text : List ℕ) → served given ≡ None → (outcome_at given path found text).session ≡ None
+session_at given None found text none = plain_session given
+session_at given (Some path) found text none = file_session given path found text none
 
 command_session : (given : Command) (found : Option (List ℕ)) (text : List ℕ) → served given ≡ None → (command_outcome given found text).session ≡ None
-command_session given found text none = go (is_built given)
-  where
-    go : (built : Bool) → (cond built (built_outcome given (read_path given) found text) unbuilt).session ≡ None
-    go true = built_session given (read_path given) found text none
-    go false = refl
+command_session given found text none = session_at given (read_path given) found text none
 
 link_session : (link : Link) (result : Result LinkedImage Refusal) → (link_outcome link result).session ≡ None
 link_session link (Ok image) = refl
@@ -68,8 +64,17 @@ link_session link (Err refusal) = refl
 
 -- what a link comes to
 linked_session : (told : Option Files) (link : Link) (due : Outcome) → LinkComesTo told link due → due.session ≡ None
-linked_session told link due (inl (result, comes, shows, is)) = ap (λ o. o.session) is ∙ link_session link result
-linked_session told link due (inr (listed, never, is)) = ap (λ o. o.session) is
+linked_session told link due comes = from link.image comes
+  where
+    opened : (b : List ℕ) (damage : Option Damage) → OpenedLinkComesTo link b damage due → due.session ≡ None
+    opened b None (result, comes, shows, is) = ap (λ o. o.session) is ∙ link_session link result
+    opened b (Some damage) is = ap (λ o. o.session) is
+
+    from : (image : Option (List ℕ)) → LinkComesFrom told link image due → due.session ≡ None
+    from None (inl (result, comes, shows, is)) = ap (λ o. o.session) is ∙ link_session link result
+    from None (inr (listed, never, is)) = ap (λ o. o.session) is
+    from (Some path) (None, has, is) = ap (λ o. o.session) is
+    from (Some path) (Some b, has, comes) = opened b (first_damage b) comes
 
 due_session : (told : Option Files) (rest : Option (List ℕ)) (given : Command) (due : Outcome) → served given ≡ None → CommandComesTo told rest given due → due.session ≡ None
 due_session told rest given due none comes = go (gen_of given) (link_of given) comes

@@ -3,12 +3,11 @@ use Rattle.std.proofs.Common.{◌≡◌, ℕ, ◌<◌, ◌≤◌, true, false, L
 use Rattle.jm_files.specs.Made.{MadeAll, Writes}
 use Rattle.jm_files.proofs.MadeLaws.{part_longer}
 use Rattle.jm_form.specs.declared.rows.Row.{Row}
+use Rattle.jm_form.specs.Damages.{first_damage}
 use Rattle.jm_jrt.specs.declared.serve_error.ServeError.{ServeError}
 use Rattle.jm_names.specs.UtfForms.{utf}
 use Rattle.jm_outside.specs.Files.{Files, file}
 use Rattle.jm_outside.specs.Outcome.{Rose, Shows, Told}
-use Rattle.jm_outside.specs.declared.shelf.ShelfError.{ShelfError}
-use Rattle.jm_outside.specs.declared.shelf.ShelfError.TheVariants as shelf_error
 use Rattle.jm_words.specs.declared.commands.Command.{Command}
 use Rattle.jm_words.specs.declared.errors.WordsError.{WordsError}
 use Rattle.jm_words.specs.declared.errors.WordsError.TheVariants as error
@@ -20,11 +19,10 @@ use Rattle.jm_commands.specs.declared.stop.Stop.{Stop}
 use Rattle.jm_commands.specs.declared.stop.Stop.TheVariants as stop
 use Rattle.jm_commands.specs.Cat.{content_of}
 use Rattle.jm_commands.specs.Gen.{Gen, gen_of, made_first}
-use Rattle.jm_commands.specs.Outcome.{Link, Outcome, built_outcome, cat_outcome, command_outcome, early_of, early_writes, faulty, file_outcome, first_writes, read_path, is_built, link_of, not_there, plain_outcome, unbuilt}
-use Rattle.jm_commands.specs.Run.{CommandComesTo, CommandWith, FilesMade, HasFile, IsFailure, GenComesTo, LinkComesTo, PutDoes, StepComesTo, StepDoes, StepOnText, WordsComeTo, outcome_of}
+use Rattle.jm_commands.specs.Outcome.{Link, Outcome, cat_outcome, command_outcome, damaged, early_of, early_writes, faulty, file_outcome, first_writes, link_of, not_there, opened_outcome, outcome_at, plain_outcome, read_path}
+use Rattle.jm_commands.specs.Run.{CommandComesTo, CommandWith, FilesMade, HasFile, IsFailure, GenComesTo, LinkComesTo, Opens, PutDoes, ReadsFile, StepComesTo, StepDoes, StepOnText, WordsComeTo, outcome_of}
 use Rattle.jm_commands.specs.SessionHeld.{NotBegun, SourceRead}
 use Rattle.jm_commands.specs.Sinks.{Gets, Seen}
-use Rattle.jm_commands.specs.Stops.{stop_of_shelf, unbuilt_stop}
 use Rattle.jm_commands.specs.World.{AnyRose, World}
 use Rattle.jm_commands.proofs.Gotten.{front_of_nothing, gets_nothing}
 use Rattle.jm_commands.proofs.Made.{stays_all, stays_part}
@@ -167,10 +165,30 @@ failed_on_text due answer old new fails unmoved rose =
     let text = told_text old.input.told in
     (text, has_told_text old.input.told, failed_first (due text) answer old new fails unmoved rose)
 
--- a read failed
-pub read_failed : (due : List ℕ → Outcome) (error : ShelfError) (old new : World) → Unmoved old new → (error ≡ shelf_error.Failed → Rose old.shelf.faults new.shelf.faults) → StepOnText due (Err (stop_of_shelf error)) old new
-read_failed due shelf_error.Failed old new unmoved rose = failed_on_text due (Err stop.Outside) old new tt unmoved (λ failed. inl (rose refl))
-read_failed due shelf_error.Memory old new unmoved rose = failed_on_text due (Err stop.Memory) old new tt unmoved (λ failed. cc)
+-- the file isn't there, or its read failed
+pub file_unread : (command : Command) (path : List ℕ) (given : Stop) (old new : World) → ReadsFile old.shelf.told path (Err given) → Unmoved old new → (given ≡ stop.Outside → Rose old.shelf.faults new.shelf.faults) → (found : Option (List ℕ)) × HasFile old.shelf.told (Some path) found × StepOnText (file_outcome command path found) (Err given) old new
+file_unread command path (stop.Complaint given) old new (none, is) unmoved rose = (
+  None,
+  none,
+  subst (λ (c : Complaint). StepOnText (file_outcome command path None) (Err (stop.Complaint c)) old new) (sym is)
+      (put_on_text (file_outcome command path None) (not_there path) (Err (stop.Complaint (complaint.NotThere path))) old new (complained (not_there path) (complaint.NotThere path) old.out new.out refl unmoved.output) unmoved.files unmoved.source refl (λ text. refl)),
+)
+file_unread command path stop.Outside old new read unmoved rose =
+    let found = told_file old.shelf.told (Some path) in
+    (found, has_told_file old.shelf.told (Some path), failed_on_text (file_outcome command path found) (Err stop.Outside) old new tt unmoved (λ failed. inl (rose refl)))
+file_unread command path stop.Memory old new read unmoved rose =
+    let found = told_file old.shelf.told (Some path) in
+    (found, has_told_file old.shelf.told (Some path), failed_on_text (file_outcome command path found) (Err stop.Memory) old new tt unmoved (λ failed. cc))
+
+-- the file is no image
+pub file_unopened : (command : Command) (b : List ℕ) (given : Stop) (now : World) → Opens {A = List ℕ} b (Err given) → StepOnText (opened_outcome command b (first_damage b)) (Err given) now now
+file_unopened command b (stop.Complaint given) now (damage, found, is) =
+    subst (λ (c : Complaint). StepOnText (opened_outcome command b (first_damage b)) (Err (stop.Complaint c)) now now) (sym is)
+    (put_on_text (opened_outcome command b (first_damage b)) (damaged damage) (Err (stop.Complaint (complaint.Damaged damage))) now now
+    (complained (damaged damage) (complaint.Damaged damage) now.out now.out refl refl) refl refl refl
+    (λ text. ap (λ d. opened_outcome command b d text) found))
+file_unopened command b stop.Outside now never = absurd never
+file_unopened command b stop.Memory now none = failed_on_text (opened_outcome command b (first_damage b)) (Err stop.Memory) now now tt (record { files = refl; source = refl; output = refl }) (λ failed. cc)
 
 -- A step behind a call of the shelf that changed no file
 
@@ -228,9 +246,9 @@ module _ (command : Command) (answer : Result (Unit {0}) Stop) (old new : World)
   step_with : (found : Option (List ℕ)) → HasFile old.shelf.told (read_path command) found → StepOnText (command_outcome command found) answer old new → CommandDoes command answer old new
   step_with found has (text, told, does) = inr (command_outcome command found text, rw (first, other) (found, has, (text, told, refl)), does)
 
-  pub file_step : (path : List ℕ) → is_built command ≡ true → read_path command ≡ Some path → (found : Option (List ℕ)) × HasFile old.shelf.told (Some path) found × StepOnText (file_outcome command path found) answer old new → CommandDoes command answer old new
-  file_step path built is (found, has, (text, told, does)) =
-      let due : command_outcome command found text ≡ file_outcome command path found text = rw built (ap (λ p. built_outcome command p found text) is) in
+  pub file_step : (path : List ℕ) → read_path command ≡ Some path → (found : Option (List ℕ)) × HasFile old.shelf.told (Some path) found × StepOnText (file_outcome command path found) answer old new → CommandDoes command answer old new
+  file_step path is (found, has, (text, told, does)) =
+      let due : command_outcome command found text ≡ file_outcome command path found text = ap (λ p. outcome_at command p found text) is in
       step_with found (rw is has) (text, told, rw due does)
 
   -- what is due without a file
@@ -239,15 +257,10 @@ module _ (command : Command) (answer : Result (Unit {0}) Stop) (old new : World)
       let found = told_file old.shelf.told (read_path command) in
       step_with found (has_told_file old.shelf.told (read_path command)) (on_any_text (command_outcome command found) due answer old new (is found) does)
 
-  pub plain_step : is_built command ≡ true → read_path command ≡ None → new.shelf.told ≡ old.shelf.told → new.input.told ≡ old.input.told → PutDoes (plain_outcome command) answer old.out new.out → CommandDoes command answer old new
-  plain_step built is files source does =
-      step_without (plain_outcome command) (λ found text. rw built (ap (λ p. built_outcome command p found text) is))
+  pub plain_step : read_path command ≡ None → new.shelf.told ≡ old.shelf.told → new.input.told ≡ old.input.told → PutDoes (plain_outcome command) answer old.out new.out → CommandDoes command answer old new
+  plain_step is files source does =
+      step_without (plain_outcome command) (λ found text. ap (λ p. outcome_at command p found text) is)
       (put_step (plain_outcome command) old new files source (plain_session command) answer does)
-
-  pub unbuilt_step : is_built command ≡ false → answer ≡ Err unbuilt_stop → Unmoved old new → CommandDoes command answer old new
-  unbuilt_step fails is unmoved =
-      step_without unbuilt (λ found text. rw fails refl)
-      (rw is (put_step unbuilt old new unmoved.files unmoved.source refl (Err unbuilt_stop) (complained unbuilt _ old.out new.out refl unmoved.output)))
 
 -- All words
 

@@ -42,11 +42,10 @@ image_path gen = gen.dir ++ codes "/image"
 abbrev pub made_first : Gen → Writes
 made_first gen = generated (modules_path gen) gen.modules gen.classes gen.seed
 
--- then the module path of that folder is linked: all modules that were made, without what their
--- classes say for debuggers
+-- then the modules of that folder are linked: all that were made, without what their classes say
+-- for debuggers
 abbrev pub gen_request : Gen → Request
 gen_request gen = record {
-  directories = modules_path gen ∷ [];
   roots = module_names gen.modules;
   bind = false;
   plugins = plugin.Strip ∷ [];

@@ -14,7 +14,7 @@ commands_text =
     ++ codes "  link --module-path DIRS --add-modules NAMES --output FILE [options] [plug-ins]\n"
     ++ codes "      links modules and all that they require into one image\n"
     ++ codes "  link --from-image FILE --add-modules NAMES --output FILE [options] [plug-ins]\n"
-    ++ codes "      the same with the modules of another image (not built yet)\n"
+    ++ codes "      the same with the modules of another image\n"
     ++ codes "  cat IMAGE NAME\n"
     ++ codes "      puts the bytes of the entry of that name\n"
     ++ codes "  list IMAGE [--include PATTERNS]\n"

@@ -49,7 +49,7 @@ use Rattle.jm_commands.specs.declared.status.Status.TheVariants as status
 use Rattle.jm_commands.specs.ExtractText.{extract_text}
 use Rattle.jm_commands.specs.HelpText.{help_text, version_text}
 use Rattle.jm_texts.specs.InfoText.{info_text}
-use Rattle.jm_commands.specs.Gen.{Gen, gen_of, gen_request, image_path, made_first}
+use Rattle.jm_commands.specs.Gen.{Gen, gen_of, gen_request, image_path, made_first, modules_path}
 use Rattle.jm_commands.specs.LinkText.{gen_text, link_text}
 use Rattle.jm_commands.specs.ListText.{list_text}
 use Rattle.jm_commands.specs.Texts.{line_of}
@@ -165,8 +165,11 @@ describe_outcome path b = class_outcome path (class_of b)
 
 -- `link`: the image stands at the path, and the output says what it has
 
--- what a link is asked for, the path of its output, and the text on what was linked
+-- the directories of the module path, or the path of the image whose modules are linked in their
+-- place; what the link is asked for, the path of its output, and the text on what was linked
 pub record Link : Type 0 where
+  pub directories : List (List ℕ)
+  pub image : Option (List ℕ)
   pub asked : Request
   pub output : List ℕ
   pub text : Summary → List ℕ
@@ -174,6 +177,8 @@ pub record Link : Type 0 where
 -- the words of a link
 abbrev pub link_from : LinkWords → Link
 link_from words = record {
+  directories = words.directories.now;
+  image = words.image.now;
   asked = request_of words.asked;
   output = words.asked.output.now;
   text = link_text;
@@ -204,12 +209,12 @@ extract_outcome dir (Ok entries) = record {
 }
 extract_outcome dir (Err refusal) = refusing refusal
 
--- a link from a module path; one of another image's modules is to come
 abbrev pub link_of : Command → Option Link
-link_of (command.Link dirs roots output plugins order bind None jobs) =
+link_of (command.Link dirs roots output plugins order bind from_image jobs) =
     Some (record {
+      directories = dirs;
+      image = from_image;
       asked = record {
-        directories = dirs;
         roots = roots;
         bind = bind;
         plugins = plugins;
@@ -234,27 +239,18 @@ behind made due = record {
 
 -- the link of a `gen`
 abbrev pub gen_link : Gen → Link
-gen_link gen =
-    record { asked = gen_request gen; output = image_path gen; text = gen_text }
+gen_link gen = record {
+  directories = modules_path gen ∷ [];
+  image = None;
+  asked = gen_request gen;
+  output = image_path gen;
+  text = gen_text;
+}
 
 -- the files of a `gen`; other commands make none first
 abbrev pub first_writes : Option Gen → Writes
 first_writes (Some gen) = made_first gen
 first_writes None = []
-
--- which of the other commands are built yet; one that isn't is as unknown as its name
-abbrev pub is_built : Command → Bool
-is_built (command.Cat image name jobs) = true
-is_built (command.List image include jobs) = true
-is_built (command.Ls image path jobs) = true
-is_built (command.Info image jobs) = true
-is_built (command.Extract image dir include jobs) = true
-is_built (command.Verify image jobs) = true
-is_built (command.Serve image jobs) = true
-is_built (command.Describe file jobs) = true
-is_built (command.Help jobs) = true
-is_built (command.Version jobs) = true
-is_built _ = false
 
 abbrev pub unbuilt : Outcome
 unbuilt = faulty (error.Fault 1 kind.UnknownCommand)
@@ -305,14 +301,13 @@ plain_outcome (command.Help jobs) = done help_text
 plain_outcome (command.Version jobs) = done version_text
 plain_outcome _ = unbuilt
 
--- a command that is built, by the path that it reads, the file there, and the source's text
-abbrev pub built_outcome : Command → Option (List ℕ) → Option (List ℕ) → List ℕ → Outcome
-built_outcome command None file text = plain_outcome command
-built_outcome command (Some path) file text = file_outcome command path file text
+-- a command by the path that it reads, the file there, and the source's text
+abbrev pub outcome_at : Command → Option (List ℕ) → Option (List ℕ) → List ℕ → Outcome
+outcome_at command None file text = plain_outcome command
+outcome_at command (Some path) file text = file_outcome command path file text
 
 abbrev pub command_outcome : Command → Option (List ℕ) → List ℕ → Outcome
-command_outcome command file text =
-    if is_built command then built_outcome command (read_path command) file text else unbuilt
+command_outcome command file text = outcome_at command (read_path command) file text
 
 -- the files that a command makes before it is known what it comes to
 abbrev pub early_writes : Command → Writes

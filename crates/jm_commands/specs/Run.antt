@@ -1,10 +1,13 @@
 -- What a run did to the outside, said by what its command comes to (this project's rule).
 use Rattle.std.specs.Prelude.{ℕ, ◌≡◌, ◌⊎◌, List, [], Option, Some, None, option_map}
 use Rattle.std.specs.Prelude.{Result, Ok, Err}
+use Rattle.jm_form.specs.declared.damage.Damage.{Damage}
+use Rattle.jm_form.specs.Damages.{first_damage}
 use Rattle.jm_files.specs.Made.{MadeAll, MadePart, Writes, written}
 use Rattle.jm_jrt.specs.TreesShown.{ShowsTrees}
 use Rattle.jm_link.specs.declared.refusal.Refusal.{Refusal}
 use Rattle.jm_link.specs.Linked.{LinkedImage}
+use Rattle.jm_link.specs.ImageLinked.{ImageComesTo}
 use Rattle.jm_link.specs.Links.{ComesTo}
 use Rattle.jm_outside.specs.Files.{Files, file}
 use Rattle.jm_outside.specs.Outcome.{Rose, Shows}
@@ -17,7 +20,8 @@ use Rattle.jm_commands.specs.declared.status.Status.TheVariants as status
 use Rattle.jm_commands.specs.declared.stop.Stop.{Stop}
 use Rattle.jm_commands.specs.declared.stop.Stop.TheVariants as stop
 use Rattle.jm_commands.specs.Gen.{Gen, gen_of, made_first}
-use Rattle.jm_commands.specs.Outcome.{Link, Outcome, behind, command_outcome, done, faulty}
+use Rattle.jm_commands.specs.Outcome.{Link, Outcome, behind, command_outcome, damaged, done}
+use Rattle.jm_commands.specs.Outcome.{faulty}
 use Rattle.jm_commands.specs.Outcome.{gen_link, link_of, link_outcome, not_there, read_path}
 use Rattle.jm_commands.specs.Outcome.{refused}
 use Rattle.jm_commands.specs.SessionHeld.{EndsAs, SourceRead, StopsAs}
@@ -47,13 +51,39 @@ abbrev pub ShowsLinked : Result LinkedImage Refusal → Type 0
 ShowsLinked (Ok image) = ShowsTrees image.bytes image.resources
 ShowsLinked (Err refusal) = Unit {0}
 
--- a link comes to what its files do, where the shelf tells them; a shelf that tells nothing may say
--- of a file that it listed that it isn't there
-abbrev pub LinkComesTo : Option Files → Link → Outcome → Type 0
-LinkComesTo told link due =
-    ((result : Result LinkedImage Refusal) × ComesTo told link.asked result
+-- a link from a module path comes to what its files do, where the shelf tells them; a shelf that
+-- tells nothing may say of a file that it listed that it isn't there
+abbrev pub PathLinkComesTo : Option Files → Link → Outcome → Type 0
+PathLinkComesTo told link due =
+    ((result : Result LinkedImage Refusal) × ComesTo told link.directories link.asked result
     × Shows told (λ files. ShowsLinked result) × (due ≡ link_outcome link result))
     ⊎ ((listed : List ℕ) × Shows told (λ files. ⊥) × (due ≡ not_there listed))
+
+-- a link of the modules of an image, by the bytes of its file and their first damage
+abbrev pub OpenedLinkComesTo : Link → List ℕ → Option Damage → Outcome → Type 0
+OpenedLinkComesTo link b (Some damage) due = due ≡ damaged damage
+OpenedLinkComesTo link b None due =
+    (result : Result LinkedImage Refusal) × ImageComesTo b link.asked result
+    × ShowsLinked result × (due ≡ link_outcome link result)
+
+-- by the file at the path, if it is there
+abbrev pub FoundLinkComesTo : Link → List ℕ → Option (List ℕ) → Outcome → Type 0
+FoundLinkComesTo link path None due = due ≡ not_there path
+FoundLinkComesTo link path (Some b) due = OpenedLinkComesTo link b (first_damage b) due
+
+-- over a shelf that tells nothing, to what it does of some file
+abbrev pub ImageLinkComesTo : Option Files → Link → List ℕ → Outcome → Type 0
+ImageLinkComesTo told link path due =
+    (found : Option (List ℕ)) × HasFile told (Some path) found
+    × FoundLinkComesTo link path found due
+
+-- a link by where its modules are
+abbrev pub LinkComesFrom : Option Files → Link → Option (List ℕ) → Outcome → Type 0
+LinkComesFrom told link None due = PathLinkComesTo told link due
+LinkComesFrom told link (Some path) due = ImageLinkComesTo told link path due
+
+abbrev pub LinkComesTo : Option Files → Link → Outcome → Type 0
+LinkComesTo told link due = LinkComesFrom told link link.image due
 
 -- a `gen` comes to what its link does, where the files that it makes first are there
 abbrev pub GenComesTo : Option Files → Gen → Outcome → Type 0
@@ -77,6 +107,24 @@ abbrev pub WordsComeTo
     : Option Files → Option (List ℕ) → Result Command WordsError → Outcome → Type 0
 WordsComeTo told rest (Ok command) due = CommandComesTo told rest command due
 WordsComeTo told rest (Err fault) due = due ≡ faulty fault
+
+-- What is read of a file
+
+-- by the answer: its bytes; the complaint that it isn't there; a failure, or no memory
+abbrev pub ReadsFile : Option Files → List ℕ → Result (List ℕ) Stop → Type 0
+ReadsFile told path (Ok bytes) = HasFile told (Some path) (Some bytes)
+ReadsFile told path (Err (stop.Complaint given)) =
+    HasFile told (Some path) None × (given ≡ complaint.NotThere path)
+ReadsFile told path (Err stop.Outside) = Unit {0}
+ReadsFile told path (Err stop.Memory) = Unit {0}
+
+-- by the answer: these bytes are an image; the complaint of their first damage; no memory
+abbrev pub Opens : {A : Type 0} → List ℕ → Result A Stop → Type 0
+Opens b (Ok image) = first_damage b ≡ None
+Opens b (Err (stop.Complaint given)) =
+    (damage : Damage) × (first_damage b ≡ Some damage) × (given ≡ complaint.Damaged damage)
+Opens b (Err stop.Outside) = ⊥
+Opens b (Err stop.Memory) = Unit {0}
 
 -- A step of a run
 

@@ -1,9 +1,11 @@
 //! The command `gen`.
-ghost use Rattle.std.specs.Prelude.{◌≡◌, ◌≤◌, ◌<◌, ◌++◌, codes, IfOk, IfSome, IsUtf8, List, ℕ};
+ghost use Rattle.std.specs.Prelude.{◌≡◌, ◌≤◌, ◌<◌, ◌∷◌, ◌++◌, [], codes, IfOk, IfSome};
+ghost use Rattle.std.specs.Prelude.{IsUtf8, List, ℕ};
 ghost use Rattle.std.specs.Prelude.{Option, option_map, string_bytes};
 ghost use Rattle.jm_link.specs.Links.{Links};
 ghost use Rattle.jm_words.specs.Paths.{FilePathsAreText, NumbersFit, jobs_in};
 ghost use Rattle.jm_commands.specs.Gen.{gen_from, gen_of, gen_request, image_path, made_first};
+ghost use Rattle.jm_commands.specs.Gen.{modules_path};
 ghost use Rattle.jm_commands.specs.LinkText.{gen_text};
 ghost use Rattle.jm_commands.specs.Outcome.{done};
 ghost use Rattle.jm_commands.specs.Run.{GenComesTo, PutDoes, StepComesTo};
@@ -92,7 +94,8 @@ fn link_generated<T: Threads + Sync, S: Shelf, G: Gate + Sync>(
     requires text { IsUtf8 mods }
     requires dir { IsUtf8 words.now.dir.now }
     requires jobs { 0 < words.now.jobs }
-    ensures { Links (gen_request (gen_from words.now)) (image_path (gen_from words.now)) result
+    ensures { Links (modules_path (gen_from words.now) ∷ []) (gen_request (gen_from words.now))
+        (image_path (gen_from words.now)) result
         (S.files shelf.old) (S.files shelf.new) (S.faults shelf.old) (S.faults shelf.new) }
 {
     let mut directories = List::new(alloc);
@@ -100,14 +103,21 @@ fn link_generated<T: Threads + Sync, S: Shelf, G: Gate + Sync>(
     let roots = module_names(alloc, words.modules)?;
     let output = below(alloc, words.dir, "/image".as_bytes())?;
     let asked = Asked {
-        directories: directories.as_slice(),
         roots: roots.as_slice(),
         bind: false,
         plugins: &[Plugin::Strip],
         order: Order::Little,
         output: output.as_slice(),
     };
-    link(rt, alloc, words.jobs, &asked, shelf, gate)
+    link(
+        rt,
+        alloc,
+        words.jobs,
+        directories.as_slice(),
+        &asked,
+        shelf,
+        gate,
+    )
 }
 
 /// The lines on what was generated and linked.

@@ -16,7 +16,7 @@ commands:
   link --module-path DIRS --add-modules NAMES --output FILE [options] [plug-ins]
       links modules and all that they require into one image
   link --from-image FILE --add-modules NAMES --output FILE [options] [plug-ins]
-      the same with the modules of another image (not built yet)
+      the same with the modules of another image
   cat IMAGE NAME
       puts the bytes of the entry of that name
   list IMAGE [--include PATTERNS]

@@ -1,11 +1,12 @@
-ghost use Rattle.std.specs.Prelude.{◌≡◌, ◌<◌, List, ℕ, Option, Some, IsUtf8};
+ghost use Rattle.std.specs.Prelude.{◌≡◌, ◌<◌, List, ℕ, Option, Some, IfOk, IsErrOf, IsUtf8};
 ghost use Rattle.jm_form.specs.Damages.{first_damage};
 ghost use Rattle.jm_form.specs.Validity.{look};
+ghost use Rattle.jm_outside.specs.Outcome.{CountsFaults};
 ghost use Rattle.jm_words.specs.Paths.{FilePathsAreText};
 ghost use Rattle.jm_commands.specs.Cat.{CatDoes};
 ghost use Rattle.jm_commands.specs.Outcome.{cat_outcome, file_outcome, reads_class};
 ghost use Rattle.jm_commands.specs.Outcome.{image_outcome, opened_outcome};
-ghost use Rattle.jm_commands.specs.Run.{HasFile, PutDoes, StepOnText};
+ghost use Rattle.jm_commands.specs.Run.{HasFile, Opens, PutDoes, ReadsFile, StepOnText};
 ghost use Rattle.jm_commands.specs.Sinks.{seen};
 ghost use Rattle.jm_commands.specs.World.{world};
 
@@ -29,6 +30,43 @@ use std::alloc::Global;
 use std::marker::Brand;
 use std::sync::ledger::{Blank, Ledger};
 use std::thread::Threads;
+
+/// The bytes of the file at a path.
+pub fn file_bytes<S: Shelf>(alloc: Global, path: &[u8], shelf: &mut S) -> Result<Text, Stop>
+    requires { IsUtf8 path.now }
+    ensures files { S.files shelf.new ≡ S.files shelf.old }
+    ensures reads { ReadsFile (S.files shelf.old) path.now result }
+    ensures faults { CountsFaults (S.faults shelf.old) (S.faults shelf.new)
+        (IsErrOf result Stop.Outside) }
+{
+    match shelf.read(alloc, path) {
+        Ok(Some(bytes)) => Ok(bytes),
+        Ok(None) => {
+            let path = Text::copy_of(alloc, path)?;
+            Err(Stop::Complaint(Complaint::NotThere(path)))
+        }
+        Err(error) => Err(Stop::from(error)),
+    }
+}
+
+/// Opens the image that these bytes are, on all jobs.
+pub fn opened<'a, T: Threads + Sync, G: Gate + Sync>(
+    rt: &T,
+    alloc: Global,
+    jobs: u32,
+    bytes: &'a [u8],
+    gate: &G,
+) -> Result<Image<'a>, Stop>
+    requires { 0 < jobs }
+    ensures same { IfOk result (λ image. image ≡ bytes.now) }
+    ensures opens { Opens bytes.now result }
+{
+    match open_image(rt, alloc, jobs, bytes, gate) {
+        Ok(image) => Ok(image),
+        Err(OpenError::Damaged(damage)) => Err(Stop::Complaint(Complaint::Damaged(damage))),
+        Err(OpenError::Memory) => Err(Stop::Memory),
+    }
+}
 
 /// Does what `cat_command` does, with counters of its own.
 fn cat_counted<O: Sink, H: Ledger, R: Ledger>(
@@ -130,10 +168,9 @@ fn do_on_bytes<T: Threads + Sync, S: Shelf, I: Source, O: Sink, G: Gate + Sync>(
         (world (S.files shelf.new) (S.faults shelf.new) (I.rest input.new) (I.faults input.new)
         (O.content out.new) (O.faults out.new)) }
 {
-    match open_image(rt, alloc, jobs, bytes, gate) {
+    match opened(rt, alloc, jobs, bytes, gate) {
         Ok(image) => do_on_image(alloc, command, &image, bytes, shelf, input, out),
-        Err(OpenError::Damaged(damage)) => Err(Stop::Complaint(Complaint::Damaged(damage))),
-        Err(OpenError::Memory) => Err(Stop::Memory),
+        Err(stop) => Err(stop),
     }
 }
 
@@ -194,13 +231,13 @@ pub fn do_on_file<T: Threads + Sync, S: Shelf, I: Source, O: Sink, G: Gate + Syn
         (world (S.files shelf.new) (S.faults shelf.new) (I.rest input.new) (I.faults input.new)
         (O.content out.new) (O.faults out.new)) }
 {
-    let found = shelf.read(alloc, path)?;
-    let Some(bytes) = found else {
-        let text = Text::copy_of(alloc, path)?;
-        return Err(Stop::Complaint(Complaint::NotThere(text)));
-    };
-    let bytes = bytes.as_slice();
-    do_on_found(
-        rt, alloc, command, path, jobs, bytes, shelf, input, out, gate,
-    )
+    match file_bytes(alloc, path, shelf) {
+        Ok(bytes) => {
+            let bytes = bytes.as_slice();
+            do_on_found(
+                rt, alloc, command, path, jobs, bytes, shelf, input, out, gate,
+            )
+        }
+        Err(stop) => Err(stop),
+    }
 }

@@ -3,7 +3,7 @@ ghost use Rattle.std.specs.Prelude.{map, option_map, string_bytes};
 ghost use Rattle.jm_words.specs.Commands.{command_in};
 ghost use Rattle.jm_words.specs.Paths.{FilePathsAreText, NumbersFit, jobs_in};
 ghost use Rattle.jm_commands.specs.Gen.{gen_of};
-ghost use Rattle.jm_commands.specs.Outcome.{early_of, early_writes, is_built, link_of};
+ghost use Rattle.jm_commands.specs.Outcome.{early_of, early_writes, link_of};
 ghost use Rattle.jm_commands.specs.Outcome.{plain_outcome, read_path};
 ghost use Rattle.jm_commands.specs.Run.{CommandComesTo, PutDoes, ReportDoes, RunComesTo};
 ghost use Rattle.jm_commands.specs.Run.{StepComesTo, WordsComeTo};
@@ -38,25 +38,6 @@ fn report<E: Sink>(alloc: Global, complaint: &Complaint, err: &mut E) -> Status
         Ok(()) => complaint.status(),
         Err(SinkError::Failed) => Status::Outside,
         Err(SinkError::Memory) => Status::Memory,
-    }
-}
-
-/// Whether a command is built yet.
-fn is_built(command: &Command) -> bool
-    ensures { result ≡ is_built command.now }
-{
-    match command {
-        Command::Cat { .. }
-        | Command::List { .. }
-        | Command::Ls { .. }
-        | Command::Info { .. }
-        | Command::Extract { .. }
-        | Command::Verify { .. }
-        | Command::Serve { .. }
-        | Command::Describe { .. }
-        | Command::Help { .. }
-        | Command::Version { .. } => true,
-        _ => false,
     }
 }
 
@@ -116,9 +97,6 @@ fn do_other<T: Threads + Sync, S: Shelf, I: Source, O: Sink, G: Gate + Sync>(
         (world (S.files shelf.new) (S.faults shelf.new) (I.rest input.new) (I.faults input.new)
         (O.content out.new) (O.faults out.new)) }
 {
-    if !is_built(command) {
-        return Err(unbuilt());
-    }
     match file_of(command) {
         Some((path, jobs)) => do_on_file(rt, alloc, command, path, jobs, shelf, input, out, gate),
         None => do_plain(alloc, command, out),
@@ -240,7 +218,7 @@ fn run_words<T: Threads + Sync, S: Shelf, I: Source, O: Sink, E: Sink, G: Gate +
 /// Does all that the program does: reads the words behind the program's name, does the command,
 /// puts its output to `out` and a line on what is wrong to `err`, and gives the status.
 ///
-/// Commands that aren't built yet end as one of an unknown name. Only `serve` reads from `input`.
+/// Only `serve` reads from `input`.
 pub fn run<T: Threads + Sync, S: Shelf, I: Source, O: Sink, E: Sink, G: Gate + Sync>(
     rt: &T,
     alloc: Global,

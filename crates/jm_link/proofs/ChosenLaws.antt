@@ -1,10 +1,11 @@
 -- The places of a closure lie within the list of modules, and differ.
 use Rattle.std.proofs.Common.{◌≡◌, ◌≢◌, ◌<◌, ℕ, zero, suc, ◌+◌, ◌-◌, Bool, true, false, List, [], ◌∷◌, length, AllPairs, Contains, Some, Ok, slice_get, refl, sym, ap, ◌∙◌, subst, arith}
+use Rattle.std.proofs.lemmas.Bool.{ltb-false, ltb-true}
 use Rattle.std.proofs.lemmas.Option.{slice_get-get_or}
 use Rattle.std.specs.Cmp.Lexicographic.{slice_cmp, nat_list_cmp_total}
 use Rattle.std.specs.List.{range_with_len}
 use Rattle.std.specs.Ordering.{is_lt, nat_cmp, ordering_reverse}
-use Rattle.std.specs.Prelude.{IsTrue, get_or}
+use Rattle.std.specs.Prelude.{IsTrue, get_or, nat_lt}
 use Rattle.std.specs.declared.cmp.Ordering.{Ordering}
 use Rattle.std.specs.declared.cmp.Ordering.TheVariants.{Less, Equal, Greater}
 use Rattle.jm_bytes.proofs.Choice.{same_some}
@@ -17,7 +18,7 @@ use Rattle.jm_closure.specs.Refusals.{AreChosen}
 use Rattle.jm_link.specs.Closing.{ClosesWith}
 use Rattle.jm_link.proofs.FileLaws.{got}
 
-below : {X : Type 0} (xs : List X) (i : ℕ) (x : X) → slice_get xs i ≡ Some x → i < length xs
+pub below : {X : Type 0} (xs : List X) (i : ℕ) (x : X) → slice_get xs i ≡ Some x → i < length xs
 below [] i x is = cc
 below (y ∷ xs) zero x is = omega arith
 below (y ∷ xs) (suc i) x is = let rest = below xs i x is in omega (arith, rest)
@@ -56,6 +57,28 @@ never_less name is = not_both (sym is ∙ nat_list_cmp_total.antisymm name name 
   where
     not_both : ◌≡◌ {A = Ordering} Less Greater → ⊥
     not_both same = cc
+
+-- Where modules rise by name, of two places the one of the lesser name is the lesser one
+
+abbrev pub AreRising : List Candidate → Type 0
+AreRising found =
+    (i j : ℕ) (a b : Candidate) → slice_get found i ≡ Some a → slice_get found j ≡ Some b → i < j → slice_cmp nat_cmp (name_of a) (name_of b) ≡ Less
+
+lesser : (found : List Candidate) → AreRising found → (i j : ℕ) (a b : Candidate) → slice_get found i ≡ Some a → slice_get found j ≡ Some b → slice_cmp nat_cmp (name_of a) (name_of b) ≡ Less → i < j
+lesser found rising i j a b one other less = go (nat_lt i j) refl (nat_lt j i) refl
+  where
+    not_both : ◌≡◌ {A = Ordering} Less Greater → ⊥
+    not_both same = cc
+
+    go : (u : Bool) → nat_lt i j ≡ u → (v : Bool) → nat_lt j i ≡ v → i < j
+    go true up v down = ltb-true i j up
+    go false up true down = absurd (not_both (sym (rising j i b a other one (ltb-true j i down)) ∙ nat_list_cmp_total.antisymm (name_of b) (name_of a) ∙ ap ordering_reverse less))
+    go false up false down =
+        let first = ltb-false i j up in
+        let second = ltb-false j i down in
+        let same : i ≡ j = omega (arith, first, second) in
+        let names = ap name_of (same_some a b (sym one ∙ ap (slice_get found) same ∙ other)) in
+        absurd (never_less (name_of b) (subst (λ name. slice_cmp nat_cmp name (name_of b) ≡ Less) names less))
 
 -- Names that rise from one to the next
 
@@ -96,6 +119,16 @@ module _ (found : List Candidate) (Chosen : ℕ → Type 0) (places : List ℕ) 
       apart k (l - k - 1) (omega (arith, before, inside)) one.0 other.0 one.1 far
       (sym (got_same places k one.0 d one.1.place) ∙ same ∙ got_same places l other.0 d other.1.place)
 
+  pub places_rise : AreRising found → AllPairs (λ i j. i < j) places
+  places_rise rising k l d before inside =
+      let one = at k (omega (arith, before, inside)) in
+      let other = at l inside in
+      let behind : k + suc (l - k - 1) ≡ l = omega (arith, before) in
+      let far : IsAt (k + suc (l - k - 1)) other.0 = subst (λ m. IsAt m other.0) (sym behind) other.1 in
+      let less = rises k (l - k - 1) (omega (arith, before, inside)) one.0 other.0 one.1 far in
+      rw (got_same places k one.0 d one.1.place, got_same places l other.0 d other.1.place)
+      (lesser found rising one.0 other.0 one.1.candidate far.candidate one.1.is far.is less)
+
 -- the places of a closure
 module _ (found : List Candidate) (roots : List (List ℕ)) where
   pub chosen_within : (bind : Bool) (places : List ℕ) → ClosesWith bind found roots (Ok places) → (i : ℕ) → Contains places i → i < length found
@@ -105,3 +138,7 @@ module _ (found : List Candidate) (roots : List (List ℕ)) where
   pub chosen_differ : (bind : Bool) (places : List ℕ) → ClosesWith bind found roots (Ok places) → AllPairs (λ i j. i ≢ j) places
   chosen_differ true places closes = places_differ found (Bound found roots) places closes.4 (chosen_within true places closes)
   chosen_differ false places closes = places_differ found (Reached found roots) places closes.4 (chosen_within false places closes)
+
+  pub chosen_rise : (bind : Bool) (places : List ℕ) → ClosesWith bind found roots (Ok places) → AreRising found → AllPairs (λ i j. i < j) places
+  chosen_rise true places closes = places_rise found (Bound found roots) places closes.4 (chosen_within true places closes)
+  chosen_rise false places closes = places_rise found (Reached found roots) places closes.4 (chosen_within false places closes)

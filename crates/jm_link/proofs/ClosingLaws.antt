@@ -25,6 +25,10 @@ pub joined_again : (ms : List VisibleModule) → joined_as (candidates ms) (map 
 joined_again [] = refl
 joined_again (m ∷ ms) = ap (λ ns. m ∷ ns) (joined_again ms)
 
+-- what was put together of the parts of modules is these
+pub joined_same : (ms joined : List VisibleModule) (cs : List Candidate) (fs : List ModuleFolder) → cs ≡ candidates ms → fs ≡ map folder_of ms → joined ≡ joined_as cs fs → joined ≡ ms
+joined_same ms joined cs fs one other is = rw (is, one, other) (joined_again ms)
+
 pub parted_same : (ms : List VisibleModule) → length (candidates ms) ≡ length (map folder_of ms)
 parted_same [] = refl
 parted_same (m ∷ ms) = ap suc (parted_same ms)

@@ -9,7 +9,9 @@ use Rattle.std.proofs.lemmas.Slice.Eq.{bytes_eq-Decides, starts_is}
 use Rattle.std.specs.List.{filter_map, flat_map, list_all, list_any, starts_with}
 use Rattle.std.specs.Prelude.{codes, nat_eq}
 use Rattle.std.specs.Str.{bytes_eq}
-use Rattle.jm_bytes.proofs.Members.{all_from_contains, any_contains, contains_here, contains_later, contains_none, from_filter_map, from_map}
+use Rattle.jm_bytes.proofs.Members.{all_from_contains, any_contains, contains_here, contains_later, contains_map, contains_none, from_filter_map, from_map}
+use Rattle.jm_closure.specs.declared.candidate.Candidate.{Candidate}
+use Rattle.jm_closure.specs.Modules as closure
 use Rattle.jm_form.specs.Trees.{module_of}
 use Rattle.jm_modinfo.specs.Constants.{is_legal, is_legal_byte}
 use Rattle.jm_names.specs.Names.{is_node, is_slash}
@@ -20,8 +22,9 @@ use Rattle.jm_link.specs.declared.refusal.Refusal.TheVariants as refusal
 use Rattle.jm_modpath.specs.declared.visible.VisibleModule.{VisibleModule}
 use Rattle.jm_link.specs.ByName.{Named}
 use Rattle.jm_modpath.specs.Finding.{HasTexts}
-use Rattle.jm_modpath.specs.Modules.{inside, is_named, name_of, resource_name}
-use Rattle.jm_link.specs.Resources.{link_files, module_files, reserved}
+use Rattle.jm_modpath.specs.Modules.{candidates, inside, name_of, resource_name}
+use Rattle.jm_link.specs.Chosen.{is_called, reserved}
+use Rattle.jm_link.specs.Resources.{link_files, module_files}
 use Rattle.jm_link.proofs.NameOrder.{from_by_name}
 
 -- Names of nodes
@@ -72,23 +75,23 @@ not_some : (r : Refusal) → Some r ≡ None → ⊥
 not_some r is = cc
 
 -- no module has a reserved name
-free_names : (found : List VisibleModule) → reserved found ≡ None → (is_named found (codes "modules") ≡ false) × (is_named found (codes "packages") ≡ false)
-free_names found free = go (is_named found (codes "modules")) refl (is_named found (codes "packages")) refl free
+free_names : (found : List Candidate) → reserved found ≡ None → (is_called found (codes "modules") ≡ false) × (is_called found (codes "packages") ≡ false)
+free_names found free = go (is_called found (codes "modules")) refl (is_called found (codes "packages")) refl free
   where
-    go : (m : Bool) → is_named found (codes "modules") ≡ m → (p : Bool) → is_named found (codes "packages") ≡ p → option_map (λ name. refusal.ReservedModule name) (find (is_named found) (codes "modules" ∷ codes "packages" ∷ [])) ≡ None → (is_named found (codes "modules") ≡ false) × (is_named found (codes "packages") ≡ false)
+    go : (m : Bool) → is_called found (codes "modules") ≡ m → (p : Bool) → is_called found (codes "packages") ≡ p → option_map (λ name. refusal.ReservedModule name) (find (is_called found) (codes "modules" ∷ codes "packages" ∷ [])) ≡ None → (is_called found (codes "modules") ≡ false) × (is_called found (codes "packages") ≡ false)
     go true is p also none = absurd (not_none is none)
       where
-        not_none : is_named found (codes "modules") ≡ true → option_map (λ name. refusal.ReservedModule name) (find (is_named found) (codes "modules" ∷ codes "packages" ∷ [])) ≡ None → ⊥
+        not_none : is_called found (codes "modules") ≡ true → option_map (λ name. refusal.ReservedModule name) (find (is_called found) (codes "modules" ∷ codes "packages" ∷ [])) ≡ None → ⊥
         not_none is none = not_some _ (rw is at none)
     go false is true also none = absurd (not_none is also none)
       where
-        not_none : is_named found (codes "modules") ≡ false → is_named found (codes "packages") ≡ true → option_map (λ name. refusal.ReservedModule name) (find (is_named found) (codes "modules" ∷ codes "packages" ∷ [])) ≡ None → ⊥
+        not_none : is_called found (codes "modules") ≡ false → is_called found (codes "packages") ≡ true → option_map (λ name. refusal.ReservedModule name) (find (is_called found) (codes "modules" ∷ codes "packages" ∷ [])) ≡ None → ⊥
         not_none is also none = not_some _ (rw (is, also) at none)
     go false is false also none = (is, also)
 
-other_name : (found : List VisibleModule) (name : List ℕ) (m : VisibleModule) → is_named found name ≡ false → Contains found m → name_of m ≢ name
+other_name : (found : List VisibleModule) (name : List ℕ) (m : VisibleModule) → is_called (candidates found) name ≡ false → Contains found m → name_of m ≢ name
 other_name found name m free there same =
-    false≢true (sym free ∙ any_contains (λ k. bytes_eq name (name_of k)) found m there ((bytes_eq-Decides name (name_of m)).1 (sym same)))
+    false≢true (sym free ∙ any_contains (λ c. bytes_eq name (closure.name_of c)) (candidates found) m.candidate (contains_map (λ (k : VisibleModule). k.candidate) found m there) ((bytes_eq-Decides name (name_of m)).1 (sym same)))
 
 -- Where a file comes from
 
@@ -121,12 +124,12 @@ file_from found places f there =
     record { «module» = m; path = pair.0; there = got found at.0 m at.2; listed = pair.1; is = sym pair.2 }
 
 -- none has the name of a node
-pub files_free : (found : List VisibleModule) (places : List ℕ) → All HasTexts found → reserved found ≡ None → All (λ f. is_node f.0 ≡ false) (link_files found places)
+pub files_free : (found : List VisibleModule) (places : List ℕ) → All HasTexts found → reserved (candidates found) ≡ None → All (λ f. is_node f.0 ≡ false) (link_files found places)
 files_free found places texts free = all_from_contains (λ f. is_node f.0 ≡ false) (link_files found places) go
   where
     go : (f : Named) → Contains (link_files found places) f → is_node f.0 ≡ false
     go f there =
         let from = file_from found places f there in
-        let names = free_names found free in
+        let names = free_names (candidates found) free in
         let legal = (All-contains HasTexts found from.«module» texts from.there).legal in
         ap (λ g. is_node g.0) from.is ∙ no_node (name_of from.«module») from.path legal (other_name found (codes "modules") from.«module» names.0 from.there) (other_name found (codes "packages") from.«module» names.1 from.there)

@@ -1,6 +1,7 @@
 pub mod ChosenLaws
 pub mod ClosingLaws
 pub mod FileLaws
+pub mod ImageLaws
 pub mod LaidLaws
 pub mod LinkVectors
 pub mod LinkingLaws

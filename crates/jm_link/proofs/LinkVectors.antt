@@ -6,13 +6,14 @@ use Rattle.jm_form.specs.Greedy.{seeds, table_lengths}
 use Rattle.jm_form.specs.Layout.{Written}
 use Rattle.jm_modinfo.specs.Written.{plain_descriptor}
 use Rattle.jm_modpath.specs.declared.visible.VisibleModule.{VisibleModule}
-use Rattle.jm_modpath.specs.Modules.{module_with}
+use Rattle.jm_modpath.specs.Modules.{candidates, module_with}
 use Rattle.jm_names.specs.declared.check.NameFault.TheVariants as fault
 use Rattle.jm_outside.specs.Files.{Files}
 use Rattle.jm_link.specs.declared.refusal.Refusal.TheVariants as refusal
 use Rattle.jm_link.specs.ByName.{Named}
 use Rattle.jm_link.specs.Linked.{layout_refusal}
-use Rattle.jm_link.specs.Resources.{first_bad_name, link_files, reserved, resources_of}
+use Rattle.jm_link.specs.Chosen.{reserved}
+use Rattle.jm_link.specs.Resources.{first_bad_name, link_files, resources_of}
 
 -- a module that requires nothing, with these files
 abbrev plain_module : List ℕ → List ℕ → List (List ℕ) → VisibleModule
@@ -58,14 +59,15 @@ resources = refl
 
 -- Refusals
 
-none_reserved : reserved found ≡ None
+none_reserved : reserved (candidates found) ≡ None
 none_reserved = refl
 
 -- the least of both names
 least_reserved :
     reserved
+    (candidates
     (plain_module (codes "d/1") (codes "packages") []
-    ∷ plain_module (codes "d/2") (codes "modules") [] ∷ [])
+    ∷ plain_module (codes "d/2") (codes "modules") [] ∷ []))
     ≡ Some (refusal.ReservedModule (codes "modules"))
 least_reserved = refl
 

@@ -24,7 +24,7 @@ less Less h = refl
 less Equal h = cc
 less Greater h = cc
 
-before_less : (n m : List ℕ) → is_before n m ≡ true → slice_cmp nat_cmp n m ≡ Less
+pub before_less : (n m : List ℕ) → is_before n m ≡ true → slice_cmp nat_cmp n m ≡ Less
 before_less n m before = less (slice_cmp nat_cmp n m) before
 
 before_further : (n m k : List ℕ) → is_before n m ≡ true → is_before m k ≡ true → is_before n k ≡ true
@@ -35,7 +35,7 @@ before_one_way : (n m : List ℕ) → is_before n m ≡ true → is_before m n �
 before_one_way n m before =
     ap is_lt (nat_list_cmp_total.antisymm m n ∙ ap ordering_reverse (before_less n m before))
 
-before_other : (n : List ℕ) → is_before n n ≡ true → ⊥
+pub before_other : (n : List ℕ) → is_before n n ≡ true → ⊥
 before_other n before = false≢true (sym (before_one_way n n before) ∙ before)
 
 -- of two names that differ one stands before the other

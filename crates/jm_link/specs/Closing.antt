@@ -14,9 +14,8 @@ use Rattle.jm_link.specs.declared.linking.LinkStop.TheVariants as stop
 use Rattle.jm_link.specs.declared.refusal.Refusal.{Refusal}
 use Rattle.jm_link.specs.declared.refusal.Refusal.TheVariants as refusal
 use Rattle.jm_modpath.specs.declared.visible.VisibleModule.{VisibleModule}
+use Rattle.jm_link.specs.Chosen.{reserved}
 use Rattle.jm_link.specs.Linked.{closing_refusal}
-use Rattle.jm_modpath.specs.Modules.{candidates}
-use Rattle.jm_link.specs.Resources.{reserved}
 
 abbrev pub folder_of : VisibleModule → ModuleFolder
 folder_of m = record { folder = m.folder; files = m.files }
@@ -44,20 +43,18 @@ stop_of_closing (closing.SplitPackage shared first second) =
 stop_of_closing closing.Memory = stop.Memory
 
 -- the closure is refused
-pub record IsRefusedAmong (found : List VisibleModule) (roots : List (List ℕ)) (bind : Bool)
+pub record IsRefusedAmong (found : List Candidate) (roots : List (List ℕ)) (bind : Bool)
     (given : Refusal) : Type 0 where
   pub error : CloseError
   pub free : reserved found ≡ None
-  pub closes : ClosesWith bind (candidates found) roots (Err error)
+  pub closes : ClosesWith bind found roots (Err error)
   pub refusal : closing_refusal error ≡ Some given
 
--- by the answer: the same modules, and the places of the closure; a reserved name, or the refusal
--- of the closure; no memory
-abbrev pub ClosesAmong : List VisibleModule → List (List ℕ) → Bool
-    → Result (List VisibleModule × List ℕ) LinkStop → Type 0
-ClosesAmong found roots bind (Ok closed) =
-    (closed.0 ≡ found) × (reserved found ≡ None)
-    × ClosesWith bind (candidates found) roots (Ok closed.1)
+-- by the answer: the places of the closure; a reserved name, or the refusal of the closure; no
+-- memory
+abbrev pub ClosesAmong : List Candidate → List (List ℕ) → Bool → Result (List ℕ) LinkStop → Type 0
+ClosesAmong found roots bind (Ok places) =
+    (reserved found ≡ None) × ClosesWith bind found roots (Ok places)
 ClosesAmong found roots bind (Err (stop.Refused given)) =
     (reserved found ≡ Some given) ⊎ IsRefusedAmong found roots bind given
 ClosesAmong found roots bind (Err (stop.NotThere listed)) = ⊥

@@ -1,5 +1,7 @@
 pub mod ByName
+pub mod Chosen
 pub mod Closing
+pub mod ImageLinked
 pub mod Linked
 pub mod Links
 pub mod RefusalText

@@ -5,6 +5,7 @@ use Rattle.std.specs.Prelude.{Option, Some, None, is_none, option_and_then, opti
 use Rattle.std.specs.Prelude.{Result, Ok, Err}
 use Rattle.jm_bytes.specs.Checks.{fault_if, first_fault}
 use Rattle.jm_bytes.specs.declared.words.Order.{Order}
+use Rattle.jm_closure.specs.declared.candidate.Candidate.{Candidate}
 use Rattle.jm_closure.specs.declared.error.CloseError.{CloseError}
 use Rattle.jm_closure.specs.declared.error.CloseError.TheVariants as closing
 use Rattle.jm_closure.specs.Refusals.{Closes}
@@ -13,7 +14,6 @@ use Rattle.jm_form.specs.Layout.{Written, all_sized, layout, layout_table, layou
 use Rattle.jm_form.specs.Trees.{first_clash}
 use Rattle.jm_modpath.specs.declared.refusal.PathRefusal.{PathRefusal}
 use Rattle.jm_modpath.specs.declared.refusal.PathRefusal.TheVariants as path
-use Rattle.jm_modpath.specs.declared.visible.VisibleModule.{VisibleModule}
 use Rattle.jm_modpath.specs.Modules.{candidates, path_refusal, visible}
 use Rattle.jm_outside.specs.Files.{Files}
 use Rattle.jm_plugins.specs.declared.Plugin.{Plugin}
@@ -23,13 +23,12 @@ use Rattle.jm_plugins.specs.Plugins.{apply}
 use Rattle.jm_writer.specs.Drafts.{entry_limit, image_limit, large_number}
 use Rattle.jm_link.specs.declared.refusal.Refusal.{Refusal}
 use Rattle.jm_link.specs.declared.refusal.Refusal.TheVariants as refusal
-use Rattle.jm_link.specs.ByName.{Named}
-use Rattle.jm_link.specs.Resources.{Chosen, first_bad_name, link_files, reserved, resources_of}
+use Rattle.jm_link.specs.Chosen.{Chosen, reserved}
+use Rattle.jm_link.specs.Resources.{first_bad_name, resources_in}
 
--- what is asked for: the directories of the module path, the root modules, whether providers of
--- services are linked too, the plug-ins in their order, and the byte order
+-- what is asked for, whatever shows the modules: the roots, whether providers of services are linked
+-- too, the plug-ins in their order, and the byte order
 pub record Request : Type 0 where
-  pub directories : List (List ℕ)
   pub roots : List (List ℕ)
   pub bind : Bool
   pub plugins : List Plugin
@@ -84,12 +83,12 @@ IsPluggedTo order modules (Err (plugging.BadClass name fault)) result =
     result ≡ Err (refusal.BadClass name fault)
 IsPluggedTo order modules (Err plugging.Memory) result = ⊥
 
--- the files of so many modules, whose first unfit name is refused before plug-ins act
-abbrev pub IsGatheredTo : Files → Request → ℕ → List Named → Option Refusal
+-- the resources of so many modules, whose first unfit name is refused before plug-ins act
+abbrev pub IsGatheredTo : Request → ℕ → List Written → Option Refusal
     → Result LinkedImage Refusal → Type 0
-IsGatheredTo files asked modules names (Some refusal) result = result ≡ Err refusal
-IsGatheredTo files asked modules names None result =
-    IsPluggedTo asked.order modules (apply asked.plugins (resources_of files names)) result
+IsGatheredTo asked modules resources (Some refusal) result = result ≡ Err refusal
+IsGatheredTo asked modules resources None result =
+    IsPluggedTo asked.order modules (apply asked.plugins resources) result
 
 -- The closure
 
@@ -101,26 +100,32 @@ closing_refusal (closing.SplitPackage shared first second) =
     Some (refusal.SplitPackage shared first second)
 closing_refusal closing.Memory = None
 
--- the result of a closure: of the modules at these places, or its refusal
-abbrev pub IsClosedTo : Files → Request → List VisibleModule → Result (List ℕ) CloseError
+-- the result of a closure: the resources of the modules at these places, or its refusal
+abbrev pub IsClosedTo : Request → (List ℕ → List Written) → Result (List ℕ) CloseError
     → Result LinkedImage Refusal → Type 0
-IsClosedTo files asked found (Ok places) result =
-    IsGatheredTo files asked (length places) (link_files found places)
-    (first_bad_name (link_files found places)) result
-IsClosedTo files asked found (Err error) (Ok image) = ⊥
-IsClosedTo files asked found (Err error) (Err refusal) = closing_refusal error ≡ Some refusal
+IsClosedTo asked resources (Ok places) result =
+    IsGatheredTo asked (length places) (resources places) (first_bad_name (resources places)) result
+IsClosedTo asked resources (Err error) (Ok image) = ⊥
+IsClosedTo asked resources (Err error) (Err refusal) = closing_refusal error ≡ Some refusal
 
 -- the closure of the roots among the modules found, which has one answer
-abbrev pub IsLinkedOf : Files → Request → List VisibleModule → Result LinkedImage Refusal → Type 0
-IsLinkedOf files asked found result =
-    (closed : Result (List ℕ) CloseError)
-    × Closes (candidates found) asked.roots (Chosen asked.bind found asked.roots) closed
-    × IsClosedTo files asked found closed result
-
-abbrev pub IsFoundTo : Files → Request → List VisibleModule → Option Refusal
+abbrev pub IsLinkedOf : Request → List Candidate → (List ℕ → List Written)
     → Result LinkedImage Refusal → Type 0
-IsFoundTo files asked found (Some refusal) result = result ≡ Err refusal
-IsFoundTo files asked found None result = IsLinkedOf files asked found result
+IsLinkedOf asked found resources result =
+    (closed : Result (List ℕ) CloseError)
+    × Closes found asked.roots (Chosen asked.bind found asked.roots) closed
+    × IsClosedTo asked resources closed result
+
+abbrev pub IsFoundTo : Request → List Candidate → (List ℕ → List Written) → Option Refusal
+    → Result LinkedImage Refusal → Type 0
+IsFoundTo asked found resources (Some refusal) result = result ≡ Err refusal
+IsFoundTo asked found resources None result = IsLinkedOf asked found resources result
+
+-- what a link of modules comes to, whatever shows them, by the resources of those at some places
+abbrev pub LinksAmong : Request → List Candidate → (List ℕ → List Written)
+    → Result LinkedImage Refusal → Type 0
+LinksAmong asked found resources result =
+    IsFoundTo asked found resources (reserved found) result
 
 -- The module path
 
@@ -128,12 +133,15 @@ abbrev pub path_refusal_as : PathRefusal → Refusal
 path_refusal_as (path.BadInfo path fault) = refusal.BadInfo path fault
 path_refusal_as (path.TwoModules dir name) = refusal.TwoModules dir name
 
-abbrev pub IsPathTo : Files → Request → Option PathRefusal → Result LinkedImage Refusal → Type 0
-IsPathTo files asked (Some given) result = result ≡ Err (path_refusal_as given)
-IsPathTo files asked None result =
-    IsFoundTo files asked (visible files asked.directories)
-    (reserved (visible files asked.directories)) result
+abbrev pub IsPathTo : Files → List (List ℕ) → Request → Option PathRefusal
+    → Result LinkedImage Refusal → Type 0
+IsPathTo files directories asked (Some given) result = result ≡ Err (path_refusal_as given)
+IsPathTo files directories asked None result =
+    LinksAmong asked (candidates (visible files directories))
+    (resources_in files (visible files directories)) result
 
--- the rule: what a link of these files comes to, refusal by refusal in their order
-abbrev pub LinksTo : Files → Request → Result LinkedImage Refusal → Type 0
-LinksTo files asked result = IsPathTo files asked (path_refusal files asked.directories) result
+-- the rule: what a link of the modules that the directories of these files show comes to, refusal
+-- by refusal in their order
+abbrev pub LinksTo : Files → List (List ℕ) → Request → Result LinkedImage Refusal → Type 0
+LinksTo files directories asked result =
+    IsPathTo files directories asked (path_refusal files directories) result

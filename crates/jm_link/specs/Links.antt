@@ -1,6 +1,7 @@
 -- What a `link` did to the files of a shelf (this project's rule).
 use Rattle.std.specs.Prelude.{ℕ, ◌≡◌, ◌⊎◌, List, length, Option, Result, Ok, Err}
 use Rattle.jm_bytes.specs.declared.words.Order.{Order}
+use Rattle.jm_form.specs.Layout.{Written}
 use Rattle.jm_outside.specs.Files.{Files}
 use Rattle.jm_outside.specs.Outcome.{Rose, Shows}
 use Rattle.jm_writer.specs.Laid.{IsLaidOut}
@@ -11,14 +12,16 @@ use Rattle.jm_link.specs.declared.linking.LinkStop.TheVariants as stop
 use Rattle.jm_link.specs.declared.linking.Summary.{Summary}
 use Rattle.jm_link.specs.declared.refusal.Refusal.{Refusal}
 use Rattle.jm_modpath.specs.declared.visible.VisibleModule.{VisibleModule}
+use Rattle.jm_modpath.specs.Modules.{candidates}
+use Rattle.jm_plugins.specs.Plugins.{apply}
 use Rattle.jm_link.specs.ByName.{Named}
-use Rattle.jm_link.specs.Linked.{IsFoundTo, IsGatheredTo, LinkedImage, LinksTo, Request}
-use Rattle.jm_link.specs.Resources.{first_bad_name, reserved}
+use Rattle.jm_link.specs.Linked.{IsGatheredTo, IsPluggedTo, LinkedImage, LinksAmong, LinksTo}
+use Rattle.jm_link.specs.Linked.{Request}
+use Rattle.jm_link.specs.Resources.{first_bad_name, resources_in, resources_of}
 
 -- what is asked for, as plain data
 abbrev pub request_of : Asked → Request
 request_of asked = record {
-  directories = asked.directories.now;
   roots = asked.roots.now;
   bind = asked.bind;
   plugins = asked.plugins.now;
@@ -41,9 +44,9 @@ IsLaid order (Err refusal) = Unit {0}
 
 -- this is what the link comes to, where the shelf tells its files: an image is valid, hands out
 -- exactly its resources, and tells exactly their trees
-abbrev pub ComesTo : Option Files → Request → Result LinkedImage Refusal → Type 0
-ComesTo told asked result =
-    Shows told (λ files. LinksTo files asked result × IsLaid asked.order result)
+abbrev pub ComesTo : Option Files → List (List ℕ) → Request → Result LinkedImage Refusal → Type 0
+ComesTo told directories asked result =
+    Shows told (λ files. LinksTo files directories asked result × IsLaid asked.order result)
 
 -- what a link did, where its result is one of these
 
@@ -54,38 +57,49 @@ BreaksOff Comes path old new =
     (new ≡ old) ⊎ ((image : LinkedImage) × Comes (Ok image) × HoldsPart old path image.bytes new)
 
 -- by the answer: the image stands at the path; a refusal, and no file was changed; a file that was
--- listed isn't there, which a shelf that tells its files never says; a failure of the outside; no
--- memory
-abbrev pub LinksBy : (Result LinkedImage Refusal → Type 0) → List ℕ → Result Summary LinkStop
-    → (old new : Option Files) → (faults new_faults : ℕ) → Type 0
-LinksBy Comes path (Ok summary) old new faults new_faults =
+-- listed isn't there, which shows that something else holds; a failure of the outside; no memory
+abbrev pub LinksBy : (Result LinkedImage Refusal → Type 0) → Type 0 → List ℕ
+    → Result Summary LinkStop → (old new : Option Files) → (faults new_faults : ℕ) → Type 0
+LinksBy Comes Absent path (Ok summary) old new faults new_faults =
     (image : LinkedImage) × Comes (Ok image) × (summary ≡ summary_of image)
     × Holds old path image.bytes new
-LinksBy Comes path (Err (stop.Refused refusal)) old new faults new_faults =
+LinksBy Comes Absent path (Err (stop.Refused refusal)) old new faults new_faults =
     Comes (Err refusal) × (new ≡ old)
-LinksBy Comes path (Err (stop.NotThere listed)) old new faults new_faults =
-    Shows old (λ files. ⊥) × (new ≡ old)
-LinksBy Comes path (Err stop.Outside) old new faults new_faults =
+LinksBy Comes Absent path (Err (stop.NotThere listed)) old new faults new_faults =
+    Absent × (new ≡ old)
+LinksBy Comes Absent path (Err stop.Outside) old new faults new_faults =
     BreaksOff Comes path old new × Rose faults new_faults
-LinksBy Comes path (Err stop.Memory) old new faults new_faults = BreaksOff Comes path old new
+LinksBy Comes Absent path (Err stop.Memory) old new faults new_faults = BreaksOff Comes path old new
+
+-- a shelf that tells its files never says of a listed one that it isn't there
+abbrev pub TellsNothing : Option Files → Type 0
+TellsNothing told = Shows told (λ files. ⊥)
 
 -- what a link of the files did
-abbrev pub Links : Request → List ℕ → Result Summary LinkStop → (old new : Option Files)
-    → (faults new_faults : ℕ) → Type 0
-Links asked path answer old new faults new_faults =
-    LinksBy (ComesTo old asked) path answer old new faults new_faults
+abbrev pub Links : List (List ℕ) → Request → List ℕ → Result Summary LinkStop
+    → (old new : Option Files) → (faults new_faults : ℕ) → Type 0
+Links directories asked path answer old new faults new_faults =
+    LinksBy (ComesTo old directories asked) (TellsNothing old) path answer old new faults new_faults
 
 -- of the modules found: their closure, and so on
 abbrev pub FoundComesTo : Option Files → Request → List VisibleModule
     → Result LinkedImage Refusal → Type 0
 FoundComesTo told asked found result =
     Shows told (λ files.
-    IsFoundTo files asked found (reserved found) result × IsLaid asked.order result)
+    LinksAmong asked (candidates found) (resources_in files found) result
+    × IsLaid asked.order result)
 
 -- of the files of so many modules: their names, and so on
 abbrev pub NamesComeTo : Option Files → Request → ℕ → List Named → Result LinkedImage Refusal
     → Type 0
 NamesComeTo told asked modules names result =
     Shows told (λ files.
-    IsGatheredTo files asked modules names (first_bad_name names) result
+    IsGatheredTo asked modules (resources_of files names)
+    (first_bad_name (resources_of files names)) result
     × IsLaid asked.order result)
+
+-- of the resources of so many modules: the plug-ins, and so on
+abbrev pub PoolComesTo : Request → ℕ → List Written → Result LinkedImage Refusal → Type 0
+PoolComesTo asked modules resources result =
+    IsPluggedTo asked.order modules (apply asked.plugins resources) result
+    × IsLaid asked.order result

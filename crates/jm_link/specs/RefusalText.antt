@@ -1,6 +1,6 @@
 -- What a command refuses in print: the kind, and the carried values, each behind a space (this
--- project's rule). Names of modules, packages and resources are put in UTF-8, paths of files as
--- their bytes.
+-- project's rule). Names of modules, packages, entries and resources are put in UTF-8, paths of
+-- files as their bytes.
 use Rattle.std.specs.Prelude.{ℕ, List, ◌∷◌, ◌++◌, codes}
 use Rattle.std.specs.Fmt.{decimal}
 use Rattle.jm_class.specs.FaultText.{class_fault_text}
@@ -26,6 +26,9 @@ spaced name = 32 ∷ utf name
 abbrev pub refusal_text : Refusal → List ℕ
 refusal_text (refusal.BadInfo path fault) =
     codes "BadInfo " ++ path ++ 32 ∷ descriptor_fault_text fault
+refusal_text (refusal.BadEntry name fault) =
+    codes "BadInfo" ++ spaced name ++ 32 ∷ descriptor_fault_text fault
+refusal_text (refusal.Foreign name) = codes "Foreign" ++ spaced name
 refusal_text (refusal.TwoModules dir name) = codes "TwoModules " ++ dir ++ spaced name
 refusal_text (refusal.ReservedModule name) = codes "ReservedModule" ++ spaced name
 refusal_text (refusal.NoRoot name) = codes "NoRoot" ++ spaced name

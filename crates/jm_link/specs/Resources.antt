@@ -1,11 +1,8 @@
 -- The resources that a `link` gathers: the files of the modules of its closure, by module and then
 -- by name (this project's rule).
-use Rattle.std.specs.Prelude.{ℕ, Bool, true, false, List, [], ◌∷◌, find, map, codes}
-use Rattle.std.specs.Prelude.{Option, option_map, slice_get}
+use Rattle.std.specs.Prelude.{ℕ, List, map, Option, option_map, slice_get}
 use Rattle.std.specs.List.{filter_map, flat_map}
-use Rattle.jm_bind.specs.Binding.{Bound}
 use Rattle.jm_bytes.specs.Checks.{first_fault}
-use Rattle.jm_closure.specs.Modules.{Reached}
 use Rattle.jm_form.specs.Layout.{Written}
 use Rattle.jm_names.specs.ComputedFault.{name_fault}
 use Rattle.jm_outside.specs.Files.{Files}
@@ -13,19 +10,7 @@ use Rattle.jm_link.specs.declared.refusal.Refusal.{Refusal}
 use Rattle.jm_link.specs.declared.refusal.Refusal.TheVariants as refusal
 use Rattle.jm_modpath.specs.declared.visible.VisibleModule.{VisibleModule}
 use Rattle.jm_link.specs.ByName.{Named, by_name}
-use Rattle.jm_modpath.specs.Modules.{bytes_at, candidates, inside, is_named, name_of, resource_name}
-
--- the modules that are linked, by their places among those found: with service binding those that
--- are bound, else those that are reached
-abbrev pub Chosen : Bool → List VisibleModule → List (List ℕ) → ℕ → Type 0
-Chosen true found roots i = Bound (candidates found) roots i
-Chosen false found roots i = Reached (candidates found) roots i
-
--- a module is called like one of the two trees; the least such name
-abbrev pub reserved : List VisibleModule → Option Refusal
-reserved found =
-    option_map (λ name. refusal.ReservedModule name)
-    (find (is_named found) (codes "modules" ∷ codes "packages" ∷ []))
+use Rattle.jm_modpath.specs.Modules.{bytes_at, inside, name_of, resource_name}
 
 -- the files of a module: the name of each as a resource and its path on the shelf, rising by name
 abbrev pub module_files : VisibleModule → List Named
@@ -47,3 +32,7 @@ first_bad_name names = first_fault (map name_refusal names)
 -- the resources: each name with the bytes of its file
 abbrev pub resources_of : Files → List Named → List Written
 resources_of files names = map (λ f. (f.0, bytes_at files f.1)) names
+
+-- those of the modules at these places
+abbrev pub resources_in : Files → List VisibleModule → List ℕ → List Written
+resources_in files found places = resources_of files (link_files found places)

@@ -1,10 +1,10 @@
 //! The closure of the roots among the modules that are visible.
 ghost use Rattle.std.specs.Prelude.{◌≡◌, length, map, IfOk};
 ghost use Rattle.jm_closure.specs.Names.{NamesDiffer};
+ghost use Rattle.jm_link.specs.Chosen.{is_called, reserved};
 ghost use Rattle.jm_link.specs.Closing.{ClosesAmong, ClosesWith, folder_of, joined_as};
 ghost use Rattle.jm_link.specs.Closing.{stop_of_closing};
-ghost use Rattle.jm_modpath.specs.Modules.{candidates, is_named};
-ghost use Rattle.jm_link.specs.Resources.{reserved};
+ghost use Rattle.jm_modpath.specs.Modules.{candidates};
 
 use crate::linking::LinkStop;
 use crate::refusal::Refusal;
@@ -22,19 +22,21 @@ pub struct ModuleFolder {
 }
 
 /// One of the modules has this name.
-fn is_named(found: &[VisibleModule], name: &[u8]) -> bool
-    ensures { result ≡ is_named found.now name.now }
+fn is_called(found: &[Candidate], name: &[u8]) -> bool
+    ensures { result ≡ is_called found.now name.now }
 {
-    found.iter().any(|module| name == module.candidate.descriptor.name.as_slice())
+    found
+        .iter()
+        .any(|module| name == module.descriptor.name.as_slice())
 }
 
 /// The refusal of a module that is called like one of the two trees, the least name first.
-fn reserved(alloc: Global, found: &[VisibleModule]) -> Result<Option<Refusal>, NoMemory>
+fn reserved(alloc: Global, found: &[Candidate]) -> Result<Option<Refusal>, NoMemory>
     ensures { IfOk result (λ refusal. refusal ≡ reserved found.now) }
 {
-    let name: &[u8] = if is_named(found, b"modules") {
+    let name: &[u8] = if is_called(found, b"modules") {
         b"modules"
-    } else if is_named(found, b"packages") {
+    } else if is_called(found, b"packages") {
         b"packages"
     } else {
         return Ok(None);
@@ -43,7 +45,7 @@ fn reserved(alloc: Global, found: &[VisibleModule]) -> Result<Option<Refusal>, N
 }
 
 /// What the modules say, and their folders.
-fn parted(
+pub fn parted(
     alloc: Global,
     found: List<VisibleModule>,
 ) -> Result<(List<Candidate>, List<ModuleFolder>), NoMemory>
@@ -65,7 +67,7 @@ fn parted(
 }
 
 /// The modules of these candidates and folders.
-fn joined(
+pub fn joined(
     alloc: Global,
     candidates: List<Candidate>,
     folders: List<ModuleFolder>,
@@ -127,22 +129,21 @@ fn stop_of_closing(error: CloseError) -> LinkStop
     }
 }
 
-/// The modules again, and the places of those that are linked, rising by name.
-pub fn closed_among(
+/// The places of the modules that are linked, rising by name.
+pub fn closed(
     alloc: Global,
-    found: List<VisibleModule>,
+    found: &[Candidate],
     roots: &[Text],
     binds: bool,
-) -> Result<(List<VisibleModule>, List<usize>), LinkStop>
-    requires { NamesDiffer (candidates found) }
-    ensures { ClosesAmong found roots.now binds result }
+) -> Result<List<usize>, LinkStop>
+    requires { NamesDiffer found.now }
+    ensures { ClosesAmong found.now roots.now binds result }
 {
-    if let Some(refusal) = reserved(alloc, found.as_slice())? {
+    if let Some(refusal) = reserved(alloc, found)? {
         return Err(LinkStop::Refused(refusal));
     }
-    let (candidates, folders) = parted(alloc, found)?;
-    match chosen(alloc, candidates.as_slice(), roots, binds) {
-        Ok(places) => Ok((joined(alloc, candidates, folders)?, places)),
+    match chosen(alloc, found, roots, binds) {
+        Ok(places) => Ok(places),
         Err(error) => Err(stop_of_closing(error)),
     }
 }

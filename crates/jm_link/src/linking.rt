@@ -1,4 +1,4 @@
-//! A whole `link`.
+//! A whole `link` from a module path.
 ghost use Rattle.std.specs.Prelude.{◌≡◌, ◌≢◌, ◌<◌, ℕ, length, map, false, None};
 ghost use Rattle.std.specs.Prelude.{All, AllPairs, Contains, IsUtf8};
 ghost use Rattle.jm_closure.specs.Names.{NamesDiffer};
@@ -6,15 +6,16 @@ ghost use Rattle.jm_names.specs.Names.{is_node};
 ghost use Rattle.jm_outside.specs.Files.{file};
 ghost use Rattle.jm_outside.specs.Outcome.{Shows};
 ghost use Rattle.jm_modpath.specs.Finding.{HasTexts};
-ghost use Rattle.jm_link.specs.Links.{FoundComesTo, Links, LinksBy, NamesComeTo, request_of};
+ghost use Rattle.jm_link.specs.Chosen.{reserved};
+ghost use Rattle.jm_link.specs.Links.{FoundComesTo, Links, LinksBy, NamesComeTo, TellsNothing};
+ghost use Rattle.jm_link.specs.Links.{request_of};
 ghost use Rattle.jm_modpath.specs.Modules.{candidates};
 ghost use Rattle.jm_link.specs.ResourceFiles.{file_names, pair_of};
-ghost use Rattle.jm_link.specs.Resources.{link_files, reserved};
+ghost use Rattle.jm_link.specs.Resources.{link_files};
 ghost use Rattle.jm_link.specs.Showing.{ListsItsFiles};
 
-use crate::closing::closed_among;
-use crate::image::write_image;
-use crate::plugging::plugged;
+use crate::closing::{closed, joined, parted};
+use crate::pooled::link_pool;
 use crate::refusal::Refusal;
 use crate::resources::{ResourceFile, first_bad_name, link_files, read_resources};
 use jm_bytes::{List, Order, Text};
@@ -28,8 +29,6 @@ use std::thread::Threads;
 /// What is asked of a link.
 #[derive(Clone, Copy, Debug)]
 pub struct Asked<'a> {
-    /// The directories of the module path; a module of an earlier one hides its name in later ones.
-    pub directories: &'a [Text],
     /// The names of the modules that are linked with all that they require.
     pub roots: &'a [Text],
     /// Whether modules that provide services which linked ones use are linked too.
@@ -88,15 +87,14 @@ fn link_named<T: Threads + Sync, S: Shelf, G: Gate + Sync>(
     requires output { IsUtf8 asked.now.output.now }
     ensures { LinksBy
         (NamesComeTo (S.files shelf.old) (request_of asked.now) modules (map pair_of files.now))
-        asked.now.output.now result (S.files shelf.old) (S.files shelf.new)
+        (TellsNothing (S.files shelf.old)) asked.now.output.now result (S.files shelf.old) (S.files shelf.new)
         (S.faults shelf.old) (S.faults shelf.new) }
 {
     if let Some(refusal) = first_bad_name(alloc, files)? {
         return Err(LinkStop::Refused(refusal));
     }
     let read = read_resources(alloc, files, shelf)?;
-    let pool = plugged(rt, alloc, jobs, read, asked.plugins, gate)?;
-    write_image(alloc, asked.order, modules, &pool, shelf, asked.output)
+    link_pool(rt, alloc, jobs, asked, modules, read, shelf, gate)
 }
 
 /// Links the modules at these places, which are those of a closure.
@@ -113,7 +111,7 @@ fn link_closed<T: Threads + Sync, S: Shelf, G: Gate + Sync>(
     requires jobs { 0 < jobs }
     requires texts { All HasTexts found.now }
     requires differ { NamesDiffer (candidates found.now) }
-    requires free { reserved found.now ≡ None }
+    requires free { reserved (candidates found.now) ≡ None }
     requires within { (i : ℕ) → Contains places.now i → i < length found.now }
     requires once { AllPairs (λ i j. i ≢ j) places.now }
     requires told { Shows (S.files shelf.old) (λ told. ListsItsFiles told found.now) }
@@ -121,7 +119,7 @@ fn link_closed<T: Threads + Sync, S: Shelf, G: Gate + Sync>(
     ensures { LinksBy
         (NamesComeTo (S.files shelf.old) (request_of asked.now) (length places.now)
         (link_files found.now places.now))
-        asked.now.output.now result (S.files shelf.old) (S.files shelf.new)
+        (TellsNothing (S.files shelf.old)) asked.now.output.now result (S.files shelf.old) (S.files shelf.new)
         (S.faults shelf.old) (S.faults shelf.new) }
 {
     let files = link_files(alloc, found, places)?;
@@ -145,40 +143,36 @@ fn link_found<T: Threads + Sync, S: Shelf, G: Gate + Sync>(
     requires told { Shows (S.files shelf.old) (λ told. ListsItsFiles told found) }
     requires output { IsUtf8 asked.now.output.now }
     ensures { LinksBy (FoundComesTo (S.files shelf.old) (request_of asked.now) found)
-        asked.now.output.now result (S.files shelf.old) (S.files shelf.new)
+        (TellsNothing (S.files shelf.old)) asked.now.output.now result (S.files shelf.old) (S.files shelf.new)
         (S.faults shelf.old) (S.faults shelf.new) }
 {
-    let (found, places) = closed_among(alloc, found, asked.roots, asked.bind)?;
+    let (candidates, folders) = parted(alloc, found)?;
+    let places = closed(alloc, candidates.as_slice(), asked.roots, asked.bind)?;
+    let found = joined(alloc, candidates, folders)?;
     let found = found.as_slice();
-    link_closed(
-        rt,
-        alloc,
-        jobs,
-        asked,
-        found,
-        places.as_slice(),
-        shelf,
-        gate,
-    )
+    let places = places.as_slice();
+    link_closed(rt, alloc, jobs, asked, found, places, shelf, gate)
 }
 
 /// Links the modules of a module path that are reached from the roots, or bound by them, lets the
-/// plug-ins act on their resources, each on all jobs, and writes the image to the file at a path.
-/// The answer depends neither on the number of jobs nor on the gate.
+/// plug-ins act on their resources, each on all jobs, and writes the image to the file at a path. A
+/// module of an earlier directory hides its name in later ones. The answer depends neither on the
+/// number of jobs nor on the gate.
 pub fn link<T: Threads + Sync, S: Shelf, G: Gate + Sync>(
     rt: &T,
     alloc: Global,
     jobs: u32,
+    directories: &[Text],
     asked: &Asked,
     shelf: &mut S,
     gate: &G,
 ) -> Result<Summary, LinkStop>
     requires jobs { 0 < jobs }
-    requires directories { All IsUtf8 asked.now.directories.now }
+    requires directories { All IsUtf8 directories.now }
     requires output { IsUtf8 asked.now.output.now }
-    ensures { Links (request_of asked.now) asked.now.output.now result
+    ensures { Links directories.now (request_of asked.now) asked.now.output.now result
         (S.files shelf.old) (S.files shelf.new) (S.faults shelf.old) (S.faults shelf.new) }
 {
-    let found = visible_modules(alloc, asked.directories, shelf)?;
+    let found = visible_modules(alloc, directories, shelf)?;
     link_found(rt, alloc, jobs, asked, found, shelf, gate)
 }

@@ -12,6 +12,13 @@ pub enum Refusal {
         path: Text,
         fault: DescriptorFault,
     },
+    /// The entry of this name of an image is no class, or no class of a module.
+    BadEntry {
+        name: Text,
+        fault: DescriptorFault,
+    },
+    /// The entry of this name of an image describes a module of another name.
+    Foreign(Text),
     /// Two folders of this directory have a module of this name.
     TwoModules {
         dir: Text,

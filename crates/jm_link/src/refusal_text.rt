@@ -55,6 +55,19 @@ fn bad_info(alloc: Global, path: &Text, fault: DescriptorFault) -> Result<Vec<u8
     Ok(text)
 }
 
+/// The kind `BadInfo`, the name of an entry and its fault.
+fn bad_entry(alloc: Global, name: &Text, fault: DescriptorFault) -> Result<Vec<u8>, NoMemory>
+    ensures { IfOk result (λ text. text.items
+        ≡ codes "BadInfo" ++ spaced name.now ++ 32 ∷ descriptor_fault_text fault) }
+{
+    let Ok(fault) = format!(in alloc; " {fault}") else {
+        return Err(NoMemory);
+    };
+    let mut text = named(alloc, b"BadInfo", name)?;
+    extend(&mut text, fault.as_bytes())?;
+    Ok(text)
+}
+
 /// A fault of a name.
 fn name_fault_text(alloc: Global, fault: NameFault) -> Result<Vec<u8>, NoMemory>
     ensures { IfOk result (λ text. text.items ≡ name_fault_text fault) }
@@ -135,6 +148,8 @@ impl Refusal {
     {
         match self {
             Refusal::BadInfo { path, fault } => bad_info(alloc, path, *fault),
+            Refusal::BadEntry { name, fault } => bad_entry(alloc, name, *fault),
+            Refusal::Foreign(name) => named(alloc, b"Foreign", name),
             Refusal::TwoModules { dir, name } => two_modules(alloc, dir, name),
             Refusal::ReservedModule(name) => named(alloc, b"ReservedModule", name),
             Refusal::NoRoot(name) => named(alloc, b"NoRoot", name),

@@ -7,6 +7,7 @@ use crate::refusal::Refusal;
 use jm_bytes::NoMemory;
 use jm_modpath::{PathRefusal, PathStop};
 use jm_outside::ShelfError;
+use jm_relink::{GatherError, RelinkError};
 
 impl From<NoMemory> for LinkStop {
     ghost use Rattle.jm_link.specs.declared.linking.LinkStop.TheVariants.{Memory};
@@ -52,6 +53,37 @@ impl From<PathStop> for LinkStop {
             PathStop::NotThere(path) => LinkStop::NotThere(path),
             PathStop::Outside => LinkStop::Outside,
             PathStop::Memory => LinkStop::Memory,
+        }
+    }
+}
+
+impl From<RelinkError> for LinkStop {
+    ghost use Rattle.jm_link.specs.ImageLinked.{stop_of_modules};
+
+    ghost from_gives = { λ error e. e ≡ stop_of_modules error };
+
+    fn from(error: RelinkError) -> LinkStop {
+        match error {
+            RelinkError::BadInfo { name, fault } => {
+                LinkStop::Refused(Refusal::BadEntry { name, fault })
+            }
+            RelinkError::Foreign(name) => LinkStop::Refused(Refusal::Foreign(name)),
+            RelinkError::Memory => LinkStop::Memory,
+        }
+    }
+}
+
+impl From<GatherError> for LinkStop {
+    ghost use Rattle.jm_link.specs.ImageLinked.{stop_of_gathering};
+
+    ghost from_gives = { λ error e. e ≡ stop_of_gathering error };
+
+    fn from(error: GatherError) -> LinkStop {
+        match error {
+            GatherError::BadName { name, fault } => {
+                LinkStop::Refused(Refusal::BadName { name, fault })
+            }
+            GatherError::Memory => LinkStop::Memory,
         }
     }
 }

@@ -1,10 +1,14 @@
-use Rattle.std.proofs.Common.{refl}
+use Rattle.std.proofs.Common.{Some, None, sym}
 use Rattle.jm_commands.specs.Outcome.{link_from}
-use Rattle.jm_commands.proofs.LinkLaws.{link_put, link_stopped}
+use Rattle.jm_commands.proofs.LinkLaws.{link_comes}
 use Rattle.jm_commands.proofs.link.link_command.Goals as goal
 
-pub returns-in-Ok : goal.returns-in-Ok
-returns-in-Ok g c rest faults = link_put (link_from c.args.words.now) _ _ refl c.in-Ok.summary _ c.in-Ok.ensures c.put_summary.ensures
+pub returns-in-Some : goal.returns-in-Some
+returns-in-Some g c rest faults =
+    let does = c.link_from_image.ensures rest faults in
+    let linked = rw c.as_slice.ensures at does in
+    link_comes (g.S.Shelf.files c.args.shelf.now) (link_from c.args.words.now) (Some c.in-Some.path) _ _ _ c.in-Some.is linked
 
-pub returns-in-Err : goal.returns-in-Err
-returns-in-Err g c rest faults = rw c.stop_of_link.ensures (link_stopped (link_from c.args.words.now) _ _ refl c.in-Err.stop c.in-Err.ensures refl)
+pub returns-in-None : goal.returns-in-None
+returns-in-None g c rest faults =
+    link_comes (g.S.Shelf.files c.args.shelf.now) (link_from c.args.words.now) None _ _ _ c.in-None.is (c.link_from_path.ensures rest faults)

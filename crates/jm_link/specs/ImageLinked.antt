@@ -1,0 +1,71 @@
+-- What a `link` of the modules of an image comes to (JEP 282; which modules an image has, and the
+-- order of the refusals, is this project's rule).
+use Rattle.std.specs.Prelude.{ℕ, ◌≡◌, List, map, Option, Some, None, Result, Ok, Err, slice_get}
+use Rattle.std.specs.List.{filter_map, flat_map}
+use Rattle.jm_closure.specs.declared.candidate.Candidate.{Candidate}
+use Rattle.jm_form.specs.Layout.{Written}
+use Rattle.jm_outside.specs.Files.{Files}
+use Rattle.jm_relink.specs.declared.error.GatherError.{GatherError}
+use Rattle.jm_relink.specs.declared.error.GatherError.TheVariants as gather
+use Rattle.jm_relink.specs.declared.error.RelinkError.{RelinkError}
+use Rattle.jm_relink.specs.declared.error.RelinkError.TheVariants as relink
+use Rattle.jm_relink.specs.Gathering.{resources_with}
+use Rattle.jm_relink.specs.Modules.{ModulesOf, SeenModule, name_of}
+use Rattle.jm_link.specs.declared.linking.LinkStop.{LinkStop}
+use Rattle.jm_link.specs.declared.linking.LinkStop.TheVariants as stop
+use Rattle.jm_link.specs.declared.linking.Summary.{Summary}
+use Rattle.jm_link.specs.declared.refusal.Refusal.{Refusal}
+use Rattle.jm_link.specs.declared.refusal.Refusal.TheVariants as refusal
+use Rattle.jm_link.specs.Linked.{LinkedImage, LinksAmong, Request}
+use Rattle.jm_link.specs.Links.{IsLaid, LinksBy}
+
+abbrev pub seen_candidates : List SeenModule → List Candidate
+seen_candidates seen = map (λ s. s.candidate) seen
+
+-- the resources of a module of an image, rising by path; each path stays as it is
+abbrev pub seen_resources : SeenModule → List Written
+seen_resources s = resources_with (name_of s) s.files
+
+-- those of the modules at these places, one module after another
+abbrev pub resources_seen : List SeenModule → List ℕ → List Written
+resources_seen seen places = flat_map seen_resources (filter_map (slice_get seen) places)
+
+abbrev pub image_refusal : RelinkError → Option Refusal
+image_refusal (relink.BadInfo name fault) = Some (refusal.BadEntry name fault)
+image_refusal (relink.Foreign name) = Some (refusal.Foreign name)
+image_refusal relink.Memory = None
+
+-- of the modules of an image, or of their first refusal
+abbrev pub IsImageTo : Request → Result (List SeenModule) RelinkError → Result LinkedImage Refusal
+    → Type 0
+IsImageTo asked (Ok seen) result =
+    LinksAmong asked (seen_candidates seen) (resources_seen seen) result
+IsImageTo asked (Err error) (Ok image) = ⊥
+IsImageTo asked (Err error) (Err refusal) = image_refusal error ≡ Some refusal
+
+-- the rule: what a link of the modules of an image comes to, refusal by refusal in their order
+abbrev pub ImageLinksTo : List ℕ → Request → Result LinkedImage Refusal → Type 0
+ImageLinksTo b asked result =
+    (modules : Result (List SeenModule) RelinkError) × ModulesOf b modules
+    × IsImageTo asked modules result
+
+-- and the image that it comes to is what the layout of its resources is
+abbrev pub ImageComesTo : List ℕ → Request → Result LinkedImage Refusal → Type 0
+ImageComesTo b asked result = ImageLinksTo b asked result × IsLaid asked.order result
+
+-- what such a link did; no file is read, so none is missing
+abbrev pub ImageLinks : List ℕ → Request → List ℕ → Result Summary LinkStop
+    → (old new : Option Files) → (faults new_faults : ℕ) → Type 0
+ImageLinks b asked path answer old new faults new_faults =
+    LinksBy (ImageComesTo b asked) ⊥ path answer old new faults new_faults
+
+-- why an image shows no modules
+abbrev pub stop_of_modules : RelinkError → LinkStop
+stop_of_modules (relink.BadInfo name fault) = stop.Refused (refusal.BadEntry name fault)
+stop_of_modules (relink.Foreign name) = stop.Refused (refusal.Foreign name)
+stop_of_modules relink.Memory = stop.Memory
+
+-- why the files of modules are no resources
+abbrev pub stop_of_gathering : GatherError → LinkStop
+stop_of_gathering (gather.BadName name fault) = stop.Refused (refusal.BadName name fault)
+stop_of_gathering gather.Memory = stop.Memory

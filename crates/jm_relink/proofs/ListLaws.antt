@@ -1,0 +1,82 @@
+-- Lists whose elements differ by a key, and parts of lists.
+use Rattle.std.proofs.Common.{◌≡◌, ◌≢◌, ℕ, inl, inr, List, [], ◌∷◌, ◌++◌, append_assoc, map, Option, Some, None, option_map, option_to_list, All, AllPairs, Contains, refl, sym, ap, ◌∙◌}
+use Rattle.std.proofs.lemmas.List.Elements.{All-contains, Contains-append_left, Contains-append_right}
+use Rattle.std.proofs.lemmas.List.Kept.{AllPairs-cons}
+use Rattle.std.specs.List.{cons_option, flat_map}
+use Rattle.jm_bytes.proofs.Choice.{same_some}
+use Rattle.jm_bytes.proofs.Members.{all_from_contains, contains_cases, contains_here, contains_map, contains_none}
+use Rattle.jm_bytes.proofs.Pairs.{pairs_head, pairs_none, pairs_tail}
+
+pub mapped_some : {A B : Type 0} (f : A → B) (o : Option A) (y : B) → option_map f o ≡ Some y → (x : A) × (o ≡ Some x) × (f x ≡ y)
+mapped_some f None y h = cc
+mapped_some f (Some x) y h = (x, refl, same_some (f x) y h)
+
+pub put_alone : {X : Type 0} (o : Option X) (xs : List X) → cons_option o xs ≡ option_to_list o ++ xs
+put_alone None xs = refl
+put_alone (Some x) xs = refl
+
+pub append_none : {X : Type 0} (xs : List X) → xs ++ [] ≡ xs
+append_none [] = refl
+append_none (x ∷ xs) = ap (λ ys. x ∷ ys) (append_none xs)
+
+-- two elements with one key are one
+pub one_of : {X K : Type 0} (key : X → K) (xs : List X) (x y : X) → AllPairs (λ a b. key a ≢ key b) xs → Contains xs x → Contains xs y → key x ≡ key y → x ≡ y
+one_of key [] x y differ there too same = absurd (contains_none x there)
+one_of {X = X} {K = K} key (z ∷ xs) x y differ there too same =
+    elim (contains_cases z xs x there) [
+      | inl first ↦
+          elim (contains_cases z xs y too) [
+            | inl other ↦ sym first ∙ other
+            | inr later ↦ absurd (apart y later (ap key first ∙ same))
+          ]
+      | inr later ↦
+          elim (contains_cases z xs y too) [
+            | inl other ↦ absurd (apart x later (ap key other ∙ sym same))
+            | inr behind ↦ one_of key xs x y (pairs_tail (λ (a b : X). key a ≢ key b) z xs differ) later behind same
+          ]
+    ]
+  where
+    apart : (w : X) → Contains xs w → key z ≢ key w
+    apart w among = All-contains (λ b. key z ≢ key b) xs w (pairs_head (λ (a b : X). key a ≢ key b) z xs differ) among
+
+module _ {X : Type 0} (R : X → X → Type 0) where
+  pub pairs_left : (xs ys : List X) → AllPairs R (xs ++ ys) → AllPairs R xs
+  pairs_left [] ys pairs = pairs_none R
+  pairs_left (x ∷ xs) ys pairs =
+      AllPairs-cons R x xs
+      (all_from_contains (R x) xs (λ y there. All-contains (R x) (xs ++ ys) y (pairs_head R x (xs ++ ys) pairs) (Contains-append_left xs ys y there)))
+      (pairs_left xs ys (pairs_tail R x (xs ++ ys) pairs))
+
+  pub pairs_right : (xs ys : List X) → AllPairs R (xs ++ ys) → AllPairs R ys
+  pairs_right [] ys pairs = pairs
+  pairs_right (x ∷ xs) ys pairs = pairs_right xs ys (pairs_tail R x (xs ++ ys) pairs)
+
+  -- what stands in front of an element
+  pub pairs_front : (xs : List X) (x : X) (ys : List X) → AllPairs R (xs ++ x ∷ ys) → All (λ y. R y x) xs
+  pairs_front xs x ys pairs = all_from_contains (λ y. R y x) xs (go xs pairs)
+    where
+      go : (ws : List X) → AllPairs R (ws ++ x ∷ ys) → (y : X) → Contains ws y → R y x
+      go [] all y there = absurd (contains_none y there)
+      go (w ∷ ws) all y there =
+          elim (contains_cases w ws y there) [
+            | inl same ↦
+                let first = All-contains (R w) (ws ++ x ∷ ys) x (pairs_head R w (ws ++ x ∷ ys) all) (Contains-append_right ws (x ∷ ys) x (contains_here x ys)) in
+                rw (sym same) first
+            | inr later ↦ go ws (pairs_tail R w (ws ++ x ∷ ys) all) y later
+          ]
+
+  pub pairs_unmap : {Y : Type 0} (f : Y → X) (ys : List Y) → AllPairs R (map f ys) → AllPairs (λ a b. R (f a) (f b)) ys
+  pairs_unmap {Y = Y} f [] pairs = pairs_none (λ (a b : Y). R (f a) (f b))
+  pairs_unmap {Y = Y} f (y ∷ ys) pairs =
+      AllPairs-cons (λ (a b : Y). R (f a) (f b)) y ys
+      (all_from_contains (λ b. R (f y) (f b)) ys (λ b there. All-contains (R (f y)) (map f ys) (f b) (pairs_head R (f y) (map f ys) pairs) (contains_map f ys b there)))
+      (pairs_unmap f ys (pairs_tail R (f y) (map f ys) pairs))
+
+  -- each of the lists that were joined
+  pub pairs_each : {Y : Type 0} (f : Y → List X) (ys : List Y) (y : Y) → AllPairs R (flat_map f ys) → Contains ys y → AllPairs R (f y)
+  pairs_each f [] y pairs there = absurd (contains_none y there)
+  pairs_each f (z ∷ ys) y pairs there =
+      elim (contains_cases z ys y there) [
+        | inl same ↦ rw (sym same) (pairs_left (f z) (flat_map f ys) pairs)
+        | inr later ↦ pairs_each f ys y (pairs_right (f z) (flat_map f ys) pairs) later
+      ]

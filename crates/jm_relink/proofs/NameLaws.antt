@@ -1,0 +1,105 @@
+-- Names of resources: the module and the path of each.
+use Rattle.std.proofs.Common.{inl, inr, ◌≡◌, ◌≢◌, ℕ, zero, suc, ◌+◌, ◌≤◌, Bool, true, false, ◌&&◌, ◌||◌, not, cond, List, [], ◌∷◌, ◌++◌, take, drop, length, Option, Some, None, refl, sym, ap, ◌∙◌, subst, arith}
+use Rattle.std.proofs.lemmas.Bool.{false≢true, eqb-true}
+use Rattle.std.proofs.lemmas.List.{append_cancel_left, take_at}
+use Rattle.std.specs.List.{after_first, before_first, list_any, position_or_len}
+use Rattle.jm_bytes.proofs.Choice.{chosen, same_first, same_second}
+use Rattle.jm_bytes.proofs.Cuts.{first_parts}
+use Rattle.jm_form.specs.Trees.{path_of}
+use Rattle.jm_names.specs.Names.{is_slash}
+use Rattle.jm_relink.specs.Files.{file_name, module_and_path}
+
+-- Tests
+
+pub head_false : (p : ℕ → Bool) (b : ℕ) (bs : List ℕ) → list_any p (b ∷ bs) ≡ false → (p b ≡ false) × (list_any p bs ≡ false)
+head_false p b bs none = go (p b) (list_any p bs) none
+  where
+    go : (x y : Bool) → (x || y) ≡ false → (x ≡ false) × (y ≡ false)
+    go true y h = absurd (false≢true (sym h))
+    go false y h = (refl, h)
+
+pub any_behind : (p : ℕ → Bool) (front back : List ℕ) → list_any p back ≡ true → list_any p (front ++ back) ≡ true
+any_behind p [] back some = some
+any_behind p (b ∷ front) back some = go (p b) (any_behind p front back some)
+  where
+    go : (c : Bool) → list_any p (front ++ back) ≡ true → (c || list_any p (front ++ back)) ≡ true
+    go true rest = refl
+    go false rest = rest
+
+pub drop_front : (front back : List ℕ) (k : ℕ) → drop (length front + k) (front ++ back) ≡ drop k back
+drop_front [] back k = let none : 0 + k ≡ k = omega arith in ap (λ n. drop n back) none
+drop_front (b ∷ front) back k =
+    let next : length (b ∷ front) + k ≡ suc (length front + k) = omega arith in
+    ap (λ n. drop n (b ∷ (front ++ back))) next ∙ drop_front front back k
+
+-- A module without a slash, and its path
+
+position_behind : (m p : List ℕ) → list_any is_slash m ≡ false → position_or_len is_slash (m ++ 47 ∷ p) ≡ length m
+position_behind [] p whole = refl
+position_behind (b ∷ m) p whole =
+    let tests = head_false is_slash b m whole in
+    let rest = position_behind m p tests.1 in
+    ap (λ c. cond (not c) (1 + position_or_len is_slash (m ++ 47 ∷ p)) 0) tests.0 ∙ omega (arith, rest)
+
+pub before_slash : (m p : List ℕ) → list_any is_slash m ≡ false → before_first is_slash (m ++ 47 ∷ p) ≡ m
+before_slash m p whole = ap (λ n. take n (m ++ 47 ∷ p)) (position_behind m p whole) ∙ take_at m (47 ∷ p) (length m) refl
+
+pub after_slash : (m p : List ℕ) → list_any is_slash m ≡ false → after_first is_slash (m ++ 47 ∷ p) ≡ p
+after_slash m p whole = ap (λ n. drop (n + 1) (m ++ 47 ∷ p)) (position_behind m p whole) ∙ drop_front m (47 ∷ p) 1
+
+pub path_of_file : (m p : List ℕ) → list_any is_slash m ≡ false → path_of (file_name m p) ≡ p
+path_of_file m p whole = after_slash m p whole
+
+pub parts_of_file : (m p : List ℕ) → list_any is_slash m ≡ false → module_and_path (file_name m p) ≡ Some (m, p)
+parts_of_file m p whole =
+    rw (any_behind is_slash m (47 ∷ p) refl, before_slash m p whole, after_slash m p whole) refl
+
+-- Names of modules and paths are told by the name
+
+pub names_tell : (m k p q : List ℕ) → list_any is_slash m ≡ false → list_any is_slash k ≡ false → file_name m p ≡ file_name k q → (m ≡ k) × (p ≡ q)
+names_tell m k p q whole other same =
+    let rest : m ++ 47 ∷ p ≡ k ++ 47 ∷ q = append_cancel_left (47 ∷ []) (m ++ 47 ∷ p) (k ++ 47 ∷ q) same in (
+      sym (before_slash m p whole) ∙ ap (before_first is_slash) rest ∙ before_slash k q other,
+      sym (after_slash m p whole) ∙ ap (after_first is_slash) rest ∙ after_slash k q other,
+    )
+
+none_before : (xs : List ℕ) → list_any is_slash (before_first is_slash xs) ≡ false
+none_before [] = refl
+none_before (x ∷ xs) = go (is_slash x) refl (none_before xs)
+  where
+    go : (c : Bool) → is_slash x ≡ c → list_any is_slash (before_first is_slash xs) ≡ false → list_any is_slash (take (cond (not c) (1 + position_or_len is_slash xs) 0) (x ∷ xs)) ≡ false
+    go true is rest = refl
+    go false is rest =
+        let next : 1 + position_or_len is_slash xs ≡ suc (position_or_len is_slash xs) = omega arith in
+        ap (λ n. list_any is_slash (take n (x ∷ xs))) next ∙ ap (λ c. c || list_any is_slash (before_first is_slash xs)) is ∙ rest
+
+both : (a b : Bool) → (a && b) ≡ true → (a ≡ true) × (b ≡ true)
+both true b h = (refl, h)
+both false b h = absurd (false≢true h)
+
+-- what a name is that has a module and a path
+pub record IsFileName (name m p : List ℕ) : Type 0 where
+  pub whole : list_any is_slash m ≡ false
+  pub is : name ≡ file_name m p
+
+pub file_of_parts : (name m p : List ℕ) → module_and_path name ≡ Some (m, p) → IsFileName name m p
+file_of_parts [] m p h = cc
+file_of_parts (b ∷ name) m p h =
+    elim (chosen (is_slash b && list_any is_slash name) (Some (before_first is_slash name, after_first is_slash name)) None (Some (m, p)) h) [
+      | inl passes ↦
+          let tests = both (is_slash b) (list_any is_slash name) passes.0 in
+          let first = same_first (before_first is_slash name) m (after_first is_slash name) p passes.1 in
+          let second = same_second (before_first is_slash name) m (after_first is_slash name) p passes.1 in
+          let cut = first_parts is_slash name 0 tests.1 in
+          let slash : cut.0 ≡ 47 = eqb-true cut.0 47 cut.1 in
+          let head : b ≡ 47 = eqb-true b 47 tests.0 in
+          let rest : name ≡ m ++ 47 ∷ p =
+          sym cut.2 ∙ ap (λ c. before_first is_slash name ++ c ∷ after_first is_slash name) slash
+          ∙ ap (λ n. n ++ 47 ∷ after_first is_slash name) first ∙ ap (λ q. m ++ 47 ∷ q) second
+          in
+          record {
+            whole = subst (λ n. list_any is_slash n ≡ false) first (none_before name);
+            is = ap (λ c. c ∷ name) head ∙ ap (λ n. 47 ∷ n) rest;
+          }
+      | inr fails ↦ cc
+    ]

@@ -1,0 +1,76 @@
+-- The resources of an image as files of modules (JEP 220: `/module/path`).
+use Rattle.std.specs.Prelude.{ℕ, ◌≡◌, ◌&&◌, Bool, true, false, List, [], ◌∷◌, ◌++◌, map, AllPairs}
+use Rattle.std.specs.Prelude.{Option, Some, None, option_map, option_to_list, if◌then◌else◌}
+use Rattle.std.specs.Prelude.{IsFalse, IsTrue}
+use Rattle.std.specs.Cmp.Lexicographic.{slice_cmp}
+use Rattle.std.specs.List.{after_first, before_first, list_any}
+use Rattle.std.specs.Ordering.{is_lt, nat_cmp, ordering_then}
+use Rattle.std.specs.declared.cmp.Ordering.{Ordering}
+use Rattle.jm_form.specs.Validity.{resources}
+use Rattle.jm_modpath.specs.ByteOrder.{is_before}
+use Rattle.jm_modpath.specs.Modules.{info_name}
+use Rattle.jm_names.specs.Names.{is_node, is_slash}
+use Rattle.jm_reader.specs.Walk.{entries_of}
+use Rattle.jm_relink.specs.declared.located.Located.{Located}
+use Rattle.jm_relink.specs.declared.modules.ImageFile.{ImageFile}
+
+-- a name and the content that stands under it
+abbrev pub Named : Type 0
+Named = List ℕ × List ℕ
+
+-- the entries of an image whose names are no nodes'
+abbrev pub resources_of : List ℕ → List Named
+resources_of b = resources (entries_of b)
+
+-- each name stands before the later ones
+abbrev pub RisesByName : List Named → Type 0
+RisesByName fs = AllPairs (λ e f. IsTrue (is_before e.0 f.0)) fs
+
+-- Names
+
+-- the resource that a file of a module is; its path stays as it is
+abbrev pub file_name : List ℕ → List ℕ → List ℕ
+file_name «module» path = 47 ∷ «module» ++ 47 ∷ path
+
+-- the entry that makes a module
+abbrev pub info_entry : List ℕ → List ℕ
+info_entry «module» = file_name «module» info_name
+
+-- the module and the path of a resource: the module stands between a first slash and the next one
+abbrev pub module_and_path : List ℕ → Option (List ℕ × List ℕ)
+module_and_path [] = None
+module_and_path (b ∷ name) =
+    if is_slash b && list_any is_slash name
+    then Some (before_first is_slash name, after_first is_slash name)
+    else None
+
+-- Files
+
+-- a file beside the name of its module: its path and its content
+abbrev pub Filed : Type 0
+Filed = List ℕ × Named
+
+abbrev pub file_as : ImageFile → Named
+file_as f = (f.path, f.bytes.now)
+
+abbrev pub files_as : List ImageFile → List Named
+files_as fs = map file_as fs
+
+abbrev pub located_as : Located → Filed
+located_as l = (l.module, file_as l.file)
+
+-- a resource as a file of a module, if its name is that of one
+abbrev pub located : Named → Option Filed
+located r = option_map (λ cut. (cut.0, (cut.1, r.1))) (module_and_path r.0)
+
+-- the same of one entry, of which a node is none
+abbrev pub located_alone : Named → List Filed
+located_alone r = if is_node r.0 then [] else option_to_list (located r)
+
+-- by module and then by path
+abbrev pub filed_cmp : Filed → Filed → Ordering
+filed_cmp e f = ordering_then (slice_cmp nat_cmp e.0 f.0) (slice_cmp nat_cmp e.1.0 f.1.0)
+
+-- no file stands before an earlier one
+abbrev pub NeverFalls : List Filed → Type 0
+NeverFalls fs = AllPairs (λ e f. IsFalse (is_lt (filed_cmp f e))) fs

@@ -1,0 +1,6 @@
+pub mod Files
+pub mod Gathering
+pub mod Groups
+pub mod Judging
+pub mod Modules
+pub mod Packages

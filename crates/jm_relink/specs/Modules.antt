@@ -1,0 +1,90 @@
+-- The modules of an image: those whose `module-info.class` stands in it (JEP 261; that the name of
+-- the entry tells the module's, and which refusal comes first, is this project's rule).
+use Rattle.std.specs.Prelude.{ℕ, ◌≡◌, ◌↔◌, false, List, map, All, AllPairs, Contains, IsTrue}
+use Rattle.std.specs.Prelude.{Option, Some, None, Result, Ok, Err, if◌then◌else◌}
+use Rattle.std.specs.List.{list_any}
+use Rattle.std.specs.Str.{bytes_eq}
+use Rattle.jm_closure.specs.declared.candidate.Candidate.{Candidate}
+use Rattle.jm_form.specs.Trees.{class_packages}
+use Rattle.jm_modinfo.specs.declared.descriptor.Descriptor.{Descriptor}
+use Rattle.jm_modinfo.specs.declared.faults.DescriptorFault.{DescriptorFault}
+use Rattle.jm_modpath.specs.ByteOrder.{is_before}
+use Rattle.jm_modpath.specs.Modules.{info_in}
+use Rattle.jm_names.specs.Names.{is_slash}
+use Rattle.jm_relink.specs.declared.error.RelinkError.{RelinkError}
+use Rattle.jm_relink.specs.declared.error.RelinkError.TheVariants as error
+use Rattle.jm_relink.specs.declared.modules.ImageModules.{ImageModules}
+use Rattle.jm_relink.specs.Files.{Named, RisesByName, file_name, files_as, info_entry, resources_of}
+
+-- a module, with its files by their paths and their contents
+pub record SeenModule : Type 0 where
+  pub candidate : Candidate
+  pub files : List Named
+
+abbrev pub name_of : SeenModule → List ℕ
+name_of s = s.candidate.descriptor.name
+
+-- Modules, by the resources of an image
+
+-- this is a module of the resources, by an entry of this content
+pub record HasInfo (rs : List Named) («module» content : List ℕ) : Type 0 where
+  pub whole : list_any is_slash «module» ≡ false
+  pub there : Contains rs (info_entry «module», content)
+
+-- the files of a module: the resources that have its name in front, rising by path
+pub record AreFilesOf (rs : List Named) («module» : List ℕ) (files : List Named) : Type 0 where
+  pub rising : RisesByName files
+  pub each : (path content : List ℕ)
+      → Contains files (path, content) ↔ Contains rs (file_name «module» path, content)
+
+-- what is seen of a module: what its entry says, which has its name, and its files
+pub record IsSeenIn (rs : List Named) (s : SeenModule) : Type 0 where
+  pub content : List ℕ
+  pub info : HasInfo rs (name_of s) content
+  pub says : info_in content ≡ Ok s.candidate.descriptor
+  pub packages : s.candidate.packages ≡ class_packages (map (λ f. file_name (name_of s) f.0) s.files)
+  pub files : AreFilesOf rs (name_of s) s.files
+
+-- the rule: the modules of the resources, rising by name
+pub record IsVisibleIn (rs : List Named) (seen : List SeenModule) : Type 0 where
+  pub rising : AllPairs (λ s t. IsTrue (is_before (name_of s) (name_of t))) seen
+  pub each : All (IsSeenIn rs) seen
+  pub all : («module» content : List ℕ) → HasInfo rs «module» content
+      → Contains (map name_of seen) «module»
+
+-- Refusals
+
+-- of a module with what its entry says: no descriptor; one of another module
+abbrev pub info_refusal : List ℕ → Result Descriptor DescriptorFault → Option RelinkError
+info_refusal «module» (Err fault) = Some (error.BadInfo (info_entry «module») fault)
+info_refusal «module» (Ok d) =
+    if bytes_eq d.name «module» then None else Some (error.Foreign (info_entry «module»))
+
+-- the rule: a module has this refusal, and none with a lesser name has one
+pub record IsRefusedIn (rs : List Named) (refusal : RelinkError) : Type 0 where
+  pub «module» : List ℕ
+  pub content : List ℕ
+  pub info : HasInfo rs «module» content
+  pub refused : info_refusal «module» (info_in content) ≡ Some refusal
+  pub first : (lesser other : List ℕ) → HasInfo rs lesser other
+      → IsTrue (is_before lesser «module») → info_refusal lesser (info_in other) ≡ None
+
+-- the modules of an image, or their first refusal
+unfoldable pub ModulesOf : List ℕ → Result (List SeenModule) RelinkError → Type 0
+ModulesOf b (Ok seen) = IsVisibleIn (resources_of b) seen
+ModulesOf b (Err refusal) = IsRefusedIn (resources_of b) refusal
+
+-- What is handed out
+
+-- these modules, in two lists
+pub record HoldsModules (found : ImageModules) (seen : List SeenModule) : Type 0 where
+  pub candidates : found.candidates ≡ map (λ s. s.candidate) seen
+  pub files : map files_as found.files ≡ map (λ s. s.files) seen
+
+-- by the answer: the modules of an image; their first refusal; no memory
+abbrev pub FindsModules : List ℕ → Result ImageModules RelinkError → Type 0
+FindsModules b (Ok found) =
+    (seen : List SeenModule) × ModulesOf b (Ok seen) × HoldsModules found seen
+FindsModules b (Err (error.BadInfo name fault)) = ModulesOf b (Err (error.BadInfo name fault))
+FindsModules b (Err (error.Foreign name)) = ModulesOf b (Err (error.Foreign name))
+FindsModules b (Err error.Memory) = Unit {0}

@@ -1,0 +1,78 @@
+//! The modules of an image.
+ghost use Rattle.std.specs.Prelude.{◌≡◌, IfOk, map};
+ghost use Rattle.jm_reader.specs.Walk.{IsLater};
+ghost use Rattle.jm_relink.specs.Judging.{ComesFrom};
+ghost use Rattle.jm_relink.specs.Modules.{FindsModules};
+ghost use Rattle.jm_relink.specs.Files.{located_as};
+
+use crate::error::RelinkError;
+use crate::groups::groups;
+use crate::judging::{SeenModule, seen_modules};
+use crate::located::{Located, located_files};
+use jm_bytes::{List, Meter, NoMemory, Text};
+use jm_closure::Candidate;
+use jm_valid::Image;
+use std::alloc::Global;
+use std::sync::ledger::Ledger;
+
+/// A file of a module of an image.
+#[derive(Debug, Drop)]
+pub struct ImageFile<'a> {
+    /// Its path within the module.
+    pub path: Text,
+    /// Its content, which is the image's.
+    pub bytes: &'a [u8],
+}
+
+/// Modules of an image, and the files of each.
+#[derive(Debug, Drop)]
+pub struct ImageModules<'a> {
+    /// What their descriptors say, and their class packages.
+    pub candidates: List<Candidate>,
+    /// The files of each, in the same order.
+    pub files: List<List<ImageFile<'a>>>,
+}
+
+/// What the modules say, and their files.
+fn parted<'a>(alloc: Global, seen: List<SeenModule<'a>>) -> Result<ImageModules<'a>, NoMemory>
+    ensures candidates { IfOk result (λ found. found.candidates ≡ map (λ m. m.candidate) seen.entry) }
+    ensures files { IfOk result (λ found. found.files ≡ map (λ m. m.files) seen.entry) }
+{
+    let mut candidates = List::new(alloc);
+    let mut files = List::new(alloc);
+    for module in seen.into_vec() {
+        candidates.push(module.candidate)?;
+        files.push(module.files)?;
+    }
+    Ok(ImageModules { candidates, files })
+}
+
+/// The modules of files that are sorted by module and by path.
+fn modules_among<'a>(
+    alloc: Global,
+    files: List<Located<'a>>,
+) -> Result<ImageModules<'a>, RelinkError>
+    ensures { ComesFrom (map located_as files.entry) result }
+{
+    let groups = groups(alloc, files)?;
+    let seen = seen_modules(alloc, groups)?;
+    Ok(parted(alloc, seen)?)
+}
+
+/// The modules of an image: those whose `module-info.class` stands in it, rising by name, and the
+/// files of each, rising by path. The contents are the image's. Time n log n in the entries.
+///
+/// An entry of no such module is left out, and so are the nodes. Of the modules that are refused
+/// the one with the least name decides.
+pub fn modules_of<'a, R: Ledger>(
+    alloc: Global,
+    image: &Image<'a>,
+    reads: &mut Meter<R>,
+) -> Result<ImageModules<'a>, RelinkError>
+    requires { reads.old.bytes ≡ image.now }
+    ensures modules { FindsModules image.now result }
+    ensures reads { IsLater reads.old reads.new }
+{
+    let files = located_files(alloc, image, reads)?;
+    modules_among(alloc, files)
+}
