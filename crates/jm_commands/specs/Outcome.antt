@@ -252,8 +252,8 @@ abbrev pub first_writes : Option Gen → Writes
 first_writes (Some gen) = made_first gen
 first_writes None = []
 
-abbrev pub unbuilt : Outcome
-unbuilt = faulty (error.Fault 1 kind.UnknownCommand)
+abbrev pub misplaced : Outcome
+misplaced = faulty (error.Fault 1 kind.UnknownCommand)
 
 -- a command on an image, by the bytes of its file, which have no damage, and by the source's text
 abbrev pub image_outcome : Command → List ℕ → List ℕ → Outcome
@@ -265,7 +265,7 @@ image_outcome (command.Extract image dir include jobs) b text =
     extract_outcome dir (extracted b include)
 image_outcome (command.Verify image jobs) b text = done (verify_text b)
 image_outcome (command.Serve image jobs) b text = session_outcome b text
-image_outcome _ b text = unbuilt
+image_outcome _ b text = misplaced
 
 abbrev pub opened_outcome : Command → List ℕ → Option Damage → List ℕ → Outcome
 opened_outcome command b None text = image_outcome command b text
@@ -299,7 +299,7 @@ read_path _ = None
 abbrev pub plain_outcome : Command → Outcome
 plain_outcome (command.Help jobs) = done help_text
 plain_outcome (command.Version jobs) = done version_text
-plain_outcome _ = unbuilt
+plain_outcome _ = misplaced
 
 -- a command by the path that it reads, the file there, and the source's text
 abbrev pub outcome_at : Command → Option (List ℕ) → Option (List ℕ) → List ℕ → Outcome

@@ -50,9 +50,9 @@ stop_of_session (Err (serve_error.LongLine k)) = Err (stop.Complaint (complaint.
 stop_of_session (Err serve_error.TooManyLines) = Err (stop.Complaint complaint.TooManyLines)
 stop_of_session (Err serve_error.Memory) = Err stop.Memory
 
--- a command that isn't built yet
-abbrev pub unbuilt_stop : Stop
-unbuilt_stop = stop.Complaint (complaint.Words (error.Fault 1 kind.UnknownCommand))
+-- a command at a step of another one, where none ever stands
+abbrev pub misplaced_stop : Stop
+misplaced_stop = stop.Complaint (complaint.Words (error.Fault 1 kind.UnknownCommand))
 
 -- how `describe` stops where the file at a path is refused, unless no memory is found
 abbrev pub Refuses : List ℕ → DescriptorFault → Stop → Type 0

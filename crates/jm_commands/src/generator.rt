@@ -65,7 +65,17 @@ pub fn gen_words<'a>(command: &'a Command) -> Option<GenWords<'a>>
             seed: *seed,
             jobs: *jobs,
         }),
-        _ => None,
+        Command::Link { .. }
+        | Command::Cat { .. }
+        | Command::List { .. }
+        | Command::Ls { .. }
+        | Command::Info { .. }
+        | Command::Extract { .. }
+        | Command::Verify { .. }
+        | Command::Serve { .. }
+        | Command::Describe { .. }
+        | Command::Help { .. }
+        | Command::Version { .. } => None,
     }
 }
 

@@ -18,7 +18,7 @@ use crate::info::info_command;
 use crate::listing::list_command;
 use crate::ls::ls_command;
 use crate::serve::serve_command;
-use crate::stop::{Stop, unbuilt};
+use crate::stop::{Stop, misplaced};
 use crate::verify::verify_command;
 use jm_bytes::{Meter, Steps, Text};
 use jm_halves::Gate;
@@ -144,7 +144,11 @@ fn do_on_image<S: Shelf, I: Source, O: Sink>(
         }
         Command::Verify { .. } => verify_command(alloc, image, out),
         Command::Serve { .. } => serve_command(alloc, image, bytes, input, out),
-        _ => Err(unbuilt()),
+        Command::Link { .. }
+        | Command::Gen { .. }
+        | Command::Describe { .. }
+        | Command::Help { .. }
+        | Command::Version { .. } => Err(misplaced()),
     }
 }
 

@@ -108,7 +108,17 @@ pub fn link_words<'a>(command: &'a Command) -> Option<LinkWords<'a>>
             },
             jobs: *jobs,
         }),
-        _ => None,
+        Command::Cat { .. }
+        | Command::List { .. }
+        | Command::Ls { .. }
+        | Command::Info { .. }
+        | Command::Extract { .. }
+        | Command::Verify { .. }
+        | Command::Serve { .. }
+        | Command::Gen { .. }
+        | Command::Describe { .. }
+        | Command::Help { .. }
+        | Command::Version { .. } => None,
     }
 }
 

@@ -17,7 +17,7 @@ use crate::help::help_command;
 use crate::image_file::do_on_file;
 use crate::link::{link_command, link_words};
 use crate::status::Status;
-use crate::stop::{Stop, unbuilt};
+use crate::stop::{Stop, misplaced};
 use crate::version::version_command;
 use jm_halves::Gate;
 use jm_outside::{Shelf, Sink, SinkError, Source};
@@ -58,7 +58,10 @@ fn file_of(command: &Command) -> Option<(&[u8], u32)>
         | Command::Verify { image, jobs }
         | Command::Serve { image, jobs } => Some((image.as_slice(), *jobs)),
         Command::Describe { file, jobs } => Some((file.as_slice(), *jobs)),
-        _ => None,
+        Command::Link { .. }
+        | Command::Gen { .. }
+        | Command::Help { .. }
+        | Command::Version { .. } => None,
     }
 }
 
@@ -71,7 +74,16 @@ fn do_plain<O: Sink>(alloc: Global, command: &Command, out: &mut O) -> Result<()
     match command {
         Command::Help { .. } => help_command(alloc, out),
         Command::Version { .. } => version_command(alloc, out),
-        _ => Err(unbuilt()),
+        Command::Cat { .. }
+        | Command::List { .. }
+        | Command::Ls { .. }
+        | Command::Info { .. }
+        | Command::Extract { .. }
+        | Command::Verify { .. }
+        | Command::Serve { .. }
+        | Command::Link { .. }
+        | Command::Gen { .. }
+        | Command::Describe { .. } => Err(misplaced()),
     }
 }
 

@@ -1,5 +1,5 @@
 ghost use Rattle.std.specs.Prelude.{◌≡◌};
-ghost use Rattle.jm_commands.specs.Stops.{stop_of_shelf, stop_of_sink, unbuilt_stop};
+ghost use Rattle.jm_commands.specs.Stops.{stop_of_shelf, stop_of_sink, misplaced_stop};
 
 use crate::complaint::Complaint;
 use jm_bytes::NoMemory;
@@ -60,9 +60,10 @@ impl From<AllocError> for Stop {
     }
 }
 
-/// How a command ends that isn't built yet: as if its name were unknown.
-pub fn unbuilt() -> Stop
-    ensures { result ≡ unbuilt_stop }
+/// How a command ends that stands at a step of another one, where none ever stands: as if its name
+/// were unknown.
+pub fn misplaced() -> Stop
+    ensures { result ≡ misplaced_stop }
 {
     Stop::Complaint(Complaint::Words(WordsError::Fault {
         at: 1,

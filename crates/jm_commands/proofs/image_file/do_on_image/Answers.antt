@@ -2,7 +2,7 @@ use Rattle.std.proofs.Common.{rules, refl}
 use Rattle.jm_form.specs.Validity.{look}
 use Rattle.jm_extract.specs.Extracted.{extracted}
 use Rattle.jm_jrt.specs.Stat.{held, stat}
-use Rattle.jm_commands.specs.Outcome.{cat_outcome, extract_outcome, image_outcome, ls_outcome, unbuilt}
+use Rattle.jm_commands.specs.Outcome.{cat_outcome, extract_outcome, image_outcome, ls_outcome, misplaced}
 use Rattle.jm_commands.proofs.OutcomeLaws.{cat_session, ls_session}
 use Rattle.jm_commands.proofs.StepLaws.{complained, on_any_text, put_on_text}
 use Rattle.jm_commands.proofs.image_file.do_on_image.Goals as goal
@@ -33,10 +33,10 @@ returns-in-Verify g c =
     let put = rw c.requires.bytes at c.verify_command.ensures in
     rw c.in-Verify.is (put_on_text _ _ _ _ _ put refl refl refl (λ text. refl))
 
-pub returns-in_default : goal.returns-in_default
-returns-in_default g c =
-    rw c.unbuilt.ensures
-    (put_on_text (image_outcome c.args.command.now c.args.bytes.now) unbuilt _ _ _ (complained unbuilt _ _ _ refl refl) refl refl refl (λ text. search rules))
+pub returns-in-Link : goal.returns-in-Link
+returns-in-Link g c =
+    rw c.misplaced.ensures
+    (put_on_text (image_outcome c.args.command.now c.args.bytes.now) misplaced _ _ _ (complained misplaced _ _ _ refl refl) refl refl refl (λ text. search rules))
 
 pub returns-in-Ls : goal.returns-in-Ls
 returns-in-Ls g c =
