@@ -14,7 +14,7 @@ use Rattle.jm_modinfo.specs.Faults.{info_fault}
 use Rattle.jm_modinfo.specs.Faults as info
 use Rattle.jm_modinfo.proofs.InfoLaws.{info-computed, info_fault-of}
 use Rattle.jm_commands.specs.declared.complaint.Complaint.TheVariants as complaint
-use Rattle.jm_link.specs.declared.refusal.Refusal.TheVariants as refusal
+use Rattle.jm_texts.specs.declared.refusal.Refusal.TheVariants as refusal
 use Rattle.jm_commands.specs.declared.stop.Stop.{Stop}
 use Rattle.jm_commands.specs.declared.stop.Stop.TheVariants as stop
 use Rattle.jm_texts.specs.DescribeText.{describe_text}

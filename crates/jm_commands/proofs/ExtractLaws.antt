@@ -2,8 +2,8 @@
 use Rattle.std.proofs.Common.{◌≡◌, inl, inr, ℕ, List, [], length, Option, Some, None, Result, Ok, Err, refl, sym, ap, ◌∙◌, subst}
 use Rattle.jm_files.specs.Made.{MadeAll, MadePart}
 use Rattle.jm_files.proofs.MadeLaws.{part_of_all}
-use Rattle.jm_link.specs.ByName.{Named}
-use Rattle.jm_link.specs.declared.refusal.Refusal.{Refusal}
+use Rattle.jm_order.specs.ByName.{Named}
+use Rattle.jm_texts.specs.declared.refusal.Refusal.{Refusal}
 use Rattle.jm_extract.specs.declared.extracting.ExtractStop.{ExtractStop}
 use Rattle.jm_extract.specs.declared.extracting.ExtractStop.TheVariants as extract_stop
 use Rattle.jm_extract.specs.Extracted.{BreaksOff, Extracts, writes_of}

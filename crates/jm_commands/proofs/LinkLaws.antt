@@ -8,7 +8,7 @@ use Rattle.jm_files.proofs.MadeLaws.{part_alone, part_of_all}
 use Rattle.jm_link.specs.declared.linking.LinkStop.{LinkStop}
 use Rattle.jm_link.specs.declared.linking.LinkStop.TheVariants as link_stop
 use Rattle.jm_link.specs.declared.linking.Summary.{Summary}
-use Rattle.jm_link.specs.declared.refusal.Refusal.{Refusal}
+use Rattle.jm_texts.specs.declared.refusal.Refusal.{Refusal}
 use Rattle.jm_form.specs.Damages.{first_damage}
 use Rattle.jm_jrt.proofs.TreeLaws.{trees_shown_short}
 use Rattle.jm_link.specs.Linked.{LinkedImage, Request}

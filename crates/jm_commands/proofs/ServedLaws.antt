@@ -9,7 +9,7 @@ use Rattle.jm_form.specs.Validity.{look}
 use Rattle.jm_jrt.specs.Stat.{held, stat}
 use Rattle.jm_jrt.specs.Lines.{lines_of, replies}
 use Rattle.jm_jrt.specs.Sessions.{answered_in}
-use Rattle.jm_link.specs.declared.refusal.Refusal.{Refusal}
+use Rattle.jm_texts.specs.declared.refusal.Refusal.{Refusal}
 use Rattle.jm_link.specs.Linked.{LinkedImage}
 use Rattle.jm_outside.specs.Files.{Files}
 use Rattle.jm_outside.specs.Outcome.{PutsFront, Told}

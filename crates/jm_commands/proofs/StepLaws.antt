@@ -27,6 +27,7 @@ use Rattle.jm_commands.specs.World.{AnyRose, World}
 use Rattle.jm_commands.proofs.Gotten.{front_of_nothing, gets_nothing}
 use Rattle.jm_commands.proofs.Made.{stays_all, stays_part}
 use Rattle.jm_commands.proofs.OutcomeLaws.{plain_session}
+use Rattle.jm_link.proofs.LinkingLaws.{rose_sooner}
 
 -- an error of a step, by what it was made of
 pub from_stop : (answer : Result (Unit {0}) Stop) (is : Stop) → IsErrAnd answer (λ stop. stop ≡ is) → answer ≡ Err is
@@ -192,10 +193,6 @@ file_unopened command b stop.Memory now none = failed_on_text (opened_outcome co
 
 -- A step behind a call of the shelf that changed no file
 
-rose_behind : (first old new : ℕ) → first ≤ old → Rose old new → Rose first new
-rose_behind first old new up (inl less) = inl (omega (arith, up, less))
-rose_behind first old new up (inr last) = inr last
-
 module _ (shelf : Seen Files) (now new : World) where
   abbrev old : World
   old = record { shelf = shelf; input = now.input; out = now.out }
@@ -206,7 +203,7 @@ module _ (shelf : Seen Files) (now new : World) where
   source_behind (Some b) failed Ends (inr held) = inr (record { answered = held.answered; ends = held.ends; reads = held.reads; new_reads = held.new_reads; serves = held.serves })
 
   pub rises : shelf.faults ≤ now.shelf.faults → AnyRose now new → AnyRose old new
-  rises up (inl rose) = inl (rose_behind shelf.faults now.shelf.faults new.shelf.faults up rose)
+  rises up (inl rose) = inl (rose_sooner shelf.faults now.shelf.faults new.shelf.faults up rose)
   rises up (inr rose) = inr rose
 
   pub step_behind : (due : Outcome) (answer : Result (Unit {0}) Stop) → now.shelf.told ≡ shelf.told → shelf.faults ≤ now.shelf.faults → StepDoes due answer now new → StepDoes due answer old new

@@ -29,7 +29,17 @@ gen_from words = record {
 abbrev pub gen_of : Command → Option Gen
 gen_of (command.Gen dir modules classes seed jobs) =
     Some (record { dir = dir; modules = modules; classes = classes; seed = seed })
-gen_of _ = None
+gen_of (command.Link dirs roots output plugins order bind from_image jobs) = None
+gen_of (command.Cat image name jobs) = None
+gen_of (command.List image include jobs) = None
+gen_of (command.Ls image path jobs) = None
+gen_of (command.Info image jobs) = None
+gen_of (command.Extract image dir include jobs) = None
+gen_of (command.Verify image jobs) = None
+gen_of (command.Serve image jobs) = None
+gen_of (command.Describe file jobs) = None
+gen_of (command.Help jobs) = None
+gen_of (command.Version jobs) = None
 
 -- the folder of the modules, and the path of the image
 abbrev pub modules_path : Gen → List ℕ

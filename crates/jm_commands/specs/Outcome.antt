@@ -33,17 +33,17 @@ use Rattle.jm_modinfo.specs.declared.faults.DescriptorFault.TheVariants as fault
 use Rattle.jm_modinfo.specs.declared.faults.InfoFault.{InfoFault}
 use Rattle.jm_modinfo.specs.ComputedInfo.{info_of}
 use Rattle.jm_extract.specs.Extracted.{extracted, writes_of}
-use Rattle.jm_link.specs.ByName.{Named}
+use Rattle.jm_order.specs.ByName.{Named}
 use Rattle.jm_link.specs.declared.linking.Summary.{Summary}
-use Rattle.jm_link.specs.declared.refusal.Refusal.{Refusal}
+use Rattle.jm_texts.specs.declared.refusal.Refusal.{Refusal}
 use Rattle.jm_link.specs.Linked.{LinkedImage, Request}
 use Rattle.jm_link.specs.Links.{request_of, summary_of}
-use Rattle.jm_link.specs.declared.refusal.Refusal.TheVariants as refusal
+use Rattle.jm_texts.specs.declared.refusal.Refusal.TheVariants as refusal
 use Rattle.jm_commands.specs.declared.complaint.Complaint.{Complaint}
 use Rattle.jm_commands.specs.declared.complaint.Complaint.TheVariants as complaint
 use Rattle.jm_commands.specs.declared.link.LinkWords.{LinkWords}
 use Rattle.jm_texts.specs.DescribeText.{describe_text}
-use Rattle.jm_link.specs.RefusalText.{refusal_text}
+use Rattle.jm_texts.specs.RefusalText.{refusal_text}
 use Rattle.jm_commands.specs.declared.status.Status.{Status}
 use Rattle.jm_commands.specs.declared.status.Status.TheVariants as status
 use Rattle.jm_commands.specs.ExtractText.{extract_text}
@@ -223,7 +223,17 @@ link_of (command.Link dirs roots output plugins order bind from_image jobs) =
       output = output;
       text = link_text;
     })
-link_of _ = None
+link_of (command.Cat image name jobs) = None
+link_of (command.List image include jobs) = None
+link_of (command.Ls image path jobs) = None
+link_of (command.Info image jobs) = None
+link_of (command.Extract image dir include jobs) = None
+link_of (command.Verify image jobs) = None
+link_of (command.Serve image jobs) = None
+link_of (command.Gen dir modules classes seed jobs) = None
+link_of (command.Describe file jobs) = None
+link_of (command.Help jobs) = None
+link_of (command.Version jobs) = None
 
 -- `gen`: files are made, and then they are linked
 
@@ -265,7 +275,11 @@ image_outcome (command.Extract image dir include jobs) b text =
     extract_outcome dir (extracted b include)
 image_outcome (command.Verify image jobs) b text = done (verify_text b)
 image_outcome (command.Serve image jobs) b text = session_outcome b text
-image_outcome _ b text = misplaced
+image_outcome (command.Link dirs roots output plugins order bind from_image jobs) b text = misplaced
+image_outcome (command.Gen dir modules classes seed jobs) b text = misplaced
+image_outcome (command.Describe file jobs) b text = misplaced
+image_outcome (command.Help jobs) b text = misplaced
+image_outcome (command.Version jobs) b text = misplaced
 
 abbrev pub opened_outcome : Command → List ℕ → Option Damage → List ℕ → Outcome
 opened_outcome command b None text = image_outcome command b text
@@ -274,7 +288,17 @@ opened_outcome command b (Some damage) text = damaged damage
 -- the file that the command reads is a class and no image
 abbrev pub reads_class : Command → Bool
 reads_class (command.Describe file jobs) = true
-reads_class _ = false
+reads_class (command.Link dirs roots output plugins order bind from_image jobs) = false
+reads_class (command.Cat image name jobs) = false
+reads_class (command.List image include jobs) = false
+reads_class (command.Ls image path jobs) = false
+reads_class (command.Info image jobs) = false
+reads_class (command.Extract image dir include jobs) = false
+reads_class (command.Verify image jobs) = false
+reads_class (command.Serve image jobs) = false
+reads_class (command.Gen dir modules classes seed jobs) = false
+reads_class (command.Help jobs) = false
+reads_class (command.Version jobs) = false
 
 -- a command on the file of a path, if it is there
 abbrev pub file_outcome : Command → List ℕ → Option (List ℕ) → List ℕ → Outcome
@@ -293,13 +317,25 @@ read_path (command.Extract image dir include jobs) = Some image
 read_path (command.Verify image jobs) = Some image
 read_path (command.Serve image jobs) = Some image
 read_path (command.Describe file jobs) = Some file
-read_path _ = None
+read_path (command.Link dirs roots output plugins order bind from_image jobs) = None
+read_path (command.Gen dir modules classes seed jobs) = None
+read_path (command.Help jobs) = None
+read_path (command.Version jobs) = None
 
 -- a command that reads no file
 abbrev pub plain_outcome : Command → Outcome
 plain_outcome (command.Help jobs) = done help_text
 plain_outcome (command.Version jobs) = done version_text
-plain_outcome _ = misplaced
+plain_outcome (command.Link dirs roots output plugins order bind from_image jobs) = misplaced
+plain_outcome (command.Cat image name jobs) = misplaced
+plain_outcome (command.List image include jobs) = misplaced
+plain_outcome (command.Ls image path jobs) = misplaced
+plain_outcome (command.Info image jobs) = misplaced
+plain_outcome (command.Extract image dir include jobs) = misplaced
+plain_outcome (command.Verify image jobs) = misplaced
+plain_outcome (command.Serve image jobs) = misplaced
+plain_outcome (command.Gen dir modules classes seed jobs) = misplaced
+plain_outcome (command.Describe file jobs) = misplaced
 
 -- a command by the path that it reads, the file there, and the source's text
 abbrev pub outcome_at : Command → Option (List ℕ) → Option (List ℕ) → List ℕ → Outcome

@@ -5,7 +5,7 @@ use Rattle.jm_form.specs.declared.damage.Damage.{Damage}
 use Rattle.jm_form.specs.Damages.{first_damage}
 use Rattle.jm_files.specs.Made.{MadeAll, MadePart, Writes, written}
 use Rattle.jm_jrt.specs.TreesShown.{ShowsTrees}
-use Rattle.jm_link.specs.declared.refusal.Refusal.{Refusal}
+use Rattle.jm_texts.specs.declared.refusal.Refusal.{Refusal}
 use Rattle.jm_link.specs.Linked.{LinkedImage}
 use Rattle.jm_link.specs.ImageLinked.{ImageComesTo}
 use Rattle.jm_link.specs.Links.{ComesTo}

@@ -12,7 +12,17 @@ use Rattle.jm_commands.specs.World.{World}
 -- the image of a `serve`
 abbrev pub served : Command → Option (List ℕ)
 served (command.Serve image jobs) = Some image
-served _ = None
+served (command.Link dirs roots output plugins order bind from_image jobs) = None
+served (command.Cat image name jobs) = None
+served (command.List image include jobs) = None
+served (command.Ls image path jobs) = None
+served (command.Info image jobs) = None
+served (command.Extract image dir include jobs) = None
+served (command.Verify image jobs) = None
+served (command.Gen dir modules classes seed jobs) = None
+served (command.Describe file jobs) = None
+served (command.Help jobs) = None
+served (command.Version jobs) = None
 
 -- the same of all words
 abbrev pub served_in : Result Command WordsError → Option (List ℕ)

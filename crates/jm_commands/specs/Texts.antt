@@ -3,7 +3,7 @@ use Rattle.std.specs.Prelude.{ℕ, List, [], ◌∷◌, ◌++◌, codes}
 use Rattle.std.specs.Fmt.{decimal}
 use Rattle.jm_form.specs.DamageText.{damage_text}
 use Rattle.jm_words.specs.FaultText.{error_text}
-use Rattle.jm_link.specs.RefusalText.{refusal_text}
+use Rattle.jm_texts.specs.RefusalText.{refusal_text}
 use Rattle.jm_commands.specs.declared.complaint.Complaint.{Complaint}
 use Rattle.jm_commands.specs.declared.complaint.Complaint.TheVariants as complaint
 

@@ -5,7 +5,7 @@ ghost use Rattle.jm_commands.specs.Texts.{line_of};
 use crate::status::Status;
 use jm_bytes::{NoMemory, Text, extend};
 use jm_form::Damage;
-use jm_link::Refusal;
+use jm_texts::Refusal;
 use jm_words::WordsError;
 use std::alloc::{AllocError, Global};
 

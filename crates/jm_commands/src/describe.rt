@@ -11,10 +11,9 @@ use crate::output::put_output;
 use crate::stop::Stop;
 use jm_bytes::Text;
 use jm_class::{Class, ReadError, read};
-use jm_link::Refusal;
 use jm_modinfo::{DescriptorFault, InfoError, describe};
 use jm_outside::Sink;
-use jm_texts::describe_text;
+use jm_texts::{Refusal, describe_text};
 use std::alloc::Global;
 
 /// The refusal of the file at a path, which doesn't read as the class of a module.

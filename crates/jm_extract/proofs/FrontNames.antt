@@ -2,8 +2,8 @@
 -- before these bytes.
 use Rattle.std.proofs.Common.{◌≡◌, ◌<◌, ◌≤◌, ℕ, Bool, true, false, List, [], ◌∷◌, length, map, get_or, nat_eq, nat_lt, ◌==◌, refl, sym, ap, subst, ◌∙◌, arith}
 use Rattle.std.specs.Cmp.{ranks}
-use Rattle.std.specs.Cmp.Lexicographic.{slice_cmp, nat_list_cmp_total}
-use Rattle.std.specs.Ordering.{MatchOrdering, is_lt, nat_cmp, ordering_then, ordering_reverse}
+use Rattle.std.specs.Cmp.Lexicographic.{slice_cmp}
+use Rattle.std.specs.Ordering.{MatchOrdering, is_lt, nat_cmp, ordering_then}
 use Rattle.std.specs.declared.cmp.Ordering.{Ordering}
 use Rattle.std.specs.declared.cmp.Ordering.TheVariants.{Less, Equal, Greater}
 use Rattle.std.specs.List.{Contains, starts_with}
@@ -11,8 +11,9 @@ use Rattle.std.specs.List.Sorted.{IsPartitionedBy, IsPartitionPoint}
 use Rattle.std.proofs.lemmas.Bool.{false≢true, false_from_ne_true, and_parts, and_from, eqb-true, eqb-false, eq-eqb, ltb-true, ltb-false}
 use Rattle.std.proofs.lemmas.List.{get_or-map, get_or_default, length-map}
 use Rattle.jm_bytes.proofs.Members.{any_contains, contains_map, from_any, from_map}
-use Rattle.jm_modpath.specs.ByteOrder.{is_before}
-use Rattle.jm_link.specs.ByName.{Named, RisesByName}
+use Rattle.jm_order.specs.ByteOrder.{is_before}
+use Rattle.jm_order.proofs.ByteOrderLaws.{before_further, before_one_way}
+use Rattle.jm_order.specs.ByName.{Named, RisesByName}
 use Rattle.jm_extract.specs.Extracted.{begins}
 use Rattle.jm_extract.specs.Taken.{taken_as}
 use Rattle.jm_extract.specs.declared.taking.TakenEntry.{TakenEntry}
@@ -51,23 +52,6 @@ begins_between (a ∷ front) (b ∷ name) (c ∷ other) above below is =
     go Greater Less more less same up down rest = absurd (false≢true (sym down))
     go Greater Equal more is same up down rest = absurd (omega (arith, more, is, same))
     go Greater Greater more too same up down rest = absurd (omega (arith, more, too, same))
-
-not_behind : (n m : List ℕ) → is_before n m ≡ true → is_before m n ≡ false
-not_behind n m before = go (slice_cmp nat_cmp n m) (nat_list_cmp_total.antisymm m n) before
-  where
-    go : (o : Ordering) → slice_cmp nat_cmp m n ≡ ordering_reverse o → is_lt o ≡ true → is_lt (slice_cmp nat_cmp m n) ≡ false
-    go Less is before = ap is_lt is
-    go Equal is before = absurd (false≢true before)
-    go Greater is before = absurd (false≢true before)
-
-less : (o : Ordering) → is_lt o ≡ true → o ≡ Less
-less Less h = refl
-less Equal h = absurd (false≢true h)
-less Greater h = absurd (false≢true h)
-
-before_further : (n m k : List ℕ) → is_before n m ≡ true → is_before m k ≡ true → is_before n k ≡ true
-before_further n m k first second =
-    ap is_lt (nat_list_cmp_total.trans n m k (less (slice_cmp nat_cmp n m) first) (less (slice_cmp nat_cmp m k) second))
 
 -- Entries
 
@@ -134,7 +118,7 @@ begins_at ts front at t rises point within here = go (starts_with nat_eq t.name 
             let up : is_before t.name s.name ≡ true =
             subst (λ (r : TakenEntry). is_before t.name r.name ≡ true) is
             (subst (λ (r : TakenEntry). is_before r.name (get_or ts k s).name ≡ true) (get_or_default ts at s t within ∙ here) (rises_at ts at k s rises below inside)) in
-            false≢true (sym not_so ∙ begins_between front t.name s.name above (not_behind t.name s.name up) so)
+            false≢true (sym not_so ∙ begins_between front t.name s.name above (before_one_way t.name s.name up) so)
 
     go : (b : Bool) → starts_with nat_eq t.name front ≡ b → begins (map taken_as ts) front ≡ b
     go true is = any_contains (λ (e : Named). starts_with nat_eq e.0 front) (map taken_as ts) (taken_as t) (contains_map taken_as ts t (at, within, here)) is

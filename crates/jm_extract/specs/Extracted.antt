@@ -7,10 +7,10 @@ use Rattle.jm_names.specs.UtfForms.{utf}
 use Rattle.jm_outside.specs.Files.{Files}
 use Rattle.jm_files.specs.Made.{MadeAll, MadePart, Writes}
 use Rattle.jm_pattern.specs.declared.signs.Sign.{Sign}
-use Rattle.jm_link.specs.ByName.{Named}
-use Rattle.jm_link.specs.Resources.{first_bad_name}
-use Rattle.jm_link.specs.declared.refusal.Refusal.{Refusal}
-use Rattle.jm_link.specs.declared.refusal.Refusal.TheVariants as refusal
+use Rattle.jm_order.specs.ByName.{Named}
+use Rattle.jm_texts.specs.NameRefusals.{first_bad_name}
+use Rattle.jm_texts.specs.declared.refusal.Refusal.{Refusal}
+use Rattle.jm_texts.specs.declared.refusal.Refusal.TheVariants as refusal
 use Rattle.jm_extract.specs.declared.extracting.ExtractStop.{ExtractStop}
 use Rattle.jm_extract.specs.declared.extracting.ExtractStop.TheVariants as stop
 use Rattle.jm_extract.specs.Taken.{taken}

@@ -1,49 +1,16 @@
 //! Why entries are not extracted.
 ghost use Rattle.std.specs.Prelude.{◌≡◌, ◌∷◌, ◌++◌, [], None, Ok, All, IfOk, map};
 ghost use Rattle.jm_names.specs.NameFaults.{IsSound};
-ghost use Rattle.jm_modpath.specs.ByteOrder.{is_before};
-ghost use Rattle.jm_link.specs.ByName.{RisesByName};
-ghost use Rattle.jm_link.specs.Resources.{first_bad_name, name_refusal};
+ghost use Rattle.jm_order.specs.ByName.{RisesByName};
+ghost use Rattle.jm_texts.specs.NameRefusals.{first_bad_name};
 ghost use Rattle.jm_extract.specs.Extracted.{begins, clash_refusal, first_clash, refusal_of};
 ghost use Rattle.jm_extract.specs.Taken.{taken_as};
 
 use crate::taking::TakenEntry;
 use jm_bytes::{NoMemory, Text};
-use jm_link::Refusal;
-use jm_names::check_name;
+use jm_order::is_before;
+use jm_texts::{Refusal, first_bad_name};
 use std::alloc::Global;
-
-/// The refusal of an entry whose name may not stand in an image.
-fn name_refusal(alloc: Global, entry: &TakenEntry) -> Result<Option<Refusal>, NoMemory>
-    ensures { IfOk result (λ refusal. refusal ≡ name_refusal (taken_as entry.now)) }
-{
-    match check_name(entry.name.as_slice()) {
-        Ok(()) => Ok(None),
-        Err(fault) => {
-            let name = Text::copy_of(alloc, entry.name.as_slice())?;
-            Ok(Some(Refusal::BadName { name, fault }))
-        }
-    }
-}
-
-/// The refusal of the first name that may not stand in an image.
-fn first_bad_name(alloc: Global, entries: &[TakenEntry]) -> Result<Option<Refusal>, NoMemory>
-    ensures { IfOk result (λ refusal. refusal ≡ first_bad_name (map taken_as entries.now)) }
-{
-    for entry in entries {
-        if let Some(refusal) = name_refusal(alloc, entry)? {
-            return Ok(Some(refusal));
-        }
-    }
-    Ok(None)
-}
-
-/// Whether a name stands before another one in byte order.
-fn is_before(name: &[u8], other: &[u8]) -> bool
-    ensures { result ≡ is_before name.now other.now }
-{
-    name.cmp(other).is_lt()
-}
 
 /// Whether the name of one of the entries begins so. Such names stand side by side, so a binary
 /// search finds the first of them.

@@ -1,17 +1,19 @@
 //! The entries of an image that are taken, by rising name.
-ghost use Rattle.std.specs.Prelude.{◌≡◌, ◌++◌, IfOk, OnOk, IsPermutation, map};
+ghost use Rattle.std.specs.Prelude.{◌≡◌, ◌++◌, IfOk, OnOk, map};
 ghost use Rattle.std.specs.List.{list_any};
 ghost use Rattle.jm_pattern.specs.ComputedMatching.{matches};
 ghost use Rattle.jm_reader.specs.Walk.{entries_of, IsLater};
-ghost use Rattle.jm_link.specs.ByName.{NeverFalls, RisesByName};
+ghost use Rattle.jm_order.specs.ByName.{RisesByName};
 ghost use Rattle.jm_extract.specs.Taken.{is_included, taken, taken_alone, taken_among, taken_as};
 
 use crate::taken_name::TakenName;
 use jm_bytes::{List, Meter, NoMemory};
+use jm_order::{HasName, sorted_by_name};
 use jm_pattern::Pattern;
 use jm_reader::{Entry, walk};
 use jm_valid::Image;
 use std::alloc::Global;
+use std::cmp::Ordering;
 use std::sync::ledger::Ledger;
 
 /// An entry that `list` or `extract` takes.
@@ -21,6 +23,20 @@ pub struct TakenEntry<'a> {
     pub name: TakenName,
     /// Its content.
     pub bytes: &'a [u8],
+}
+
+impl<'a> HasName for TakenEntry<'a> {
+    ghost use Rattle.jm_extract.specs.Taken.{taken_as};
+
+    ghost pair = { taken_as };
+
+    fn name(&self) -> &[u8] {
+        self.name.as_slice()
+    }
+
+    fn order(&self, other: &TakenEntry<'a>) -> Ordering {
+        self.name.order(&other.name)
+    }
 }
 
 /// One of these patterns matches the name.
@@ -81,16 +97,6 @@ fn taken_by_slot<'a, R: Ledger>(
         take_entry(alloc, &mut list, &entry, include)?;
     }
     Ok(list)
-}
-
-/// The same entries in byte order of their names.
-fn sorted_by_name<'a>(entries: List<TakenEntry<'a>>) -> List<TakenEntry<'a>>
-    ensures moved { IsPermutation entries.entry result }
-    ensures sorted { NeverFalls (map taken_as result) }
-{
-    let mut sorted = entries.into_vec();
-    sorted.sort_unstable_by(|a, b| a.name.order(&b.name));
-    List::from_vec(sorted)
 }
 
 /// The entries of an image whose names are no node's and, where patterns are given, are matched by

@@ -1,13 +1,13 @@
 -- The places of a closure lie within the list of modules, and differ.
 use Rattle.std.proofs.Common.{◌≡◌, ◌≢◌, ◌<◌, ℕ, zero, suc, ◌+◌, ◌-◌, Bool, true, false, List, [], ◌∷◌, length, AllPairs, Contains, Some, Ok, slice_get, refl, sym, ap, ◌∙◌, subst, arith}
 use Rattle.std.proofs.lemmas.Bool.{ltb-false, ltb-true}
-use Rattle.std.proofs.lemmas.Option.{slice_get-get_or}
+use Rattle.std.proofs.lemmas.Option.{get_or_from_slice_get, slice_get_within}
 use Rattle.std.specs.Cmp.Lexicographic.{slice_cmp, nat_list_cmp_total}
 use Rattle.std.specs.List.{range_with_len}
-use Rattle.std.specs.Ordering.{is_lt, nat_cmp, ordering_reverse}
-use Rattle.std.specs.Prelude.{IsTrue, get_or, nat_lt}
+use Rattle.std.specs.Ordering.{nat_cmp, ordering_reverse}
+use Rattle.std.specs.Prelude.{nat_lt}
 use Rattle.std.specs.declared.cmp.Ordering.{Ordering}
-use Rattle.std.specs.declared.cmp.Ordering.TheVariants.{Less, Equal, Greater}
+use Rattle.std.specs.declared.cmp.Ordering.TheVariants.{Less, Greater}
 use Rattle.jm_bytes.proofs.Choice.{same_some}
 use Rattle.jm_bind.specs.Binding.{Bound, IsClosed}
 use Rattle.jm_bytes.proofs.Members.{contains_range, from_range}
@@ -17,14 +17,10 @@ use Rattle.jm_closure.specs.Modules.{HasName, Reached, name_of}
 use Rattle.jm_closure.specs.Refusals.{AreChosen}
 use Rattle.jm_link.specs.Closing.{ClosesWith}
 use Rattle.jm_link.proofs.FileLaws.{got}
-
-pub below : {X : Type 0} (xs : List X) (i : ℕ) (x : X) → slice_get xs i ≡ Some x → i < length xs
-below [] i x is = cc
-below (y ∷ xs) zero x is = omega arith
-below (y ∷ xs) (suc i) x is = let rest = below xs i x is in omega (arith, rest)
+use Rattle.jm_order.proofs.ByteOrderLaws.{less}
 
 named_below : (found : List Candidate) (i : ℕ) (name : List ℕ) → HasName found i name → i < length found
-named_below found i name (c, is, named) = below found i c is
+named_below found i name (c, is, named) = slice_get_within found i c is
 
 pub bound_below : (found : List Candidate) (roots : List (List ℕ)) (j : ℕ) → Bound found roots j → j < length found
 bound_below found roots j bound = let all = from_range 0 (length found) j (bound (range_with_len 0 (length found)) closed) in omega (arith, all.1)
@@ -36,21 +32,13 @@ bound_below found roots j bound = let all = from_range 0 (length found) j (bound
     closed = record {
       rooted = λ i root. inside i (named_below found i root.0 root.2);
       required = λ i k has required. inside k (named_below found k required.0 required.2);
-      served = λ i k has served. inside k (below found k served.2.0 served.2.1);
+      served = λ i k has served. inside k (slice_get_within found k served.2.0 served.2.1);
     }
 
 there : {X : Type 0} (xs : List X) (i : ℕ) → i < length xs → (x : X) × (slice_get xs i ≡ Some x)
 there [] i within = absurd (omega (arith, within))
 there (x ∷ xs) zero within = (x, refl)
 there (x ∷ xs) (suc i) within = there xs i (omega (arith, within))
-
-got_same : (places : List ℕ) (k i d : ℕ) → slice_get places k ≡ Some i → get_or places k d ≡ i
-got_same places k i d is = same_some _ _ (sym (slice_get-get_or places k d (below places k i is)) ∙ is)
-
-less : (o : Ordering) → IsTrue (is_lt o) → o ≡ Less
-less Less is = refl
-less Equal is = cc
-less Greater is = cc
 
 never_less : (name : List ℕ) → slice_cmp nat_cmp name name ≡ Less → ⊥
 never_less name is = not_both (sym is ∙ nat_list_cmp_total.antisymm name name ∙ ap ordering_reverse is)
@@ -117,7 +105,7 @@ module _ (found : List Candidate) (Chosen : ℕ → Type 0) (places : List ℕ) 
       let behind : k + suc (l - k - 1) ≡ l = omega (arith, before) in
       let far : IsAt (k + suc (l - k - 1)) other.0 = subst (λ m. IsAt m other.0) (sym behind) other.1 in
       apart k (l - k - 1) (omega (arith, before, inside)) one.0 other.0 one.1 far
-      (sym (got_same places k one.0 d one.1.place) ∙ same ∙ got_same places l other.0 d other.1.place)
+      (sym (get_or_from_slice_get places k one.0 d one.1.place) ∙ same ∙ get_or_from_slice_get places l other.0 d other.1.place)
 
   pub places_rise : AreRising found → AllPairs (λ i j. i < j) places
   places_rise rising k l d before inside =
@@ -126,7 +114,7 @@ module _ (found : List Candidate) (Chosen : ℕ → Type 0) (places : List ℕ) 
       let behind : k + suc (l - k - 1) ≡ l = omega (arith, before) in
       let far : IsAt (k + suc (l - k - 1)) other.0 = subst (λ m. IsAt m other.0) (sym behind) other.1 in
       let less = rises k (l - k - 1) (omega (arith, before, inside)) one.0 other.0 one.1 far in
-      rw (got_same places k one.0 d one.1.place, got_same places l other.0 d other.1.place)
+      rw (get_or_from_slice_get places k one.0 d one.1.place, get_or_from_slice_get places l other.0 d other.1.place)
       (lesser found rising one.0 other.0 one.1.candidate far.candidate one.1.is far.is less)
 
 -- the places of a closure

@@ -2,7 +2,7 @@
 use Rattle.std.proofs.Common.{◌≡◌, ◌≢◌, suc, Option, Some, None, List, [], ◌∷◌, ◌++◌, drop, length, map, take, refl, ap}
 use Rattle.jm_closure.specs.declared.candidate.Candidate.{Candidate}
 use Rattle.jm_link.specs.declared.closing.ModuleFolder.{ModuleFolder}
-use Rattle.jm_link.specs.declared.refusal.Refusal.{Refusal}
+use Rattle.jm_texts.specs.declared.refusal.Refusal.{Refusal}
 use Rattle.jm_modpath.specs.declared.visible.VisibleModule.{VisibleModule}
 use Rattle.jm_link.specs.Closing.{folder_of, joined_as, module_with_folder}
 use Rattle.jm_modpath.specs.Modules.{candidates}

@@ -3,13 +3,14 @@
 use Rattle.std.proofs.Common.{◌≡◌, ◌≢◌, ◌⊎◌, ◌&&◌, inl, inr, ℕ, zero, suc, Bool, true, false, List, [], ◌∷◌, ◌++◌, length, drop, find, All, Contains, Some, None, option_map, slice_get, refl, sym, ap, ◌∙◌, subst}
 use Rattle.std.proofs.lemmas.Bool.{eqb-true, false≢true, false_from_ne_true, or_cases}
 use Rattle.std.proofs.lemmas.Bool.Decides.{Decides-eqb}
-use Rattle.std.proofs.lemmas.List.Elements.{All-contains, Contains-append_cases}
+use Rattle.std.proofs.lemmas.List.Elements.{All-contains}
 use Rattle.jm_bytes.proofs.Choice.{same_some}
 use Rattle.std.proofs.lemmas.Slice.Eq.{bytes_eq-Decides, starts_is}
-use Rattle.std.specs.List.{filter_map, flat_map, list_all, list_any, starts_with}
+use Rattle.std.specs.List.{filter_map, list_all, list_any, starts_with}
 use Rattle.std.specs.Prelude.{codes, nat_eq}
 use Rattle.std.specs.Str.{bytes_eq}
-use Rattle.jm_bytes.proofs.Members.{all_from_contains, any_contains, contains_here, contains_later, contains_map, contains_none, from_filter_map, from_map}
+use Rattle.jm_bytes.proofs.Members.{all_from_contains, any_contains, contains_here, contains_later, contains_map, from_filter_map, from_map}
+use Rattle.jm_bytes.proofs.SameOrder.{from_flat_map}
 use Rattle.jm_closure.specs.declared.candidate.Candidate.{Candidate}
 use Rattle.jm_closure.specs.Modules as closure
 use Rattle.jm_form.specs.Trees.{module_of}
@@ -17,15 +18,15 @@ use Rattle.jm_modinfo.specs.Constants.{is_legal, is_legal_byte}
 use Rattle.jm_names.specs.Names.{is_node, is_slash}
 use Rattle.jm_names.specs.UtfForms.{modified}
 use Rattle.jm_nodes.proofs.SoundLaws.{module_again}
-use Rattle.jm_link.specs.declared.refusal.Refusal.{Refusal}
-use Rattle.jm_link.specs.declared.refusal.Refusal.TheVariants as refusal
+use Rattle.jm_texts.specs.declared.refusal.Refusal.{Refusal}
+use Rattle.jm_texts.specs.declared.refusal.Refusal.TheVariants as refusal
 use Rattle.jm_modpath.specs.declared.visible.VisibleModule.{VisibleModule}
-use Rattle.jm_link.specs.ByName.{Named}
+use Rattle.jm_order.specs.ByName.{Named}
 use Rattle.jm_modpath.specs.Finding.{HasTexts}
 use Rattle.jm_modpath.specs.Modules.{candidates, inside, name_of, resource_name}
 use Rattle.jm_link.specs.Chosen.{is_called, reserved}
 use Rattle.jm_link.specs.Resources.{link_files, module_files}
-use Rattle.jm_link.proofs.NameOrder.{from_by_name}
+use Rattle.jm_order.proofs.NameOrder.{from_by_name}
 
 -- Names of nodes
 
@@ -107,17 +108,9 @@ got [] i x is = cc
 got (y ∷ xs) zero x is = subst (Contains (y ∷ xs)) (same_some y x is) (contains_here y xs)
 got (y ∷ xs) (suc i) x is = contains_later y xs x (got xs i x is)
 
-pub from_flat : {A B : Type 0} (f : A → List B) (xs : List A) (y : B) → Contains (flat_map f xs) y → (x : A) × Contains xs x × Contains (f x) y
-from_flat f [] y there = absurd (contains_none y there)
-from_flat {A} {B} f (x ∷ xs) y there = go (Contains-append_cases (f x) (flat_map f xs) y there) (from_flat f xs y)
-  where
-    go : Contains (f x) y ⊎ Contains (flat_map f xs) y → (Contains (flat_map f xs) y → (z : A) × Contains xs z × Contains (f z) y) → (z : A) × Contains (x ∷ xs) z × Contains (f z) y
-    go (inl here) later = (x, contains_here x xs, here)
-    go (inr rest) later = let one = later rest in (one.0, contains_later x xs one.0 one.1, one.2)
-
 pub file_from : (found : List VisibleModule) (places : List ℕ) (f : Named) → Contains (link_files found places) f → IsFileOf found f
 file_from found places f there =
-    let one = from_flat module_files (filter_map (slice_get found) places) f there in
+    let one = from_flat_map module_files (filter_map (slice_get found) places) f there in
     let m = one.0 in
     let at = from_filter_map (slice_get found) places m one.1 in
     let pair = from_map (λ path. (resource_name (name_of m) path, inside m.folder path)) m.files f (from_by_name _ f one.2) in

@@ -1,83 +1,51 @@
 -- The modules of an image as what a link is made of: their names differ, their resources are no
 -- nodes and differ too, and what a link of them does, from what its steps did.
-use Rattle.std.proofs.Common.{inl, ◌≡◌, ◌≢◌, ◌<◌, ◌≤◌, ◌+◌, ◌-◌, ℕ, zero, suc, Bool, true, false, not, List, [], ◌∷◌, ◌++◌, length, map, get_or, All, AllPairs, Contains, Option, Some, None, option_map, slice_get, Result, Ok, Err, refl, sym, ap, subst, ◌∙◌, arith}
-use Rattle.std.proofs.lemmas.Bool.{ltb-false, ltb-true}
-use Rattle.std.proofs.lemmas.List.{get_or-map, length-map}
+use Rattle.std.proofs.Common.{inl, ◌≡◌, ◌≢◌, ◌<◌, ℕ, suc, Bool, true, false, not, List, [], ◌∷◌, ◌++◌, length, map, All, AllPairs, Contains, Option, Some, None, option_map, slice_get, Result, Ok, Err, refl, sym, ap, subst, ◌∙◌, arith}
 use Rattle.std.proofs.lemmas.List.Elements.{All-contains, All-cons, All-map, All-nil}
-use Rattle.std.proofs.lemmas.Option.{slice_get-get_or, slice_get-map}
-use Rattle.std.specs.List.{filter_map, flat_map, list_any, zip}
-use Rattle.std.specs.Prelude.{nat_lt}
+use Rattle.std.proofs.lemmas.Option.{slice_get-map}
+use Rattle.std.specs.List.{filter_map, flat_map, zip}
 use Rattle.jm_bytes.proofs.Choice.{same_some}
-use Rattle.jm_bytes.proofs.Members.{all_filter_map, all_from_contains, contains_map, from_filter, from_filter_map, from_map}
+use Rattle.jm_bytes.proofs.Members.{all_from_contains, from_filter, from_filter_map, from_map}
 use Rattle.jm_bytes.proofs.Pairs.{pairs_append, pairs_filter_map, pairs_head, pairs_map, pairs_none, pairs_tail, pairs_weaker}
+use Rattle.jm_bytes.proofs.SameOrder.{from_flat_map}
 use Rattle.jm_bytes.specs.Checks.{first_fault}
 use Rattle.jm_closure.specs.declared.candidate.Candidate.{Candidate}
 use Rattle.jm_closure.specs.Modules as closure
-use Rattle.jm_closure.specs.Names.{NamesDiffer}
 use Rattle.jm_form.specs.Layout.{Written, names_of}
 use Rattle.jm_names.specs.ComputedFault.{name_fault}
 use Rattle.jm_names.specs.declared.check.NameFault.{NameFault}
 use Rattle.jm_names.specs.NameFaults.{IsSound}
-use Rattle.jm_names.specs.Names.{is_node, is_slash}
+use Rattle.jm_names.specs.Names.{is_node}
 use Rattle.jm_names.proofs.ComputedFaultLaws.{IsSound-computed}
 use Rattle.jm_form.specs.Validity.{resources}
 use Rattle.jm_form.specs.Entries.{Entry}
-use Rattle.jm_modpath.specs.ByteOrder.{is_before}
+use Rattle.jm_order.specs.ByteOrder.{is_before}
 use Rattle.jm_outside.specs.Files.{Files}
 use Rattle.jm_reader.specs.Walk.{entries_of}
 use Rattle.jm_relink.specs.declared.error.GatherError.{GatherError}
 use Rattle.jm_relink.specs.declared.error.GatherError.TheVariants as gather
 use Rattle.jm_relink.specs.declared.error.RelinkError.{RelinkError}
 use Rattle.jm_relink.specs.declared.error.RelinkError.TheVariants as relink
-use Rattle.jm_relink.specs.declared.modules.ImageFile.{ImageFile}
 use Rattle.jm_relink.specs.declared.modules.ImageModules.{ImageModules}
-use Rattle.jm_relink.specs.Files.{Named, RisesByName, file_as, file_name, files_as, resources_of}
+use Rattle.jm_relink.specs.Files.{file_name, resources_of}
+use Rattle.jm_order.specs.ByName.{Named}
 use Rattle.jm_relink.specs.Gathering.{AreModules, ArePlaces, GathersAll, gathered, named_files, resource_of, resources_with}
 use Rattle.jm_relink.specs.Gathering as gathering
 use Rattle.jm_relink.specs.Modules.{FindsModules, HoldsModules, IsSeenIn, IsVisibleIn, ModulesOf, SeenModule, name_of}
+use Rattle.jm_relink.proofs.AskedLaws.{before_at, candidates_rise, image_names_differ, visible_in}
 use Rattle.jm_relink.proofs.NameLaws.{names_tell}
 use Rattle.jm_link.specs.declared.linking.LinkStop.{LinkStop}
-use Rattle.jm_link.specs.declared.refusal.Refusal.{Refusal}
-use Rattle.jm_link.specs.declared.refusal.Refusal.TheVariants as refusal
-use Rattle.jm_link.specs.Chosen.{reserved}
+use Rattle.jm_texts.specs.declared.refusal.Refusal.{Refusal}
+use Rattle.jm_texts.specs.declared.refusal.Refusal.TheVariants as refusal
 use Rattle.jm_link.specs.Closing.{ClosesAmong, ClosesWith}
 use Rattle.jm_link.specs.ImageLinked.{ImageComesTo, resources_seen, seen_candidates, seen_resources, stop_of_gathering, stop_of_modules}
 use Rattle.jm_link.specs.Linked.{LinkedImage, Request}
 use Rattle.jm_link.specs.Links.{LinksBy, PoolComesTo}
-use Rattle.jm_link.specs.Resources.{first_bad_name, name_refusal}
-use Rattle.jm_link.proofs.ChosenLaws.{below, chosen_differ, chosen_rise, chosen_within}
-use Rattle.jm_link.proofs.FileLaws.{from_flat, got}
+use Rattle.jm_texts.specs.NameRefusals.{first_bad_name}
+use Rattle.jm_link.proofs.ChosenLaws.{chosen_differ, chosen_rise, chosen_within}
+use Rattle.jm_link.proofs.FileLaws.{got}
 use Rattle.jm_link.proofs.LinkingLaws.{among_to, stopped_among}
-use Rattle.jm_link.proofs.NameOrder.{before_less, before_other}
-
--- what is seen of an image is what the rule says
-pub visible_in : (b : List ℕ) (seen : List SeenModule) → ModulesOf b (Ok seen) → IsVisibleIn (resources_of b) seen
-unfolding ModulesOf
-visible_in b seen shows = shows
-
--- Modules that rise by name
-
-got_at : {X : Type 0} (xs : List X) (i : ℕ) (d x : X) → slice_get xs i ≡ Some x → get_or xs i d ≡ x
-got_at xs i d x is = same_some _ _ (sym (slice_get-get_or xs i d (below xs i x is)) ∙ is)
-
-abbrev Before : Candidate → Candidate → Type 0
-Before c d = is_before (closure.name_of c) (closure.name_of d) ≡ true
-
-before_at : (cs : List Candidate) → AllPairs Before cs → (i j : ℕ) (c e : Candidate) → slice_get cs i ≡ Some c → slice_get cs j ≡ Some e → i < j → Before c e
-before_at cs rises i j c e one other less =
-    let up = rises i j c less (below cs j e other) in
-    rw (got_at cs i c c one, got_at cs j c e other) at up
-
-never : (c e : Candidate) (name : List ℕ) → closure.name_of c ≡ name → closure.name_of e ≡ name → Before c e → ⊥
-never c e name one other before = before_other name (rw (one, other) at before)
-
-rising_differ : (cs : List Candidate) → AllPairs Before cs → NamesDiffer cs
-rising_differ cs rises i j name (c, one, is) (e, other, also) = go (nat_lt i j) refl (nat_lt j i) refl
-  where
-    go : (b : Bool) → nat_lt i j ≡ b → (d : Bool) → nat_lt j i ≡ d → i ≡ j
-    go true less d more = absurd (never c e name is also (before_at cs rises i j c e one other (ltb-true i j less)))
-    go false less true more = absurd (never e c name also is (before_at cs rises j i e c other one (ltb-true j i more)))
-    go false less false more = let up = ltb-false i j less in let down = ltb-false j i more in omega (arith, up, down)
+use Rattle.jm_order.proofs.ByteOrderLaws.{before_less, before_other}
 
 -- Two lists of modules that were seen
 
@@ -85,49 +53,10 @@ module _ (b : List ℕ) (modules : ImageModules) (seen : List SeenModule) (visib
   abbrev found : List Candidate
   found = modules.candidates
 
-  candidates_rise : AllPairs Before found
-  candidates_rise = subst (AllPairs Before) (sym holds.candidates) (pairs_map Before (λ (s : SeenModule). s.candidate) seen visible.rising)
-
-  pub image_names_differ : NamesDiffer found
-  image_names_differ = rising_differ found candidates_rise
-
-  whole_name : (s : SeenModule) → IsSeenIn (resources_of b) s → list_any is_slash (name_of s) ≡ false
-  whole_name s is = is.info.whole
-
-  all_whole : All (λ c. list_any is_slash c.descriptor.name ≡ false) found
-  all_whole =
-      subst (All (λ (c : Candidate). list_any is_slash c.descriptor.name ≡ false)) (sym holds.candidates)
-      (All-map (λ (c : Candidate). list_any is_slash c.descriptor.name ≡ false) (λ (s : SeenModule). s.candidate) seen (λ k d inside. whole_name _ (visible.each k d inside)))
-
-  all_rise : All RisesByName (map files_as modules.files)
-  all_rise =
-      subst (All RisesByName) (sym holds.files)
-      (All-map RisesByName (λ (s : SeenModule). s.files) seen (λ k d inside. (visible.each k d inside).files.rising))
-
-  paths_apart : (fs : List ImageFile) → RisesByName (files_as fs) → AllPairs (λ (e f : ImageFile). e.path ≢ f.path) fs
-  paths_apart fs rises i j d less inside same =
-      let up = rises i j (file_as d) less (rw (length-map fs file_as) inside) in
-      let one = get_or-map file_as fs i d (file_as d) (omega (arith, less, inside)) in
-      let other = get_or-map file_as fs j d (file_as d) inside in
-      let before = rw (one, other) at up in
-      before_other (get_or fs j d).path (rw same at before)
-
-  all_apart : All (λ (fs : List ImageFile). AllPairs (λ (e f : ImageFile). e.path ≢ f.path) fs) modules.files
-  all_apart = all_from_contains (λ (fs : List ImageFile). AllPairs (λ (e f : ImageFile). e.path ≢ f.path) fs) modules.files
-      (λ fs there. paths_apart fs (All-contains RisesByName (map files_as modules.files) (files_as fs) all_rise (contains_map files_as modules.files fs there)))
-
-  as_long : length modules.candidates ≡ length modules.files
-  as_long =
-      ap length holds.candidates ∙ length-map seen (λ (s : SeenModule). s.candidate)
-      ∙ sym (sym (length-map modules.files files_as) ∙ ap length holds.files ∙ length-map seen (λ (s : SeenModule). s.files))
-
-  pub image_modules : AreModules modules
-  image_modules = record { long = as_long; differ = image_names_differ; whole = all_whole; apart = all_apart }
-
   pub image_places : (roots : List (List ℕ)) (bind : Bool) (places : List ℕ) → ClosesWith bind found roots (Ok places) → ArePlaces modules places
   image_places roots bind places closes = record {
     within = all_from_contains (λ place. place < length found) places (chosen_within found roots bind places closes);
-    rising = chosen_rise found roots bind places closes (λ i j c e one other less. before_less (closure.name_of c) (closure.name_of e) (before_at found candidates_rise i j c e one other less));
+    rising = chosen_rise found roots bind places closes (λ i j c e one other less. before_less (closure.name_of c) (closure.name_of e) (before_at found (candidates_rise b modules seen visible holds) i j c e one other less));
   }
 
   -- What is gathered
@@ -197,7 +126,7 @@ module _ (b : List ℕ) where
 
   all_free : (ss : List SeenModule) → All Seen ss → All (λ (r : Written). is_node r.0 ≡ false) (flat_map seen_resources ss)
   all_free ss each = all_from_contains (λ (r : Written). is_node r.0 ≡ false) (flat_map seen_resources ss)
-      (λ r there. let from = from_flat seen_resources ss r there in seen_free from.0 (All-contains Seen ss from.0 each from.1) r from.2)
+      (λ r there. let from = from_flat_map seen_resources ss r there in seen_free from.0 (All-contains Seen ss from.0 each from.1) r from.2)
 
   apart_all : (ss : List SeenModule) → All Seen ss → AllPairs (λ (s t : SeenModule). name_of s ≢ name_of t) ss → AllPairs Differ (flat_map seen_resources ss)
   apart_all [] each apart = pairs_none Differ
@@ -208,7 +137,7 @@ module _ (b : List ℕ) where
       pairs_append Differ (seen_resources s) (flat_map seen_resources ss) (own_apart s is)
       (apart_all ss later (pairs_tail (λ (t u : SeenModule). name_of t ≢ name_of u) s ss apart))
       (λ e f there too.
-      let from = from_flat seen_resources ss f too in
+      let from = from_flat_map seen_resources ss f too in
       two_apart s from.0 is (All-contains Seen ss from.0 later from.1) (All-contains (λ t. name_of s ≢ name_of t) ss from.0 others from.1) e f there from.2)
 
 module _ (b : List ℕ) (modules : ImageModules) (seen : List SeenModule) (visible : IsVisibleIn (resources_of b) seen) (holds : HoldsModules modules seen) (roots : List (List ℕ)) (bind : Bool) (places : List ℕ) (closes : ClosesWith bind modules.candidates roots (Ok places)) where

@@ -13,8 +13,8 @@ use Rattle.jm_names.specs.Names.{is_node}
 use Rattle.jm_writer.specs.Drafts.{entry_limit, image_limit, large_number}
 use Rattle.jm_writer.specs.Laid.{CanLay, IsLaidOut}
 use Rattle.jm_writer.proofs.LaidOut.{laid_out}
-use Rattle.jm_link.specs.declared.refusal.Refusal.{Refusal}
-use Rattle.jm_link.specs.declared.refusal.Refusal.TheVariants as refusal
+use Rattle.jm_texts.specs.declared.refusal.Refusal.{Refusal}
+use Rattle.jm_texts.specs.declared.refusal.Refusal.TheVariants as refusal
 use Rattle.jm_link.specs.Linked.{image_with, layout_refusal, size_refusal}
 
 map_none : {A B : Type 0} (f : A → B) (o : Option A) → option_map f o ≡ None → o ≡ None

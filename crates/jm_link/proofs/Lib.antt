@@ -6,7 +6,6 @@ pub mod LaidLaws
 pub mod LinkVectors
 pub mod LinkingLaws
 pub mod ListedLaws
-pub mod NameOrder
 pub mod OnceLaws
 pub mod ResourceLaws
 pub mod ResourceNames

@@ -9,11 +9,12 @@ use Rattle.jm_modpath.specs.declared.visible.VisibleModule.{VisibleModule}
 use Rattle.jm_modpath.specs.Modules.{candidates, module_with}
 use Rattle.jm_names.specs.declared.check.NameFault.TheVariants as fault
 use Rattle.jm_outside.specs.Files.{Files}
-use Rattle.jm_link.specs.declared.refusal.Refusal.TheVariants as refusal
-use Rattle.jm_link.specs.ByName.{Named}
+use Rattle.jm_texts.specs.declared.refusal.Refusal.TheVariants as refusal
+use Rattle.jm_order.specs.ByName.{Named}
 use Rattle.jm_link.specs.Linked.{layout_refusal}
 use Rattle.jm_link.specs.Chosen.{reserved}
-use Rattle.jm_link.specs.Resources.{first_bad_name, link_files, resources_of}
+use Rattle.jm_link.specs.Resources.{link_files, resources_of}
+use Rattle.jm_texts.specs.NameRefusals.{first_bad_name}
 
 -- a module that requires nothing, with these files
 abbrev plain_module : List ℕ → List ℕ → List (List ℕ) → VisibleModule

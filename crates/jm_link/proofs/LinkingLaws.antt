@@ -19,9 +19,9 @@ use Rattle.jm_modpath.specs.declared.refusal.PathStop.TheVariants as path_stop
 use Rattle.jm_link.specs.declared.linking.LinkStop.{LinkStop}
 use Rattle.jm_link.specs.declared.linking.LinkStop.TheVariants as stop
 use Rattle.jm_link.specs.declared.linking.Summary.{Summary}
-use Rattle.jm_link.specs.declared.refusal.Refusal.{Refusal}
+use Rattle.jm_texts.specs.declared.refusal.Refusal.{Refusal}
 use Rattle.jm_modpath.specs.declared.visible.VisibleModule.{VisibleModule}
-use Rattle.jm_link.specs.ByName.{Named}
+use Rattle.jm_order.specs.ByName.{Named}
 use Rattle.jm_link.specs.Closing.{ClosesAmong, ClosesWith, IsRefusedAmong}
 use Rattle.jm_link.specs.Linked.{IsGatheredTo, LinkedImage, LinksAmong, Request, image_with, laid_out, layout_refusal, path_refusal_as}
 use Rattle.jm_link.specs.declared.resources.ResourceFile.{ResourceFile}
@@ -33,7 +33,8 @@ use Rattle.jm_link.proofs.LaidLaws.{laid_free}
 use Rattle.jm_link.proofs.ListedLaws.{files_there, visible_lists}
 use Rattle.jm_modpath.specs.Modules.{candidates}
 use Rattle.jm_link.specs.Chosen.{Chosen, reserved}
-use Rattle.jm_link.specs.Resources.{first_bad_name, link_files, name_refusal, resources_in, resources_of}
+use Rattle.jm_link.specs.Resources.{link_files, resources_in, resources_of}
+use Rattle.jm_texts.specs.NameRefusals.{first_bad_name, name_refusal}
 use Rattle.jm_link.specs.Stops.{stop_of_path}
 use Rattle.jm_link.specs.Written.{WritesImage, WritesPart}
 
@@ -158,7 +159,7 @@ module _ (told : Option Files) (asked : Request) (found : List VisibleModule) wh
       go (Some files) = stopped_among asked (candidates found) (resources_in files found) (FoundComesTo (Some files) asked found) (TellsNothing (Some files)) given path (Some files) faults (λ r is. (is, tt)) closes
 
 -- a count that rose from a later value rose from an earlier one
-rose_sooner : (first old new : ℕ) → first ≤ old → Rose old new → Rose first new
+pub rose_sooner : (first old new : ℕ) → first ≤ old → Rose old new → Rose first new
 rose_sooner first old new sooner (inl more) = inl (omega (arith, sooner, more))
 rose_sooner first old new sooner (inr last) = inr last
 

@@ -7,11 +7,12 @@ use Rattle.jm_modinfo.specs.declared.faults.DescriptorFault.{DescriptorFault}
 use Rattle.jm_outside.specs.Files.{Files, file, names_below}
 use Rattle.std.specs.List.{flat_map}
 use Rattle.jm_modpath.specs.declared.visible.VisibleModule.{VisibleModule}
-use Rattle.jm_link.specs.ByName.{Named}
+use Rattle.jm_order.specs.ByName.{Named}
 use Rattle.jm_modpath.specs.Modules.{folder_info, folders_in, inside, is_named, module_in, module_of, modules_in, name_of, unhidden, visible}
 use Rattle.jm_link.specs.Resources.{link_files}
 use Rattle.jm_link.specs.Showing.{ListsItsFiles}
-use Rattle.jm_link.proofs.FileLaws.{file_from, from_flat}
+use Rattle.jm_link.proofs.FileLaws.{file_from}
+use Rattle.jm_bytes.proofs.SameOrder.{from_flat_map}
 use Rattle.jm_modpath.proofs.StepLaws.{listed_there}
 
 from_unhidden : (earlier ms : List VisibleModule) (m : VisibleModule) → Contains (unhidden earlier ms) m → Contains ms m
@@ -32,7 +33,7 @@ listed_in files folder (Ok d) m is = subst (λ (k : VisibleModule). k.files ≡ 
 -- a visible module has the files below its folder
 pub visible_lists : (files : Files) (directories : List (List ℕ)) → ListsItsFiles files (visible files directories)
 visible_lists files directories m there =
-    let one = from_flat (modules_in files) directories m (from_unhidden [] (flat_map (modules_in files) directories) m there) in
+    let one = from_flat_map (modules_in files) directories m (from_unhidden [] (flat_map (modules_in files) directories) m there) in
     let folder = from_filter_map (λ folder. module_in files (inside one.0 folder)) (folders_in files one.0) m one.2 in
     listed_in files (inside one.0 folder.0) (folder_info files (inside one.0 folder.0)) m folder.2
 

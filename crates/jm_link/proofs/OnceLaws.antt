@@ -6,7 +6,6 @@ use Rattle.jm_closure.proofs.OnceLaws.{closes_once, reached_found}
 use Rattle.jm_closure.specs.declared.candidate.Candidate.{Candidate}
 use Rattle.jm_closure.specs.declared.error.CloseError.{CloseError}
 use Rattle.jm_closure.specs.declared.error.CloseError.TheVariants as closing
-use Rattle.jm_closure.specs.Refusals.{Closes}
 use Rattle.jm_form.specs.Layout.{Written}
 use Rattle.jm_modpath.specs.declared.refusal.PathRefusal.{PathRefusal}
 use Rattle.jm_modpath.specs.Modules.{candidates, path_refusal, visible}
@@ -14,10 +13,11 @@ use Rattle.jm_outside.specs.Files.{Files}
 use Rattle.jm_plugins.specs.declared.chain.ApplyError.{ApplyError}
 use Rattle.jm_plugins.specs.declared.chain.ApplyError.TheVariants as plugging
 use Rattle.jm_plugins.specs.Plugins.{apply}
-use Rattle.jm_link.specs.declared.refusal.Refusal.{Refusal}
+use Rattle.jm_texts.specs.declared.refusal.Refusal.{Refusal}
 use Rattle.jm_link.specs.Chosen.{Chosen, reserved}
-use Rattle.jm_link.specs.Linked.{closing_refusal, IsClosedTo, IsFoundTo, IsGatheredTo, IsLinkedOf, IsPathTo, IsPluggedTo, LinkedImage, LinksAmong, LinksTo, Request}
-use Rattle.jm_link.specs.Resources.{first_bad_name, resources_in}
+use Rattle.jm_link.specs.Linked.{IsClosedTo, IsFoundTo, IsGatheredTo, IsLinkedOf, IsPathTo, IsPluggedTo, LinkedImage, LinksAmong, LinksTo, Request}
+use Rattle.jm_link.specs.Resources.{resources_in}
+use Rattle.jm_texts.specs.NameRefusals.{first_bad_name}
 use Rattle.jm_link.proofs.ChosenLaws.{bound_below}
 
 abbrev Answer : Type 0

@@ -4,11 +4,7 @@ use Rattle.std.proofs.lemmas.Bool.{false≢true}
 use Rattle.std.proofs.lemmas.List.{append_cancel_left}
 use Rattle.std.proofs.lemmas.List.Elements.{All-contains}
 use Rattle.std.proofs.lemmas.Option.{slice_get-map}
-use Rattle.std.specs.Cmp.Lexicographic.{slice_cmp}
 use Rattle.std.specs.List.{filter_map, flat_map, list_all}
-use Rattle.std.specs.Ordering.{is_lt, nat_cmp}
-use Rattle.std.specs.declared.cmp.Ordering.{Ordering}
-use Rattle.std.specs.declared.cmp.Ordering.TheVariants.{Less, Equal, Greater}
 use Rattle.jm_bytes.proofs.Members.{from_map}
 use Rattle.jm_bytes.proofs.Pairs.{pairs_append, pairs_filter_map, pairs_head, pairs_map, pairs_none, pairs_tail, pairs_weaker}
 use Rattle.jm_bytes.proofs.SameOrder.{from_flat_map}
@@ -18,16 +14,16 @@ use Rattle.jm_names.specs.UtfForms.{modified}
 use Rattle.jm_pool.specs.Pairs.{names_of}
 use Rattle.jm_link.specs.declared.resources.ResourceFile.{ResourceFile}
 use Rattle.jm_modpath.specs.declared.visible.VisibleModule.{VisibleModule}
-use Rattle.jm_link.specs.ByName.{Named}
-use Rattle.jm_modpath.specs.ByteOrder.{is_before}
+use Rattle.jm_order.specs.ByName.{Named}
+use Rattle.jm_order.specs.ByteOrder.{is_before}
 use Rattle.jm_modpath.specs.Finding.{Differing, HasTexts}
 use Rattle.jm_modpath.specs.Modules.{candidates, name_of, resource_name}
 use Rattle.jm_link.specs.ResourceFiles.{file_names, file_of, pair_of}
 use Rattle.jm_link.specs.Resources.{link_files, module_files}
-use Rattle.jm_link.proofs.NameOrder.{Differ, by_name_rises, from_by_name}
+use Rattle.jm_order.proofs.NameOrder.{Differ, by_name_rises, from_by_name}
 use Rattle.jm_link.proofs.ResourceLaws.{all_chosen}
 use Rattle.jm_link.proofs.ResourceNames.{files_differ}
-use Rattle.jm_modpath.proofs.FolderLaws.{never_before}
+use Rattle.jm_order.proofs.ByteOrderLaws.{before_apart}
 
 -- Names of modules
 
@@ -55,14 +51,6 @@ cut_same (b ∷ n) (c ∷ m) x y one other same =
     cc
 
 -- Files
-
-before_apart : (n m : List ℕ) → is_before n m ≡ true → n ≢ m
-before_apart n m before = never_before n m (less (slice_cmp nat_cmp n m) before)
-  where
-    less : (o : Ordering) → is_lt o ≡ true → o ≡ Less
-    less Less h = refl
-    less Equal h = cc
-    less Greater h = cc
 
 own_apart : (m : VisibleModule) → HasTexts m → AllPairs Differ (module_files m)
 own_apart m has =

@@ -11,8 +11,8 @@ use Rattle.jm_closure.specs.Refusals.{Closes}
 use Rattle.jm_link.specs.declared.closing.ModuleFolder.{ModuleFolder}
 use Rattle.jm_link.specs.declared.linking.LinkStop.{LinkStop}
 use Rattle.jm_link.specs.declared.linking.LinkStop.TheVariants as stop
-use Rattle.jm_link.specs.declared.refusal.Refusal.{Refusal}
-use Rattle.jm_link.specs.declared.refusal.Refusal.TheVariants as refusal
+use Rattle.jm_texts.specs.declared.refusal.Refusal.{Refusal}
+use Rattle.jm_texts.specs.declared.refusal.Refusal.TheVariants as refusal
 use Rattle.jm_modpath.specs.declared.visible.VisibleModule.{VisibleModule}
 use Rattle.jm_link.specs.Chosen.{reserved}
 use Rattle.jm_link.specs.Linked.{closing_refusal}

@@ -1,10 +1,8 @@
-pub mod ByName
 pub mod Chosen
 pub mod Closing
 pub mod ImageLinked
 pub mod Linked
 pub mod Links
-pub mod RefusalText
 pub mod ResourceFiles
 pub mod Resources
 pub mod Showing

@@ -21,13 +21,14 @@ use Rattle.jm_plugins.specs.declared.chain.ApplyError.{ApplyError}
 use Rattle.jm_plugins.specs.declared.chain.ApplyError.TheVariants as plugging
 use Rattle.jm_plugins.specs.Plugins.{apply}
 use Rattle.jm_writer.specs.Drafts.{entry_limit, image_limit, large_number}
-use Rattle.jm_link.specs.declared.refusal.Refusal.{Refusal}
-use Rattle.jm_link.specs.declared.refusal.Refusal.TheVariants as refusal
+use Rattle.jm_texts.specs.declared.refusal.Refusal.{Refusal}
+use Rattle.jm_texts.specs.declared.refusal.Refusal.TheVariants as refusal
 use Rattle.jm_link.specs.Chosen.{Chosen, reserved}
-use Rattle.jm_link.specs.Resources.{first_bad_name, resources_in}
+use Rattle.jm_link.specs.Resources.{resources_in}
+use Rattle.jm_texts.specs.NameRefusals.{first_bad_name}
 
--- what is asked for, whatever shows the modules: the roots, whether providers of services are linked
--- too, the plug-ins in their order, and the byte order
+-- what is asked for, whatever shows the modules: the roots, whether providers of services are
+-- linked too, the plug-ins in their order, and the byte order
 pub record Request : Type 0 where
   pub roots : List (List ℕ)
   pub bind : Bool

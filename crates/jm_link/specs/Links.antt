@@ -10,14 +10,15 @@ use Rattle.jm_link.specs.declared.linking.Asked.{Asked}
 use Rattle.jm_link.specs.declared.linking.LinkStop.{LinkStop}
 use Rattle.jm_link.specs.declared.linking.LinkStop.TheVariants as stop
 use Rattle.jm_link.specs.declared.linking.Summary.{Summary}
-use Rattle.jm_link.specs.declared.refusal.Refusal.{Refusal}
+use Rattle.jm_texts.specs.declared.refusal.Refusal.{Refusal}
 use Rattle.jm_modpath.specs.declared.visible.VisibleModule.{VisibleModule}
 use Rattle.jm_modpath.specs.Modules.{candidates}
 use Rattle.jm_plugins.specs.Plugins.{apply}
-use Rattle.jm_link.specs.ByName.{Named}
+use Rattle.jm_order.specs.ByName.{Named}
 use Rattle.jm_link.specs.Linked.{IsGatheredTo, IsPluggedTo, LinkedImage, LinksAmong, LinksTo}
 use Rattle.jm_link.specs.Linked.{Request}
-use Rattle.jm_link.specs.Resources.{first_bad_name, resources_in, resources_of}
+use Rattle.jm_link.specs.Resources.{resources_in, resources_of}
+use Rattle.jm_texts.specs.NameRefusals.{first_bad_name}
 
 -- what is asked for, as plain data
 abbrev pub request_of : Asked → Request

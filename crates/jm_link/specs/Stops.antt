@@ -10,8 +10,8 @@ use Rattle.jm_plugins.specs.declared.chain.ApplyError.{ApplyError}
 use Rattle.jm_plugins.specs.declared.chain.ApplyError.TheVariants as plugging
 use Rattle.jm_link.specs.declared.linking.LinkStop.{LinkStop}
 use Rattle.jm_link.specs.declared.linking.LinkStop.TheVariants as stop
-use Rattle.jm_link.specs.declared.refusal.Refusal.{Refusal}
-use Rattle.jm_link.specs.declared.refusal.Refusal.TheVariants as refusal
+use Rattle.jm_texts.specs.declared.refusal.Refusal.{Refusal}
+use Rattle.jm_texts.specs.declared.refusal.Refusal.TheVariants as refusal
 use Rattle.jm_link.specs.Linked.{path_refusal_as}
 
 -- why a call of a shelf ends the work

@@ -10,7 +10,7 @@ use Rattle.jm_files.specs.Holds.{Holds, HoldsPart}
 use Rattle.jm_link.specs.declared.linking.LinkStop.{LinkStop}
 use Rattle.jm_link.specs.declared.linking.LinkStop.TheVariants as stop
 use Rattle.jm_link.specs.declared.linking.Summary.{Summary}
-use Rattle.jm_link.specs.declared.refusal.Refusal.TheVariants as refusal
+use Rattle.jm_texts.specs.declared.refusal.Refusal.TheVariants as refusal
 use Rattle.jm_link.specs.Linked.{image_with, layout_refusal}
 use Rattle.jm_link.specs.Links.{summary_of}
 

@@ -7,11 +7,11 @@ ghost use Rattle.jm_link.specs.Closing.{stop_of_closing};
 ghost use Rattle.jm_modpath.specs.Modules.{candidates};
 
 use crate::linking::LinkStop;
-use crate::refusal::Refusal;
 use jm_bind::bind;
 use jm_bytes::{List, NoMemory, Text};
 use jm_closure::{Candidate, CloseError, close};
 use jm_modpath::VisibleModule;
+use jm_texts::Refusal;
 use std::alloc::Global;
 
 /// The folder of a module with its files.

@@ -7,10 +7,10 @@ ghost use Rattle.jm_writer.specs.Drafts.{IsDraft};
 ghost use Rattle.jm_link.specs.Written.{WritesImage, stop_of_plan};
 
 use crate::linking::{LinkStop, Summary};
-use crate::refusal::Refusal;
 use jm_bytes::Order;
 use jm_outside::{Shelf, ShelfError};
 use jm_pool::Pool;
+use jm_texts::Refusal;
 use jm_writer::{Draft, PlanError, plan, write};
 use std::alloc::Global;
 

@@ -7,12 +7,9 @@ mod image;
 mod linking;
 mod plugging;
 mod pooled;
-mod refusal;
-mod refusal_text;
 mod relinking;
 mod resources;
 mod stops;
 
 pub use linking::{Asked, LinkStop, Summary, link};
-pub use refusal::Refusal;
 pub use relinking::link_image;

@@ -16,13 +16,13 @@ ghost use Rattle.jm_link.specs.Showing.{ListsItsFiles};
 
 use crate::closing::{closed, joined, parted};
 use crate::pooled::link_pool;
-use crate::refusal::Refusal;
-use crate::resources::{ResourceFile, first_bad_name, link_files, read_resources};
+use crate::resources::{ResourceFile, link_files, read_resources};
 use jm_bytes::{List, Order, Text};
 use jm_halves::Gate;
 use jm_modpath::{VisibleModule, visible_modules};
 use jm_outside::Shelf;
 use jm_plugins::Plugin;
+use jm_texts::{Refusal, first_bad_name};
 use std::alloc::Global;
 use std::thread::Threads;
 
@@ -87,8 +87,8 @@ fn link_named<T: Threads + Sync, S: Shelf, G: Gate + Sync>(
     requires output { IsUtf8 asked.now.output.now }
     ensures { LinksBy
         (NamesComeTo (S.files shelf.old) (request_of asked.now) modules (map pair_of files.now))
-        (TellsNothing (S.files shelf.old)) asked.now.output.now result (S.files shelf.old) (S.files shelf.new)
-        (S.faults shelf.old) (S.faults shelf.new) }
+        (TellsNothing (S.files shelf.old)) asked.now.output.now result
+        (S.files shelf.old) (S.files shelf.new) (S.faults shelf.old) (S.faults shelf.new) }
 {
     if let Some(refusal) = first_bad_name(alloc, files)? {
         return Err(LinkStop::Refused(refusal));
@@ -119,8 +119,8 @@ fn link_closed<T: Threads + Sync, S: Shelf, G: Gate + Sync>(
     ensures { LinksBy
         (NamesComeTo (S.files shelf.old) (request_of asked.now) (length places.now)
         (link_files found.now places.now))
-        (TellsNothing (S.files shelf.old)) asked.now.output.now result (S.files shelf.old) (S.files shelf.new)
-        (S.faults shelf.old) (S.faults shelf.new) }
+        (TellsNothing (S.files shelf.old)) asked.now.output.now result
+        (S.files shelf.old) (S.files shelf.new) (S.faults shelf.old) (S.faults shelf.new) }
 {
     let files = link_files(alloc, found, places)?;
     let count = places.len();
@@ -143,8 +143,8 @@ fn link_found<T: Threads + Sync, S: Shelf, G: Gate + Sync>(
     requires told { Shows (S.files shelf.old) (λ told. ListsItsFiles told found) }
     requires output { IsUtf8 asked.now.output.now }
     ensures { LinksBy (FoundComesTo (S.files shelf.old) (request_of asked.now) found)
-        (TellsNothing (S.files shelf.old)) asked.now.output.now result (S.files shelf.old) (S.files shelf.new)
-        (S.faults shelf.old) (S.faults shelf.new) }
+        (TellsNothing (S.files shelf.old)) asked.now.output.now result
+        (S.files shelf.old) (S.files shelf.new) (S.faults shelf.old) (S.faults shelf.new) }
 {
     let (candidates, folders) = parted(alloc, found)?;
     let places = closed(alloc, candidates.as_slice(), asked.roots, asked.bind)?;

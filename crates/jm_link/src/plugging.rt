@@ -4,10 +4,10 @@ ghost use Rattle.jm_plugins.specs.Plugins.{apply};
 ghost use Rattle.jm_link.specs.Stops.{PlugsTo, stop_of_plugins};
 
 use crate::linking::LinkStop;
-use crate::refusal::Refusal;
 use jm_halves::Gate;
 use jm_plugins::{ApplyError, Plugin, apply};
 use jm_pool::Pool;
+use jm_texts::Refusal;
 use std::alloc::Global;
 use std::thread::Threads;
 

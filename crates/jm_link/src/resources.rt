@@ -5,21 +5,23 @@ ghost use Rattle.jm_names.specs.NameFaults.{IsSound};
 ghost use Rattle.jm_outside.specs.Files.{file};
 ghost use Rattle.jm_outside.specs.Outcome.{CountsFaults, Shows};
 ghost use Rattle.jm_pool.specs.Pairs.{bytes_of, names_of};
-ghost use Rattle.jm_link.specs.ByName.{NeverFalls};
+ghost use Rattle.jm_order.specs.ByName.{NeverFalls};
 ghost use Rattle.jm_modpath.specs.Finding.{HasTexts};
 ghost use Rattle.jm_modpath.specs.Modules.{bytes_at};
 ghost use Rattle.jm_link.specs.ResourceFiles.{OnlyFails, file_names, file_of, pair_of};
-ghost use Rattle.jm_link.specs.Resources.{first_bad_name, link_files, module_files};
-ghost use Rattle.jm_link.specs.Resources.{name_refusal, resources_of};
+ghost use Rattle.jm_link.specs.Resources.{link_files, module_files};
+ghost use Rattle.jm_texts.specs.NameRefusals.{first_bad_name};
+ghost use Rattle.jm_link.specs.Resources.{resources_of};
+ghost use Rattle.jm_texts.specs.NameRefusals.{name_refusal};
 
 use crate::linking::LinkStop;
-use crate::refusal::Refusal;
 use jm_bytes::{List, NoMemory, Text};
 use jm_modpath::{VisibleModule, inside, resource_name};
-use jm_names::check_name;
+use jm_order::{HasName, sorted_by_name};
 use jm_outside::Shelf;
 use jm_pool::Pool;
 use std::alloc::Global;
+use std::cmp::Ordering;
 
 /// A file that is linked.
 #[derive(Drop)]
@@ -28,6 +30,20 @@ pub struct ResourceFile {
     pub name: Text,
     /// Its path on the shelf.
     pub path: Text,
+}
+
+impl HasName for ResourceFile {
+    ghost use Rattle.jm_link.specs.ResourceFiles.{pair_of};
+
+    ghost pair = { pair_of };
+
+    fn name(&self) -> &[u8] {
+        self.name.as_slice()
+    }
+
+    fn order(&self, other: &ResourceFile) -> Ordering {
+        self.name.as_slice().cmp(other.name.as_slice())
+    }
 }
 
 /// A file of a module, by its path within the module's folder.
@@ -52,16 +68,6 @@ fn files_of(alloc: Global, module: &VisibleModule) -> Result<List<ResourceFile>,
         files.push(file_of(alloc, module, path.as_slice())?)?;
     }
     Ok(files)
-}
-
-/// The same files in byte order of their names.
-fn sorted_by_name(files: List<ResourceFile>) -> List<ResourceFile>
-    ensures moved { IsPermutation files result }
-    ensures sorted { NeverFalls (map pair_of result) }
-{
-    let mut sorted = files.into_vec();
-    sorted.sort_unstable_by(|a, b| a.name.as_slice().cmp(b.name.as_slice()));
-    List::from_vec(sorted)
 }
 
 /// The files of a module, rising by name.
@@ -111,33 +117,6 @@ pub fn link_files(
         put_module(alloc, &mut files, &found[*place])?;
     }
     Ok(files)
-}
-
-/// The refusal of a file whose name may not stand in an image.
-fn name_refusal(alloc: Global, file: &ResourceFile) -> Result<Option<Refusal>, NoMemory>
-    ensures { IfOk result (λ refusal. refusal ≡ name_refusal (pair_of file.now)) }
-{
-    match check_name(file.name.as_slice()) {
-        Ok(()) => Ok(None),
-        Err(fault) => {
-            let name = Text::copy_of(alloc, file.name.as_slice())?;
-            Ok(Some(Refusal::BadName { name, fault }))
-        }
-    }
-}
-
-/// The refusal of the first name that may not stand in an image.
-pub fn first_bad_name(alloc: Global, files: &[ResourceFile]) -> Result<Option<Refusal>, NoMemory>
-    ensures refusal { IfOk result (λ refusal.
-        refusal ≡ first_bad_name (map pair_of files.now)) }
-    ensures sound { result ≡ Ok None → All (λ f. IsSound f.name) files.now }
-{
-    for file in files {
-        if let Some(refusal) = name_refusal(alloc, file)? {
-            return Ok(Some(refusal));
-        }
-    }
-    Ok(None)
 }
 
 /// The bytes of a file.

@@ -3,11 +3,11 @@ ghost use Rattle.std.specs.Prelude.{◌≡◌};
 ghost use Rattle.jm_link.specs.Linked.{path_refusal_as};
 
 use crate::linking::LinkStop;
-use crate::refusal::Refusal;
 use jm_bytes::NoMemory;
 use jm_modpath::{PathRefusal, PathStop};
 use jm_outside::ShelfError;
 use jm_relink::{GatherError, RelinkError};
+use jm_texts::Refusal;
 
 impl From<NoMemory> for LinkStop {
     ghost use Rattle.jm_link.specs.declared.linking.LinkStop.TheVariants.{Memory};

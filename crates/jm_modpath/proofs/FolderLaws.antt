@@ -7,19 +7,15 @@ use Rattle.std.proofs.lemmas.List.Elements.{All-head, All-tail, filter_map-appen
 use Rattle.std.specs.Cmp.Lexicographic.{slice_cmp, nat_list_cmp_total}
 use Rattle.std.specs.List.{AllByRecursion, AllWithin, filter_map}
 use Rattle.std.specs.List.Sorted.{IsPartitionedBy, IsStrictlySortedBy}
-use Rattle.std.specs.Ordering.{is_lt, nat_cmp, ordering_reverse, ordering_then}
+use Rattle.std.specs.Ordering.{is_lt, nat_cmp, ordering_then}
 use Rattle.std.specs.declared.cmp.Ordering.{Ordering}
 use Rattle.std.specs.declared.cmp.Ordering.TheVariants.{Less, Equal, Greater}
 use Rattle.jm_bytes.proofs.Pairs.{pairs_filter_map}
 use Rattle.jm_outside.specs.Files.{Rising, after_front}
-use Rattle.jm_modpath.specs.ByteOrder.{is_before}
+use Rattle.jm_order.specs.ByteOrder.{is_before}
+use Rattle.jm_order.proofs.ByteOrderLaws.{before_apart, less}
 use Rattle.jm_modpath.specs.Finding.{names_within}
 use Rattle.jm_modpath.proofs.TextCuts.{front_of}
-
-less : (o : Ordering) → is_lt o ≡ true → o ≡ Less
-less Less h = refl
-less Equal h = cc
-less Greater h = cc
 
 -- Rising texts
 
@@ -129,18 +125,12 @@ all_behind P xs i within k d below =
 
 -- Names that differ
 
-pub never_before : (n m : List ℕ) → slice_cmp nat_cmp n m ≡ Less → n ≢ m
-never_before n m before same =
-    let own : slice_cmp nat_cmp n n ≡ Less = ap (slice_cmp nat_cmp n) same ∙ before in
-    let turned = sym own ∙ nat_list_cmp_total.antisymm n n ∙ ap ordering_reverse own in
-    cc
-
 -- texts that rise differ
 pub rising_apart : (ns : List (List ℕ)) → Rising ns → AllPairs (λ n m. n ≢ m) ns
 unfolding IsStrictlySortedBy
 rising_apart [] rising i j d before below = absurd (omega arith)
 rising_apart (n ∷ ns) rising zero zero d before below = absurd (omega arith)
-rising_apart (n ∷ ns) rising zero (suc j) d before below = never_before n (get_or ns j d) (above n ns j d rising.0 (omega arith))
+rising_apart (n ∷ ns) rising zero (suc j) d before below = before_apart n (get_or ns j d) (ap is_lt (above n ns j d rising.0 (omega arith)))
 rising_apart (n ∷ ns) rising (suc i) zero d before below = absurd (omega arith)
 rising_apart (n ∷ ns) rising (suc i) (suc j) d before below = rising_apart ns rising.1 i j d (omega arith) (omega arith)
 

@@ -1,19 +1,21 @@
 -- The class packages of names: the packages of those that are classes in one.
-use Rattle.std.proofs.Common.{◌≡◌, ℕ, zero, suc, ◌+◌, ◌<◌, Bool, true, false, ◌&&◌, ◌||◌, not, cond, List, [], ◌∷◌, ◌++◌, take, drop, length, length-append, get_or, map, filter, Contains, Option, Some, None, option_map, refl, sym, ap, ◌∙◌, subst, arith, codes, nat_eq, nat_lt}
-use Rattle.std.proofs.lemmas.Bool.{ltb-true, lt-ltb, false≢true}
-use Rattle.std.proofs.lemmas.List.{take_at}
+use Rattle.std.proofs.Common.{◌≡◌, ℕ, zero, suc, ◌+◌, ◌-◌, ◌<◌, ◌≤◌, Bool, true, false, ◌&&◌, ◌||◌, not, cond, List, [], ◌∷◌, ◌++◌, take, drop, length, length-append, append_assoc, get_or, map, filter, Contains, Option, Some, None, option_map, refl, sym, ap, ◌∙◌, subst, arith, codes, nat_eq, nat_lt}
+use Rattle.std.proofs.lemmas.Bool.{ltb-true, ltb-false, lt-ltb, false≢true, false_from_ne_true}
+use Rattle.std.proofs.lemmas.List.{take_at, take-append-drop}
 use Rattle.std.proofs.lemmas.Slice.Eq.{bytes_eq-Decides}
-use Rattle.std.specs.List.{after_first, position_or_len, after_last, before_last, cons_option, ends_with, filter_map, list_any, range_with_len}
+use Rattle.std.specs.Cmp.Lexicographic.{pointwise}
+use Rattle.std.specs.List.{after_first, before_first, position_or_len, after_last, before_last, cons_option, ends_with, filter_map, list_any, range_with_len}
 use Rattle.std.specs.Str.{bytes_eq}
 use Rattle.jm_bytes.proofs.Choice.{same_some}
-use Rattle.jm_bytes.proofs.Cuts.{last_parts, last_within}
+use Rattle.jm_bytes.proofs.Cuts.{first_parts, last_parts, last_within}
 use Rattle.jm_bytes.proofs.Members.{any_contains, contains_filter, contains_filter_map, contains_map, contains_range, from_any, from_filter, from_filter_map, from_map, from_range}
 use Rattle.jm_bytes.proofs.SameOrder.{contains_flat_map, from_flat_map}
 use Rattle.jm_form.specs.Rising.{rising}
 use Rattle.jm_form.specs.Trees.{ModuleFolder, class_packages, folders, folders_of, fronts, is_meta, module_of, package_folders, package_of, path_of, stands_in}
 use Rattle.jm_names.specs.Names.{dotted, is_empty, is_slash}
-use Rattle.jm_modpath.specs.Finding.{class_folder, class_package}
+use Rattle.jm_modpath.specs.Finding.{class_folder, named_package}
 use Rattle.jm_modpath.proofs.RisingLaws.{rising_same}
+use Rattle.jm_modpath.proofs.TextCuts.{any_behind, drop_front}
 
 both : (a b : Bool) → (a && b) ≡ true → (a ≡ true) × (b ≡ true)
 both true b h = (refl, h)
@@ -30,7 +32,7 @@ four_all true true false d x y h = cc
 four_all true false c d x y h = cc
 four_all false b c d x y h = cc
 
-mapped_some : {A B : Type 0} (f : A → B) (o : Option A) (y : B) → option_map f o ≡ Some y → (x : A) × (o ≡ Some x) × (f x ≡ y)
+pub mapped_some : {A B : Type 0} (f : A → B) (o : Option A) (y : B) → option_map f o ≡ Some y → (x : A) × (o ≡ Some x) × (f x ≡ y)
 mapped_some f None y h = cc
 mapped_some f (Some x) y h = (x, refl, same_some (f x) y h)
 
@@ -83,12 +85,82 @@ last_front path some full =
 abbrev is_class : List ℕ → Bool
 is_class name = ends_with nat_eq name (codes ".class")
 
+-- behind the first of none that pass stands nothing
+pub after_none : (p : ℕ → Bool) (xs : List ℕ) → list_any p xs ≡ false → after_first p xs ≡ []
+after_none p [] none = refl
+after_none p (x ∷ xs) none = go (p x) none (after_none p xs)
+  where
+    go : (b : Bool) → (b || list_any p xs) ≡ false → (list_any p xs ≡ false → after_first p xs ≡ []) → drop (cond (not b) (1 + position_or_len p xs) 0 + 1) (x ∷ xs) ≡ []
+    go true none rest = absurd (false≢true (sym none))
+    go false none rest =
+        let next : 1 + position_or_len p xs + 1 ≡ suc (position_or_len p xs + 1) = omega arith in
+        ap (λ n. drop n (x ∷ xs)) next ∙ rest none
+
+drop_short : (front back : List ℕ) (k : ℕ) → k ≤ length front → drop k (front ++ back) ≡ drop k front ++ back
+drop_short front back zero within = refl
+drop_short [] back (suc k) within = absurd (omega (arith, within))
+drop_short (b ∷ front) back (suc k) within = drop_short front back k (omega (arith, within))
+
+abbrev class_end : List ℕ
+class_end = codes ".class"
+
+slash_ends : (bs : List ℕ) → class_end ≡ bs → list_any is_slash bs ≡ true → ⊥
+slash_ends bs is some = let here : list_any is_slash class_end ≡ true = subst (λ cs. list_any is_slash cs ≡ true) (sym is) some in false≢true here
+
+-- a path in which a slash stands ends as all of its name does
+ends_same : (front path : List ℕ) → list_any is_slash path ≡ true → ends_with nat_eq (front ++ path) class_end ≡ ends_with nat_eq path class_end
+ends_same front path some = go (nat_lt (length path) 6) refl
+  where
+    long : length (front ++ path) ≡ length front + length path
+    long = length-append front path
+
+    never : (k : ℕ) → k ≤ length front → pointwise nat_eq class_end (drop k (front ++ path)) ≡ false
+    never k within =
+        false_from_ne_true _
+        (λ same.
+        let is = (bytes_eq-Decides class_end (drop k (front ++ path))).0 same in
+        slash_ends (drop k front ++ path) (is ∙ drop_short front path k within) (any_behind is_slash (drop k front) path some))
+
+    short : length path < 6 → pointwise nat_eq class_end path ≡ false
+    short few =
+        false_from_ne_true _
+        (λ same.
+        let is = (bytes_eq-Decides class_end path).0 same in
+        let size : 6 ≡ length path = ap length is in
+        absurd (omega (arith, size, few)))
+
+    go : (b : Bool) → nat_lt (length path) 6 ≡ b → ends_with nat_eq (front ++ path) class_end ≡ ends_with nat_eq path class_end
+    go true is =
+        let few = ltb-true (length path) 6 is in
+        let none : length path - 6 ≡ 0 = omega (arith, few) in
+        never (length (front ++ path) - 6) (omega (arith, few, long)) ∙ sym (short few) ∙ ap (λ n. pointwise nat_eq class_end (drop n path)) (sym none)
+    go false is =
+        let many = ltb-false (length path) 6 is in
+        let place : length (front ++ path) - 6 ≡ length front + (length path - 6) = omega (arith, many, long) in
+        ap (λ n. pointwise nat_eq class_end (drop n (front ++ path))) place ∙ ap (pointwise nat_eq class_end) (drop_front front path (length path - 6))
+
+-- a name whose path has a slash is that of a class exactly where the path is
+class_path : (name : List ℕ) → list_any is_slash (path_of name) ≡ true → is_class name ≡ is_class (path_of name)
+class_path name some = go (list_any is_slash (drop 1 name)) refl
+  where
+    go : (b : Bool) → list_any is_slash (drop 1 name) ≡ b → is_class name ≡ is_class (path_of name)
+    go true has =
+        let cut = first_parts is_slash (drop 1 name) 0 has in
+        let front = take 1 name ++ (before_first is_slash (drop 1 name) ++ cut.0 ∷ []) in
+        let whole : name ≡ front ++ path_of name =
+        sym (take-append-drop 1 name) ∙ ap (λ rest. take 1 name ++ rest) (sym cut.2)
+        ∙ ap (λ rest. take 1 name ++ rest) (sym (append_assoc (before_first is_slash (drop 1 name)) (cut.0 ∷ []) (path_of name)))
+        ∙ sym (append_assoc (take 1 name) (before_first is_slash (drop 1 name) ++ cut.0 ∷ []) (path_of name))
+        in
+        ap is_class whole ∙ ends_same front (path_of name) some
+    go false none = absurd (false≢true (sym (ap (list_any is_slash) (after_none is_slash (drop 1 name) none)) ∙ some))
+
 -- one of the names is a class that stands in the folder itself
 abbrev has_class : List (List ℕ) → ModuleFolder → Bool
 has_class names folder = list_any (λ name. stands_in name folder && is_class name) names
 
-named_package : (names : List (List ℕ)) (g : List ℕ) → Contains (map package_of (filter (has_class names) (package_folders names))) g → Contains (filter_map class_package names) g
-named_package names g there =
+package_there : (names : List (List ℕ)) (g : List ℕ) → Contains (map package_of (filter (has_class names) (package_folders names))) g → Contains (filter_map named_package names) g
+package_there names g there =
     let from = from_map package_of (filter (has_class names) (package_folders names)) g there in
     let folder = from.0 in
     let passed = from_filter (has_class names) (package_folders names) folder from.1 in
@@ -102,43 +174,32 @@ named_package names g there =
     let stands = both (bytes_eq folder.module (module_of name) && list_any is_slash (path_of name)) (bytes_eq folder.path (before_last is_slash (path_of name))) tests.0 in
     let has = both (bytes_eq folder.module (module_of name)) (list_any is_slash (path_of name)) stands.0 in
     let same : folder.path ≡ before_last is_slash (path_of name) = (bytes_eq-Decides folder.path (before_last is_slash (path_of name))).0 stands.1 in
-    let is : class_folder name ≡ Some (before_last is_slash (path_of name)) =
-    all_four (is_class name) (list_any is_slash (path_of name)) (not (is_empty (before_last is_slash (path_of name)))) (not (is_meta (before_last is_slash (path_of name)))) (before_last is_slash (path_of name)) tests.1 has.1
+    let is : class_folder (path_of name) ≡ Some (before_last is_slash (path_of name)) =
+    all_four (is_class (path_of name)) (list_any is_slash (path_of name)) (not (is_empty (before_last is_slash (path_of name)))) (not (is_meta (before_last is_slash (path_of name)))) (before_last is_slash (path_of name)) (sym (class_path name has.1) ∙ tests.1) has.1
     (subst (λ f. not (is_empty f) ≡ true) same full) (subst (λ f. not (is_meta f) ≡ true) same kept.1)
     in
-    contains_filter_map class_package names name g found.1 (ap (option_map dotted) is ∙ ap (λ f. Some (dotted f)) (sym same) ∙ ap Some from.2)
+    contains_filter_map named_package names name g found.1 (ap (option_map dotted) is ∙ ap (λ f. Some (dotted f)) (sym same) ∙ ap Some from.2)
 
-package_named : (names : List (List ℕ)) (g : List ℕ) → Contains (filter_map class_package names) g → Contains (map package_of (filter (has_class names) (package_folders names))) g
+package_named : (names : List (List ℕ)) (g : List ℕ) → Contains (filter_map named_package names) g → Contains (map package_of (filter (has_class names) (package_folders names))) g
 package_named names g there =
-    let from = from_filter_map class_package names g there in
+    let from = from_filter_map named_package names g there in
     let name = from.0 in
     let last = before_last is_slash (path_of name) in
-    let some = mapped_some dotted (class_folder name) g from.2 in
-    let tests = four_all (is_class name) (list_any is_slash (path_of name)) (not (is_empty last)) (not (is_meta last)) last some.0 some.1 in
+    let some = mapped_some dotted (class_folder (path_of name)) g from.2 in
+    let tests = four_all (is_class (path_of name)) (list_any is_slash (path_of name)) (not (is_empty last)) (not (is_meta last)) last some.0 some.1 in
     let folder : ModuleFolder = record { «module» = module_of name; path = last } in
     let among : Contains (folders_of name) folder = contains_map (λ front. record { «module» = module_of name; path = front }) (fronts (path_of name)) last (last_front (path_of name) tests.1 tests.2) in
     let kept = contains_filter (λ f. not (is_meta f.path)) (folders names) folder (contains_flat_map folders_of names name folder from.1 among) tests.3 in
     let stands : stands_in name folder ≡ true = rw ((bytes_eq-Decides (module_of name) (module_of name)).1 refl, tests.1, (bytes_eq-Decides last last).1 refl) refl in
-    let has : has_class names folder ≡ true = any_contains (λ n. stands_in n folder && is_class n) names name from.1 (rw (stands, tests.0) refl) in
+    let has : has_class names folder ≡ true = any_contains (λ n. stands_in n folder && is_class n) names name from.1 (rw (stands, class_path name tests.1 ∙ tests.0) refl) in
     subst (Contains (map package_of (filter (has_class names) (package_folders names)))) (ap dotted tests.4 ∙ some.2)
     (contains_map package_of (filter (has_class names) (package_folders names)) folder (contains_filter (has_class names) (package_folders names) folder kept has))
 
-pub class_packages_are : (names : List (List ℕ)) → rising (filter_map class_package names) ≡ class_packages names
+pub class_packages_are : (names : List (List ℕ)) → rising (filter_map named_package names) ≡ class_packages names
 class_packages_are names =
-    rising_same (filter_map class_package names) (map package_of (filter (has_class names) (package_folders names))) (package_named names) (named_package names)
+    rising_same (filter_map named_package names) (map package_of (filter (has_class names) (package_folders names))) (package_named names) (package_there names)
 
 -- what a function gives of mapped items
 pub filtered_map : {X Y Z : Type 0} (g : Y → Option Z) (f : X → Y) (xs : List X) → filter_map (λ x. g (f x)) xs ≡ filter_map g (map f xs)
 filtered_map g f [] = refl
 filtered_map g f (x ∷ xs) = ap (cons_option (g (f x))) (filtered_map g f xs)
-
--- behind the first of none that pass stands nothing
-pub after_none : (p : ℕ → Bool) (xs : List ℕ) → list_any p xs ≡ false → after_first p xs ≡ []
-after_none p [] none = refl
-after_none p (x ∷ xs) none = go (p x) none (after_none p xs)
-  where
-    go : (b : Bool) → (b || list_any p xs) ≡ false → (list_any p xs ≡ false → after_first p xs ≡ []) → drop (cond (not b) (1 + position_or_len p xs) 0 + 1) (x ∷ xs) ≡ []
-    go true none rest = absurd (false≢true (sym none))
-    go false none rest =
-        let next : 1 + position_or_len p xs + 1 ≡ suc (position_or_len p xs + 1) = omega arith in
-        ap (λ n. drop n (x ∷ xs)) next ∙ rest none

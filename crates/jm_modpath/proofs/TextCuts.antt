@@ -1,5 +1,5 @@
 -- What is cut out of a text at a slash is text, and what is put together with a slash.
-use Rattle.std.proofs.Common.{◌≡◌, ℕ, ◌+◌, ◌<◌, ◌==◌, Bool, true, false, List, [], ◌∷◌, ◌++◌, take, drop, length, length-append, get_or, cond, All, IsUtf8, Option, Some, None, Result, Ok, Err, IfOk, refl, sym, subst, arith, rules, lit<}
+use Rattle.std.proofs.Common.{◌≡◌, ℕ, suc, ◌+◌, ◌<◌, ◌==◌, ◌||◌, ap, ◌∙◌, Bool, true, false, List, [], ◌∷◌, ◌++◌, take, drop, length, length-append, get_or, cond, All, IsUtf8, Option, Some, None, Result, Ok, Err, IfOk, refl, sym, subst, arith, rules, lit<}
 use Rattle.std.specs.List.{list_any, before_first, filter_map, position_or_len}
 use Rattle.std.specs.Str.{IsCharBoundary}
 use Rattle.std.proofs.lemmas.Bool.{eqb-true}
@@ -80,3 +80,19 @@ folders_are_text names all = rising_all IsUtf8 (filter_map folder_with_info name
 pub grown : {X Y : Type 0} (f : X → Option Y) (xs : List X) (i : ℕ) (x : X) (old new : List Y) → i < length xs → x ≡ get_or xs i x → new ≡ old ++ filter_map f (x ∷ []) → old ≡ filter_map f (take i xs) → new ≡ filter_map f (take (i + 1) xs)
 grown f xs i x old new below is put so_far =
     rw (put, so_far, take_more xs i x below, ← is) (sym (filter_map-append f (take i xs) (x ∷ [])))
+
+-- Behind a front
+
+pub any_behind : (p : ℕ → Bool) (front back : List ℕ) → list_any p back ≡ true → list_any p (front ++ back) ≡ true
+any_behind p [] back some = some
+any_behind p (b ∷ front) back some = go (p b) (any_behind p front back some)
+  where
+    go : (c : Bool) → list_any p (front ++ back) ≡ true → (c || list_any p (front ++ back)) ≡ true
+    go true rest = refl
+    go false rest = rest
+
+pub drop_front : (front back : List ℕ) (k : ℕ) → drop (length front + k) (front ++ back) ≡ drop k back
+drop_front [] back k = let none : 0 + k ≡ k = omega arith in ap (λ n. drop n back) none
+drop_front (b ∷ front) back k =
+    let next : length (b ∷ front) + k ≡ suc (length front + k) = omega arith in
+    ap (λ n. drop n (b ∷ (front ++ back))) next ∙ drop_front front back k

@@ -14,8 +14,8 @@ use Rattle.jm_names.specs.Names.{dotted, is_empty, is_slash}
 use Rattle.jm_outside.specs.declared.shelf.ShelfError.{ShelfError}
 use Rattle.jm_outside.specs.declared.shelf.ShelfError.TheVariants as outside
 use Rattle.jm_outside.specs.Files.{Files, after_front, names_below}
-use Rattle.jm_modpath.specs.declared.directory.InfoStop.{InfoStop}
-use Rattle.jm_modpath.specs.declared.directory.InfoStop.TheVariants as info_stop
+use Rattle.jm_modpath.specs.declared.info.InfoStop.{InfoStop}
+use Rattle.jm_modpath.specs.declared.info.InfoStop.TheVariants as info_stop
 use Rattle.jm_modpath.specs.declared.refusal.PathStop.{PathStop}
 use Rattle.jm_modpath.specs.declared.refusal.PathStop.TheVariants as stop
 use Rattle.jm_modpath.specs.declared.refusal.PathRefusal.{PathRefusal}
@@ -56,18 +56,21 @@ folders_among names = rising (filter_map folder_with_info names)
 abbrev pub names_within : List ℕ → List (List ℕ) → List (List ℕ)
 names_within folder names = filter_map (after_front (folder ++ 47 ∷ [])) names
 
--- the folder of a resource that is a class in a package
+-- the folder of a path within a module that is that of a class in a package
 abbrev pub class_folder : List ℕ → Option (List ℕ)
-class_folder name =
-    if ends_with nat_eq name (codes ".class") && list_any is_slash (path_of name)
-    && not (is_empty (before_last is_slash (path_of name)))
-    && not (is_meta (before_last is_slash (path_of name)))
-    then Some (before_last is_slash (path_of name))
+class_folder path =
+    if ends_with nat_eq path (codes ".class") && list_any is_slash path
+    && not (is_empty (before_last is_slash path)) && not (is_meta (before_last is_slash path))
+    then Some (before_last is_slash path)
     else None
 
--- the package of a resource that is a class in one
+-- the package of a path that is that of a class in one
 abbrev pub class_package : List ℕ → Option (List ℕ)
-class_package name = option_map dotted (class_folder name)
+class_package path = option_map dotted (class_folder path)
+
+-- the same by the name of the resource
+abbrev pub named_package : List ℕ → Option (List ℕ)
+named_package name = class_package (path_of name)
 
 -- Folders
 

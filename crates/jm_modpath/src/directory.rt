@@ -18,6 +18,7 @@ ghost use Rattle.jm_modpath.specs.Modules.{is_named, module_with, name_of};
 
 use crate::folders::{folders_among, names_within};
 use crate::found::Found;
+use crate::info::{InfoStop, info_in};
 use crate::names::inside;
 use crate::packages::class_packages;
 use crate::refusal::{PathRefusal, PathStop};
@@ -28,37 +29,6 @@ use jm_closure::Candidate;
 use jm_modinfo::{Descriptor, DescriptorFault, InfoError, describe};
 use jm_outside::Shelf;
 use std::alloc::Global;
-
-/// Why bytes are no descriptor of a module.
-enum InfoStop {
-    Fault(DescriptorFault),
-    Memory,
-}
-
-/// The descriptor of a class.
-fn described(alloc: Global, class: &Class) -> Result<Descriptor, InfoStop>
-    requires { IsClass (plain class.now) }
-    ensures due { Described (info_with (Ok (plain class.now))) result }
-    ensures legal { IfOk result (λ d. is_legal d.name ≡ true) }
-{
-    match describe(alloc, class) {
-        Ok(descriptor) => Ok(descriptor),
-        Err(InfoError::Fault(fault)) => Err(InfoStop::Fault(DescriptorFault::Info(fault))),
-        Err(InfoError::Memory) => Err(InfoStop::Memory),
-    }
-}
-
-/// The descriptor of bytes that are the class of a module.
-fn info_in(alloc: Global, bytes: &[u8]) -> Result<Descriptor, InfoStop>
-    ensures due { Described (info_in bytes.now) result }
-    ensures legal { IfOk result (λ d. is_legal d.name ≡ true) }
-{
-    match read(alloc, bytes) {
-        Ok(class) => described(alloc, &class),
-        Err(ReadError::Fault(fault)) => Err(InfoStop::Fault(DescriptorFault::Class(fault))),
-        Err(ReadError::Memory) => Err(InfoStop::Memory),
-    }
-}
 
 /// The descriptor of the bytes of the file at a path.
 fn info_at(alloc: Global, path: Text, bytes: &[u8]) -> Result<Descriptor, PathStop>

@@ -5,6 +5,7 @@
 mod directory;
 mod folders;
 mod found;
+mod info;
 mod names;
 mod packages;
 mod path;
@@ -13,7 +14,9 @@ mod rising;
 mod stops;
 mod visible;
 
+pub use info::{InfoStop, info_in};
 pub use names::{inside, resource_name};
+pub use packages::class_folder;
 pub use path::visible_modules;
 pub use refusal::{PathRefusal, PathStop};
 pub use visible::VisibleModule;

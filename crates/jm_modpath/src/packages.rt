@@ -2,7 +2,7 @@
 ghost use Rattle.std.specs.Prelude.{◌≡◌, ◌∷◌, ◌++◌, [], IfOk, OnOk, map, option_map, codes, drop};
 ghost use Rattle.std.specs.List.{filter_map};
 ghost use Rattle.jm_form.specs.Trees.{class_packages, path_of};
-ghost use Rattle.jm_modpath.specs.Finding.{class_folder, class_package};
+ghost use Rattle.jm_modpath.specs.Finding.{class_folder, named_package};
 ghost use Rattle.jm_modpath.specs.Modules.{resource_name};
 ghost use Rattle.jm_modpath.specs.TextView.{items_of};
 
@@ -25,14 +25,14 @@ fn path_of(name: &[u8]) -> &[u8]
     }
 }
 
-/// The folder of a resource that is a class in a package.
-fn class_folder(name: &[u8]) -> Option<&[u8]>
-    ensures { option_map (λ folder. folder.now) result ≡ class_folder name.now }
+/// The folder of a path within a module that is that of a class in a package.
+pub fn class_folder(path: &[u8]) -> Option<&[u8]>
+    ensures { option_map (λ folder. folder.now) result ≡ class_folder path.now }
 {
-    if !name.ends_with(b".class") {
+    if !path.ends_with(b".class") {
         return None;
     }
-    let (folder, _) = cut_at_last(b'/', path_of(name))?;
+    let (folder, _) = cut_at_last(b'/', path)?;
     if folder.is_empty() || folder.starts_with(b"META-INF") {
         None
     } else {
@@ -43,9 +43,9 @@ fn class_folder(name: &[u8]) -> Option<&[u8]>
 /// Puts the package of a resource at the end of a list, if it is a class in a package.
 fn put_package(alloc: Global, packages: &mut Vec<Vec<u8>>, name: &[u8]) -> Result<(), NoMemory>
     ensures { OnOk result (items_of packages.new.items
-        ≡ items_of packages.old.items ++ filter_map class_package (name.now ∷ [])) }
+        ≡ items_of packages.old.items ++ filter_map named_package (name.now ∷ [])) }
 {
-    if let Some(folder) = class_folder(name) {
+    if let Some(folder) = class_folder(path_of(name)) {
         if packages.push(dotted(alloc, folder)?.into_vec()).is_err() {
             return Err(NoMemory);
         }
@@ -56,7 +56,7 @@ fn put_package(alloc: Global, packages: &mut Vec<Vec<u8>>, name: &[u8]) -> Resul
 /// The packages of all files of a module that are classes.
 fn all_packages(alloc: Global, module: &[u8], paths: &[Text]) -> Result<Vec<Vec<u8>>, NoMemory>
     ensures { IfOk result (λ packages. items_of packages.items
-        ≡ filter_map class_package (map (resource_name «module».now) paths.now)) }
+        ≡ filter_map named_package (map (resource_name «module».now) paths.now)) }
 {
     let mut packages = Vec::new(alloc);
     for path in paths {

@@ -1,44 +1,33 @@
 -- The resources of an image as files of modules, one entry after another and in the order of a sort.
-use Rattle.std.proofs.Common.{◌≡◌, ◌≢◌, ℕ, zero, suc, Bool, true, false, ◌&&◌, ◌||◌, not, cond, List, [], ◌∷◌, ◌++◌, map, Option, Some, None, option_map, option_to_list, AllPairs, Contains, Result, Ok, Err, IsPermutation, get_or, refl, sym, ap, subst, ◌∙◌, append_assoc, arith, Bor}
-use Rattle.std.proofs.lemmas.Bool.{false≢true, and_parts}
+use Rattle.std.proofs.Common.{◌≡◌, ℕ, Bool, true, false, not, cond, List, [], ◌∷◌, ◌++◌, map, option_to_list, IsPermutation, refl, sym, ap, subst, ◌∙◌, append_assoc, arith, Bor}
 use Rattle.std.proofs.lemmas.Cmp.{on_total, then_total}
 use Rattle.std.proofs.lemmas.Fn.{always_returns_same}
-use Rattle.std.proofs.lemmas.List.Elements.{Contains-get_or}
-use Rattle.std.proofs.lemmas.List.Kept.{AllPairs-filter}
-use Rattle.std.proofs.lemmas.List.Sorted.{Contains-permutation, IsPermutation-map, IsPermutation-sym, ranks_by, sorted_far}
-use Rattle.std.proofs.lemmas.Map.Keys.{IsDistinct-IsPermutation, IsDistinct-from_apart, apart_from_distinct}
-use Rattle.std.proofs.lemmas.Slice.Eq.{bytes_eq-Decides}
+use Rattle.std.proofs.lemmas.List.Sorted.{IsPermutation-map, ranks_by, sorted_far}
 use Rattle.std.specs.Cmp.{IsStrictWeakOrder, IsTotalOrder}
-use Rattle.std.specs.Cmp.Lexicographic.{slice_cmp, nat_list_cmp_total}
+use Rattle.std.specs.Cmp.Lexicographic.{nat_list_cmp_total}
 use Rattle.std.specs.Fn.{Called, ComparesAs}
-use Rattle.std.specs.List.{after_first, before_first, cons_option, filter, filter_map, list_any}
+use Rattle.std.specs.List.{filter, filter_map}
 use Rattle.std.specs.List.Sorted.{IsSortedBy}
-use Rattle.std.specs.Ordering.{is_lt, nat_cmp}
-use Rattle.std.specs.Str.{bytes_eq}
+use Rattle.std.specs.Ordering.{is_lt}
 use Rattle.std.specs.declared.cmp.Ordering.{Ordering}
 use denote.Param.Members.{Mut}
 use Rattle.jm_bytes.specs.Metered.{Metered}
-use Rattle.jm_bytes.proofs.Pairs.{pairs_filter_map, pairs_map, pairs_none}
-use Rattle.jm_form.specs.Entries.{Entry, entries}
-use Rattle.jm_form.specs.Head.{header_of}
+use Rattle.jm_bytes.proofs.Pairs.{pairs_map}
+use Rattle.jm_form.specs.Entries.{Entry}
 use Rattle.jm_form.specs.Validity.{resources}
-use Rattle.jm_form.specs.declared.container.Header.{Header}
-use Rattle.jm_form.specs.declared.container.HeaderFault.{HeaderFault}
-use Rattle.jm_form.proofs.EntryLaws.{names_differ, slots_rise}
-use Rattle.jm_names.specs.Names.{is_node, is_slash}
-use Rattle.jm_reader.specs.Walk.{IsFirst, IsLater, entries_of, entries_with}
+use Rattle.jm_names.specs.Names.{is_node}
+use Rattle.jm_reader.specs.Walk.{IsFirst, IsLater}
 use Rattle.jm_reader.specs.declared.entries.Entry as handed
 use Rattle.jm_relink.specs.declared.located.Located.{Located}
-use Rattle.jm_relink.specs.Files.{Filed, Named, NeverFalls, file_name, filed_cmp, located, located_alone, located_as, module_and_path, resources_of}
+use Rattle.jm_relink.specs.Files.{Filed, NeverFalls, filed_cmp, located, located_alone, located_as, resources_of}
+use Rattle.jm_order.specs.ByName.{Named}
+use Rattle.jm_order.proofs.NameOrder.{same_pair}
+use Rattle.jm_relink.proofs.ListLaws.{put_alone}
 
 -- One entry after another
 
 pair_of : Entry → Named
 pair_of e = (e.name, e.content)
-
-put_alone : (o : Option Filed) (fs : List Filed) → cons_option o fs ≡ option_to_list o ++ fs
-put_alone None fs = refl
-put_alone (Some f) fs = refl
 
 located_more : (e : Entry) (rest : List Entry) → filter_map located (resources (e ∷ rest)) ≡ located_alone (e.name, e.content) ++ filter_map located (resources rest)
 located_more e rest = go (is_node e.name)
@@ -46,9 +35,6 @@ located_more e rest = go (is_node e.name)
     go : (b : Bool) → filter_map located (map (λ (f : Entry). (f.name, f.content)) (cond (not b) (e ∷ filter (λ f. not (is_node f.name)) rest) (filter (λ f. not (is_node f.name)) rest))) ≡ cond b [] (option_to_list (located (e.name, e.content))) ++ filter_map located (resources rest)
     go true = refl
     go false = put_alone (located (e.name, e.content)) (filter_map located (resources rest))
-
-same_pair : (n m c d : List ℕ) → n ≡ m → c ≡ d → ◌≡◌ {A = Named} (n, c) (m, d)
-same_pair n m c d names contents = rw (names, contents) refl
 
 -- the entry that a step handed out is put behind those before it, if it is a file of a module
 pub located_step : (whole old new : List Filed) (left rest : List Entry) (given : handed.Entry) → whole ≡ old ++ filter_map located (resources left) → IsFirst left given rest → new ≡ old ++ located_alone (given.name, given.bytes.now) → whole ≡ new ++ filter_map located (resources rest)

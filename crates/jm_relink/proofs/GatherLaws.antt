@@ -1,38 +1,34 @@
 -- The resources of chosen modules, one file after another and one module after another.
-use Rattle.std.proofs.Common.{◌≡◌, ◌≢◌, ℕ, zero, suc, ◌+◌, ◌<◌, inl, inr, Bool, true, false, List, [], ◌∷◌, ◌++◌, take, drop, length, map, get_or, All, AllPairs, Contains, Option, Some, None, option_map, slice_get, Result, Ok, Err, refl, sym, ap, subst, ◌∙◌, append_assoc, arith}
-use Rattle.std.proofs.lemmas.Bool.{cases_order, false_from_ne_true}
+use Rattle.std.proofs.Common.{◌≡◌, ◌≢◌, ℕ, zero, suc, ◌+◌, ◌<◌, false, List, [], ◌∷◌, ◌++◌, take, drop, length, map, get_or, All, AllPairs, Contains, Option, Some, None, option_map, slice_get, Err, refl, sym, ap, subst, ◌∙◌, append_assoc, arith}
 use Rattle.std.proofs.lemmas.Grind.{flat_map-append}
-use Rattle.std.proofs.lemmas.List.{drop_more, length-map, map-append, take-append-drop, take_more}
+use Rattle.std.proofs.lemmas.List.{drop_more, map-append, take-append-drop, take_more}
 use Rattle.std.proofs.lemmas.List.Elements.{All-contains, All-head, All-tail, filter_map-append}
-use Rattle.std.proofs.lemmas.Option.{slice_get-map}
-use Rattle.std.proofs.lemmas.Slice.Eq.{bytes_eq-Decides}
+use Rattle.std.proofs.lemmas.Option.{slice_get-get_or, slice_get-map}
 use Rattle.std.specs.List.{cons_option, filter_map, flat_map, list_any, zip}
-use Rattle.std.specs.Str.{bytes_eq}
 use Rattle.jm_bytes.specs.Checks.{first_fault}
 use Rattle.jm_bytes.proofs.CheckLaws.{first_fault_append_none, first_fault_append_some}
 use Rattle.jm_bytes.proofs.Choice.{same_some}
-use Rattle.jm_bytes.proofs.Members.{all_from_contains, contains_map, from_filter_map, from_map}
+use Rattle.jm_bytes.proofs.Members.{all_from_contains, from_filter_map, from_map}
 use Rattle.jm_bytes.proofs.Pairs.{pairs_append, pairs_filter_map, pairs_head, pairs_map, pairs_none, pairs_tail, pairs_weaker}
 use Rattle.jm_bytes.proofs.SameOrder.{from_flat_map}
 use Rattle.jm_closure.specs.declared.candidate.Candidate.{Candidate}
-use Rattle.jm_closure.specs.Names.{NamesDiffer}
 use Rattle.jm_names.specs.Names.{is_slash}
 use Rattle.jm_pool.specs.Pairs.{bytes_of, names_of}
 use Rattle.jm_relink.specs.declared.error.GatherError.{GatherError}
 use Rattle.jm_relink.specs.declared.error.GatherError.TheVariants as error
 use Rattle.jm_relink.specs.declared.modules.ImageFile.{ImageFile}
 use Rattle.jm_relink.specs.declared.modules.ImageModules.{ImageModules}
-use Rattle.jm_relink.specs.Files.{Named, file_as, file_name, files_as}
+use Rattle.jm_relink.specs.Files.{file_as, file_name, files_as}
+use Rattle.jm_order.specs.ByName.{Named}
 use Rattle.jm_relink.specs.Gathering.{AreModules, ArePlaces, Gathers, GathersAll, first_bad_name, gathered, name_refusal, named_files, resource_of, resources_with}
-use Rattle.jm_relink.proofs.ListLaws.{append_none, mapped_some, pairs_front, pairs_left}
+use Rattle.jm_modpath.proofs.PackageLaws.{mapped_some}
+use Rattle.jm_order.proofs.ByteOrderLaws.{unequal}
+use Rattle.jm_relink.proofs.ListLaws.{append_none, pairs_front, pairs_left}
 use Rattle.jm_relink.proofs.NameLaws.{names_tell}
 
 -- Names that are new
 
-unequal : (name other : List ℕ) → other ≢ name → bytes_eq name other ≡ false
-unequal name other apart = false_from_ne_true (bytes_eq name other) (λ is. apart (sym ((bytes_eq-Decides name other).0 is)))
-
-bytes_of_none : (name : List ℕ) (pairs : List Named) → All (λ other. other ≢ name) (names_of pairs) → bytes_of name pairs ≡ None
+pub bytes_of_none : (name : List ℕ) (pairs : List Named) → All (λ other. other ≢ name) (names_of pairs) → bytes_of name pairs ≡ None
 bytes_of_none name [] all = refl
 bytes_of_none name (p ∷ pairs) all =
     rw (unequal name p.0 (All-head (λ other. other ≢ name) p.0 (names_of pairs) all)) (bytes_of_none name pairs (All-tail (λ other. other ≢ name) p.0 (names_of pairs) all))
@@ -106,11 +102,6 @@ all_got P [] i x all is = cc
 all_got P (y ∷ xs) zero x all is = subst P (same_some y x is) (All-head P y xs all)
 all_got P (y ∷ xs) (suc i) x all is = all_got P xs i x (All-tail P y xs all) is
 
-got_some : {X : Type 0} (xs : List X) (i : ℕ) (d : X) → i < length xs → slice_get xs i ≡ Some (get_or xs i d)
-got_some [] i d below = absurd (omega arith)
-got_some (x ∷ xs) zero d below = refl
-got_some (x ∷ xs) (suc i) d below = got_some xs i d (omega arith)
-
 zipped : {X Y : Type 0} (xs : List X) (ys : List Y) (i : ℕ) (x : X) (y : Y) → slice_get xs i ≡ Some x → slice_get ys i ≡ Some y → slice_get (zip xs ys) i ≡ Some (x, y)
 zipped [] ys i x y one other = cc
 zipped (a ∷ xs) [] i x y one other = cc
@@ -147,8 +138,8 @@ module_at modules p c fs one other =
 pub module_there : (modules : ImageModules) (p : ℕ) (c : Candidate) (fs : List ImageFile) → AreModules modules → p < length modules.candidates → c ≡ get_or modules.candidates p c → fs ≡ get_or modules.files p fs → gathered modules (p ∷ []) ≡ all_with c.descriptor.name fs
 module_there modules p c fs are within one other =
     module_at modules p c fs
-    (got_some modules.candidates p c within ∙ ap (λ k. Some k) (sym one))
-    (got_some modules.files p fs (omega (arith, within, are.long)) ∙ ap (λ gs. Some gs) (sym other))
+    (slice_get-get_or modules.candidates p c within ∙ ap (λ k. Some k) (sym one))
+    (slice_get-get_or modules.files p fs (omega (arith, within, are.long)) ∙ ap (λ gs. Some gs) (sym other))
 
 -- the resources of the next module stand behind those of the earlier ones
 pub record IsNext (modules : ImageModules) (places : List ℕ) (i : ℕ) (rs : List Named) : Type 0 where

@@ -1,5 +1,5 @@
 -- Files module by module: they are the same files, and where those are sorted the modules rise.
-use Rattle.std.proofs.Common.{◌≡◌, ◌≢◌, ℕ, zero, suc, Bool, true, false, cond, List, [], ◌∷◌, ◌++◌, append_assoc, map, All, AllPairs, Contains, refl, sym, ap, subst, ◌∙◌}
+use Rattle.std.proofs.Common.{◌≡◌, ◌≢◌, ℕ, Bool, true, false, cond, List, [], ◌∷◌, ◌++◌, append_assoc, All, AllPairs, Contains, refl, sym, ap, subst, ◌∙◌}
 use Rattle.std.proofs.lemmas.Bool.{false≢true, false_from_ne_true}
 use Rattle.std.proofs.lemmas.List.{map-append}
 use Rattle.std.proofs.lemmas.List.Elements.{All-cons, All-contains, All-head, All-nil, All-tail}
@@ -14,12 +14,13 @@ use Rattle.std.specs.declared.cmp.Ordering.TheVariants.{Less, Equal, Greater}
 use Rattle.jm_bytes.proofs.Members.{all_from_contains, contains_map, from_map}
 use Rattle.jm_bytes.proofs.Pairs.{pairs_head, pairs_none, pairs_tail, pairs_weaker}
 use Rattle.jm_bytes.proofs.SameOrder.{contains_flat_map, from_flat_map}
-use Rattle.jm_modpath.specs.ByteOrder.{is_before}
-use Rattle.jm_relink.specs.Files.{Filed, Named, NeverFalls, RisesByName, file_name, filed_cmp}
+use Rattle.jm_order.specs.ByteOrder.{is_before}
+use Rattle.jm_relink.specs.Files.{Filed, NeverFalls, file_name, filed_cmp}
+use Rattle.jm_order.specs.ByName.{Named, RisesByName}
 use Rattle.jm_relink.specs.Groups.{Group, begun_as, groups, groups_from, ungrouped}
 use Rattle.jm_relink.proofs.ListLaws.{one_of, pairs_each, pairs_unmap}
-use Rattle.jm_relink.proofs.OrderLaws.{Stand, before_apart, before_further, cmp_self, stand}
-use Rattle.jm_relink.proofs.OrderLaws.Stand.{stands_before, is_one, stands_behind}
+use Rattle.jm_order.proofs.ByteOrderLaws.{before_apart, before_further, cmp_self, stand}
+use Rattle.jm_order.proofs.ByteOrderLaws.Stand.{stands_before, is_one, stands_behind}
 
 -- The same files
 

@@ -1,10 +1,11 @@
 -- The content of the file `module-info.class` among files, one file after another.
-use Rattle.std.proofs.Common.{◌≡◌, ℕ, ◌<◌, ◌+◌, Bool, true, false, cond, List, [], ◌∷◌, drop, find, length, get_or, Option, Some, None, option_map, refl, sym, ap, ◌∙◌}
+use Rattle.std.proofs.Common.{◌≡◌, ℕ, ◌<◌, ◌+◌, Bool, true, false, cond, List, ◌∷◌, drop, find, length, get_or, Some, option_map, refl, sym, ap, ◌∙◌}
 use Rattle.std.proofs.lemmas.List.{drop_more}
 use Rattle.std.specs.Str.{bytes_eq}
 use Rattle.jm_modpath.specs.Modules.{info_name}
 use Rattle.jm_relink.specs.declared.modules.ImageFile.{ImageFile}
-use Rattle.jm_relink.specs.Files.{Named, file_as, files_as}
+use Rattle.jm_relink.specs.Files.{file_as, files_as}
+use Rattle.jm_order.specs.ByName.{Named}
 use Rattle.jm_relink.specs.Groups.{info_content}
 
 one_more : (fs : List ImageFile) (i : ℕ) (f : ImageFile) → i < length fs → f ≡ get_or fs i f → info_content (files_as (drop i fs)) ≡ info_content (file_as f ∷ files_as (drop (i + 1) fs))

@@ -11,8 +11,8 @@ use Rattle.jm_modpath.specs.Modules.{info_in}
 use Rattle.jm_relink.specs.declared.error.RelinkError.{RelinkError}
 use Rattle.jm_relink.specs.declared.error.RelinkError.TheVariants as error
 use Rattle.jm_relink.specs.Files.{info_entry}
-use Rattle.jm_relink.specs.Groups.{Group, info_content}
-use Rattle.jm_relink.specs.Judging.{descriptor_due, entry_due, followed, group_due, groups_due, named_due, seen_with}
+use Rattle.jm_relink.specs.Groups.{Group}
+use Rattle.jm_relink.specs.Judging.{descriptor_due, entry_due, followed, group_due, groups_due, seen_with}
 use Rattle.jm_relink.specs.Modules.{SeenModule, info_refusal}
 use Rattle.jm_relink.proofs.ListLaws.{append_none, put_alone}
 

@@ -1,3 +1,4 @@
+pub mod AskedLaws
 pub mod FileLaws
 pub mod GatherLaws
 pub mod GroupLaws
@@ -7,5 +8,5 @@ pub mod ListLaws
 pub mod ModuleLaws
 pub mod NameLaws
 pub mod OnceLaws
-pub mod OrderLaws
 pub mod PackageLaws
+mod Vectors

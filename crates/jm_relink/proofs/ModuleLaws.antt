@@ -1,6 +1,5 @@
 -- The modules of an image, from its files sorted by module and by path.
-use Rattle.std.proofs.Common.{◌≡◌, ◌≢◌, ℕ, ◌⊎◌, inl, inr, Bool, true, false, List, [], ◌∷◌, ◌++◌, find, map, All, AllPairs, Contains, IsPermutation, IsTrue, Option, Some, None, option_map, not, Result, Ok, Err, get_or, refl, sym, ap, subst, ◌∙◌, arith}
-use Rattle.std.proofs.lemmas.Bool.{false≢true}
+use Rattle.std.proofs.Common.{◌≡◌, ◌≢◌, ℕ, inl, inr, true, false, List, [], ◌∷◌, ◌++◌, find, map, AllPairs, Contains, IsPermutation, IsTrue, Option, Some, None, option_map, not, Result, Ok, Err, get_or, refl, sym, ap, subst, ◌∙◌, arith}
 use Rattle.std.proofs.lemmas.List.Elements.{All-contains, Contains-append_cases, Contains-append_right, Contains-get_or}
 use Rattle.std.proofs.lemmas.List.Kept.{AllPairs-filter}
 use Rattle.std.proofs.lemmas.List.Sorted.{Contains-permutation, IsPermutation-sym}
@@ -11,7 +10,6 @@ use Rattle.jm_bytes.proofs.Choice.{same_some}
 use Rattle.jm_bytes.proofs.Finds.{find_found, find_only}
 use Rattle.jm_bytes.proofs.Members.{all_from_contains, contains_cases, contains_filter_map, contains_here, contains_map, from_filter_map}
 use Rattle.jm_bytes.proofs.Pairs.{pairs_among, pairs_filter_map, pairs_head, pairs_map, pairs_none, pairs_weaker}
-use Rattle.jm_closure.specs.declared.candidate.Candidate.{Candidate}
 use Rattle.jm_form.specs.Entries.{Entry, entries}
 use Rattle.jm_form.specs.Head.{header_of}
 use Rattle.jm_form.specs.Validity.{resources}
@@ -19,24 +17,27 @@ use Rattle.jm_form.specs.declared.container.Header.{Header}
 use Rattle.jm_form.specs.declared.container.HeaderFault.{HeaderFault}
 use Rattle.jm_form.proofs.EntryLaws.{names_differ, slots_rise}
 use Rattle.jm_modinfo.specs.declared.descriptor.Descriptor.{Descriptor}
-use Rattle.jm_modpath.specs.ByteOrder.{is_before}
+use Rattle.jm_order.specs.ByteOrder.{is_before}
 use Rattle.jm_modpath.specs.Modules.{info_in, info_name}
 use Rattle.jm_names.specs.Names.{is_node, is_slash}
-use Rattle.jm_reader.specs.Walk.{entries_of, entries_with}
+use Rattle.jm_reader.specs.Walk.{entries_with}
 use Rattle.jm_bytes.proofs.SameOrder.{mapped_twice}
 use Rattle.jm_relink.specs.declared.error.RelinkError.{RelinkError}
 use Rattle.jm_relink.specs.declared.error.RelinkError.TheVariants as error
 use Rattle.jm_relink.specs.declared.judging.SeenModule as handed
 use Rattle.jm_relink.specs.declared.modules.ImageModules.{ImageModules}
-use Rattle.jm_relink.specs.Files.{Filed, Named, NeverFalls, RisesByName, file_name, files_as, info_entry, located, module_and_path, resources_of}
+use Rattle.jm_relink.specs.Files.{Filed, NeverFalls, file_name, files_as, info_entry, located, module_and_path, resources_of}
+use Rattle.jm_order.specs.ByName.{Named}
 use Rattle.jm_relink.specs.Groups.{Group, groups, info_content}
 use Rattle.jm_relink.specs.Judging.{ComesFrom, entry_due, group_due, groups_due, seen_as, seen_with}
 use Rattle.jm_relink.specs.Modules.{AreFilesOf, FindsModules, HasInfo, HoldsModules, IsRefusedIn, IsSeenIn, IsVisibleIn, ModulesOf, SeenModule, info_refusal, name_of}
 use Rattle.jm_relink.proofs.GroupLaws.{files_rise, groups_rise, in_group, of_group, one_group}
 use Rattle.jm_relink.proofs.JudgingLaws.{IsFirstRefused, IsFree, entry_err, entry_ok, groups_err, groups_ok, seen_of, value}
-use Rattle.jm_relink.proofs.ListLaws.{mapped_some, one_of, pairs_right}
+use Rattle.jm_modpath.proofs.PackageLaws.{mapped_some}
+use Rattle.jm_relink.proofs.ListLaws.{one_of, pairs_right}
 use Rattle.jm_relink.proofs.NameLaws.{file_of_parts, parts_of_file}
-use Rattle.jm_relink.proofs.OrderLaws.{before_apart, differ_moved, one_way}
+use Rattle.jm_order.proofs.ByteOrderLaws.{before_apart, one_way}
+use Rattle.jm_order.proofs.KeyLaws.{differ_moved}
 use Rattle.jm_relink.proofs.PackageLaws.{packages_are}
 
 -- The names of the entries of an image differ

@@ -1,11 +1,12 @@
 -- Names of resources: the module and the path of each.
-use Rattle.std.proofs.Common.{inl, inr, ◌≡◌, ◌≢◌, ℕ, zero, suc, ◌+◌, ◌≤◌, Bool, true, false, ◌&&◌, ◌||◌, not, cond, List, [], ◌∷◌, ◌++◌, take, drop, length, Option, Some, None, refl, sym, ap, ◌∙◌, subst, arith}
+use Rattle.std.proofs.Common.{inl, inr, ◌≡◌, ℕ, suc, ◌+◌, Bool, true, false, ◌&&◌, ◌||◌, not, cond, List, [], ◌∷◌, ◌++◌, take, drop, length, Some, None, refl, sym, ap, ◌∙◌, subst, arith}
 use Rattle.std.proofs.lemmas.Bool.{false≢true, eqb-true}
 use Rattle.std.proofs.lemmas.List.{append_cancel_left, take_at}
 use Rattle.std.specs.List.{after_first, before_first, list_any, position_or_len}
 use Rattle.jm_bytes.proofs.Choice.{chosen, same_first, same_second}
 use Rattle.jm_bytes.proofs.Cuts.{first_parts}
 use Rattle.jm_form.specs.Trees.{path_of}
+use Rattle.jm_modpath.proofs.TextCuts.{any_behind, drop_front}
 use Rattle.jm_names.specs.Names.{is_slash}
 use Rattle.jm_relink.specs.Files.{file_name, module_and_path}
 
@@ -17,20 +18,6 @@ head_false p b bs none = go (p b) (list_any p bs) none
     go : (x y : Bool) → (x || y) ≡ false → (x ≡ false) × (y ≡ false)
     go true y h = absurd (false≢true (sym h))
     go false y h = (refl, h)
-
-pub any_behind : (p : ℕ → Bool) (front back : List ℕ) → list_any p back ≡ true → list_any p (front ++ back) ≡ true
-any_behind p [] back some = some
-any_behind p (b ∷ front) back some = go (p b) (any_behind p front back some)
-  where
-    go : (c : Bool) → list_any p (front ++ back) ≡ true → (c || list_any p (front ++ back)) ≡ true
-    go true rest = refl
-    go false rest = rest
-
-pub drop_front : (front back : List ℕ) (k : ℕ) → drop (length front + k) (front ++ back) ≡ drop k back
-drop_front [] back k = let none : 0 + k ≡ k = omega arith in ap (λ n. drop n back) none
-drop_front (b ∷ front) back k =
-    let next : length (b ∷ front) + k ≡ suc (length front + k) = omega arith in
-    ap (λ n. drop n (b ∷ (front ++ back))) next ∙ drop_front front back k
 
 -- A module without a slash, and its path
 

@@ -1,24 +1,23 @@
 -- There is one list of modules of an image, or one first refusal.
-use Rattle.std.proofs.Common.{◌≡◌, ◌≢◌, ℕ, inl, inr, Bool, true, false, cond, List, [], ◌∷◌, map, All, AllPairs, Contains, IsTrue, Option, Some, None, Result, Ok, Err, refl, sym, ap, subst, ◌∙◌}
+use Rattle.std.proofs.Common.{◌≡◌, ℕ, true, cond, List, map, Contains, Option, Some, None, Result, Ok, Err, sym, ap, subst, ◌∙◌}
 use Rattle.std.proofs.lemmas.List.Elements.{All-contains}
 use Rattle.std.proofs.lemmas.Slice.Eq.{bytes_eq-Decides}
-use Rattle.std.specs.Str.{bytes_eq}
 use Rattle.jm_bytes.proofs.Choice.{same_ok, same_some}
 use Rattle.jm_bytes.proofs.Members.{from_map}
 use Rattle.jm_bytes.proofs.SameOrder.{same_order}
-use Rattle.jm_closure.specs.declared.candidate.Candidate.{Candidate}
 use Rattle.jm_form.specs.Trees.{class_packages}
 use Rattle.jm_modinfo.specs.declared.descriptor.Descriptor.{Descriptor}
 use Rattle.jm_modinfo.specs.declared.faults.DescriptorFault.{DescriptorFault}
-use Rattle.jm_modpath.specs.ByteOrder.{is_before}
+use Rattle.jm_order.specs.ByteOrder.{is_before}
 use Rattle.jm_modpath.specs.Modules.{info_in}
 use Rattle.jm_relink.specs.declared.error.RelinkError.{RelinkError}
 use Rattle.jm_relink.specs.declared.error.RelinkError.TheVariants as error
-use Rattle.jm_relink.specs.Files.{Named, file_name, info_entry, resources_of}
+use Rattle.jm_relink.specs.Files.{file_name, info_entry, resources_of}
+use Rattle.jm_order.specs.ByName.{Named}
 use Rattle.jm_relink.specs.Modules.{AreFilesOf, HasInfo, IsRefusedIn, IsSeenIn, IsVisibleIn, ModulesOf, SeenModule, info_refusal, name_of}
 use Rattle.jm_relink.proofs.ModuleLaws.{Differ, one_content, resources_differ}
-use Rattle.jm_relink.proofs.OrderLaws.{Stand, one_way, stand}
-use Rattle.jm_relink.proofs.OrderLaws.Stand.{stands_before, is_one, stands_behind}
+use Rattle.jm_order.proofs.ByteOrderLaws.{one_way, stand}
+use Rattle.jm_order.proofs.ByteOrderLaws.Stand.{stands_before, is_one, stands_behind}
 
 files_once : (rs : List Named) (m : List ℕ) (es fs : List Named) → AreFilesOf rs m es → AreFilesOf rs m fs → es ≡ fs
 files_once rs m es fs one other =

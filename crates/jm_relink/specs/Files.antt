@@ -1,30 +1,22 @@
 -- The resources of an image as files of modules (JEP 220: `/module/path`).
-use Rattle.std.specs.Prelude.{ℕ, ◌≡◌, ◌&&◌, Bool, true, false, List, [], ◌∷◌, ◌++◌, map, AllPairs}
+use Rattle.std.specs.Prelude.{ℕ, ◌&&◌, List, [], ◌∷◌, ◌++◌, map, AllPairs}
 use Rattle.std.specs.Prelude.{Option, Some, None, option_map, option_to_list, if◌then◌else◌}
-use Rattle.std.specs.Prelude.{IsFalse, IsTrue}
+use Rattle.std.specs.Prelude.{IsFalse}
 use Rattle.std.specs.Cmp.Lexicographic.{slice_cmp}
 use Rattle.std.specs.List.{after_first, before_first, list_any}
 use Rattle.std.specs.Ordering.{is_lt, nat_cmp, ordering_then}
 use Rattle.std.specs.declared.cmp.Ordering.{Ordering}
 use Rattle.jm_form.specs.Validity.{resources}
-use Rattle.jm_modpath.specs.ByteOrder.{is_before}
+use Rattle.jm_order.specs.ByName.{Named}
 use Rattle.jm_modpath.specs.Modules.{info_name}
 use Rattle.jm_names.specs.Names.{is_node, is_slash}
 use Rattle.jm_reader.specs.Walk.{entries_of}
 use Rattle.jm_relink.specs.declared.located.Located.{Located}
 use Rattle.jm_relink.specs.declared.modules.ImageFile.{ImageFile}
 
--- a name and the content that stands under it
-abbrev pub Named : Type 0
-Named = List ℕ × List ℕ
-
 -- the entries of an image whose names are no nodes'
 abbrev pub resources_of : List ℕ → List Named
 resources_of b = resources (entries_of b)
-
--- each name stands before the later ones
-abbrev pub RisesByName : List Named → Type 0
-RisesByName fs = AllPairs (λ e f. IsTrue (is_before e.0 f.0)) fs
 
 -- Names
 

@@ -3,14 +3,14 @@ use Rattle.std.specs.Prelude.{ℕ, ◌≡◌, ◌≢◌, ◌<◌, false, List, �
 use Rattle.std.specs.Prelude.{Option, Some, None, option_map, Result, Ok, Err, slice_get}
 use Rattle.std.specs.List.{filter_map, flat_map, list_any, zip}
 use Rattle.jm_bytes.specs.Checks.{first_fault}
-use Rattle.jm_closure.specs.declared.candidate.Candidate.{Candidate}
 use Rattle.jm_closure.specs.Names.{NamesDiffer}
 use Rattle.jm_names.specs.ComputedFault.{name_fault}
 use Rattle.jm_names.specs.Names.{is_slash}
 use Rattle.jm_relink.specs.declared.error.GatherError.{GatherError}
 use Rattle.jm_relink.specs.declared.error.GatherError.TheVariants as error
 use Rattle.jm_relink.specs.declared.modules.ImageModules.{ImageModules}
-use Rattle.jm_relink.specs.Files.{Named, file_name, files_as}
+use Rattle.jm_relink.specs.Files.{file_name, files_as}
+use Rattle.jm_order.specs.ByName.{Named}
 
 -- What is asked of modules and of places
 

@@ -1,29 +1,20 @@
 -- What the steps come to that judge the modules of an image (this project's rule).
-use Rattle.std.specs.Prelude.{ℕ, ◌≡◌, List, [], ◌∷◌, ◌++◌, Option, Some, None, option_map}
-use Rattle.std.specs.Prelude.{option_and_then, option_to_list, Result, Ok, Err}
+use Rattle.std.specs.Prelude.{ℕ, ◌≡◌, List, [], ◌∷◌, ◌++◌, Option, Some, None}
+use Rattle.std.specs.Prelude.{option_to_list, Result, Ok, Err}
 use Rattle.std.specs.Prelude.{if◌then◌else◌}
-use Rattle.std.specs.List.{filter_map}
 use Rattle.std.specs.Str.{bytes_eq}
-use Rattle.jm_closure.specs.declared.candidate.Candidate.{Candidate}
 use Rattle.jm_modinfo.specs.declared.descriptor.Descriptor.{Descriptor}
 use Rattle.jm_modinfo.specs.declared.faults.DescriptorFault.{DescriptorFault}
 use Rattle.jm_modpath.specs.Modules.{info_in}
 use Rattle.jm_relink.specs.declared.error.RelinkError.{RelinkError}
 use Rattle.jm_relink.specs.declared.error.RelinkError.TheVariants as error
-use Rattle.jm_relink.specs.declared.info.InfoStop.{InfoStop}
-use Rattle.jm_relink.specs.declared.info.InfoStop.TheVariants as info_stop
 use Rattle.jm_relink.specs.declared.judging.SeenModule as handed
 use Rattle.jm_relink.specs.declared.modules.ImageModules.{ImageModules}
-use Rattle.jm_relink.specs.Files.{Filed, Named, files_as, info_entry}
+use Rattle.jm_relink.specs.Files.{Filed, files_as, info_entry}
+use Rattle.jm_order.specs.ByName.{Named}
 use Rattle.jm_relink.specs.Groups.{Group, groups, info_content}
 use Rattle.jm_relink.specs.Modules.{HoldsModules, SeenModule}
 use Rattle.jm_relink.specs.Packages.{packages_of}
-
--- bytes were read as the descriptor of a module, or refused by their first fault
-abbrev pub Described : Result Descriptor DescriptorFault → Result Descriptor InfoStop → Type 0
-Described due (Ok d) = due ≡ Ok d
-Described due (Err (info_stop.Fault fault)) = due ≡ Err fault
-Described due (Err info_stop.Memory) = Unit {0}
 
 -- a step came to this value or refusal, unless no memory was found
 abbrev pub Comes : {A : Type 0} → Result A RelinkError → Result A RelinkError → Type 0
@@ -51,7 +42,8 @@ abbrev pub named_due : List ℕ → Descriptor → Result Descriptor RelinkError
 named_due «module» d =
     if bytes_eq d.name «module» then Ok d else Err (error.Foreign (info_entry «module»))
 
-abbrev pub descriptor_due : List ℕ → Result Descriptor DescriptorFault → Result Descriptor RelinkError
+abbrev pub descriptor_due : List ℕ → Result Descriptor DescriptorFault
+    → Result Descriptor RelinkError
 descriptor_due «module» (Ok d) = named_due «module» d
 descriptor_due «module» (Err fault) = Err (error.BadInfo (info_entry «module») fault)
 

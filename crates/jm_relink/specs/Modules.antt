@@ -8,13 +8,14 @@ use Rattle.jm_closure.specs.declared.candidate.Candidate.{Candidate}
 use Rattle.jm_form.specs.Trees.{class_packages}
 use Rattle.jm_modinfo.specs.declared.descriptor.Descriptor.{Descriptor}
 use Rattle.jm_modinfo.specs.declared.faults.DescriptorFault.{DescriptorFault}
-use Rattle.jm_modpath.specs.ByteOrder.{is_before}
+use Rattle.jm_order.specs.ByteOrder.{is_before}
 use Rattle.jm_modpath.specs.Modules.{info_in}
 use Rattle.jm_names.specs.Names.{is_slash}
 use Rattle.jm_relink.specs.declared.error.RelinkError.{RelinkError}
 use Rattle.jm_relink.specs.declared.error.RelinkError.TheVariants as error
 use Rattle.jm_relink.specs.declared.modules.ImageModules.{ImageModules}
-use Rattle.jm_relink.specs.Files.{Named, RisesByName, file_name, files_as, info_entry, resources_of}
+use Rattle.jm_relink.specs.Files.{file_name, files_as, info_entry, resources_of}
+use Rattle.jm_order.specs.ByName.{Named, RisesByName}
 
 -- a module, with its files by their paths and their contents
 pub record SeenModule : Type 0 where
@@ -42,7 +43,8 @@ pub record IsSeenIn (rs : List Named) (s : SeenModule) : Type 0 where
   pub content : List ℕ
   pub info : HasInfo rs (name_of s) content
   pub says : info_in content ≡ Ok s.candidate.descriptor
-  pub packages : s.candidate.packages ≡ class_packages (map (λ f. file_name (name_of s) f.0) s.files)
+  pub packages : s.candidate.packages
+      ≡ class_packages (map (λ f. file_name (name_of s) f.0) s.files)
   pub files : AreFilesOf rs (name_of s) s.files
 
 -- the rule: the modules of the resources, rising by name

@@ -1,5 +1,6 @@
 //! The resources that the files of chosen modules are.
-ghost use Rattle.std.specs.Prelude.{◌≡◌, ◌≢◌, ◌∷◌, ◌++◌, [], None, AllPairs, OnOk, map, ◌<◌, length};
+ghost use Rattle.std.specs.Prelude.{◌≡◌, ◌≢◌, ◌<◌, ◌∷◌, ◌++◌, [], None, AllPairs, OnOk};
+ghost use Rattle.std.specs.Prelude.{length, map};
 ghost use Rattle.jm_pool.specs.Pairs.{bytes_of, names_of};
 ghost use Rattle.jm_relink.specs.Files.{file_as, file_name, files_as};
 ghost use Rattle.jm_relink.specs.Gathering.{ArePlaces, AreModules, Gathers, GathersAll};

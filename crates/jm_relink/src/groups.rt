@@ -27,8 +27,8 @@ fn begun<'a>(alloc: Global, located: Located<'a>) -> Result<ModuleFiles<'a>, NoM
     Ok(ModuleFiles { module, files })
 }
 
-/// One file more behind the files of a module: it is a further one of these, or they are done and it
-/// is the first of the next module.
+/// One file more behind the files of a module: it is a further one of these, or they are done and
+/// it is the first of the next module.
 fn with_file<'a>(
     alloc: Global,
     done: &mut List<ModuleFiles<'a>>,
@@ -37,7 +37,8 @@ fn with_file<'a>(
 ) -> Result<ModuleFiles<'a>, NoMemory>
     ensures { IfOk result (λ next. (rest : List Filed) →
         map group_as done.new ++ groups_from (group_as next) rest
-        ≡ map group_as done.old ++ groups_from (group_as group.entry) (located_as located.entry ∷ rest)) }
+        ≡ map group_as done.old
+        ++ groups_from (group_as group.entry) (located_as located.entry ∷ rest)) }
 {
     if group.module.as_slice() != located.module.as_slice() {
         done.push(group)?;

@@ -9,13 +9,13 @@ ghost use Rattle.jm_relink.specs.declared.error.RelinkError.TheVariants as error
 
 use crate::error::RelinkError;
 use crate::groups::ModuleFiles;
-use crate::info::{InfoStop, info_in};
 use crate::modules::ImageFile;
 use crate::names::file_name;
 use crate::packages::class_packages;
 use jm_bytes::{List, NoMemory, Text};
 use jm_closure::Candidate;
 use jm_modinfo::{Descriptor, DescriptorFault};
+use jm_modpath::{InfoStop, info_in};
 use std::alloc::Global;
 
 /// A module of an image, with its files.
@@ -36,7 +36,8 @@ fn info_entry(alloc: Global, module: &[u8]) -> Result<Text, NoMemory>
 
 /// The refusal of a module whose entry says no descriptor.
 fn bad_info(alloc: Global, module: &[u8], fault: DescriptorFault) -> RelinkError
-    ensures { Comes {A = Descriptor} (Err (error.BadInfo (info_entry «module».now) fault)) (Err result) }
+    ensures { Comes {A = Descriptor}
+        (Err (error.BadInfo (info_entry «module».now) fault)) (Err result) }
 {
     match info_entry(alloc, module) {
         Ok(name) => RelinkError::BadInfo { name, fault },

@@ -5,7 +5,6 @@
 mod error;
 mod gathering;
 mod groups;
-mod info;
 mod judging;
 mod located;
 mod modules;

@@ -2,6 +2,7 @@
 ghost use Rattle.std.specs.Prelude.{◌≡◌, IfOk, map};
 ghost use Rattle.jm_reader.specs.Walk.{IsLater};
 ghost use Rattle.jm_relink.specs.Judging.{ComesFrom};
+ghost use Rattle.jm_relink.specs.Gathering.{AreModules};
 ghost use Rattle.jm_relink.specs.Modules.{FindsModules};
 ghost use Rattle.jm_relink.specs.Files.{located_as};
 
@@ -35,7 +36,8 @@ pub struct ImageModules<'a> {
 
 /// What the modules say, and their files.
 fn parted<'a>(alloc: Global, seen: List<SeenModule<'a>>) -> Result<ImageModules<'a>, NoMemory>
-    ensures candidates { IfOk result (λ found. found.candidates ≡ map (λ m. m.candidate) seen.entry) }
+    ensures candidates { IfOk result (λ found.
+        found.candidates ≡ map (λ m. m.candidate) seen.entry) }
     ensures files { IfOk result (λ found. found.files ≡ map (λ m. m.files) seen.entry) }
 {
     let mut candidates = List::new(alloc);
@@ -71,6 +73,7 @@ pub fn modules_of<'a, R: Ledger>(
 ) -> Result<ImageModules<'a>, RelinkError>
     requires { reads.old.bytes ≡ image.now }
     ensures modules { FindsModules image.now result }
+    ensures are { IfOk result AreModules }
     ensures reads { IsLater reads.old reads.new }
 {
     let files = located_files(alloc, image, reads)?;

@@ -1,31 +1,17 @@
 //! The class packages of a module, from its files.
-ghost use Rattle.std.specs.Prelude.{◌≡◌, IfOk, OnOk, option_map};
+ghost use Rattle.std.specs.Prelude.{◌≡◌, IfOk, OnOk};
 ghost use Rattle.jm_form.specs.Rising.{with_placed};
-ghost use Rattle.jm_relink.specs.Packages.{class_folder, class_package, packages_of};
-ghost use Rattle.jm_relink.specs.Packages.{with_package};
+ghost use Rattle.jm_modpath.specs.Finding.{class_package};
 ghost use Rattle.jm_modpath.specs.TextView.{items_of};
+ghost use Rattle.jm_relink.specs.Packages.{packages_of, with_package};
 ghost use Rattle.jm_relink.specs.Files.{files_as};
 
 use crate::modules::ImageFile;
 use jm_bytes::{List, NoMemory, Text};
-use jm_names::{cut_at_last, dotted};
+use jm_modpath::class_folder;
+use jm_names::dotted;
 use std::alloc::Global;
 use std::collections::BTreeSet;
-
-/// The folder of a path that is that of a class in a package.
-fn class_folder(path: &[u8]) -> Option<&[u8]>
-    ensures { option_map (λ folder. folder.now) result ≡ class_folder path.now }
-{
-    if !path.ends_with(b".class") {
-        return None;
-    }
-    let (folder, _) = cut_at_last(b'/', path)?;
-    if folder.is_empty() || folder.starts_with(b"META-INF") {
-        None
-    } else {
-        Some(folder)
-    }
-}
 
 /// Puts a text into a set, if it isn't there.
 fn put(set: &mut BTreeSet<Vec<u8>>, text: Vec<u8>) -> Result<(), NoMemory>

@@ -1,1 +1,2 @@
+pub mod NameRefusalLaws
 mod Vectors

@@ -1,2 +1,4 @@
 pub mod DescribeText
 pub mod InfoText
+pub mod NameRefusals
+pub mod RefusalText

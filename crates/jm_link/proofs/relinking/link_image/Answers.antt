@@ -1,11 +1,12 @@
 use Rattle.std.proofs.Common.{ℕ, List, Err, subst}
 use Rattle.jm_closure.specs.declared.candidate.Candidate.{Candidate}
 use Rattle.jm_relink.specs.Gathering.{GathersAll, gathered}
+use Rattle.jm_relink.proofs.AskedLaws.{visible_in}
 use Rattle.jm_link.specs.Closing.{ClosesAmong}
 use Rattle.jm_link.specs.Links.{request_of}
 use Rattle.jm_link.specs.ImageLinked.{ImageComesTo}
 use Rattle.jm_link.specs.Linked.{Request}
-use Rattle.jm_link.proofs.ImageLaws.{fit_names, gathered_to, image_apart, image_free, image_modules, image_names_differ, image_places, unclosed_to, ungathered_to, unseen_to, visible_in}
+use Rattle.jm_link.proofs.ImageLaws.{fit_names, gathered_to, image_apart, image_free, image_places, unclosed_to, ungathered_to, unseen_to}
 use Rattle.jm_link.proofs.LinkingLaws.{links_as}
 use Rattle.jm_modpath.proofs.StepLaws.{passed_on}
 use Rattle.jm_link.proofs.relinking.link_image.Goals as goal
@@ -16,9 +17,7 @@ returns-in_err-modules g c =
     (unseen_to c.args.image.now (request_of c.args.asked.now) c.args.asked.now.output.now (g.S.Shelf.files c.args.shelf.now) (g.S.Shelf.faults c.args.shelf.now) c.in_err-modules.field-0.0 c.in_err-modules.ensures.modules)
 
 pub closed-requires : goal.closed-requires
-closed-requires g c =
-    let shown = c.in_ok-modules.ensures.modules in
-    rw c.as_slice.ensures (image_names_differ c.args.image.now c.in_ok-modules.modules shown.0 (visible_in c.args.image.now shown.0 shown.1) shown.2)
+closed-requires g c = rw c.as_slice.ensures c.in_ok-modules.ensures.are.differ
 
 pub returns-in_err-places : goal.returns-in_err-places
 returns-in_err-places g c =
@@ -29,9 +28,7 @@ returns-in_err-places g c =
     (unclosed_to c.args.image.now (request_of c.args.asked.now) c.in_ok-modules.modules shown.0 shown.1 shown.2 c.args.asked.now.output.now (g.S.Shelf.files c.args.shelf.now) (g.S.Shelf.faults c.args.shelf.now) c.in_err-places.field-0.0 closes)
 
 pub gather-requires-clause-modules : goal.gather-requires-clause-modules
-gather-requires-clause-modules g c =
-    let shown = c.in_ok-modules.ensures.modules in
-    image_modules c.args.image.now c.in_ok-modules.modules shown.0 (visible_in c.args.image.now shown.0 shown.1) shown.2
+gather-requires-clause-modules g c = c.in_ok-modules.ensures.are
 
 pub gather-requires-clause-places : goal.gather-requires-clause-places
 gather-requires-clause-places g c =

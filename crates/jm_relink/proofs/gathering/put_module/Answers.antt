@@ -1,7 +1,5 @@
-use Rattle.std.proofs.Common.{◌≡◌, ◌≢◌, ◌++◌, ◌∷◌, [], AllPairs, List, ℕ, ap, sym, subst, ◌∙◌}
+use Rattle.std.proofs.Common.{◌≢◌, ◌++◌, AllPairs, List, ℕ, subst}
 use Rattle.jm_pool.specs.Pairs.{names_of}
-use Rattle.jm_relink.specs.Files.{files_as}
-use Rattle.jm_relink.specs.Gathering.{gathered, resources_with}
 use Rattle.jm_relink.proofs.GatherLaws.{module_there}
 use Rattle.jm_relink.proofs.gathering.put_module.Goals as goal
 

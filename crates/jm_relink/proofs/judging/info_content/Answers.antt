@@ -1,4 +1,4 @@
-use Rattle.std.proofs.Common.{◌∙◌, ap, sym, refl}
+use Rattle.std.proofs.Common.{◌∙◌, sym}
 use Rattle.jm_relink.proofs.InfoLaws.{info_here, info_later}
 use Rattle.jm_relink.proofs.judging.info_content.Goals as goal
 

@@ -1,8 +1,0 @@
-use Rattle.std.proofs.Common.{rules}
-use Rattle.jm_extract.proofs.TakingLaws.{names_sorted}
-use Rattle.jm_extract.proofs.taking.sorted_by_name.Goals as goal
-
-pub returns-clause-sorted : goal.returns-clause-sorted
-returns-clause-sorted c =
-    let up = names_sorted c.sort_unstable_by.new.self.items c.sort_unstable_by.ensures.sorted (λ a r q k. search rules) in
-    rw c.from_vec.ensures up

@@ -1,0 +1,4 @@
+pub mod ByteOrderLaws
+pub mod KeyLaws
+pub mod NameOrder
+mod Vectors

@@ -1,0 +1,15 @@
+-- Names that are refused because they may not stand in an image (this project's rule).
+use Rattle.std.specs.Prelude.{List, map, Option, option_map}
+use Rattle.jm_bytes.specs.Checks.{first_fault}
+use Rattle.jm_names.specs.ComputedFault.{name_fault}
+use Rattle.jm_order.specs.ByName.{Named}
+use Rattle.jm_texts.specs.declared.refusal.Refusal.{Refusal}
+use Rattle.jm_texts.specs.declared.refusal.Refusal.TheVariants as refusal
+
+-- a name that may not stand in an image
+abbrev pub name_refusal : Named → Option Refusal
+name_refusal f = option_map (λ fault. refusal.BadName f.0 fault) (name_fault f.0)
+
+-- the first name that may not
+abbrev pub first_bad_name : List Named → Option Refusal
+first_bad_name names = first_fault (map name_refusal names)

@@ -1,0 +1,46 @@
+-- What a command refuses in print: the kind, and the carried values, each behind a space (this
+-- project's rule). Names of modules, packages, entries and resources are put in UTF-8, paths of
+-- files as their bytes.
+use Rattle.std.specs.Prelude.{ℕ, List, ◌∷◌, ◌++◌, codes}
+use Rattle.std.specs.Fmt.{decimal}
+use Rattle.jm_class.specs.FaultText.{class_fault_text}
+use Rattle.jm_modinfo.specs.FaultText.{descriptor_fault_text}
+use Rattle.jm_names.specs.UtfForms.{utf}
+use Rattle.jm_names.specs.declared.check.NameFault.{NameFault}
+use Rattle.jm_names.specs.declared.check.NameFault.TheVariants as fault_of
+use Rattle.jm_texts.specs.declared.refusal.Refusal.{Refusal}
+use Rattle.jm_texts.specs.declared.refusal.Refusal.TheVariants as refusal
+
+abbrev pub name_fault_text : NameFault → List ℕ
+name_fault_text fault_of.Empty = codes "Empty"
+name_fault_text fault_of.EmptyPart = codes "EmptyPart"
+name_fault_text fault_of.Dots = codes "Dots"
+name_fault_text fault_of.Zero = codes "Zero"
+name_fault_text fault_of.TooLong = codes "TooLong"
+name_fault_text (fault_of.NotText at) = codes "NotText " ++ decimal at
+
+-- a name behind a space
+abbrev pub spaced : List ℕ → List ℕ
+spaced name = 32 ∷ utf name
+
+abbrev pub refusal_text : Refusal → List ℕ
+refusal_text (refusal.BadInfo path fault) =
+    codes "BadInfo " ++ path ++ 32 ∷ descriptor_fault_text fault
+refusal_text (refusal.BadEntry name fault) =
+    codes "BadInfo" ++ spaced name ++ 32 ∷ descriptor_fault_text fault
+refusal_text (refusal.Foreign name) = codes "Foreign" ++ spaced name
+refusal_text (refusal.TwoModules dir name) = codes "TwoModules " ++ dir ++ spaced name
+refusal_text (refusal.ReservedModule name) = codes "ReservedModule" ++ spaced name
+refusal_text (refusal.NoRoot name) = codes "NoRoot" ++ spaced name
+refusal_text (refusal.Missing name by) = codes "Missing" ++ spaced name ++ spaced by
+refusal_text (refusal.Cycle name) = codes "Cycle" ++ spaced name
+refusal_text (refusal.SplitPackage shared first second) =
+    codes "SplitPackage" ++ spaced shared ++ spaced first ++ spaced second
+refusal_text (refusal.BadName name fault) =
+    codes "BadName" ++ spaced name ++ 32 ∷ name_fault_text fault
+refusal_text (refusal.BadClass name fault) =
+    codes "BadClass" ++ spaced name ++ 32 ∷ class_fault_text fault
+refusal_text (refusal.Clash name) = codes "Clash" ++ spaced name
+refusal_text (refusal.TooMany count) = codes "TooMany " ++ decimal count
+refusal_text (refusal.NoTable lengths) = codes "NoTable " ++ decimal lengths
+refusal_text (refusal.TooLarge length) = codes "TooLarge " ++ decimal length
