@@ -1,8 +1,8 @@
 -- What `extract` does, from what its call answered.
 use Rattle.std.proofs.Common.{◌≡◌, inl, inr, ℕ, List, [], length, Option, Some, None, Result, Ok, Err, refl, sym, ap, ◌∙◌, subst}
-use Rattle.jm_files.specs.Made.{MadeAll, MadePart}
-use Rattle.jm_files.proofs.MadeLaws.{part_of_all}
-use Rattle.jm_order.specs.ByName.{Named}
+use Rattle.jm_outside.specs.Made.{MadeAll, MadePart}
+use Rattle.jm_outside.proofs.MadeLaws.{part_of_all}
+use Rattle.jm_names.specs.ByName.{Named}
 use Rattle.jm_texts.specs.declared.refusal.Refusal.{Refusal}
 use Rattle.jm_extract.specs.declared.extracting.ExtractStop.{ExtractStop}
 use Rattle.jm_extract.specs.declared.extracting.ExtractStop.TheVariants as extract_stop

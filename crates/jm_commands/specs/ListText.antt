@@ -3,7 +3,7 @@ use Rattle.std.specs.Prelude.{ℕ, List, [], ◌∷◌, ◌++◌, length, flat_m
 use Rattle.std.specs.Fmt.{decimal}
 use Rattle.jm_names.specs.UtfForms.{utf}
 use Rattle.jm_pattern.specs.declared.signs.Sign.{Sign}
-use Rattle.jm_order.specs.ByName.{Named}
+use Rattle.jm_names.specs.ByName.{Named}
 use Rattle.jm_extract.specs.Taken.{taken}
 
 -- the size in bytes, a space, the name in UTF-8 and a newline

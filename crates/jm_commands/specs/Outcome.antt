@@ -17,7 +17,7 @@ use Rattle.jm_jrt.specs.Reply.{held_lines}
 use Rattle.jm_jrt.specs.Sessions.{answered_in}
 use Rattle.jm_jrt.specs.Stat.{held, stat}
 use Rattle.jm_names.specs.UtfForms.{utf}
-use Rattle.jm_files.specs.Made.{Writes}
+use Rattle.jm_outside.specs.Made.{Writes}
 use Rattle.jm_words.specs.declared.commands.Command.{Command}
 use Rattle.jm_words.specs.declared.commands.Command.TheVariants as command
 use Rattle.jm_words.specs.declared.errors.WordsError.{WordsError}
@@ -33,7 +33,7 @@ use Rattle.jm_modinfo.specs.declared.faults.DescriptorFault.TheVariants as fault
 use Rattle.jm_modinfo.specs.declared.faults.InfoFault.{InfoFault}
 use Rattle.jm_modinfo.specs.ComputedInfo.{info_of}
 use Rattle.jm_extract.specs.Extracted.{extracted, writes_of}
-use Rattle.jm_order.specs.ByName.{Named}
+use Rattle.jm_names.specs.ByName.{Named}
 use Rattle.jm_link.specs.declared.linking.Summary.{Summary}
 use Rattle.jm_texts.specs.declared.refusal.Refusal.{Refusal}
 use Rattle.jm_link.specs.Linked.{LinkedImage, Request}

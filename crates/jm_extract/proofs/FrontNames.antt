@@ -11,9 +11,9 @@ use Rattle.std.specs.List.Sorted.{IsPartitionedBy, IsPartitionPoint}
 use Rattle.std.proofs.lemmas.Bool.{false≢true, false_from_ne_true, and_parts, and_from, eqb-true, eqb-false, eq-eqb, ltb-true, ltb-false}
 use Rattle.std.proofs.lemmas.List.{get_or-map, get_or_default, length-map}
 use Rattle.jm_bytes.proofs.Members.{any_contains, contains_map, from_any, from_map}
-use Rattle.jm_order.specs.ByteOrder.{is_before}
-use Rattle.jm_order.proofs.ByteOrderLaws.{before_further, before_one_way}
-use Rattle.jm_order.specs.ByName.{Named, RisesByName}
+use Rattle.jm_bytes.specs.ByteOrder.{is_before}
+use Rattle.jm_bytes.proofs.ByteOrderLaws.{before_further, before_one_way}
+use Rattle.jm_names.specs.ByName.{Named, RisesByName}
 use Rattle.jm_extract.specs.Extracted.{begins}
 use Rattle.jm_extract.specs.Taken.{taken_as}
 use Rattle.jm_extract.specs.declared.taking.TakenEntry.{TakenEntry}

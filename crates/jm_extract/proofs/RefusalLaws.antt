@@ -1,7 +1,7 @@
 -- The refusal of entries, from those of their names and of their clashes.
 use Rattle.std.proofs.Common.{◌≡◌, List, [], ◌∷◌, Option, Some, None, Result, Ok, Err, IfOk, refl, ap, ◌∙◌}
 use Rattle.jm_bytes.specs.Checks.{first_fault}
-use Rattle.jm_order.specs.ByName.{Named}
+use Rattle.jm_names.specs.ByName.{Named}
 use Rattle.jm_texts.specs.NameRefusals.{first_bad_name}
 use Rattle.jm_texts.specs.declared.refusal.Refusal.{Refusal}
 use Rattle.jm_extract.specs.Extracted.{first_clash, refusal_of}

@@ -8,7 +8,7 @@ use Rattle.jm_form.specs.Entries.{Entry}
 use Rattle.jm_pattern.specs.ComputedMatching.{matches}
 use Rattle.jm_pattern.specs.declared.signs.Sign.{Sign}
 use Rattle.jm_reader.specs.Walk.{entries_of}
-use Rattle.jm_order.specs.ByName.{Named, by_name}
+use Rattle.jm_names.specs.ByName.{Named, by_name}
 use Rattle.jm_extract.specs.declared.taking.TakenEntry.{TakenEntry}
 
 abbrev pub named : Entry → Named

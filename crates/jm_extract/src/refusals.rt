@@ -1,14 +1,14 @@
 //! Why entries are not extracted.
 ghost use Rattle.std.specs.Prelude.{◌≡◌, ◌∷◌, ◌++◌, [], None, Ok, All, IfOk, map};
 ghost use Rattle.jm_names.specs.NameFaults.{IsSound};
-ghost use Rattle.jm_order.specs.ByName.{RisesByName};
+ghost use Rattle.jm_names.specs.ByName.{RisesByName};
 ghost use Rattle.jm_texts.specs.NameRefusals.{first_bad_name};
 ghost use Rattle.jm_extract.specs.Extracted.{begins, clash_refusal, first_clash, refusal_of};
 ghost use Rattle.jm_extract.specs.Taken.{taken_as};
 
 use crate::taking::TakenEntry;
 use jm_bytes::{NoMemory, Text};
-use jm_order::is_before;
+use jm_bytes::is_before;
 use jm_texts::{Refusal, first_bad_name};
 use std::alloc::Global;
 

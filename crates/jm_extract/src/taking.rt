@@ -3,12 +3,12 @@ ghost use Rattle.std.specs.Prelude.{◌≡◌, ◌++◌, IfOk, OnOk, map};
 ghost use Rattle.std.specs.List.{list_any};
 ghost use Rattle.jm_pattern.specs.ComputedMatching.{matches};
 ghost use Rattle.jm_reader.specs.Walk.{entries_of, IsLater};
-ghost use Rattle.jm_order.specs.ByName.{RisesByName};
+ghost use Rattle.jm_names.specs.ByName.{RisesByName};
 ghost use Rattle.jm_extract.specs.Taken.{is_included, taken, taken_alone, taken_among, taken_as};
 
 use crate::taken_name::TakenName;
 use jm_bytes::{List, Meter, NoMemory};
-use jm_order::{HasName, sorted_by_name};
+use jm_names::{HasName, sorted_by_name};
 use jm_pattern::Pattern;
 use jm_reader::{Entry, walk};
 use jm_valid::Image;

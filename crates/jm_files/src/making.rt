@@ -1,6 +1,6 @@
 ghost use Rattle.std.specs.Prelude.{◌∷◌, [], IsUtf8, OnOk, OnErr, IsErrOf};
 ghost use Rattle.jm_outside.specs.Outcome.{CountsFaults};
-ghost use Rattle.jm_files.specs.Made.{MadeAll, MadePart};
+ghost use Rattle.jm_outside.specs.Made.{MadeAll, MadePart};
 
 use jm_outside::{Shelf, ShelfError};
 use std::alloc::Global;

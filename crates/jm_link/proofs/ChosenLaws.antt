@@ -17,7 +17,7 @@ use Rattle.jm_closure.specs.Modules.{HasName, Reached, name_of}
 use Rattle.jm_closure.specs.Refusals.{AreChosen}
 use Rattle.jm_link.specs.Closing.{ClosesWith}
 use Rattle.jm_link.proofs.FileLaws.{got}
-use Rattle.jm_order.proofs.ByteOrderLaws.{less}
+use Rattle.jm_bytes.proofs.ByteOrderLaws.{less}
 
 named_below : (found : List Candidate) (i : ℕ) (name : List ℕ) → HasName found i name → i < length found
 named_below found i name (c, is, named) = slice_get_within found i c is

@@ -21,12 +21,12 @@ use Rattle.jm_nodes.proofs.SoundLaws.{module_again}
 use Rattle.jm_texts.specs.declared.refusal.Refusal.{Refusal}
 use Rattle.jm_texts.specs.declared.refusal.Refusal.TheVariants as refusal
 use Rattle.jm_modpath.specs.declared.visible.VisibleModule.{VisibleModule}
-use Rattle.jm_order.specs.ByName.{Named}
+use Rattle.jm_names.specs.ByName.{Named}
 use Rattle.jm_modpath.specs.Finding.{HasTexts}
 use Rattle.jm_modpath.specs.Modules.{candidates, inside, name_of, resource_name}
 use Rattle.jm_link.specs.Chosen.{is_called, reserved}
 use Rattle.jm_link.specs.Resources.{link_files, module_files}
-use Rattle.jm_order.proofs.NameOrder.{from_by_name}
+use Rattle.jm_names.proofs.NameOrder.{from_by_name}
 
 -- Names of nodes
 

@@ -19,7 +19,7 @@ use Rattle.jm_names.specs.Names.{is_node}
 use Rattle.jm_names.proofs.ComputedFaultLaws.{IsSound-computed}
 use Rattle.jm_form.specs.Validity.{resources}
 use Rattle.jm_form.specs.Entries.{Entry}
-use Rattle.jm_order.specs.ByteOrder.{is_before}
+use Rattle.jm_bytes.specs.ByteOrder.{is_before}
 use Rattle.jm_outside.specs.Files.{Files}
 use Rattle.jm_reader.specs.Walk.{entries_of}
 use Rattle.jm_relink.specs.declared.error.GatherError.{GatherError}
@@ -28,7 +28,7 @@ use Rattle.jm_relink.specs.declared.error.RelinkError.{RelinkError}
 use Rattle.jm_relink.specs.declared.error.RelinkError.TheVariants as relink
 use Rattle.jm_relink.specs.declared.modules.ImageModules.{ImageModules}
 use Rattle.jm_relink.specs.Files.{file_name, resources_of}
-use Rattle.jm_order.specs.ByName.{Named}
+use Rattle.jm_names.specs.ByName.{Named}
 use Rattle.jm_relink.specs.Gathering.{AreModules, ArePlaces, GathersAll, gathered, named_files, resource_of, resources_with}
 use Rattle.jm_relink.specs.Gathering as gathering
 use Rattle.jm_relink.specs.Modules.{FindsModules, HoldsModules, IsSeenIn, IsVisibleIn, ModulesOf, SeenModule, name_of}
@@ -45,7 +45,7 @@ use Rattle.jm_texts.specs.NameRefusals.{first_bad_name}
 use Rattle.jm_link.proofs.ChosenLaws.{chosen_differ, chosen_rise, chosen_within}
 use Rattle.jm_link.proofs.FileLaws.{got}
 use Rattle.jm_link.proofs.LinkingLaws.{among_to, stopped_among}
-use Rattle.jm_order.proofs.ByteOrderLaws.{before_less, before_other}
+use Rattle.jm_bytes.proofs.ByteOrderLaws.{before_less, before_other}
 
 -- Two lists of modules that were seen
 

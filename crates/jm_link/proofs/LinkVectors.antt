@@ -10,7 +10,7 @@ use Rattle.jm_modpath.specs.Modules.{candidates, module_with}
 use Rattle.jm_names.specs.declared.check.NameFault.TheVariants as fault
 use Rattle.jm_outside.specs.Files.{Files}
 use Rattle.jm_texts.specs.declared.refusal.Refusal.TheVariants as refusal
-use Rattle.jm_order.specs.ByName.{Named}
+use Rattle.jm_names.specs.ByName.{Named}
 use Rattle.jm_link.specs.Linked.{layout_refusal}
 use Rattle.jm_link.specs.Chosen.{reserved}
 use Rattle.jm_link.specs.Resources.{link_files, resources_of}

@@ -21,7 +21,7 @@ use Rattle.jm_link.specs.declared.linking.LinkStop.TheVariants as stop
 use Rattle.jm_link.specs.declared.linking.Summary.{Summary}
 use Rattle.jm_texts.specs.declared.refusal.Refusal.{Refusal}
 use Rattle.jm_modpath.specs.declared.visible.VisibleModule.{VisibleModule}
-use Rattle.jm_order.specs.ByName.{Named}
+use Rattle.jm_names.specs.ByName.{Named}
 use Rattle.jm_link.specs.Closing.{ClosesAmong, ClosesWith, IsRefusedAmong}
 use Rattle.jm_link.specs.Linked.{IsGatheredTo, LinkedImage, LinksAmong, Request, image_with, laid_out, layout_refusal, path_refusal_as}
 use Rattle.jm_link.specs.declared.resources.ResourceFile.{ResourceFile}

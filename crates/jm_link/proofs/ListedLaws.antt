@@ -7,7 +7,7 @@ use Rattle.jm_modinfo.specs.declared.faults.DescriptorFault.{DescriptorFault}
 use Rattle.jm_outside.specs.Files.{Files, file, names_below}
 use Rattle.std.specs.List.{flat_map}
 use Rattle.jm_modpath.specs.declared.visible.VisibleModule.{VisibleModule}
-use Rattle.jm_order.specs.ByName.{Named}
+use Rattle.jm_names.specs.ByName.{Named}
 use Rattle.jm_modpath.specs.Modules.{folder_info, folders_in, inside, is_named, module_in, module_of, modules_in, name_of, unhidden, visible}
 use Rattle.jm_link.specs.Resources.{link_files}
 use Rattle.jm_link.specs.Showing.{ListsItsFiles}

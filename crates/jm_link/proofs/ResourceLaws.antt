@@ -9,12 +9,12 @@ use Rattle.jm_bytes.proofs.Pairs.{pairs_before}
 use Rattle.jm_pool.specs.Pairs.{bytes_of, names_of}
 use Rattle.jm_link.specs.declared.resources.ResourceFile.{ResourceFile}
 use Rattle.jm_modpath.specs.declared.visible.VisibleModule.{VisibleModule}
-use Rattle.jm_order.specs.ByName.{Named, NeverFalls}
+use Rattle.jm_names.specs.ByName.{Named, NeverFalls}
 use Rattle.jm_modpath.specs.Finding.{HasTexts}
 use Rattle.jm_link.specs.ResourceFiles.{file_names, file_of, pair_of}
 use Rattle.jm_link.specs.Resources.{link_files, module_files}
 use Rattle.jm_modpath.proofs.FoundLaws.{got}
-use Rattle.jm_order.proofs.NameOrder.{items_sorted}
+use Rattle.jm_names.proofs.NameOrder.{items_sorted}
 use Rattle.jm_relink.proofs.GatherLaws.{bytes_of_none}
 use Rattle.std.proofs.lemmas.Option.{slice_get-get_or}
 use Rattle.jm_link.proofs.ResourceNames.{PathIsText, files_differ, modules_texts}

@@ -8,12 +8,12 @@ use Rattle.jm_bytes.proofs.Pairs.{pairs_among, pairs_map}
 use Rattle.jm_names.specs.UtfForms.{modified, utf}
 use Rattle.jm_names.proofs.UtfLaws.{utf-modified}
 use Rattle.jm_modpath.specs.declared.visible.VisibleModule.{VisibleModule}
-use Rattle.jm_order.specs.ByName.{Named}
+use Rattle.jm_names.specs.ByName.{Named}
 use Rattle.jm_modpath.specs.Finding.{HasTexts}
 use Rattle.jm_modpath.specs.Modules.{name_of, resource_name}
 use Rattle.jm_link.specs.ResourceFiles.{file_of}
 use Rattle.jm_link.specs.Resources.{module_files}
-use Rattle.jm_order.proofs.NameOrder.{Differ, from_by_name}
+use Rattle.jm_names.proofs.NameOrder.{Differ, from_by_name}
 use Rattle.jm_modpath.proofs.TextCuts.{inside_is_text}
 
 -- Names

@@ -14,16 +14,16 @@ use Rattle.jm_names.specs.UtfForms.{modified}
 use Rattle.jm_pool.specs.Pairs.{names_of}
 use Rattle.jm_link.specs.declared.resources.ResourceFile.{ResourceFile}
 use Rattle.jm_modpath.specs.declared.visible.VisibleModule.{VisibleModule}
-use Rattle.jm_order.specs.ByName.{Named}
-use Rattle.jm_order.specs.ByteOrder.{is_before}
+use Rattle.jm_names.specs.ByName.{Named}
+use Rattle.jm_bytes.specs.ByteOrder.{is_before}
 use Rattle.jm_modpath.specs.Finding.{Differing, HasTexts}
 use Rattle.jm_modpath.specs.Modules.{candidates, name_of, resource_name}
 use Rattle.jm_link.specs.ResourceFiles.{file_names, file_of, pair_of}
 use Rattle.jm_link.specs.Resources.{link_files, module_files}
-use Rattle.jm_order.proofs.NameOrder.{Differ, by_name_rises, from_by_name}
+use Rattle.jm_names.proofs.NameOrder.{Differ, by_name_rises, from_by_name}
 use Rattle.jm_link.proofs.ResourceLaws.{all_chosen}
 use Rattle.jm_link.proofs.ResourceNames.{files_differ}
-use Rattle.jm_order.proofs.ByteOrderLaws.{before_apart}
+use Rattle.jm_bytes.proofs.ByteOrderLaws.{before_apart}
 
 -- Names of modules
 

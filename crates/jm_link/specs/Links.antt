@@ -5,7 +5,7 @@ use Rattle.jm_form.specs.Layout.{Written}
 use Rattle.jm_outside.specs.Files.{Files}
 use Rattle.jm_outside.specs.Outcome.{Rose, Shows}
 use Rattle.jm_writer.specs.Laid.{IsLaidOut}
-use Rattle.jm_files.specs.Holds.{Holds, HoldsPart}
+use Rattle.jm_outside.specs.Holds.{Holds, HoldsPart}
 use Rattle.jm_link.specs.declared.linking.Asked.{Asked}
 use Rattle.jm_link.specs.declared.linking.LinkStop.{LinkStop}
 use Rattle.jm_link.specs.declared.linking.LinkStop.TheVariants as stop
@@ -14,7 +14,7 @@ use Rattle.jm_texts.specs.declared.refusal.Refusal.{Refusal}
 use Rattle.jm_modpath.specs.declared.visible.VisibleModule.{VisibleModule}
 use Rattle.jm_modpath.specs.Modules.{candidates}
 use Rattle.jm_plugins.specs.Plugins.{apply}
-use Rattle.jm_order.specs.ByName.{Named}
+use Rattle.jm_names.specs.ByName.{Named}
 use Rattle.jm_link.specs.Linked.{IsGatheredTo, IsPluggedTo, LinkedImage, LinksAmong, LinksTo}
 use Rattle.jm_link.specs.Linked.{Request}
 use Rattle.jm_link.specs.Resources.{resources_in, resources_of}

@@ -6,7 +6,7 @@ use Rattle.jm_link.specs.declared.linking.LinkStop.{LinkStop}
 use Rattle.jm_link.specs.declared.linking.LinkStop.TheVariants as stop
 use Rattle.jm_link.specs.declared.resources.ResourceFile.{ResourceFile}
 use Rattle.jm_modpath.specs.declared.visible.VisibleModule.{VisibleModule}
-use Rattle.jm_order.specs.ByName.{Named}
+use Rattle.jm_names.specs.ByName.{Named}
 use Rattle.jm_modpath.specs.Modules.{inside, name_of, resource_name}
 
 abbrev pub pair_of : ResourceFile → Named

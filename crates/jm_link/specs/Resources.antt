@@ -5,7 +5,7 @@ use Rattle.std.specs.List.{filter_map, flat_map}
 use Rattle.jm_form.specs.Layout.{Written}
 use Rattle.jm_outside.specs.Files.{Files}
 use Rattle.jm_modpath.specs.declared.visible.VisibleModule.{VisibleModule}
-use Rattle.jm_order.specs.ByName.{Named, by_name}
+use Rattle.jm_names.specs.ByName.{Named, by_name}
 use Rattle.jm_modpath.specs.Modules.{bytes_at, inside, name_of, resource_name}
 
 -- the files of a module: the name of each as a resource and its path on the shelf, rising by name

@@ -7,7 +7,7 @@ ghost use Rattle.std.specs.List.{filter_map};
 ghost use Rattle.std.specs.Cmp.Lexicographic.{slice_cmp};
 ghost use Rattle.std.specs.Ordering.{is_lt, nat_cmp};
 ghost use Rattle.jm_outside.specs.Files.{Rising, after_front};
-ghost use Rattle.jm_order.specs.ByteOrder.{is_before};
+ghost use Rattle.jm_bytes.specs.ByteOrder.{is_before};
 ghost use Rattle.jm_modpath.specs.Finding.{folders_among, names_within};
 ghost use Rattle.jm_modpath.specs.Modules.{folder_with_info};
 ghost use Rattle.jm_modpath.specs.TextView.{items_of};
@@ -15,7 +15,7 @@ ghost use Rattle.jm_modpath.specs.TextView.{items_of};
 use crate::rising::rising;
 use jm_bytes::{List, NoMemory, Text, copy_of};
 use jm_names::cut_at_first;
-use jm_order::is_before;
+use jm_bytes::is_before;
 use std::alloc::Global;
 
 /// The folder of a file `FOLDER/module-info.class`.

@@ -13,9 +13,9 @@ use Rattle.jm_closure.specs.declared.candidate.Candidate.{Candidate}
 use Rattle.jm_closure.specs.Modules as closure
 use Rattle.jm_closure.specs.Names.{NamesDiffer}
 use Rattle.jm_names.specs.Names.{is_slash}
-use Rattle.jm_order.specs.ByName.{RisesByName}
-use Rattle.jm_order.specs.ByteOrder.{is_before}
-use Rattle.jm_order.proofs.ByteOrderLaws.{before_other}
+use Rattle.jm_names.specs.ByName.{RisesByName}
+use Rattle.jm_bytes.specs.ByteOrder.{is_before}
+use Rattle.jm_bytes.proofs.ByteOrderLaws.{before_other}
 use Rattle.jm_relink.specs.declared.error.RelinkError.{RelinkError}
 use Rattle.jm_relink.specs.declared.modules.ImageFile.{ImageFile}
 use Rattle.jm_relink.specs.declared.modules.ImageModules.{ImageModules}

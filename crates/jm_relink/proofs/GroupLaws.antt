@@ -14,13 +14,13 @@ use Rattle.std.specs.declared.cmp.Ordering.TheVariants.{Less, Equal, Greater}
 use Rattle.jm_bytes.proofs.Members.{all_from_contains, contains_map, from_map}
 use Rattle.jm_bytes.proofs.Pairs.{pairs_head, pairs_none, pairs_tail, pairs_weaker}
 use Rattle.jm_bytes.proofs.SameOrder.{contains_flat_map, from_flat_map}
-use Rattle.jm_order.specs.ByteOrder.{is_before}
+use Rattle.jm_bytes.specs.ByteOrder.{is_before}
 use Rattle.jm_relink.specs.Files.{Filed, NeverFalls, file_name, filed_cmp}
-use Rattle.jm_order.specs.ByName.{Named, RisesByName}
+use Rattle.jm_names.specs.ByName.{Named, RisesByName}
 use Rattle.jm_relink.specs.Groups.{Group, begun_as, groups, groups_from, ungrouped}
 use Rattle.jm_relink.proofs.ListLaws.{one_of, pairs_each, pairs_unmap}
-use Rattle.jm_order.proofs.ByteOrderLaws.{before_apart, before_further, cmp_self, stand}
-use Rattle.jm_order.proofs.ByteOrderLaws.Stand.{stands_before, is_one, stands_behind}
+use Rattle.jm_bytes.proofs.ByteOrderLaws.{before_apart, before_further, cmp_self, stand}
+use Rattle.jm_bytes.proofs.ByteOrderLaws.Stand.{stands_before, is_one, stands_behind}
 
 -- The same files
 

@@ -5,7 +5,7 @@ use Rattle.std.specs.Str.{bytes_eq}
 use Rattle.jm_modpath.specs.Modules.{info_name}
 use Rattle.jm_relink.specs.declared.modules.ImageFile.{ImageFile}
 use Rattle.jm_relink.specs.Files.{file_as, files_as}
-use Rattle.jm_order.specs.ByName.{Named}
+use Rattle.jm_names.specs.ByName.{Named}
 use Rattle.jm_relink.specs.Groups.{info_content}
 
 one_more : (fs : List ImageFile) (i : ℕ) (f : ImageFile) → i < length fs → f ≡ get_or fs i f → info_content (files_as (drop i fs)) ≡ info_content (file_as f ∷ files_as (drop (i + 1) fs))

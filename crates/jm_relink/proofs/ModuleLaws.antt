@@ -17,7 +17,7 @@ use Rattle.jm_form.specs.declared.container.Header.{Header}
 use Rattle.jm_form.specs.declared.container.HeaderFault.{HeaderFault}
 use Rattle.jm_form.proofs.EntryLaws.{names_differ, slots_rise}
 use Rattle.jm_modinfo.specs.declared.descriptor.Descriptor.{Descriptor}
-use Rattle.jm_order.specs.ByteOrder.{is_before}
+use Rattle.jm_bytes.specs.ByteOrder.{is_before}
 use Rattle.jm_modpath.specs.Modules.{info_in, info_name}
 use Rattle.jm_names.specs.Names.{is_node, is_slash}
 use Rattle.jm_reader.specs.Walk.{entries_with}
@@ -27,7 +27,7 @@ use Rattle.jm_relink.specs.declared.error.RelinkError.TheVariants as error
 use Rattle.jm_relink.specs.declared.judging.SeenModule as handed
 use Rattle.jm_relink.specs.declared.modules.ImageModules.{ImageModules}
 use Rattle.jm_relink.specs.Files.{Filed, NeverFalls, file_name, files_as, info_entry, located, module_and_path, resources_of}
-use Rattle.jm_order.specs.ByName.{Named}
+use Rattle.jm_names.specs.ByName.{Named}
 use Rattle.jm_relink.specs.Groups.{Group, groups, info_content}
 use Rattle.jm_relink.specs.Judging.{ComesFrom, entry_due, group_due, groups_due, seen_as, seen_with}
 use Rattle.jm_relink.specs.Modules.{AreFilesOf, FindsModules, HasInfo, HoldsModules, IsRefusedIn, IsSeenIn, IsVisibleIn, ModulesOf, SeenModule, info_refusal, name_of}
@@ -36,8 +36,8 @@ use Rattle.jm_relink.proofs.JudgingLaws.{IsFirstRefused, IsFree, entry_err, entr
 use Rattle.jm_modpath.proofs.PackageLaws.{mapped_some}
 use Rattle.jm_relink.proofs.ListLaws.{one_of, pairs_right}
 use Rattle.jm_relink.proofs.NameLaws.{file_of_parts, parts_of_file}
-use Rattle.jm_order.proofs.ByteOrderLaws.{before_apart, one_way}
-use Rattle.jm_order.proofs.KeyLaws.{differ_moved}
+use Rattle.jm_bytes.proofs.ByteOrderLaws.{before_apart, one_way}
+use Rattle.jm_names.proofs.KeyLaws.{differ_moved}
 use Rattle.jm_relink.proofs.PackageLaws.{packages_are}
 
 -- The names of the entries of an image differ

@@ -8,16 +8,16 @@ use Rattle.jm_bytes.proofs.SameOrder.{same_order}
 use Rattle.jm_form.specs.Trees.{class_packages}
 use Rattle.jm_modinfo.specs.declared.descriptor.Descriptor.{Descriptor}
 use Rattle.jm_modinfo.specs.declared.faults.DescriptorFault.{DescriptorFault}
-use Rattle.jm_order.specs.ByteOrder.{is_before}
+use Rattle.jm_bytes.specs.ByteOrder.{is_before}
 use Rattle.jm_modpath.specs.Modules.{info_in}
 use Rattle.jm_relink.specs.declared.error.RelinkError.{RelinkError}
 use Rattle.jm_relink.specs.declared.error.RelinkError.TheVariants as error
 use Rattle.jm_relink.specs.Files.{file_name, info_entry, resources_of}
-use Rattle.jm_order.specs.ByName.{Named}
+use Rattle.jm_names.specs.ByName.{Named}
 use Rattle.jm_relink.specs.Modules.{AreFilesOf, HasInfo, IsRefusedIn, IsSeenIn, IsVisibleIn, ModulesOf, SeenModule, info_refusal, name_of}
 use Rattle.jm_relink.proofs.ModuleLaws.{Differ, one_content, resources_differ}
-use Rattle.jm_order.proofs.ByteOrderLaws.{one_way, stand}
-use Rattle.jm_order.proofs.ByteOrderLaws.Stand.{stands_before, is_one, stands_behind}
+use Rattle.jm_bytes.proofs.ByteOrderLaws.{one_way, stand}
+use Rattle.jm_bytes.proofs.ByteOrderLaws.Stand.{stands_before, is_one, stands_behind}
 
 files_once : (rs : List Named) (m : List ℕ) (es fs : List Named) → AreFilesOf rs m es → AreFilesOf rs m fs → es ≡ fs
 files_once rs m es fs one other =

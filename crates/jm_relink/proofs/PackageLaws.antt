@@ -8,11 +8,11 @@ use Rattle.jm_form.specs.Rising.{rising, with_placed}
 use Rattle.jm_form.specs.Trees as trees
 use Rattle.jm_modpath.specs.Finding.{class_package, named_package}
 use Rattle.jm_modpath.proofs.PackageLaws.{class_packages_are}
-use Rattle.jm_modpath.proofs.RisingLaws.{rising_same}
+use Rattle.jm_form.proofs.RisingLaws.{rising_same}
 use Rattle.jm_names.specs.Names.{is_slash}
 use Rattle.jm_relink.specs.declared.modules.ImageFile.{ImageFile}
 use Rattle.jm_relink.specs.Files.{file_as, file_name, files_as}
-use Rattle.jm_order.specs.ByName.{Named}
+use Rattle.jm_names.specs.ByName.{Named}
 use Rattle.jm_relink.specs.Packages.{packages_of, with_package}
 use Rattle.jm_relink.proofs.ListLaws.{append_none}
 use Rattle.jm_relink.proofs.NameLaws.{path_of_file}

@@ -7,7 +7,7 @@ use Rattle.jm_form.proofs.Vectors.{empty, side_by_side}
 use Rattle.jm_modinfo.specs.declared.faults.DescriptorFault.TheVariants as fault
 use Rattle.jm_modinfo.specs.Written.{info_text}
 use Rattle.jm_names.specs.declared.check.NameFault.TheVariants.{Dots}
-use Rattle.jm_order.specs.ByName.{Named}
+use Rattle.jm_names.specs.ByName.{Named}
 use Rattle.jm_relink.specs.declared.error.GatherError.TheVariants as gather
 use Rattle.jm_relink.specs.declared.error.RelinkError.TheVariants as error
 use Rattle.jm_relink.specs.Files.{Filed, located, resources_of}

@@ -10,7 +10,7 @@ use Rattle.jm_relink.specs.declared.error.GatherError.{GatherError}
 use Rattle.jm_relink.specs.declared.error.GatherError.TheVariants as error
 use Rattle.jm_relink.specs.declared.modules.ImageModules.{ImageModules}
 use Rattle.jm_relink.specs.Files.{file_name, files_as}
-use Rattle.jm_order.specs.ByName.{Named}
+use Rattle.jm_names.specs.ByName.{Named}
 
 -- What is asked of modules and of places
 

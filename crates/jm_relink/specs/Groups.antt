@@ -5,7 +5,7 @@ use Rattle.std.specs.Str.{bytes_eq}
 use Rattle.jm_modpath.specs.Modules.{info_name}
 use Rattle.jm_relink.specs.declared.groups.ModuleFiles.{ModuleFiles}
 use Rattle.jm_relink.specs.Files.{Filed, files_as}
-use Rattle.jm_order.specs.ByName.{Named}
+use Rattle.jm_names.specs.ByName.{Named}
 
 -- a module and files of it
 abbrev pub Group : Type 0

@@ -11,7 +11,7 @@ use Rattle.jm_relink.specs.declared.error.RelinkError.TheVariants as error
 use Rattle.jm_relink.specs.declared.judging.SeenModule as handed
 use Rattle.jm_relink.specs.declared.modules.ImageModules.{ImageModules}
 use Rattle.jm_relink.specs.Files.{Filed, files_as, info_entry}
-use Rattle.jm_order.specs.ByName.{Named}
+use Rattle.jm_names.specs.ByName.{Named}
 use Rattle.jm_relink.specs.Groups.{Group, groups, info_content}
 use Rattle.jm_relink.specs.Modules.{HoldsModules, SeenModule}
 use Rattle.jm_relink.specs.Packages.{packages_of}

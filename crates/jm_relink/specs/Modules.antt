@@ -8,14 +8,14 @@ use Rattle.jm_closure.specs.declared.candidate.Candidate.{Candidate}
 use Rattle.jm_form.specs.Trees.{class_packages}
 use Rattle.jm_modinfo.specs.declared.descriptor.Descriptor.{Descriptor}
 use Rattle.jm_modinfo.specs.declared.faults.DescriptorFault.{DescriptorFault}
-use Rattle.jm_order.specs.ByteOrder.{is_before}
+use Rattle.jm_bytes.specs.ByteOrder.{is_before}
 use Rattle.jm_modpath.specs.Modules.{info_in}
 use Rattle.jm_names.specs.Names.{is_slash}
 use Rattle.jm_relink.specs.declared.error.RelinkError.{RelinkError}
 use Rattle.jm_relink.specs.declared.error.RelinkError.TheVariants as error
 use Rattle.jm_relink.specs.declared.modules.ImageModules.{ImageModules}
 use Rattle.jm_relink.specs.Files.{file_name, files_as, info_entry, resources_of}
-use Rattle.jm_order.specs.ByName.{Named, RisesByName}
+use Rattle.jm_names.specs.ByName.{Named, RisesByName}
 
 -- a module, with its files by their paths and their contents
 pub record SeenModule : Type 0 where

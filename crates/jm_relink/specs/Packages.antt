@@ -3,7 +3,7 @@ use Rattle.std.specs.Prelude.{ℕ, List, map, Option, Some, None}
 use Rattle.std.specs.List.{filter_map}
 use Rattle.jm_form.specs.Rising.{rising, with_placed}
 use Rattle.jm_modpath.specs.Finding.{class_package}
-use Rattle.jm_order.specs.ByName.{Named}
+use Rattle.jm_names.specs.ByName.{Named}
 
 -- packages that rise, with that of one path more
 abbrev pub with_package : Option (List ℕ) → List (List ℕ) → List (List ℕ)

@@ -6,7 +6,7 @@ use Rattle.jm_names.specs.ComputedFault.{name_fault}
 use Rattle.jm_names.specs.NameFaults.{IsSound}
 use Rattle.jm_names.specs.declared.check.NameFault.{NameFault}
 use Rattle.jm_names.proofs.ComputedFaultLaws.{IsSound-computed}
-use Rattle.jm_order.specs.ByName.{Named}
+use Rattle.jm_names.specs.ByName.{Named}
 use Rattle.jm_texts.specs.NameRefusals.{first_bad_name, name_refusal}
 use Rattle.jm_texts.specs.declared.refusal.Refusal.TheVariants as refusal
 

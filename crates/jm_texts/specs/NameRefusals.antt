@@ -2,7 +2,7 @@
 use Rattle.std.specs.Prelude.{List, map, Option, option_map}
 use Rattle.jm_bytes.specs.Checks.{first_fault}
 use Rattle.jm_names.specs.ComputedFault.{name_fault}
-use Rattle.jm_order.specs.ByName.{Named}
+use Rattle.jm_names.specs.ByName.{Named}
 use Rattle.jm_texts.specs.declared.refusal.Refusal.{Refusal}
 use Rattle.jm_texts.specs.declared.refusal.Refusal.TheVariants as refusal
 

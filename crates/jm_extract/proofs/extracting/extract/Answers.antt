@@ -1,5 +1,5 @@
 use Rattle.std.proofs.Common.{List, map, ap, ◌∙◌, subst}
-use Rattle.jm_order.specs.ByName.{Named}
+use Rattle.jm_names.specs.ByName.{Named}
 use Rattle.jm_extract.specs.Extracted.{Extracts, extracted, unless_refused}
 use Rattle.jm_extract.specs.Taken.{taken_as}
 use Rattle.jm_extract.proofs.ExtractLaws.{out_of_memory}

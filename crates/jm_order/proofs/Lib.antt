@@ -1,4 +1,0 @@
-pub mod ByteOrderLaws
-pub mod KeyLaws
-pub mod NameOrder
-mod Vectors
