@@ -1,3 +1,4 @@
+pub mod ByteOrderLaws
 pub mod CheckLaws
 pub mod Choice
 pub mod Cuts

@@ -1,3 +1,4 @@
+pub mod ByteOrder
 pub mod Checks
 pub mod Metered
 pub mod Word
