@@ -1,4 +1,5 @@
 ghost use Rattle.std.specs.Prelude.{◌≡◌, ◌∷◌, ◌++◌, [], length, IfOk, OnOk, OnErr};
+ghost use Rattle.jm_bytes.specs.ByteOrder.{is_before};
 
 use std::alloc::{AllocError, AllocFailed, Global};
 use std::marker::Model;
@@ -33,6 +34,13 @@ pub fn extend(text: &mut Vec<u8>, bytes: &[u8]) -> Result<(), NoMemory>
     ensures err { OnErr result (text.new.items ≡ text.old.items) }
 {
     Ok(text.extend_from_slice(bytes)?)
+}
+
+/// Whether a text stands before another in byte order.
+pub fn is_before(text: &[u8], other: &[u8]) -> bool
+    ensures { result ≡ is_before text.now other.now }
+{
+    text.cmp(other).is_lt()
 }
 
 /// An owned list of bytes.
@@ -97,11 +105,24 @@ impl Text {
         self.bytes.len()
     }
 
+    /// What it takes its memory from.
+    pub fn allocator(&self) -> Global {
+        *self.bytes.allocator()
+    }
+
     /// Puts a byte at the end. A text for which no memory was found stays as it was.
     pub fn push(&mut self, byte: u8) -> Result<(), NoMemory>
         ensures ok { OnOk result (self.new ≡ self.old ++ byte ∷ []) }
         ensures err { OnErr result (self.new ≡ self.old) }
     {
         Ok(self.bytes.push(byte)?)
+    }
+
+    /// Puts bytes at the end. A text for which no memory was found stays as it was.
+    pub fn extend(&mut self, bytes: &[u8]) -> Result<(), NoMemory>
+        ensures ok { OnOk result (self.new ≡ self.old ++ bytes.now) }
+        ensures err { OnErr result (self.new ≡ self.old) }
+    {
+        extend(&mut self.bytes, bytes)
     }
 }
