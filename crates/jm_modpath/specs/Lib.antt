@@ -1,4 +1,3 @@
-pub mod ByteOrder
 pub mod Finding
 pub mod FoundView
 pub mod Modules

@@ -7,13 +7,13 @@ ghost use Rattle.std.specs.List.{filter_map};
 ghost use Rattle.std.specs.Cmp.Lexicographic.{slice_cmp};
 ghost use Rattle.std.specs.Ordering.{is_lt, nat_cmp};
 ghost use Rattle.jm_outside.specs.Files.{Rising, after_front};
-ghost use Rattle.jm_modpath.specs.ByteOrder.{is_before};
+ghost use Rattle.jm_bytes.specs.ByteOrder.{is_before};
 ghost use Rattle.jm_modpath.specs.Finding.{folders_among, names_within};
 ghost use Rattle.jm_modpath.specs.Modules.{folder_with_info};
 ghost use Rattle.jm_modpath.specs.TextView.{items_of};
 
 use crate::rising::rising;
-use jm_bytes::{List, NoMemory, Text, copy_of};
+use jm_bytes::{List, NoMemory, Text, copy_of, is_before};
 use jm_names::cut_at_first;
 use std::alloc::Global;
 
@@ -36,9 +36,7 @@ fn put_folder(alloc: Global, folders: &mut Vec<Vec<u8>>, name: &[u8]) -> Result<
         ≡ items_of folders.old.items ++ filter_map folder_with_info (name.now ∷ [])) }
 {
     if let Some(folder) = folder_with_info(name) {
-        if folders.push(copy_of(alloc, folder)?).is_err() {
-            return Err(NoMemory);
-        }
+        folders.push(copy_of(alloc, folder)?)?;
     }
     Ok(())
 }
@@ -64,13 +62,6 @@ pub fn folders_among(alloc: Global, names: &[Text]) -> Result<List<Text>, NoMemo
     rising(alloc, all_folders(alloc, names)?)
 }
 
-/// Whether a text stands before another one in byte order.
-fn is_before(text: &Text, bound: &[u8]) -> bool
-    ensures { result ≡ is_before text.now bound.now }
-{
-    text.as_slice().cmp(bound).is_lt()
-}
-
 /// How many of some rising names stand before a text.
 fn place_of(names: &[Text], bound: &[u8]) -> usize
     requires { Rising names.now }
@@ -78,7 +69,7 @@ fn place_of(names: &[Text], bound: &[u8]) -> usize
     ensures before { All (λ name. IsTrue (is_before name bound.now)) (take result names.now) }
     ensures behind { All (λ name. IsFalse (is_before name bound.now)) (drop result names.now) }
 {
-    names.partition_point(|name| is_before(name, bound))
+    names.partition_point(|name| is_before(name.as_slice(), bound))
 }
 
 /// The part of rising names in which those of a folder lie side by side.

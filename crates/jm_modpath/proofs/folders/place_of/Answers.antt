@@ -1,6 +1,6 @@
 use Rattle.std.proofs.Common.{IsTrue, IsFalse, rules}
 use Rattle.std.proofs.lemmas.List.Sorted.{IsPartitionPoint-from_clause}
-use Rattle.jm_modpath.specs.ByteOrder.{is_before}
+use Rattle.jm_bytes.specs.ByteOrder.{is_before}
 use Rattle.jm_modpath.proofs.FolderLaws.{all_before, all_behind, partitioned}
 use Rattle.jm_modpath.proofs.folders.place_of.Goals as goal
 
