@@ -1,3 +1,4 @@
+pub mod CountLaws
 pub mod Last
 pub mod Laws
 pub mod Map
