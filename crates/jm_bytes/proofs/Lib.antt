@@ -7,4 +7,5 @@ pub mod Firsts
 pub mod Members
 pub mod MeterLaws
 pub mod Pairs
+pub mod ResultLaws
 pub mod SameOrder

@@ -1,7 +1,7 @@
 -- What `extract` does, from what its call answered.
 use Rattle.std.proofs.Common.{◌≡◌, inl, inr, ℕ, List, [], length, Option, Some, None, Result, Ok, Err, refl, sym, ap, ◌∙◌, subst}
-use Rattle.jm_files.specs.Made.{MadeAll, MadePart}
-use Rattle.jm_files.proofs.MadeLaws.{part_of_all}
+use Rattle.jm_outside.specs.Made.{MadeAll, MadePart}
+use Rattle.jm_outside.proofs.MadeLaws.{part_of_all}
 use Rattle.jm_link.specs.ByName.{Named}
 use Rattle.jm_link.specs.declared.refusal.Refusal.{Refusal}
 use Rattle.jm_extract.specs.declared.extracting.ExtractStop.{ExtractStop}

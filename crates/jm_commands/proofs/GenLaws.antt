@@ -5,8 +5,8 @@ use Rattle.jm_outside.specs.Files.{Files}
 use Rattle.jm_outside.specs.Outcome.{Rose}
 use Rattle.jm_outside.specs.declared.shelf.ShelfError.{ShelfError}
 use Rattle.jm_outside.specs.declared.shelf.ShelfError.TheVariants as shelf_error
-use Rattle.jm_files.specs.Made.{MadeAll, MadePart, Writes, written}
-use Rattle.jm_files.proofs.MadeLaws.{made_append, part_append}
+use Rattle.jm_outside.specs.Made.{MadeAll, MadePart, Writes, written}
+use Rattle.jm_outside.proofs.MadeLaws.{made_append, part_append}
 use Rattle.jm_link.specs.declared.linking.LinkStop.{LinkStop}
 use Rattle.jm_link.specs.declared.linking.Summary.{Summary}
 use Rattle.jm_link.specs.Linked.{Request}

@@ -3,8 +3,8 @@ use Rattle.std.proofs.Common.{◌≡◌, ◌⊎◌, inl, inr, ℕ, ◌≤◌, Li
 use Rattle.jm_bytes.specs.declared.words.Order.{Order}
 use Rattle.jm_outside.specs.Files.{Files, put}
 use Rattle.jm_outside.specs.Outcome.{Rose, Shows, Told}
-use Rattle.jm_files.specs.Made.{MadeAll, MadePart}
-use Rattle.jm_files.proofs.MadeLaws.{part_alone, part_of_all}
+use Rattle.jm_outside.specs.Made.{MadeAll, MadePart}
+use Rattle.jm_outside.proofs.MadeLaws.{part_alone, part_of_all}
 use Rattle.jm_link.specs.declared.linking.LinkStop.{LinkStop}
 use Rattle.jm_link.specs.declared.linking.LinkStop.TheVariants as link_stop
 use Rattle.jm_link.specs.declared.linking.Summary.{Summary}

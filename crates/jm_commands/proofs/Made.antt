@@ -1,7 +1,7 @@
 -- Files that stay.
 use Rattle.std.proofs.Common.{◌≡◌, [], Option, Some, None, sym, ap, subst}
-use Rattle.jm_files.specs.Made.{MadeAll, MadePart, Writes}
-use Rattle.jm_files.proofs.MadeLaws.{made_none, part_of_none}
+use Rattle.jm_outside.specs.Made.{MadeAll, MadePart, Writes}
+use Rattle.jm_outside.proofs.MadeLaws.{made_none, part_of_none}
 use Rattle.jm_outside.specs.Files.{Files}
 
 -- no file to make changes nothing

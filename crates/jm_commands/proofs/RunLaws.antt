@@ -1,7 +1,7 @@
 -- What a run does, from what its step did.
 use Rattle.std.proofs.Common.{◌≡◌, inl, inr, ℕ, List, Option, Some, None, Result, Ok, Err, refl, sym, ap, ◌∙◌, subst}
-use Rattle.jm_files.specs.Made.{Writes}
-use Rattle.jm_files.proofs.MadeLaws.{part_of_all}
+use Rattle.jm_outside.specs.Made.{Writes}
+use Rattle.jm_outside.proofs.MadeLaws.{part_of_all}
 use Rattle.jm_jrt.specs.declared.serve_error.ServeError.{ServeError}
 use Rattle.jm_jrt.specs.declared.serve_error.ServeError.TheVariants as serve_error
 use Rattle.jm_commands.specs.declared.complaint.Complaint.{Complaint}

@@ -2,7 +2,7 @@
 use Rattle.std.proofs.Common.{◌≡◌, ℕ, zero, suc, List, [], ◌++◌, take, Bool, true, false, cond, Option, Some, None, option_map, Result, Ok, Err, inl, inr, refl, sym, ap, ◌∙◌, subst, append-nil}
 use Rattle.jm_bytes.proofs.Choice.{same_some}
 use Rattle.jm_extract.specs.Extracted.{extracted}
-use Rattle.jm_files.specs.Made.{Writes, written}
+use Rattle.jm_outside.specs.Made.{Writes, written}
 use Rattle.jm_form.specs.declared.damage.Damage.{Damage}
 use Rattle.jm_form.specs.Damages.{first_damage}
 use Rattle.jm_form.specs.Validity.{look}

@@ -1,7 +1,7 @@
 -- What a step does, from what its calls answered.
 use Rattle.std.proofs.Common.{◌≡◌, ℕ, ◌<◌, ◌≤◌, true, false, List, [], Option, Some, None, is_some, Result, Ok, Err, inl, inr, refl, sym, ap, ◌∙◌, subst, arith, IsErrAnd}
-use Rattle.jm_files.specs.Made.{MadeAll, Writes}
-use Rattle.jm_files.proofs.MadeLaws.{part_longer}
+use Rattle.jm_outside.specs.Made.{MadeAll, Writes}
+use Rattle.jm_outside.proofs.MadeLaws.{part_longer}
 use Rattle.jm_form.specs.declared.rows.Row.{Row}
 use Rattle.jm_form.specs.Damages.{first_damage}
 use Rattle.jm_jrt.specs.declared.serve_error.ServeError.{ServeError}

@@ -9,7 +9,7 @@ use Rattle.jm_commands.specs.declared.status.Status.TheVariants as status
 use Rattle.jm_commands.specs.Gen.{gen_of, gen_request}
 use Rattle.jm_commands.specs.HelpText.{version_text}
 use Rattle.jm_commands.specs.Outcome.{command_outcome, done, early_writes, refused}
-use Rattle.jm_files.specs.Made.{written}
+use Rattle.jm_outside.specs.Made.{written}
 
 -- `cat`
 

@@ -2,7 +2,7 @@
 -- rule).
 use Rattle.std.specs.Prelude.{ℕ, ◌≡◌, List, [], ◌∷◌, ◌++◌, false, Option, Some, None, codes}
 use Rattle.jm_bytes.specs.declared.words.Order.TheVariants.{Little}
-use Rattle.jm_files.specs.Made.{Writes}
+use Rattle.jm_outside.specs.Made.{Writes}
 use Rattle.jm_gen.specs.Generated.{generated, module_names}
 use Rattle.jm_link.specs.Linked.{Request}
 use Rattle.jm_plugins.specs.declared.Plugin.TheVariants as plugin

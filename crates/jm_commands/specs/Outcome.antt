@@ -17,7 +17,7 @@ use Rattle.jm_jrt.specs.Reply.{held_lines}
 use Rattle.jm_jrt.specs.Sessions.{answered_in}
 use Rattle.jm_jrt.specs.Stat.{held, stat}
 use Rattle.jm_names.specs.UtfForms.{utf}
-use Rattle.jm_files.specs.Made.{Writes}
+use Rattle.jm_outside.specs.Made.{Writes}
 use Rattle.jm_words.specs.declared.commands.Command.{Command}
 use Rattle.jm_words.specs.declared.commands.Command.TheVariants as command
 use Rattle.jm_words.specs.declared.errors.WordsError.{WordsError}

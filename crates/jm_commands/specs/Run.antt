@@ -3,7 +3,7 @@ use Rattle.std.specs.Prelude.{ℕ, ◌≡◌, ◌⊎◌, List, [], Option, Some,
 use Rattle.std.specs.Prelude.{Result, Ok, Err}
 use Rattle.jm_form.specs.declared.damage.Damage.{Damage}
 use Rattle.jm_form.specs.Damages.{first_damage}
-use Rattle.jm_files.specs.Made.{MadeAll, MadePart, Writes, written}
+use Rattle.jm_outside.specs.Made.{MadeAll, MadePart, Writes, written}
 use Rattle.jm_jrt.specs.TreesShown.{ShowsTrees}
 use Rattle.jm_link.specs.declared.refusal.Refusal.{Refusal}
 use Rattle.jm_link.specs.Linked.{LinkedImage}

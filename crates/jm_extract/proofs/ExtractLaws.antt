@@ -2,8 +2,8 @@
 use Rattle.std.proofs.Common.{◌≡◌, ℕ, ◌+◌, ◌<◌, List, [], ◌∷◌, ◌++◌, drop, length, map, take, get_or, Option, Result, Ok, Err, IsErrAnd, refl, sym, ap, subst, ◌∙◌}
 use Rattle.std.proofs.lemmas.List.{map-append, take-append-drop, take_more}
 use Rattle.jm_outside.specs.Files.{Files}
-use Rattle.jm_files.specs.Made.{MadeAll, MadePart, Writes}
-use Rattle.jm_files.proofs.MadeLaws.{made_append, part_append, part_longer, part_of_none}
+use Rattle.jm_outside.specs.Made.{MadeAll, MadePart, Writes}
+use Rattle.jm_outside.proofs.MadeLaws.{made_append, part_append, part_longer, part_of_none}
 use Rattle.jm_link.specs.ByName.{Named}
 use Rattle.jm_link.specs.declared.refusal.Refusal.{Refusal}
 use Rattle.jm_extract.specs.declared.extracting.ExtractStop.{ExtractStop}

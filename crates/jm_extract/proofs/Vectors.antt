@@ -4,7 +4,7 @@ use Rattle.std.specs.Prelude.{codes}
 use Rattle.jm_form.proofs.Vectors.{empty, side_by_side, tiny}
 use Rattle.jm_names.specs.declared.check.NameFault.TheVariants.{Dots, EmptyPart}
 use Rattle.jm_pattern.specs.declared.signs.Sign.TheVariants.{AnyRun, Byte}
-use Rattle.jm_files.specs.Made.{written}
+use Rattle.jm_outside.specs.Made.{written}
 use Rattle.jm_link.specs.declared.refusal.Refusal.TheVariants as refusal
 use Rattle.jm_extract.specs.Extracted.{extracted, refusal_of, write_of, writes_of}
 

@@ -5,7 +5,7 @@ use Rattle.std.specs.List.{list_any, starts_with}
 use Rattle.jm_bytes.specs.Checks.{fault_if, first_fault, unless_fault}
 use Rattle.jm_names.specs.UtfForms.{utf}
 use Rattle.jm_outside.specs.Files.{Files}
-use Rattle.jm_files.specs.Made.{MadeAll, MadePart, Writes}
+use Rattle.jm_outside.specs.Made.{MadeAll, MadePart, Writes}
 use Rattle.jm_pattern.specs.declared.signs.Sign.{Sign}
 use Rattle.jm_link.specs.ByName.{Named}
 use Rattle.jm_link.specs.Resources.{first_bad_name}

@@ -5,9 +5,9 @@ use Rattle.std.proofs.lemmas.Grind.{flat_map-append}
 use Rattle.std.specs.List.{flat_map, range_with_len}
 use Rattle.jm_bytes.proofs.Pairs.{range_more}
 use Rattle.jm_outside.specs.Files.{Files}
-use Rattle.jm_files.specs.Made.{MadeAll, MadePart, Writes}
+use Rattle.jm_outside.specs.Made.{MadeAll, MadePart, Writes}
 use Rattle.jm_gen.specs.Generated.{module_name, module_names}
-use Rattle.jm_files.proofs.MadeLaws.{made_append, part_append, part_longer}
+use Rattle.jm_outside.proofs.MadeLaws.{made_append, part_append, part_longer}
 
 -- Numbers one after another
 

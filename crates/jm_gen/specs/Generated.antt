@@ -8,7 +8,7 @@ use Rattle.jm_class.specs.Classes.{AttributeData, ClassData, CodeData, MemberDat
 use Rattle.jm_class.specs.Classes.{Coded, Constant, Hole, Opaque, SlotData, class_text, joined, u2}
 use Rattle.jm_modinfo.specs.declared.descriptor.Need.{Need}
 use Rattle.jm_modinfo.specs.Written.{info_text, utf8}
-use Rattle.jm_files.specs.Made.{Writes}
+use Rattle.jm_outside.specs.Made.{Writes}
 use Rattle.jm_gen.specs.Draws.{drawn}
 
 -- Names

@@ -1,6 +1,6 @@
 ghost use Rattle.std.specs.Prelude.{◌≡◌, ◌+◌, ◌∷◌, [], ◌≤◌, IsUtf8, OnOk, OnErr, IsErrOf};
 ghost use Rattle.jm_outside.specs.Outcome.{CountsFaults};
-ghost use Rattle.jm_files.specs.Made.{MadeAll, MadePart};
+ghost use Rattle.jm_outside.specs.Made.{MadeAll, MadePart};
 ghost use Rattle.jm_gen.specs.Draws.{drawn};
 ghost use Rattle.jm_gen.specs.Generated.{class_file, generated, info_file, module_files};
 
@@ -9,8 +9,7 @@ use crate::draws::Draws;
 use crate::infos::info;
 use crate::names::{class_path, path_in};
 use jm_bytes::extend;
-use jm_files::make_file;
-use jm_outside::{Shelf, ShelfError};
+use jm_outside::{make_file, Shelf, ShelfError};
 use std::alloc::Global;
 
 /// Makes the descriptor of a module.

@@ -5,7 +5,7 @@ use Rattle.jm_form.specs.Layout.{Written}
 use Rattle.jm_outside.specs.Files.{Files}
 use Rattle.jm_outside.specs.Outcome.{Rose, Shows}
 use Rattle.jm_writer.specs.Laid.{IsLaidOut}
-use Rattle.jm_files.specs.Holds.{Holds, HoldsPart}
+use Rattle.jm_outside.specs.Holds.{Holds, HoldsPart}
 use Rattle.jm_link.specs.declared.linking.Asked.{Asked}
 use Rattle.jm_link.specs.declared.linking.LinkStop.{LinkStop}
 use Rattle.jm_link.specs.declared.linking.LinkStop.TheVariants as stop

@@ -6,7 +6,7 @@ use Rattle.jm_outside.specs.Files.{Files}
 use Rattle.jm_outside.specs.Outcome.{Rose}
 use Rattle.jm_writer.specs.declared.draft.PlanError.{PlanError}
 use Rattle.jm_writer.specs.declared.draft.PlanError.TheVariants as plan
-use Rattle.jm_files.specs.Holds.{Holds, HoldsPart}
+use Rattle.jm_outside.specs.Holds.{Holds, HoldsPart}
 use Rattle.jm_link.specs.declared.linking.LinkStop.{LinkStop}
 use Rattle.jm_link.specs.declared.linking.LinkStop.TheVariants as stop
 use Rattle.jm_link.specs.declared.linking.Summary.{Summary}

@@ -3,7 +3,7 @@ ghost use Rattle.std.specs.Prelude.{◌≤◌};
 
 use crate::calls::shelf_of;
 use jm_bytes::{NoMemory, copy_of, extend};
-use jm_files::make_file;
+use jm_outside::make_file;
 use jm_gen::generate;
 use jm_outside::{MemShelf, Shelf};
 use std::alloc::Global;

@@ -4,7 +4,7 @@ ghost use Rattle.jm_form.specs.Layout.{contents_text, layout};
 ghost use Rattle.jm_outside.specs.Files.{Files};
 ghost use Rattle.jm_outside.specs.Outcome.{CountsFaults};
 ghost use Rattle.jm_writer.specs.Drafts.{IsDraft};
-ghost use Rattle.jm_files.specs.Holds.{Holds, HoldsPart};
+ghost use Rattle.jm_outside.specs.Holds.{Holds, HoldsPart};
 
 use crate::draft::Draft;
 use jm_outside::{Shelf, ShelfError};

@@ -1,5 +1,5 @@
 use Rattle.std.proofs.Common.{◌++◌, ℕ, List, refl, ap, ◌∙◌, subst}
-use Rattle.jm_files.specs.Made.{MadeAll}
+use Rattle.jm_outside.specs.Made.{MadeAll}
 use Rattle.jm_gen.specs.Generated.{generated}
 use Rattle.jm_commands.specs.Gen.{gen_from}
 use Rattle.jm_commands.specs.Sinks.{seen}

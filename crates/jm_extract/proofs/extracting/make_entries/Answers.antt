@@ -1,5 +1,5 @@
 use Rattle.std.proofs.Common.{sym, arith}
-use Rattle.jm_files.proofs.ResultLaws.{on_err}
+use Rattle.jm_bytes.proofs.ResultLaws.{on_err}
 use Rattle.jm_extract.proofs.ExtractLaws.{made_next, part_next}
 use Rattle.jm_extract.proofs.extracting.make_entries.Goals as goal
 

@@ -1,5 +1,5 @@
 use Rattle.std.proofs.Common.{◌≤◌, map, take}
-use Rattle.jm_files.specs.Made.{MadeAll}
+use Rattle.jm_outside.specs.Made.{MadeAll}
 use Rattle.jm_extract.specs.Extracted.{writes_of}
 use Rattle.jm_extract.specs.Taken.{taken_as}
 use Rattle.jm_extract.proofs.extracting.make_entries.Given as goal

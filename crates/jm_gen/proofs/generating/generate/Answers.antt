@@ -1,8 +1,8 @@
 use Rattle.std.proofs.Common.{◌≡◌, ◌+◌, ◌*◌, ℕ, ap, subst, ◌∙◌, arith}
 use Rattle.std.proofs.Math.Nat.{add-mul}
-use Rattle.jm_files.specs.Made.{MadeAll, MadePart, Writes}
-use Rattle.jm_files.proofs.MadeLaws.{made_none}
-use Rattle.jm_files.proofs.ResultLaws.{on_err}
+use Rattle.jm_outside.specs.Made.{MadeAll, MadePart, Writes}
+use Rattle.jm_outside.proofs.MadeLaws.{made_none}
+use Rattle.jm_bytes.proofs.ResultLaws.{on_err}
 use Rattle.jm_gen.specs.Draws.{drawn}
 use Rattle.jm_gen.specs.Generated.{generated, module_files}
 use Rattle.jm_gen.proofs.DrawLaws.{drawn-drawn, same_files}

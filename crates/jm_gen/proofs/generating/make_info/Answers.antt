@@ -1,5 +1,5 @@
 use Rattle.std.proofs.Common.{◌∙◌, ◌∷◌, [], ℕ, List, IsUtf8, OnOk, OnErr, ap, sym, subst, codes}
-use Rattle.jm_files.specs.Made.{MadeAll, MadePart}
+use Rattle.jm_outside.specs.Made.{MadeAll, MadePart}
 use Rattle.jm_gen.specs.Generated.{info_file}
 use Rattle.jm_gen.proofs.NameLaws.{info_rest, path_is_text}
 use Rattle.jm_gen.proofs.generating.make_info.Goals as goal

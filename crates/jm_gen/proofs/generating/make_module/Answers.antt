@@ -1,6 +1,6 @@
 use Rattle.std.proofs.Common.{◌≡◌, ◌+◌, ◌∷◌, [], ℕ, ap, subst, ◌∙◌, arith}
-use Rattle.jm_files.specs.Made.{MadeAll, MadePart}
-use Rattle.jm_files.proofs.ResultLaws.{on_err}
+use Rattle.jm_outside.specs.Made.{MadeAll, MadePart}
+use Rattle.jm_bytes.proofs.ResultLaws.{on_err}
 use Rattle.jm_gen.specs.Draws.{draw, drawn}
 use Rattle.jm_gen.specs.Generated.{class_file, info_file, module_files}
 use Rattle.jm_gen.proofs.DrawLaws.{drawn_next}

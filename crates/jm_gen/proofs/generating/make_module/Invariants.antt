@@ -1,5 +1,5 @@
 use Rattle.std.proofs.Common.{◌≡◌, ◌+◌, ◌≤◌}
-use Rattle.jm_files.specs.Made.{MadeAll}
+use Rattle.jm_outside.specs.Made.{MadeAll}
 use Rattle.jm_gen.specs.Draws.{drawn}
 use Rattle.jm_gen.specs.Generated.{module_files}
 use Rattle.jm_gen.proofs.generating.make_module.Given as goal

@@ -1,9 +1,9 @@
 use Rattle.std.proofs.Common.{◌+◌, ◌++◌, take, drop, subst, arith}
 use Rattle.jm_form.specs.Layout.{contents_text}
-use Rattle.jm_files.specs.Holds.{Holds, HoldsPart}
+use Rattle.jm_outside.specs.Holds.{Holds, HoldsPart}
 use Rattle.jm_writer.proofs.LayoutLaws.{contents_more, contents_ends}
-use Rattle.jm_files.proofs.ResultLaws.{on_err}
-use Rattle.jm_files.proofs.HoldsLaws.{holds_more, part_added, part_of_more}
+use Rattle.jm_bytes.proofs.ResultLaws.{on_err}
+use Rattle.jm_outside.proofs.HoldsLaws.{holds_more, part_added, part_of_more}
 use Rattle.jm_writer.proofs.writing.append_resources.Goals as goal
 
 pub returns-in_err-append-clause-err : goal.returns-in_err-append-clause-err

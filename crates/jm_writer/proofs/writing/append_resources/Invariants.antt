@@ -1,7 +1,7 @@
 use Rattle.std.proofs.Common.{◌≤◌, ◌++◌, ℕ, List, take, Option}
 use Rattle.jm_outside.specs.Files.{Files}
 use Rattle.jm_form.specs.Layout.{contents_text}
-use Rattle.jm_files.specs.Holds.{Holds}
+use Rattle.jm_outside.specs.Holds.{Holds}
 use Rattle.jm_writer.proofs.writing.append_resources.Given as goal
 
 abbrev pub invariant-loop-place : goal.invariant-loop-place

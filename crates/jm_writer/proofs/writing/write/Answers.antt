@@ -1,9 +1,9 @@
 use Rattle.std.proofs.Common.{◌++◌, [], subst, append_assoc}
 use Rattle.jm_form.specs.Layout.{contents_text}
-use Rattle.jm_files.specs.Holds.{Holds, HoldsPart}
+use Rattle.jm_outside.specs.Holds.{Holds, HoldsPart}
 use Rattle.jm_writer.proofs.DraftLaws.{draft_image}
-use Rattle.jm_files.proofs.ResultLaws.{on_err, on_ok_map, on_err_map}
-use Rattle.jm_files.proofs.HoldsLaws.{holds_more, part_added, part_made, part_of_more}
+use Rattle.jm_bytes.proofs.ResultLaws.{on_err, on_ok_map, on_err_map}
+use Rattle.jm_outside.proofs.HoldsLaws.{holds_more, part_added, part_made, part_of_more}
 use Rattle.jm_writer.proofs.writing.write.Goals as goal
 
 pub returns-in_err-create-clause-err : goal.returns-in_err-create-clause-err

@@ -2,8 +2,8 @@
 use Rattle.std.proofs.Common.{◌≡◌, inl, inr, ℕ, List, [], ◌∷◌, ◌++◌, Option, Some, None, option_map, refl, sym, ap, ◌∙◌, subst}
 use Rattle.jm_bytes.proofs.Choice.{same_some}
 use Rattle.jm_outside.specs.Files.{Files, put}
-use Rattle.jm_files.specs.Holds.{Holds, HoldsPart}
-use Rattle.jm_files.specs.Made.{BrokenOff, MadeAll, MadePart, Writes, written}
+use Rattle.jm_outside.specs.Holds.{Holds, HoldsPart}
+use Rattle.jm_outside.specs.Made.{BrokenOff, MadeAll, MadePart, Writes, written}
 
 -- One file
 

@@ -11,7 +11,7 @@ use Rattle.std.proofs.lemmas.Map.Text.{is_eq-slice_cmp}
 use Rattle.jm_outside.specs.Files.{Files, file, put, add}
 use Rattle.jm_outside.specs.Outcome.{AddsFront, AsBeforeOrEmpty, CountsFaults, Rose, Told}
 use Rattle.jm_outside.proofs.Laws.{file-put}
-use Rattle.jm_files.specs.Holds.{Holds, HoldsPart}
+use Rattle.jm_outside.specs.Holds.{Holds, HoldsPart}
 
 -- a path compared with itself
 same_path : (path : List ℕ) → is_eq (slice_cmp nat_cmp path path) ≡ true

@@ -1,8 +1,8 @@
 ghost use Rattle.std.specs.Prelude.{◌∷◌, [], IsUtf8, OnOk, OnErr, IsErrOf};
 ghost use Rattle.jm_outside.specs.Outcome.{CountsFaults};
-ghost use Rattle.jm_files.specs.Made.{MadeAll, MadePart};
+ghost use Rattle.jm_outside.specs.Made.{MadeAll, MadePart};
 
-use jm_outside::{Shelf, ShelfError};
+use crate::shelf::{Shelf, ShelfError};
 use std::alloc::Global;
 
 /// Makes the file of a path with these bytes, in place of what it had: one `create` and one

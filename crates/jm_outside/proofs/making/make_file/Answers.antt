@@ -1,8 +1,8 @@
 use Rattle.std.proofs.Common.{[]}
-use Rattle.jm_files.proofs.HoldsLaws.{holds_more, part_added, part_made}
-use Rattle.jm_files.proofs.MadeLaws.{part_alone}
-use Rattle.jm_files.proofs.ResultLaws.{on_err, on_ok_map, on_err_map}
-use Rattle.jm_files.proofs.making.make_file.Goals as goal
+use Rattle.jm_outside.proofs.HoldsLaws.{holds_more, part_added, part_made}
+use Rattle.jm_outside.proofs.MadeLaws.{part_alone}
+use Rattle.jm_bytes.proofs.ResultLaws.{on_err, on_ok_map, on_err_map}
+use Rattle.jm_outside.proofs.making.make_file.Goals as goal
 
 pub returns-in_err-create-clause-err : goal.returns-in_err-create-clause-err
 returns-in_err-create-clause-err g c =
