@@ -1,4 +1,5 @@
-ghost use Rattle.std.specs.Prelude.{◌≡◌, ◌∷◌, ◌<◌, ◌≤◌, length, option_map, IfSome, IfNone, IfOk, IfErr, ◌⊎◌};
+ghost use Rattle.std.specs.Prelude.{◌≡◌, ◌∷◌, ◌<◌, ◌≤◌, ◌⊎◌, length, option_map};
+ghost use Rattle.std.specs.Prelude.{IfSome, IfNone, IfOk, IfErr};
 ghost use Rattle.std.specs.List.{AllZip};
 ghost use Rattle.jm_bytes.specs.Results.{UnlessMemory};
 ghost use Rattle.jm_pattern.specs.Items.{items_of, is_refused, without_glob, item_pattern, list_of};
