@@ -63,6 +63,10 @@ trees_shown b resources bytes nodes stands = trees_with b resources (λ h header
 pub trees_shown_short : (b : List ℕ) (resources : List (List ℕ × List ℕ)) → length b ≤ 2 ^ 32 → NodesOf b (names_of resources) → Stands b resources → ShowsTrees b resources
 trees_shown_short b resources short nodes stands = trees_with b resources (λ h header. short_has b h short header) nodes stands
 
+-- of an image whose header was read
+pub trees_read : (b : List ℕ) (h : Header) → header_of b ≡ Ok h → HasSections h → (m : List (List ℕ × List ℕ)) → Stands b m → NodesOf b (names_of m) → ShowsTrees b m
+trees_read b h read has m stands nodes = trees_with b m (λ g header. subst HasSections (same_ok h g (sym read ∙ header)) has) nodes stands
+
 -- where the trees are shown no node is bad
 pub no_bad_node : (b : List ℕ) (resources : List (List ℕ × List ℕ)) → ShowsTrees b resources → (path : List ℕ) (at : ℕ) → stat b path ≢ Err (BadNode at)
 no_bad_node b resources shows path at bad = go (tree resources path) (sym (shows.stats path) ∙ bad)

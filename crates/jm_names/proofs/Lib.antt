@@ -5,5 +5,6 @@ pub mod ComputedTextLaws
 pub mod HashLaws
 pub mod JoinLaws
 pub mod UtfLaws
+pub mod UtfPlain
 pub mod UtfSteps
 pub mod Vectors

@@ -8,6 +8,7 @@ mod hashing;
 mod nodes;
 mod packages;
 mod pieces;
+mod printed;
 
 pub use check::{NameFault, check_name};
 pub use forms::{to_modified, to_utf8};
@@ -15,3 +16,4 @@ pub use hashing::{DEFAULT_SEED, hash, hash_pieces};
 pub use nodes::is_node;
 pub use packages::dotted;
 pub use pieces::{Pieces, cut_at_first, cut_at_last, split};
+pub use printed::extend_utf8;

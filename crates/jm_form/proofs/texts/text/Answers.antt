@@ -1,7 +1,7 @@
 use Rattle.std.proofs.Common.{◌≡◌, ◌∙◌, drop, arith}
 use Rattle.jm_form.specs.Places.{strings}
-use Rattle.jm_jrt.proofs.SectionPlaces.{strings_from}
-use Rattle.jm_jrt.proofs.rows.text.Goals as goal
+use Rattle.jm_form.proofs.SectionLaws.{strings_from}
+use Rattle.jm_form.proofs.texts.text.Goals as goal
 
 pub returns-clause-text : goal.returns-clause-text
 returns-clause-text g c =

@@ -1,6 +1,6 @@
 use Rattle.std.proofs.Common.{◌==◌, ap, sym, ◌∙◌, take}
 use Rattle.jm_names.proofs.ByteSearches.{found_nowhere, first_place}
-use Rattle.jm_jrt.proofs.rows.front.Goals as goal
+use Rattle.jm_form.proofs.texts.front.Goals as goal
 
 pub returns-in_err-len-clause-ends : goal.returns-in_err-len-clause-ends
 returns-in_err-len-clause-ends c = rw c.from_residual.ensures (sym (found_nowhere (λ x. x == 0) c.args.bytes.now c.in_err-len.ensures))
