@@ -8,3 +8,4 @@ pub mod Members
 pub mod MeterLaws
 pub mod Pairs
 pub mod SameOrder
+pub mod WordLaws

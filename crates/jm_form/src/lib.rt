@@ -17,5 +17,5 @@ pub use ranges::Range;
 pub use rows::{Row, read_row};
 pub use slots::{SlotRow, row_of_slot};
 pub use spelling::write_row;
-pub use table::{Redirect, redirect_at};
+pub use table::{Redirect, redirect_at, redirect_of};
 pub use trees::{Holds, Owner, TreeNode};
