@@ -9,3 +9,4 @@ pub mod MeterLaws
 pub mod Pairs
 pub mod ResultLaws
 pub mod SameOrder
+pub mod WordLaws

@@ -14,7 +14,7 @@ use Rattle.jm_form.proofs.HeadLaws.{length-locations}
 use Rattle.jm_form.proofs.ComputedRowsLaws.{row_within_64}
 
 -- a part of a section, from a place on
-section_from : (b : List ℕ) (start size place : ℕ) → place ≤ size → drop place (take size (drop start b)) ≡ take (size - place) (drop (start + place) b)
+pub section_from : (b : List ℕ) (start size place : ℕ) → place ≤ size → drop place (take size (drop start b)) ≡ take (size - place) (drop (start + place) b)
 section_from b start size place below =
     let whole : place + (size - place) ≡ size = omega arith in
     let cut = drop-take place (size - place) (drop start b) in

@@ -22,7 +22,7 @@ pub enum Redirect {
 }
 
 /// What a redirect word says, which is read as a signed number.
-fn redirect_of(word: u32) -> Redirect
+pub fn redirect_of(word: u32) -> Redirect
     ensures { result ≡ redirect_of word }
 {
     if word == 0 {

@@ -2,7 +2,8 @@ ghost use Rattle.std.specs.Prelude.{◌≡◌, ◌<◌, ◌≤◌, ◌↔◌, �
 ghost use Rattle.std.specs.Prelude.{All, Contains, IsSome, IfOk, OnOk, OnErr, codes};
 ghost use Rattle.std.specs.Map.{lookup};
 ghost use Rattle.std.specs.Str.{bytes_eq};
-ghost use Rattle.jm_strings.specs.Texts.{limit, section_of, place_of, with_text, IsZeroFree};
+ghost use Rattle.jm_form.specs.Strings.{place_of, section_of, with_text, IsZeroFree};
+ghost use Rattle.jm_strings.specs.Limit.{limit};
 ghost use Rattle.jm_strings.specs.declared.strings.StringsError.TheVariants.{Zero, Full};
 
 use indexmap::IndexMap;
@@ -25,7 +26,6 @@ pub enum StringsError {
 }
 
 impl From<NoMemory> for StringsError {
-    ghost use Rattle.std.specs.Prelude.{◌≡◌};
     ghost use Rattle.jm_strings.specs.declared.strings.StringsError.TheVariants.{Memory};
 
     ghost from_gives = { λ _ e. e ≡ Memory };

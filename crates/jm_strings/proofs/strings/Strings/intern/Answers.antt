@@ -1,6 +1,6 @@
 use Rattle.std.proofs.Common.{◌∙◌, Some, ap, sym}
-use Rattle.jm_strings.specs.Texts.{place_of}
-use Rattle.jm_strings.proofs.TableLaws.{place_of-push}
+use Rattle.jm_form.specs.Strings.{place_of}
+use Rattle.jm_form.proofs.StringsLaws.{place_of-push}
 use Rattle.jm_strings.proofs.strings.Strings.intern.Goals as goal
 
 pub returns-clause-place : goal.returns-clause-place

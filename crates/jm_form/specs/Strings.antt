@@ -1,13 +1,9 @@
 -- The strings section of an image that is written (jimage 1.0): different texts, each with a zero
--- byte behind it. The limit is this project's rule.
+-- byte behind it.
 use Rattle.std.specs.Prelude.{ℕ, ◌+◌, List, [], ◌∷◌, ◌++◌, length, Option, Some, None, option_map}
 use Rattle.std.specs.Prelude.{is_some, Contains, if◌then◌else◌}
 use Rattle.std.specs.List.{flat_map}
 use Rattle.std.specs.Str.{bytes_eq}
-
--- the most bytes that the section has
-abbrev pub limit : ℕ
-limit = 1073741824
 
 -- each text followed by a zero byte
 abbrev pub section_of : List (List ℕ) → List ℕ

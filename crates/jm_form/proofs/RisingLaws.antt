@@ -1,31 +1,26 @@
--- Texts that rise: there is one such list of the same texts, and two share a first text.
-use Rattle.std.proofs.Common.{◌≡◌, ℕ, ◌⊎◌, inl, inr, Bool, true, false, cond, List, [], ◌∷◌, Some, All, Contains, refl, sym, ap, ◌∙◌, subst, slice_get}
+-- Texts that rise: they are those that were given, no two of them are the same, and there is one such list.
+use Rattle.std.proofs.Common.{◌≡◌, ◌≢◌, ℕ, ◌-◌, ◌⊎◌, inl, inr, List, [], ◌∷◌, length, reverse, All, AllPairs, Contains, refl, sym, ap, ◌∙◌, subst, arith}
+use Rattle.std.proofs.lemmas.List.{get_or-reverse, length-reverse}
 use Rattle.std.proofs.lemmas.List.Elements.{All-nil, All-cons, All-contains}
-use Rattle.std.proofs.lemmas.List.Kept.{AllPairs-cons, AllPairs-filter}
+use Rattle.std.proofs.lemmas.List.Kept.{AllPairs-cons}
+use Rattle.std.proofs.lemmas.List.Sorted.{Contains-permutation, IsPermutation-reverse, IsPermutation-sym}
 use Rattle.std.proofs.lemmas.Map.Lookups.{exact_bytes}
-use Rattle.std.proofs.lemmas.Slice.Eq.{bytes_eq-Decides}
 use Rattle.std.specs.Cmp.Lexicographic.{slice_cmp, nat_list_cmp_total}
-use Rattle.std.specs.List.{filter, find}
-use Rattle.std.specs.Ordering.{match_ordering, nat_cmp}
-use Rattle.std.specs.Str.{bytes_eq}
+use Rattle.std.specs.Ordering.{is_lt, match_ordering, nat_cmp, ordering_reverse}
 use Rattle.std.specs.declared.cmp.Ordering.{Ordering}
 use Rattle.std.specs.declared.cmp.Ordering.TheVariants.{Less, Equal, Greater}
-use Rattle.jm_bytes.proofs.Members.{all_from_contains, any_contains, contains_cases, contains_filter, contains_here, contains_later, contains_none, from_any, from_filter}
-use Rattle.jm_bytes.proofs.Pairs.{pairs_none, pairs_head, pairs_tail}
+use Rattle.jm_bytes.proofs.ByteOrderLaws.{before_apart, one_way}
+use Rattle.jm_bytes.proofs.Members.{all_from_contains, contains_here, contains_later, contains_cases, contains_none}
+use Rattle.jm_bytes.proofs.Pairs.{pairs_none, pairs_head, pairs_tail, pairs_weaker}
 use Rattle.jm_bytes.proofs.SameOrder.{same_order}
 use Rattle.jm_form.specs.Rising.{rising, with_placed}
-use Rattle.jm_nodes.specs.Order.{is_among, IsRising, SameElements}
-use Rattle.jm_nodes.proofs.OrderLaws.{greater, strict}
-
-abbrev pub Before : List ℕ → List ℕ → Type 0
-Before text later = slice_cmp nat_cmp text later ≡ Less
 
 abbrev Texts : Type 0
 Texts = List (List ℕ)
 
 -- What they contain
 
-contains_placed : (text : List ℕ) (texts : Texts) (g : List ℕ) → (text ≡ g) ⊎ Contains texts g → Contains (with_placed text texts) g
+pub contains_placed : (text : List ℕ) (texts : Texts) (g : List ℕ) → (text ≡ g) ⊎ Contains texts g → Contains (with_placed text texts) g
 contains_placed text [] g (inl same) = subst (Contains (text ∷ [])) same (contains_here text [])
 contains_placed text [] g (inr later) = absurd (contains_none g later)
 contains_placed text (first ∷ texts) g there = go (slice_cmp nat_cmp text first) refl there (λ among. contains_placed text texts g among)
@@ -43,7 +38,7 @@ contains_placed text (first ∷ texts) g there = go (slice_cmp nat_cmp text firs
           | inr among ↦ contains_later first (with_placed text texts) g (rest (inr among))
         ]
 
-from_placed : (text : List ℕ) (texts : Texts) (g : List ℕ) → Contains (with_placed text texts) g → (text ≡ g) ⊎ Contains texts g
+pub from_placed : (text : List ℕ) (texts : Texts) (g : List ℕ) → Contains (with_placed text texts) g → (text ≡ g) ⊎ Contains texts g
 from_placed text [] g there = contains_cases text [] g there
 from_placed text (first ∷ texts) g there = go (slice_cmp nat_cmp text first) there (λ among. from_placed text texts g among)
   where
@@ -79,15 +74,18 @@ from_rising (text ∷ texts) g there =
 
 -- They rise
 
-placed_rises : (text : List ℕ) (texts : Texts) → IsRising texts → IsRising (with_placed text texts)
+abbrev pub Before : List ℕ → List ℕ → Type 0
+Before text later = slice_cmp nat_cmp text later ≡ Less
+
+pub placed_rises : (text : List ℕ) (texts : Texts) → AllPairs Before texts → AllPairs Before (with_placed text texts)
 placed_rises text [] rises = AllPairs-cons Before text [] (All-nil (Before text)) rises
 placed_rises text (first ∷ texts) rises = go (slice_cmp nat_cmp text first) refl (placed_rises text texts (pairs_tail Before first texts rises))
   where
     later : All (Before first) texts
     later = pairs_head Before first texts rises
 
-    go : (c : Ordering) → slice_cmp nat_cmp text first ≡ c → IsRising (with_placed text texts)
-        → IsRising (match_ordering c (text ∷ first ∷ texts) (first ∷ texts) (first ∷ with_placed text texts))
+    go : (c : Ordering) → slice_cmp nat_cmp text first ≡ c → AllPairs Before (with_placed text texts)
+        → AllPairs Before (match_ordering c (text ∷ first ∷ texts) (first ∷ texts) (first ∷ with_placed text texts))
     go Less e rest =
         AllPairs-cons Before text (first ∷ texts)
         (All-cons (Before text) first texts e (all_from_contains (Before text) texts (λ g there. nat_list_cmp_total.trans text first g e (All-contains (Before first) texts g later there)))) rises
@@ -97,48 +95,47 @@ placed_rises text (first ∷ texts) rises = go (slice_cmp nat_cmp text first) re
         (all_from_contains (Before first) (with_placed text texts)
         (λ g there.
         elim (from_placed text texts g there) [
-          | inl same ↦ subst (Before first) same (greater nat_list_cmp_total text first e)
+          | inl same ↦ subst (Before first) same (nat_list_cmp_total.antisymm first text ∙ ap ordering_reverse e)
           | inr among ↦ All-contains (Before first) texts g later among
         ])) rest
 
-pub rising_rises : (texts : Texts) → IsRising (rising texts)
+pub rising_rises : (texts : Texts) → AllPairs Before (rising texts)
 rising_rises [] = pairs_none Before
 rising_rises (text ∷ texts) = placed_rises text (rising texts) (rising_rises texts)
 
+no_way_back : (text later : List ℕ) → Before text later → Before later text → ⊥
+no_way_back text later before back = one_way text later (ap is_lt before) (ap is_lt back)
+
+-- no two of them are the same
+pub rising_differ : (texts : Texts) → AllPairs (λ a b. a ≢ b) (rising texts)
+rising_differ texts = pairs_weaker Before (λ a b. a ≢ b) (λ a b before. before_apart a b (ap is_lt before)) (rising texts) (rising_rises texts)
+
 -- there is one rising list of the same texts
-pub rising_only : (texts risen : Texts) → IsRising risen → SameElements texts risen → risen ≡ rising texts
-rising_only texts risen rises same =
-    same_order Before (strict nat_list_cmp_total) risen (rising texts) rises (rising_rises texts)
-    (λ g there. contains_rising texts g (same.only g there)) (λ g there. same.has g (from_rising texts g there))
+pub rising_only : (texts risen : Texts) → AllPairs Before risen → ((g : List ℕ) → Contains texts g → Contains risen g) → ((g : List ℕ) → Contains risen g → Contains texts g) → risen ≡ rising texts
+rising_only texts risen rises also back =
+    same_order Before no_way_back risen (rising texts) rises (rising_rises texts)
+    (λ g there. contains_rising texts g (back g there)) (λ g there. also g (from_rising texts g there))
 
-pub rising_same : (texts others : Texts) → SameElements texts others → rising texts ≡ rising others
-rising_same texts others same =
+-- texts of which one list contains what the other does are the same, rising
+pub rising_same : (texts others : Texts) → ((g : List ℕ) → Contains texts g → Contains others g) → ((g : List ℕ) → Contains others g → Contains texts g) → rising texts ≡ rising others
+rising_same texts others also back =
     sym (rising_only texts (rising others) (rising_rises others)
-    (record { has = λ g there. contains_rising others g (same.has g there); only = λ g there. same.only g (from_rising others g there) }))
+    (λ g there. contains_rising others g (also g there)) (λ g there. back g (from_rising others g there)))
 
--- What two of them share
+-- Falling
 
-pub first_found : {X : Type 0} (p : X → Bool) (xs : List X) → slice_get (filter p xs) 0 ≡ find p xs
-first_found p [] = refl
-first_found {X} p (x ∷ xs) = go (p x) (first_found p xs)
-  where
-    go : (b : Bool) → slice_get (filter p xs) 0 ≡ find p xs → slice_get (cond b (x ∷ filter p xs) (filter p xs)) 0 ≡ cond b (Some x) (find p xs)
-    go true rest = refl
-    go false rest = rest
+pub contains_falling : (texts : Texts) (g : List ℕ) → Contains texts g → Contains (reverse (rising texts)) g
+contains_falling texts g there = Contains-permutation (rising texts) (reverse (rising texts)) g (IsPermutation-reverse (rising texts)) (contains_rising texts g there)
 
-is_shared : (texts others : Texts) (g : List ℕ) → Contains (filter (λ text. is_among text others) texts) g → Contains (filter (λ other. is_among other texts) others) g
-is_shared texts others g there =
-    let from = from_filter (λ text. is_among text others) texts g there in
-    let one = from_any (λ other. bytes_eq other g) others from.1 in
-    contains_filter (λ other. is_among other texts) others g (subst (Contains others) ((bytes_eq-Decides one.0 g).0 one.2) one.1)
-    (any_contains (λ text. bytes_eq text g) texts g from.0 ((bytes_eq-Decides g g).1 refl))
+pub from_falling : (texts : Texts) (g : List ℕ) → Contains (reverse (rising texts)) g → Contains texts g
+from_falling texts g there = from_rising texts g (Contains-permutation (reverse (rising texts)) (rising texts) g (IsPermutation-sym (rising texts) (reverse (rising texts)) (IsPermutation-reverse (rising texts))) there)
 
--- the first text that is among the others is the first of the others that is among the texts
-pub first_shared : (texts others : Texts) → IsRising texts → IsRising others → find (λ text. is_among text others) texts ≡ find (λ other. is_among other texts) others
-first_shared texts others texts_rise others_rise =
-    sym (first_found (λ text. is_among text others) texts)
-    ∙ ap (λ shared. slice_get shared 0)
-    (same_order Before (strict nat_list_cmp_total) (filter (λ text. is_among text others) texts) (filter (λ other. is_among other texts) others)
-    (AllPairs-filter Before (λ text. is_among text others) texts texts_rise) (AllPairs-filter Before (λ other. is_among other texts) others others_rise)
-    (is_shared texts others) (is_shared others texts))
-    ∙ first_found (λ other. is_among other texts) others
+turned_differ : (texts : Texts) → AllPairs (λ a b. a ≢ b) texts → AllPairs (λ a b. a ≢ b) (reverse texts)
+turned_differ texts differ i j d before below same =
+    let size = length-reverse texts in
+    let one = get_or-reverse texts i d (omega arith) in
+    let other = get_or-reverse texts j d (omega arith) in
+    differ (length texts - 1 - j) (length texts - 1 - i) d (omega arith) (omega arith) (sym other ∙ sym same ∙ one)
+
+pub falling_differ : (texts : Texts) → AllPairs (λ a b. a ≢ b) (reverse (rising texts))
+falling_differ texts = turned_differ (rising texts) (rising_differ texts)
