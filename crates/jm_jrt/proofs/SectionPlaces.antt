@@ -8,13 +8,7 @@ use Rattle.jm_form.specs.Head.{index_length}
 use Rattle.jm_form.specs.Places.{locations, locations_place, strings, strings_place}
 use Rattle.jm_form.proofs.ComputedRowsLaws.{row_within_64}
 use Rattle.jm_form.proofs.HeadLaws.{length-locations}
-
--- a section from a place on
-pub section_from : (b : List ℕ) (start size place : ℕ) → place ≤ size → drop place (take size (drop start b)) ≡ take (size - place) (drop (start + place) b)
-section_from b start size place within =
-    let whole : place + (size - place) ≡ size = omega arith in
-    let cut = drop-take place (size - place) (drop start b) in
-    rw whole at cut ∙ ap (λ l. take (size - place) l) (drop-drop place start b)
+use Rattle.jm_form.proofs.SectionLaws.{section_from}
 
 pub strings_from : (b : List ℕ) (h : Header) (place : ℕ) → place ≤ h.strings → slice_range b (strings_place h + place) (strings_place h + place + (h.strings - place)) ≡ drop place (strings b h)
 strings_from b h place within =

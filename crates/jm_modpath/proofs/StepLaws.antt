@@ -25,7 +25,7 @@ use Rattle.jm_modpath.specs.declared.refusal.PathRefusal.{PathRefusal}
 use Rattle.jm_modpath.specs.declared.visible.VisibleModule.{VisibleModule}
 use Rattle.jm_modpath.specs.Finding.{Comes, added_due, folder_due, folders_among, folders_due, followed, info_due, names_within, refused_at, shown_due}
 use Rattle.jm_modpath.specs.Modules.{folder_info, folder_with_info, info_in, info_name, info_path, inside}
-use Rattle.jm_modpath.proofs.RisingLaws.{from_rising}
+use Rattle.jm_form.proofs.RisingLaws.{from_rising}
 
 ascii : (bs : List ℕ) → list_all (λ b. nat_lt b 128) bs ≡ true → IsAscii bs
 ascii [] all i = omega arith
