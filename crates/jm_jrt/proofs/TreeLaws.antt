@@ -3,6 +3,7 @@
 use Rattle.std.proofs.Common.{◌≡◌, ◌≢◌, ℕ, ◌^◌, ◌<◌, ◌≤◌, List, length, Option, Some, None, Result, Ok, Err, sym, ap, ◌∙◌, subst, slice_index, arith}
 use Rattle.std.specs.Option.{ok_or}
 use Rattle.jm_bytes.proofs.Choice.{same_ok}
+use Rattle.jm_bytes.proofs.WordLaws.{word-lt}
 use Rattle.jm_bytes.specs.Checks.{first_fault, unless_fault}
 use Rattle.jm_form.specs.declared.container.Header.{Header}
 use Rattle.jm_form.specs.declared.container.HeaderFault.{HeaderFault}
@@ -10,7 +11,7 @@ use Rattle.jm_form.specs.Head.{fields_of, header_checks, header_of, read_order}
 use Rattle.jm_form.specs.Nodes.{NodesOf}
 use Rattle.jm_form.specs.TreeView.{TreeItem, names_of, tree}
 use Rattle.jm_form.specs.Validity.{Stands, ValidAs}
-use Rattle.jm_form.proofs.HeadLaws.{header_fits}
+use Rattle.jm_form.proofs.HeadLaws.{header_fits, header_found}
 use Rattle.jm_jrt.specs.declared.jrt_error.JrtError.{JrtError}
 use Rattle.jm_jrt.specs.declared.jrt_error.JrtError.TheVariants.{BadNode, NotThere}
 use Rattle.jm_jrt.specs.Stat.{owner_read, stat, stat_read}
@@ -18,20 +19,15 @@ use Rattle.jm_jrt.specs.TreesShown.{ShowsTrees}
 use Rattle.jm_jrt.proofs.TreeCases.{stat_with_tree}
 use Rattle.jm_jrt.proofs.TreeContents.{HasSections}
 use Rattle.jm_jrt.proofs.TreeOwners.{owner_with_tree}
-use Rattle.jm_jrt.proofs.TreeWords.{word-lt}
 
 -- Headers whose sections have words
-
-fields_there : (b : List ℕ) (h : Header) (o : Option HeaderFault) → unless_fault o (fields_of b) ≡ Ok h → fields_of b ≡ h
-fields_there b h None e = same_ok (fields_of b) h e
-fields_there b h (Some fault) e = cc
 
 -- those of bytes
 pub bytes_have : (b : List ℕ) (h : Header) → ((k : ℕ) → slice_index b k < 256) → header_of b ≡ Ok h → HasSections h
 bytes_have b h bytes header =
     let first = word-lt (read_order b) b 20 bytes in
     let second = word-lt (read_order b) b 24 bytes in
-    subst HasSections (fields_there b h (first_fault (header_checks b)) header) (record { locations = omega arith; strings = omega arith })
+    subst HasSections (header_found b h (first_fault (header_checks b)) header).1 (record { locations = omega arith; strings = omega arith })
 
 -- those of a short file
 pub short_has : (b : List ℕ) (h : Header) → length b ≤ 2 ^ 32 → header_of b ≡ Ok h → HasSections h

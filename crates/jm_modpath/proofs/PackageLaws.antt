@@ -13,7 +13,7 @@ use Rattle.jm_form.specs.Rising.{rising}
 use Rattle.jm_form.specs.Trees.{ModuleFolder, class_packages, folders, folders_of, fronts, is_meta, module_of, package_folders, package_of, path_of, stands_in}
 use Rattle.jm_names.specs.Names.{dotted, is_empty, is_slash}
 use Rattle.jm_modpath.specs.Finding.{class_folder, class_package}
-use Rattle.jm_modpath.proofs.RisingLaws.{rising_same}
+use Rattle.jm_form.proofs.RisingLaws.{rising_same}
 
 both : (a b : Bool) → (a && b) ≡ true → (a ≡ true) × (b ≡ true)
 both true b h = (refl, h)

@@ -27,7 +27,7 @@ use Rattle.jm_modpath.specs.declared.refusal.PathRefusal.{PathRefusal}
 use Rattle.jm_modpath.specs.declared.visible.VisibleModule.{VisibleModule}
 use Rattle.jm_modpath.specs.Finding.{Comes, added_due, folder_due, folders_among, folders_due, info_due, names_within, refused_at, shown_due}
 use Rattle.jm_modpath.specs.Modules.{folder_info, folder_with_info, info_in, info_name, info_path, inside}
-use Rattle.jm_modpath.proofs.RisingLaws.{from_rising}
+use Rattle.jm_form.proofs.RisingLaws.{from_rising}
 
 pub info_is_text : IsUtf8 info_name
 info_is_text = IsUtf8-from_ascii info_name (ascii_all info_name refl)

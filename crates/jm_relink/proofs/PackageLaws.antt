@@ -12,7 +12,7 @@ use Rattle.jm_form.specs.Rising.{rising, with_placed}
 use Rattle.jm_form.specs.Trees as trees
 use Rattle.jm_modpath.specs.Finding as finding
 use Rattle.jm_modpath.proofs.PackageLaws.{class_packages_are}
-use Rattle.jm_modpath.proofs.RisingLaws.{rising_same}
+use Rattle.jm_form.proofs.RisingLaws.{rising_same}
 use Rattle.jm_names.specs.Names.{dotted, is_empty, is_slash}
 use Rattle.jm_relink.specs.declared.modules.ImageFile.{ImageFile}
 use Rattle.jm_relink.specs.Files.{Named, file_as, file_name, files_as}
