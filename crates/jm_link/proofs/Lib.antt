@@ -1,7 +1,10 @@
 pub mod ChosenLaws
+pub mod ClosedAgain
 pub mod ClosingLaws
 pub mod FileLaws
+pub mod FileOrder
 pub mod ImageLaws
+pub mod KeptLaws
 pub mod LaidLaws
 pub mod LinkVectors
 pub mod LinkingLaws
@@ -11,3 +14,5 @@ pub mod OnceLaws
 pub mod ResourceLaws
 pub mod ResourceNames
 pub mod ResourcesApart
+pub mod SaidLaws
+pub mod SeenAgain
