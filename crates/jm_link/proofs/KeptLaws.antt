@@ -15,7 +15,7 @@ use Rattle.jm_class.proofs.ComputedClassLaws.{reads-class_of}
 use Rattle.jm_compact.specs.Compact.{compact_text}
 use Rattle.jm_form.specs.Layout.{Written}
 use Rattle.jm_modinfo.specs.declared.descriptor.Descriptor.{Descriptor}
-use Rattle.jm_modinfo.specs.Descriptors.{InfoOf}
+use Rattle.jm_modinfo.specs.ComputedInfo.{info_of}
 use Rattle.jm_plugins.specs.declared.Plugin.{Plugin}
 use Rattle.jm_plugins.specs.declared.Plugin.TheVariants as plugin
 use Rattle.jm_plugins.specs.declared.chain.ApplyError.{ApplyError}
@@ -40,10 +40,10 @@ remade_ok text name (Ok c) q is = (c, refl, same_ok {E = ApplyError} (name, text
 remade_ok text name (Err fault) q is = cc
 
 -- the class that bytes are which say a descriptor
-class_says : (bytes : List ℕ) (c : ClassData) (d : Descriptor) → class_of bytes ≡ Ok c → Says bytes d → IsClass c × InfoOf c d
+class_says : (bytes : List ℕ) (c : ClassData) (d : Descriptor) → class_of bytes ≡ Ok c → Says bytes d → IsClass c × (info_of c ≡ Ok d)
 class_says bytes c d reads says =
     let same : says.class ≡ c = same_ok {E = ClassFault} says.class c (sym (reads-class_of bytes says.class says.reads) ∙ reads) in
-    (subst IsClass same says.reads.well_formed, subst (λ k. InfoOf k d) same says.info)
+    (subst IsClass same says.reads.well_formed, subst (λ k. info_of k ≡ Ok d) same says.info)
 
 module _ (R : List ℕ → List ℕ → Type 0) where
   abbrev pub Ordered : List Written → Type 0
@@ -92,7 +92,7 @@ module _ (R : List ℕ → List ℕ → Type 0) where
 
   -- classes of another text
 
-  module _ (text : ClassData → List ℕ) (keeps : (c : ClassData) (d : Descriptor) → IsClass c → InfoOf c d → Says (text c) d) where
+  module _ (text : ClassData → List ℕ) (keeps : (c : ClassData) (d : Descriptor) → IsClass c → info_of c ≡ Ok d → Says (text c) d) where
     remade_one : (p q : Written) → remade_pair text p ≡ Ok q → (p.0 ≡ q.0) × ((d : Descriptor) → Says p.1 d → Says q.1 d)
     remade_one p q is =
         elim (chosen (ends_with nat_eq p.0 (codes ".class")) (remade text p.0 (class_of p.1)) (Ok p) (Ok q) is) [

@@ -16,3 +16,4 @@ pub mod ResourceNames
 pub mod ResourcesApart
 pub mod SaidLaws
 pub mod SeenAgain
+pub mod ShownResources

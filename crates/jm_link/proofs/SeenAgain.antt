@@ -17,7 +17,6 @@ use Rattle.jm_form.specs.Trees.{class_packages, module_of, path_of}
 use Rattle.jm_modpath.specs.ByteOrder.{is_before}
 use Rattle.jm_modpath.specs.Finding.{class_package}
 use Rattle.jm_modpath.specs.Modules.{info_in, info_name}
-use Rattle.jm_modpath.proofs.InfoAnswers.{a_class, an_info}
 use Rattle.jm_modpath.proofs.PackageLaws.{class_packages_are}
 use Rattle.jm_modpath.proofs.RisingLaws.{from_rising}
 use Rattle.jm_names.specs.Names.{is_slash}
@@ -32,7 +31,7 @@ use Rattle.jm_relink.proofs.OrderLaws.{before_apart}
 use Rattle.jm_link.specs.ImageLinked.{seen_resources}
 use Rattle.jm_link.proofs.FileOrder.{IsFirst, IsFirstOrOne, modules_first, never_both, pairs_joined, paths_first}
 use Rattle.jm_link.proofs.KeptLaws.{AreKept, IsKept}
-use Rattle.jm_link.proofs.SaidLaws.{Says}
+use Rattle.jm_link.proofs.SaidLaws.{Says, says_info}
 
 abbrev pub Before : Candidate → Candidate → Type 0
 Before c d = is_before (closure.name_of c) (closure.name_of d) ≡ true
@@ -220,7 +219,7 @@ module _ (cs : List Candidate) (rs : List Written) (are : AreOf cs rs) (differ :
         record {
           content = info.0;
           info = record { whole = are.whole c among; there = (same (info_entry (closure.name_of c), info.0)).1 info.1 };
-          says = a_class info.0 says.class says.reads ∙ an_info says.class of.0.candidate.descriptor says.info ∙ ap (λ (d : Candidate). Ok d.descriptor) of.1;
+          says = says_info info.0 of.0.candidate.descriptor says ∙ ap (λ (d : Candidate). Ok d.descriptor) of.1;
           packages = refl;
           files = record {
             rising = files_rise c;
