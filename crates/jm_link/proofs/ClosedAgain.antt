@@ -41,7 +41,7 @@ place_of (y ∷ xs) x there =
       | inr later ↦ let at = place_of xs x later in (suc at.0, at.1)
     ]
 
-there : {X : Type 0} (xs : List X) (i : ℕ) → i < length xs → (x : X) × (slice_get xs i ≡ Some x)
+pub there : {X : Type 0} (xs : List X) (i : ℕ) → i < length xs → (x : X) × (slice_get xs i ≡ Some x)
 there [] i inside = absurd (omega (arith, inside))
 there (x ∷ xs) zero inside = (x, refl)
 there (x ∷ xs) (suc i) inside = there xs i (omega (arith, inside))

@@ -3,6 +3,7 @@ pub mod ClosedAgain
 pub mod ClosingLaws
 pub mod FileLaws
 pub mod FileOrder
+pub mod GivenBack
 pub mod ImageLaws
 pub mod KeptLaws
 pub mod LaidLaws
@@ -11,6 +12,7 @@ pub mod LinkingLaws
 pub mod ListedLaws
 pub mod NameOrder
 pub mod OnceLaws
+pub mod RelinkedLaws
 pub mod ResourceLaws
 pub mod ResourceNames
 pub mod ResourcesApart

@@ -1,7 +1,8 @@
 -- Relinking an image gives it back.
-use Rattle.std.proofs.Common.{◌≡◌, ◌≢◌, ◌<◌, ◌↔◌, inl, inr, ℕ, Bool, true, false, cond, List, [], ◌∷◌, find, length, map, All, AllPairs, Contains, IsPermutation, Option, Some, None, option_map, slice_get, Result, Ok, Err, refl, sym, ap, subst, ◌∙◌, arith, codes}
+use Rattle.std.proofs.Common.{◌≡◌, ◌≢◌, ◌<◌, ◌↔◌, inl, inr, ℕ, suc, ◌+◌, Bool, true, false, cond, List, [], ◌∷◌, ◌++◌, append_assoc, find, length, length-append, map, All, AllPairs, Contains, IsPermutation, Option, Some, None, option_map, slice_get, Result, Ok, Err, refl, sym, ap, subst, ◌∙◌, arith, codes}
 use Rattle.std.proofs.lemmas.Bool.{false≢true}
 use Rattle.std.proofs.lemmas.List.{length-map}
+use Rattle.std.proofs.lemmas.List.FromFn.{length-range_with_len}
 use Rattle.std.proofs.lemmas.List.Elements.{All-contains}
 use Rattle.std.proofs.lemmas.List.Sorted.{Contains-permutation, IsPermutation-sym}
 use Rattle.std.proofs.lemmas.Slice.Eq.{bytes_eq-Decides}
@@ -9,7 +10,7 @@ use Rattle.std.specs.List.{filter_map, flat_map, list_any, range_with_len}
 use Rattle.std.specs.Str.{bytes_eq}
 use Rattle.jm_bytes.proofs.Choice.{same_ok, same_some}
 use Rattle.jm_bytes.proofs.CheckLaws.{no_fault_all, no_fault_from}
-use Rattle.jm_bytes.proofs.Members.{all_from_contains, any_contains, contains_filter_map, contains_map, from_any, from_filter_map, from_map}
+use Rattle.jm_bytes.proofs.Members.{all_from_contains, any_contains, contains_filter_map, contains_here, contains_later, contains_map, from_any, from_filter_map, from_map}
 use Rattle.jm_bytes.proofs.SameOrder.{mapped_twice}
 use Rattle.jm_bytes.specs.Checks.{first_fault}
 use Rattle.jm_bytes.specs.declared.words.Order.{Order}
@@ -28,16 +29,17 @@ use Rattle.jm_plugins.specs.declared.chain.ApplyError.TheVariants as plugging
 use Rattle.jm_plugins.specs.Plugins.{apply}
 use Rattle.jm_reader.specs.Walk.{entries_of, entries_with}
 use Rattle.jm_relink.specs.Files.{info_entry, resources_of}
-use Rattle.jm_relink.specs.Modules.{ModulesOf, SeenModule}
+use Rattle.jm_relink.specs.Modules.{IsVisibleIn, ModulesOf, SeenModule}
 use Rattle.jm_relink.proofs.ModuleLaws.{resources_differ}
 use Rattle.jm_relink.proofs.OrderLaws.{differ_moved}
 use Rattle.jm_link.specs.declared.refusal.Refusal.{Refusal}
+use Rattle.jm_link.specs.declared.refusal.Refusal.TheVariants as refusal
 use Rattle.jm_link.specs.Chosen.{Chosen, is_called, reserved}
 use Rattle.jm_link.specs.ImageLinked.{ImageLinksTo, resources_seen, seen_candidates, seen_resources}
 use Rattle.jm_link.specs.Linked.{IsClosedTo, IsFoundTo, IsGatheredTo, IsLinkedOf, IsPluggedTo, LinkedImage, LinksAmong, Request, image_with, laid_out, layout_refusal}
 use Rattle.jm_link.specs.Relinked.{leaves_order}
 use Rattle.jm_link.specs.Resources.{first_bad_name, name_refusal}
-use Rattle.jm_link.proofs.ClosedAgain.{all_places, chosen_below, chosen_further, closes_again, found_again, taken, taken_rise}
+use Rattle.jm_link.proofs.ClosedAgain.{all_places, chosen_below, chosen_further, closes_again, found_again, taken, taken_rise, there}
 use Rattle.jm_link.proofs.FileLaws.{free_names, got}
 use Rattle.jm_link.proofs.FileOrder.{IsFirstOrOne}
 use Rattle.jm_link.proofs.KeptLaws.{AreKept, applied}
@@ -60,7 +62,7 @@ laid_parts order modules left None image is = (refl, same_ok {E = Refusal} image
 laid_parts order modules left (Some refusal) image is = cc
 
 plugged_parts : (order : Order) (modules : ℕ) (r : Result (List Written) ApplyError) (image : LinkedImage) → IsPluggedTo order modules r (Ok image) → (left : List Written) × (r ≡ Ok left) × (layout_refusal order left ≡ None) × (image ≡ image_with order modules left)
-plugged_parts order modules (Ok left) image is = (left, refl, laid_parts order modules left (layout_refusal order left) image is)
+plugged_parts order modules (Ok left) image is = let parts = laid_parts order modules left (layout_refusal order left) image is in (left, refl, parts.0, parts.1)
 plugged_parts order modules (Err (plugging.BadClass name fault)) image is = cc
 plugged_parts order modules (Err plugging.Memory) image is = absurd is
 
@@ -137,21 +139,26 @@ sound_again old new kept none =
     (λ o there.
     let from = from_map name_refusal new o there in
     let one = kept.each from.0 from.1 in
-    good from.0 o from.2 one.was (good_name old one.was none one.there) one.name))
-  where
-    fault_none : (q : Written) → name_refusal q ≡ None → name_fault q.0 ≡ None
-    fault_none q is = unrefused (name_fault q.0) is
-      where
-        unrefused : (o : Option _) → option_map (λ fault. refusal.BadName q.0 fault) o ≡ None → o ≡ None
-        unrefused None h = refl
-        unrefused (Some fault) h = cc
+    sym from.2 ∙ ap (λ n. option_map (λ fault. refusal.BadName n fault) (name_fault n)) (sym one.name) ∙ good_name old one.was none one.there))
 
-    good : (r : Written) (o : Option Refusal) → name_refusal r ≡ o → (q : Written) → name_refusal q ≡ None → q.0 ≡ r.0 → o ≡ None
-    good r o is q fine same = sym is ∙ ap (option_map (λ fault. refusal.BadName r.0 fault)) (ap name_fault (sym same) ∙ fault_none q fine)
+-- All of a list, by its places
 
--- All of a list by its places
-all_there : {X : Type 0} (xs : List X) → filter_map (slice_get xs) (range_with_len 0 (length xs)) ≡ xs
-all_there xs = slices xs
+in_middle : {X : Type 0} (front : List X) (x : X) (xs : List X) → slice_get (front ++ x ∷ xs) (length front) ≡ Some x
+in_middle [] x xs = refl
+in_middle (y ∷ front) x xs = in_middle front x xs
+
+all_from : {X : Type 0} (front xs : List X) → filter_map (slice_get (front ++ xs)) (range_with_len (length front) (length xs)) ≡ xs
+all_from front [] = refl
+all_from front (x ∷ xs) =
+    let place : length (front ++ x ∷ []) ≡ length front + 1 = length-append front (x ∷ []) in
+    let rest = ap (λ ys. filter_map (slice_get ys) (range_with_len (length (front ++ x ∷ [])) (length xs))) (sym (append_assoc front (x ∷ []) xs)) ∙ all_from (front ++ x ∷ []) xs in
+    rw (in_middle front x xs) (ap (λ ys. x ∷ ys) (ap (λ n. filter_map (slice_get (front ++ x ∷ xs)) (range_with_len n (length xs))) (sym place) ∙ rest))
+
+count_taken : {X : Type 0} (xs : List X) (places : List ℕ) → ((i : ℕ) → Contains places i → i < length xs) → length (filter_map (slice_get xs) places) ≡ length places
+count_taken xs [] within = refl
+count_taken xs (p ∷ places) within =
+    let held = there xs p (within p (contains_here p places)) in
+    rw held.1 (ap suc (count_taken xs places (λ i among. within i (contains_later p places i among))))
 
 -- Once more
 
@@ -203,7 +210,34 @@ module _ (b : List ℕ) (first asked : Request) (found : List Candidate) (gather
     long = length-map cs (see cs made.left are apart) ∙ sym (length-map cs again)
 
     gathered_again : resources_seen ss all ≡ made.left
-    gathered_again = ap (λ n. resources_seen ss (range_with_len 0 n)) (sym long) ∙ ap (flat_map seen_resources) (all_there ss) ∙ resources_again cs made.left are apart
+    gathered_again = ap (λ n. resources_seen ss (range_with_len 0 n)) (sym long) ∙ ap (flat_map seen_resources) (all_from [] ss) ∙ resources_again cs made.left are apart
 
     count : length all ≡ length made.places
-    count = counted
+    count = length-range_with_len 0 (length others) ∙ length-map cs again ∙ count_taken found made.places within
+
+    laid_again : ◌≡◌ {A = Result LinkedImage Refusal} (Ok image) (laid_out asked.order (length all) made.left (layout_refusal asked.order made.left))
+    laid_again =
+        ap (λ x. Ok x) made.is
+        ∙ sym (ap (λ o. laid_out o (length all) made.left (layout_refusal o made.left)) order
+        ∙ ap (λ n. laid_out first.order n made.left (layout_refusal first.order made.left)) count
+        ∙ ap (laid_out first.order (length made.places) made.left) made.fits)
+
+    plugged_again : IsPluggedTo asked.order (length all) (apply asked.plugins made.left) (Ok image)
+    plugged_again = subst (λ ps. IsPluggedTo asked.order (length all) (apply ps made.left) (Ok image)) (sym plugins) laid_again
+
+    gathered_to : IsGatheredTo asked (length all) (resources_seen ss all) (first_bad_name (resources_seen ss all)) (Ok image)
+    gathered_to =
+        subst (λ rs. IsGatheredTo asked (length all) rs (first_bad_name rs) (Ok image)) (sym gathered_again)
+        (subst (λ o. IsGatheredTo asked (length all) made.left o (Ok image)) (sym (sound_again (gathered made.places) made.left kept made.sound)) plugged_again)
+
+    links_again : LinksAmong asked (seen_candidates ss) (resources_seen ss) (Ok image)
+    links_again =
+        subst (λ fs. LinksAmong asked fs (resources_seen ss) (Ok image)) (sym same_found)
+        (subst (λ o. IsFoundTo asked others (resources_seen ss) o (Ok image)) (sym free) (Ok all, closes, gathered_to))
+
+    infos_held : IsVisibleIn (resources_of b) ss
+    infos_held = seen_visible cs made.left are apart infos (resources_of b) (held b made.left stands)
+
+    pub links_to : ImageLinksTo b asked (Ok image)
+    unfolding ModulesOf
+    links_to = (Ok ss, infos_held, links_again)

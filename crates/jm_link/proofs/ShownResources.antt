@@ -1,6 +1,6 @@
 -- What a module path and an image hand to a link are resources of their modules, by module and then
 -- by path.
-use Rattle.std.proofs.Common.{◌≡◌, ◌≢◌, ◌<◌, inl, inr, ℕ, zero, suc, Bool, true, false, cond, List, [], ◌∷◌, ◌++◌, drop, filter, length, map, take, All, AllPairs, Contains, Option, Some, None, option_map, slice_get, Result, Ok, Err, refl, sym, ap, subst, ◌∙◌, not, arith}
+use Rattle.std.proofs.Common.{◌≡◌, ◌≢◌, ◌<◌, inl, inr, ℕ, zero, suc, Bool, true, false, ◌&&◌, cond, List, [], ◌∷◌, ◌++◌, drop, filter, length, map, take, All, AllPairs, Contains, Option, Some, None, option_map, slice_get, Result, Ok, Err, refl, sym, ap, subst, ◌∙◌, not, arith}
 use Rattle.std.proofs.lemmas.Bool.{false≢true}
 use Rattle.std.proofs.lemmas.Option.{slice_get-map}
 use Rattle.std.proofs.lemmas.List.Elements.{All-contains, All-cons, All-head, All-nil, All-tail}
@@ -11,7 +11,7 @@ use Rattle.std.specs.Ordering.{is_lt, nat_cmp}
 use Rattle.std.specs.Prelude.{nat_lt}
 use Rattle.std.specs.declared.cmp.Ordering.TheVariants.{Less}
 use Rattle.jm_bytes.proofs.Choice.{same_some}
-use Rattle.jm_bytes.proofs.Members.{all_from_contains, contains_filter_map, contains_here, contains_later, contains_map, contains_cases, from_filter, from_filter_map, from_map}
+use Rattle.jm_bytes.proofs.Members.{all_from_contains, contains_filter_map, contains_here, contains_later, contains_map, contains_cases, contains_none, from_filter, from_filter_map, from_map}
 use Rattle.jm_bytes.proofs.Pairs.{pairs_among, pairs_filter_map, pairs_map, pairs_weaker}
 use Rattle.jm_bytes.proofs.SameOrder.{from_flat_map}
 use Rattle.jm_closure.specs.declared.candidate.Candidate.{Candidate}
@@ -21,7 +21,8 @@ use Rattle.jm_form.specs.Layout.{Written}
 use Rattle.jm_form.specs.Trees.{class_packages}
 use Rattle.jm_form.specs.Validity.{resources}
 use Rattle.jm_form.specs.Entries.{Entry, entries, entry_at, entry_of, is_reached, row_at, slots}
-use Rattle.jm_form.specs.Head.{header_of}
+use Rattle.jm_form.specs.Head.{header_of, index_length}
+use Rattle.jm_form.specs.Places.{contents}
 use Rattle.jm_form.specs.declared.container.Header.{Header}
 use Rattle.jm_form.specs.declared.container.HeaderFault.{HeaderFault}
 use Rattle.jm_form.specs.declared.rows.Row.{Row}
@@ -31,7 +32,7 @@ use Rattle.jm_modpath.specs.declared.visible.VisibleModule.{VisibleModule}
 use Rattle.jm_modpath.specs.ByteOrder.{is_before}
 use Rattle.jm_modpath.specs.Finding.{class_package}
 use Rattle.jm_modpath.specs.Modules.{bytes_at, candidates, folder_info, folders_in, info_name, info_path, inside, is_named, module_in, module_of, module_with, modules_in, resource_name, unhidden, visible}
-use Rattle.jm_modpath.specs.Modules as path
+use Rattle.jm_modpath.specs.Modules as shelf
 use Rattle.jm_modpath.proofs.PackageLaws.{class_packages_are}
 use Rattle.jm_modpath.proofs.RisingLaws.{contains_rising}
 use Rattle.jm_names.specs.Names.{is_node, is_slash}
@@ -76,7 +77,7 @@ modified_back (a ∷ x ∷ y ∷ z ∷ text) form low is = go (is_four a x y z) 
         let rest : modified (x ∷ y ∷ z ∷ text) ≡ form = cc in
         ap (λ d. d ∷ x ∷ y ∷ z ∷ text) head ∙ ap (λ t. c ∷ t) (back form (later (nat_lt c 128) (list_all (λ b. nat_lt b 128) form) low) rest)
       where
-        later : (u v : Bool) → cond u v false ≡ true → v ≡ true
+        later : (u v : Bool) → (u && v) ≡ true → v ≡ true
         later true v h = h
         later false v h = absurd (false≢true h)
 
@@ -85,7 +86,7 @@ modified_back (a ∷ x ∷ y ∷ z ∷ text) form low is = go (is_four a x y z) 
 from_unhidden : (earlier ms : List VisibleModule) (m : VisibleModule) → Contains (unhidden earlier ms) m → Contains ms m
 from_unhidden earlier [] m there = there
 from_unhidden earlier (k ∷ ms) m there =
-    go (is_named earlier (path.name_of k)) there (from_unhidden earlier ms m) (from_unhidden (earlier ++ k ∷ []) ms m)
+    go (is_named earlier (shelf.name_of k)) there (from_unhidden earlier ms m) (from_unhidden (earlier ++ k ∷ []) ms m)
   where
     go : (b : Bool) → Contains (cond b (unhidden earlier ms) (k ∷ unhidden (earlier ++ k ∷ []) ms)) m → (Contains (unhidden earlier ms) m → Contains ms m) → (Contains (unhidden (earlier ++ k ∷ []) ms) m → Contains ms m) → Contains (k ∷ ms) m
     go true there one other = contains_later k ms m (one there)
@@ -117,15 +118,15 @@ module _ (files : Files) (directories : List (List ℕ)) (bytes : (path : List �
       let two = from_filter_map (λ folder. module_in files (inside one.0 folder)) (folders_in files one.0) m one.2 in
       shown_by (inside one.0 two.0) (folder_info files (inside one.0 two.0)) m refl two.2
 
-  named_said : (m : VisibleModule) (is : IsShown m) → path.name_of m ≡ is.descriptor.name
-  named_said m is = ap path.name_of (sym is.is)
+  named_said : (m : VisibleModule) (is : IsShown m) → shelf.name_of m ≡ is.descriptor.name
+  named_said m is = ap shelf.name_of (sym is.is)
 
-  shown_whole : (m : VisibleModule) → Contains ms m → list_any is_slash (path.name_of m) ≡ false
+  shown_whole : (m : VisibleModule) → Contains ms m → list_any is_slash (shelf.name_of m) ≡ false
   shown_whole m there =
       let is = shown m there in
       subst (λ n. list_any is_slash n ≡ false) (sym (named_said m is)) (legal_plain is.descriptor.name (said_legal (bytes_at files (info_path m.folder)) is.descriptor is.says))
 
-  shown_package : (m : VisibleModule) → IsShown m → (path shared : List ℕ) → Contains m.files path → class_package (resource_name (path.name_of m) path) ≡ Some shared → Contains m.candidate.packages shared
+  shown_package : (m : VisibleModule) → IsShown m → (path shared : List ℕ) → Contains m.files path → class_package (resource_name (shelf.name_of m) path) ≡ Some shared → Contains m.candidate.packages shared
   shown_package m is path shared there has =
       let listed : Contains (names_below m.folder files) path = subst (λ (k : VisibleModule). Contains k.files path) (sym is.is) there in
       let names = map (resource_name is.descriptor.name) (names_below m.folder files) in
@@ -142,7 +143,7 @@ module _ (files : Files) (directories : List (List ℕ)) (bytes : (path : List �
 
   module_sorted : (m : VisibleModule) → Contains ms m → AllPairs Comes (module_files m)
   module_sorted m there =
-      let n = path.name_of m in
+      let n = shelf.name_of m in
       let whole = shown_whole m there in
       pairs_among (λ (e f : Named). e.0 ≢ f.0 → is_before e.0 f.0 ≡ true) Comes (module_files m)
       (λ e f among too sorted differ.
@@ -150,7 +151,7 @@ module _ (files : Files) (directories : List (List ℕ)) (bytes : (path : List �
       let two = from_map (file_of m) m.files f (from_by_name (map (file_of m) m.files) f too) in
       let first : file_name n (modified one.0) ≡ e.0 = ap (λ (x : Named). x.0) one.2 in
       let second : file_name n (modified two.0) ≡ f.0 = ap (λ (x : Named). x.0) two.2 in
-      let before : is_before (file_name n (modified one.0)) (file_name n (modified two.0)) ≡ true = rw (first, second) (sorted differ) in
+      let before : is_before (file_name n (modified one.0)) (file_name n (modified two.0)) ≡ true = subst (λ x. is_before (file_name n (modified one.0)) x ≡ true) (sym second) (subst (λ x. is_before x f.0 ≡ true) (sym first) (sorted differ)) in
       subst (λ x. IsFirst x f.0) first (subst (IsFirst (file_name n (modified one.0))) second
       (paths_first n n (modified one.0) (modified two.0) whole whole refl (sym (behind_front n (modified one.0) (modified two.0)) ∙ before))))
       (by_name_sorted (map (file_of m) m.files))
@@ -168,20 +169,20 @@ module _ (files : Files) (directories : List (List ℕ)) (bytes : (path : List �
     modules_there : All (Contains ms) modules
     modules_there = all_from_contains (Contains ms) modules (λ m there. let from = from_filter_map (slice_get ms) places m there in got ms from.0 m from.2)
 
-    modules_rise : AllPairs (λ (m k : VisibleModule). is_before (path.name_of m) (path.name_of k) ≡ true) modules
+    modules_rise : AllPairs (λ (m k : VisibleModule). is_before (shelf.name_of m) (shelf.name_of k) ≡ true) modules
     modules_rise =
-        pairs_filter_map (λ i j. (a b : Candidate) → slice_get (candidates ms) i ≡ Some a → slice_get (candidates ms) j ≡ Some b → slice_cmp nat_cmp (closure.name_of a) (closure.name_of b) ≡ Less) (λ (m k : VisibleModule). is_before (path.name_of m) (path.name_of k) ≡ true) (slice_get ms)
+        pairs_filter_map (λ i j. (a b : Candidate) → slice_get (candidates ms) i ≡ Some a → slice_get (candidates ms) j ≡ Some b → slice_cmp nat_cmp (closure.name_of a) (closure.name_of b) ≡ Less) (λ (m k : VisibleModule). is_before (shelf.name_of m) (shelf.name_of k) ≡ true) (slice_get ms)
         (λ i j less m k one other. ap is_lt (less m.candidate k.candidate (candidate_at i m one) (candidate_at j k other)))
         places (places_by_name (candidates ms) Taken places chosen within)
 
     files_sorted : AllPairs Comes (link_files ms places)
     files_sorted =
-        pairs_joined (Contains ms) (λ (m k : VisibleModule). is_before (path.name_of m) (path.name_of k) ≡ true) Comes module_files module_sorted
+        pairs_joined (Contains ms) (λ (m k : VisibleModule). is_before (shelf.name_of m) (shelf.name_of k) ≡ true) Comes module_files module_sorted
         (λ m k one other before e f there too differ.
         let first = from_map (file_of m) m.files e (from_by_name (map (file_of m) m.files) e there) in
         let second = from_map (file_of k) k.files f (from_by_name (map (file_of k) k.files) f too) in
-        subst (λ (x : Named). IsFirst x.0 f.0) first.2 (subst (λ (x : Named). IsFirst (file_name (path.name_of m) (modified first.0)) x.0) second.2
-        (modules_first (path.name_of m) (path.name_of k) (modified first.0) (modified second.0) (shown_whole m one) (shown_whole k other) before)))
+        subst (λ (x : Named). IsFirst x.0 f.0) first.2 (subst (λ (x : Named). IsFirst (file_name (shelf.name_of m) (modified first.0)) x.0) second.2
+        (modules_first (shelf.name_of m) (shelf.name_of k) (modified first.0) (modified second.0) (shown_whole m one) (shown_whole k other) before)))
         modules modules_there modules_rise
 
     pub path_resources : AreOf cs (resources_in files ms places)
@@ -198,7 +199,7 @@ module _ (files : Files) (directories : List (List ℕ)) (bytes : (path : List �
           let at = from_filter_map (slice_get ms) places m holder.1 in
           let is = shown m (got ms at.0 m at.2) in
           let file = from_map (file_of m) m.files from.0 (from_by_name (map (file_of m) m.files) from.0 holder.2) in
-          let same : (resource_name (path.name_of m) file.0, bytes_at files (inside m.folder file.0)) ≡ r = ap (λ (f : Named). (f.0, bytes_at files f.1)) file.2 ∙ from.2 in
+          let same : (resource_name (shelf.name_of m) file.0, bytes_at files (inside m.folder file.0)) ≡ r = ap (λ (f : Named). (f.0, bytes_at files f.1)) file.2 ∙ from.2 in
           record {
             candidate = m.candidate;
             path = modified file.0;
@@ -212,3 +213,104 @@ module _ (files : Files) (directories : List (List ℕ)) (bytes : (path : List �
           };
       order = pairs_map Comes (λ (f : Named). (f.0, bytes_at files f.1)) (link_files ms places) files_sorted;
     }
+
+-- From an image
+
+bytes_drop : (n : ℕ) (xs : List ℕ) → IsBytes xs → IsBytes (drop n xs)
+bytes_drop zero xs all = all
+bytes_drop (suc n) [] all = all
+bytes_drop (suc n) (x ∷ xs) all = bytes_drop n xs (All-tail (λ b. b < 256) x xs all)
+
+bytes_take : (n : ℕ) (xs : List ℕ) → IsBytes xs → IsBytes (take n xs)
+bytes_take zero xs all = All-nil (λ b. b < 256)
+bytes_take (suc n) [] all = All-nil (λ b. b < 256)
+bytes_take (suc n) (x ∷ xs) all = All-cons (λ b. b < 256) x (take n xs) (All-head (λ b. b < 256) x xs all) (bytes_take n xs (All-tail (λ b. b < 256) x xs all))
+
+content_with : (b : List ℕ) (header : Result Header HeaderFault) (r : Written) → IsBytes b → Contains (resources (entries_with b header)) r → IsBytes r.1
+content_with b (Err fault) r bytes there = absurd (contains_none r there)
+content_with b (Ok h) r bytes there =
+    let from = from_map (λ (e : Entry). (e.name, e.content)) (filter (λ (e : Entry). not (is_node e.name)) (entries b h)) r there in
+    let reached = from_filter (λ (e : Entry). not (is_node e.name)) (entries b h) from.0 from.1 in
+    let spelled = from_filter (is_reached b h) (filter_map (entry_at b h) (slots h)) from.0 reached.0 in
+    let at = from_filter_map (entry_at b h) (slots h) from.0 spelled.0 in
+    let row = mapped_some (entry_of b h at.0) (row_at b h at.0) from.0 at.2 in
+    subst (λ (x : Written). IsBytes x.1) from.2 (subst (λ (e : Entry). IsBytes e.content) row.2
+    (bytes_take row.0.size (drop row.0.offset (contents b h)) (bytes_drop row.0.offset (contents b h) (bytes_drop (index_length h) b bytes))))
+
+module _ (b : List ℕ) (bytes : All (λ byte. byte < 256) b) (ss : List SeenModule) (visible : IsVisibleIn (image.resources_of b) ss) (Taken : ℕ → Type 0) (places : List ℕ) (chosen : AreChosen (seen_candidates ss) Taken places) (within : (i : ℕ) → Contains places i → i < length (seen_candidates ss)) where
+  abbrev image_cs : List Candidate
+  image_cs = taken (seen_candidates ss) Taken places chosen within
+
+  abbrev picked : List SeenModule
+  picked = filter_map (slice_get ss) places
+
+  seen_at : (i : ℕ) (s : SeenModule) → slice_get ss i ≡ Some s → slice_get (seen_candidates ss) i ≡ Some s.candidate
+  seen_at i s is = slice_get-map (λ (t : SeenModule). t.candidate) ss i ∙ ap (option_map (λ (t : SeenModule). t.candidate)) is
+
+  abbrev Is : SeenModule → Type 0
+  Is s = IsSeenIn (image.resources_of b) s
+
+  is_seen : (s : SeenModule) → Contains ss s → Is s
+  is_seen s there = All-contains Is ss s visible.each there
+
+  all_picked : All Is picked
+  all_picked = all_from_contains Is picked (λ s there. let from = from_filter_map (slice_get ss) places s there in is_seen s (got ss from.0 s from.2))
+
+  picked_rise : AllPairs (λ (s t : SeenModule). is_before (name_of s) (name_of t) ≡ true) picked
+  picked_rise =
+      pairs_filter_map (λ i j. (a d : Candidate) → slice_get (seen_candidates ss) i ≡ Some a → slice_get (seen_candidates ss) j ≡ Some d → slice_cmp nat_cmp (closure.name_of a) (closure.name_of d) ≡ Less) (λ (s t : SeenModule). is_before (name_of s) (name_of t) ≡ true) (slice_get ss)
+      (λ i j less s t one other. ap is_lt (less s.candidate t.candidate (seen_at i s one) (seen_at j t other)))
+      places (places_by_name (seen_candidates ss) Taken places chosen within)
+
+  seen_package : (s : SeenModule) → Is s → (f : image.Named) (shared : List ℕ) → Contains s.files f → class_package (file_name (name_of s) f.0) ≡ Some shared → Contains s.candidate.packages shared
+  seen_package s is f shared there has =
+      let names = map (λ (g : image.Named). file_name (name_of s) g.0) s.files in
+      let among = contains_rising (filter_map class_package names) shared
+      (contains_filter_map class_package names (file_name (name_of s) f.0) shared (contains_map (λ (g : image.Named). file_name (name_of s) g.0) s.files f there) has) in
+      subst (λ ps. Contains ps shared) (class_packages_are names ∙ sym is.packages) among
+
+  seen_says : (s : SeenModule) → Is s → (f : image.Named) → Contains s.files f → f.0 ≡ info_name → Says f.1 s.candidate.descriptor
+  seen_says s is f there named =
+      let here = (is.files.each f.0 f.1).0 there in
+      let same = one_content (image.resources_of b) (file_name (name_of s) f.0) (info_entry (name_of s)) f.1 is.content (resources_differ b) here is.info.there (ap (file_name (name_of s)) named) in
+      let content = content_with b (header_of b) (info_entry (name_of s), is.content) bytes is.info.there in
+      subst (λ c. Says c s.candidate.descriptor) (sym same) (says_from is.content s.candidate.descriptor content is.says)
+
+  abbrev Sorted : Written → Written → Type 0
+  Sorted e f = IsFirstOrOne e.0 f.0
+
+  pub image_resources : AreOf image_cs (resources_seen ss places)
+  image_resources = record {
+    rising = taken_rise (seen_candidates ss) Taken places chosen within;
+    whole = λ c there.
+        let at = from_filter_map (slice_get (seen_candidates ss)) places c there in
+        let from = from_map (λ (s : SeenModule). s.candidate) ss c (got (seen_candidates ss) at.0 c at.2) in
+        subst (λ (d : Candidate). list_any is_slash (closure.name_of d) ≡ false) from.2 (is_seen from.0 from.1).info.whole;
+    each = λ r there.
+        let from = from_flat_map seen_resources picked r there in
+        let s = from.0 in
+        let at = from_filter_map (slice_get ss) places s from.1 in
+        let is = is_seen s (got ss at.0 s at.2) in
+        let file = from_map (resource_of (name_of s)) s.files r from.2 in
+        record {
+          candidate = s.candidate;
+          path = file.0.0;
+          among = contains_filter_map (slice_get (seen_candidates ss)) places at.0 s.candidate at.1 (seen_at at.0 s at.2);
+          name = ap (λ (x : Written). x.0) (sym file.2);
+          has_package = λ shared has. seen_package s is file.0 shared file.1 (ap (λ (x : Written). class_package x.0) file.2 ∙ has);
+          says = λ named. subst (λ (x : Written). Says x.1 s.candidate.descriptor) file.2 (seen_says s is file.0 file.1 named);
+        };
+    order =
+        pairs_joined Is (λ (s t : SeenModule). is_before (name_of s) (name_of t) ≡ true) Sorted seen_resources
+        (λ s is.
+        pairs_map Sorted (resource_of (name_of s)) s.files
+        (pairs_weaker (λ (e f : image.Named). is_before e.0 f.0 ≡ true) (λ e f. Sorted (resource_of (name_of s) e) (resource_of (name_of s) f))
+        (λ e f before differ. paths_first (name_of s) (name_of s) e.0 f.0 is.info.whole is.info.whole refl before)
+        s.files is.files.rising))
+        (λ s t one other before e f there too differ.
+        let first = from_map (resource_of (name_of s)) s.files e there in
+        let second = from_map (resource_of (name_of t)) t.files f too in
+        subst (λ (x : Written). IsFirst x.0 f.0) first.2 (subst (λ (x : Written). IsFirst (file_name (name_of s) first.0.0) x.0) second.2
+        (modules_first (name_of s) (name_of t) first.0.0 second.0.0 one.info.whole other.info.whole before)))
+        picked all_picked picked_rise;
+  }
