@@ -1,21 +1,19 @@
 -- The modules of a closure by themselves are the closure of their names: nothing is refused, and
 -- all of them are taken. They may have lost packages.
-use Rattle.std.proofs.Common.{◌≡◌, ◌≢◌, ◌<◌, ◌≤◌, ◌+◌, ◌⊎◌, inl, inr, ℕ, zero, suc, Bool, true, false, List, [], ◌∷◌, ◌++◌, length, map, get_or, All, AllPairs, Contains, Option, Some, None, slice_get, Ok, refl, sym, ap, subst, ◌∙◌, arith}
+use Rattle.std.proofs.Common.{◌≡◌, ◌<◌, ◌+◌, inl, inr, ℕ, zero, suc, Bool, true, false, List, [], ◌∷◌, ◌++◌, length, map, get_or, AllPairs, Contains, Some, slice_get, Ok, refl, sym, ap, subst, ◌∙◌, arith}
 use Rattle.std.proofs.lemmas.List.FromFn.{get_or-range_with_len, length-range_with_len}
 use Rattle.std.proofs.lemmas.Option.{slice_get-get_or, slice_get-map}
 use Rattle.std.specs.Cmp.Lexicographic.{slice_cmp}
 use Rattle.std.specs.List.{filter_map, range_with_len}
 use Rattle.std.specs.Ordering.{is_lt, nat_cmp}
-use Rattle.std.specs.Prelude.{option_and_then}
 use Rattle.std.specs.declared.cmp.Ordering.TheVariants.{Less}
-use Rattle.jm_bind.specs.Binding.{Bound, IsClosed}
 use Rattle.jm_bytes.proofs.Choice.{same_some}
-use Rattle.jm_bytes.proofs.Members.{contains_cases, contains_filter_map, contains_here, contains_later, contains_map, contains_none, contains_range, from_filter_map, from_map, from_range}
+use Rattle.jm_bytes.proofs.Members.{contains_cases, contains_filter_map, contains_here, contains_later, contains_map, contains_none, contains_range, from_map, from_range}
 use Rattle.jm_bytes.proofs.Pairs.{pairs_filter_map, pairs_map, pairs_weaker}
 use Rattle.jm_closure.specs.declared.candidate.Candidate.{Candidate}
 use Rattle.jm_closure.proofs.OnceLaws.{reached_found}
 use Rattle.jm_closure.proofs.ReachLaws.{leads_more}
-use Rattle.jm_closure.specs.Modules.{HasName, HasPackage, IsFound, IsRoot, Leads, Reached, ReachesItself, Requires, RequiresName, name_of, needed_by, required_by}
+use Rattle.jm_closure.specs.Modules.{IsFound, IsRoot, Leads, Requires, name_of, needed_by, required_by}
 use Rattle.jm_closure.specs.Refusals.{AreChosen, Closes, Holds, IsAcyclic, IsUnsplit, NeedsFound, RootsFound}
 use Rattle.jm_relink.proofs.ListLaws.{mapped_some}
 use Rattle.jm_link.specs.Chosen.{Chosen}
@@ -164,11 +162,20 @@ module _ (found : List Candidate) (Taken : ℕ → Type 0) (places : List ℕ) (
       needs_again needs further name (by, (k, also, named, (c, at, has), lost)) =
           let w = was k c at in
           let required = requires_same k c w name has in
-          needs name (name_of w.candidate, (w.place, w.closed, (w.candidate, w.is, refl), (w.candidate, w.is, required), λ is_found.
-          let from = from_map name_of found name is_found in
-          let at = place_of found from.0 from.1 in
-          let taken_too = further w.place at.0 w.closed (name, (w.candidate, w.is, required), (from.0, at.1, from.2)) in
-          lost (subst (IsFound found_again) from.2 (found_there from.0 (contains_filter_map (slice_get found) places at.0 from.0 ((chosen.exactly at.0).1 taken_too) at.1)))))
+          needs name (
+            name_of w.candidate,
+            (
+              w.place,
+              w.closed,
+              (w.candidate, w.is, refl),
+              (w.candidate, w.is, required),
+              λ is_found.
+                  let from = from_map name_of found name is_found in
+                  let at = place_of found from.0 from.1 in
+                  let taken_too = further w.place at.0 w.closed (name, (w.candidate, w.is, required), (from.0, at.1, from.2)) in
+                  lost (subst (IsFound found_again) from.2 (found_there from.0 (contains_filter_map (slice_get found) places at.0 from.0 ((chosen.exactly at.0).1 taken_too) at.1))),
+            ),
+          )
 
       pub acyclic_again : IsAcyclic found Taken → IsAcyclic found_again Again
       acyclic_again acyclic name (k, also, (c, at, named), (l, ks, step, leads)) =

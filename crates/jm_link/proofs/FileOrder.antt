@@ -1,5 +1,5 @@
 -- Names of resources in the order in which they are linked: by module, and then by path.
-use Rattle.std.proofs.Common.{◌≡◌, ◌≢◌, ◌⊎◌, inl, inr, ℕ, Bool, true, false, cond, List, [], ◌∷◌, ◌++◌, All, AllPairs, Contains, refl, sym, ap, subst, ◌∙◌, suc, arith}
+use Rattle.std.proofs.Common.{◌≡◌, ◌≢◌, ◌⊎◌, inl, inr, ℕ, Bool, true, false, cond, List, [], ◌∷◌, ◌++◌, All, AllPairs, Contains, refl, sym, ap, subst, ◌∙◌}
 use Rattle.std.proofs.lemmas.Bool.{false≢true}
 use Rattle.std.proofs.lemmas.List.Elements.{All-contains, All-head, All-nil, All-tail}
 use Rattle.std.proofs.lemmas.List.Kept.{AllPairs-cons}
@@ -17,7 +17,7 @@ use Rattle.jm_modpath.specs.ByteOrder.{is_before}
 use Rattle.jm_names.specs.Names.{is_slash}
 use Rattle.jm_nodes.proofs.SoundLaws.{module_again, path_again}
 use Rattle.jm_relink.specs.Files.{file_name}
-use Rattle.jm_relink.proofs.OrderLaws.{Stand, before_apart, before_further, one_way, stand}
+use Rattle.jm_relink.proofs.OrderLaws.{before_apart, before_further, one_way, stand}
 use Rattle.jm_relink.proofs.OrderLaws.Stand.{stands_before, is_one, stands_behind}
 use Rattle.jm_link.specs.ByName.{Named, by_name, placed}
 use Rattle.jm_link.proofs.NameOrder.{from_placed}

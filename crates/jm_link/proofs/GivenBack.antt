@@ -1,5 +1,5 @@
 -- Relinking gives back the image that a link made, wherever that took its modules from.
-use Rattle.std.proofs.Common.{◌≡◌, ◌<◌, ◌↔◌, ℕ, List, [], All, Contains, Option, Some, None, slice_get, length, Result, Ok, Err, refl, sym, ap, subst, ◌∙◌}
+use Rattle.std.proofs.Common.{◌≡◌, ◌<◌, ℕ, List, Contains, Option, Some, None, slice_get, length, Result, Ok, Err, refl, sym, ap, subst, ◌∙◌}
 use Rattle.jm_bytes.proofs.Choice.{same_ok, same_some}
 use Rattle.jm_bytes.proofs.Members.{contains_filter_map, from_filter_map, from_map}
 use Rattle.jm_closure.specs.declared.candidate.Candidate.{Candidate}
@@ -18,14 +18,13 @@ use Rattle.jm_link.specs.declared.linking.LinkStop.TheVariants as stop
 use Rattle.jm_link.specs.declared.linking.Summary.{Summary}
 use Rattle.jm_link.specs.declared.refusal.Refusal.{Refusal}
 use Rattle.jm_link.specs.Chosen.{Chosen}
-use Rattle.jm_link.specs.ImageLinked.{ImageComesTo, ImageLinks, ImageLinksTo, IsImageTo, resources_seen, seen_candidates}
-use Rattle.jm_link.specs.Linked.{IsPathTo, LinkedImage, LinksAmong, LinksTo, Request}
-use Rattle.jm_link.specs.Relinked.{GivesBack, HoldsBytes, IsGivenBack, LinksFrom, Relinks, Shows, Source, Takes}
+use Rattle.jm_link.specs.ImageLinked.{ImageLinks, ImageLinksTo, IsImageTo, resources_seen, seen_candidates}
+use Rattle.jm_link.specs.Linked.{IsPathTo, LinkedImage, LinksAmong, Request}
+use Rattle.jm_link.specs.Relinked.{GivesBack, HoldsBytes, LinksFrom, Relinks, Shows, Source, Takes}
 use Rattle.jm_link.specs.Relinked.Source.{ModulePath, Image}
 use Rattle.jm_link.specs.Resources.{resources_in}
 use Rattle.jm_files.specs.Holds.{Holds}
 use Rattle.jm_link.proofs.ClosedAgain.{chosen_below, taken}
-use Rattle.jm_link.proofs.FileLaws.{got}
 use Rattle.jm_link.proofs.ImageLaws.{visible_in}
 use Rattle.jm_link.proofs.OnceLaws.{among_once}
 use Rattle.jm_link.proofs.RelinkedLaws.{IsMade, links_to, made_parts}

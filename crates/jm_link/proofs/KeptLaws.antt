@@ -1,14 +1,14 @@
 -- What plug-ins leave that have no order: resources that were there, in their order, and what each
 -- descriptor says.
-use Rattle.std.proofs.Common.{◌≡◌, ℕ, inl, inr, Bool, true, false, cond, List, [], ◌∷◌, All, AllPairs, Contains, filter, codes, Result, Ok, Err, refl, sym, ap, subst, ◌∙◌, nat_eq, not, suc, arith}
+use Rattle.std.proofs.Common.{◌≡◌, ℕ, inl, inr, Bool, true, List, [], ◌∷◌, All, AllPairs, Contains, filter, codes, Result, Ok, Err, refl, sym, ap, subst, ◌∙◌, nat_eq, not, suc, arith}
 use Rattle.std.proofs.lemmas.Bool.{false≢true}
 use Rattle.std.proofs.lemmas.List.Kept.{AllPairs-cons, AllPairs-filter}
 use Rattle.std.specs.List.{ends_with}
 use Rattle.jm_bytes.proofs.Choice.{chosen, same_ok}
-use Rattle.jm_bytes.proofs.Members.{all_from_contains, contains_cases, contains_here, contains_later, contains_none, from_filter}
-use Rattle.jm_bytes.proofs.Pairs.{pairs_head, pairs_none, pairs_tail}
+use Rattle.jm_bytes.proofs.Members.{all_from_contains, contains_cases, contains_here, contains_later, from_filter}
+use Rattle.jm_bytes.proofs.Pairs.{pairs_head, pairs_tail}
 use Rattle.std.proofs.lemmas.List.Elements.{All-contains}
-use Rattle.jm_class.specs.Classes.{ClassData, IsClass, ReadsAs}
+use Rattle.jm_class.specs.Classes.{ClassData, IsClass}
 use Rattle.jm_class.specs.ComputedClass.{class_of}
 use Rattle.jm_class.specs.declared.class.ClassFault.{ClassFault}
 use Rattle.jm_class.proofs.ComputedClassLaws.{reads-class_of}

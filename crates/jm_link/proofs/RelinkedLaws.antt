@@ -1,33 +1,30 @@
 -- Relinking an image gives it back.
-use Rattle.std.proofs.Common.{◌≡◌, ◌≢◌, ◌<◌, ◌↔◌, inl, inr, ℕ, suc, ◌+◌, Bool, true, false, cond, List, [], ◌∷◌, ◌++◌, append_assoc, find, length, length-append, map, All, AllPairs, Contains, IsPermutation, Option, Some, None, option_map, slice_get, Result, Ok, Err, refl, sym, ap, subst, ◌∙◌, arith, codes}
+use Rattle.std.proofs.Common.{◌≡◌, ◌≢◌, ◌<◌, ◌↔◌, ℕ, suc, ◌+◌, Bool, true, false, List, [], ◌∷◌, ◌++◌, append_assoc, length, length-append, map, All, AllPairs, Contains, IsPermutation, Option, Some, None, option_map, slice_get, Result, Ok, Err, refl, sym, ap, subst, ◌∙◌, codes}
 use Rattle.std.proofs.lemmas.Bool.{false≢true}
 use Rattle.std.proofs.lemmas.List.{length-map}
 use Rattle.std.proofs.lemmas.List.FromFn.{length-range_with_len}
 use Rattle.std.proofs.lemmas.List.Elements.{All-contains}
 use Rattle.std.proofs.lemmas.List.Sorted.{Contains-permutation, IsPermutation-sym}
 use Rattle.std.proofs.lemmas.Slice.Eq.{bytes_eq-Decides}
-use Rattle.std.specs.List.{filter_map, flat_map, list_any, range_with_len}
+use Rattle.std.specs.List.{filter_map, flat_map, range_with_len}
 use Rattle.std.specs.Str.{bytes_eq}
-use Rattle.jm_bytes.proofs.Choice.{same_ok, same_some}
+use Rattle.jm_bytes.proofs.Choice.{same_ok}
 use Rattle.jm_bytes.proofs.CheckLaws.{no_fault_all, no_fault_from}
-use Rattle.jm_bytes.proofs.Members.{all_from_contains, any_contains, contains_filter_map, contains_here, contains_later, contains_map, from_any, from_filter_map, from_map}
+use Rattle.jm_bytes.proofs.Members.{all_from_contains, any_contains, contains_here, contains_later, contains_map, from_any, from_filter_map, from_map}
 use Rattle.jm_bytes.proofs.SameOrder.{mapped_twice}
-use Rattle.jm_bytes.specs.Checks.{first_fault}
 use Rattle.jm_bytes.specs.declared.words.Order.{Order}
 use Rattle.jm_closure.specs.declared.candidate.Candidate.{Candidate}
 use Rattle.jm_closure.specs.declared.error.CloseError.{CloseError}
 use Rattle.jm_closure.specs.Modules.{HasName, Requires}
 use Rattle.jm_closure.specs.Modules as closure
-use Rattle.jm_closure.specs.Refusals.{AreChosen, Closes}
-use Rattle.jm_form.specs.Entries.{entries}
-use Rattle.jm_form.specs.Head.{header_of}
-use Rattle.jm_form.specs.Layout.{Written, names_of}
+use Rattle.jm_closure.specs.Refusals.{Closes}
+use Rattle.jm_form.specs.Layout.{Written}
 use Rattle.jm_form.specs.Validity.{Stands, resources}
 use Rattle.jm_names.specs.ComputedFault.{name_fault}
 use Rattle.jm_plugins.specs.declared.chain.ApplyError.{ApplyError}
 use Rattle.jm_plugins.specs.declared.chain.ApplyError.TheVariants as plugging
 use Rattle.jm_plugins.specs.Plugins.{apply}
-use Rattle.jm_reader.specs.Walk.{entries_of, entries_with}
+use Rattle.jm_reader.specs.Walk.{entries_with}
 use Rattle.jm_relink.specs.Files.{info_entry, resources_of}
 use Rattle.jm_relink.specs.Modules.{IsVisibleIn, ModulesOf, SeenModule}
 use Rattle.jm_relink.proofs.ModuleLaws.{resources_differ}
@@ -39,7 +36,7 @@ use Rattle.jm_link.specs.ImageLinked.{ImageLinksTo, resources_seen, seen_candida
 use Rattle.jm_link.specs.Linked.{IsClosedTo, IsFoundTo, IsGatheredTo, IsLinkedOf, IsPluggedTo, LinkedImage, LinksAmong, Request, image_with, laid_out, layout_refusal}
 use Rattle.jm_link.specs.Relinked.{leaves_order}
 use Rattle.jm_link.specs.Resources.{first_bad_name, name_refusal}
-use Rattle.jm_link.proofs.ClosedAgain.{all_places, chosen_below, chosen_further, closes_again, found_again, taken, taken_rise, there}
+use Rattle.jm_link.proofs.ClosedAgain.{chosen_further, closes_again, found_again, taken, there}
 use Rattle.jm_link.proofs.FileLaws.{free_names, got}
 use Rattle.jm_link.proofs.FileOrder.{IsFirstOrOne}
 use Rattle.jm_link.proofs.KeptLaws.{AreKept, applied}

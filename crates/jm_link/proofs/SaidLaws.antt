@@ -29,8 +29,8 @@ use Rattle.jm_modpath.specs.Modules.{info_in, info_with}
 use Rattle.jm_plugins.specs.Plugins.{stripped_text}
 use Rattle.jm_poolmap.specs.declared.forms.Place.TheVariants.{Class, Field, Method}
 use Rattle.jm_poolmap.specs.declared.walk.Walk.{Walk}
-use Rattle.jm_poolmap.specs.ComputedSites.{Step, Walked, attribute_step, back_step, class_step, each, found_by, front_step, member_step, passes, step_on, steps, walk_of}
-use Rattle.jm_poolmap.specs.Sites.{found_in, judged, sites_of}
+use Rattle.jm_poolmap.specs.ComputedSites.{Step, Walked, attribute_step, back_step, each, found_by, front_step, member_step, passes, step_on, steps, walk_of}
+use Rattle.jm_poolmap.specs.Sites.{found_in, judged}
 use Rattle.jm_poolmap.proofs.ComputedSitesLaws.{found_is}
 use Rattle.jm_strip.specs.Strip.{debug_names, is_among, stays, strip}
 use Rattle.jm_strip.proofs.StripLaws.{strip-class}

@@ -1,7 +1,6 @@
 -- The modules that the resources of some modules show, where the descriptor of each stands among
 -- them: these modules, with the same descriptors, and only packages that they had.
-use Rattle.std.proofs.Common.{◌≡◌, ◌≢◌, ◌↔◌, inl, inr, ℕ, Bool, true, false, cond, List, [], ◌∷◌, map, All, AllPairs, Contains, Option, Some, None, Ok, refl, sym, ap, subst, ◌∙◌}
-use Rattle.std.proofs.lemmas.List.Elements.{All-contains}
+use Rattle.std.proofs.Common.{◌≡◌, ◌≢◌, ◌↔◌, inl, inr, ℕ, true, false, cond, List, map, All, AllPairs, Contains, Option, Some, None, Ok, refl, sym, ap, subst, ◌∙◌}
 use Rattle.std.proofs.lemmas.Slice.Eq.{bytes_eq-Decides}
 use Rattle.std.specs.List.{filter_map, flat_map, list_any}
 use Rattle.std.specs.Prelude.{IsTrue}
@@ -16,7 +15,7 @@ use Rattle.jm_form.specs.Layout.{Written}
 use Rattle.jm_form.specs.Trees.{class_packages, module_of, path_of}
 use Rattle.jm_modpath.specs.ByteOrder.{is_before}
 use Rattle.jm_modpath.specs.Finding.{class_package}
-use Rattle.jm_modpath.specs.Modules.{info_in, info_name}
+use Rattle.jm_modpath.specs.Modules.{info_name}
 use Rattle.jm_modpath.proofs.PackageLaws.{class_packages_are}
 use Rattle.jm_modpath.proofs.RisingLaws.{from_rising}
 use Rattle.jm_names.specs.Names.{is_slash}
@@ -24,13 +23,13 @@ use Rattle.jm_nodes.proofs.SoundLaws.{module_again, path_again}
 use Rattle.jm_relink.specs.Files.{RisesByName, file_name, info_entry}
 use Rattle.jm_relink.specs.Files as image
 use Rattle.jm_relink.specs.Gathering.{resource_of}
-use Rattle.jm_relink.specs.Modules.{AreFilesOf, HasInfo, IsSeenIn, IsVisibleIn, SeenModule, name_of}
+use Rattle.jm_relink.specs.Modules.{IsSeenIn, IsVisibleIn, SeenModule, name_of}
 use Rattle.jm_relink.proofs.ListLaws.{one_of}
 use Rattle.jm_relink.proofs.NameLaws.{names_tell}
 use Rattle.jm_relink.proofs.OrderLaws.{before_apart}
 use Rattle.jm_link.specs.ImageLinked.{seen_resources}
 use Rattle.jm_link.proofs.FileOrder.{IsFirst, IsFirstOrOne, modules_first, never_both, pairs_joined, paths_first}
-use Rattle.jm_link.proofs.KeptLaws.{AreKept, IsKept}
+use Rattle.jm_link.proofs.KeptLaws.{AreKept}
 use Rattle.jm_link.proofs.SaidLaws.{Says, says_info}
 
 abbrev pub Before : Candidate → Candidate → Type 0

@@ -1,10 +1,9 @@
 -- What a module path and an image hand to a link are resources of their modules, by module and then
 -- by path.
-use Rattle.std.proofs.Common.{◌≡◌, ◌≢◌, ◌<◌, inl, inr, ℕ, zero, suc, Bool, true, false, ◌&&◌, cond, List, [], ◌∷◌, ◌++◌, drop, filter, length, map, take, All, AllPairs, Contains, Option, Some, None, option_map, slice_get, Result, Ok, Err, refl, sym, ap, subst, ◌∙◌, not, arith}
+use Rattle.std.proofs.Common.{◌≡◌, ◌≢◌, ◌<◌, inl, inr, ℕ, zero, suc, Bool, true, false, ◌&&◌, cond, List, [], ◌∷◌, ◌++◌, drop, filter, length, map, take, All, AllPairs, Contains, Some, option_map, slice_get, Result, Ok, Err, refl, sym, ap, subst, ◌∙◌, not}
 use Rattle.std.proofs.lemmas.Bool.{false≢true}
 use Rattle.std.proofs.lemmas.Option.{slice_get-map}
 use Rattle.std.proofs.lemmas.List.Elements.{All-contains, All-cons, All-head, All-nil, All-tail}
-use Rattle.std.proofs.lemmas.Slice.Eq.{bytes_eq-Decides}
 use Rattle.std.specs.Cmp.Lexicographic.{slice_cmp}
 use Rattle.std.specs.List.{filter_map, flat_map, list_all, list_any}
 use Rattle.std.specs.Ordering.{is_lt, nat_cmp}
@@ -18,14 +17,12 @@ use Rattle.jm_closure.specs.declared.candidate.Candidate.{Candidate}
 use Rattle.jm_closure.specs.Modules as closure
 use Rattle.jm_closure.specs.Refusals.{AreChosen}
 use Rattle.jm_form.specs.Layout.{Written}
-use Rattle.jm_form.specs.Trees.{class_packages}
 use Rattle.jm_form.specs.Validity.{resources}
 use Rattle.jm_form.specs.Entries.{Entry, entries, entry_at, entry_of, is_reached, row_at, slots}
 use Rattle.jm_form.specs.Head.{header_of, index_length}
 use Rattle.jm_form.specs.Places.{contents}
 use Rattle.jm_form.specs.declared.container.Header.{Header}
 use Rattle.jm_form.specs.declared.container.HeaderFault.{HeaderFault}
-use Rattle.jm_form.specs.declared.rows.Row.{Row}
 use Rattle.jm_modinfo.specs.declared.descriptor.Descriptor.{Descriptor}
 use Rattle.jm_modinfo.specs.declared.faults.DescriptorFault.{DescriptorFault}
 use Rattle.jm_modpath.specs.declared.visible.VisibleModule.{VisibleModule}
@@ -39,14 +36,14 @@ use Rattle.jm_names.specs.Names.{is_node, is_slash}
 use Rattle.jm_names.specs.UtfForms.{four_number, is_four, modified, pair_bytes}
 use Rattle.jm_outside.specs.Files.{Files, names_below}
 use Rattle.jm_class.proofs.ReadingLaws.{IsBytes}
-use Rattle.jm_reader.specs.Walk.{entries_of, entries_with}
+use Rattle.jm_reader.specs.Walk.{entries_with}
 use Rattle.jm_relink.specs.Files.{file_name, info_entry}
 use Rattle.jm_relink.specs.Files as image
 use Rattle.jm_relink.specs.Gathering.{resource_of}
 use Rattle.jm_relink.specs.Modules.{IsSeenIn, IsVisibleIn, SeenModule, name_of}
 use Rattle.jm_relink.proofs.ListLaws.{mapped_some}
 use Rattle.jm_relink.proofs.ModuleLaws.{one_content, resources_differ}
-use Rattle.jm_link.specs.ByName.{Named, by_name}
+use Rattle.jm_link.specs.ByName.{Named}
 use Rattle.jm_link.specs.ImageLinked.{resources_seen, seen_candidates, seen_resources}
 use Rattle.jm_link.specs.ResourceFiles.{file_of}
 use Rattle.jm_link.specs.Resources.{link_files, module_files, resources_in}
@@ -56,7 +53,7 @@ use Rattle.jm_link.proofs.FileLaws.{got, legal_plain}
 use Rattle.jm_link.proofs.FileOrder.{IsFirst, IsFirstOrOne, before_front, by_name_sorted, modules_first, pairs_joined, paths_first}
 use Rattle.jm_link.proofs.NameOrder.{from_by_name}
 use Rattle.jm_link.proofs.SaidLaws.{Says, said_legal, says_from}
-use Rattle.jm_link.proofs.SeenAgain.{AreOf, Before, IsOf}
+use Rattle.jm_link.proofs.SeenAgain.{AreOf}
 
 behind_front : (n p q : List ℕ) → is_before (file_name n p) (file_name n q) ≡ is_before p q
 behind_front n p q = before_front (47 ∷ n) (47 ∷ p) (47 ∷ q) ∙ before_front (47 ∷ []) p q
