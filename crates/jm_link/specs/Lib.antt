@@ -5,6 +5,7 @@ pub mod ImageLinked
 pub mod Linked
 pub mod Links
 pub mod RefusalText
+pub mod Relinked
 pub mod ResourceFiles
 pub mod Resources
 pub mod Showing
