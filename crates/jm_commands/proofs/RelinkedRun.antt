@@ -1,8 +1,8 @@
 -- A run that relinks an image gives it back.
 use Rattle.std.proofs.Common.{◌≡◌, inl, inr, ℕ, List, [], ◌∷◌, Option, Some, None, Result, Ok, Err, refl, sym, ap, subst, ◌∙◌, option_map}
 use Rattle.jm_bytes.proofs.Choice.{same_some}
-use Rattle.jm_files.specs.Holds.{Holds}
-use Rattle.jm_files.specs.Made.{MadeAll, Writes}
+use Rattle.jm_outside.specs.Holds.{Holds}
+use Rattle.jm_outside.specs.Made.{MadeAll, Writes}
 use Rattle.jm_form.specs.Damages.{first_damage}
 use Rattle.jm_form.specs.Validity.{Valid}
 use Rattle.jm_form.proofs.Validity.{valid_sound}

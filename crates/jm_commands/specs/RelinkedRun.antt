@@ -1,6 +1,6 @@
 -- What a run does that relinks an image (this project's rule).
 use Rattle.std.specs.Prelude.{ℕ, ◌≡◌, List, Option, Some, None, Result, Ok, Err}
-use Rattle.jm_files.specs.Holds.{Holds}
+use Rattle.jm_outside.specs.Holds.{Holds}
 use Rattle.jm_link.specs.Relinked.{Relinks}
 use Rattle.jm_outside.specs.Files.{Files, file}
 use Rattle.jm_words.specs.declared.commands.Command.{Command}
