@@ -76,10 +76,8 @@ fn nodes_of(alloc: Global, nodes: &[usize]) -> Result<Vec<usize>, NoMemory>
     ensures { IfOk result (λ copy. copy.items ≡ nodes.now) }
 {
     let mut copy = Vec::new(alloc);
-    match copy.extend_from_slice(nodes) {
-        Ok(()) => Ok(copy),
-        Err(_) => Err(NoMemory),
-    }
+    copy.extend_from_slice(nodes)?;
+    Ok(copy)
 }
 
 /// A graph with the same edges.

@@ -1,5 +1,5 @@
 -- Choices, options and pairs taken apart.
-use Rattle.std.proofs.Common.{◌≡◌, ◌⊎◌, inl, inr, ℕ, ◌+◌, ◌≤◌, Bool, true, false, cond, Option, Some, Result, Ok, Err, refl, ap, arith}
+use Rattle.std.proofs.Common.{◌≡◌, ◌⊎◌, inl, inr, ℕ, ◌+◌, ◌≤◌, Bool, true, false, cond, Option, Some, None, option_map, Result, Ok, Err, refl, ap, arith}
 
 -- which value a choice took
 pub chosen : {A : Type 0} (b : Bool) (x y z : A) → cond b x y ≡ z → ((b ≡ true) × (x ≡ z)) ⊎ ((b ≡ false) × (y ≡ z))
@@ -27,6 +27,18 @@ same_second {A} {B} x y u v e =
     let p : A × B = (x, u) in
     let q : A × B = (y, v) in
     ap (λ (r : A × B). r.1) (same_some p q e)
+
+pub same_pair : {A B : Type 0} (x y : A) (u v : B) → x ≡ y → u ≡ v → ◌≡◌ {A = A × B} (x, u) (y, v)
+same_pair x y u v first second = rw (first, second) refl
+
+-- what a mapped option was made of
+pub mapped_some : {A B : Type 0} (f : A → B) (o : Option A) (y : B) → option_map f o ≡ Some y → (x : A) × (o ≡ Some x) × (f x ≡ y)
+mapped_some f None y h = cc
+mapped_some f (Some x) y h = (x, refl, same_some (f x) y h)
+
+pub mapped_none : {A B : Type 0} (f : A → B) (o : Option A) → option_map f o ≡ None → o ≡ None
+mapped_none f None h = refl
+mapped_none f (Some x) h = cc
 
 -- a place from another on is that place or behind it
 pub first_or_later : (i j : ℕ) → i ≤ j → (i ≡ j) ⊎ (i + 1 ≤ j)

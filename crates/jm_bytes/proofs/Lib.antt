@@ -1,3 +1,4 @@
+pub mod ByteOrderLaws
 pub mod CheckLaws
 pub mod Choice
 pub mod Cuts
@@ -6,4 +7,6 @@ pub mod Firsts
 pub mod Members
 pub mod MeterLaws
 pub mod Pairs
+pub mod ResultLaws
 pub mod SameOrder
+pub mod WordLaws

@@ -1,7 +1,7 @@
 -- What a list contains: by cases on its head, and where it is filtered, mapped or counted out.
-use Rattle.std.proofs.Common.{◌≡◌, ℕ, zero, suc, ◌+◌, ◌-◌, ◌<◌, ◌≤◌, ◌⊎◌, inl, inr, Bool, true, false, cond, List, [], ◌∷◌, length, map, Option, Some, None, All, Contains, refl, sym, ap, ◌∙◌, subst, arith}
+use Rattle.std.proofs.Common.{◌≡◌, ℕ, zero, suc, ◌+◌, ◌-◌, ◌<◌, ◌≤◌, ◌⊎◌, inl, inr, Bool, true, false, cond, List, [], ◌∷◌, length, map, slice_get, Option, Some, None, All, Contains, refl, sym, ap, ◌∙◌, subst, arith}
 use Rattle.std.proofs.lemmas.Bool.{false≢true}
-use Rattle.std.proofs.lemmas.List.Elements.{All-contains, All-contains_itself, All-cons, All-nil, All-filter, filter_passes}
+use Rattle.std.proofs.lemmas.List.Elements.{All-contains, All-contains_itself, All-cons, All-head, All-nil, All-tail, All-filter, filter_passes}
 use Rattle.std.proofs.lemmas.List.FromFn.{length-range_with_len, get_or-range_with_len}
 use Rattle.std.proofs.lemmas.List.Folds.{list_any_at, Any-from_list_any}
 use Rattle.std.specs.List.{list_any, filter, filter_map, cons_option, range_with_len}
@@ -19,6 +19,12 @@ contains_later x xs y (k, below, is) = (suc k, omega arith, is)
 pub contains_cases : {X : Type 0} (x : X) (xs : List X) (y : X) → Contains (x ∷ xs) y → (x ≡ y) ⊎ Contains xs y
 contains_cases x xs y (zero, below, is) = inl is
 contains_cases x xs y (suc k, below, is) = inr (k, omega arith, is)
+
+-- a place within a list has an element
+pub element_at : {X : Type 0} (xs : List X) (i : ℕ) → i < length xs → (x : X) × (slice_get xs i ≡ Some x)
+element_at [] i within = absurd (omega (arith, within))
+element_at (x ∷ xs) zero within = (x, refl)
+element_at (x ∷ xs) (suc i) within = element_at xs i (omega (arith, within))
 
 -- what holds of each element, from what holds of all that the list contains
 pub all_from_contains : {X : Type 0} (P : X → Type 0) (xs : List X) → ((x : X) → Contains xs x → P x) → All P xs
@@ -57,6 +63,10 @@ length_filter {X} p (x ∷ xs) = go (p x) (length_filter p xs)
     go : (b : Bool) → length (filter p xs) ≤ length xs → length (cond b (x ∷ filter p xs) (filter p xs)) ≤ suc (length xs)
     go true rest = omega arith
     go false rest = omega arith
+
+pub filter_none : {X : Type 0} (p : X → Bool) (xs : List X) → All (λ x. p x ≡ false) xs → filter p xs ≡ []
+filter_none p [] fails = refl
+filter_none p (x ∷ xs) fails = ap (λ b. cond b (x ∷ filter p xs) (filter p xs)) (All-head (λ y. p y ≡ false) x xs fails) ∙ filter_none p xs (All-tail (λ y. p y ≡ false) x xs fails)
 
 -- Filtered and mapped
 

@@ -1,5 +1,5 @@
 -- Lists whose elements all stand in a relation to the later ones, and numbers one after another.
-use Rattle.std.proofs.Common.{◌≡◌, ℕ, zero, suc, ◌+◌, ◌<◌, List, [], ◌∷◌, ◌++◌, length, map, take, get_or, Option, Some, None, All, AllPairs, Contains, refl, ap, ◌∙◌, arith}
+use Rattle.std.proofs.Common.{◌≡◌, ℕ, zero, suc, ◌+◌, ◌<◌, List, [], ◌∷◌, ◌++◌, length, map, take, get_or, Option, Some, None, All, AllPairs, Contains, refl, sym, ap, ◌∙◌, arith}
 use Rattle.std.proofs.lemmas.List.{get_or-take, get_or_default, length-take-le}
 use Rattle.std.proofs.lemmas.List.Elements.{All-append, All-map, Contains-get_or}
 use Rattle.std.proofs.lemmas.List.FromFn.{length-range_with_len, get_or-range_with_len}
@@ -56,6 +56,17 @@ range_more i (suc n) =
     let count : suc n + 1 ≡ suc (n + 1) = omega arith in
     let place : i + 1 + n ≡ i + suc n = omega arith in
     ap (range_with_len i) count ∙ ap (λ ks. i ∷ ks) (range_more (i + 1) n) ∙ ap (λ k. i ∷ (range_with_len (i + 1) n ++ k ∷ [])) place
+
+pub range_with_len-append : (i m n : ℕ) → range_with_len i (m + n) ≡ range_with_len i m ++ range_with_len (i + m) n
+range_with_len-append i zero n =
+    let none : zero + n ≡ n = omega arith in
+    let here : i + zero ≡ i = omega arith in
+    ap (range_with_len i) none ∙ ap (λ (k : ℕ). range_with_len k n) (sym here)
+range_with_len-append i (suc m) n =
+    let more : suc m + n ≡ suc (m + n) = omega arith in
+    let on : (i + 1) + m ≡ i + suc m = omega arith in
+    ap (range_with_len i) more ∙ ap (λ ks. i ∷ ks) (range_with_len-append (i + 1) m n)
+    ∙ ap (λ (k : ℕ). i ∷ (range_with_len (i + 1) m ++ range_with_len k n)) on
 
 -- Lists in which all earlier elements are in a relation to all later ones
 

@@ -11,5 +11,5 @@ mod words;
 pub use buffer::Buf;
 pub use counters::{Meter, Steps};
 pub use lists::List;
-pub use texts::{NoMemory, Text, copy_of, extend};
+pub use texts::{NoMemory, Text, copy_of, extend, is_before};
 pub use words::{Order, put_word, word_at};

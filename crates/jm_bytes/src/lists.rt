@@ -32,10 +32,9 @@ impl<T> List<T> {
     pub fn with_capacity(alloc: Global, count: usize) -> Result<List<T>, NoMemory>
         ensures { IfOk result (λ list. list ≡ []) }
     {
-        match Vec::with_capacity(alloc, count) {
-            Ok(items) => Ok(List { items }),
-            Err(_) => Err(NoMemory),
-        }
+        Ok(List {
+            items: Vec::with_capacity(alloc, count)?,
+        })
     }
 
     /// The list of the items of `v`.
@@ -75,9 +74,6 @@ impl<T: Drop> List<T> {
         ensures ok { OnOk result (self.new ≡ self.old ++ item ∷ []) }
         ensures err { OnErr result (self.new ≡ self.old) }
     {
-        match self.items.push(item) {
-            Ok(()) => Ok(()),
-            Err(_) => Err(NoMemory),
-        }
+        Ok(self.items.push(item)?)
     }
 }

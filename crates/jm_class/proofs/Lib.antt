@@ -4,5 +4,5 @@ pub mod ListReadings
 pub mod PoolLaws
 pub mod ReadingLaws
 pub mod Stops
-mod Vectors
+pub mod Vectors
 pub mod WholeReadings

@@ -48,7 +48,8 @@ counted-end count k reading front left all =
 
 -- The numbers of a pool
 
-same_test : (count k : ℕ) → k < count → nat_lt 0 (count - (k + 1)) ≡ nat_lt (k + 1) count
+-- one more is needed behind this number
+pub same_test : (count k : ℕ) → k < count → nat_lt 0 (count - (k + 1)) ≡ nat_lt (k + 1) count
 same_test count k more = grind (arith, nat_tests)
 
 pub slots-next : (count k : ℕ) (due : Bool) (front : List SlotData) (left next : Left) (slot : SlotData) → k < count → slot_field due (nat_lt (k + 1) count) left ≡ Ok (slot, next) → prefixed front (slots (count - k) due left) ≡ prefixed (front ++ slot ∷ []) (slots (count - (k + 1)) (is_wide_slot slot) next)

@@ -21,7 +21,7 @@ begin = 202 ∷ 254 ∷ 186 ∷ 190 ∷ 0 ∷ 0 ∷ 0 ∷ 52 ∷ []
 abbrev smallest : List ℕ
 smallest = begin ++ 0 ∷ 1 ∷ zeros 14
 
-abbrev smallest_class : ClassData
+abbrev pub smallest_class : ClassData
 smallest_class = record {
   minor = 0;
   major = 52;
@@ -87,7 +87,7 @@ long-attribute = refl
 
 -- A class of one method with a Code, which has a line number table, and with a source file
 
-abbrev generated : List ℕ
+abbrev pub generated : List ℕ
 generated =
     202 ∷ 254 ∷ 186 ∷ 190 ∷ 0 ∷ 0 ∷ 0 ∷ 61 ∷ 0 ∷ 13 ∷ 1 ∷ 0 ∷ 13 ∷ 109 ∷ 48 ∷ 48 ∷ 48 ∷ 47 ∷
     112 ∷ 48 ∷ 47 ∷ 67 ∷ 48 ∷ 48 ∷ 48 ∷ 48 ∷ 7 ∷ 0 ∷ 1 ∷ 1 ∷ 0 ∷ 16 ∷ 106 ∷ 97 ∷ 118 ∷ 97 ∷

@@ -4,10 +4,10 @@ use Rattle.std.specs.Prelude.{flat_map, filter, is_none}
 use Rattle.std.specs.Str.{bytes_eq}
 use Rattle.std.proofs.lemmas.Slice.Eq.{bytes_eq-Decides}
 use Rattle.std.proofs.lemmas.Bool.{false≢true}
-use Rattle.std.proofs.lemmas.List.Elements.{Contains-append_cases, Contains-append_left, Contains-append_right}
 use Rattle.std.proofs.lemmas.Option.{get_or_from_slice_get}
 use Rattle.jm_bytes.proofs.Choice.{same_some}
 use Rattle.jm_bytes.proofs.Members.{contains_none, contains_here, contains_later, contains_cases, contains_filter, from_filter, contains_map, from_map, any_contains, from_any}
+use Rattle.jm_bytes.proofs.SameOrder.{contains_flat_map, from_flat_map}
 use Rattle.jm_closure.specs.declared.candidate.Candidate.{Candidate}
 use Rattle.jm_closure.specs.ComputedLeast.{chosen_of, differs, holds, is_lost, is_required, least_of, names_where}
 use Rattle.jm_closure.specs.Graphs.{IsMarked}
@@ -70,25 +70,6 @@ to_names p flags found i c text marked is named passes =
     (contains_map name_of (filter p (chosen_of flags found)) c
     (contains_filter p (chosen_of flags found) c (to_chosen flags found c i marked is) passes))
 
-from_flat : {A B : Type 0} (f : A → List B) (xs : List A) (y : B) → Contains (flat_map f xs) y
-    → (x : A) × Contains xs x × Contains (f x) y
-from_flat f [] y there = absurd (contains_none y there)
-from_flat {A} {B} f (x ∷ xs) y there = go (Contains-append_cases (f x) (flat_map f xs) y there) (from_flat f xs y)
-  where
-    go : Contains (f x) y ⊎ Contains (flat_map f xs) y
-        → (Contains (flat_map f xs) y → (z : A) × Contains xs z × Contains (f z) y)
-        → (z : A) × Contains (x ∷ xs) z × Contains (f z) y
-    go (inl here) later = (x, contains_here x xs, here)
-    go (inr rest) later = let one = later rest in (one.0, contains_later x xs one.0 one.1, one.2)
-
-to_flat : {A B : Type 0} (f : A → List B) (xs : List A) (x : A) (y : B) → Contains xs x → Contains (f x) y
-    → Contains (flat_map f xs) y
-to_flat f [] x y there has = absurd (contains_none x there)
-to_flat f (z ∷ xs) x y there has = elim (contains_cases z xs x there) [
-  | inl same ↦ Contains-append_left (f z) (flat_map f xs) y (subst (λ m. Contains (f m) y) (sym same) has)
-  | inr later ↦ Contains-append_right (f z) (flat_map f xs) y (to_flat f xs x y later has)
-]
-
 -- What isn't found has no place
 
 pub found_name : (found : List Candidate) (name : List ℕ) (i : ℕ) → HasName found i name → IsFound found name
@@ -132,12 +113,12 @@ pub least_lacked : (found : List Candidate) (names : List (List ℕ × ℕ)) (fl
 least_lacked found names flags indexed =
     least_passing (is_lost names) (IsLacking found (IsMarked flags)) (flat_map required_by (chosen_of flags found))
     (λ text there lost.
-    let one = from_flat required_by (chosen_of flags found) text there in
+    let one = from_flat_map required_by (chosen_of flags found) text there in
     let at = from_chosen flags found one.0 one.1 in
     (name_of one.0, (at.0, at.1, (one.0, at.2, refl), (one.0, at.2, one.2), lost_from found names text indexed lost)))
     (λ text is.
     let requiring = is.1.3 in (
-      to_flat required_by (chosen_of flags found) requiring.0 text
+      contains_flat_map required_by (chosen_of flags found) requiring.0 text
           (to_chosen flags found requiring.0 is.1.0 is.1.1 requiring.1) requiring.2,
       lost_to found names text indexed is.1.4,
     ))

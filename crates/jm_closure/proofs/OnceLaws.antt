@@ -1,16 +1,17 @@
 -- A closure of modules has one answer.
-use Rattle.std.proofs.Common.{◌≡◌, ◌≢◌, ◌<◌, ℕ, zero, suc, ◌+◌, inl, inr, List, [], ◌∷◌, length, All, AllPairs, Contains, Some, Result, Ok, Err, slice_get, refl, sym, ap, ◌∙◌, subst, arith}
+use Rattle.std.proofs.Common.{◌≡◌, ◌≢◌, ◌<◌, ℕ, zero, suc, ◌+◌, List, [], ◌∷◌, length, AllPairs, Contains, Some, Result, Ok, Err, slice_get, refl, sym, ap, ◌∙◌, subst, arith}
 use Rattle.std.proofs.lemmas.List.Elements.{All-cons, All-contains, All-nil}
 use Rattle.std.proofs.lemmas.List.Kept.{AllPairs-cons}
 use Rattle.std.proofs.lemmas.Map.Text.{is_eq-slice_cmp}
 use Rattle.std.proofs.lemmas.Slice.Eq.{bytes_eq-Decides}
 use Rattle.std.specs.Cmp.Lexicographic.{slice_cmp, nat_list_cmp_total}
-use Rattle.std.specs.Ordering.{is_eq, is_le, is_lt, nat_cmp, ordering_reverse}
+use Rattle.std.specs.Ordering.{is_eq, is_le, nat_cmp, ordering_reverse}
 use Rattle.std.specs.Prelude.{true, IsTrue}
 use Rattle.std.specs.declared.cmp.Ordering.{Ordering}
 use Rattle.std.specs.declared.cmp.Ordering.TheVariants.{Less, Equal, Greater}
+use Rattle.jm_bytes.proofs.ByteOrderLaws.{less}
 use Rattle.jm_bytes.proofs.Choice.{same_some}
-use Rattle.jm_bytes.proofs.Members.{all_from_contains, contains_here, contains_later}
+use Rattle.jm_bytes.proofs.Members.{element_at, all_from_contains, contains_here, contains_later}
 use Rattle.jm_bytes.proofs.Pairs.{pairs_head, pairs_none}
 use Rattle.jm_bytes.proofs.SameOrder.{same_order}
 use Rattle.jm_closure.specs.declared.candidate.Candidate.{Candidate}
@@ -38,11 +39,6 @@ pub least_once : (P : List ℕ → Type 0) (a b : List ℕ) → IsLeast P a → 
 least_once P a b one other = at_most_each a b (one.1 b other.0) (other.1 a one.0)
 
 -- Places that rise by name
-
-less : (o : Ordering) → IsTrue (is_lt o) → o ≡ Less
-less Less is = refl
-less Equal is = cc
-less Greater is = cc
 
 -- the modules at two places, the first with the lesser name
 record Rises (found : List Candidate) (i j : ℕ) : Type 0 where
@@ -73,11 +69,6 @@ never_both found i j one other =
     no : ◌≡◌ {A = Ordering} Less Greater → ⊥
     no is = cc
 
-there : {X : Type 0} (xs : List X) (i : ℕ) → i < length xs → (x : X) × (slice_get xs i ≡ Some x)
-there [] i within = absurd (omega (arith, within))
-there (x ∷ xs) zero within = (x, refl)
-there (x ∷ xs) (suc i) within = there xs i (omega (arith, within))
-
 -- places of which each rises to the next rise to all later ones
 chain : (found : List Candidate) (places : List ℕ) → ((k i j : ℕ) → slice_get places k ≡ Some i → slice_get places (suc k) ≡ Some j → Rises found i j) → AllPairs (Rises found) places
 chain found [] next = pairs_none (Rises found)
@@ -99,8 +90,8 @@ module _ (found : List Candidate) (Chosen : ℕ → Type 0) (within : (i : ℕ) 
     where
       step : (k i j : ℕ) → slice_get places k ≡ Some i → slice_get places (suc k) ≡ Some j → Rises found i j
       step k i j at later =
-          let one = there found i (within i ((chosen.exactly i).0 (got places k i at))) in
-          let other = there found j (within j ((chosen.exactly j).0 (got places (suc k) j later))) in
+          let one = element_at found i (within i ((chosen.exactly i).0 (got places k i at))) in
+          let other = element_at found j (within j ((chosen.exactly j).0 (got places (suc k) j later))) in
           let next : suc k ≡ k + 1 = omega arith in
           record {
             first = one.0;

@@ -28,9 +28,7 @@ impl Graph {
     {
         let mut edges = Vec::new(alloc);
         for _ in 0..nodes {
-            if edges.push(Vec::new(alloc)).is_err() {
-                return Err(NoMemory);
-            }
+            edges.push(Vec::new(alloc))?;
         }
         Ok(Graph { edges })
     }
@@ -49,10 +47,7 @@ impl Graph {
         ensures ok { OnOk result (self.new ≡ self.old ++ ends.items ∷ []) }
         ensures err { OnErr result (self.new ≡ self.old) }
     {
-        match self.edges.push(ends) {
-            Ok(()) => Ok(()),
-            Err(_) => Err(NoMemory),
-        }
+        Ok(self.edges.push(ends)?)
     }
 
     /// How many nodes there are.
@@ -85,8 +80,5 @@ pub fn push(nodes: &mut Vec<usize>, node: usize) -> Result<(), NoMemory>
     ensures ok { OnOk result (nodes.new.items ≡ nodes.old.items ++ node ∷ []) }
     ensures err { OnErr result (nodes.new.items ≡ nodes.old.items) }
 {
-    match nodes.push(node) {
-        Ok(()) => Ok(()),
-        Err(_) => Err(NoMemory),
-    }
+    Ok(nodes.push(node)?)
 }

@@ -54,10 +54,8 @@ impl Places {
         ensures ok { OnOk result (Puts self.old self.new text.items place) }
         ensures err { OnErr result (self.new ≡ self.old) }
     {
-        match self.places.insert(text, place) {
-            Ok(_) => Ok(()),
-            Err(_) => Err(NoMemory),
-        }
+        self.places.insert(text, place)?;
+        Ok(())
     }
 
     /// The places, rising by their texts.
@@ -67,9 +65,7 @@ impl Places {
     {
         let mut places = Vec::new(alloc);
         for (_, place) in self.places.iter() {
-            if places.push(*place).is_err() {
-                return Err(NoMemory);
-            }
+            places.push(*place)?;
         }
         Ok(places)
     }

@@ -12,10 +12,7 @@ use std::alloc::Global;
 pub fn no_rounds(alloc: Global, nodes: usize) -> Result<Vec<usize>, NoMemory>
     ensures { IfOk result (λ rounds. rounds.items ≡ replicate nodes 0) }
 {
-    match Vec::from_elem(alloc, 0, nodes) {
-        Ok(rounds) => Ok(rounds),
-        Err(_) => Err(NoMemory),
-    }
+    Ok(Vec::from_elem(alloc, 0, nodes)?)
 }
 
 /// Reaches a node in a round, where it wasn't reached yet.
@@ -83,10 +80,7 @@ pub fn reach(
 fn marks(alloc: Global, rounds: &[usize]) -> Result<Vec<bool>, NoMemory>
     ensures { IfOk result (λ flags. flags.items ≡ marks_of rounds.now) }
 {
-    match rounds.iter().map(|round| *round != 0).collect(alloc) {
-        Ok(flags) => Ok(flags),
-        Err(_) => Err(NoMemory),
-    }
+    Ok(rounds.iter().map(|round| *round != 0).collect(alloc)?)
 }
 
 /// Which nodes some nodes lead to, they themselves among these.

@@ -23,10 +23,7 @@ struct Walk {
 
 impl Walk {
     fn put(&mut self, step: Step) -> Result<(), NoMemory> {
-        match self.steps.push(step) {
-            Ok(()) => Ok(()),
-            Err(_) => Err(NoMemory),
-        }
+        Ok(self.steps.push(step)?)
     }
 
     /// Enters a node, unless it was entered: its ends are entered next, and then it is left.
@@ -43,10 +40,7 @@ impl Walk {
     }
 
     fn leave(&mut self, node: usize) -> Result<(), NoMemory> {
-        match self.left.push(node) {
-            Ok(()) => Ok(()),
-            Err(_) => Err(NoMemory),
-        }
+        Ok(self.left.push(node)?)
     }
 }
 
@@ -69,12 +63,8 @@ pub fn last_left_first(alloc: Global, graph: &Graph) -> Result<Vec<usize>, NoMem
 
 /// A walk that is to enter each node.
 fn begin(alloc: Global, graph: &Graph) -> Result<Walk, NoMemory> {
-    let entered = match Vec::from_elem(alloc, false, graph.len()) {
-        Ok(entered) => entered,
-        Err(_) => return Err(NoMemory),
-    };
     let mut walk = Walk {
-        entered,
+        entered: Vec::from_elem(alloc, false, graph.len())?,
         steps: Vec::new(alloc),
         left: Vec::new(alloc),
     };

@@ -12,7 +12,7 @@ use Rattle.jm_words.specs.declared.commands.Command.{Command}
 use Rattle.jm_words.specs.declared.errors.WordsError.{WordsError}
 use Rattle.jm_words.specs.declared.errors.WordsError.TheVariants as error
 use Rattle.jm_words.specs.declared.errors.WordsKind.{WordsKind}
-use Rattle.jm_words.specs.Reading.{UnlessMemory}
+use Rattle.jm_bytes.specs.Results.{UnlessMemory}
 use Rattle.jm_commands.specs.declared.complaint.Complaint.{Complaint}
 use Rattle.jm_commands.specs.declared.complaint.Complaint.TheVariants as complaint
 use Rattle.jm_commands.specs.declared.stop.Stop.{Stop}
@@ -262,7 +262,7 @@ module _ (command : Command) (answer : Result (Unit {0}) Stop) (old new : World)
 -- All words
 
 -- words make no command
-pub words_faulty : (asked : Result Command WordsError) (at : ℕ) (kind : WordsKind) (now : World) → UnlessMemory (Err (error.Fault at kind)) asked → StepComesTo (WordsComeTo now.shelf.told now.input.told asked) (early_of asked) (Err (stop.Complaint (complaint.Words (error.Fault at kind)))) now now
+pub words_faulty : (asked : Result Command WordsError) (at : ℕ) (kind : WordsKind) (now : World) → UnlessMemory error.Memory (Err (error.Fault at kind)) asked → StepComesTo (WordsComeTo now.shelf.told now.input.told asked) (early_of asked) (Err (stop.Complaint (complaint.Words (error.Fault at kind)))) now now
 words_faulty asked at kind now (inl memory) = cc
 words_faulty asked at kind now (inr read) = subst (λ (a : Result Command WordsError). StepComesTo (WordsComeTo now.shelf.told now.input.told a) (early_of a) answer now now) read (inr (due, refl, put_step due now now refl refl refl answer (complained due given now.out now.out refl refl)))
   where

@@ -5,6 +5,7 @@ pub mod HelpText
 pub mod LinkText
 pub mod ListText
 pub mod Outcome
+pub mod RelinkedRun
 pub mod Run
 pub mod Served
 pub mod SessionHeld

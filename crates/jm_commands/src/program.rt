@@ -7,6 +7,7 @@ ghost use Rattle.jm_commands.specs.Outcome.{early_of, early_writes, link_of};
 ghost use Rattle.jm_commands.specs.Outcome.{plain_outcome, read_path};
 ghost use Rattle.jm_commands.specs.Run.{CommandComesTo, PutDoes, ReportDoes, RunComesTo};
 ghost use Rattle.jm_commands.specs.Run.{StepComesTo, WordsComeTo};
+ghost use Rattle.jm_commands.specs.RelinkedRun.{RelinksRun, link_in};
 ghost use Rattle.jm_commands.specs.Served.{ServesRun, served_in};
 ghost use Rattle.jm_commands.specs.Sinks.{seen};
 ghost use Rattle.jm_commands.specs.World.{world};
@@ -256,6 +257,8 @@ pub fn run<T: Threads + Sync, S: Shelf, I: Source, O: Sink, E: Sink, G: Gate + S
         (O.content out.old) (O.faults out.old))
         (world (S.files shelf.new) (S.faults shelf.new) (I.rest input.new) (I.faults input.new)
         (O.content out.new) (O.faults out.new)) }
+    ensures relinks { RelinksRun (link_in (command_in (map string_bytes words.now))) result
+        (S.files shelf.old) (S.files shelf.new) }
 {
     run_words(rt, alloc, words, shelf, input, out, err, gate)
 }

@@ -1,4 +1,5 @@
-ghost use Rattle.std.specs.Prelude.{◌≡◌, ◌<◌, ◌≤◌, ◌^◌, None, Some, Ok, Err, List, [], length, IfOk, OnOk};
+ghost use Rattle.std.specs.Prelude.{◌≡◌, ◌<◌, ◌≤◌, ◌^◌, None, Some, Ok, Err, List, [], length};
+ghost use Rattle.std.specs.Prelude.{IfOk, OnOk};
 ghost use Rattle.jm_class.specs.declared.class.ReadError.TheVariants.{Fault};
 ghost use Rattle.jm_class.specs.Classes.{ClassData, ReadsAs};
 ghost use Rattle.jm_class.specs.ComputedClass.{class_fault};

@@ -23,7 +23,8 @@ fn put_number(
 ) -> Result<(), NoMemory>
     requires { length bytes.now ≡ size wide }
     ensures { OnOk result (text.new.items ≡ text.old.items
-        ++ to_be_bytes (width wide) (by_numbers numbers.now (from_be_bytes (width wide) bytes.now))) }
+        ++ to_be_bytes (width wide)
+        (by_numbers numbers.now (from_be_bytes (width wide) bytes.now))) }
 {
     if wide {
         let number = numbers.of(u16::from_be_bytes([bytes[0], bytes[1]]));

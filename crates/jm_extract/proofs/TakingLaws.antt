@@ -11,7 +11,8 @@ use Rattle.jm_form.proofs.EntryLaws.{names_differ, slots_rise}
 use Rattle.jm_pattern.specs.declared.signs.Sign.{Sign}
 use Rattle.jm_reader.specs.Walk.{entries_of, entries_with}
 use Rattle.jm_extract.specs.declared.taking.TakenEntry.{TakenEntry}
-use Rattle.jm_names.proofs.NameOrder.{Differ, by_name_rises, items_sorted, same_pair}
+use Rattle.jm_names.proofs.NameOrder.{Differ, by_name_rises, items_sorted}
+use Rattle.jm_bytes.proofs.Choice.{same_pair}
 use Rattle.jm_reader.specs.declared.entries.Entry as handed
 use Rattle.jm_bytes.specs.Metered.{Metered}
 use Rattle.jm_reader.specs.Walk.{IsFirst, IsLater}

@@ -1,11 +1,11 @@
 -- Laws of the buckets of a table, in the order in which they are taken.
-use Rattle.std.proofs.Common.{◌≡◌, ◌≢◌, ℕ, zero, suc, ◌==◌, ◌<◌, ◌≤◌, ◌⊎◌, inl, inr, List, [], ◌∷◌, ◌++◌, length, get_or, AllPairs, Contains, refl, sym, ap, ◌∙◌, arith}
+use Rattle.std.proofs.Common.{◌≡◌, ◌≢◌, ℕ, zero, suc, ◌==◌, ◌<◌, ◌≤◌, ◌⊎◌, inl, inr, List, length, AllPairs, Contains, sym, ap, ◌∙◌, arith}
 use Rattle.std.proofs.lemmas.Bool.{eqb-true, eq-eqb, cases_eq}
-use Rattle.std.proofs.lemmas.List.Elements.{All-append, Contains-append_left, Contains-append_right, Contains-append_cases, Contains-get_or}
-use Rattle.std.proofs.lemmas.List.Kept.{AllPairs-cons, AllPairs-filter}
+use Rattle.std.proofs.lemmas.List.Elements.{Contains-append_left, Contains-append_right, Contains-append_cases}
+use Rattle.std.proofs.lemmas.List.Kept.{AllPairs-filter}
 use Rattle.std.specs.List.{range_with_len}
-use Rattle.jm_bytes.proofs.Members.{contains_none, contains_filter, from_filter, contains_range, from_range, length_filter, all_from_contains}
-use Rattle.jm_bytes.proofs.Pairs.{pairs_none, pairs_head, pairs_tail, pairs_append, pairs_among, range_rises}
+use Rattle.jm_bytes.proofs.Members.{contains_none, contains_filter, from_filter, contains_range, from_range, length_filter}
+use Rattle.jm_bytes.proofs.Pairs.{pairs_none, pairs_append, pairs_among, range_rises}
 use Rattle.jm_form.specs.Greedy.{bucket_of, names_in, buckets_of_size, buckets_up_to, buckets_in_turn}
 
 -- The buckets in turn

@@ -12,7 +12,7 @@ use Rattle.jm_form.specs.Head.{fields_of, header_checks, header_of, index_length
 use Rattle.jm_form.specs.Places.{locations, locations_place, strings, strings_place}
 
 -- where a header was read no check of it finds a fault, and it has the fields that stand there
-header_found : (b : List ℕ) (h : Header) (o : Option HeaderFault) → unless_fault o (fields_of b) ≡ Ok h → (o ≡ None) × (fields_of b ≡ h)
+pub header_found : (b : List ℕ) (h : Header) (o : Option HeaderFault) → unless_fault o (fields_of b) ≡ Ok h → (o ≡ None) × (fields_of b ≡ h)
 header_found b h None e = (refl, same_ok (fields_of b) h e)
 header_found b h (Some fault) e = cc
 

@@ -1,6 +1,6 @@
 -- The trees and the layout, evaluated on a few resources. The bytes of the images were also computed
 -- by a plain, slow program.
-use Rattle.std.proofs.Common.{◌≡◌, ◌∷◌, [], ℕ, List, map, true, false, Some, None, refl}
+use Rattle.std.proofs.Common.{◌≡◌, ◌∷◌, [], ℕ, List, true, false, Some, None, refl}
 use Rattle.std.specs.Prelude.{codes}
 use Rattle.jm_bytes.specs.declared.words.Order.TheVariants.{Little, Big}
 use Rattle.jm_form.specs.declared.trees.Holds.TheVariants.{Children, Owners}

@@ -10,10 +10,13 @@ pub mod LayoutVectors
 pub mod LookLaws
 pub mod OverlapLaws
 pub mod OverlapNone
+pub mod PartLaws
+pub mod RisingLaws
 pub mod SectionLaws
 pub mod ServesLaws
 pub mod SlotLaws
 pub mod StandsLaws
+pub mod StringsLaws
 pub mod TextLaws
 pub mod UsualLaws
 pub mod Validity

@@ -87,7 +87,7 @@ below_within slots slot i e =
       | inr both ↦ let other = both.1 in cc
     ]
 
-slot_within : (slots : ℕ) (name : List ℕ) (r : Redirect) (i : ℕ) → slot_of slots name r ≡ Some i → i < slots
+pub slot_within : (slots : ℕ) (name : List ℕ) (r : Redirect) (i : ℕ) → slot_of slots name r ≡ Some i → i < slots
 slot_within slots name redirect.Nowhere i e = cc
 slot_within slots name (redirect.Slot slot) i e = below_within slots slot i e
 slot_within slots name (redirect.Seed seed) i e = below_within slots (hash seed name % slots) i e

@@ -6,15 +6,15 @@ use Rattle.jm_bytes.proofs.Firsts.{before_first-take}
 use Rattle.jm_form.specs.declared.container.Header.{Header}
 use Rattle.jm_form.specs.declared.rows.Row.{Row}
 use Rattle.jm_form.specs.ComputedRows.{row_front}
-use Rattle.jm_form.specs.Entries.{content_of, row_text}
+use Rattle.jm_form.specs.Entries.{content_of}
 use Rattle.jm_form.specs.Head.{index_length}
-use Rattle.jm_form.specs.Places.{contents, locations, locations_place, offset_word, strings, strings_place}
+use Rattle.jm_form.specs.Places.{contents, locations, locations_place, strings, strings_place}
 use Rattle.jm_form.specs.Texts.{text_at, text_ends}
 use Rattle.jm_form.proofs.HeadLaws.{length-locations}
 use Rattle.jm_form.proofs.ComputedRowsLaws.{row_within_64}
 
 -- a part of a section, from a place on
-section_from : (b : List ℕ) (start size place : ℕ) → place ≤ size → drop place (take size (drop start b)) ≡ take (size - place) (drop (start + place) b)
+pub section_from : (b : List ℕ) (start size place : ℕ) → place ≤ size → drop place (take size (drop start b)) ≡ take (size - place) (drop (start + place) b)
 section_from b start size place below =
     let whole : place + (size - place) ≡ size = omega arith in
     let cut = drop-take place (size - place) (drop start b) in
@@ -53,29 +53,22 @@ content_placed b h row =
     let n : index_length h + row.offset + row.size - (index_length h + row.offset) ≡ row.size = omega arith in
     rw n (ap (λ l. take row.size l) (drop-drop row.offset (index_length h) b))
 
--- the front of a row's text, as far as the locations reach, is a part of the image
-row_placed : (b : List ℕ) (h : Header) (i n : ℕ) → offset_word b h i + n ≤ h.locations → take n (row_text b h i) ≡ slice_range b (locations_place h + offset_word b h i) (locations_place h + offset_word b h i + n)
-row_placed b h i n fits =
+-- the strings from a place on are a part of the image
+pub strings_from : (b : List ℕ) (h : Header) (place : ℕ) → place ≤ h.strings → slice_range b (strings_place h + place) (strings_place h + place + (h.strings - place)) ≡ drop place (strings b h)
+strings_from b h place within =
+    let start : ℕ = strings_place h in
+    let size : start + place + (h.strings - place) - (start + place) ≡ h.strings - place = omega arith in
+    rw size (sym (section_from b start h.strings place within))
+
+-- 64 bytes at a place of the locations, or all that they have there, are enough for the row there
+pub row_in_part : (b : List ℕ) (h : Header) (place n : ℕ) → index_length h ≤ length b → place ≤ h.locations → n ≡ min (h.locations - place) 64 → row_front (slice_range b (locations_place h + place) (locations_place h + place + n)) ≡ row_front (drop place (locations b h))
+row_in_part b h place n fits within least =
     let start : ℕ = locations_place h in
-    let offset : ℕ = offset_word b h i in
-    let size : start + offset + n - (start + offset) ≡ n = omega arith in
-    let from = section_from b start h.locations offset (omega arith) in
-    rw size (ap (λ l. take n l) from ∙ take-take n (h.locations - offset) (drop (start + offset) b) (omega arith))
-
--- where a slot's row begins, and how many bytes are read for it: 64, or all that the locations have there
-abbrev pub row_place : List ℕ → Header → ℕ → ℕ
-row_place b h i = locations_place h + offset_word b h i
-
-abbrev pub row_room : List ℕ → Header → ℕ → ℕ
-row_room b h i = min (h.locations - offset_word b h i) 64
-
--- they are enough
-pub row_in_part : (b : List ℕ) (h : Header) (i : ℕ) → index_length h ≤ length b → offset_word b h i < h.locations → row_front (slice_range b (row_place b h i) (row_place b h i + row_room b h i)) ≡ row_front (row_text b h i)
-row_in_part b h i fits below =
-    let text : List ℕ = row_text b h i in
-    let placed = row_placed b h i (row_room b h i) (omega arith) in
+    let text : List ℕ = drop place (locations b h) in
+    let from = section_from b start h.locations place within in
+    let size : start + place + n - (start + place) ≡ n = omega arith in
     let all = length-locations b h fits in
-    let behind = length-drop (offset_word b h i) (locations b h) in
-    let least : row_room b h i ≡ min 64 (length text) = omega arith in
-    let part : slice_range b (row_place b h i) (row_place b h i + row_room b h i) ≡ take 64 text = sym placed ∙ ap (λ (n : ℕ). take n text) least ∙ take_min 64 text in
-    ap row_front part ∙ row_within_64 text 64 (omega arith)
+    let behind = length-drop place (locations b h) in
+    let part : slice_range b (start + place) (start + place + n) ≡ take n text = rw size (sym (ap (λ l. take n l) from ∙ take-take n (h.locations - place) (drop (start + place) b) (omega arith))) in
+    let least_text : n ≡ min 64 (length text) = omega (arith, least) in
+    ap row_front (part ∙ ap (λ (n : ℕ). take n text) least_text ∙ take_min 64 text) ∙ row_within_64 text 64 (omega arith)

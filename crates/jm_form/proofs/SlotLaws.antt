@@ -13,7 +13,7 @@ use Rattle.jm_form.specs.declared.slots.SlotRow.{SlotRow}
 use Rattle.jm_form.specs.declared.slots.SlotRow.TheVariants as slot_row
 use Rattle.jm_form.specs.ComputedRows.{row_front}
 use Rattle.jm_form.specs.Damages.{content_fits, entry_checks, row_checks, slot_fault}
-use Rattle.jm_form.specs.Entries.{row_at, row_of_slot, row_read, row_text, spelled_row}
+use Rattle.jm_form.specs.Entries.{row_at, row_of_slot, row_read, row_text, spelled_row, texts_end}
 use Rattle.jm_form.specs.Places.{contents, offset_word, strings}
 use Rattle.jm_form.specs.Texts.{text_ends}
 use Rattle.jm_form.specs.Validity.{SoundRow}
@@ -128,3 +128,10 @@ checked_row b h i row clear =
 -- the row of a slot without a fault, where it isn't blank, is sound
 pub sound_row : (b : List ℕ) (h : Header) (i : ℕ) (row : Row) → slot_fault b h i ≡ None → row_at b h i ≡ Some row → SoundRow b h row
 sound_row b h i row clear there = checked_row b h i row (sym (slot_spelled b h i row (row_spelled b h i row there)) ∙ clear)
+
+all_four : (a b c d : Bool) → a ≡ true → b ≡ true → c ≡ true → d ≡ true → a && b && c && d ≡ true
+all_four a b c d one two three four = rw (one, two, three, four) refl
+
+-- the texts of a sound row end
+pub sound_texts : (b : List ℕ) (h : Header) (row : Row) → SoundRow b h row → texts_end (strings b h) row ≡ true
+sound_texts b h row sound = all_four _ _ _ _ sound.module_ends sound.parent_ends sound.base_ends sound.ext_ends

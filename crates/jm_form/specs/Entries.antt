@@ -1,9 +1,10 @@
 -- The entries of an image: rows, names and contents of its slots (jimage 1.0).
-use Rattle.std.specs.Prelude.{ℕ, ◌==◌, nat_lt, Bool, List, take, drop, filter, filter_map, find}
+use Rattle.std.specs.Prelude.{ℕ, ◌==◌, ◌<◌, ◌^◌, nat_lt, Bool, ◌&&◌, List, length, take, drop}
+use Rattle.std.specs.Prelude.{filter, filter_map, find}
 use Rattle.std.specs.Prelude.{Option, Some, None, option_map, if◌then◌else◌}
 use Rattle.std.specs.List.{range_with_len}
 use Rattle.std.specs.Str.{bytes_eq}
-use Rattle.jm_names.specs.Names.{join}
+use Rattle.jm_names.specs.Names.{Cut, join}
 use Rattle.jm_form.specs.declared.container.Header.{Header}
 use Rattle.jm_form.specs.declared.rows.Row.{Row}
 use Rattle.jm_form.specs.declared.slots.SlotRow.{SlotRow}
@@ -11,7 +12,7 @@ use Rattle.jm_form.specs.declared.slots.SlotRow.TheVariants as slot_row
 use Rattle.jm_form.specs.ComputedRows.{row_front}
 use Rattle.jm_form.specs.Places.{offset_word, locations, strings, contents}
 use Rattle.jm_form.specs.Table.{probe, is_slot}
-use Rattle.jm_form.specs.Texts.{text_at}
+use Rattle.jm_form.specs.Texts.{text_at, text_ends}
 
 -- Rows of slots
 
@@ -28,11 +29,15 @@ abbrev pub row_read : Option (Row × ℕ) → SlotRow
 row_read None = slot_row.Unspelled
 row_read (Some r) = if r.1 == 1 then slot_row.Blank else slot_row.Spelled r.0
 
+-- what stands at a place of the locations
+abbrev pub row_at_place : List ℕ → Header → ℕ → SlotRow
+row_at_place b h place =
+    if nat_lt place h.locations then row_read (row_front (drop place (locations b h)))
+    else slot_row.Outside
+
 -- what a slot's offset word leads to
 abbrev pub row_of_slot : List ℕ → Header → ℕ → SlotRow
-row_of_slot b h i =
-    if nat_lt (offset_word b h i) h.locations then row_read (row_front (row_text b h i))
-    else slot_row.Outside
+row_of_slot b h i = row_at_place b h (offset_word b h i)
 
 abbrev pub spelled_row : SlotRow → Option Row
 spelled_row (slot_row.Spelled row) = Some row
@@ -59,6 +64,19 @@ name_of section row = join (record {
   base = text_at section row.base;
   ext = text_at section row.ext;
 })
+
+-- the four texts of a row end in the strings
+abbrev pub texts_end : List ℕ → Row → Bool
+texts_end section row =
+    text_ends section row.module && text_ends section row.parent && text_ends section row.base
+    && text_ends section row.ext
+
+-- each piece of a name has fewer than 2^32 bytes, as the strings of an image have
+pub record ShortPieces (cut : Cut) : Type 0 where
+  pub «module» : length cut.module < 2 ^ 32
+  pub parent : length cut.parent < 2 ^ 32
+  pub base : length cut.base < 2 ^ 32
+  pub ext : length cut.ext < 2 ^ 32
 
 -- the row's size of bytes from its offset on
 abbrev pub content_of : List ℕ → Row → List ℕ

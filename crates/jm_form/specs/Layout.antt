@@ -1,7 +1,7 @@
 -- The image that is written of resources (jimage 1.0; the order of its parts, the strings, the
 -- spare slots and the table are this project's rules). First the image of any entries and any table
 -- for their names; then of resources, with the nodes of their trees and the greedy table.
-use Rattle.std.specs.Prelude.{ℕ, ◌+◌, ◌*◌, ◌==◌, nat_lt, List, [], ◌∷◌, ◌++◌, length, map}
+use Rattle.std.specs.Prelude.{ℕ, ◌+◌, ◌*◌, ◌==◌, List, [], ◌∷◌, ◌++◌, length, map}
 use Rattle.std.specs.Prelude.{Option, Some, None, is_some, option_map, unwrap_or, codes}
 use Rattle.std.specs.Prelude.{if◌then◌else◌}
 use Rattle.std.specs.List.{flat_map, range_with_len, zip}
@@ -9,7 +9,7 @@ use Rattle.std.specs.Map.{lookup}
 use Rattle.std.specs.Str.{bytes_eq}
 use Rattle.jm_bytes.specs.declared.words.Order.{Order}
 use Rattle.jm_names.specs.Names.{Cut, split}
-use Rattle.jm_strings.specs.Texts.{place_of, section_of, with_text}
+use Rattle.jm_form.specs.Strings.{place_of, section_of, with_text}
 use Rattle.jm_form.specs.declared.rows.Row.{Row}
 use Rattle.jm_form.specs.declared.trees.Holds.{Holds}
 use Rattle.jm_form.specs.declared.trees.Holds.TheVariants.{Children, Owners}

@@ -12,6 +12,7 @@ pub mod Places
 pub mod Rising
 pub mod Rows
 pub mod Serves
+pub mod Strings
 pub mod Table
 pub mod Texts
 pub mod TreeView

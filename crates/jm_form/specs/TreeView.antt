@@ -1,6 +1,6 @@
 -- The two trees as a file system answers for them (JEP 220: the `jrt` file system), from a map of
 -- resources alone.
-use Rattle.std.specs.Prelude.{ℕ, ◌≡◌, nat_eq, Bool, ◌&&◌, not, List, [], ◌∷◌, ◌++◌, drop, map}
+use Rattle.std.specs.Prelude.{ℕ, nat_eq, Bool, ◌&&◌, List, [], ◌∷◌, drop, map}
 use Rattle.std.specs.Prelude.{codes}
 use Rattle.std.specs.Prelude.{Option, Some, None, if◌then◌else◌}
 use Rattle.std.specs.List.{after_last, before_last, list_any, starts_with}

@@ -1,7 +1,7 @@
 -- The two trees of an image, from the names of its resources alone (JEP 220): the folders of
 -- modules below `/modules`, and packages with their owners below `/packages`. What a package is,
 -- and the order of all that is listed, is this project's rule.
-use Rattle.std.specs.Prelude.{ℕ, ◌≡◌, nat_eq, nat_lt, Bool, true, false, ◌&&◌, not, List, [], ◌∷◌}
+use Rattle.std.specs.Prelude.{ℕ, ◌≡◌, nat_eq, nat_lt, Bool, false, ◌&&◌, not, List, ◌∷◌}
 use Rattle.std.specs.Prelude.{◌++◌}
 use Rattle.std.specs.Prelude.{length, take, drop, map, filter, reverse, All, codes, if◌then◌else◌}
 use Rattle.std.specs.Prelude.{Option, None, slice_get, slice_index_or}

@@ -9,13 +9,15 @@ mod rows;
 mod slots;
 mod spelling;
 mod table;
+mod texts;
 mod trees;
 
 pub use container::{Header, HeaderFault, read_header};
 pub use damage::Damage;
 pub use ranges::Range;
 pub use rows::{Row, read_row};
-pub use slots::{SlotRow, row_of_slot};
+pub use slots::{SlotRow, row_at_place, row_of_slot};
 pub use spelling::write_row;
-pub use table::{Redirect, redirect_at};
+pub use table::{Redirect, is_led_to, redirect_at, redirect_of};
+pub use texts::{pieces_of, text};
 pub use trees::{Holds, Owner, TreeNode};

@@ -1,6 +1,6 @@
 ghost use Rattle.std.specs.Prelude.{◌≡◌, ◌<◌, Ok};
 ghost use Rattle.jm_bytes.specs.Metered.{CostsAtMost};
-ghost use Rattle.jm_form.specs.Entries.{row_of_slot, row_read, spelled_row};
+ghost use Rattle.jm_form.specs.Entries.{row_at_place, row_of_slot, row_read, spelled_row};
 ghost use Rattle.jm_form.specs.Head.{header_of};
 
 use crate::container::Header;
@@ -47,6 +47,27 @@ fn row_read(read: Option<(Row, usize)>) -> SlotRow
     }
 }
 
+/// What stands at a place of the locations. It costs at most 64 bytes of them.
+pub fn row_at_place<R: Ledger>(
+    buf: &Buf,
+    header: &Header,
+    place: u32,
+    reads: &mut Meter<R>,
+) -> SlotRow
+    requires read { header_of buf.now ≡ Ok header.now }
+    requires metered { reads.old.bytes ≡ buf.now }
+    ensures row { result ≡ row_at_place buf.now header.now place }
+    ensures cost { CostsAtMost reads.old reads.new 64 }
+{
+    if place >= header.locations {
+        return SlotRow::Outside;
+    }
+    let _size = buf.len();
+    let size = (header.locations - place).min(LONGEST_ROW);
+    let start = header.locations_place() + place as usize;
+    row_read(read_row(buf.part(start, size as usize, reads)))
+}
+
 /// What a slot's offset word leads to. It costs at most the four bytes of that word and 64 of the
 /// locations.
 pub fn row_of_slot<R: Ledger>(
@@ -62,10 +83,5 @@ pub fn row_of_slot<R: Ledger>(
     ensures cost { CostsAtMost reads.old reads.new 68 }
 {
     let offset = buf.word(header.order, header.offset_place(slot), reads);
-    if offset >= header.locations {
-        return SlotRow::Outside;
-    }
-    let size = (header.locations - offset).min(LONGEST_ROW);
-    let place = header.locations_place() + offset as usize;
-    row_read(read_row(buf.part(place, size as usize, reads)))
+    row_at_place(buf, header, offset, reads)
 }

@@ -3,24 +3,13 @@ use Rattle.std.proofs.Common.{◌≡◌, ℕ, zero, suc, ◌+◌, ◌-◌, ◌<�
 use Rattle.std.proofs.lemmas.List.{append-nil, map-append}
 use Rattle.std.proofs.lemmas.Grind.{flat_map-append}
 use Rattle.std.specs.List.{flat_map, range_with_len}
-use Rattle.jm_bytes.proofs.Pairs.{range_more}
+use Rattle.jm_bytes.proofs.Pairs.{range_more, range_with_len-append}
 use Rattle.jm_outside.specs.Files.{Files}
 use Rattle.jm_outside.specs.Made.{MadeAll, MadePart, Writes}
 use Rattle.jm_gen.specs.Generated.{module_name, module_names}
 use Rattle.jm_outside.proofs.MadeLaws.{made_append, part_append, part_longer}
 
 -- Numbers one after another
-
-range_with_len-append : (i m n : ℕ) → range_with_len i (m + n) ≡ range_with_len i m ++ range_with_len (i + m) n
-range_with_len-append i zero n =
-    let none : zero + n ≡ n = omega arith in
-    let here : i + zero ≡ i = omega arith in
-    ap (range_with_len i) none ∙ ap (λ (k : ℕ). range_with_len k n) (sym here)
-range_with_len-append i (suc m) n =
-    let more : suc m + n ≡ suc (m + n) = omega arith in
-    let on : (i + 1) + m ≡ i + suc m = omega arith in
-    ap (range_with_len i) more ∙ ap (λ ks. i ∷ ks) (range_with_len-append (i + 1) m n)
-    ∙ ap (λ (k : ℕ). i ∷ (range_with_len (i + 1) m ++ range_with_len k n)) on
 
 range_split : (n m : ℕ) → n ≤ m → range_with_len 0 m ≡ range_with_len 0 n ++ range_with_len n (m - n)
 range_split n m within =

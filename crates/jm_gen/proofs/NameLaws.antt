@@ -1,23 +1,11 @@
 -- The paths of the files are text where their folder is.
-use Rattle.std.proofs.Common.{◌≡◌, ℕ, ◌+◌, ◌/◌, ◌%◌, ◌<◌, Bool, true, false, ◌&&◌, nat_lt, List, [], ◌∷◌, ◌++◌, IsUtf8, refl, arith, codes}
-use Rattle.std.proofs.lemmas.Bool.{ltb-true}
-use Rattle.std.specs.List.{list_all}
+use Rattle.std.proofs.Common.{◌≡◌, ℕ, ◌+◌, ◌/◌, ◌%◌, ◌<◌, List, [], ◌∷◌, ◌++◌, IsUtf8, refl, arith, codes}
 use Rattle.std.proofs.Math.Nat.{mod-lt}
 use Rattle.std.proofs.lemmas.Str.{IsAscii-append, IsUtf8-append, IsUtf8-from_ascii}
 use Rattle.std.proofs.lemmas.Str.Ascii.{IsAscii-cons, IsAscii-nil}
 use Rattle.std.specs.Str.{IsAscii}
+use Rattle.jm_bytes.proofs.ByteOrderLaws.{ascii_all}
 use Rattle.jm_gen.specs.Generated.{class_name, class_path, digit, module_name, path_in}
-
-and_split : (a b : Bool) → (a && b) ≡ true → (a ≡ true) × (b ≡ true)
-and_split true b both = (refl, both)
-and_split false b both = cc
-
--- a text whose bytes are all ASCII, by a test
-ascii_all : (bs : List ℕ) → list_all (λ b. nat_lt b 128) bs ≡ true → IsAscii bs
-ascii_all [] test = IsAscii-nil
-ascii_all (b ∷ bs) test =
-    let both = and_split (nat_lt b 128) (list_all (λ x. nat_lt x 128) bs) test in
-    IsAscii-cons b bs (ltb-true b 128 both.0) (ascii_all bs both.1)
 
 digit_ascii : (n : ℕ) → digit n < 128
 digit_ascii n = let below = mod-lt n {m = 10} (omega arith) in omega (arith, below)

@@ -50,10 +50,7 @@ fn pool<'a>(
         },
         Slot::Hole,
     ];
-    match Vec::from_slice(alloc, &slots) {
-        Ok(slots) => Ok(List::from_vec(slots)),
-        Err(_) => Err(NoMemory),
-    }
+    Ok(List::from_vec(Vec::from_slice(alloc, &slots)?))
 }
 
 /// The code of the method, which gives the class's number.

@@ -9,8 +9,7 @@ use crate::draws::Draws;
 use crate::infos::info;
 use crate::names::{class_path, path_in};
 use jm_bytes::extend;
-use jm_outside::make_file;
-use jm_outside::{Shelf, ShelfError};
+use jm_outside::{Shelf, ShelfError, make_file};
 use std::alloc::Global;
 
 /// Makes the descriptor of a module.

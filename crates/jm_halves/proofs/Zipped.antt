@@ -70,6 +70,11 @@ module _ {A B : Type 0} (R : A → B → Type 0) where
   zip_weaker Q (x ∷ xs) [] weaker zipped = absurd zipped
   zip_weaker Q (x ∷ xs) (y ∷ ys) weaker zipped = (weaker x y zipped.0, zip_weaker Q xs ys weaker zipped.1)
 
+-- for a caller of `map_halves`: each answer meets what is said of any answer to the item
+pub zipped_each : {F A B : Type 0} (g : Shared F (Bor A × Unit {0}) B) (f : F) (Q : A → B → Type 0) (xs : List A) (ys : List B) → ((x : Bor A) (b : B) → FnReturns g f (x, tt) b → Q x.now b) → AllZip (FnReturnsAt g f) xs ys → AllZip Q xs ys
+zipped_each g f Q xs ys answers zipped =
+    zip_weaker (FnReturnsAt g f) Q xs ys (λ x y says. subst (λ z. Q z y) says.shows (answers says.shown y says.says)) zipped
+
 -- for a caller of `map_halves` whose function answers v of each item: the answers are v of the items
 pub zipped_map_ok : {F A B E : Type 0} (g : Shared F (Bor A × Unit {0}) B) (f : F) (v : A → B) (xs : List A) (r : Result (List B) E)
     → ((x : Bor A) (b : B) → FnReturns g f (x, tt) b → b ≡ v x.now) → IfOk r (λ ys. AllZip (FnReturnsAt g f) xs ys)

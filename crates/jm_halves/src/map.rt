@@ -28,10 +28,7 @@ pub fn map_halves<
     let Some(run) = Run::whole(jobs, items.len()) else {
         return Ok(List::new(alloc));
     };
-    match map_run(rt, alloc, run, items, f, gate) {
-        Ok(answers) => Ok(List::from_vec(answers)),
-        Err(_) => Err(NoMemory),
-    }
+    Ok(List::from_vec(map_run(rt, alloc, run, items, f, gate)?))
 }
 
 /// The answers to the items of a run of pieces, whose halves are worked at one time.

@@ -1,10 +1,8 @@
 pub mod FaultLaws
-pub mod SectionPlaces
 pub mod PairLaws
 pub mod LinkLaws
 mod SessionVectors
 mod StatVectors
-pub mod PlainNames
 pub mod Vectors
 pub mod FreeLaws
 pub mod LineLaws

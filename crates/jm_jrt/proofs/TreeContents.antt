@@ -20,11 +20,12 @@ use Rattle.jm_form.specs.Places.{offset_word, strings}
 use Rattle.jm_form.specs.Texts.{text_at}
 use Rattle.jm_form.specs.Validity.{ValidAs}
 use Rattle.jm_form.proofs.EntryLaws.{entry_from}
+use Rattle.jm_form.proofs.PartLaws.{length-words_text, word_alone}
 use Rattle.jm_jrt.specs.declared.jrt_error.JrtError.{JrtError}
 use Rattle.jm_jrt.specs.Told.{children_told, fits, is_child_sound, is_half_sound, is_pair_sound, is_row_sound, name_told, names_from, names_left, owner_told, owners_from, owners_left, owners_told, pair_count, row_told, word_count, word_of, words_fault}
 use Rattle.jm_jrt.proofs.FaultLaws.{none_bad}
 use Rattle.jm_jrt.proofs.ToldLaws.{entry_sound, entry_told}
-use Rattle.jm_jrt.proofs.TreeWords.{length-words_text, word_there, zipped_each, zipped_told}
+use Rattle.jm_jrt.proofs.TreeWords.{zipped_each, zipped_told}
 
 -- the places within two sections have words
 pub record HasSections (h : Header) : Type 0 where
@@ -71,7 +72,7 @@ children_are_told b h names content valid has (words, zipped, is) = subst (λ (c
     there k below =
         let inside = zipped_each (LeadsTo b h) (λ w. w < h.locations) (λ n w leads. (tells_name b h n w valid leads).inside) names words zipped k below in
         let few = has.locations in
-        word_there h.order words k below (omega arith)
+        word_alone h.order words k below (omega arith)
 
     sound : (k : ℕ) → k < word_count text → is_child_sound b h text k ≡ true
     sound k below =
@@ -181,7 +182,7 @@ owners_are_told b h owners content has (places, zipped, is) = subst (λ (c : Lis
     counted = let size = length-words_text h.order words in omega (arith, many)
 
     there : (j : ℕ) → j < 2 * length owners → word_of h text j ≡ get_or words j 0
-    there j below = word_there h.order words j (omega (arith, many)) (pair_word-lt b h owners places has zipped j below)
+    there j below = word_alone h.order words j (omega (arith, many)) (pair_word-lt b h owners places has zipped j below)
 
     sound : (j : ℕ) → j < 2 * pair_count text → is_pair_sound b h text j ≡ true
     sound j below =

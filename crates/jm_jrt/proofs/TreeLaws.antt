@@ -3,6 +3,7 @@
 use Rattle.std.proofs.Common.{◌≡◌, ◌≢◌, ℕ, ◌^◌, ◌<◌, ◌≤◌, List, length, Option, Some, None, Result, Ok, Err, sym, ap, ◌∙◌, subst, slice_index, arith}
 use Rattle.std.specs.Option.{ok_or}
 use Rattle.jm_bytes.proofs.Choice.{same_ok}
+use Rattle.jm_bytes.proofs.WordLaws.{word-lt}
 use Rattle.jm_bytes.specs.Checks.{first_fault, unless_fault}
 use Rattle.jm_form.specs.declared.container.Header.{Header}
 use Rattle.jm_form.specs.declared.container.HeaderFault.{HeaderFault}
@@ -10,7 +11,7 @@ use Rattle.jm_form.specs.Head.{fields_of, header_checks, header_of, read_order}
 use Rattle.jm_form.specs.Nodes.{NodesOf}
 use Rattle.jm_form.specs.TreeView.{TreeItem, names_of, tree}
 use Rattle.jm_form.specs.Validity.{Stands, ValidAs}
-use Rattle.jm_form.proofs.HeadLaws.{header_fits}
+use Rattle.jm_form.proofs.HeadLaws.{header_fits, header_found}
 use Rattle.jm_jrt.specs.declared.jrt_error.JrtError.{JrtError}
 use Rattle.jm_jrt.specs.declared.jrt_error.JrtError.TheVariants.{BadNode, NotThere}
 use Rattle.jm_jrt.specs.Stat.{owner_read, stat, stat_read}
@@ -18,20 +19,15 @@ use Rattle.jm_jrt.specs.TreesShown.{ShowsTrees}
 use Rattle.jm_jrt.proofs.TreeCases.{stat_with_tree}
 use Rattle.jm_jrt.proofs.TreeContents.{HasSections}
 use Rattle.jm_jrt.proofs.TreeOwners.{owner_with_tree}
-use Rattle.jm_jrt.proofs.TreeWords.{word-lt}
 
 -- Headers whose sections have words
-
-fields_there : (b : List ℕ) (h : Header) (o : Option HeaderFault) → unless_fault o (fields_of b) ≡ Ok h → fields_of b ≡ h
-fields_there b h None e = same_ok (fields_of b) h e
-fields_there b h (Some fault) e = cc
 
 -- those of bytes
 pub bytes_have : (b : List ℕ) (h : Header) → ((k : ℕ) → slice_index b k < 256) → header_of b ≡ Ok h → HasSections h
 bytes_have b h bytes header =
     let first = word-lt (read_order b) b 20 bytes in
     let second = word-lt (read_order b) b 24 bytes in
-    subst HasSections (fields_there b h (first_fault (header_checks b)) header) (record { locations = omega arith; strings = omega arith })
+    subst HasSections (header_found b h (first_fault (header_checks b)) header).1 (record { locations = omega arith; strings = omega arith })
 
 -- those of a short file
 pub short_has : (b : List ℕ) (h : Header) → length b ≤ 2 ^ 32 → header_of b ≡ Ok h → HasSections h
@@ -62,6 +58,10 @@ trees_shown b resources bytes nodes stands = trees_with b resources (λ h header
 -- of a file that isn't too long
 pub trees_shown_short : (b : List ℕ) (resources : List (List ℕ × List ℕ)) → length b ≤ 2 ^ 32 → NodesOf b (names_of resources) → Stands b resources → ShowsTrees b resources
 trees_shown_short b resources short nodes stands = trees_with b resources (λ h header. short_has b h short header) nodes stands
+
+-- of an image whose header was read
+pub trees_read : (b : List ℕ) (h : Header) → header_of b ≡ Ok h → HasSections h → (m : List (List ℕ × List ℕ)) → Stands b m → NodesOf b (names_of m) → ShowsTrees b m
+trees_read b h read has m stands nodes = trees_with b m (λ g header. subst HasSections (same_ok h g (sym read ∙ header)) has) nodes stands
 
 -- where the trees are shown no node is bad
 pub no_bad_node : (b : List ℕ) (resources : List (List ℕ × List ℕ)) → ShowsTrees b resources → (path : List ℕ) (at : ℕ) → stat b path ≢ Err (BadNode at)

@@ -17,66 +17,13 @@ use Rattle.jm_bytes.proofs.Cuts.{before_last_none, last_parts, last_within}
 use Rattle.jm_bytes.proofs.Members.{any_contains, contains_here, contains_later, contains_cases, contains_none, from_map}
 use Rattle.jm_names.specs.Names.{dotted, is_node, is_slash}
 use Rattle.jm_form.specs.declared.trees.Holds.TheVariants.{Children, Owners}
-use Rattle.jm_form.specs.Rising.{rising, with_placed}
+use Rattle.jm_form.specs.Rising.{rising}
 use Rattle.jm_form.specs.Trees.{children, folder_node, folders, holds_of, inner_nodes, is_package_node, module_node, modules, node_names, owners, package_folders, package_node, package_nodes, package_of, packages}
+use Rattle.jm_form.proofs.RisingLaws.{contains_falling, from_falling, from_rising}
 use Rattle.jm_jrt.specs.Stat.{is_package, is_root}
 
 abbrev Texts : Type 0
 Texts = List (List ℕ)
-
--- Rising texts
-
-contains_placed : (text : List ℕ) (texts : Texts) (g : List ℕ) → (text ≡ g) ⊎ Contains texts g → Contains (with_placed text texts) g
-contains_placed text [] g (inl same) = subst (Contains (text ∷ [])) same (contains_here text [])
-contains_placed text [] g (inr later) = absurd (contains_none g later)
-contains_placed text (first ∷ texts) g there = go (slice_cmp nat_cmp text first) refl there (λ among. contains_placed text texts g among)
-  where
-    go : (c : Ordering) → slice_cmp nat_cmp text first ≡ c → (text ≡ g) ⊎ Contains (first ∷ texts) g → ((text ≡ g) ⊎ Contains texts g → Contains (with_placed text texts) g)
-        → Contains (match_ordering c (text ∷ first ∷ texts) (first ∷ texts) (first ∷ with_placed text texts)) g
-    go Less e (inl same) rest = subst (Contains (text ∷ first ∷ texts)) same (contains_here text (first ∷ texts))
-    go Less e (inr later) rest = contains_later text (first ∷ texts) g later
-    go Equal e (inl same) rest = subst (Contains (first ∷ texts)) (sym (exact_bytes text first e) ∙ same) (contains_here first texts)
-    go Equal e (inr later) rest = later
-    go Greater e (inl same) rest = contains_later first (with_placed text texts) g (rest (inl same))
-    go Greater e (inr later) rest =
-        elim (contains_cases first texts g later) [
-          | inl same ↦ subst (Contains (first ∷ with_placed text texts)) same (contains_here first (with_placed text texts))
-          | inr among ↦ contains_later first (with_placed text texts) g (rest (inr among))
-        ]
-
-from_placed : (text : List ℕ) (texts : Texts) (g : List ℕ) → Contains (with_placed text texts) g → (text ≡ g) ⊎ Contains texts g
-from_placed text [] g there = contains_cases text [] g there
-from_placed text (first ∷ texts) g there = go (slice_cmp nat_cmp text first) there (λ among. from_placed text texts g among)
-  where
-    go : (c : Ordering) → Contains (match_ordering c (text ∷ first ∷ texts) (first ∷ texts) (first ∷ with_placed text texts)) g
-        → (Contains (with_placed text texts) g → (text ≡ g) ⊎ Contains texts g) → (text ≡ g) ⊎ Contains (first ∷ texts) g
-    go Less there rest = contains_cases text (first ∷ texts) g there
-    go Equal there rest = inr there
-    go Greater there rest =
-        elim (contains_cases first (with_placed text texts) g there) [
-          | inl same ↦ inr (subst (Contains (first ∷ texts)) same (contains_here first texts))
-          | inr later ↦
-              elim (rest later) [
-                | inl same ↦ inl same
-                | inr among ↦ inr (contains_later first texts g among)
-              ]
-        ]
-
-contains_rising : (texts : Texts) (g : List ℕ) → Contains texts g → Contains (rising texts) g
-contains_rising [] g there = there
-contains_rising (text ∷ texts) g there =
-    elim (contains_cases text texts g there) [
-      | inl same ↦ contains_placed text (rising texts) g (inl same)
-      | inr later ↦ contains_placed text (rising texts) g (inr (contains_rising texts g later))
-    ]
-
-from_rising : (texts : Texts) (g : List ℕ) → Contains (rising texts) g → Contains texts g
-from_rising [] g there = there
-from_rising (text ∷ texts) g there =
-    elim (from_placed text (rising texts) g there) [
-      | inl same ↦ subst (Contains (text ∷ texts)) same (contains_here text texts)
-      | inr later ↦ contains_later text texts g (from_rising texts g later)
-    ]
 
 -- The names of nodes
 
@@ -84,13 +31,10 @@ abbrev given_nodes : Texts → Texts
 given_nodes names = codes "/modules" ∷ codes "/packages" ∷ inner_nodes names ++ package_nodes names
 
 node_listed : (names : Texts) (path : List ℕ) → Contains (given_nodes names) path → Contains (node_names names) path
-node_listed names path there =
-    Contains-permutation (rising (given_nodes names)) (reverse (rising (given_nodes names))) path (IsPermutation-reverse (rising (given_nodes names))) (contains_rising (given_nodes names) path there)
+node_listed names path there = contains_falling (given_nodes names) path there
 
 node_given : (names : Texts) (path : List ℕ) → Contains (node_names names) path → Contains (given_nodes names) path
-node_given names path there =
-    from_rising (given_nodes names) path
-    (Contains-permutation (reverse (rising (given_nodes names))) (rising (given_nodes names)) path (IsPermutation-sym (rising (given_nodes names)) (reverse (rising (given_nodes names))) (IsPermutation-reverse (rising (given_nodes names)))) there)
+node_given names path there = from_falling (given_nodes names) path there
 
 pub modules_listed : (names : Texts) → Contains (node_names names) (codes "/modules")
 modules_listed names = node_listed names (codes "/modules") (contains_here (codes "/modules") (codes "/packages" ∷ inner_nodes names ++ package_nodes names))

@@ -1,7 +1,7 @@
 -- What the content of a node tells, and where it is bad (jimage 1.0 for the nodes; what is bad is
 -- this project's rule).
 use Rattle.std.specs.Prelude.{ℕ, ◌+◌, ◌-◌, ◌*◌, ◌/◌, ◌%◌, ◌==◌, nat_lt, Bool, false, ◌&&◌, not}
-use Rattle.std.specs.Prelude.{List, length, drop, map}
+use Rattle.std.specs.Prelude.{List, length, map}
 use Rattle.std.specs.Prelude.{Option, Some, None, Result, unwrap_or, if◌then◌else◌}
 use Rattle.std.specs.List.{range_with_len}
 use Rattle.jm_bytes.specs.Checks.{fault_if, first_fault, unless_fault}
@@ -11,9 +11,8 @@ use Rattle.jm_form.specs.declared.rows.Row.{Row}
 use Rattle.jm_form.specs.declared.trees.Holds.{Holds}
 use Rattle.jm_form.specs.declared.trees.Holds.TheVariants.{Children, Owners}
 use Rattle.jm_form.specs.declared.trees.Owner.{Owner}
-use Rattle.jm_form.specs.ComputedRows.{row_front}
-use Rattle.jm_form.specs.Entries.{name_of, row_read, spelled_row}
-use Rattle.jm_form.specs.Places.{locations, strings}
+use Rattle.jm_form.specs.Entries.{name_of, row_at_place, spelled_row, texts_end}
+use Rattle.jm_form.specs.Places.{strings}
 use Rattle.jm_form.specs.Rows.{blank}
 use Rattle.jm_form.specs.Texts.{text_at, text_ends}
 use Rattle.jm_jrt.specs.declared.jrt_error.JrtError.{JrtError}
@@ -48,12 +47,7 @@ words_fault is_sound n = first_fault (map (word_fault is_sound) (range_with_len 
 
 -- the row that is spelled at a place of the locations, or none where it is blank or isn't there
 abbrev pub row_told : List ℕ → Header → ℕ → Option Row
-row_told b h place = spelled_row (row_read (row_front (drop place (locations b h))))
-
-abbrev pub texts_end : List ℕ → Row → Bool
-texts_end section row =
-    text_ends section row.module && text_ends section row.parent && text_ends section row.base
-    && text_ends section row.ext
+row_told b h place = spelled_row (row_at_place b h place)
 
 abbrev pub is_row_sound : List ℕ → Option Row → Bool
 is_row_sound section None = false

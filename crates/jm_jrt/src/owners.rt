@@ -8,10 +8,9 @@ ghost use Rattle.jm_jrt.specs.Told.{is_pair_sound, owner_told, owners_left, word
 ghost use Rattle.jm_jrt.specs.Told as told;
 ghost use Rattle.jm_jrt.specs.Views.{owner_as};
 
-use crate::rows::text;
 use crate::words::{pair_count, word};
 use jm_bytes::{Buf, Meter};
-use jm_form::Header;
+use jm_form::{Header, text};
 use std::sync::ledger::Ledger;
 
 /// A module that has a package, and whether the package is empty there.

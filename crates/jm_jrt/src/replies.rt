@@ -1,7 +1,5 @@
 //! The texts of replies.
-ghost use Rattle.std.specs.Prelude.{◌≡◌, ◌==◌, ◌++◌, codes, length, IfOk, OnOk};
-ghost use Rattle.std.specs.List.{list_any};
-ghost use Rattle.jm_names.specs.UtfForms.{utf};
+ghost use Rattle.std.specs.Prelude.{◌≡◌, ◌++◌, codes, length, IfOk, OnOk};
 ghost use Rattle.jm_reader.specs.Walk.{IsLater};
 ghost use Rattle.jm_jrt.specs.Nodes.{item_as};
 ghost use Rattle.jm_jrt.specs.Reply as reply;
@@ -12,9 +10,8 @@ use crate::jrt_error::JrtError;
 use crate::node::Node;
 use itoa::Buffer;
 use jm_bytes::{Meter, NoMemory, extend};
-use jm_names::to_utf8;
+use jm_names::{extend_utf8, to_utf8};
 use jm_reader::NameView;
-use memchr::memchr;
 use std::alloc::Global;
 use std::sync::ledger::Ledger;
 
@@ -38,25 +35,6 @@ pub fn numbered(alloc: Global, word: &[u8], number: usize) -> Result<Vec<u8>, No
     extend(&mut text, digits.format(number).as_bytes())?;
     extend(&mut text, b"\n")?;
     Ok(text)
-}
-
-/// A byte of the name is one with which a surrogate begins.
-fn has_surrogate(name: &[u8]) -> bool
-    ensures { result ≡ list_any (λ byte. byte == 0xED) name.now }
-{
-    memchr(0xED, name).is_some()
-}
-
-/// Puts a name in UTF-8 at the end. One without surrogates is the same in UTF-8, and takes no
-/// memory but that of the text.
-fn extend_utf8(alloc: Global, text: &mut Vec<u8>, name: &[u8]) -> Result<(), NoMemory>
-    ensures { OnOk result (text.new.items ≡ text.old.items ++ utf name.now) }
-{
-    if !has_surrogate(name) {
-        return extend(text, name);
-    }
-    let name = to_utf8(alloc, name)?;
-    extend(text, name.as_slice())
 }
 
 /// Puts a word with its space, or a path, and a name in UTF-8, and a newline at the end.

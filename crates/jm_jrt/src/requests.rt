@@ -1,6 +1,5 @@
 //! The reply to a line of a session.
-ghost use Rattle.std.specs.Prelude.{◌≡◌, ◌++◌, codes, length, true, false, IfOk, IfSome, IfNone};
-ghost use Rattle.std.specs.List.{after_first, before_first, list_any};
+ghost use Rattle.std.specs.Prelude.{◌≡◌, ◌++◌, codes, false, IfOk};
 ghost use Rattle.std.specs.Str.{bytes_eq};
 ghost use Rattle.jm_bytes.specs.Metered.{CostsAtMost, RisesAtMost};
 ghost use Rattle.jm_form.specs.Validity.{look};
@@ -13,10 +12,9 @@ use crate::replies::{
 };
 use crate::trees::{children, owner, stat};
 use jm_bytes::{Meter, NoMemory, Steps, Text, extend};
-use jm_names::to_modified;
+use jm_names::{cut_at_first, to_modified};
 use jm_reader::find;
 use jm_valid::Image;
-use memchr::memchr;
 use std::alloc::Global;
 use std::sync::ledger::Ledger;
 
@@ -142,19 +140,6 @@ fn answer_other<H: Ledger, R: Ledger>(
     line(alloc, b"error Request")
 }
 
-/// What stands before and after the first space of a line.
-fn cut_space(line: &[u8]) -> Option<(&[u8], &[u8])>
-    ensures found { IfSome result (λ cut. list_any reply.is_space line.now ≡ true) }
-    ensures before { IfSome result (λ cut. cut.0.now ≡ before_first reply.is_space line.now) }
-    ensures after { IfSome result (λ cut. cut.1.now ≡ after_first reply.is_space line.now) }
-    ensures none { IfNone result (list_any reply.is_space line.now ≡ false) }
-{
-    let at = memchr(b' ', line)?;
-    let (before, from_there) = line.split_at(at);
-    let (_, after) = from_there.split_at(1);
-    Some((before, after))
-}
-
 /// The text of the reply to a line.
 fn reply_to<H: Ledger, R: Ledger>(
     alloc: Global,
@@ -168,7 +153,7 @@ fn reply_to<H: Ledger, R: Ledger>(
     ensures hashes { RisesAtMost hashes.old hashes.new 4 }
     ensures reads { reply.IsWithin (reply.line_bytes image.now request.now) reads.old reads.new }
 {
-    let Some((verb, argument)) = cut_space(request) else {
+    let Some((verb, argument)) = cut_at_first(b' ', request) else {
         return line(alloc, b"error Request");
     };
     let argument = to_modified(alloc, argument)?;

@@ -230,10 +230,7 @@ fn take<I: Source>(input: &mut I, into: &mut [u8]) -> Result<usize, ServeError>
 fn zeros(alloc: Global) -> Result<Vec<u8>, NoMemory>
     ensures { IfOk result (λ piece. length piece.items ≡ 65536) }
 {
-    match Vec::from_elem(alloc, 0, PIECE) {
-        Ok(piece) => Ok(piece),
-        Err(_) => Err(NoMemory),
-    }
+    Ok(Vec::from_elem(alloc, 0, PIECE)?)
 }
 
 /// Answers the lines of which the source gives the newline, up to its end.

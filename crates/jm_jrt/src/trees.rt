@@ -11,6 +11,7 @@ ghost use Rattle.jm_jrt.specs.Nodes.{IsOf, item_as, on_ok, StatCosts};
 ghost use Rattle.jm_jrt.specs.Stat as answers;
 ghost use Rattle.jm_jrt.specs.Told.{children_told, is_pair_sound, owners_left, words_fault};
 ghost use Rattle.jm_jrt.specs.Told as told;
+ghost use Rattle.jm_jrt.specs.TreesShown.{IsItemOfTrees, IsOwnerOfTrees};
 ghost use Rattle.jm_jrt.specs.Views.{held_by};
 
 use crate::child_list::{ChildList, pair_list, root_list, word_list};
@@ -111,10 +112,8 @@ fn owners_at<'a, H: Ledger, R: Ledger>(
     ensures hashes { RisesAtMost hashes.old hashes.new 2 }
     ensures reads { IsLater reads.old reads.new }
 {
-    match pairs_at(image, header, path, hashes, reads) {
-        Err(error) => Err(error),
-        Ok(content) => Ok(pair_list(&image.buf(), header, content)),
-    }
+    let content = pairs_at(image, header, path, hashes, reads)?;
+    Ok(pair_list(&image.buf(), header, content))
 }
 
 /// The bytes of the file at a path that begins with `/modules`.
@@ -158,12 +157,10 @@ fn link_at<'a, H: Ledger, R: Ledger>(
     ensures hashes { RisesAtMost hashes.old hashes.new 2 }
     ensures reads { IsLater reads.old reads.new }
 {
-    match pairs_at(image, header, path, hashes, reads) {
-        Err(error) => Err(error),
-        Ok(content) => match find_owner(&image.buf(), header, content, asked, reads) {
-            None => Err(JrtError::NotThere),
-            Some(module) => Ok(module),
-        },
+    let content = pairs_at(image, header, path, hashes, reads)?;
+    match find_owner(&image.buf(), header, content, asked, reads) {
+        None => Err(JrtError::NotThere),
+        Some(module) => Ok(module),
     }
 }
 
@@ -185,14 +182,11 @@ fn in_modules<'a, H: Ledger, R: Ledger>(
     ensures cost { StatCosts result path.now reads.old reads.new }
 {
     match find(image, path, hashes, reads) {
-        None => match file_at(image, path, hashes, reads) {
-            Err(error) => Err(error),
-            Ok(bytes) => Ok(Node::File(bytes)),
-        },
-        Some(found) => match read_children(&image.buf(), header, found.bytes, reads) {
-            Err(error) => Err(error),
-            Ok(list) => Ok(Node::Folder(list)),
-        },
+        None => Ok(Node::File(file_at(image, path, hashes, reads)?)),
+        Some(found) => {
+            let list = read_children(&image.buf(), header, found.bytes, reads)?;
+            Ok(Node::Folder(list))
+        }
     }
 }
 
@@ -231,10 +225,7 @@ fn in_packages<'a, H: Ledger, R: Ledger>(
     ensures cost { StatCosts result path.now reads.old reads.new }
 {
     if is_package(path) {
-        return match owners_at(image, header, path, hashes, reads) {
-            Err(error) => Err(error),
-            Ok(list) => Ok(Node::Folder(list)),
-        };
+        return Ok(Node::Folder(owners_at(image, header, path, hashes, reads)?));
     }
     let Some((package, module)) = cut_last(path) else {
         return Err(JrtError::NotThere);
@@ -242,10 +233,7 @@ fn in_packages<'a, H: Ledger, R: Ledger>(
     if !is_package(package) {
         return Err(JrtError::NotThere);
     }
-    match link_at(image, header, package, module, hashes, reads) {
-        Err(error) => Err(error),
-        Ok(module) => Ok(Node::Link(module)),
-    }
+    Ok(Node::Link(link_at(image, header, package, module, hashes, reads)?))
 }
 
 /// What stands at a path, in the valid image that has this header.
@@ -267,15 +255,19 @@ fn stat_in<'a, H: Ledger, R: Ledger>(
         return Ok(Node::Folder(roots(image, header, hashes, reads)));
     }
     if is_root(path) {
-        return match children_at(image, header, path, hashes, reads) {
-            Err(error) => Err(error),
-            Ok(list) => Ok(Node::Folder(list)),
-        };
+        return Ok(Node::Folder(children_at(image, header, path, hashes, reads)?));
     }
     if path.starts_with(b"/modules/") {
         return in_modules(image, header, path, hashes, reads);
     }
     in_packages(image, header, path, hashes, reads)
+}
+
+/// No fewer bytes than the locations or the strings have: so words reach each place in them.
+fn longest_section(header: &Header) -> u32
+    ensures { (header.now.locations ≤ result) × (header.now.strings ≤ result) }
+{
+    header.locations.max(header.strings)
 }
 
 /// What stands at a path of the two trees (JEP 220); never `NotFolder`.
@@ -290,11 +282,14 @@ pub fn stat<'a, H: Ledger, R: Ledger>(
 ) -> Result<Node<'a>, JrtError>
     requires { reads.old.bytes ≡ image.now }
     ensures item { item_as result ≡ answers.stat image.now path.now }
+    ensures trees { IsItemOfTrees image.now path.now (item_as result) }
     ensures bytes { IfOk result (λ node. IsOf image.now node) }
     ensures hashes { RisesAtMost hashes.old hashes.new 4 }
     ensures cost { StatCosts result path.now reads.old reads.new }
 {
-    stat_in(image, &image.header(), path, hashes, reads)
+    let header = image.header();
+    let _longest = longest_section(&header);
+    stat_in(image, &header, path, hashes, reads)
 }
 
 /// The children of the folder at a path; `NotFolder` exactly where a file or a link stands there.
@@ -311,11 +306,9 @@ pub fn children<'a, H: Ledger, R: Ledger>(
     ensures hashes { RisesAtMost hashes.old hashes.new 4 }
     ensures reads { IsLater reads.old reads.new }
 {
-    match stat(image, path, hashes, reads) {
-        Err(error) => Err(error),
-        Ok(Node::Folder(list)) => Ok(list),
-        Ok(Node::File(_)) => Err(JrtError::NotFolder),
-        Ok(Node::Link(_)) => Err(JrtError::NotFolder),
+    match stat(image, path, hashes, reads)? {
+        Node::Folder(list) => Ok(list),
+        Node::File(_) | Node::Link(_) => Err(JrtError::NotFolder),
     }
 }
 
@@ -337,10 +330,8 @@ fn owner_in<'a, H: Ledger, R: Ledger>(
     if !is_package(path) {
         return Err(JrtError::NotThere);
     }
-    match pairs_at(image, header, path, hashes, reads) {
-        Err(error) => Err(error),
-        Ok(content) => Ok(first_full(&image.buf(), header, content, reads)),
-    }
+    let content = pairs_at(image, header, path, hashes, reads)?;
+    Ok(first_full(&image.buf(), header, content, reads))
 }
 
 /// The first owner, of the package at a path such as `/packages/java.lang`, for which it isn't
@@ -355,8 +346,12 @@ pub fn owner<'a, H: Ledger, R: Ledger>(
     requires { reads.old.bytes ≡ image.now }
     ensures owner { on_ok (λ name. option_map (λ n. n.now) name) result
         ≡ answers.owner image.now path.now }
+    ensures trees { IsOwnerOfTrees image.now path.now
+        (on_ok (λ name. option_map (λ n. n.now) name) result) }
     ensures hashes { RisesAtMost hashes.old hashes.new 2 }
     ensures reads { IsLater reads.old reads.new }
 {
-    owner_in(image, &image.header(), path, hashes, reads)
+    let header = image.header();
+    let _longest = longest_section(&header);
+    owner_in(image, &header, path, hashes, reads)
 }

@@ -5,9 +5,9 @@ ghost use Rattle.jm_reader.specs.Walk.{IsLater};
 ghost use Rattle.jm_jrt.specs.Told as told;
 
 use crate::jrt_error::JrtError;
-use crate::rows::{name_at, text};
+use crate::rows::name_at;
 use jm_bytes::{Buf, Meter, word_at};
-use jm_form::Header;
+use jm_form::{Header, text};
 use std::sync::ledger::Ledger;
 
 /// How many words a content is read as; the last may not fit.

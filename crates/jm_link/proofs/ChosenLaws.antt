@@ -117,6 +117,18 @@ module _ (found : List Candidate) (Chosen : ℕ → Type 0) (places : List ℕ) 
       rw (get_or_from_slice_get places k one.0 d one.1.place, get_or_from_slice_get places l other.0 d other.1.place)
       (lesser found rising one.0 other.0 one.1.candidate far.candidate one.1.is far.is less)
 
+  -- their modules rise by name
+  pub places_by_name : AllPairs (λ i j. (a b : Candidate) → slice_get found i ≡ Some a → slice_get found j ≡ Some b → slice_cmp nat_cmp (name_of a) (name_of b) ≡ Less) places
+  places_by_name k l d before inside a b is also =
+      let one = at k (omega (arith, before, inside)) in
+      let other = at l inside in
+      let behind : k + suc (l - k - 1) ≡ l = omega (arith, before) in
+      let far : IsAt (k + suc (l - k - 1)) other.0 = subst (λ m. IsAt m other.0) (sym behind) other.1 in
+      let less = rises k (l - k - 1) (omega (arith, before, inside)) one.0 other.0 one.1 far in
+      let first : one.1.candidate ≡ a = same_some one.1.candidate a (sym one.1.is ∙ ap (slice_get found) (sym (got_same places k one.0 d one.1.place)) ∙ is) in
+      let second : far.candidate ≡ b = same_some far.candidate b (sym far.is ∙ ap (slice_get found) (sym (got_same places l other.0 d other.1.place)) ∙ also) in
+      subst (λ c. slice_cmp nat_cmp (name_of a) (name_of c) ≡ Less) second (subst (λ c. slice_cmp nat_cmp (name_of c) (name_of far.candidate) ≡ Less) first less)
+
 -- the places of a closure
 module _ (found : List Candidate) (roots : List (List ℕ)) where
   pub chosen_within : (bind : Bool) (places : List ℕ) → ClosesWith bind found roots (Ok places) → (i : ℕ) → Contains places i → i < length found

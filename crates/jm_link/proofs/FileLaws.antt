@@ -76,7 +76,7 @@ not_some : (r : Refusal) → Some r ≡ None → ⊥
 not_some r is = cc
 
 -- no module has a reserved name
-free_names : (found : List Candidate) → reserved found ≡ None → (is_called found (codes "modules") ≡ false) × (is_called found (codes "packages") ≡ false)
+pub free_names : (found : List Candidate) → reserved found ≡ None → (is_called found (codes "modules") ≡ false) × (is_called found (codes "packages") ≡ false)
 free_names found free = go (is_called found (codes "modules")) refl (is_called found (codes "packages")) refl free
   where
     go : (m : Bool) → is_called found (codes "modules") ≡ m → (p : Bool) → is_called found (codes "packages") ≡ p → option_map (λ name. refusal.ReservedModule name) (find (is_called found) (codes "modules" ∷ codes "packages" ∷ [])) ≡ None → (is_called found (codes "modules") ≡ false) × (is_called found (codes "packages") ≡ false)

@@ -3,6 +3,7 @@ pub mod Closing
 pub mod ImageLinked
 pub mod Linked
 pub mod Links
+pub mod Relinked
 pub mod ResourceFiles
 pub mod Resources
 pub mod Showing

@@ -10,12 +10,12 @@ use Rattle.std.specs.List.Sorted.{IsPartitionedBy, IsStrictlySortedBy}
 use Rattle.std.specs.Ordering.{is_lt, nat_cmp, ordering_then}
 use Rattle.std.specs.declared.cmp.Ordering.{Ordering}
 use Rattle.std.specs.declared.cmp.Ordering.TheVariants.{Less, Equal, Greater}
+use Rattle.jm_bytes.proofs.ByteOrderLaws.{before_apart, less}
 use Rattle.jm_bytes.proofs.Pairs.{pairs_filter_map}
 use Rattle.jm_outside.specs.Files.{Rising, after_front}
 use Rattle.jm_bytes.specs.ByteOrder.{is_before}
-use Rattle.jm_bytes.proofs.ByteOrderLaws.{before_apart, less}
 use Rattle.jm_modpath.specs.Finding.{names_within}
-use Rattle.jm_modpath.proofs.TextCuts.{front_of}
+use Rattle.jm_outside.proofs.Names.{front_of}
 
 -- Rising texts
 

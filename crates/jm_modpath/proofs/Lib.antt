@@ -4,7 +4,6 @@ pub mod InfoAnswers
 pub mod PackageLaws
 pub mod PathLaws
 pub mod PathVectors
-pub mod RisingLaws
 pub mod SetLaws
 pub mod StepLaws
 pub mod TextCuts

@@ -6,7 +6,7 @@ use Rattle.std.proofs.lemmas.Slice.Eq.{bytes_eq-Decides}
 use Rattle.std.specs.Cmp.Lexicographic.{pointwise}
 use Rattle.std.specs.List.{after_first, before_first, position_or_len, after_last, before_last, cons_option, ends_with, filter_map, list_any, range_with_len}
 use Rattle.std.specs.Str.{bytes_eq}
-use Rattle.jm_bytes.proofs.Choice.{same_some}
+use Rattle.jm_bytes.proofs.Choice.{mapped_some, same_some}
 use Rattle.jm_bytes.proofs.Cuts.{first_parts, last_parts, last_within}
 use Rattle.jm_bytes.proofs.Members.{any_contains, contains_filter, contains_filter_map, contains_map, contains_range, from_any, from_filter, from_filter_map, from_map, from_range}
 use Rattle.jm_bytes.proofs.SameOrder.{contains_flat_map, from_flat_map}
@@ -31,10 +31,6 @@ four_all true true true false x y h = cc
 four_all true true false d x y h = cc
 four_all true false c d x y h = cc
 four_all false b c d x y h = cc
-
-pub mapped_some : {A B : Type 0} (f : A → B) (o : Option A) (y : B) → option_map f o ≡ Some y → (x : A) × (o ≡ Some x) × (f x ≡ y)
-mapped_some f None y h = cc
-mapped_some f (Some x) y h = (x, refl, same_some (f x) y h)
 
 -- Fronts of a path
 

@@ -5,6 +5,7 @@ use Rattle.std.proofs.lemmas.List.Elements.{filter_map-append}
 use Rattle.std.specs.List.{cons_option, flat_map, range_with_len}
 use Rattle.jm_bytes.proofs.Choice.{same_err, same_ok}
 use Rattle.jm_bytes.proofs.CheckLaws.{first_fault_append_none, first_fault_append_some}
+use Rattle.jm_bytes.specs.Results.{followed}
 use Rattle.jm_bytes.specs.Checks.{fault_if, first_fault, unless_fault}
 use Rattle.jm_modinfo.specs.declared.descriptor.Descriptor.{Descriptor}
 use Rattle.jm_modinfo.specs.declared.faults.DescriptorFault.{DescriptorFault}
@@ -15,7 +16,7 @@ use Rattle.jm_modpath.specs.declared.refusal.PathStop.TheVariants as stop
 use Rattle.jm_modpath.specs.declared.refusal.PathRefusal.{PathRefusal}
 use Rattle.jm_modpath.specs.declared.refusal.PathRefusal.TheVariants as refusal
 use Rattle.jm_modpath.specs.declared.visible.VisibleModule.{VisibleModule}
-use Rattle.jm_modpath.specs.Finding.{Comes, ShowsModules, directories_due, directory_due, folders_among, folders_due, followed, refused_at, shown_due, shown_more, with_unhidden}
+use Rattle.jm_modpath.specs.Finding.{Comes, ShowsModules, directories_due, directory_due, folders_among, folders_due, refused_at, shown_due, shown_more, with_unhidden}
 use Rattle.jm_modpath.specs.Modules.{directory_checks, folder_checks, folder_info, folders_in, info_path, inside, is_named, module_in, module_of, module_with, modules_in, name_of, path_refusal, unhidden, visible}
 use Rattle.jm_modpath.proofs.StepLaws.{comes_ended, told_both, told_more}
 

@@ -10,6 +10,8 @@ use Rattle.std.specs.List.{before_first, after_first, cons_option, list_all, lis
 use Rattle.std.specs.Option.{is_some}
 use Rattle.std.specs.Result.{IsErrAnd}
 use Rattle.std.specs.Str.{bytes_eq}
+use Rattle.jm_bytes.specs.Results.{followed}
+use Rattle.jm_bytes.proofs.ByteOrderLaws.{ascii_all}
 use Rattle.jm_bytes.proofs.Choice.{same_some}
 use Rattle.jm_bytes.proofs.Cuts.{first_parts}
 use Rattle.jm_bytes.proofs.Members.{any_contains, from_filter_map}
@@ -23,21 +25,12 @@ use Rattle.jm_modpath.specs.declared.refusal.PathStop.{PathStop}
 use Rattle.jm_modpath.specs.declared.refusal.PathStop.TheVariants as stop
 use Rattle.jm_modpath.specs.declared.refusal.PathRefusal.{PathRefusal}
 use Rattle.jm_modpath.specs.declared.visible.VisibleModule.{VisibleModule}
-use Rattle.jm_modpath.specs.Finding.{Comes, added_due, folder_due, folders_among, folders_due, followed, info_due, names_within, refused_at, shown_due}
+use Rattle.jm_modpath.specs.Finding.{Comes, added_due, folder_due, folders_among, folders_due, info_due, names_within, refused_at, shown_due}
 use Rattle.jm_modpath.specs.Modules.{folder_info, folder_with_info, info_in, info_name, info_path, inside}
 use Rattle.jm_form.proofs.RisingLaws.{from_rising}
 
-ascii : (bs : List ℕ) → list_all (λ b. nat_lt b 128) bs ≡ true → IsAscii bs
-ascii [] all i = omega arith
-ascii (b ∷ bs) all i = go (nat_lt b 128) refl all i (λ rest k. ascii bs rest k)
-  where
-    go : (t : Bool) → nat_lt b 128 ≡ t → (t && list_all (λ b. nat_lt b 128) bs) ≡ true → (i : ℕ) → (list_all (λ b. nat_lt b 128) bs ≡ true → IsAscii bs) → get_or (b ∷ bs) i 0 < 128
-    go true is rest zero others = ltb-true b 128 is
-    go true is rest (suc i) others = others rest i
-    go false is rest i others = absurd (false≢true rest)
-
 pub info_is_text : IsUtf8 info_name
-info_is_text = IsUtf8-from_ascii info_name (ascii info_name refl)
+info_is_text = IsUtf8-from_ascii info_name (ascii_all info_name refl)
 
 -- Steps
 

@@ -49,16 +49,6 @@ behind_is_text a b front whole =
     let rest : IsUtf8 (drop (length a) (a ++ b)) = IsUtf8-drop (a ++ b) (length a) whole cut in
     rw (drop_at a b (length a) refl) at rest
 
--- what a text with a front is
-pub front_of : (front text rest : List ℕ) → after_front front text ≡ Some rest → text ≡ front ++ rest
-front_of [] text rest h = cc
-front_of (b ∷ front) [] rest h = cc
-front_of (b ∷ front) (c ∷ text) rest h = go (b == c) refl h (λ h. front_of front text rest h)
-  where
-    go : (t : Bool) → (b == c) ≡ t → cond t (after_front front text) None ≡ Some rest → (after_front front text ≡ Some rest → text ≡ front ++ rest) → c ∷ text ≡ b ∷ (front ++ rest)
-    go true is h later = let e : b ≡ c = eqb-true b c is in let t : text ≡ front ++ rest = later h in cc
-    go false is h later = cc
-
 -- the names within a folder are text
 pub within_is_text : (folder : List ℕ) (names : List (List ℕ)) → IsUtf8 folder → All IsUtf8 names → All IsUtf8 (names_within folder names)
 within_is_text folder names is all =

@@ -5,6 +5,7 @@ use Rattle.std.specs.Prelude.{All, AllPairs, IsUtf8, Option, Some, None, option_
 use Rattle.std.specs.Prelude.{Err, codes, not, ◌&&◌, nat_eq}
 use Rattle.std.specs.List.{before_last, ends_with, list_any}
 use Rattle.jm_bytes.specs.Checks.{first_fault, unless_fault}
+use Rattle.jm_bytes.specs.Results.{followed}
 use Rattle.jm_form.specs.Rising.{rising}
 use Rattle.jm_form.specs.Trees.{is_meta, path_of}
 use Rattle.jm_modinfo.specs.declared.descriptor.Descriptor.{Descriptor}
@@ -39,12 +40,6 @@ Comes absent due (Err (stop.Refused r)) = due ≡ Err r
 Comes absent due (Err (stop.NotThere path)) = absent
 Comes absent due (Err stop.Outside) = Unit {0}
 Comes absent due (Err stop.Memory) = Unit {0}
-
--- one step, and what follows with its value
-abbrev pub followed : {A B : Type 0} → Result A PathRefusal → (A → Result B PathRefusal)
-    → Result B PathRefusal
-followed (Ok value) next = next value
-followed (Err r) next = Err r
 
 -- Names
 

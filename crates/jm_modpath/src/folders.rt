@@ -13,7 +13,7 @@ ghost use Rattle.jm_modpath.specs.Modules.{folder_with_info};
 ghost use Rattle.jm_modpath.specs.TextView.{items_of};
 
 use crate::rising::rising;
-use jm_bytes::{List, NoMemory, Text, copy_of};
+use jm_bytes::{List, NoMemory, Text, copy_of, is_before};
 use jm_names::cut_at_first;
 use jm_bytes::is_before;
 use std::alloc::Global;
@@ -37,9 +37,7 @@ fn put_folder(alloc: Global, folders: &mut Vec<Vec<u8>>, name: &[u8]) -> Result<
         ≡ items_of folders.old.items ++ filter_map folder_with_info (name.now ∷ [])) }
 {
     if let Some(folder) = folder_with_info(name) {
-        if folders.push(copy_of(alloc, folder)?).is_err() {
-            return Err(NoMemory);
-        }
+        folders.push(copy_of(alloc, folder)?)?;
     }
     Ok(())
 }

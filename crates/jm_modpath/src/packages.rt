@@ -46,9 +46,7 @@ fn put_package(alloc: Global, packages: &mut Vec<Vec<u8>>, name: &[u8]) -> Resul
         ≡ items_of packages.old.items ++ filter_map named_package (name.now ∷ [])) }
 {
     if let Some(folder) = class_folder(path_of(name)) {
-        if packages.push(dotted(alloc, folder)?.into_vec()).is_err() {
-            return Err(NoMemory);
-        }
+        packages.push(dotted(alloc, folder)?.into_vec())?;
     }
     Ok(())
 }

@@ -11,10 +11,8 @@ use std::collections::BTreeSet;
 fn put(set: &mut BTreeSet<Vec<u8>>, text: Vec<u8>) -> Result<(), NoMemory>
     ensures { OnOk result (items_of set.new.keys ≡ with_placed text.items (items_of set.old.keys)) }
 {
-    match set.insert(text) {
-        Ok(_) => Ok(()),
-        Err(_) => Err(NoMemory),
-    }
+    set.insert(text)?;
+    Ok(())
 }
 
 /// The texts as a set.

@@ -4,6 +4,10 @@ pub mod ComputedFaultLaws
 pub mod ComputedTextLaws
 pub mod HashLaws
 pub mod JoinLaws
+pub mod KeyLaws
+pub mod NameOrder
+mod OrderVectors
 pub mod UtfLaws
+pub mod UtfPlain
 pub mod UtfSteps
 pub mod Vectors

@@ -1,3 +1,4 @@
+pub mod ByName
 pub mod Characters
 pub mod ComputedFault
 pub mod ComputedText

@@ -1,4 +1,6 @@
-ghost use Rattle.std.specs.Prelude.{◌≡◌, ◌≤◌, ◌<◌, ◌∷◌, ◌++◌, length, IfOk, IfSome, IfNone, OnOk};
+ghost use Rattle.std.specs.Prelude.{◌≡◌, ◌≤◌, ◌<◌, ◌∷◌, ◌++◌, length, IfOk, IfSome, IfNone};
+ghost use Rattle.std.specs.Str.{IsUtf8};
+ghost use Rattle.jm_names.specs.Characters.{IsText};
 ghost use Rattle.jm_names.specs.UtfForms.{is_four, four_number, four_bytes, is_pair, pair_number};
 ghost use Rattle.jm_names.specs.UtfForms.{pair_bytes, modified, utf, FirstStays};
 
@@ -9,14 +11,15 @@ use std::alloc::Global;
 /// A text of UTF-8 as a name of Modified UTF-8: each character of four bytes becomes its two
 /// surrogates of three bytes each, and every other byte stays.
 pub fn to_modified(alloc: Global, text: &[u8]) -> Result<Text, NoMemory>
-    ensures { IfOk result (λ name. name ≡ modified text.now) }
+    ensures modified { IfOk result (λ name. name ≡ modified text.now) }
+    ensures read_back { IfOk result (λ name. IsUtf8 text.now → utf name ≡ text.now) }
 {
     let mut name = Text::new(alloc);
     let mut rest = text;
     while let Some((first, after)) = rest.split_first() {
         match four_in_front(rest) {
             Some((number, behind)) => {
-                put_all(&mut name, &pair_bytes(number))?;
+                name.extend(&pair_bytes(number))?;
                 rest = behind;
             }
             None => {
@@ -31,14 +34,15 @@ pub fn to_modified(alloc: Global, text: &[u8]) -> Result<Text, NoMemory>
 /// A name of Modified UTF-8 as a text of UTF-8: each pair of surrogates becomes its character of
 /// four bytes, and every other byte stays.
 pub fn to_utf8(alloc: Global, name: &[u8]) -> Result<Text, NoMemory>
-    ensures { IfOk result (λ text. text ≡ utf name.now) }
+    ensures utf { IfOk result (λ text. text ≡ utf name.now) }
+    ensures read_back { IfOk result (λ text. IsText name.now → modified text ≡ name.now) }
 {
     let mut text = Text::new(alloc);
     let mut rest = name;
     while let Some((first, after)) = rest.split_first() {
         match pair_in_front(rest) {
             Some((number, behind)) => {
-                put_all(&mut text, &four_bytes(number))?;
+                text.extend(&four_bytes(number))?;
                 rest = behind;
             }
             None => {
@@ -156,14 +160,4 @@ fn pair_bytes(number: u32) -> [u8; 6]
         (0xB0 + above / 64 % 16) as u8,
         (0x80 + above % 64) as u8,
     ]
-}
-
-/// Puts bytes at the end of a text.
-fn put_all(text: &mut Text, bytes: &[u8]) -> Result<(), NoMemory>
-    ensures { OnOk result (text.new ≡ text.old ++ bytes.now) }
-{
-    for byte in bytes {
-        text.push(*byte)?;
-    }
-    Ok(())
 }

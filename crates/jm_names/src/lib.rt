@@ -5,13 +5,17 @@ mod characters;
 mod check;
 mod forms;
 mod hashing;
+mod named;
 mod nodes;
 mod packages;
 mod pieces;
+mod printed;
 
 pub use check::{NameFault, check_name};
 pub use forms::{to_modified, to_utf8};
 pub use hashing::{DEFAULT_SEED, hash, hash_pieces};
+pub use named::{HasName, sorted_by_name};
 pub use nodes::is_node;
 pub use packages::dotted;
 pub use pieces::{Pieces, cut_at_first, cut_at_last, split};
+pub use printed::extend_utf8;

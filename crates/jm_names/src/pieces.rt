@@ -1,4 +1,4 @@
-ghost use Rattle.std.specs.Prelude.{◌≡◌, ◌==◌, true, false, IfSome, IfNone};
+ghost use Rattle.std.specs.Prelude.{◌≡◌, ◌==◌, ◌<◌, true, false, length, IfSome, IfNone};
 ghost use Rattle.std.specs.List.{list_any, before_first, after_first, before_last, after_last};
 ghost use Rattle.jm_names.specs.Names.{split, join, base_only, cut_rest, cut_tail, is_empty};
 ghost use Rattle.jm_names.specs.Names.{is_slash, is_tree};
@@ -121,6 +121,7 @@ pub fn cut_at_first(byte: u8, text: &[u8]) -> Option<(&[u8], &[u8])>
     ensures found { IfSome result (λ cut. list_any (λ x. x == byte) text.now ≡ true) }
     ensures before { IfSome result (λ cut. cut.0.now ≡ before_first (λ x. x == byte) text.now) }
     ensures after { IfSome result (λ cut. cut.1.now ≡ after_first (λ x. x == byte) text.now) }
+    ensures shorter { IfSome result (λ cut. length cut.1.now < length text.now) }
     ensures none { IfNone result (list_any (λ x. x == byte) text.now ≡ false) }
 {
     let at = memchr(byte, text)?;

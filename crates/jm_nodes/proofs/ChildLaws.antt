@@ -23,7 +23,7 @@ use Rattle.jm_nodes.specs.Order.{SameElements}
 use Rattle.jm_nodes.proofs.FilingLaws.{filed_before, filed_from}
 use Rattle.jm_nodes.proofs.FolderLaws.{front_of, inner_from, inner_there}
 use Rattle.jm_nodes.proofs.OrderLaws.{strict}
-use Rattle.jm_nodes.proofs.RisingLaws.{contains_rising, from_rising, rising_rises, Before}
+use Rattle.jm_form.proofs.RisingLaws.{contains_rising, from_rising, rising_rises, Before}
 use Rattle.jm_nodes.proofs.SoundLaws.{IsCut}
 
 -- Cut at the last slash

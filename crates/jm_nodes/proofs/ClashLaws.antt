@@ -14,7 +14,8 @@ use Rattle.jm_form.specs.Rising.{rising}
 use Rattle.jm_form.specs.Trees.{first_clash, folder_name, folders, fronts, is_folder, module_of, path_of}
 use Rattle.jm_nodes.specs.Order.{is_among, SameElements}
 use Rattle.jm_nodes.proofs.FolderLaws.{front_of, front_there_of}
-use Rattle.jm_nodes.proofs.RisingLaws.{contains_rising, first_found, from_rising, rising_only, rising_rises, Before}
+use Rattle.jm_form.proofs.RisingLaws.{contains_rising, from_rising, rising_only, rising_rises, Before}
+use Rattle.jm_nodes.proofs.SharedLaws.{first_found}
 use Rattle.jm_nodes.proofs.SoundLaws.{any_behind, IsCut}
 
 find_same : {X : Type 0} (p q : X → Bool) (xs : List X) → ((x : X) → Contains xs x → p x ≡ q x) → find p xs ≡ find q xs
@@ -27,10 +28,8 @@ find_same p q (x ∷ xs) same =
 filter_rising : (p : List ℕ → Bool) (texts : List (List ℕ)) → filter p (rising texts) ≡ rising (filter p texts)
 filter_rising p texts =
     rising_only (filter p texts) (filter p (rising texts)) (AllPairs-filter Before p (rising texts) (rising_rises texts))
-    (record {
-      has = λ x there. let from = from_filter p texts x there in contains_filter p (rising texts) x (contains_rising texts x from.0) from.1;
-      only = λ x there. let from = from_filter p (rising texts) x there in contains_filter p texts x (from_rising texts x from.0) from.1;
-    })
+    (λ x there. let from = from_filter p texts x there in contains_filter p (rising texts) x (contains_rising texts x from.0) from.1)
+    (λ x there. let from = from_filter p (rising texts) x there in contains_filter p texts x (from_rising texts x from.0) from.1)
 
 module _ (names risen : List (List ℕ)) (cut : (name : List ℕ) → Contains names name → IsCut name) (same_fronts : SameElements (flat_map fronts names) risen) where
   front_from : (name : List ℕ) → is_among name risen ≡ true → Contains (flat_map fronts names) name

@@ -11,7 +11,7 @@ use Rattle.jm_nodes.specs.FrontTrees.{IsMadeOf}
 use Rattle.jm_nodes.specs.Order.{is_among, SameElements}
 use Rattle.jm_nodes.proofs.ClashLaws.{apart_from, clash_found}
 use Rattle.jm_nodes.proofs.NodeLaws.{nodes_same}
-use Rattle.jm_nodes.proofs.RisingLaws.{contains_rising, from_rising, rising_rises}
+use Rattle.jm_form.proofs.RisingLaws.{contains_rising, from_rising, rising_rises}
 use Rattle.jm_nodes.proofs.SoundLaws.{sound_cut, IsCut}
 
 abbrev Texts : Type 0

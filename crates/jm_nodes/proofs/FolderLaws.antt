@@ -12,7 +12,7 @@ use Rattle.jm_form.specs.Rising.{rising}
 use Rattle.jm_form.specs.Trees.{folder_name, folder_node, folders, folders_of, fronts, inner_nodes, is_meta, module_node, module_of, modules, package_folders, package_of, packages, path_of, ModuleFolder}
 use Rattle.jm_nodes.specs.FrontTrees.{called_all, folders_among, package_folder, Folder}
 use Rattle.jm_nodes.specs.Order.{SameElements}
-use Rattle.jm_nodes.proofs.RisingLaws.{contains_rising, from_rising, rising_same}
+use Rattle.jm_form.proofs.RisingLaws.{contains_rising, from_rising, rising_same}
 use Rattle.jm_nodes.proofs.SoundLaws.{any_behind, folder_front, front_cases, module_again, module_front, path_again, IsCut}
 
 abbrev Texts : Type 0
@@ -143,16 +143,14 @@ module _ (names : Texts) (cut : (name : List ℕ) → Contains names name → Is
   pub packages_same : (risen : Texts) → SameElements (flat_map fronts names) risen → packages names ≡ rising (called_all (folders_among risen))
   packages_same risen same =
       rising_same (map package_of (package_folders names)) (called_all (folders_among risen))
-      (record {
-        has = λ called there.
-            let folder = from_map package_of (package_folders names) called there in
-            let among = from_filter (λ (f : ModuleFolder). not (is_meta f.path)) (folders names) folder.0 folder.1 in
-            let found = contains_filter_map package_folder risen (folder_name folder.0) (Found folder.0) (same.has (folder_name folder.0) (front_there_of folder.0 among.0)) (package_there folder.0 folder.1) in
-            subst (Contains (called_all (folders_among risen))) folder.2 (contains_map (λ (f : Folder). package_of (record { «module» = f.module; path = f.path })) (folders_among risen) (Found folder.0) found);
-        only = λ called there.
-            let found = from_map (λ (f : Folder). package_of (record { «module» = f.module; path = f.path })) (folders_among risen) called there in
-            let front = from_filter_map package_folder risen found.0 found.1 in
-            let folder = package_from front.0 found.0 (same.only front.0 front.1) front.2 in
-            subst (Contains (map package_of (package_folders names))) (ap (λ (f : Folder). package_of (record { «module» = f.module; path = f.path })) folder.2 ∙ found.2)
-            (contains_map package_of (package_folders names) folder.0 folder.1);
-      })
+      (λ called there.
+      let folder = from_map package_of (package_folders names) called there in
+      let among = from_filter (λ (f : ModuleFolder). not (is_meta f.path)) (folders names) folder.0 folder.1 in
+      let found = contains_filter_map package_folder risen (folder_name folder.0) (Found folder.0) (same.has (folder_name folder.0) (front_there_of folder.0 among.0)) (package_there folder.0 folder.1) in
+      subst (Contains (called_all (folders_among risen))) folder.2 (contains_map (λ (f : Folder). package_of (record { «module» = f.module; path = f.path })) (folders_among risen) (Found folder.0) found))
+      (λ called there.
+      let found = from_map (λ (f : Folder). package_of (record { «module» = f.module; path = f.path })) (folders_among risen) called there in
+      let front = from_filter_map package_folder risen found.0 found.1 in
+      let folder = package_from front.0 found.0 (same.only front.0 front.1) front.2 in
+      subst (Contains (map package_of (package_folders names))) (ap (λ (f : Folder). package_of (record { «module» = f.module; path = f.path })) folder.2 ∙ found.2)
+      (contains_map package_of (package_folders names) folder.0 folder.1))

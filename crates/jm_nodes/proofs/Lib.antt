@@ -9,6 +9,6 @@ pub mod NameLaws
 pub mod NodeLaws
 pub mod OrderLaws
 pub mod OwnerLaws
-pub mod RisingLaws
+pub mod SharedLaws
 pub mod SoundLaws
 mod Vectors

@@ -19,7 +19,7 @@ use Rattle.jm_nodes.specs.Order.{IsRising, SameElements}
 use Rattle.jm_nodes.proofs.ChildLaws.{children_same, map_same}
 use Rattle.jm_nodes.proofs.FolderLaws.{front_of, inner_from, inner_there, packages_same}
 use Rattle.jm_nodes.proofs.OwnerLaws.{owners_same}
-use Rattle.jm_nodes.proofs.RisingLaws.{rising_only, rising_rises, Before}
+use Rattle.jm_form.proofs.RisingLaws.{rising_only, rising_rises, Before}
 use Rattle.jm_nodes.proofs.SoundLaws.{IsCut}
 
 abbrev Texts : Type 0
@@ -119,7 +119,7 @@ module _ (names risen : Texts) (cut : (name : List ℕ) → Contains names name 
   }
 
   pub names_same : node_names names ≡ reverse all
-  names_same = ap reverse (sym (rising_only stated all rises same))
+  names_same = ap reverse (sym (rising_only stated all rises same.has same.only))
 
 -- Each node holds what the tables say
 

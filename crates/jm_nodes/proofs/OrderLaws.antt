@@ -1,9 +1,8 @@
 -- Lists in a strict order: what a sort leaves, what a search finds, and what the two places between
 -- which equal elements stand cut out.
-use Rattle.std.proofs.Common.{◌≡◌, ℕ, zero, suc, ◌+◌, ◌<◌, ◌≤◌, inl, inr, Bool, true, false, cond, ◌||◌, List, [], ◌∷◌, length, map, take, drop, get_or, Result, Ok, Err, All, AllPairs, Contains, IsPermutation, refl, sym, ap, ◌∙◌, subst, arith}
+use Rattle.std.proofs.Common.{◌≡◌, ℕ, zero, suc, ◌+◌, ◌<◌, ◌≤◌, inl, inr, Bool, true, false, cond, ◌||◌, List, [], ◌∷◌, length, map, take, drop, get_or, Result, Ok, Err, AllPairs, Contains, IsPermutation, refl, sym, ap, ◌∙◌, subst, arith}
 use Rattle.std.proofs.lemmas.Bool.{cases_lt, false≢true}
 use Rattle.std.proofs.lemmas.List.{get_or-map, length-map}
-use Rattle.std.proofs.lemmas.List.Elements.{All-head, All-tail}
 use Rattle.std.proofs.lemmas.List.Folds.{list_any_at}
 use Rattle.std.proofs.lemmas.List.Kept.{Any-dedup, Contains-from_dedup, IsStrictlySortedBy-dedup}
 use Rattle.std.proofs.lemmas.List.Sorted.{Contains-permutation, IsPermutation-sym, searchable_from_sorted}
@@ -15,7 +14,7 @@ use Rattle.std.specs.Ordering.{eq_by_cmp, is_eq, is_lt, on, ordering_reverse}
 use Rattle.std.specs.Result.{is_ok}
 use Rattle.std.specs.declared.cmp.Ordering.{Ordering}
 use Rattle.std.specs.declared.cmp.Ordering.TheVariants.{Less, Equal, Greater}
-use Rattle.jm_bytes.proofs.Members.{contains_map, from_any, from_map}
+use Rattle.jm_bytes.proofs.Members.{contains_map, filter_none, from_any, from_map}
 use Rattle.jm_bytes.proofs.Pairs.{pairs_map}
 use Rattle.jm_nodes.specs.Order.{SameElements}
 
@@ -96,10 +95,6 @@ filter_behind {X} p (x ∷ xs) (suc i) within fails = go (p x) (fails 0 x (omega
     go : (b : Bool) → b ≡ false → filter p (drop i xs) ≡ filter p xs → filter p (drop i xs) ≡ cond b (x ∷ filter p xs) (filter p xs)
     go false e rest = rest
     go true e rest = absurd (false≢true (sym e))
-
-pub filter_none : {X : Type 0} (p : X → Bool) (xs : List X) → All (λ x. p x ≡ false) xs → filter p xs ≡ []
-filter_none p [] fails = refl
-filter_none p (x ∷ xs) fails = ap (λ b. cond b (x ∷ filter p xs) (filter p xs)) (All-head (λ y. p y ≡ false) x xs fails) ∙ filter_none p xs (All-tail (λ y. p y ≡ false) x xs fails)
 
 -- all that passes stands in front of a place, and nothing else does
 pub filter_front : {X : Type 0} (p : X → Bool) (xs : List X) (i : ℕ) → i ≤ length xs → IsPartitionPoint (λ x. p x ≡ true) (λ x. p x ≡ false) xs i → filter p xs ≡ take i xs

@@ -19,7 +19,7 @@ use Rattle.jm_nodes.specs.Order.{SameElements}
 use Rattle.jm_nodes.proofs.ChildLaws.{before_last_behind, before_last_slash, child_cases, map_same, resource_filed}
 use Rattle.jm_nodes.proofs.FilingLaws.{filed_before, filed_from, filed_there, is_filed_from, is_filed_there}
 use Rattle.jm_nodes.proofs.FolderLaws.{front_there_of, module_plain, package_from, package_there, Found}
-use Rattle.jm_nodes.proofs.RisingLaws.{rising_only, Before}
+use Rattle.jm_form.proofs.RisingLaws.{rising_only, Before}
 use Rattle.jm_nodes.proofs.SoundLaws.{any_behind, module_again, path_again, IsCut}
 
 -- A resource stands in the folder that is its name up to the last slash
@@ -234,4 +234,4 @@ module _ (names listed risen : List (List ℕ)) (table owned : List Filing) (cut
         ∙ map_same (λ (f : Filing). record { empty = f.mark; «module» = f.name }) (λ (f : Filing). record { empty = is_empty_in names called f.name; «module» = f.name }) (kept owned called)
         (λ filing there. λ i. record { empty = flag filing there i; «module» = filing.name })
         ∙ sym (mapped_twice (λ home. record { empty = is_empty_in names called home; «module» = home }) (λ (f : Filing). f.name) (kept owned called))
-        ∙ ap (map (λ home. record { empty = is_empty_in names called home; «module» = home })) (rising_only (map (λ (f : ModuleFolder). f.module) (folders_called names called)) (map (λ (f : Filing). f.name) (kept owned called)) kept_rises kept_same)
+        ∙ ap (map (λ home. record { empty = is_empty_in names called home; «module» = home })) (rising_only (map (λ (f : ModuleFolder). f.module) (folders_called names called)) (map (λ (f : Filing). f.name) (kept owned called)) kept_rises kept_same.has kept_same.only)

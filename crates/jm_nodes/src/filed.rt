@@ -28,13 +28,9 @@ pub fn in_order<'u, 'n>(filed: List<Filed<'u, 'n>>) -> Result<List<Filed<'u, 'n>
     ensures { IfOk result (λ table. FilesAll (map filing_of filed.entry) (map filing_of table)) }
 {
     let mut table = filed.into_vec();
-    match table.sort() {
-        Ok(()) => {
-            table.dedup();
-            Ok(List::from_vec(table))
-        }
-        Err(_) => Err(NoMemory),
-    }
+    table.sort()?;
+    table.dedup();
+    Ok(List::from_vec(table))
 }
 
 /// It is filed under a lesser text.

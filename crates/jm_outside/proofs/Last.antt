@@ -1,12 +1,12 @@
 -- Names that rise, with one more above the last.
-use Rattle.std.proofs.Common.{◌≡◌, ◌+◌, ◌-◌, refl, true, Result, Ok, Err, OnOk, OnErr, All, IsUtf8, ℕ, suc, zero, List, [], ◌∷◌, ◌++◌, Some, length, slice_get, arith}
+use Rattle.std.proofs.Common.{◌≡◌, ◌+◌, ◌-◌, true, Result, Ok, Err, OnOk, OnErr, All, IsUtf8, ℕ, suc, zero, List, [], ◌∷◌, ◌++◌, Some, length, slice_get, arith}
 use Rattle.std.specs.Ordering.{nat_cmp, is_lt}
-use Rattle.std.specs.declared.cmp.Ordering.TheVariants.{Less, Equal, Greater}
-use Rattle.std.specs.declared.cmp.Ordering.{Ordering}
+use Rattle.std.specs.declared.cmp.Ordering.TheVariants.{Less}
 use Rattle.std.proofs.lemmas.List.Elements.{All-nil, All-push}
 use Rattle.std.specs.Cmp.Lexicographic.{slice_cmp, nat_list_cmp_total}
 use Rattle.std.specs.List.{AllByRecursion}
 use Rattle.std.specs.List.Sorted.{IsStrictlySortedBy}
+use Rattle.jm_bytes.proofs.ByteOrderLaws.{before_less}
 use Rattle.jm_outside.specs.Files.{Rising}
 
 -- what is above the last of rising names is above all
@@ -41,15 +41,10 @@ pub rising_none : (names : List (List ℕ)) → names ≡ [] → Rising names
 unfolding IsStrictlySortedBy
 rising_none names none = rw none tt
 
-less : (o : Ordering) → is_lt o ≡ true → o ≡ Less
-less Less h = refl
-less Equal h = cc
-less Greater h = cc
-
 -- a name that compares above the last
 pub rising_last : (names : List (List ℕ)) (last name : List ℕ) → slice_get names (length names - 1) ≡ Some last → is_lt (slice_cmp nat_cmp last name) ≡ true → Rising names → Rising (names ++ name ∷ [])
 rising_last [] last name is above rising = cc
-rising_last (y ∷ names) last name is above rising = rising_push (y ∷ names) (length (y ∷ names) - 1) last name (omega arith) is (less (slice_cmp nat_cmp last name) above) rising
+rising_last (y ∷ names) last name is above rising = rising_push (y ∷ names) (length (y ∷ names) - 1) last name (omega arith) is (before_less last name above) rising
 
 -- texts, with one more that may find no memory
 pub texts_push : {T E : Type 0} (r : Result T E) (old new : List (List ℕ)) (name : List ℕ) → IsUtf8 name → OnOk r (new ≡ old ++ name ∷ []) → OnErr r (new ≡ old) → All IsUtf8 old → All IsUtf8 new

@@ -1,5 +1,8 @@
+pub mod CountLaws
+pub mod HoldsLaws
 pub mod Last
 pub mod Laws
+pub mod MadeLaws
 pub mod Map
 pub mod Names
 pub mod Sound

@@ -18,6 +18,16 @@ after_front-join (x ∷ a) b (c ∷ text) = go (x == c) (after_front-join a b te
     go true h = h
     go false h = refl
 
+-- what a text with a front is
+pub front_of : (front text rest : List ℕ) → after_front front text ≡ Some rest → text ≡ front ++ rest
+front_of [] text rest h = cc
+front_of (b ∷ front) [] rest h = cc
+front_of (b ∷ front) (c ∷ text) rest h = go (b == c) refl h (λ h. front_of front text rest h)
+  where
+    go : (t : Bool) → (b == c) ≡ t → cond t (after_front front text) None ≡ Some rest → (after_front front text ≡ Some rest → text ≡ front ++ rest) → c ∷ text ≡ b ∷ (front ++ rest)
+    go true is h later = let e : b ≡ c = eqb-true b c is in let t : text ≡ front ++ rest = later h in cc
+    go false is h later = cc
+
 same : (x : ℕ) → (x == x) ≡ true
 same x = grind arith
 

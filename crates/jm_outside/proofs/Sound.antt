@@ -1,5 +1,5 @@
 -- Files that rise by their paths, each of which is text, stay so; and so do the names below a folder.
-use Rattle.std.proofs.Common.{◌≡◌, ℕ, List, [], ◌∷◌, ◌++◌, Option, Some, None, Bool, true, false, cond, refl, sym, ◌∙◌, ap, All, IsUtf8, ◌==◌, lit<, drop, length, length-append, arith, rules, Result, Ok, Err, OnOk, OnErr}
+use Rattle.std.proofs.Common.{◌≡◌, ℕ, List, [], ◌∷◌, ◌++◌, Option, Some, None, refl, sym, ◌∙◌, ap, All, IsUtf8, lit<, drop, length, length-append, arith, rules, Result, Ok, Err, OnOk, OnErr}
 use Rattle.std.specs.Ordering.{nat_cmp, match_ordering, ordering_reverse}
 use Rattle.std.specs.declared.cmp.Ordering.{Ordering}
 use Rattle.std.specs.declared.cmp.Ordering.TheVariants.{Less, Equal, Greater}
@@ -10,9 +10,9 @@ use Rattle.std.proofs.lemmas.List.Elements.{All-nil, All-cons, All-head, All-tai
 use Rattle.std.proofs.lemmas.Str.{IsUtf8-drop, IsUtf8-append, IsUtf8-encode, IsUtf8-had, encode_ascii, IsCharBoundary-from_take}
 use Rattle.std.specs.Str.{IsCharBoundary}
 use Rattle.std.proofs.lemmas.List.{take_at, drop_at}
-use Rattle.std.proofs.lemmas.Bool.{eqb-true}
 use Rattle.std.proofs.lemmas.Bool.Decides.{nat_tests}
 use Rattle.jm_outside.specs.Files.{Files, Rising, paths, put, after_front, names_below}
+use Rattle.jm_outside.proofs.Names.{front_of}
 
 -- a text below another is below all that rise above that
 below_all : (path p : List ℕ) (ps : List (List ℕ)) → slice_cmp nat_cmp path p ≡ Less → AllByRecursion (λ q. slice_cmp nat_cmp p q ≡ Less) ps → AllByRecursion (λ q. slice_cmp nat_cmp path q ≡ Less) ps
@@ -72,16 +72,6 @@ same_front (x ∷ front) a b = rw (level x) (same_front front a b)
   where
     level : (x : ℕ) → nat_cmp x x ≡ Equal
     level x = grind (arith, nat_tests)
-
--- what a text with a front is
-front_of : (front text rest : List ℕ) → after_front front text ≡ Some rest → text ≡ front ++ rest
-front_of [] text rest h = cc
-front_of (b ∷ front) [] rest h = cc
-front_of (b ∷ front) (c ∷ text) rest h = go (b == c) refl h (λ h. front_of front text rest h)
-  where
-    go : (t : Bool) → (b == c) ≡ t → cond t (after_front front text) None ≡ Some rest → (after_front front text ≡ Some rest → text ≡ front ++ rest) → c ∷ text ≡ b ∷ (front ++ rest)
-    go true is h later = let e : b ≡ c = eqb-true b c is in let t : text ≡ front ++ rest = later h in cc
-    go false is h later = cc
 
 -- the names behind a front
 abbrev behind : List ℕ → Files → List (List ℕ)

@@ -2,6 +2,8 @@ pub mod Answers
 pub mod ComputedCalls
 pub mod ComputedCuts
 pub mod Files
+pub mod Holds
+pub mod Made
 pub mod MapView
 pub mod Outcome
 pub mod Views

@@ -56,10 +56,8 @@ impl FileMap {
         ensures ok { OnOk result (self.new ≡ put self.old path.items bytes.items) }
         ensures err { OnErr result (self.new ≡ self.old) }
     {
-        match self.files.insert(path, bytes) {
-            Ok(_) => Ok(()),
-            Err(_) => Err(NoMemory),
-        }
+        self.files.insert(path, bytes)?;
+        Ok(())
     }
 
     /// Makes the file at a path empty, or an empty one where none is there.

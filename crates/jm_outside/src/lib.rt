@@ -9,6 +9,7 @@ mod file_error;
 mod file_map;
 mod file_shelf;
 mod folders;
+mod making;
 mod mem_shelf;
 mod mem_streams;
 mod shelf;
@@ -16,6 +17,7 @@ mod std_streams;
 mod streams;
 
 pub use file_shelf::FileShelf;
+pub use making::make_file;
 pub use mem_shelf::MemShelf;
 pub use mem_streams::{MemSink, MemSource};
 pub use shelf::{Shelf, ShelfError};

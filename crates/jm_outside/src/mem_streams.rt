@@ -35,10 +35,9 @@ impl MemSource {
         ensures cuts { cuts_of result ≡ cuts }
         ensures calls { source_calls result ≡ no_calls }
     {
-        let bytes = bytes.into_vec();
-        let alloc = *bytes.allocator();
+        let alloc = bytes.allocator();
         MemSource {
-            bytes: Text::from_vec(bytes),
+            bytes,
             at: 0,
             cuts,
             cut: 0,

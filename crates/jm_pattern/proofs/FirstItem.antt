@@ -1,12 +1,14 @@
 -- The first item of a list, and the items behind it.
 use Rattle.std.proofs.Common.{◌≡◌, ◌≢◌, ◌+◌, ◌++◌, ◌∷◌, ◌<◌, [], ℕ, Bool, true, false, List, Option, Some, None, Result, Ok, refl, sym, ap, ◌∙◌, arith, append_assoc, eqb, cond, length-append, length, Bor, IfSome, unwrap_or, option_map}
 use Rattle.std.proofs.lemmas.Bool.{ne_eqb}
-use Rattle.jm_pattern.specs.ComputedReading.{with_front, UnlessMemory}
+use Rattle.jm_bytes.specs.Results.{UnlessMemory}
+use Rattle.jm_pattern.specs.ComputedReading.{with_front}
 use Rattle.jm_pattern.specs.Items.{with_first, onto_first, items_of, item_pattern, patterns_from}
 use Rattle.jm_pattern.specs.ReadingSteps.{items_behind, GoesOn}
 use Rattle.jm_pattern.proofs.FirstSign.{read-on, given-ok}
 use Rattle.jm_pattern.specs.declared.signs.Sign.{Sign}
 use Rattle.jm_pattern.specs.declared.signs.PatternError.{PatternError}
+use Rattle.jm_pattern.specs.declared.signs.PatternError.TheVariants.{Memory}
 
 -- bytes at the front, and then more
 onto-twice : (xs ys : List ℕ) (items : List (List ℕ)) → onto_first xs (onto_first ys items) ≡ onto_first (xs ++ ys) items
@@ -59,7 +61,7 @@ goes-at_end [] e = (92 ∷ [], refl, refl)
 goes-at_end (b ∷ text) e = absurd (omega arith)
 
 -- one pattern further
-pub list-further : (whole : Result (List (List Sign)) PatternError) (patterns : List (List Sign)) (left : Option (List ℕ)) (text item : List ℕ) (behind : Option (List ℕ)) (number : ℕ) (pattern : List Sign) → whole ≡ with_front patterns (patterns_from (length patterns) (items_behind left)) → left ≡ Some text → items_of text ≡ item ∷ items_behind behind → number ≡ length patterns → UnlessMemory (Ok pattern) (item_pattern number item) → whole ≡ with_front (patterns ++ pattern ∷ []) (patterns_from (length (patterns ++ pattern ∷ [])) (items_behind behind))
+pub list-further : (whole : Result (List (List Sign)) PatternError) (patterns : List (List Sign)) (left : Option (List ℕ)) (text item : List ℕ) (behind : Option (List ℕ)) (number : ℕ) (pattern : List Sign) → whole ≡ with_front patterns (patterns_from (length patterns) (items_behind left)) → left ≡ Some text → items_of text ≡ item ∷ items_behind behind → number ≡ length patterns → UnlessMemory Memory (Ok pattern) (item_pattern number item) → whole ≡ with_front (patterns ++ pattern ∷ []) (patterns_from (length (patterns ++ pattern ∷ [])) (items_behind behind))
 list-further whole patterns left text item behind number pattern e is items count read =
     let one : item_pattern (length patterns) item ≡ Ok pattern = rw count at (given-ok pattern (item_pattern number item) read) in
     let more : length (patterns ++ pattern ∷ []) ≡ length patterns + 1 = omega (arith, length-append patterns (pattern ∷ [])) in

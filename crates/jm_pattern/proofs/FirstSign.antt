@@ -2,13 +2,14 @@
 use Rattle.std.proofs.Common.{◌≡◌, ◌≢◌, ◌+◌, ◌-◌, ◌<◌, ◌≤◌, ◌++◌, ◌∷◌, [], ℕ, List, Result, Ok, Err, length, refl, sym, ap, ◌∙◌, arith, append_assoc, eqb, ◌&&◌, true, false, Bool, inl, inr}
 use Rattle.std.proofs.lemmas.Bool.Decides.{nat_tests}
 use Rattle.std.proofs.lemmas.Bool.{ne_eqb}
-use Rattle.jm_pattern.specs.ComputedReading.{UnlessMemory, with_front, sign_of, signs_from}
+use Rattle.jm_bytes.specs.Results.{UnlessMemory}
+use Rattle.jm_pattern.specs.ComputedReading.{with_front, sign_of, signs_from}
 use Rattle.jm_pattern.specs.Reading.{BeginsWith}
 use Rattle.jm_pattern.specs.ReadingSteps.{ReadsFirst}
 use Rattle.jm_pattern.specs.declared.signs.Sign.{Sign}
 use Rattle.jm_pattern.specs.declared.signs.Sign.TheVariants.{AnyRun, Run, One, Byte}
 use Rattle.jm_pattern.specs.declared.signs.PatternError.{PatternError}
-use Rattle.jm_pattern.specs.declared.signs.PatternError.TheVariants.{BadEscape}
+use Rattle.jm_pattern.specs.declared.signs.PatternError.TheVariants.{BadEscape, Memory}
 
 -- the place behind so many bytes
 place-behind : (at k : ℕ) (text rest : List ℕ) → length text ≡ length rest + k → at + (length text - length rest) ≡ at + k
@@ -80,5 +81,5 @@ reads-further text signs left sign rest h e shorter first =
     e ∙ ap (λ x. with_front signs x) here ∙ read-on signs sign (signs_from (length text - length rest) rest)
 
 -- a result that is there is the one that the rules give
-pub given-ok : {A : Type 0} (x : A) (given : Result A PatternError) → UnlessMemory (Ok x) given → given ≡ Ok x
+pub given-ok : {A : Type 0} (x : A) (given : Result A PatternError) → UnlessMemory Memory (Ok x) given → given ≡ Ok x
 given-ok x given h = elim h [ inl e ↦ absurd cc | inr e ↦ sym e ]

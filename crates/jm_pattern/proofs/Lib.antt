@@ -5,4 +5,5 @@ pub mod FirstItem
 pub mod FirstSign
 pub mod Laws
 pub mod Leading
+pub mod RuleLaws
 pub mod Runs

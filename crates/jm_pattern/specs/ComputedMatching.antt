@@ -29,3 +29,7 @@ abbrev pub matches : List Sign → List ℕ → Bool
 matches [] [] = true
 matches [] (b ∷ name) = false
 matches (sign ∷ signs) name = list_any (matches signs) (left_by sign name)
+
+-- one of the patterns matches the name
+abbrev pub matches_any : List (List Sign) → List ℕ → Bool
+matches_any patterns name = list_any (λ pattern. matches pattern name) patterns

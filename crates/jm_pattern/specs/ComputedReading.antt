@@ -1,11 +1,11 @@
 -- The signs of a text, computed from left to right. The rules are `Reads` and `EndsEscaped` of
 -- Reading; proofs/ComputedReadingLaws ties them together.
-use Rattle.std.specs.Prelude.{◌≡◌, ◌==◌, ◌&&◌, ◌+◌, ◌++◌, ◌∷◌, [], ℕ, List, Result, Ok, Err}
-use Rattle.std.specs.Prelude.{if◌then◌else◌, ◌⊎◌}
+use Rattle.std.specs.Prelude.{◌==◌, ◌&&◌, ◌+◌, ◌++◌, ◌∷◌, [], ℕ, List, Result, Ok, Err}
+use Rattle.std.specs.Prelude.{if◌then◌else◌}
 use Rattle.jm_pattern.specs.declared.signs.Sign.{Sign}
 use Rattle.jm_pattern.specs.declared.signs.Sign.TheVariants.{AnyRun, Run, One, Byte}
 use Rattle.jm_pattern.specs.declared.signs.PatternError.{PatternError}
-use Rattle.jm_pattern.specs.declared.signs.PatternError.TheVariants.{BadEscape, Empty, Memory}
+use Rattle.jm_pattern.specs.declared.signs.PatternError.TheVariants.{BadEscape, Empty}
 
 -- the items read so far before those that a reading gives; a fault stays
 abbrev pub with_front : {A : Type 0} → List A
@@ -30,7 +30,3 @@ signs_from at (b ∷ c ∷ text) =
 abbrev pub pattern_of : List ℕ → Result (List Sign) PatternError
 pattern_of [] = Err Empty
 pattern_of (b ∷ text) = signs_from 0 (b ∷ text)
-
--- a result that is want of memory, or else the one that the rules give
-abbrev pub UnlessMemory : {A : Type 0} → Result A PatternError → Result A PatternError → Type 0
-UnlessMemory result given = (result ≡ Err Memory) ⊎ (result ≡ given)

@@ -1,5 +1,6 @@
 pub mod ComputedMatching
 pub mod ComputedReading
+pub mod ItemRules
 pub mod Items
 pub mod Matching
 pub mod MatchingSteps

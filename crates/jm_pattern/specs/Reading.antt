@@ -1,5 +1,8 @@
 -- What the text of a pattern reads as (this project's rule); 42 is `*` and 92 is `\`.
 use Rattle.std.specs.Prelude.{◌≡◌, ◌≢◌, ◌++◌, ◌∷◌, [], ℕ, List, length, ◌⊎◌, codes}
+use Rattle.jm_pattern.specs.declared.signs.PatternError.{PatternError}
+use Rattle.jm_pattern.specs.declared.signs.PatternError.TheVariants.{BadEscape, Empty, Memory}
+use Rattle.jm_pattern.specs.declared.signs.PatternError.TheVariants.{Prefix}
 use Rattle.jm_pattern.specs.declared.signs.Sign.{Sign}
 use Rattle.jm_pattern.specs.declared.signs.Sign.TheVariants.{AnyRun, Run, One, Byte}
 
@@ -33,3 +36,10 @@ pub record EndsEscaped (text : List ℕ) (at : ℕ) : Type 0 where
   pub whole : text ≡ front ++ 92 ∷ []
   pub reads : Reads front signs
   pub place : at ≡ length front
+
+-- why a text of its own is no pattern
+abbrev pub IsFaultOf : List ℕ → PatternError → Type 0
+IsFaultOf text (BadEscape at) = EndsEscaped text at
+IsFaultOf text Empty = text ≡ []
+IsFaultOf text (Prefix number) = ⊥
+IsFaultOf text Memory = ⊥

@@ -1,6 +1,9 @@
-ghost use Rattle.std.specs.Prelude.{◌≡◌, ◌∷◌, ◌<◌, ◌≤◌, length, option_map, IfSome, IfNone};
-ghost use Rattle.jm_pattern.specs.ComputedReading.{UnlessMemory};
+ghost use Rattle.std.specs.Prelude.{◌≡◌, ◌∷◌, ◌<◌, ◌≤◌, ◌⊎◌, length, option_map};
+ghost use Rattle.std.specs.Prelude.{IfSome, IfNone, IfOk, IfErr};
+ghost use Rattle.std.specs.List.{AllZip};
+ghost use Rattle.jm_bytes.specs.Results.{UnlessMemory};
 ghost use Rattle.jm_pattern.specs.Items.{items_of, is_refused, without_glob, item_pattern, list_of};
+ghost use Rattle.jm_pattern.specs.ItemRules.{ItemReads, IsListFault};
 ghost use Rattle.jm_pattern.specs.ReadingSteps.{GoesOn, EndsItem, items_behind};
 
 use crate::signs::{Pattern, PatternError};
@@ -12,7 +15,10 @@ use std::alloc::Global;
 /// it loses a `glob:` at its front once and is read as a pattern. The least item with a fault
 /// decides; a place in `BadEscape` counts in the item without its `glob:`.
 pub fn read_list(alloc: Global, text: &[u8]) -> Result<List<Pattern>, PatternError>
-    ensures { UnlessMemory result (list_of text.now) }
+    ensures value { UnlessMemory PatternError.Memory result (list_of text.now) }
+    ensures reads { IfOk result (AllZip ItemReads (items_of text.now)) }
+    ensures fault { IfErr result
+        (λ fault. (fault ≡ PatternError.Memory) ⊎ IsListFault text.now fault) }
 {
     let mut patterns = List::new(alloc);
     let mut left = Some(text);
@@ -27,7 +33,7 @@ pub fn read_list(alloc: Global, text: &[u8]) -> Result<List<Pattern>, PatternErr
 
 /// Reads an item of a list as a pattern.
 fn read_item(alloc: Global, number: usize, item: &[u8]) -> Result<Pattern, PatternError>
-    ensures { UnlessMemory result (item_pattern number item.now) }
+    ensures { UnlessMemory PatternError.Memory result (item_pattern number item.now) }
 {
     if item.starts_with(b"regex:") || item.starts_with(b"@") {
         return Err(PatternError::Prefix(number));

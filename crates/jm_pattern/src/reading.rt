@@ -1,5 +1,6 @@
 ghost use Rattle.std.specs.Prelude.{◌≡◌, ◌<◌, ◌≤◌, ◌∷◌, ℕ, length, IfSome, IfNone};
-ghost use Rattle.jm_pattern.specs.ComputedReading.{UnlessMemory, signs_from};
+ghost use Rattle.jm_bytes.specs.Results.{UnlessMemory};
+ghost use Rattle.jm_pattern.specs.ComputedReading.{signs_from};
 ghost use Rattle.jm_pattern.specs.Reading.{BeginsWith};
 ghost use Rattle.jm_pattern.specs.ReadingSteps.{ReadsFirst};
 
@@ -9,7 +10,7 @@ use std::alloc::Global;
 
 /// The signs of a text, from left to right.
 pub fn signs_of(alloc: Global, text: &[u8]) -> Result<List<Sign>, PatternError>
-    ensures { UnlessMemory result (signs_from 0 text.now) }
+    ensures { UnlessMemory PatternError.Memory result (signs_from 0 text.now) }
 {
     let mut signs = List::new(alloc);
     let mut rest = text;

@@ -1,8 +1,9 @@
-ghost use Rattle.std.specs.Prelude.{◌≡◌, ◌↔◌, IsTrue, IfOk, All, codes};
+ghost use Rattle.std.specs.Prelude.{◌≡◌, ◌↔◌, ◌⊎◌, IsTrue, IfOk, IfErr, All, codes};
 ghost use Rattle.jm_pattern.specs.Matching.{Match, MatchesOnly, MatchesAll};
-ghost use Rattle.jm_pattern.specs.ComputedMatching.{matches};
-ghost use Rattle.jm_pattern.specs.ComputedReading.{UnlessMemory, pattern_of};
-ghost use Rattle.jm_pattern.specs.Reading.{IsPlain};
+ghost use Rattle.jm_pattern.specs.ComputedMatching.{matches, matches_any};
+ghost use Rattle.jm_bytes.specs.Results.{UnlessMemory};
+ghost use Rattle.jm_pattern.specs.ComputedReading.{pattern_of};
+ghost use Rattle.jm_pattern.specs.Reading.{IsFaultOf, IsPlain, Reads};
 
 use crate::matching::is_match;
 use crate::reading::signs_of;
@@ -65,7 +66,10 @@ impl Pattern {
     /// Reads a text from left to right: `**`, `*` and `?` are signs, `\x` is the byte x, and any
     /// other byte is itself. A place in `BadEscape` is in bytes from 0.
     pub fn parse(alloc: Global, text: &[u8]) -> Result<Pattern, PatternError>
-        ensures read { UnlessMemory result (pattern_of text.now) }
+        ensures read { UnlessMemory PatternError.Memory result (pattern_of text.now) }
+        ensures reads { IfOk result (Reads text.now) }
+        ensures fault { IfErr result
+            (λ fault. (fault ≡ PatternError.Memory) ⊎ IsFaultOf text.now fault) }
 
         // A text without signs matches itself alone, and `**` matches every name.
         ensures plain { All IsPlain text.now → IfOk result (λ signs. MatchesOnly signs text.now) }
@@ -85,4 +89,11 @@ impl Pattern {
     {
         is_match(self.signs.as_slice(), name)
     }
+}
+
+/// Whether one of the patterns matches a name.
+pub fn matches_any(patterns: &[Pattern], name: &[u8]) -> bool
+    ensures { result ≡ matches_any patterns.now name.now }
+{
+    patterns.iter().any(|pattern| pattern.matches(name))
 }

@@ -6,13 +6,8 @@ use Rattle.std.specs.Borrow.{Bor}
 use Rattle.std.specs.Fn.{FnReturns, FnReturnsAt}
 use Rattle.std.specs.List.{AllZip, filter, range_with_len}
 use denote.Param.Members.{Shared}
-use Rattle.jm_halves.proofs.Zipped.{zip_weaker}
+use Rattle.jm_halves.proofs.Zipped.{zipped_each}
 use Rattle.jm_pool.specs.Pairs.{flagged_items}
-
--- for a caller of `map_halves`: each answer meets what is said of any answer to the item
-pub zipped_each : {F A B : Type 0} (g : Shared F (Bor A × Unit {0}) B) (f : F) (Q : A → B → Type 0) (xs : List A) (ys : List B) → ((x : Bor A) (b : B) → FnReturns g f (x, tt) b → Q x.now b) → AllZip (FnReturnsAt g f) xs ys → AllZip Q xs ys
-zipped_each g f Q xs ys answers zipped =
-    zip_weaker (FnReturnsAt g f) Q xs ys (λ x y says. subst (λ z. Q z y) says.shows (answers says.shown y says.says)) zipped
 
 module _ {A : Type 0} where
   -- an element behind a front stands at the front's length

@@ -3,7 +3,7 @@ use Rattle.std.proofs.Common.{◌≡◌, ℕ, zero, suc, ◌+◌, ◌<◌, inl, 
 use Rattle.std.proofs.lemmas.List.{length_push, drop_more, drop_all}
 use Rattle.std.proofs.lemmas.Option.{get_or_from_slice_get}
 use Rattle.std.proofs.lemmas.List.Elements.{All-nil, All-cons, All-tail, All-weaker}
-use Rattle.std.specs.List.{AllZip, ends_with, zip}
+use Rattle.std.specs.List.{AllZip, ends_with}
 use Rattle.jm_bytes.proofs.Choice.{same_ok}
 use Rattle.jm_class.specs.Classes.{ClassData}
 use Rattle.jm_class.specs.ComputedClass.{class_of, class_fault, fault_of}
@@ -12,23 +12,21 @@ use Rattle.jm_class.specs.declared.class.ReadError.{ReadError}
 use Rattle.jm_class.specs.declared.class.ReadError.TheVariants as read_error
 use Rattle.jm_class.proofs.ComputedClassLaws.{reads-class_of}
 use Rattle.jm_compact.specs.Compact.{compact_text, with_text, Compacts}
-use Rattle.jm_pool.specs.Pairs.{names_of, contents_of, with_bytes_at}
+use Rattle.jm_pool.specs.Pairs.{names_of, with_bytes_at}
 use Rattle.jm_strip.specs.Strip.{StripsTo}
 use Rattle.jm_plugins.specs.declared.chain.ApplyError.{ApplyError}
-use Rattle.jm_plugins.specs.declared.chain.ApplyError.TheVariants.{BadClass}
+use Rattle.jm_plugins.specs.declared.chain.ApplyError.TheVariants.{BadClass, Memory}
 use Rattle.jm_plugins.specs.declared.classes.Remade.{Remade}
-use Rattle.jm_plugins.specs.Plugins.{followed, remade_pair, remade_pairs, stripped_text, UnlessMemory}
+use Rattle.jm_bytes.specs.Results.{followed, UnlessMemory}
+use Rattle.jm_pool.proofs.PairLaws.{zipped}
+use Rattle.jm_plugins.specs.Plugins.{remade_pair, remade_pairs, stripped_text}
 use Rattle.jm_plugins.specs.Steps.{class_places, put_remade, put_one, IsRemade, Refuses, RemadeAs}
 use Rattle.jm_plugins.proofs.Beside.{at_front}
 
 -- Pairs with other bytes at a place
 
-paired : (pairs : List (List ℕ × List ℕ)) → zip (names_of pairs) (contents_of pairs) ≡ pairs
-paired [] = refl
-paired (p ∷ pairs) = ap (λ l. p ∷ l) (paired pairs)
-
 replaced : (done rest : List (List ℕ × List ℕ)) (pair : List ℕ × List ℕ) (text : List ℕ) → with_bytes_at (done ++ pair ∷ rest) (length done) text ≡ done ++ (pair.0, text) ∷ rest
-replaced [] rest pair text = ap (λ l. (pair.0, text) ∷ l) (paired rest)
+replaced [] rest pair text = ap (λ l. (pair.0, text) ∷ l) (zipped rest)
 replaced (p ∷ done) rest pair text = ap (λ l. p ∷ l) (replaced done rest pair text)
 
 name_there : (done rest : List (List ℕ × List ℕ)) (pair : List ℕ × List ℕ) → get_or (names_of (done ++ pair ∷ rest)) (length done) [] ≡ pair.0
@@ -37,7 +35,7 @@ name_there (p ∷ done) rest pair = name_there done rest pair
 
 pub as_many : (pairs : List (List ℕ × List ℕ)) (place : ℕ) (text : List ℕ) → length (with_bytes_at pairs place text) ≡ length pairs
 as_many [] place text = refl
-as_many (p ∷ pairs) zero text = ap (λ l. suc (length l)) (paired pairs)
+as_many (p ∷ pairs) zero text = ap (λ l. suc (length l)) (zipped pairs)
 as_many (p ∷ pairs) (suc place) text = ap suc (as_many pairs place text)
 
 -- Places of classes
@@ -118,13 +116,13 @@ joined done first (Err refusal) = refl
 
 module _ (text : ClassData → List ℕ) where
   -- a first pair that is given, and then what the rest comes to
-  onward : (done rest : List (List ℕ × List ℕ)) (pair first : List ℕ × List ℕ) (outs : List Remade) → remade_pair text pair ≡ Ok first → UnlessMemory (put_remade outs ((done ++ first ∷ []) ++ rest)) (followed (remade_pairs text rest) (λ xs. Ok ((done ++ first ∷ []) ++ xs))) → UnlessMemory (put_remade outs (done ++ first ∷ rest)) (followed (remade_pairs text (pair ∷ rest)) (λ ys. Ok (done ++ ys)))
+  onward : (done rest : List (List ℕ × List ℕ)) (pair first : List ℕ × List ℕ) (outs : List Remade) → remade_pair text pair ≡ Ok first → UnlessMemory Memory (put_remade outs ((done ++ first ∷ []) ++ rest)) (followed (remade_pairs text rest) (λ xs. Ok ((done ++ first ∷ []) ++ xs))) → UnlessMemory Memory (put_remade outs (done ++ first ∷ rest)) (followed (remade_pairs text (pair ∷ rest)) (λ ys. Ok (done ++ ys)))
   onward done rest pair first outs is so_far =
       let place : (done ++ first ∷ []) ++ rest ≡ done ++ first ∷ rest = append_assoc done (first ∷ []) rest in
       let whole : followed (remade_pairs text (pair ∷ rest)) (λ ys. Ok (done ++ ys)) ≡ followed (followed (remade_pairs text rest) (λ xs. Ok (first ∷ xs))) (λ ys. Ok (done ++ ys)) = ap (λ o. followed (followed o (λ one. followed (remade_pairs text rest) (λ xs. Ok (one ∷ xs)))) (λ ys. Ok (done ++ ys))) is in
       rw (whole, sym (joined done first (remade_pairs text rest)), sym place) so_far
 
-  put_is : (all front done rest : List (List ℕ × List ℕ)) (outs : List Remade) → all ≡ front ++ rest → length done ≡ length front → AllZip (IsRemade text all) (class_places (length front) rest) outs → UnlessMemory (put_remade outs (done ++ rest)) (followed (remade_pairs text rest) (λ ys. Ok (done ++ ys)))
+  put_is : (all front done rest : List (List ℕ × List ℕ)) (outs : List Remade) → all ≡ front ++ rest → length done ≡ length front → AllZip (IsRemade text all) (class_places (length front) rest) outs → UnlessMemory Memory (put_remade outs (done ++ rest)) (followed (remade_pairs text rest) (λ ys. Ok (done ++ ys)))
   put_is all front done [] [] is level zipped = inr refl
   put_is all front done [] (one ∷ outs) is level zipped = absurd zipped
   put_is all front done (pair ∷ rest) outs is level zipped = go (ends_with nat_eq pair.0 (codes ".class")) refl outs zipped (λ first later beside. put_is all (front ++ pair ∷ []) (done ++ first ∷ []) rest later (is ∙ sym (append_assoc front (pair ∷ []) rest)) (length_push done first ∙ ap (λ n. n + 1) level ∙ sym (length_push front pair)) (subst (λ n. AllZip (IsRemade text all) (class_places n rest) later) (sym (length_push front pair)) beside))
@@ -133,9 +131,9 @@ module _ (text : ClassData → List ℕ) where
       there = ap (λ l. slice_get l (length front)) is ∙ at_front front rest pair
 
       Onward : Type 0
-      Onward = (first : List ℕ × List ℕ) (later : List Remade) → AllZip (IsRemade text all) (class_places (length front + 1) rest) later → UnlessMemory (put_remade later ((done ++ first ∷ []) ++ rest)) (followed (remade_pairs text rest) (λ xs. Ok ((done ++ first ∷ []) ++ xs)))
+      Onward = (first : List ℕ × List ℕ) (later : List Remade) → AllZip (IsRemade text all) (class_places (length front + 1) rest) later → UnlessMemory Memory (put_remade later ((done ++ first ∷ []) ++ rest)) (followed (remade_pairs text rest) (λ xs. Ok ((done ++ first ∷ []) ++ xs)))
 
-      one_class : (one : Remade) (later : List Remade) (o : Result (List ℕ) ReadError) → ends_with nat_eq pair.0 (codes ".class") ≡ true → RemadeAs text pair.1 o → AllZip (IsRemade text all) (class_places (length front + 1) rest) later → Onward → UnlessMemory (put_one (length done) o (put_remade later) (done ++ pair ∷ rest)) (followed (remade_pairs text (pair ∷ rest)) (λ ys. Ok (done ++ ys)))
+      one_class : (one : Remade) (later : List Remade) (o : Result (List ℕ) ReadError) → ends_with nat_eq pair.0 (codes ".class") ≡ true → RemadeAs text pair.1 o → AllZip (IsRemade text all) (class_places (length front + 1) rest) later → Onward → UnlessMemory Memory (put_one (length done) o (put_remade later) (done ++ pair ∷ rest)) (followed (remade_pairs text (pair ∷ rest)) (λ ys. Ok (done ++ ys)))
       one_class one later (Ok made) named own_text beside on =
           let own : remade_pair text pair ≡ Ok (pair.0, made) = rw (named, own_text.1, own_text.2) refl in
           rw (replaced done rest pair made) (onward done rest pair (pair.0, made) later own (on (pair.0, made) later beside))
@@ -144,7 +142,7 @@ module _ (text : ClassData → List ℕ) where
           inr (ap (λ name. Err (BadClass name fault)) (name_there done rest pair) ∙ sym (ap (λ o. followed (followed o (λ first. followed (remade_pairs text rest) (λ xs. Ok (first ∷ xs)))) (λ ys. Ok (done ++ ys))) own))
       one_class one later (Err read_error.Memory) named own_text beside on = inl refl
 
-      go : (b : Bool) → ends_with nat_eq pair.0 (codes ".class") ≡ b → (outs : List Remade) → AllZip (IsRemade text all) (class_places (length front) (pair ∷ rest)) outs → Onward → UnlessMemory (put_remade outs (done ++ pair ∷ rest)) (followed (remade_pairs text (pair ∷ rest)) (λ ys. Ok (done ++ ys)))
+      go : (b : Bool) → ends_with nat_eq pair.0 (codes ".class") ≡ b → (outs : List Remade) → AllZip (IsRemade text all) (class_places (length front) (pair ∷ rest)) outs → Onward → UnlessMemory Memory (put_remade outs (done ++ pair ∷ rest)) (followed (remade_pairs text (pair ∷ rest)) (λ ys. Ok (done ++ ys)))
       go false named outs zipped on =
           let own : remade_pair text pair ≡ Ok pair = rw named refl in
           onward done rest pair pair outs own (on pair outs (rw named at zipped))
@@ -156,8 +154,8 @@ module _ (text : ClassData → List ℕ) where
           rw place (one_class one later one.outcome named own_text beside.1 on)
 
   -- put at their places, they are the pairs with these texts
-  pub put_all : (pairs : List (List ℕ × List ℕ)) (outs : List Remade) → AllZip (IsRemade text pairs) (class_places 0 pairs) outs → UnlessMemory (put_remade outs pairs) (remade_pairs text pairs)
-  put_all pairs outs zipped = subst (λ o. UnlessMemory (put_remade outs pairs) o) (plain (remade_pairs text pairs)) (put_is pairs [] [] pairs outs refl refl zipped)
+  pub put_all : (pairs : List (List ℕ × List ℕ)) (outs : List Remade) → AllZip (IsRemade text pairs) (class_places 0 pairs) outs → UnlessMemory Memory (put_remade outs pairs) (remade_pairs text pairs)
+  put_all pairs outs zipped = subst (λ o. UnlessMemory Memory (put_remade outs pairs) o) (plain (remade_pairs text pairs)) (put_is pairs [] [] pairs outs refl refl zipped)
     where
       plain : (o : Result (List (List ℕ × List ℕ)) ApplyError) → followed o (λ ys. Ok ys) ≡ o
       plain (Ok ys) = refl
@@ -176,21 +174,21 @@ within_more one later pairs new text is within =
     rw level (All-tail (λ z. z.place < length pairs) one later within)
 
 -- all were put
-pub put_none : (left : List Remade) (count : ℕ) (pairs : List (List ℕ × List ℕ)) (all : Result (List (List ℕ × List ℕ)) ApplyError) → length left ≡ count → count ≡ 0 → all ≡ put_remade left pairs → UnlessMemory (Ok pairs) all
+pub put_none : (left : List Remade) (count : ℕ) (pairs : List (List ℕ × List ℕ)) (all : Result (List (List ℕ × List ℕ)) ApplyError) → length left ≡ count → count ≡ 0 → all ≡ put_remade left pairs → UnlessMemory Memory (Ok pairs) all
 put_none [] count pairs all long none so_far = inr (sym so_far)
 put_none (one ∷ left) count pairs all long none so_far = absurd (omega (arith, long, none))
 
 -- the first that was refused decides
-pub put_refused : (one : Remade) (later : List Remade) (pairs : List (List ℕ × List ℕ)) (error : ReadError) (refusal : ApplyError) (all : Result (List (List ℕ × List ℕ)) ApplyError) → one.outcome ≡ Err error → Refuses pairs one.place error refusal → all ≡ put_remade (one ∷ later) pairs → UnlessMemory (Err refusal) all
+pub put_refused : (one : Remade) (later : List Remade) (pairs : List (List ℕ × List ℕ)) (error : ReadError) (refusal : ApplyError) (all : Result (List (List ℕ × List ℕ)) ApplyError) → one.outcome ≡ Err error → Refuses pairs one.place error refusal → all ≡ put_remade (one ∷ later) pairs → UnlessMemory Memory (Err refusal) all
 put_refused one later pairs error refusal all is refuses so_far = go error (so_far ∙ ap (λ o. put_one one.place o (put_remade later) pairs) is) refuses
   where
-    go : (e : ReadError) → all ≡ put_one one.place (Err e) (put_remade later) pairs → Refuses pairs one.place e refusal → UnlessMemory (Err refusal) all
+    go : (e : ReadError) → all ≡ put_one one.place (Err e) (put_remade later) pairs → Refuses pairs one.place e refusal → UnlessMemory Memory (Err refusal) all
     go (read_error.Fault fault) due (inl none) = inl (ap (λ r. Err r) none)
     go (read_error.Fault fault) due (inr same) = inr (ap (λ r. Err r) same ∙ sym due)
     go read_error.Memory due none = inl (ap (λ r. Err r) none)
 
 -- what is given unless memory is wanted, of a value that is so given itself
-pub unless_then : {A : Type 0} (result middle due : Result A ApplyError) → UnlessMemory result middle → UnlessMemory middle due → UnlessMemory result due
+pub unless_then : {A : Type 0} (result middle due : Result A ApplyError) → UnlessMemory Memory result middle → UnlessMemory Memory middle due → UnlessMemory Memory result due
 unless_then result middle due (inl none) second = inl none
 unless_then result middle due (inr same) (inl none) = inl (same ∙ none)
 unless_then result middle due (inr same) (inr is) = inr (same ∙ is)

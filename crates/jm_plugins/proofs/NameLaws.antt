@@ -18,8 +18,10 @@ use Rattle.jm_pool.specs.Pairs.{names_of}
 use Rattle.jm_plugins.specs.declared.Plugin.{Plugin}
 use Rattle.jm_plugins.specs.declared.Plugin.TheVariants as plugin
 use Rattle.jm_plugins.specs.declared.chain.ApplyError.{ApplyError}
-use Rattle.jm_plugins.specs.Matching.{excluded, matches_any, ordered}
-use Rattle.jm_plugins.specs.Plugins.{act, apply, followed, remade, remade_pair, remade_pairs, stripped_text}
+use Rattle.jm_pattern.specs.ComputedMatching.{matches_any}
+use Rattle.jm_plugins.specs.Matching.{excluded, ordered}
+use Rattle.jm_bytes.specs.Results.{followed}
+use Rattle.jm_plugins.specs.Plugins.{act, apply, remade, remade_pair, remade_pairs, stripped_text}
 
 -- Names of what a plug-in leaves
 

@@ -1,12 +1,7 @@
 -- Which resources the patterns of a plug-in take (JEP 282; the patterns are this project's rule).
-use Rattle.std.specs.Prelude.{ℕ, Bool, not, List, [], ◌∷◌, ◌++◌, filter}
-use Rattle.std.specs.List.{list_any}
+use Rattle.std.specs.Prelude.{ℕ, not, List, [], ◌∷◌, ◌++◌, filter}
 use Rattle.jm_pattern.specs.declared.signs.Sign.{Sign}
-use Rattle.jm_pattern.specs.ComputedMatching.{matches}
-
--- one of the patterns matches the name
-abbrev pub matches_any : List (List Sign) → List ℕ → Bool
-matches_any patterns name = list_any (λ pattern. matches pattern name) patterns
+use Rattle.jm_pattern.specs.ComputedMatching.{matches, matches_any}
 
 -- the pairs whose name no pattern matches
 abbrev pub excluded : List (List Sign) → List (List ℕ × List ℕ) → List (List ℕ × List ℕ)

@@ -1,8 +1,9 @@
 -- What plug-ins make of the resources before they are written (JEP 282; what each plug-in does is
 -- this project's rule).
-use Rattle.std.specs.Prelude.{ℕ, ◌≡◌, ◌⊎◌, List, [], ◌∷◌, Result, Ok, Err, nat_eq, codes}
+use Rattle.std.specs.Prelude.{ℕ, List, [], ◌∷◌, Result, Ok, Err, nat_eq, codes}
 use Rattle.std.specs.Prelude.{if◌then◌else◌}
 use Rattle.std.specs.List.{ends_with}
+use Rattle.jm_bytes.specs.Results.{followed}
 use Rattle.jm_class.specs.Classes.{ClassData, class_text}
 use Rattle.jm_class.specs.ComputedClass.{class_of}
 use Rattle.jm_class.specs.declared.class.ClassFault.{ClassFault}
@@ -11,14 +12,8 @@ use Rattle.jm_strip.specs.Strip.{strip}
 use Rattle.jm_plugins.specs.declared.Plugin.{Plugin}
 use Rattle.jm_plugins.specs.declared.Plugin.TheVariants as plugin
 use Rattle.jm_plugins.specs.declared.chain.ApplyError.{ApplyError}
-use Rattle.jm_plugins.specs.declared.chain.ApplyError.TheVariants.{BadClass, Memory}
+use Rattle.jm_plugins.specs.declared.chain.ApplyError.TheVariants.{BadClass}
 use Rattle.jm_plugins.specs.Matching.{excluded, ordered}
-
--- a step behind another one; the refusal of the first stays
-abbrev pub followed : {A B : Type 0} → Result A ApplyError → (A → Result B ApplyError)
-    → Result B ApplyError
-followed (Ok value) next = next value
-followed (Err refusal) next = Err refusal
 
 -- the pair of a class that was read, with another text
 abbrev pub remade : (ClassData → List ℕ) → List ℕ → Result ClassData ClassFault
@@ -57,7 +52,3 @@ abbrev pub apply : List Plugin → List (List ℕ × List ℕ)
     → Result (List (List ℕ × List ℕ)) ApplyError
 apply [] pairs = Ok pairs
 apply (one ∷ later) pairs = followed (act one pairs) (apply later)
-
--- a result that is want of memory, or else the one that the rules give
-abbrev pub UnlessMemory : {A : Type 0} → Result A ApplyError → Result A ApplyError → Type 0
-UnlessMemory result given = (result ≡ Err Memory) ⊎ (result ≡ given)

@@ -1,5 +1,6 @@
 ghost use Rattle.std.specs.Prelude.{◌<◌};
-ghost use Rattle.jm_plugins.specs.Plugins.{act, apply, UnlessMemory};
+ghost use Rattle.jm_bytes.specs.Results.{UnlessMemory};
+ghost use Rattle.jm_plugins.specs.Plugins.{act, apply};
 
 use crate::Plugin;
 use crate::classes::{Remaking, remake_classes};
@@ -47,7 +48,7 @@ fn act<R: Threads + Sync, G: Gate + Sync>(
     gate: &G,
 ) -> Result<Pool, ApplyError>
     requires { 0 < jobs }
-    ensures { UnlessMemory result (act plugin.now pool) }
+    ensures { UnlessMemory ApplyError.Memory result (act plugin.now pool) }
 {
     match plugin {
         Plugin::Exclude(patterns) => Ok(exclude(rt, alloc, jobs, pool, patterns.as_slice(), gate)?),
@@ -67,14 +68,11 @@ fn act_all<R: Threads + Sync, G: Gate + Sync>(
     gate: &G,
 ) -> Result<Pool, ApplyError>
     requires { 0 < jobs }
-    ensures { UnlessMemory result (apply list.now pool) }
+    ensures { UnlessMemory ApplyError.Memory result (apply list.now pool) }
 {
     let mut pool = pool;
     for number in 0..list.len() {
-        match act(rt, alloc, jobs, pool, &list[number], gate) {
-            Ok(next) => pool = next,
-            Err(refusal) => return Err(refusal),
-        }
+        pool = act(rt, alloc, jobs, pool, &list[number], gate)?;
     }
     Ok(pool)
 }
@@ -92,7 +90,7 @@ pub fn apply<R: Threads + Sync, G: Gate + Sync>(
     gate: &G,
 ) -> Result<Pool, ApplyError>
     requires { 0 < jobs }
-    ensures { UnlessMemory result (apply list.now pool) }
+    ensures { UnlessMemory ApplyError.Memory result (apply list.now pool) }
 {
     act_all(rt, alloc, jobs, pool, list, gate)
 }

@@ -1,6 +1,7 @@
 ghost use Rattle.std.specs.Prelude.{◌≡◌, ◌<◌, All, length, IfOk};
 ghost use Rattle.std.specs.List.{AllZip};
-ghost use Rattle.jm_plugins.specs.Plugins.{remade_pairs, UnlessMemory};
+ghost use Rattle.jm_bytes.specs.Results.{UnlessMemory};
+ghost use Rattle.jm_plugins.specs.Plugins.{remade_pairs};
 ghost use Rattle.jm_plugins.specs.Steps.{class_places, put_remade, text_of, IsRemade, Refuses};
 ghost use Rattle.jm_plugins.specs.Steps.{RemadeAs};
 
@@ -101,7 +102,7 @@ fn refusal(alloc: Global, pool: &Pool, place: usize, error: ReadError) -> ApplyE
 /// Puts the classes made anew, in the order of the pool; the first that was refused decides.
 fn put_remade(alloc: Global, pool: Pool, remade: List<Remade>) -> Result<Pool, ApplyError>
     requires { All (λ one. one.place < length pool) remade }
-    ensures { UnlessMemory result (put_remade remade pool) }
+    ensures { UnlessMemory ApplyError.Memory result (put_remade remade pool) }
 {
     let mut pool = pool;
     for Remade { place, outcome } in remade.into_vec() {
@@ -123,7 +124,7 @@ pub fn remake_classes<R: Threads + Sync, G: Gate + Sync>(
     gate: &G,
 ) -> Result<Pool, ApplyError>
     requires { 0 < jobs }
-    ensures { UnlessMemory result (remade_pairs (text_of way) pool) }
+    ensures { UnlessMemory ApplyError.Memory result (remade_pairs (text_of way) pool) }
 {
     let remade = remake_each(rt, alloc, jobs, &pool, way, gate)?;
     put_remade(alloc, pool, remade)

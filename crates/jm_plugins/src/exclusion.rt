@@ -1,20 +1,14 @@
 ghost use Rattle.std.specs.Prelude.{◌≡◌, ◌<◌, Some, not, length, map, slice_get, IfOk};
-ghost use Rattle.jm_plugins.specs.Matching.{excluded, matches_any};
+ghost use Rattle.jm_pattern.specs.ComputedMatching.{matches_any};
+ghost use Rattle.jm_plugins.specs.Matching.{excluded};
 
 use crate::places::places_below;
 use jm_bytes::{List, NoMemory};
 use jm_halves::{Gate, map_halves};
-use jm_pattern::Pattern;
+use jm_pattern::{Pattern, matches_any};
 use jm_pool::Pool;
 use std::alloc::Global;
 use std::thread::Threads;
-
-/// Whether one of the patterns matches a name.
-fn matches_any(patterns: &[Pattern], name: &[u8]) -> bool
-    ensures { result ≡ matches_any patterns.now name.now }
-{
-    patterns.iter().any(|pattern| pattern.matches(name))
-}
 
 /// Whether no pattern matches the name at a place.
 fn stays(pool: &Pool, patterns: &[Pattern], place: usize) -> bool

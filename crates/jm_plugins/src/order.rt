@@ -67,10 +67,8 @@ fn by_rank(turns: List<Turn>) -> Result<Vec<Turn>, NoMemory>
     ensures { IfOk result (λ sorted. IsByRank turns sorted.items) }
 {
     let mut sorted = turns.into_vec();
-    match sorted.sort_by_key(|turn| turn.rank) {
-        Ok(()) => Ok(sorted),
-        Err(_) => Err(NoMemory),
-    }
+    sorted.sort_by_key(|turn| turn.rank)?;
+    Ok(sorted)
 }
 
 /// The places of turns.

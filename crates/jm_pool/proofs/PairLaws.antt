@@ -1,18 +1,26 @@
 -- The entries of a map of names and bytes against the list of pairs: look-ups and changes.
-use Rattle.std.proofs.Common.{◌≡◌, ℕ, zero, suc, List, [], ◌∷◌, Option, Some, None, Bool, true, false, cond, refl, sym, ◌∙◌, ap, option_map, map}
+use Rattle.std.proofs.Common.{◌≡◌, ◌≢◌, ℕ, All, zero, suc, List, [], ◌∷◌, Option, Some, None, Bool, true, false, cond, refl, sym, ◌∙◌, ap, option_map, map}
 use Rattle.std.specs.List.{zip, IsDistinct, AllByRecursion}
 use Rattle.std.specs.Map.{lookup, keys_of}
 use Rattle.indexmap.specs.IndexMap.{set_value_at}
 use Rattle.std.specs.Str.{bytes_eq}
 use Rattle.std.proofs.lemmas.Slice.Eq.{bytes_eq-Decides}
+use Rattle.std.proofs.lemmas.List.Elements.{All-head, All-tail}
 use Rattle.std.proofs.lemmas.Map.Keys.{IsDistinct-head, IsDistinct-tail, IsDistinct-cons}
 use Rattle.std.proofs.lemmas.Map.Made.{AllPairs-from_IsDistinct}
+use Rattle.jm_bytes.proofs.ByteOrderLaws.{unequal}
 use Rattle.jm_pool.specs.Pairs.{names_of, contents_of, NamesDiffer, bytes_of, flagged_items, with_bytes_at}
 
 -- names beside their bytes are the pairs
-zipped : (pairs : List (List ℕ × List ℕ)) → zip (names_of pairs) (contents_of pairs) ≡ pairs
+pub zipped : (pairs : List (List ℕ × List ℕ)) → zip (names_of pairs) (contents_of pairs) ≡ pairs
 zipped [] = refl
 zipped (p ∷ pairs) = ap (λ l. p ∷ l) (zipped pairs)
+
+-- a name that no pair has has no bytes
+pub bytes_of_none : (name : List ℕ) (pairs : List (List ℕ × List ℕ)) → All (λ other. other ≢ name) (names_of pairs) → bytes_of name pairs ≡ None
+bytes_of_none name [] all = refl
+bytes_of_none name (p ∷ pairs) all =
+    rw (unequal name p.0 (All-head (λ other. other ≢ name) p.0 (names_of pairs) all)) (bytes_of_none name pairs (All-tail (λ other. other ≢ name) p.0 (names_of pairs) all))
 
 module _ {K X : Type 0} (key : K → List ℕ) (val : X → List ℕ) where
   -- the pairs of some entries

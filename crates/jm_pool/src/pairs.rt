@@ -20,10 +20,8 @@ pub fn add(
     ensures ok { OnOk result (pairs.new.entries ≡ pairs.old.entries ++ (name, bytes) ∷ []) }
     ensures err { OnErr result (pairs.new.entries ≡ pairs.old.entries) }
 {
-    match pairs.insert(name, bytes) {
-        Ok(_) => Ok(()),
-        Err(_) => Err(NoMemory),
-    }
+    pairs.insert(name, bytes)?;
+    Ok(())
 }
 
 /// Moves the pairs whose flag is true to the front, in their order, and answers how many they are.
@@ -50,10 +48,7 @@ pub fn pair_list(
     ensures pairs { IfOk result (λ list. list.items ≡ pairs.entries) }
     ensures differ { IfOk result (λ list. IsDistinct bytes_eq (names_of (pairs_of list.items))) }
 {
-    match Vec::from_iter(alloc, pairs) {
-        Ok(list) => Ok(list),
-        Err(_) => Err(NoMemory),
-    }
+    Ok(Vec::from_iter(alloc, pairs)?)
 }
 
 /// The pair at a place, which is left without a byte.

@@ -1,8 +1,8 @@
 ghost use Rattle.std.specs.Prelude.{◌≡◌, ◌<◌, ◌↔◌, ◌∷◌, ◌++◌, [], Some, Err, length, slice_get};
-ghost use Rattle.std.specs.Prelude.{option_map, IsSome, IfOk, OnOk, OnErr};
+ghost use Rattle.std.specs.Prelude.{option_map, IsSome, IfOk, OnOk, OnErr, ◌⊎◌};
 ghost use Rattle.jm_pool.specs.Pairs.{NamesDiffer, bytes_of, flagged_items, items_at, IsOrderOf};
 ghost use Rattle.jm_pool.specs.Pairs.{with_bytes_at};
-ghost use Rattle.jm_pool.specs.declared.pool.PushError.TheVariants.{Twice};
+ghost use Rattle.jm_pool.specs.declared.pool.PushError.TheVariants.{Twice, Memory};
 
 use crate::pairs;
 use indexmap::IndexMap;
@@ -17,6 +17,17 @@ pub enum PushError {
     Twice(Text),
     /// No memory was found.
     Memory,
+}
+
+impl From<NoMemory> for PushError {
+    ghost use Rattle.std.specs.Prelude.{◌≡◌};
+    ghost use Rattle.jm_pool.specs.declared.pool.PushError.TheVariants.{Memory};
+
+    ghost from_gives = { λ _ e. e ≡ Memory };
+
+    fn from(_: NoMemory) -> PushError {
+        PushError::Memory
+    }
 }
 
 /// Resources in an order, each a name with its bytes, seen as the list of these pairs. Names
@@ -76,15 +87,13 @@ impl Pool {
     pub fn push(&mut self, name: Text, bytes: Text) -> Result<(), PushError>
         ensures ok { OnOk result (self.new ≡ self.old ++ (name, bytes) ∷ []) }
         ensures twice { (result ≡ Err (Twice name)) ↔ IsSome (bytes_of name self.old) }
+        ensures refused { OnErr result ((result ≡ Err (Twice name)) ⊎ (result ≡ Err Memory)) }
         ensures err { OnErr result (self.new ≡ self.old) }
     {
         if self.get(name.as_slice()).is_some() {
             return Err(PushError::Twice(name));
         }
-        match pairs::add(&mut self.pairs, name.into_vec(), bytes.into_vec()) {
-            Ok(()) => Ok(()),
-            Err(NoMemory) => Err(PushError::Memory),
-        }
+        Ok(pairs::add(&mut self.pairs, name.into_vec(), bytes.into_vec())?)
     }
 
     /// Keeps the pairs whose flag is true, in their order.

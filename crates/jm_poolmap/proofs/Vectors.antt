@@ -1,11 +1,12 @@
 -- The definitions, evaluated on small classes, on one frame or instruction of each form, and on what
 -- is none.
-use Rattle.std.proofs.Common.{◌≡◌, ℕ, Bool, true, false, List, [], ◌∷◌, ◌++◌, length, map, Option, Some, None, Result, Ok, Err, refl}
+use Rattle.std.proofs.Common.{◌≡◌, ℕ, Bool, true, false, List, [], ◌∷◌, ◌++◌, length, map, take, drop, Option, Some, None, Result, Ok, Err, refl}
 use Rattle.std.specs.Prelude.{replicate, codes, option_map, option_and_then}
 use Rattle.jm_class.specs.declared.class.ClassFault.{ClassFault}
 use Rattle.jm_class.specs.Classes.{SlotData, Constant, Hole, Opaque, AttributeData, ClassData, u2}
 use Rattle.jm_class.specs.ComputedClass.{class_of}
 use Rattle.jm_class.specs.Readings.{ended}
+use Rattle.jm_class.proofs.Vectors as vectors
 use Rattle.jm_poolmap.specs.declared.site.Site.{Site}
 use Rattle.jm_poolmap.specs.Attributes.{body, class_rows, method_rows, code_rows, named}
 use Rattle.jm_poolmap.specs.ComputedLive.{flags_of}
@@ -29,16 +30,7 @@ wide list = Some (map (λ place. (place, true)) list)
 
 -- the generated class without its debug information
 abbrev pub generated : List ℕ
-generated =
-    202 ∷ 254 ∷ 186 ∷ 190 ∷ 0 ∷ 0 ∷ 0 ∷ 61 ∷ 0 ∷ 13 ∷ 1 ∷ 0 ∷ 13 ∷ 109 ∷ 48 ∷ 48 ∷ 48 ∷ 47 ∷
-    112 ∷ 48 ∷ 47 ∷ 67 ∷ 48 ∷ 48 ∷ 48 ∷ 48 ∷ 7 ∷ 0 ∷ 1 ∷ 1 ∷ 0 ∷ 16 ∷ 106 ∷ 97 ∷ 118 ∷ 97 ∷ 47 ∷
-    108 ∷ 97 ∷ 110 ∷ 103 ∷ 47 ∷ 79 ∷ 98 ∷ 106 ∷ 101 ∷ 99 ∷ 116 ∷ 7 ∷ 0 ∷ 3 ∷ 1 ∷ 0 ∷ 1 ∷ 118 ∷
-    1 ∷ 0 ∷ 3 ∷ 40 ∷ 41 ∷ 74 ∷ 1 ∷ 0 ∷ 4 ∷ 67 ∷ 111 ∷ 100 ∷ 101 ∷ 1 ∷ 0 ∷ 15 ∷ 76 ∷ 105 ∷ 110 ∷
-    101 ∷ 78 ∷ 117 ∷ 109 ∷ 98 ∷ 101 ∷ 114 ∷ 84 ∷ 97 ∷ 98 ∷ 108 ∷ 101 ∷ 1 ∷ 0 ∷ 10 ∷ 83 ∷ 111 ∷
-    117 ∷ 114 ∷ 99 ∷ 101 ∷ 70 ∷ 105 ∷ 108 ∷ 101 ∷ 1 ∷ 0 ∷ 10 ∷ 67 ∷ 48 ∷ 48 ∷ 48 ∷ 48 ∷ 46 ∷
-    106 ∷ 97 ∷ 118 ∷ 97 ∷ 5 ∷ 20 ∷ 5 ∷ 123 ∷ 126 ∷ 247 ∷ 103 ∷ 129 ∷ 79 ∷ 0 ∷ 33 ∷ 0 ∷ 2 ∷ 0 ∷
-    4 ∷ 0 ∷ 0 ∷ 0 ∷ 0 ∷ 0 ∷ 1 ∷ 0 ∷ 9 ∷ 0 ∷ 5 ∷ 0 ∷ 6 ∷ 0 ∷ 1 ∷ 0 ∷ 7 ∷ 0 ∷ 0 ∷ 0 ∷ 16 ∷ 0 ∷ 2 ∷
-    0 ∷ 0 ∷ 0 ∷ 0 ∷ 0 ∷ 4 ∷ 20 ∷ 0 ∷ 11 ∷ 173 ∷ 0 ∷ 0 ∷ 0 ∷ 0 ∷ 0 ∷ 0 ∷ []
+generated = take 146 vectors.generated ++ 16 ∷ take 14 (drop 147 vectors.generated) ++ replicate 4 0
 
 generated-length : length generated ≡ 165
 generated-length = refl
@@ -51,26 +43,12 @@ generated-live : option_map (λ c. option_map (λ found. flags_of c.pool (map (�
 generated-live = refl
 
 -- the smallest class names no class, which isn't allowed
-abbrev smallest : ClassData
-smallest = record {
-  minor = 0;
-  major = 52;
-  pool = [];
-  access = 0;
-  this_class = 0;
-  super_class = 0;
-  interfaces = [];
-  fields = [];
-  methods = [];
-  attributes = [];
-}
-
-smallest-none : sites_of smallest ≡ None
+smallest-none : sites_of vectors.smallest_class ≡ None
 smallest-none = refl
 
 -- a class whose name is a Utf8 without a byte
 abbrev named_class : List SlotData → ClassData
-named_class more = record smallest { pool = Constant 1 [] ∷ more; this_class = 1 }
+named_class more = record vectors.smallest_class { pool = Constant 1 [] ∷ more; this_class = 1 }
 
 named-sites : places (sites_of (named_class [])) ≡ wide (15 ∷ 17 ∷ [])
 named-sites = refl

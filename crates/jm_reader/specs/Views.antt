@@ -1,5 +1,5 @@
 -- The name of an entry in its four pieces (jimage 1.0: `/module/parent/base.extension`).
-use Rattle.std.specs.Prelude.{ℕ, ◌+◌, ◌<◌, ◌^◌, List, [], ◌∷◌, length}
+use Rattle.std.specs.Prelude.{ℕ, ◌+◌, List, [], ◌∷◌, length}
 use Rattle.jm_names.specs.Names.{Cut, join}
 
 abbrev pub cut_from : List ℕ → List ℕ → List ℕ → List ℕ → Cut
@@ -9,13 +9,6 @@ cut_from «module» parent base ext =
 -- the name that the pieces make
 abbrev pub joined : List ℕ → List ℕ → List ℕ → List ℕ → List ℕ
 joined «module» parent base ext = join (cut_from «module» parent base ext)
-
--- each piece has fewer than 2^32 bytes, as the strings of an image have
-pub record ShortPieces (cut : Cut) : Type 0 where
-  pub «module» : length cut.module < 2 ^ 32
-  pub parent : length cut.parent < 2 ^ 32
-  pub base : length cut.base < 2 ^ 32
-  pub ext : length cut.ext < 2 ^ 32
 
 -- the mark of a piece, which stands in a name only where the piece isn't empty
 abbrev pub mark_of : List ℕ → List ℕ → List ℕ

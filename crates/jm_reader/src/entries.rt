@@ -1,19 +1,11 @@
 ghost use Rattle.std.specs.Prelude.{◌≡◌, ◌<◌, ◌+◌, [], IfSome, IfNone};
-ghost use Rattle.jm_names.specs.Names.{join};
-ghost use Rattle.jm_names.specs.Pieces.{cut_of};
-ghost use Rattle.jm_form.specs.Entries.{name_of};
-ghost use Rattle.jm_form.specs.Places.{strings};
-ghost use Rattle.jm_form.specs.Table.{is_slot, probe};
-ghost use Rattle.jm_form.specs.Validity.{SoundRow, ValidAs};
-ghost use Rattle.jm_reader.specs.Views.{ShortPieces};
+ghost use Rattle.jm_form.specs.Validity.{ValidAs};
 ghost use Rattle.jm_reader.specs.Walk.{entries_to_come, entries_of, entry_alone, IsFirst, IsLater};
 
 use crate::contents::content;
 use crate::name_view::NameView;
-use crate::texts::text;
 use jm_bytes::{Buf, Meter};
-use jm_form::{Header, Redirect, Row, redirect_at, row_of_slot};
-use jm_names::{DEFAULT_SEED, Pieces, hash_pieces};
+use jm_form::{Header, is_led_to, pieces_of, row_of_slot};
 use jm_valid::Image;
 use std::marker::Model;
 use std::sync::ledger::Ledger;
@@ -44,53 +36,6 @@ impl<'a> Model for Entries<'a> {
     ghost view = { λ a. record { bytes = a.image; rest = entries_to_come a.image a.slot } };
 }
 
-/// The pieces of the name of a row.
-fn pieces_of<'a, R: Ledger>(
-    buf: &Buf<'a>,
-    header: &Header,
-    row: &Row,
-    reads: &mut Meter<R>,
-) -> Pieces<'a>
-    requires valid { ValidAs buf.now header.now }
-    requires sound { SoundRow buf.now header.now row.now }
-    requires metered { reads.old.bytes ≡ buf.now }
-    ensures name { join (cut_of result) ≡ name_of (strings buf.now header.now) row.now }
-    ensures short { ShortPieces (cut_of result) }
-    ensures reads { IsLater reads.old reads.new }
-{
-    let module = text(buf, header, row.module, reads);
-    let parent = text(buf, header, row.parent, reads);
-    let base = text(buf, header, row.base, reads);
-    let ext = text(buf, header, row.ext, reads);
-    Pieces {
-        module,
-        parent,
-        base,
-        ext,
-    }
-}
-
-/// The table leads the name of these pieces to this slot.
-fn is_led_to<R: Ledger>(
-    buf: &Buf,
-    header: &Header,
-    slot: u32,
-    pieces: &Pieces,
-    reads: &mut Meter<R>,
-) -> bool
-    requires valid { ValidAs buf.now header.now }
-    requires below { slot < header.now.length }
-    requires metered { reads.old.bytes ≡ buf.now }
-    ensures led { result ≡ is_slot slot (probe buf.now header.now (join (cut_of pieces.now))) }
-    ensures reads { IsLater reads.old reads.new }
-{
-    match redirect_at(buf, header, hash_pieces(DEFAULT_SEED, pieces), reads) {
-        Redirect::Nowhere => false,
-        Redirect::Slot(led) => led == slot,
-        Redirect::Seed(seed) => hash_pieces(seed, pieces) % header.length == slot,
-    }
-}
-
 /// The entry of a slot, or None where the slot is spare.
 fn entry_of_slot<'a, R: Ledger>(
     buf: &Buf<'a>,
@@ -108,7 +53,7 @@ fn entry_of_slot<'a, R: Ledger>(
     ensures reads { IsLater reads.old reads.new }
 {
     let row = row_of_slot(buf, header, slot, reads).row()?;
-    let pieces = pieces_of(buf, header, &row, reads);
+    let pieces = pieces_of(buf, header, &row, reads)?;
     if !is_led_to(buf, header, slot, &pieces, reads) {
         return None;
     }

@@ -3,7 +3,8 @@ ghost use Rattle.std.specs.Prelude.{IsFalse, ◌↔◌, nat_eq, []};
 ghost use Rattle.std.specs.List.{starts_with};
 ghost use Rattle.jm_names.specs.Names.{is_node, join};
 ghost use Rattle.jm_names.specs.Pieces.{cut_of};
-ghost use Rattle.jm_reader.specs.Views.{marked_length, ShortPieces};
+ghost use Rattle.jm_form.specs.Entries.{ShortPieces};
+ghost use Rattle.jm_reader.specs.Views.{marked_length};
 
 use crate::name_bytes::NameBytes;
 use jm_bytes::{NoMemory, Text};
@@ -23,7 +24,8 @@ pub struct NameView<'a> {
 
 impl<'a> Model for NameView<'a> {
     ghost use Rattle.std.specs.Prelude.{List, ℕ};
-    ghost use Rattle.jm_reader.specs.Views.{cut_from, joined, ShortPieces};
+    ghost use Rattle.jm_form.specs.Entries.{ShortPieces};
+    ghost use Rattle.jm_reader.specs.Views.{cut_from, joined};
 
     ghost Value = { List ℕ };
 

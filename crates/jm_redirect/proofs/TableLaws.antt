@@ -75,7 +75,7 @@ table_without names slots is = go (greedy names slots) refl is
     go (Some table) e is = cc
 
 -- the words of 32 bits come back
-words_back : (redirects : List Redirect) → All (λ r. word_of r < 2 ^ 32) redirects → map (cast_unsigned w32) (words_of redirects) ≡ map word_of redirects
+pub words_back : (redirects : List Redirect) → All (λ r. word_of r < 2 ^ 32) redirects → map (cast_unsigned w32) (words_of redirects) ≡ map word_of redirects
 words_back [] fit = refl
 words_back (r ∷ redirects) fit =
     ap (λ w. w ∷ map (cast_unsigned w32) (words_of redirects)) (of_z-to_z w32 (word_of r) (All-head (λ r. word_of r < 2 ^ 32) r redirects fit)) ∙ ap (λ l. word_of r ∷ l) (words_back redirects (All-tail (λ r. word_of r < 2 ^ 32) r redirects fit))

@@ -7,7 +7,7 @@ ghost use Rattle.jm_form.specs.Greedy.{greedy, least_seed, least_free, redirect_
 ghost use Rattle.jm_redirect.specs.Marks.{Marks, TakenBelow, AllWithin, names_at, slots_sent};
 ghost use Rattle.jm_redirect.specs.Reached.{Reached};
 
-use crate::lists::{flags, nowhere, zeros};
+use crate::lists::{flags, nowhere};
 use crate::marks::{mark, unmarked_from};
 use crate::turns::{Turn, turns_in_order};
 use jm_bytes::{List, NoMemory, Text};
@@ -114,48 +114,8 @@ fn give_first<'t, 'n>(
     })
 }
 
-/// How many buckets get their redirects between two looks at the names of the next ones.
-const BUCKETS_AHEAD: usize = 16;
-
-/// How many names are looked at.
-const NAMES_AHEAD: usize = 48;
-
-/// The sum of the first and the last byte of a name, which are in memory far from all others.
-fn ends(name: &[u8]) -> u32 {
-    match (name.first(), name.last()) {
-        (Some(first), Some(last)) => u32::from(*first) + u32::from(*last),
-        _ => 0,
-    }
-}
-
-/// Looks at the names that come next, as many as there is room for.
-///
-/// They lie far apart, and no choice hangs on one here, so that the processor reads many at a time
-/// and has them at hand when their hashes are taken. Nothing else comes of it.
-fn look_at(names: &[&[u8]], seen: &mut [u32]) {
-    for at in 0..names.len().min(seen.len()) {
-        seen[at] = ends(names[at]);
-    }
-}
-
-/// Looks at the names of the buckets that come next, unless they have one name each: their hashes
-/// aren't taken.
-fn look_ahead(count: usize, left: Left, seen: &mut [u32])
-    requires some { 0 < length left.turns.now }
-{
-    if left.turns[0].others as usize + 1 < count {
-        look_at(left.names, seen);
-    }
-}
-
 /// Gives the buckets of the turns their redirects, in turn, or answers that one of them gets none.
-fn give_all(
-    names: &[Text],
-    all: Left,
-    taken: &mut [bool],
-    redirects: &mut [Redirect],
-    seen: &mut [u32],
-) -> bool
+fn give_all(names: &[Text], all: Left, taken: &mut [bool], redirects: &mut [Redirect]) -> bool
     requires few { length redirects.old < 2 ^ 32 }
     requires named { map (λ name. name.now) all.names.now ≡ names_at names.now all.turns.now }
     requires reached { Reached names.now (length redirects.old)
@@ -166,12 +126,7 @@ fn give_all(
 {
     let mut free = 0;
     let mut left = all;
-    let mut given = 0;
     while !left.turns.is_empty() {
-        if given % BUCKETS_AHEAD == 0 {
-            look_ahead(names.len(), left, seen);
-        }
-        given = (given + 1) % BUCKETS_AHEAD;
         match give_first(names, left, &mut free, taken, redirects) {
             Some(others) => left = others,
             None => return false,
@@ -220,8 +175,7 @@ pub fn redirects_at(
     };
     let mut taken = flags(alloc, slots as usize)?;
     let mut redirects = nowhere(alloc, slots as usize)?;
-    let mut seen = zeros(alloc, NAMES_AHEAD)?;
-    if give_all(names, left, &mut taken, &mut redirects, &mut seen) {
+    if give_all(names, left, &mut taken, &mut redirects) {
         Ok(Some(List::from_vec(redirects)))
     } else {
         Ok(None)

@@ -27,6 +27,16 @@ pub enum BuildError {
     Memory,
 }
 
+impl From<NoMemory> for BuildError {
+    ghost use Rattle.jm_redirect.specs.declared.building.BuildError.TheVariants.{Memory};
+
+    ghost from_gives = { λ _ e. e ≡ Memory };
+
+    fn from(_: NoMemory) -> BuildError {
+        BuildError::Memory
+    }
+}
+
 /// The table of an image that is written.
 #[derive(Debug, Drop)]
 pub struct Table {
@@ -161,15 +171,12 @@ pub fn build(alloc: Global, names: &[Text]) -> Result<Table, BuildError>
     ensures serves { IfOk result (ServesNames names.now) }
     ensures refused { IfErr result (IsRefusal names.now) }
 {
-    let Ok(hashes) = default_hashes(alloc, names) else {
-        return Err(BuildError::Memory);
-    };
+    let hashes = default_hashes(alloc, names)?;
     let mut length = names.len() as u32;
     for _tried in 0..LENGTHS {
-        match table_at(alloc, names, hashes.as_slice(), length) {
-            Ok(Some(table)) => return Ok(table),
-            Ok(None) => length = next_length(length),
-            Err(NoMemory) => return Err(BuildError::Memory),
+        match table_at(alloc, names, hashes.as_slice(), length)? {
+            Some(table) => return Ok(table),
+            None => length = next_length(length),
         }
     }
     Err(BuildError::NoTable(LENGTHS))

@@ -10,28 +10,19 @@ use std::alloc::Global;
 pub fn zeros(alloc: Global, count: usize) -> Result<Vec<u32>, NoMemory>
     ensures { IfOk result (λ zeros. zeros.items ≡ replicate count 0) }
 {
-    match vec![in alloc; 0; count] {
-        Ok(zeros) => Ok(zeros),
-        Err(_) => Err(NoMemory),
-    }
+    Ok(vec![in alloc; 0; count]?)
 }
 
 /// So many flags that aren't set.
 pub fn flags(alloc: Global, count: usize) -> Result<Vec<bool>, NoMemory>
     ensures { IfOk result (λ flags. flags.items ≡ replicate count false) }
 {
-    match vec![in alloc; false; count] {
-        Ok(flags) => Ok(flags),
-        Err(_) => Err(NoMemory),
-    }
+    Ok(vec![in alloc; false; count]?)
 }
 
 /// So many redirects that lead nowhere.
 pub fn nowhere(alloc: Global, count: usize) -> Result<Vec<Redirect>, NoMemory>
     ensures { IfOk result (λ redirects. redirects.items ≡ replicate count Nowhere) }
 {
-    match vec![in alloc; Redirect::Nowhere; count] {
-        Ok(redirects) => Ok(redirects),
-        Err(_) => Err(NoMemory),
-    }
+    Ok(vec![in alloc; Redirect::Nowhere; count]?)
 }

@@ -21,7 +21,7 @@ use Rattle.jm_reader.specs.declared.entries.Entry as handed
 use Rattle.jm_relink.specs.declared.located.Located.{Located}
 use Rattle.jm_relink.specs.Files.{Filed, NeverFalls, filed_cmp, located, located_alone, located_as, resources_of}
 use Rattle.jm_names.specs.ByName.{Named}
-use Rattle.jm_names.proofs.NameOrder.{same_pair}
+use Rattle.jm_bytes.proofs.Choice.{same_pair}
 use Rattle.jm_relink.proofs.ListLaws.{put_alone}
 
 -- One entry after another

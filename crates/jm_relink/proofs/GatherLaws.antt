@@ -21,7 +21,7 @@ use Rattle.jm_relink.specs.declared.modules.ImageModules.{ImageModules}
 use Rattle.jm_relink.specs.Files.{file_as, file_name, files_as}
 use Rattle.jm_names.specs.ByName.{Named}
 use Rattle.jm_relink.specs.Gathering.{AreModules, ArePlaces, Gathers, GathersAll, first_bad_name, gathered, name_refusal, named_files, resource_of, resources_with}
-use Rattle.jm_modpath.proofs.PackageLaws.{mapped_some}
+use Rattle.jm_bytes.proofs.Choice.{mapped_some}
 use Rattle.jm_bytes.proofs.ByteOrderLaws.{unequal}
 use Rattle.jm_relink.proofs.ListLaws.{append_none, pairs_front, pairs_left}
 use Rattle.jm_relink.proofs.NameLaws.{names_tell}

@@ -33,7 +33,7 @@ use Rattle.jm_relink.specs.Judging.{ComesFrom, entry_due, group_due, groups_due,
 use Rattle.jm_relink.specs.Modules.{AreFilesOf, FindsModules, HasInfo, HoldsModules, IsRefusedIn, IsSeenIn, IsVisibleIn, ModulesOf, SeenModule, info_refusal, name_of}
 use Rattle.jm_relink.proofs.GroupLaws.{files_rise, groups_rise, in_group, of_group, one_group}
 use Rattle.jm_relink.proofs.JudgingLaws.{IsFirstRefused, IsFree, entry_err, entry_ok, groups_err, groups_ok, seen_of, value}
-use Rattle.jm_modpath.proofs.PackageLaws.{mapped_some}
+use Rattle.jm_bytes.proofs.Choice.{mapped_some}
 use Rattle.jm_relink.proofs.ListLaws.{one_of, pairs_right}
 use Rattle.jm_relink.proofs.NameLaws.{file_of_parts, parts_of_file}
 use Rattle.jm_bytes.proofs.ByteOrderLaws.{before_apart, one_way}

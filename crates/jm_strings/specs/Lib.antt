@@ -1,2 +1,2 @@
+pub mod Limit
 pub mod Table
-pub mod Texts

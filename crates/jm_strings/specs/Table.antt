@@ -2,7 +2,8 @@
 use Rattle.std.specs.Prelude.{ℕ, ◌+◌, ◌≤◌, ◌≡◌, List, [], ◌∷◌, map, length, All}
 use Rattle.std.specs.declared.vec.Vec.{Vec}
 use Rattle.std.specs.declared.alloc.Global.{Global}
-use Rattle.jm_strings.specs.Texts.{limit, section_of, IsZeroFree}
+use Rattle.jm_form.specs.Strings.{section_of, IsZeroFree}
+use Rattle.jm_strings.specs.Limit.{limit}
 
 -- the texts, by the entries of the map
 abbrev pub texts_of : List (Vec ℕ Global × ℕ) → List (List ℕ)

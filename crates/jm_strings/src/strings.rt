@@ -2,7 +2,8 @@ ghost use Rattle.std.specs.Prelude.{◌≡◌, ◌<◌, ◌≤◌, ◌↔◌, �
 ghost use Rattle.std.specs.Prelude.{All, Contains, IsSome, IfOk, OnOk, OnErr, codes};
 ghost use Rattle.std.specs.Map.{lookup};
 ghost use Rattle.std.specs.Str.{bytes_eq};
-ghost use Rattle.jm_strings.specs.Texts.{limit, section_of, place_of, with_text, IsZeroFree};
+ghost use Rattle.jm_form.specs.Strings.{place_of, section_of, with_text, IsZeroFree};
+ghost use Rattle.jm_strings.specs.Limit.{limit};
 ghost use Rattle.jm_strings.specs.declared.strings.StringsError.TheVariants.{Zero, Full};
 
 use indexmap::IndexMap;
@@ -22,6 +23,16 @@ pub enum StringsError {
     Full,
     /// No memory was found.
     Memory,
+}
+
+impl From<NoMemory> for StringsError {
+    ghost use Rattle.jm_strings.specs.declared.strings.StringsError.TheVariants.{Memory};
+
+    ghost from_gives = { λ _ e. e ≡ Memory };
+
+    fn from(_: NoMemory) -> StringsError {
+        StringsError::Memory
+    }
 }
 
 /// Different texts without a zero byte, seen as their list, and the section that holds them.
@@ -63,13 +74,10 @@ impl Strings {
     fn empty(alloc: Global, count: usize) -> Result<Strings, NoMemory>
         ensures { IfOk result (λ strings. strings ≡ []) }
     {
-        match IndexMap::with_capacity(alloc, count) {
-            Ok(places) => Ok(Strings {
-                section: Vec::new(alloc),
-                places,
-            }),
-            Err(_) => Err(NoMemory),
-        }
+        Ok(Strings {
+            section: Vec::new(alloc),
+            places: IndexMap::with_capacity(alloc, count)?,
+        })
     }
 
     /// The place of a text, in bytes from the section's front. A text that isn't held goes last. A
@@ -94,10 +102,7 @@ impl Strings {
         if LIMIT - self.bytes().len() <= text.len() {
             return Err(StringsError::Full);
         }
-        match self.add(text) {
-            Ok(place) => Ok(place),
-            Err(NoMemory) => Err(StringsError::Memory),
-        }
+        Ok(self.add(text)?)
     }
 
     /// Puts a new text last.
@@ -160,8 +165,6 @@ fn insert(places: &mut IndexMap<Vec<u8>, u32>, text: Vec<u8>, place: u32) -> Res
     ensures ok { OnOk result (places.new.entries ≡ places.old.entries ++ (text, place) ∷ []) }
     ensures err { OnErr result (places.new.entries ≡ places.old.entries) }
 {
-    match places.insert(text, place) {
-        Ok(_) => Ok(()),
-        Err(_) => Err(NoMemory),
-    }
+    places.insert(text, place)?;
+    Ok(())
 }

@@ -1,18 +1,15 @@
 -- The kinds of a pool, one after another.
 use Rattle.std.proofs.Common.{◌≡◌, ℕ, suc, ◌+◌, ◌-◌, ◌<◌, Bool, List, [], ◌∷◌, ◌++◌, map, Ok, Err, refl, sym, ap, ◌∙◌, arith, append_assoc}
-use Rattle.std.proofs.lemmas.Bool.Decides.{nat_tests}
 use Rattle.std.specs.Prelude.{nat_lt}
 use Rattle.jm_class.specs.declared.class.ClassFault.{ClassFault}
 use Rattle.jm_class.specs.Classes.{SlotData}
 use Rattle.jm_class.specs.ComputedClass.{slot_field, slots, is_wide_slot}
 use Rattle.jm_class.specs.Readings.{Left}
+use Rattle.jm_class.proofs.ListReadings.{same_test}
 use Rattle.jm_strip.specs.Kinds.{kind_of}
 use Rattle.jm_strip.specs.declared.kind.Kind.{Kind}
 use Rattle.jm_strip.specs.Walks.{shown}
 use Rattle.jm_strip.proofs.Shown.{shown-cons}
-
-same_test : (count k : ℕ) → k < count → nat_lt 0 (count - (k + 1)) ≡ nat_lt (k + 1) count
-same_test count k more = grind (arith, nat_tests)
 
 pub kinds-next : (count k : ℕ) (due : Bool) (left next : Left) (slot : SlotData) (old new : List Kind) → k < count → slot_field due (nat_lt (k + 1) count) left ≡ Ok (slot, next) → new ≡ old ++ kind_of slot ∷ [] → shown (λ xs. old ++ map kind_of xs) (slots (count - k) due left) ≡ shown (λ xs. new ++ map kind_of xs) (slots (count - (k + 1)) (is_wide_slot slot) next)
 kinds-next count k due left next slot old new more e grown =

@@ -1,7 +1,7 @@
 -- A well-formed class is well formed without its debug information, and reads back.
 use Rattle.std.proofs.Common.{◌≡◌, ◌≤◌, Bool, true, false, List, [], ◌∷◌, length, map, filter, refl, arith}
 use Rattle.std.proofs.lemmas.List.{length-map}
-use Rattle.std.proofs.lemmas.List.Elements.{All-nil, All-cons, All-head, All-tail}
+use Rattle.std.proofs.lemmas.List.Elements.{All-filter, All-map, All-weaker}
 use Rattle.std.specs.Prelude.{All, Ok}
 use Rattle.jm_bytes.proofs.Members.{length_filter}
 use Rattle.jm_class.specs.Classes.{SlotData, OpaqueData, CodeData, BodyData, Opaque, Coded, AttributeData, MemberData, ClassData, held_text, class_text, utf8_at, is_code_name, FitsCounted, IsOpaque, IsCode, IsBody, IsAttribute, IsMember, IsClass}
@@ -10,25 +10,13 @@ use Rattle.jm_class.proofs.ComputedClassLaws.{reads-class_of}
 use Rattle.jm_strip.specs.Strip.{stays, strip_code, strip_body, strip_attribute, strip_method, strip}
 use Rattle.jm_strip.proofs.Shorter.{code-shorter}
 
-all-filter : {A : Type 0} (P : A → Type 0) (test : A → Bool) (xs : List A) → All P xs → All P (filter test xs)
-all-filter P test [] all = all
-all-filter P test (x ∷ xs) all = go (test x) refl (all-filter P test xs (All-tail P x xs all))
-  where
-    go : (b : Bool) → test x ≡ b → All P (filter test xs) → All P (filter test (x ∷ xs))
-    go true e rest = rw e (All-cons P x (filter test xs) (All-head P x xs all) rest)
-    go false e rest = rw e rest
-
-all-map : {A B : Type 0} (P : A → Type 0) (Q : B → Type 0) (f : A → B) → ((a : A) → P a → Q (f a)) → (xs : List A) → All P xs → All Q (map f xs)
-all-map P Q f more [] all = All-nil Q
-all-map P Q f more (x ∷ xs) all = All-cons Q (f x) (map f xs) (more x (All-head P x xs all)) (all-map P Q f more xs (All-tail P x xs all))
-
 -- fewer items, and changed ones
 
 fewer : {A : Type 0} (P : A → Type 0) (test : A → Bool) (xs : List A) → FitsCounted P xs → FitsCounted P (filter test xs)
-fewer P test xs fits = let size = length_filter test xs in let most = fits.0 in (omega (arith, size, most), all-filter P test xs fits.1)
+fewer P test xs fits = let size = length_filter test xs in let most = fits.0 in (omega (arith, size, most), All-filter test P xs fits.1)
 
 changed : {A B : Type 0} (P : A → Type 0) (Q : B → Type 0) (f : A → B) → ((a : A) → P a → Q (f a)) → (xs : List A) → FitsCounted P xs → FitsCounted Q (map f xs)
-changed P Q f more xs fits = let size = length-map xs f in let most = fits.0 in (omega (arith, size, most), all-map P Q f more xs fits.1)
+changed P Q f more xs fits = let size = length-map xs f in let most = fits.0 in (omega (arith, size, most), All-map Q f xs (All-weaker P (λ a. Q (f a)) more xs fits.1))
 
 strip-is_code : (pool : List SlotData) (c : CodeData) → IsCode pool c → IsCode pool (strip_code pool c)
 strip-is_code pool c is = record {

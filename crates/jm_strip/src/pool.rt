@@ -84,19 +84,13 @@ fn kind_at(kinds: &[Kind], index: u16) -> Kind
 fn room(alloc: Global, count: u16, left: usize) -> Result<Vec<Kind>, NoMemory>
     ensures { IfOk result (λ kinds. kinds.items ≡ []) }
 {
-    match Vec::with_capacity(alloc, usize::from(count).min(left / LEAST)) {
-        Ok(kinds) => Ok(kinds),
-        Err(_) => Err(NoMemory),
-    }
+    Ok(Vec::with_capacity(alloc, usize::from(count).min(left / LEAST))?)
 }
 
 fn push(kinds: &mut Vec<Kind>, kind: Kind) -> Result<(), NoMemory>
     ensures { OnOk result (kinds.new.items ≡ kinds.old.items ++ kind ∷ []) }
 {
-    match kinds.push(kind) {
-        Ok(()) => Ok(()),
-        Err(_) => Err(NoMemory),
-    }
+    Ok(kinds.push(kind)?)
 }
 
 /// The kinds of so many numbers of the pool.

@@ -33,13 +33,9 @@ fn strip_attributes(cursor: &mut Cursor, text: &mut Vec<u8>, pool: &Pool) -> Res
 fn with_room(alloc: Global, bytes: &[u8], room: usize) -> Result<Vec<u8>, NoMemory>
     ensures { IfOk result (λ text. text.items ≡ bytes.now) }
 {
-    match Vec::with_capacity(alloc, room) {
-        Ok(mut text) => {
-            extend(&mut text, bytes)?;
-            Ok(text)
-        }
-        Err(_) => Err(NoMemory),
-    }
+    let mut text = Vec::with_capacity(alloc, room)?;
+    extend(&mut text, bytes)?;
+    Ok(text)
 }
 
 /// The fields of a class: what stands in front of the methods goes as it is.

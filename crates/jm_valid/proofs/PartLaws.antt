@@ -4,16 +4,13 @@ use Rattle.std.proofs.lemmas.Grind.{flat_map-append}
 use Rattle.std.proofs.lemmas.List.{map-append, take_all, take_more}
 use Rattle.std.proofs.lemmas.List.Elements.{filter-append}
 use Rattle.std.proofs.lemmas.List.Folds.{length-flat_map-take}
-use Rattle.std.specs.Borrow.{Bor}
-use Rattle.std.specs.Fn.{FnReturns, FnReturnsAt}
 use Rattle.std.specs.List.{AllZip, range_with_len}
 use Rattle.std.specs.Prelude.{nat_lt}
-use denote.Param.Members.{Shared}
 use Rattle.jm_bytes.specs.declared.texts.NoMemory.{NoMemory}
+use Rattle.jm_bytes.proofs.Pairs.{range_with_len-append}
 use Rattle.jm_form.specs.declared.ranges.Range.{Range}
 use Rattle.jm_form.specs.Entries.{Entry}
 use Rattle.jm_form.specs.Overlap.{range_of, ranges_of}
-use Rattle.jm_halves.proofs.Zipped.{zip_weaker}
 use Rattle.jm_valid.specs.declared.entries.Contents.{Contents}
 use Rattle.jm_valid.specs.declared.sections.Sections.{Sections}
 use Rattle.jm_valid.specs.Parts.{ContentsAt, Joins, entries_at, part_slots}
@@ -21,17 +18,6 @@ use Rattle.jm_valid.specs.Ranges.{ranges_with_bytes}
 use Rattle.jm_valid.proofs.EntryRows.{entries_append, length-entries_at}
 
 -- Numbers one after another
-
-pub range_with_len-append : (i m n : ℕ) → range_with_len i (m + n) ≡ range_with_len i m ++ range_with_len (i + m) n
-range_with_len-append i zero n =
-    let none : zero + n ≡ n = omega arith in
-    let here : i + zero ≡ i = omega arith in
-    ap (range_with_len i) none ∙ ap (λ (k : ℕ). range_with_len k n) (sym here)
-range_with_len-append i (suc m) n =
-    let more : suc m + n ≡ suc (m + n) = omega arith in
-    let on : (i + 1) + m ≡ i + suc m = omega arith in
-    ap (range_with_len i) more ∙ ap (λ ks. i ∷ ks) (range_with_len-append (i + 1) m n)
-    ∙ ap (λ (k : ℕ). i ∷ (range_with_len (i + 1) m ++ range_with_len k n)) on
 
 flat_map-push : (f : ℕ → List ℕ) (xs : List ℕ) (x : ℕ) → flat_map f (xs ++ x ∷ []) ≡ flat_map f xs ++ f x
 flat_map-push f xs x = flat_map-append f xs (x ∷ []) ∙ ap (λ ys. flat_map f xs ++ ys) (append-nil (f x))
@@ -62,11 +48,6 @@ zip_length R [] [] zipped = refl
 zip_length R [] (y ∷ ys) zipped = absurd zipped
 zip_length R (x ∷ xs) [] zipped = absurd zipped
 zip_length R (x ∷ xs) (y ∷ ys) zipped = ap (λ (n : ℕ). suc n) (zip_length R xs ys zipped.1)
-
--- for a caller of `map_halves`: each answer meets what is said of any answer to the item
-pub zipped_each : {F A B : Type 0} (g : Shared F (Bor A × Unit {0}) B) (f : F) (Q : A → B → Type 0) (xs : List A) (ys : List B) → ((x : Bor A) (b : B) → FnReturns g f (x, tt) b → Q x.now b) → AllZip (FnReturnsAt g f) xs ys → AllZip Q xs ys
-zipped_each g f Q xs ys answers zipped =
-    zip_weaker (FnReturnsAt g f) Q xs ys (λ x y says. subst (λ z. Q z y) says.shows (answers says.shown y says.says)) zipped
 
 -- Parts
 

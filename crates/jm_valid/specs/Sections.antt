@@ -4,12 +4,10 @@ use Rattle.jm_bytes.specs.Checks.{first_fault}
 use Rattle.jm_form.specs.declared.damage.Damage.{Damage}
 use Rattle.jm_form.specs.declared.rows.Row.{Row}
 use Rattle.jm_form.specs.declared.slots.SlotRow.{SlotRow}
-use Rattle.jm_form.specs.declared.table.Redirect.{Redirect}
 use Rattle.jm_form.specs.Damages.{entries_checks, image_checks, row_checks, slot_fault, slot_faults}
-use Rattle.jm_form.specs.Entries.{Entry, entries, entry_of, is_reached, name_of, row_at}
+use Rattle.jm_form.specs.Entries.{Entry, entries, entry_of, is_reached, row_at}
 use Rattle.jm_form.specs.Entries.{row_of_slot}
 use Rattle.jm_form.specs.Places.{strings, contents}
-use Rattle.jm_form.specs.Table.{probe, redirect_at}
 use Rattle.jm_form.specs.Validity.{SoundSlots}
 use Rattle.jm_valid.specs.declared.sections.Sections.{Sections}
 
@@ -21,24 +19,11 @@ strings_in s = strings s.bytes.now s.header
 abbrev pub contents_in : Sections → List ℕ
 contents_in s = contents s.bytes.now s.header
 
--- The table
-
--- what the table says of the names with a hash
-abbrev pub redirect_in : Sections → ℕ → Redirect
-redirect_in s hash = redirect_at s.bytes.now s.header hash
-
--- the slot to which the table leads a name
-abbrev pub probe_in : Sections → List ℕ → Option ℕ
-probe_in s name = probe s.bytes.now s.header name
-
 -- Slots
 
 -- what the offset word of a slot leads to
 abbrev pub slot_row_in : Sections → ℕ → SlotRow
 slot_row_in s slot = row_of_slot s.bytes.now s.header slot
-
-abbrev pub name_in : Sections → Row → List ℕ
-name_in s row = name_of (strings_in s) row
 
 -- the first fault of a slot with a row that isn't blank
 abbrev pub row_fault_in : Sections → ℕ → Row → Option Damage

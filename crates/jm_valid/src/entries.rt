@@ -7,7 +7,7 @@ ghost use Rattle.jm_valid.specs.Ranges.{ranges_with_bytes};
 ghost use Rattle.jm_valid.specs.Sections.{entries_in, IsSound};
 
 use crate::sections::Sections;
-use crate::table::entry_row;
+use crate::unmetered::entry_row;
 use jm_bytes::{List, NoMemory};
 use jm_form::Range;
 use jm_halves::{Gate, map_halves};
@@ -33,8 +33,8 @@ fn add_entry(contents: &mut Contents, range: Range) -> Result<(), NoMemory>
     ensures ranges { OnOk result (contents.new.ranges.items
         ≡ contents.old.ranges.items ++ ranges_with_bytes (range ∷ [])) }
 {
-    if range.start < range.end && contents.ranges.push(range).is_err() {
-        return Err(NoMemory);
+    if range.start < range.end {
+        contents.ranges.push(range)?;
     }
     contents.count += 1;
     Ok(())
@@ -88,13 +88,7 @@ fn add_part(all: &mut Contents, part: &Result<Contents, NoMemory>) -> Result<(),
     let Ok(part) = part else {
         return Err(NoMemory);
     };
-    if all
-        .ranges
-        .extend_from_slice(part.ranges.as_slice())
-        .is_err()
-    {
-        return Err(NoMemory);
-    }
+    all.ranges.extend_from_slice(part.ranges.as_slice())?;
     all.count += part.count;
     Ok(())
 }

@@ -9,7 +9,6 @@ mod overlap;
 mod search;
 mod sections;
 mod slots;
-mod table;
 mod unmetered;
 
 pub use image::Image;

@@ -1,9 +1,10 @@
-ghost use Rattle.std.specs.Prelude.{◌≡◌, ◌<◌};
-ghost use Rattle.jm_valid.specs.Sections.{redirect_in, slot_row_in};
+//! The readings of jm_form for the check of an image, which counts no reads.
+ghost use Rattle.std.specs.Prelude.{◌≡◌, ◌<◌, None};
+ghost use Rattle.jm_valid.specs.Sections.{entry_row_in, slot_fault_in, slot_row_in};
 
 use crate::sections::Sections;
 use jm_bytes::{Buf, Meter};
-use jm_form::{Redirect, SlotRow};
+use jm_form::{Row, SlotRow, is_led_to, pieces_of};
 use std::marker::Brand;
 use std::sync::ledger::{Blank, Ledger};
 
@@ -19,18 +20,26 @@ fn metered_row<R: Ledger>(sections: &Sections, slot: u32, blank: Blank) -> SlotR
     jm_form::row_of_slot(&buf, &sections.header, slot, &mut reads)
 }
 
-fn metered_redirect<R: Ledger>(sections: &Sections, hash: u32, blank: Blank) -> Redirect
+fn metered_entry<R: Ledger>(sections: &Sections, slot: u32, blank: Blank) -> Option<Row>
     requires name { blank.name ≡ R.name }
     requires parts { blank.parts ≡ R.parts }
     requires some { 0 < blank.parts }
-    ensures { result ≡ redirect_in sections.now hash }
+    requires below { slot < sections.now.header.length }
+    requires sound { slot_fault_in sections.now slot ≡ None }
+    ensures { result ≡ entry_row_in sections.now slot }
 {
     let mut reads = Meter::<R>::new(sections.bytes, blank);
     let buf = Buf::new(sections.bytes);
-    jm_form::redirect_at(&buf, &sections.header, hash, &mut reads)
+    let row = jm_form::row_of_slot(&buf, &sections.header, slot, &mut reads).row()?;
+    let pieces = pieces_of(&buf, &sections.header, &row, &mut reads)?;
+    if is_led_to(&buf, &sections.header, slot, &pieces, &mut reads) {
+        Some(row)
+    } else {
+        None
+    }
 }
 
-/// What a slot's offset word leads to; the check of an image counts no reads.
+/// What a slot's offset word leads to.
 pub fn row_of_slot(sections: &Sections, slot: u32) -> SlotRow
     requires { slot < sections.now.header.length }
     ensures { result ≡ slot_row_in sections.now slot }
@@ -38,9 +47,11 @@ pub fn row_of_slot(sections: &Sections, slot: u32) -> SlotRow
     metered_row::<Brand>(sections, slot, Blank::new(1))
 }
 
-/// What the table says of the names with this hash; the check of an image counts no reads.
-pub fn redirect_at(sections: &Sections, hash: u32) -> Redirect
-    ensures { result ≡ redirect_in sections.now hash }
+/// The row of the entry of a slot without a fault, or None where the slot is spare.
+pub fn entry_row(sections: &Sections, slot: u32) -> Option<Row>
+    requires below { slot < sections.now.header.length }
+    requires sound { slot_fault_in sections.now slot ≡ None }
+    ensures { result ≡ entry_row_in sections.now slot }
 {
-    metered_redirect::<Brand>(sections, hash, Blank::new(1))
+    metered_entry::<Brand>(sections, slot, Blank::new(1))
 }

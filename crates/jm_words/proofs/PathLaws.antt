@@ -7,6 +7,7 @@ use Rattle.std.proofs.lemmas.Bool.{and_parts, leb-true}
 use Rattle.std.proofs.lemmas.List.Elements.{All-head, All-map, All-nil, All-push, All-tail}
 use Rattle.std.proofs.lemmas.Str.{IsUtf8-nil, IsUtf8-string_bytes}
 use Rattle.jm_words.specs.declared.errors.WordsError.{WordsError}
+use Rattle.jm_words.specs.declared.errors.WordsError.TheVariants.{Memory}
 use Rattle.jm_words.specs.declared.errors.WordsError.TheVariants as error
 use Rattle.jm_words.specs.declared.errors.WordsKind.TheVariants as kind
 use Rattle.jm_words.specs.declared.commands.Command.{Command}
@@ -17,7 +18,8 @@ use Rattle.jm_words.specs.declared.tables.Verb.{Verb}
 use Rattle.jm_words.specs.declared.tables.Verb.TheVariants as verb_is
 use Rattle.jm_words.specs.Commands.{command_after, command_in, command_of, command_unless_fault, jobs_of, look, module_path, number_or_low, text_of, verb_named}
 use Rattle.jm_words.specs.Paths.{FilePathsAreText, NumbersFit, jobs_in}
-use Rattle.jm_words.specs.Reading.{GivenText, Standing, UnlessMemory, after_argument, after_choice, after_option, after_plain_word, after_word, after_words, before_words, given_texts, is_chosen, is_equals, is_flag, is_missing, is_option, option_named, texts_at_end, texts_unless_fault, value_behind, with_checked_text}
+use Rattle.jm_bytes.specs.Results.{UnlessMemory}
+use Rattle.jm_words.specs.Reading.{GivenText, Standing, after_argument, after_choice, after_option, after_plain_word, after_word, after_words, before_words, given_texts, is_chosen, is_equals, is_flag, is_missing, is_option, option_named, texts_at_end, texts_unless_fault, value_behind, with_checked_text}
 use Rattle.jm_words.specs.Tables.{argument_row, option_row, options}
 use Rattle.jm_words.specs.Values.{decimal_from, is_numeral, is_of_form}
 use Rattle.jm_words.proofs.TextLaws.{behind_is_text, folders_are_text, without_slashes_is_text}
@@ -222,7 +224,7 @@ pub numbers_fit : (words : List (List ℕ)) → IfOk (command_in words) NumbersF
 numbers_fit = any_command NumbersFit numbers_fit_of
 
 -- what holds of the command that the words make holds of the one that was read
-pub read_unless_memory : (P : Command → Type 0) (result given : Result Command WordsError) → UnlessMemory result given → IfOk given P → IfOk result P
+pub read_unless_memory : (P : Command → Type 0) (result given : Result Command WordsError) → UnlessMemory Memory result given → IfOk given P → IfOk result P
 read_unless_memory P (Err fault) given read holds = tt
 read_unless_memory P (Ok command) given (inl memory) holds = cc
 read_unless_memory P (Ok command) given (inr same) holds = subst (λ (read : Result Command WordsError). IfOk read P) (sym same) holds

@@ -12,7 +12,8 @@ use Rattle.jm_words.specs.declared.errors.WordsError.TheVariants.{Memory}
 use Rattle.jm_words.specs.declared.tables.Choice.{Choice}
 use Rattle.jm_words.specs.declared.tables.Verb.{Verb}
 use Rattle.jm_words.specs.Tables.{options}
-use Rattle.jm_words.specs.Reading.{Standing, UnlessMemory, after_word, after_words, texts_unless_fault, before_words, given_texts}
+use Rattle.jm_bytes.specs.Results.{UnlessMemory}
+use Rattle.jm_words.specs.Reading.{Standing, after_word, after_words, texts_unless_fault, before_words, given_texts}
 
 -- all stands before the first byte that passes, where none passes
 pub before_first_none : (p : ℕ → Bool) (xs : List ℕ) → list_any p xs ≡ false → before_first p xs ≡ xs
@@ -38,14 +39,14 @@ module _ {S : Type 0} (text : S → List ℕ) (verb : Verb) (words : List S) (i 
       ∙ ap (λ cs. after_words (options verb) (i + 2 + 1) (map text (drop (i + 1) words)) (after_word cs (i + 2) word standing standing.pending)) (sym same)
 
   -- the fault of a word is that of all words
-  pub reading_stops : (e : WordsError) → UnlessMemory (Err e) (after_word choices (i + 2) word standing standing.pending) → UnlessMemory (Err e) (given_texts verb (map text words))
+  pub reading_stops : (e : WordsError) → UnlessMemory Memory (Err e) (after_word choices (i + 2) word standing standing.pending) → UnlessMemory Memory (Err e) (given_texts verb (map text words))
   reading_stops e given = elim given [
     | inl memory ↦ inl (ap Err (same_err e Memory memory))
     | inr read ↦ inr (sym (ap (texts_unless_fault (options verb) (length (map text words) + 1)) (after_next ∙ ap (after_words (options verb) (i + 2 + 1) (map text (drop (i + 1) words))) (sym read) ∙ after_words_err (options verb) (i + 2 + 1) (map text (drop (i + 1) words)) e)))
   ]
 
   -- what stands behind a word is read on
-  pub reading_goes : (next : Standing) → UnlessMemory (Ok next) (after_word choices (i + 2) word standing standing.pending) → after_words (options verb) 2 (map text words) (Ok (before_words verb)) ≡ after_words (options verb) (i + 1 + 2) (map text (drop (i + 1) words)) (Ok next)
+  pub reading_goes : (next : Standing) → UnlessMemory Memory (Ok next) (after_word choices (i + 2) word standing standing.pending) → after_words (options verb) 2 (map text words) (Ok (before_words verb)) ≡ after_words (options verb) (i + 1 + 2) (map text (drop (i + 1) words)) (Ok next)
   reading_goes next given = elim given [
     | inl memory ↦ absurd (ok_not_err memory)
     | inr read ↦

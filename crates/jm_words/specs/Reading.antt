@@ -1,12 +1,12 @@
 -- How the words behind a command are read, from left to right (this project's rule). The first
 -- fault decides; a missing argument or option comes last.
-use Rattle.std.specs.Prelude.{◌≡◌, ◌⊎◌, ℕ, ◌+◌, Bool, true, false, not, nat_eq, ◌==◌, ◌&&◌, ◌||◌}
+use Rattle.std.specs.Prelude.{ℕ, ◌+◌, Bool, true, false, not, nat_eq, ◌==◌, ◌&&◌, ◌||◌}
 use Rattle.std.specs.Prelude.{List, [], ◌∷◌, ◌++◌, length, Option, Some, None, Result, Ok, Err}
 use Rattle.std.specs.Prelude.{if◌then◌else◌, codes}
 use Rattle.std.specs.List.{find, list_any, before_first, after_first, starts_with}
 use Rattle.std.specs.Str.{bytes_eq}
 use Rattle.jm_words.specs.declared.errors.WordsError.{WordsError}
-use Rattle.jm_words.specs.declared.errors.WordsError.TheVariants.{Fault, Memory}
+use Rattle.jm_words.specs.declared.errors.WordsError.TheVariants.{Fault}
 use Rattle.jm_words.specs.declared.errors.WordsKind.{WordsKind}
 use Rattle.jm_words.specs.declared.errors.WordsKind.TheVariants as kind
 use Rattle.jm_words.specs.declared.forms.Form.{Form}
@@ -157,7 +157,3 @@ abbrev pub given_texts : Verb → List (List ℕ) → Result (List GivenText) Wo
 given_texts verb words =
     texts_unless_fault (options verb) (length words + 1)
     (after_words (options verb) 2 words (Ok (before_words verb)))
-
--- a result that is want of memory, or else the one that the rules give
-abbrev pub UnlessMemory : {A : Type 0} → Result A WordsError → Result A WordsError → Type 0
-UnlessMemory result given = (result ≡ Err Memory) ⊎ (result ≡ given)

@@ -9,7 +9,7 @@ ghost use Rattle.jm_words.specs.Commands.{command_in, command_of, include_of, jo
 ghost use Rattle.jm_words.specs.Commands.{module_path, number_or_low, plugin_of, text_of};
 ghost use Rattle.jm_words.specs.Commands.{verb_named};
 ghost use Rattle.jm_words.specs.Paths.{FilePathsAreText, NumbersFit, jobs_in};
-ghost use Rattle.jm_words.specs.Reading.{UnlessMemory};
+ghost use Rattle.jm_bytes.specs.Results.{UnlessMemory};
 
 use crate::errors::{WordsError, WordsKind};
 use crate::reading::{Given, given_texts, stands};
@@ -91,7 +91,8 @@ pub enum Command {
 /// Reads the words behind the program's name: the command that they make, or their first fault. A
 /// fault has the number of its word, from 1; a missing argument or option has that of all words.
 pub fn read_words(alloc: Global, words: &[String]) -> Result<Command, WordsError>
-    ensures command { UnlessMemory result (command_in (map string_bytes words.now)) }
+    ensures command { UnlessMemory WordsError.Memory result
+        (command_in (map string_bytes words.now)) }
     ensures paths { IfOk result FilePathsAreText }
     ensures jobs { IfOk result (λ command. 0 < jobs_in command) }
     ensures numbers { IfOk result NumbersFit }

@@ -1,7 +1,8 @@
 ghost use Rattle.std.specs.Prelude.{◌≡◌, ◌+◌, ◌==◌, ◌∷◌, [], None, map, length, option_map};
 ghost use Rattle.std.specs.Prelude.{string_bytes, IfOk, Ok};
 ghost use Rattle.std.specs.List.{list_any, before_first, after_first, find};
-ghost use Rattle.jm_words.specs.Reading.{UnlessMemory, after_argument, texts_at_end, fault_at};
+ghost use Rattle.jm_bytes.specs.Results.{UnlessMemory};
+ghost use Rattle.jm_words.specs.Reading.{after_argument, texts_at_end, fault_at};
 ghost use Rattle.jm_words.specs.Reading.{with_checked_text, given_texts, is_chosen, is_flag};
 ghost use Rattle.jm_words.specs.Reading.{is_missing, is_option, lacks, before_words, is_equals};
 ghost use Rattle.jm_words.specs.Reading.{value_behind, after_choice, option_named, after_option};
@@ -13,7 +14,7 @@ use crate::forms::Form;
 use crate::tables::{
     Argument, Choice, OptionRow, Verb, argument_row, arguments, option_row, options,
 };
-use crate::values::{cut_at, is_of_form};
+use crate::values::is_of_form;
 use jm_bytes::{List, NoMemory};
 use std::alloc::Global;
 use std::marker::Model;
@@ -57,7 +58,8 @@ pub fn given_texts<'a>(
     verb: Verb,
     words: &'a [String],
 ) -> Result<List<Given<'a>>, WordsError>
-    ensures { UnlessMemory result (given_texts verb (map string_bytes words.now)) }
+    ensures { UnlessMemory WordsError.Memory result
+        (given_texts verb (map string_bytes words.now)) }
 {
     let choices = options(verb);
     let mut progress = Progress {
@@ -66,10 +68,7 @@ pub fn given_texts<'a>(
         pending: None,
     };
     for i in 0..words.len() {
-        progress = match after_word(alloc, choices, i + 2, words[i].as_bytes(), progress) {
-            Ok(next) => next,
-            Err(error) => return Err(error),
-        };
+        progress = after_word(alloc, choices, i + 2, words[i].as_bytes(), progress)?;
     }
     texts_at_end(choices, words.len() + 1, progress)
 }
@@ -82,7 +81,7 @@ fn after_word<'a>(
     word: &'a [u8],
     progress: Progress<'a>,
 ) -> Result<Progress<'a>, WordsError>
-    ensures { UnlessMemory result
+    ensures { UnlessMemory WordsError.Memory result
         (after_word choices.now at word.now progress.entry progress.entry.pending) }
 {
     let Progress {
@@ -108,7 +107,8 @@ fn after_plain_word<'a>(
     given: List<Given<'a>>,
     left: &'static [Argument],
 ) -> Result<Progress<'a>, WordsError>
-    ensures { UnlessMemory result (after_plain_word choices.now at word.now given.entry left.now) }
+    ensures { UnlessMemory WordsError.Memory result
+        (after_plain_word choices.now at word.now given.entry left.now) }
 {
     if !word.starts_with(b"--") {
         return after_argument(alloc, at, word, given, left);
@@ -134,7 +134,7 @@ fn after_choice<'a>(
     given: List<Given<'a>>,
     left: &'static [Argument],
 ) -> Result<Progress<'a>, WordsError>
-    ensures { UnlessMemory result
+    ensures { UnlessMemory WordsError.Memory result
         (after_choice at choice (option_map (λ text. text.now) value.entry) given.entry left.now) }
 {
     let row = option_row(choice);
@@ -162,7 +162,8 @@ fn after_argument<'a>(
     given: List<Given<'a>>,
     left: &'static [Argument],
 ) -> Result<Progress<'a>, WordsError>
-    ensures { UnlessMemory result (after_argument at word.now given.entry left.now) }
+    ensures { UnlessMemory WordsError.Memory result
+        (after_argument at word.now given.entry left.now) }
 {
     match left.split_first() {
         Some((argument, left)) => {
@@ -183,7 +184,7 @@ fn with_checked_text<'a>(
     given: List<Given<'a>>,
     left: &'static [Argument],
 ) -> Result<Progress<'a>, WordsError>
-    ensures { UnlessMemory result
+    ensures { UnlessMemory WordsError.Memory result
         (with_checked_text at name.now form text.now given.entry left.now) }
 {
     if is_of_form(alloc, form, text)? {
@@ -218,7 +219,7 @@ fn option_parts(word: &[u8]) -> (&[u8], Option<&[u8]>)
     ensures name { result.0.now ≡ before_first is_equals word.now }
     ensures value { option_map (λ text. text.now) result.1 ≡ value_behind word.now }
 {
-    match cut_at(b'=', word) {
+    match cut_at_first(b'=', word) {
         Some((name, value)) => (name, Some(value)),
         None => (word, None),
     }
@@ -263,7 +264,7 @@ fn texts_at_end<'a>(
     all: usize,
     progress: Progress<'a>,
 ) -> Result<List<Given<'a>>, WordsError>
-    ensures { UnlessMemory result
+    ensures { UnlessMemory WordsError.Memory result
         (texts_at_end choices.now all progress.entry progress.entry.pending) }
 {
     let Progress {

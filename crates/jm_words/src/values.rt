@@ -3,16 +3,15 @@ ghost use Rattle.std.specs.Prelude.{length, option_map, IfOk, IfSome, IfNone};
 ghost use Rattle.jm_words.specs.Values.{decimal_from, folders_of, is_digit, is_numeral, is_of_form};
 ghost use Rattle.jm_words.specs.Values.{is_order, names_of, number_of, order_of, patterns_of};
 ghost use Rattle.jm_words.specs.Values.{without_slashes};
-ghost use Rattle.std.specs.List.{list_all, list_any, before_first, after_first};
+ghost use Rattle.std.specs.List.{list_all};
 ghost use Rattle.jm_words.specs.Values.{reads, parts_at, parts_of};
 ghost use Rattle.jm_pattern.specs.Items.{list_of};
 ghost use Rattle.jm_names.specs.UtfForms.{modified};
 
 use crate::forms::Form;
 use jm_bytes::{List, NoMemory, Order, Text};
-use jm_names::to_modified;
+use jm_names::{cut_at_first, to_modified};
 use jm_pattern::{Pattern, PatternError, read_list};
-use memchr::memchr;
 use std::alloc::Global;
 
 /// Whether a text is of a form.
@@ -127,24 +126,10 @@ fn first_part(byte: u8, text: &[u8]) -> (&[u8], Option<&[u8]>)
         ≡ result.0.now ∷ parts_of byte (option_map (λ rest. rest.now) result.1) }
     ensures shorter { IfSome result.1 (λ rest. length rest.now < length text.now) }
 {
-    match cut_at(byte, text) {
+    match cut_at_first(byte, text) {
         Some((part, rest)) => (part, Some(rest)),
         None => (text, None),
     }
-}
-
-/// What stands before and after the first such byte.
-pub fn cut_at(byte: u8, text: &[u8]) -> Option<(&[u8], &[u8])>
-    ensures found { IfSome result (λ cut. list_any (λ b. b == byte) text.now ≡ true) }
-    ensures before { IfSome result (λ cut. cut.0.now ≡ before_first (λ b. b == byte) text.now) }
-    ensures after { IfSome result (λ cut. cut.1.now ≡ after_first (λ b. b == byte) text.now) }
-    ensures shorter { IfSome result (λ cut. length cut.1.now < length text.now) }
-    ensures none { IfNone result (list_any (λ b. b == byte) text.now ≡ false) }
-{
-    let at = memchr(byte, text)?;
-    let (before, from_there) = text.split_at(at);
-    let (_, after) = from_there.split_at(1);
-    Some((before, after))
 }
 
 /// Whether a text is `little` or `big`.

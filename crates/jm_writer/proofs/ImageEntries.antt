@@ -1,51 +1,38 @@
 -- The entries of a written image: each has its slot, with its name and its content.
-use Rattle.std.proofs.Common.{◌≡◌, ◌≢◌, ℕ, ◌+◌, ◌%◌, ◌^◌, ◌==◌, ◌<◌, ◌≤◌, false, inl, inr, List, [], length, map, take, drop, get_or, Option, Some, None, Contains, refl, sym, ap, ◌∙◌, subst, arith, length-append, mod-lt}
-use Rattle.std.proofs.lemmas.Bool.{ltb-true, ne_eqb}
+use Rattle.std.proofs.Common.{◌≡◌, ◌≢◌, ℕ, ◌+◌, ◌^◌, ◌==◌, ◌<◌, ◌≤◌, false, List, [], length, map, take, drop, get_or, Option, Some, None, Contains, refl, sym, ap, ◌∙◌, subst, arith, length-append, mod-lt}
+use Rattle.std.proofs.lemmas.Bool.{ne_eqb}
 use Rattle.std.proofs.lemmas.Bool.Decides.{Decides-eqb}
 use Rattle.std.proofs.lemmas.List.{get_or-map, get_or_default, length-map}
 use Rattle.std.proofs.lemmas.List.Elements.{All-get_or, All-map, Contains-get_or}
 use Rattle.std.proofs.lemmas.List.FromFn.{length-range_with_len}
 use Rattle.std.specs.List.{range_with_len}
-use Rattle.std.specs.Prelude.{nat_lt}
-use Rattle.jm_bytes.proofs.Choice.{chosen, same_some}
+use Rattle.jm_bytes.proofs.Choice.{same_some}
 use Rattle.jm_bytes.proofs.Members.{contains_range}
 use Rattle.jm_bytes.proofs.SameOrder.{mapped_twice}
 use Rattle.jm_bytes.specs.declared.words.Order.{Order}
 use Rattle.jm_names.specs.Hash.{default_seed, hash}
 use Rattle.jm_names.specs.Names.{split}
-use Rattle.jm_strings.specs.Texts.{IsZeroFree, section_of}
+use Rattle.jm_form.specs.Strings.{section_of, IsZeroFree}
 use Rattle.jm_form.specs.declared.container.Header.{Header}
 use Rattle.jm_form.specs.declared.rows.Row.{Row}
 use Rattle.jm_form.specs.declared.slots.SlotRow.TheVariants as slot_row
-use Rattle.jm_form.specs.declared.table.Redirect.{Redirect}
-use Rattle.jm_form.specs.declared.table.Redirect.TheVariants as redirect
 use Rattle.jm_form.specs.Entries.{Entry, content_of, entries, entry_of, name_of, row_at, row_of_slot, spelled_row}
 use Rattle.jm_form.specs.Greedy.{GreedyTable, bucket_of, word_of}
 use Rattle.jm_form.specs.Layout.{Index, Written, contents_text, image_of, index_of, index_text, names_of, redirect_words, row_in, row_with, sized, texts_of}
 use Rattle.jm_form.specs.Places.{contents, redirect_word, strings}
 use Rattle.jm_form.specs.Rows.{blank}
-use Rattle.jm_form.specs.Table.{probe, redirect_at, redirect_of, slot_below, slot_of}
+use Rattle.jm_form.specs.Table.{probe, redirect_at, redirect_of, slot_of}
 use Rattle.jm_form.proofs.EntryLaws.{entry_from, entry_there}
+use Rattle.jm_form.proofs.LookLaws.{slot_within}
+use Rattle.jm_form.proofs.PartLaws.{length-rows}
 use Rattle.jm_form.proofs.UsualLaws.{RowFits}
 use Rattle.jm_writer.specs.Writable.{Writable, header_with}
 use Rattle.jm_writer.proofs.ImageLists.{length_within, lookup_at, lookup_from}
-use Rattle.jm_writer.proofs.ImageRows.{content_place, content_there, content_within, length-rows, row_there, slot_spare, slot_taken}
+use Rattle.jm_writer.proofs.ImageRows.{content_place, content_there, content_within, row_there, slot_spare, slot_taken}
 use Rattle.jm_writer.proofs.ImageSections.{IndexFits, contents_are, length-index_text, redirect_word_is, strings_are}
 use Rattle.jm_writer.proofs.ImageTexts.{CutTold, blank_tells, name_told, row_tells}
 
 -- The table
-
-below_within : (slots slot i : ℕ) → slot_below slots slot ≡ Some i → i < slots
-below_within slots slot i e =
-    elim (chosen (nat_lt slot slots) (Some slot) None (Some i) e) [
-      | inl both ↦ let same = same_some slot i both.1 in let below = ltb-true slot slots both.0 in rw same at below
-      | inr both ↦ let other = both.1 in cc
-    ]
-
-slot_within : (slots : ℕ) (name : List ℕ) (r : Redirect) (i : ℕ) → slot_of slots name r ≡ Some i → i < slots
-slot_within slots name redirect.Nowhere i e = cc
-slot_within slots name (redirect.Slot slot) i e = below_within slots slot i e
-slot_within slots name (redirect.Seed seed) i e = below_within slots (hash seed name % slots) i e
 
 -- where the word of a name's bucket leads, there the table leads the name
 probe_by : (b : List ℕ) (h : Header) (name : List ℕ) (word i : ℕ) → 0 < h.length → redirect_word b h (bucket_of h.length name) ≡ word → slot_of h.length name (redirect_of word) ≡ Some i → probe b h name ≡ Some i

@@ -1,26 +1,24 @@
 -- Each proper prefix of a written image has a first damage.
-use Rattle.std.proofs.Common.{◌≡◌, ◌≢◌, ℕ, ◌+◌, ◌-◌, ◌<◌, ◌≤◌, ◌⊎◌, inl, inr, List, [], ◌∷◌, ◌++◌, length, map, take, drop, get_or, Option, Some, None, Ok, unwrap_or, refl, sym, ap, ◌∙◌, subst, arith, length-append, length-drop, length-take}
+use Rattle.std.proofs.Common.{◌≡◌, ◌≢◌, ℕ, ◌+◌, ◌-◌, ◌<◌, ◌≤◌, ◌⊎◌, inl, inr, List, [], ◌∷◌, ◌++◌, length, map, take, drop, get_or, None, Ok, unwrap_or, refl, sym, ap, ◌∙◌, subst, arith, length-append, length-drop, length-take}
 use Rattle.std.proofs.lemmas.List.{drop-take, drop_all, take-take}
 use Rattle.std.specs.Prelude.{cond, nat_lt}
 use Rattle.byteorder.specs.Numbers.{big_from-take, little_from-take}
-use Rattle.jm_bytes.proofs.Choice.{same_ok}
-use Rattle.jm_bytes.specs.Checks.{first_fault, unless_fault}
+use Rattle.jm_bytes.specs.Checks.{first_fault}
 use Rattle.jm_bytes.specs.Word.{word}
 use Rattle.jm_bytes.specs.declared.words.Order.{Order}
 use Rattle.jm_bytes.specs.declared.words.Order.TheVariants.{Little, Big}
 use Rattle.jm_form.specs.declared.container.Header.{Header}
-use Rattle.jm_form.specs.declared.container.HeaderFault.{HeaderFault}
 use Rattle.jm_form.specs.declared.slots.SlotRow.{SlotRow}
 use Rattle.jm_form.specs.declared.slots.SlotRow.TheVariants as slot_row
 use Rattle.jm_form.specs.ComputedRows.{row_front}
 use Rattle.jm_form.specs.Damages.{first_damage}
 use Rattle.jm_form.specs.Entries.{row_at, row_of_slot, row_read, spelled_row}
 use Rattle.jm_form.specs.Greedy.{GreedyTable}
-use Rattle.jm_form.specs.Head.{fields_in, fields_of, header_checks, header_of, index_length, order_of, read_order}
+use Rattle.jm_form.specs.Head.{fields_in, header_checks, header_of, index_length, order_of, read_order}
 use Rattle.jm_form.specs.Layout.{Index, Written, contents_text, image_of, index_of, index_text, sized}
 use Rattle.jm_form.specs.Places.{locations, locations_place, offset_place, offset_word}
 use Rattle.jm_form.specs.Validity.{ValidAs}
-use Rattle.jm_form.proofs.HeadLaws.{header_fits}
+use Rattle.jm_form.proofs.HeadLaws.{header_fits, header_found}
 use Rattle.jm_form.proofs.SlotLaws.{sound_row}
 use Rattle.jm_form.proofs.Validity.{sound_valid}
 use Rattle.jm_writer.specs.Writable.{Writable, header_with}
@@ -40,10 +38,6 @@ word_front : (order : Order) (n at : ℕ) (b : List ℕ) → at + 4 ≤ n → wo
 word_front Little n at b within = ap (λ l. word Little l 0) (drop_front n at b (omega arith)) ∙ little_from-take 0 4 (n - at) (drop at b) (omega arith)
 word_front Big n at b within = ap (λ l. word Big l 0) (drop_front n at b (omega arith)) ∙ big_from-take 0 4 (n - at) (drop at b) (omega arith)
 
-fields_found : (b : List ℕ) (h : Header) (o : Option HeaderFault) → unless_fault o (fields_of b) ≡ Ok h → fields_of b ≡ h
-fields_found b h None e = same_ok (fields_of b) h e
-fields_found b h (Some fault) e = cc
-
 order_front : (n : ℕ) (b : List ℕ) → 28 ≤ n → order_of (take n b) ≡ order_of b
 order_front n b long = rw (word_front Little n 0 b (omega arith), word_front Big n 0 b (omega arith)) refl
 
@@ -56,8 +50,8 @@ header_front n b h g whole part =
     let fits = header_fits (take n b) g part in
     let size = length-take n b in
     let long : 28 ≤ n = omega arith in
-    let one = fields_found b h (first_fault (header_checks b)) whole in
-    let other = fields_found (take n b) g (first_fault (header_checks (take n b))) part in
+    let one = (header_found b h (first_fault (header_checks b)) whole).1 in
+    let other = (header_found (take n b) g (first_fault (header_checks (take n b))) part).1 in
     sym other ∙ ap (λ o. fields_in (unwrap_or o Little) (take n b)) (order_front n b long) ∙ fields_front (read_order b) n b long ∙ one
 
 -- what an offset word says of the locations

@@ -12,7 +12,7 @@ use Rattle.jm_form.specs.declared.rows.Row.{Row}
 use Rattle.jm_form.specs.declared.slots.SlotRow.TheVariants as slot_row
 use Rattle.jm_form.specs.ComputedRows.{row_front}
 use Rattle.jm_form.specs.Entries.{row_of_slot, row_read, row_text}
-use Rattle.jm_form.specs.Layout.{Index, Sized, Written, contents_text, index_text, location_of, locations_below, locations_text, row_in, row_place, row_with, rows_from, sized}
+use Rattle.jm_form.specs.Layout.{Index, Written, contents_text, index_text, location_of, locations_below, locations_text, row_in, row_place, row_with, rows_from, sized}
 use Rattle.jm_form.specs.Places.{locations, offset_word}
 use Rattle.jm_form.specs.Rows.{blank, usual, usual_attribute, values_of}
 use Rattle.jm_form.proofs.UsualLaws.{RowFits, usual_read_back}
@@ -84,10 +84,6 @@ module _ (index : Index) (fits : IndexFits index) (text : List ℕ) where
       slot_read b h i (length (locations_below index i)) (usual row ++ behind) (offset_word_is index fits text i below ∙ place) (omega arith) from ∙ usual_read row behind row_fits some
 
 -- The rows of entries
-
-pub length-rows : (texts : List (List ℕ)) (offset : ℕ) (es : List Sized) → length (rows_from texts offset es) ≡ length es
-length-rows texts offset [] = refl
-length-rows texts offset (e ∷ es) = ap suc (length-rows texts (offset + e.size) es)
 
 -- where the content of an entry stands
 abbrev pub content_place : List Written → ℕ → ℕ

@@ -7,15 +7,16 @@ use Rattle.std.proofs.lemmas.List.Elements.{All-get_or}
 use Rattle.std.proofs.lemmas.List.FromFn.{length-map-range_with_len, get_or-map-range_with_len}
 use Rattle.std.specs.List.{flat_map, range_with_len}
 use Rattle.jm_bytes.specs.Word.{word}
-use Rattle.jm_strings.specs.Texts.{section_of}
+use Rattle.jm_form.specs.Strings.{section_of}
 use Rattle.jm_form.specs.declared.container.Header.{Header}
 use Rattle.jm_form.specs.declared.rows.Row.{Row}
 use Rattle.jm_form.specs.Head.{header_of, index_length}
 use Rattle.jm_form.specs.Layout.{Index, header_words, index_text, index_words, location_of, locations_below, locations_text, offset_words, redirect_words, row_in, row_place}
 use Rattle.jm_form.specs.Nodes.{words_text}
 use Rattle.jm_form.specs.Places.{contents, locations, offset_word, redirect_word, strings}
+use Rattle.jm_form.proofs.PartLaws.{length-words_text, word_there}
 use Rattle.jm_writer.specs.Writable.{header_with}
-use Rattle.jm_writer.proofs.ImageWords.{HasWords, header_back, length-words_text, word_there}
+use Rattle.jm_writer.proofs.ImageWords.{HasWords, header_back}
 
 -- Lists
 

@@ -15,8 +15,8 @@ use Rattle.jm_bytes.proofs.Pairs.{pairs_append, pairs_none}
 use Rattle.jm_bytes.proofs.SameOrder.{contains_flat_map}
 use Rattle.jm_names.proofs.JoinLaws.{join-split}
 use Rattle.jm_names.specs.Names.{Cut, ext_end, join, module_front, parent_front, split}
-use Rattle.jm_strings.proofs.TableLaws.{place-iff}
-use Rattle.jm_strings.specs.Texts.{IsZeroFree, place_of, section_of, with_text}
+use Rattle.jm_form.proofs.StringsLaws.{place-iff}
+use Rattle.jm_form.specs.Strings.{place_of, section_of, with_text, IsZeroFree}
 use Rattle.jm_form.specs.Entries.{name_of}
 use Rattle.jm_form.specs.Layout.{pieces, row_with, text_place, texts_of, with_texts}
 use Rattle.jm_form.specs.Rows.{blank}

@@ -11,7 +11,7 @@ use Rattle.jm_bytes.proofs.Members.{contains_map, from_map}
 use Rattle.jm_bytes.proofs.Pairs.{pairs_among, pairs_map}
 use Rattle.jm_bytes.specs.Checks.{fault_if, first_fault}
 use Rattle.jm_bytes.specs.declared.words.Order.{Order}
-use Rattle.jm_strings.specs.Texts.{section_of}
+use Rattle.jm_form.specs.Strings.{section_of}
 use Rattle.jm_form.specs.declared.container.Header.{Header}
 use Rattle.jm_form.specs.declared.damage.Damage.{Damage}
 use Rattle.jm_form.specs.declared.damage.Damage.TheVariants as damage

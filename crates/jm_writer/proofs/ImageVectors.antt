@@ -7,7 +7,7 @@ use Rattle.std.specs.Prelude.{codes, ◌==◌, slice_index, slice_index_or}
 use Rattle.jm_bytes.proofs.Members.{any_contains}
 use Rattle.jm_bytes.proofs.Pairs.{pairs_none}
 use Rattle.jm_bytes.specs.declared.words.Order.TheVariants.{Big, Little}
-use Rattle.jm_strings.specs.Texts.{IsZeroFree}
+use Rattle.jm_form.specs.Strings.{IsZeroFree}
 use Rattle.jm_form.specs.declared.table.Redirect.TheVariants as redirect
 use Rattle.jm_form.specs.declared.damage.Damage.TheVariants as damage
 use Rattle.jm_form.specs.Damages.{first_damage}

@@ -1,61 +1,17 @@
--- Words that stand one behind another are read back at their places, and a header of seven of them.
-use Rattle.std.proofs.Common.{◌≡◌, ℕ, zero, suc, ◌+◌, ◌*◌, ◌^◌, ◌==◌, ◌<◌, ◌≤◌, not, List, [], ◌∷◌, ◌++◌, length, drop, get_or, Some, is_none, unwrap_or, Ok, refl, sym, ap, ◌∙◌, subst, arith, append_assoc, length-append, drop-drop, drop_at}
+-- A header of seven words is read back.
+use Rattle.std.proofs.Common.{◌≡◌, ℕ, ◌*◌, ◌^◌, ◌==◌, ◌<◌, ◌≤◌, not, List, [], ◌∷◌, ◌++◌, length, get_or, Some, is_none, unwrap_or, Ok, refl, sym, ap, ◌∙◌, subst, arith}
 use Rattle.std.proofs.lemmas.Bool.{eq-eqb, le-ltb}
 use Rattle.std.specs.Prelude.{nat_lt}
-use Rattle.byteorder.specs.Numbers.{big_number-reads_back, little_number-reads_back, length-bytes_high_first, length-bytes_low_first}
 use Rattle.jm_bytes.proofs.CheckLaws.{fault_if_false, no_fault_cons}
 use Rattle.jm_bytes.specs.Checks.{fault_if, unless_fault}
-use Rattle.jm_bytes.specs.Word.{word, word_bytes}
+use Rattle.jm_bytes.specs.Word.{word}
 use Rattle.jm_bytes.specs.declared.words.Order.{Order}
 use Rattle.jm_bytes.specs.declared.words.Order.TheVariants.{Little, Big}
 use Rattle.jm_form.specs.declared.container.Header.{Header}
 use Rattle.jm_form.specs.declared.container.HeaderFault.TheVariants as fault
 use Rattle.jm_form.specs.Head.{fields_in, fields_of, header_of, index_length, order_of, version_of}
 use Rattle.jm_form.specs.Nodes.{words_text}
-
--- One word
-
-length-word_bytes : (order : Order) (v : ℕ) → length (word_bytes order v) ≡ 4
-length-word_bytes Little v = length-bytes_low_first 0 4 v
-length-word_bytes Big v = length-bytes_high_first 4 v
-
--- a word is read back, whatever stands behind it
-word_back : (order : Order) (v : ℕ) (rest : List ℕ) → v < 2 ^ 32 → word order (word_bytes order v ++ rest) 0 ≡ v
-word_back Little v rest fits = little_number-reads_back 4 v rest (omega arith)
-word_back Big v rest fits = big_number-reads_back 4 v rest (omega arith)
-
--- behind a front of known length the places count on
-word_behind : (order : Order) (front rest : List ℕ) (n at : ℕ) → length front ≡ n → word order (front ++ rest) (n + at) ≡ word order rest at
-word_behind Little front rest n at size = ap (λ l. word Little l 0) (behind front rest n at size)
-  where
-    behind : (front rest : List ℕ) (n at : ℕ) → length front ≡ n → drop (n + at) (front ++ rest) ≡ drop at rest
-    behind front rest n at size = sym (drop-drop at n (front ++ rest)) ∙ ap (drop at) (drop_at front rest n size)
-word_behind Big front rest n at size = ap (λ l. word Big l 0) (behind front rest n at size)
-  where
-    behind : (front rest : List ℕ) (n at : ℕ) → length front ≡ n → drop (n + at) (front ++ rest) ≡ drop at rest
-    behind front rest n at size = sym (drop-drop at n (front ++ rest)) ∙ ap (drop at) (drop_at front rest n size)
-
--- Words one behind another
-
-pub length-words_text : (order : Order) (ns : List ℕ) → length (words_text order ns) ≡ 4 * length ns
-length-words_text order [] = refl
-length-words_text order (n ∷ ns) =
-    let first = length-word_bytes order n in
-    let later = length-words_text order ns in
-    let all = length-append (word_bytes order n) (words_text order ns) in
-    omega arith
-
--- word k stands at place 4k
-pub word_there : (order : Order) (ns rest : List ℕ) (k : ℕ) → k < length ns → get_or ns k 0 < 2 ^ 32 → word order (words_text order ns ++ rest) (4 * k) ≡ get_or ns k 0
-word_there order [] rest k below fits = absurd (omega arith)
-word_there order (n ∷ ns) rest zero below fits =
-    ap (λ l. word order l 0) (append_assoc (word_bytes order n) (words_text order ns) rest) ∙ word_back order n (words_text order ns ++ rest) fits
-word_there order (n ∷ ns) rest (suc k) below fits =
-    let place : 4 * suc k ≡ 4 + 4 * k = omega arith in
-    ap (λ l. word order l (4 * suc k)) (append_assoc (word_bytes order n) (words_text order ns) rest)
-    ∙ ap (word order (word_bytes order n ++ (words_text order ns ++ rest))) place
-    ∙ word_behind order (word_bytes order n) (words_text order ns ++ rest) 4 (4 * k) (length-word_bytes order n)
-    ∙ word_there order ns rest k (omega arith) fits
+use Rattle.jm_form.proofs.PartLaws.{word_there}
 
 -- The header
 

@@ -15,7 +15,7 @@ use Rattle.jm_form.specs.Layout.{Index, owner_words, text_place}
 use Rattle.jm_form.specs.Nodes.{empty_flag, owners_text, words_text}
 use Rattle.jm_form.specs.Rising.{rising}
 use Rattle.jm_form.specs.Trees.{ModuleFolder, children, entry_name, folders, folders_called, inner_nodes, is_child, is_empty_in, is_meta, node_names, owners, package_folders, package_nodes, package_of, tree_place, tree_places}
-use Rattle.jm_writer.proofs.LaidRising.{contains_falling, from_rising}
+use Rattle.jm_form.proofs.RisingLaws.{contains_falling, from_rising}
 
 -- Place by place
 

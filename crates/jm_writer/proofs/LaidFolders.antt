@@ -7,9 +7,9 @@ use Rattle.jm_bytes.proofs.Members.{contains_cases, from_filter, from_map}
 use Rattle.jm_bytes.proofs.SameOrder.{from_flat_map}
 use Rattle.jm_names.specs.NameFaults.{IsSound}
 use Rattle.jm_names.specs.Names.{is_node, is_slash}
-use Rattle.jm_strings.specs.Texts.{IsZeroFree}
+use Rattle.jm_form.specs.Strings.{IsZeroFree}
 use Rattle.jm_form.specs.Trees.{ModuleFolder, folder_node, folders, folders_of, fronts, inner_nodes, is_meta, module_node, module_of, modules, node_names, package_folders, package_node, package_nodes, package_of, packages, path_of}
-use Rattle.jm_writer.proofs.LaidRising.{from_falling, from_rising}
+use Rattle.jm_form.proofs.RisingLaws.{from_falling, from_rising}
 use Rattle.jm_writer.proofs.LaidSound.{SoundName, free_append, free_dotted, free_module, free_path, free_take, free_text, sound_name}
 
 -- a folder of a name: its module is the name's, and no byte of its path is zero

@@ -3,7 +3,7 @@ use Rattle.std.proofs.Common.{◌≡◌, ℕ, ◌+◌, ◌*◌, List, length, ma
 use Rattle.std.specs.Prelude.{sum}
 use Rattle.jm_bytes.proofs.Choice.{same_some}
 use Rattle.jm_bytes.specs.declared.words.Order.{Order}
-use Rattle.jm_strings.specs.Texts.{section_of}
+use Rattle.jm_form.specs.Strings.{section_of}
 use Rattle.jm_form.specs.Greedy.{GreedyTable}
 use Rattle.jm_form.specs.Layout.{Written, all_names, all_sized, layout, layout_index, layout_table, layout_with, locations_text, texts_of}
 use Rattle.jm_writer.proofs.LaidTable.{layout_from, table_found}

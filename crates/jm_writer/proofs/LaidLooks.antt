@@ -10,19 +10,18 @@ use Rattle.std.specs.Map.{lookup}
 use Rattle.std.specs.Prelude.{nat_lt}
 use Rattle.std.specs.Str.{bytes_eq}
 use Rattle.jm_bytes.proofs.CheckLaws.{fault_if_none, no_fault_head, no_fault_tail}
-use Rattle.jm_bytes.proofs.Choice.{same_ok}
 use Rattle.jm_bytes.proofs.Members.{contains_map}
-use Rattle.jm_bytes.specs.Checks.{fault_if, first_fault, unless_fault}
+use Rattle.jm_bytes.specs.Checks.{fault_if, first_fault}
 use Rattle.jm_bytes.specs.declared.words.Order.{Order}
 use Rattle.jm_bytes.specs.declared.words.Order.TheVariants.{Little}
 use Rattle.jm_form.specs.declared.container.Header.{Header}
-use Rattle.jm_form.specs.declared.container.HeaderFault.{HeaderFault}
 use Rattle.jm_form.specs.declared.container.HeaderFault.TheVariants as fault
 use Rattle.jm_form.specs.Greedy.{GreedyTable}
 use Rattle.jm_form.specs.Head.{fields_of, header_checks, header_of, index_length, order_of, version_of}
 use Rattle.jm_form.specs.Layout.{Index, Written, layout_index, layout_table, layout_with, names_of, written_nodes}
 use Rattle.jm_form.specs.Trees.{node_names}
 use Rattle.jm_form.specs.Validity.{look}
+use Rattle.jm_form.proofs.HeadLaws.{header_found}
 use Rattle.jm_writer.specs.Laid.{CanLay}
 use Rattle.jm_writer.specs.Drafts.{image_limit}
 use Rattle.jm_writer.specs.Writable.{Writable}
@@ -34,10 +33,6 @@ use Rattle.jm_writer.proofs.LaidWritable.{from_written, laid_writable}
 some_order : (o : Option Order) → is_none o ≡ false → o ≡ Some (unwrap_or o Little)
 some_order None some = cc
 some_order (Some order) some = refl
-
-header_found : (b : List ℕ) (h : Header) (o : Option HeaderFault) → unless_fault o (fields_of b) ≡ Ok h → (o ≡ None) × (fields_of b ≡ h)
-header_found b h None e = (refl, same_ok (fields_of b) h e)
-header_found b h (Some fault) e = cc
 
 pub header_order : (b : List ℕ) (h : Header) → header_of b ≡ Ok h → order_of b ≡ Some h.order
 header_order b h e =

@@ -9,12 +9,12 @@ use Rattle.jm_bytes.proofs.Members.{all_from_contains}
 use Rattle.jm_bytes.proofs.Pairs.{pairs_append}
 use Rattle.jm_bytes.proofs.SameOrder.{mapped_twice}
 use Rattle.jm_names.specs.Names.{is_node}
-use Rattle.jm_strings.specs.Texts.{IsZeroFree}
+use Rattle.jm_form.specs.Strings.{IsZeroFree}
 use Rattle.jm_form.specs.Layout.{Index, Written, all_names, names_of, sized, sized_node, written_nodes}
 use Rattle.jm_form.specs.Trees.{holds_of, inner_nodes, node_names, package_nodes, tree_nodes}
 use Rattle.jm_writer.specs.Laid.{CanLay}
 use Rattle.jm_writer.proofs.LaidFolders.{nodes_named, sound_there}
-use Rattle.jm_writer.proofs.LaidRising.{falling_differ}
+use Rattle.jm_form.proofs.RisingLaws.{falling_differ}
 use Rattle.jm_writer.proofs.LayoutLaws.{sized_layout}
 
 nodes_sized : (names : List (List ℕ)) → map (λ e. e.name) (map sized_node (tree_nodes names)) ≡ node_names names

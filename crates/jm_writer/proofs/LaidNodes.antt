@@ -7,7 +7,7 @@ use Rattle.std.specs.Str.{bytes_eq}
 use Rattle.jm_bytes.proofs.Members.{all_from_contains, contains_map, from_filter}
 use Rattle.jm_bytes.specs.declared.words.Order.{Order}
 use Rattle.jm_names.specs.Names.{is_node, split}
-use Rattle.jm_strings.specs.Texts.{IsZeroFree}
+use Rattle.jm_form.specs.Strings.{IsZeroFree}
 use Rattle.jm_form.specs.declared.container.Header.{Header}
 use Rattle.jm_form.specs.declared.trees.Holds.{Holds}
 use Rattle.jm_form.specs.declared.trees.Holds.TheVariants.{Children, Owners}

@@ -11,7 +11,7 @@ use Rattle.jm_names.proofs.JoinLaws.{split-module}
 use Rattle.jm_names.specs.NameFaults.{IsSound, has_module, parts}
 use Rattle.jm_names.specs.Names.{Cut, cut_rest, cut_tail, dotted, is_dot, is_empty, is_slash, is_tree, split}
 use Rattle.jm_names.specs.declared.check.NameFault.TheVariants.{Empty, EmptyPart, Zero}
-use Rattle.jm_strings.specs.Texts.{IsZeroFree}
+use Rattle.jm_form.specs.Strings.{IsZeroFree}
 use Rattle.jm_form.specs.Trees.{module_of, path_of}
 
 -- Zero bytes

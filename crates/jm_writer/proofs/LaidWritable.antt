@@ -4,10 +4,10 @@ use Rattle.std.proofs.Common.{◌≡◌, ◌≢◌, ℕ, ◌<◌, ◌≤◌, Boo
 use Rattle.std.proofs.lemmas.List.{append-nil}
 use Rattle.std.proofs.lemmas.List.Elements.{All-head, All-tail, filter-append}
 use Rattle.std.specs.Prelude.{filter}
-use Rattle.jm_bytes.proofs.Members.{all_from_contains, contains_map, from_map}
+use Rattle.jm_bytes.proofs.Members.{all_from_contains, contains_map, filter_none, from_map}
 use Rattle.jm_bytes.specs.declared.words.Order.{Order}
 use Rattle.jm_names.specs.Names.{is_node}
-use Rattle.jm_strings.specs.Texts.{IsZeroFree}
+use Rattle.jm_form.specs.Strings.{IsZeroFree}
 use Rattle.jm_form.specs.Damages.{first_damage}
 use Rattle.jm_form.specs.Greedy.{GreedyTable, word_of}
 use Rattle.jm_form.specs.Layout.{Index, Written, all_names, layout_index, layout_table, layout_with, names_of, written_node, written_nodes}
@@ -28,10 +28,6 @@ use Rattle.jm_writer.proofs.LaidTable.{slots_within, table_found}
 pub filter_all : {X : Type 0} (p : X → Bool) (xs : List X) → All (λ x. p x ≡ true) xs → filter p xs ≡ xs
 filter_all p [] passes = refl
 filter_all p (x ∷ xs) passes = ap (λ b. cond b (x ∷ filter p xs) (filter p xs)) (All-head (λ y. p y ≡ true) x xs passes) ∙ ap (λ l. x ∷ l) (filter_all p xs (All-tail (λ y. p y ≡ true) x xs passes))
-
-pub filter_none : {X : Type 0} (p : X → Bool) (xs : List X) → All (λ x. p x ≡ false) xs → filter p xs ≡ []
-filter_none p [] fails = refl
-filter_none p (x ∷ xs) fails = ap (λ b. cond b (x ∷ filter p xs) (filter p xs)) (All-head (λ y. p y ≡ false) x xs fails) ∙ filter_none p xs (All-tail (λ y. p y ≡ false) x xs fails)
 
 -- of two lists, all of the first and nothing of the second
 pub filter_first : {X : Type 0} (p : X → Bool) (xs ys : List X) → All (λ x. p x ≡ true) xs → All (λ y. p y ≡ false) ys → filter p (xs ++ ys) ≡ xs

@@ -18,7 +18,6 @@ pub mod LaidLooks
 pub mod LaidNames
 pub mod LaidNodes
 pub mod LaidOut
-pub mod LaidRising
 pub mod LaidSound
 pub mod LaidTable
 mod LaidVectors

@@ -3,7 +3,7 @@
 use Rattle.std.proofs.Common.{◌≡◌, ℕ, ◌+◌, Bool, true, false, cond, List, [], ◌∷◌, ◌++◌, length, map, Option, Some, None, is_some, option_map, unwrap_or, refl, ap, ◌∙◌}
 use Rattle.std.specs.Str.{bytes_eq}
 use Rattle.jm_names.specs.Names.{Cut, split}
-use Rattle.jm_strings.specs.Texts.{place_of, with_text}
+use Rattle.jm_form.specs.Strings.{place_of, with_text}
 use Rattle.jm_form.specs.Layout.{row_with, rows_from, with_texts}
 use Rattle.jm_writer.specs.declared.interning.TextPlaces.{TextPlaces}
 use Rattle.jm_writer.specs.Parts.{StandAt, places_in, rows_at, sized_as}

@@ -11,7 +11,8 @@ use Rattle.std.proofs.lemmas.List.FromFn.{get_or-map-range_with_len, length-map-
 use Rattle.jm_bytes.specs.declared.words.Order.{Order}
 use Rattle.jm_bytes.proofs.Members.{contains_here, contains_later}
 use Rattle.jm_bytes.proofs.Pairs.{range_more}
-use Rattle.jm_strings.specs.Texts.{IsZeroFree, limit, section_of}
+use Rattle.jm_form.specs.Strings.{section_of, IsZeroFree}
+use Rattle.jm_strings.specs.Limit.{limit}
 use Rattle.jm_form.specs.declared.rows.Row.{Row}
 use Rattle.jm_form.specs.declared.trees.Holds.{Holds}
 use Rattle.jm_form.specs.declared.trees.Holds.TheVariants.{Children, Owners}
@@ -23,6 +24,7 @@ use Rattle.jm_form.specs.Layout.{names_of, node_words, offset_words, redirect_wo
 use Rattle.jm_form.specs.Layout.{rows_from, sized, sized_node, texts_of, written_node}
 use Rattle.jm_form.specs.Nodes.{words_text}
 use Rattle.jm_form.specs.Trees.{first_clash, tree_nodes}
+use Rattle.jm_form.proofs.PartLaws.{length-rows}
 use Rattle.jm_redirect.specs.declared.building.Table.{Table}
 use Rattle.jm_writer.specs.declared.draft.Draft.{Draft}
 use Rattle.jm_writer.specs.declared.draft.PlanError.{PlanError}
@@ -71,10 +73,6 @@ entries_are : (es : List Sized) (entries : Entries) → IsOfEntries es entries �
 entries_are es entries is =
     ap (λ n. record { names = n; sizes = entries.sizes }) is.names
     ∙ ap (λ s. record { names = map (λ e. e.name) es; sizes = s }) is.sizes
-
-pub length_rows : (texts : List (List ℕ)) (offset : ℕ) (es : List Sized) → length (rows_from texts offset es) ≡ length es
-length_rows texts offset [] = refl
-length_rows texts offset (e ∷ es) = ap suc (length_rows texts (offset + e.size) es)
 
 -- Locations
 
@@ -204,7 +202,7 @@ module _ (order : Order) (pool : List Written) (table : Table) (is : IsTable (al
         ∙ ap (λ p. index_bytes order (length (all_names pool)) (redirect_words index) p laid.locations.text.items (section_of laid.strings)) (lay.places ∙ places_is)
         ∙ ap (λ l. index_bytes order (length (all_names pool)) (redirect_words index) (offset_words index) l (section_of laid.strings)) (lay.text ∙ text_is)
         ∙ ap (λ t. index_bytes order (length (all_names pool)) (redirect_words index) (offset_words index) (locations_text index) (section_of t)) lay.texts
-        ∙ ap (λ n. index_bytes order n (redirect_words index) (offset_words index) (locations_text index) (section_of index.texts)) (length-map es (λ e. e.name) ∙ sym (length_rows index.texts 0 es))
+        ∙ ap (λ n. index_bytes order n (redirect_words index) (offset_words index) (locations_text index) (section_of index.texts)) (length-map es (λ e. e.name) ∙ sym (length-rows index.texts 0 es))
         ∙ index_is index is.whole;
     tail =
         drawn.tail

@@ -1,7 +1,8 @@
 -- Texts that are added to others: their section only grows.
 use Rattle.std.proofs.Common.{◌≡◌, ℕ, ◌<◌, ◌≤◌, Bool, true, false, cond, List, [], ◌∷◌, ◌++◌, length, None, is_some, refl, ap, arith}
-use Rattle.jm_strings.specs.Texts.{limit, place_of, section_of, with_text}
-use Rattle.jm_strings.proofs.TableLaws.{length-section-push}
+use Rattle.jm_form.specs.Strings.{place_of, section_of, with_text}
+use Rattle.jm_strings.specs.Limit.{limit}
+use Rattle.jm_form.proofs.StringsLaws.{length-section-push}
 use Rattle.jm_form.specs.Layout.{with_texts}
 
 grows_once : (text : List ℕ) (held : List (List ℕ)) → length (section_of held) ≤ length (section_of (with_text text held))

@@ -1,24 +1,19 @@
 -- The table of the names, from what is built.
-use Rattle.std.proofs.Common.{◌≡◌, ℕ, zero, suc, ◌+◌, ◌*◌, ◌%◌, ◌^◌, nat_lt, ◌<◌, ◌≤◌, Bool, true, false, cond, List, [], ◌∷◌, Option, Some, None, length, map, get_or, All, option_map, refl, sym, ap, ◌∙◌, subst, arith}
-use Rattle.std.proofs.lemmas.Bool.{ltb-true}
+use Rattle.std.proofs.Common.{◌≡◌, ℕ, zero, suc, ◌+◌, ◌*◌, ◌<◌, ◌≤◌, List, [], ◌∷◌, Option, Some, None, length, map, get_or, All, option_map, refl, sym, ap, ◌∙◌, subst, arith}
 use Rattle.std.proofs.lemmas.List.{length-map}
 use Rattle.std.proofs.lemmas.List.Elements.{All-head, All-tail}
 use Rattle.std.proofs.lemmas.Grind.{get_or_default_zero}
-use Rattle.std.proofs.lemmas.Int.{of_z-to_z}
-use Rattle.std.specs.Int.{w32, cast_unsigned}
 use Rattle.std.specs.Option.{option_or}
 use Rattle.jm_bytes.proofs.Choice.{same_some}
-use Rattle.jm_form.specs.declared.table.Redirect.{Redirect}
-use Rattle.jm_form.specs.declared.table.Redirect.TheVariants as redirect
 use Rattle.jm_form.specs.Greedy.{GreedyTable, bucket_of, first_table, greedy, greedy_among, lengths_from, next_length, table_lengths, word_of}
 use Rattle.jm_form.specs.Serves.{Serves}
-use Rattle.jm_form.specs.Table.{redirect_of, slot_below, slot_of}
+use Rattle.jm_form.specs.Table.{redirect_of}
+use Rattle.jm_form.proofs.LookLaws.{slot_within}
 use Rattle.jm_form.proofs.ServesLaws.{greedy_serves}
-use Rattle.jm_names.specs.Hash.{hash}
 use Rattle.jm_redirect.specs.declared.building.Table.{Table}
-use Rattle.jm_redirect.specs.Built.{with_words, words_of}
+use Rattle.jm_redirect.specs.Built.{with_words}
 use Rattle.jm_redirect.proofs.LengthLaws.{next_within}
-use Rattle.jm_redirect.proofs.TableLaws.{length_of_table}
+use Rattle.jm_redirect.proofs.TableLaws.{length_of_table, words_back}
 use Rattle.jm_writer.specs.Laying.{IsTable}
 
 -- the length at which a table was found
@@ -46,38 +41,12 @@ found_first : (names : List (List ℕ)) (table : GreedyTable) → first_table na
 unfolding table_lengths
 found_first names table is = found_among names table 64 (length names) (omega arith) is
 
-words_read : (redirects : List Redirect) → All (λ r. word_of r < 2 ^ 32) redirects → map (cast_unsigned w32) (words_of redirects) ≡ map word_of redirects
-words_read [] fit = refl
-words_read (r ∷ redirects) fit =
-    ap (λ w. w ∷ map (cast_unsigned w32) (words_of redirects)) (of_z-to_z w32 (word_of r) (All-head (λ x. word_of x < 2 ^ 32) r redirects fit))
-    ∙ ap (λ l. word_of r ∷ l) (words_read redirects (All-tail (λ x. word_of x < 2 ^ 32) r redirects fit))
-
--- a slot to which a name is led is one of the table
-led_below : (slots : ℕ) (name : List ℕ) (r : Redirect) (slot : ℕ) → slot_of slots name r ≡ Some slot → slot < slots
-led_below slots name redirect.Nowhere slot is = cc
-led_below slots name (redirect.Slot other) slot is = below slots other slot is
-  where
-    below : (n o s : ℕ) → slot_below n o ≡ Some s → s < n
-    below n o s is = go (nat_lt o n) refl is
-      where
-        go : (b : Bool) → nat_lt o n ≡ b → cond b (Some o) None ≡ Some s → s < n
-        go true test is = subst (λ x. x < n) (same_some o s is) (ltb-true o n test)
-        go false test is = cc
-led_below slots name (redirect.Seed seed) slot is = below slots (hash seed name % slots) slot is
-  where
-    below : (n o s : ℕ) → slot_below n o ≡ Some s → s < n
-    below n o s is = go (nat_lt o n) refl is
-      where
-        go : (b : Bool) → nat_lt o n ≡ b → cond b (Some o) None ≡ Some s → s < n
-        go true test is = subst (λ x. x < n) (same_some o s is) (ltb-true o n test)
-        go false test is = cc
-
 all_below : (names : List (List ℕ)) (slots : ℕ) (words given : List ℕ) → Serves names slots words given → All (λ slot. slot < slots) given
 all_below names slots words given serves k d inside =
     let long = serves.given_length in
     let name = get_or names k [] in
     subst (λ s. s < slots) (sym (get_or_default_zero given k d inside))
-    (led_below slots name (redirect_of (get_or words (bucket_of slots name) 0)) (get_or given k 0) (serves.led k (omega arith)))
+    (slot_within slots name (redirect_of (get_or words (bucket_of slots name) 0)) (get_or given k 0) (serves.led k (omega arith)))
 
 of_greedy : (names : List (List ℕ)) (greedy_table : GreedyTable) → length names ≤ 1048576 → first_table names ≡ Some greedy_table → IsTable names (with_words greedy_table)
 of_greedy names table few is =
@@ -87,7 +56,7 @@ of_greedy names table few is =
     let served = greedy_serves names slots table found.enough (omega arith) found.is in
     let serves = served.serves in
     let size = length_of_table names slots table found.is in
-    let words = words_read table.redirects served.words in
+    let words = words_back table.redirects served.words in
     record {
       greedy = table;
       first = is;

@@ -3,7 +3,8 @@
 use Rattle.std.specs.Prelude.{ℕ, ◌≡◌, ◌<◌, ◌≤◌, nat_lt, List, length, if◌then◌else◌}
 use Rattle.std.specs.Prelude.{Some, None, Result, Ok, Err}
 use Rattle.jm_bytes.specs.declared.words.Order.{Order}
-use Rattle.jm_strings.specs.Texts.{limit, section_of}
+use Rattle.jm_form.specs.Strings.{section_of}
+use Rattle.jm_strings.specs.Limit.{limit}
 use Rattle.jm_form.specs.Greedy.{GreedyTable}
 use Rattle.jm_form.specs.Layout.{Written, all_sized, contents_text, index_text, layout_index}
 use Rattle.jm_form.specs.Layout.{layout_table, layout_with, names_of, written_nodes}

@@ -4,7 +4,8 @@ use Rattle.std.specs.Prelude.{ℕ, ◌+◌, ◌*◌, ◌≡◌, ◌≢◌, ◌<�
 use Rattle.std.specs.Prelude.{All, AllPairs, Option, Some, None, Result, Ok, Err}
 use Rattle.std.specs.Int.{w32, cast_unsigned}
 use Rattle.jm_bytes.specs.declared.words.Order.{Order}
-use Rattle.jm_strings.specs.Texts.{IsZeroFree, limit, section_of}
+use Rattle.jm_form.specs.Strings.{section_of, IsZeroFree}
+use Rattle.jm_strings.specs.Limit.{limit}
 use Rattle.jm_form.specs.declared.rows.Row.{Row}
 use Rattle.jm_form.specs.declared.trees.TreeNode.{TreeNode}
 use Rattle.jm_form.specs.Greedy.{GreedyTable, first_table, word_of}

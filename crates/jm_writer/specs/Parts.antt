@@ -9,7 +9,7 @@ use Rattle.std.specs.Map.{lookup}
 use Rattle.jm_bytes.specs.declared.words.Order.{Order}
 use Rattle.jm_names.specs.Hash.{hash, default_seed}
 use Rattle.jm_names.specs.Names.{Cut, split}
-use Rattle.jm_strings.specs.Texts.{place_of}
+use Rattle.jm_form.specs.Strings.{place_of}
 use Rattle.jm_form.specs.declared.rows.Row.{Row}
 use Rattle.jm_form.specs.declared.trees.Holds.{Holds}
 use Rattle.jm_form.specs.declared.trees.Holds.TheVariants.{Children, Owners}

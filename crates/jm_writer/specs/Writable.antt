@@ -2,7 +2,7 @@
 -- size; jimage 1.0 for the rest).
 use Rattle.std.specs.Prelude.{◌^◌, ◌≢◌, ◌<◌, ◌≤◌, List, [], length, map, All}
 use Rattle.jm_bytes.specs.declared.words.Order.{Order}
-use Rattle.jm_strings.specs.Texts.{IsZeroFree, section_of}
+use Rattle.jm_form.specs.Strings.{section_of, IsZeroFree}
 use Rattle.jm_form.specs.declared.container.Header.{Header}
 use Rattle.jm_form.specs.Greedy.{GreedyTable, word_of}
 use Rattle.jm_form.specs.Layout.{Index, Written, image_of, locations_text, names_of}

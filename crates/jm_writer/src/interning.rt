@@ -2,7 +2,8 @@
 ghost use Rattle.std.specs.Prelude.{◌≡◌, ◌≢◌, ◌<◌, ◌∷◌, [], length, codes, All, Err, IfOk, OnOk};
 ghost use Rattle.std.specs.Prelude.{IsErrOf};
 ghost use Rattle.jm_names.specs.Names.{split};
-ghost use Rattle.jm_strings.specs.Texts.{IsZeroFree, limit, section_of};
+ghost use Rattle.jm_form.specs.Strings.{section_of, IsZeroFree};
+ghost use Rattle.jm_strings.specs.Limit.{limit};
 ghost use Rattle.jm_strings.specs.declared.strings.StringsError.TheVariants.{Full, Zero};
 ghost use Rattle.jm_form.specs.Layout.{pieces, texts_of, with_texts};
 ghost use Rattle.jm_writer.specs.Parts.{StandAt, places_of};
@@ -72,15 +73,10 @@ pub fn strings_of(alloc: Global, names: &[Text]) -> Result<Interned, StringsErro
     ensures full { result ≡ Err Full → limit < length (section_of (texts_of names.now)) }
     ensures zero { result ≢ Err Zero }
 {
-    let Ok(mut interned) = start(alloc, names.len()) else {
-        return Err(StringsError::Memory);
-    };
+    let mut interned = start(alloc, names.len())?;
     for name in names {
         let places = intern_pieces(&mut interned.strings, name.as_slice())?;
-        match interned.places.push(places) {
-            Ok(()) => {}
-            Err(NoMemory) => return Err(StringsError::Memory),
-        }
+        interned.places.push(places)?;
     }
     Ok(interned)
 }

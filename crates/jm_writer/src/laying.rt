@@ -1,6 +1,6 @@
 //! What is known of an image before its bytes: its table, strings, locations and length.
 ghost use Rattle.std.specs.Prelude.{◌≡◌, ◌+◌, ◌*◌, ◌^◌, ◌<◌, ◌≤◌, length, sum, All, IfOk, IfSome};
-ghost use Rattle.jm_strings.specs.Texts.{IsZeroFree};
+ghost use Rattle.jm_form.specs.Strings.{IsZeroFree};
 ghost use Rattle.jm_writer.specs.Laying.{AreFit, Interns, IsTable, Lays, Tables, length_of};
 ghost use Rattle.jm_writer.specs.Laying.{slot_rows};
 ghost use Rattle.jm_writer.specs.Parts.{places_of};

@@ -1,10 +1,11 @@
 //! The plan of an image.
-ghost use Rattle.std.specs.Prelude.{◌≡◌, ◌<◌, ◌≤◌, length, false, None, All, IfOk};
+ghost use Rattle.std.specs.Prelude.{◌≡◌, ◌<◌, ◌≤◌, ℕ, List, length, false, Some, None, All, IfOk};
 ghost use Rattle.jm_names.specs.Names.{is_node};
 ghost use Rattle.jm_names.specs.NameFaults.{IsSound};
-ghost use Rattle.jm_form.specs.Layout.{names_of};
+ghost use Rattle.jm_form.specs.Layout.{layout, names_of};
 ghost use Rattle.jm_form.specs.Trees.{first_clash, tree_nodes};
-ghost use Rattle.jm_writer.specs.Drafts.{Plans};
+ghost use Rattle.jm_writer.specs.Drafts.{NoClash, Plans, image_limit};
+ghost use Rattle.jm_writer.specs.Laid.{IsLaidOut};
 ghost use Rattle.jm_writer.specs.Laying.{AreFit, IsDrawn, IsLaid, IsTable};
 
 use crate::draft::{Draft, PlanError};
@@ -87,8 +88,11 @@ fn plan_with(
 pub fn plan(alloc: Global, order: Order, pool: &Pool) -> Result<Draft, PlanError>
     requires sound { All IsSound (names_of pool.now) }
     requires resources { All (λ name. is_node name ≡ false) (names_of pool.now) }
-    ensures { Plans order pool.now result }
+    ensures plans { Plans order pool.now result }
+    ensures laid { (image : List ℕ) → NoClash pool.now → layout order pool.now ≡ Some image
+        → length image ≤ image_limit → IsLaidOut order pool.now image }
 {
+    let _names_differ = pool.len();
     match nodes(alloc, pool) {
         Ok(nodes) => plan_with(alloc, order, pool, nodes.as_slice()),
         Err(NodesError::Clash(name)) => Err(PlanError::Clash(name)),

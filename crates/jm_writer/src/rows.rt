@@ -68,45 +68,7 @@ impl EntryRow {
 fn no_rows(alloc: Global, count: u32) -> Result<Vec<Option<EntryRow>>, NoMemory>
     ensures { IfOk result (λ rows. rows.items ≡ replicate count None) }
 {
-    match vec![in alloc; None; count as usize] {
-        Ok(rows) => Ok(rows),
-        Err(_) => Err(NoMemory),
-    }
-}
-
-/// How many slots are looked at before the rows of their entries are put there.
-const SLOTS_AHEAD: usize = 16;
-
-/// Room to look at slots ahead.
-fn room_ahead(alloc: Global) -> Result<Vec<bool>, NoMemory> {
-    match vec![in alloc; false; SLOTS_AHEAD] {
-        Ok(seen) => Ok(seen),
-        Err(_) => Err(NoMemory),
-    }
-}
-
-/// Whether there is a row at a slot.
-fn has_row(rows: &[Option<EntryRow>], slot: u32) -> bool {
-    matches!(rows.get(slot as usize), Some(Some(_)))
-}
-
-/// Looks at slots, as many as there is room for.
-///
-/// They lie far apart, and no choice hangs on one here, so that the processor reads many at a time
-/// and has them at hand when rows are put there. Nothing else comes of it.
-fn look_at(rows: &[Option<EntryRow>], slots: &[u32], seen: &mut [bool]) {
-    for at in 0..slots.len().min(seen.len()) {
-        seen[at] = has_row(rows, slots[at]);
-    }
-}
-
-/// Looks at the slots of the entries from a place on, once for as many as are looked at.
-fn look_ahead(rows: &[Option<EntryRow>], slots: &[u32], entry: usize, seen: &mut [bool])
-    requires { entry < length slots.now }
-{
-    if entry % SLOTS_AHEAD == 0 {
-        look_at(rows, &slots[entry..], seen);
-    }
+    Ok(vec![in alloc; None; count as usize]?)
 }
 
 /// The rows by slot, for so many slots, of entries with these slots, with these places of their
@@ -128,10 +90,8 @@ pub fn rows_in_slots(
     ensures contents { IfOk result (λ r. r.1 ≡ sum sizes.now) }
 {
     let mut rows = no_rows(alloc, count)?;
-    let mut seen = room_ahead(alloc)?;
     let mut offset: u64 = 0;
     for (entry, size) in sizes.iter().enumerate() {
-        look_ahead(&rows, slots, entry, &mut seen);
         rows[slots[entry] as usize] = Some(EntryRow {
             places: places[entry],
             offset,

@@ -1,26 +1,12 @@
 //! The slots to which a table leads names.
 ghost use Rattle.std.specs.Prelude.{◌≡◌, map, IfOk};
-ghost use Rattle.jm_form.specs.Table.{redirect_of};
 ghost use Rattle.jm_writer.specs.Parts.{slot_or_first, word_at, word_in};
 
 use crate::index::unsigned;
 use jm_bytes::{List, NoMemory, Text};
-use jm_form::Redirect;
+use jm_form::redirect_of;
 use jm_redirect::{Table, default_hashes, slot_of};
 use std::alloc::Global;
-
-/// What a redirect word says of the names of its bucket.
-fn redirect_of(word: u32) -> Redirect
-    ensures { result ≡ redirect_of word }
-{
-    if word == 0 {
-        Redirect::Nowhere
-    } else if word < 1 << 31 {
-        Redirect::Seed(word)
-    } else {
-        Redirect::Slot(u32::MAX - word)
-    }
-}
 
 /// The redirect word of a hash's bucket; 0 in a table of no slot.
 fn word_at(table: &Table, hash: u32) -> u32

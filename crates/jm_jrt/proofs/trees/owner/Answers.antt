@@ -1,6 +1,14 @@
-use Rattle.std.proofs.Common.{sym, ap, ◌∙◌}
+use Rattle.std.proofs.Common.{sym, ap, ◌∙◌, arith}
 use Rattle.jm_jrt.specs.Stat.{owner_read}
+use Rattle.jm_jrt.proofs.TreeLaws.{trees_read}
 use Rattle.jm_jrt.proofs.trees.owner.Goals as goal
 
 pub returns-clause-owner : goal.returns-clause-owner
-returns-clause-owner g c = c.owner_in.ensures.owner ∙ sym (ap (owner_read c.args.image.now c.args.path.now) c.header.ensures.header)
+returns-clause-owner g c = c.owner_in.ensures.owner ∙ sym (ap (owner_read c.args.image.now c.args.path.now) c.header-header.ensures.header)
+
+pub returns-clause-trees : goal.returns-clause-trees
+returns-clause-trees g c = λ m stands nodes.
+    let longest = c.longest_section-longest.type_inv in
+    let within = c.longest_section-longest.ensures in
+    let shown = trees_read c.args.image.now c.header-header.result c.header-header.ensures.header (record { locations = omega arith; strings = omega arith }) m stands nodes in
+    c.owner_in.ensures.owner ∙ sym (ap (owner_read c.args.image.now c.args.path.now) c.header-header.ensures.header) ∙ shown.owners c.args.path.now

@@ -1,5 +1,5 @@
 use Rattle.std.proofs.Common.{map}
-use Rattle.jm_nodes.proofs.RisingLaws.{first_shared}
+use Rattle.jm_nodes.proofs.SharedLaws.{first_shared}
 use Rattle.jm_nodes.proofs.names.first_front.Goals as goal
 
 pub loop-front-init : goal.loop-front-init

@@ -3,7 +3,7 @@ use Rattle.std.specs.List.{flat_map}
 use Rattle.jm_form.specs.Trees.{fronts}
 use Rattle.jm_pool.specs.Pairs.{names_of}
 use Rattle.jm_nodes.proofs.EndLaws.{clash_is, nodes_are}
-use Rattle.jm_nodes.proofs.RisingLaws.{rising_rises}
+use Rattle.jm_form.proofs.RisingLaws.{rising_rises}
 use Rattle.jm_nodes.proofs.trees.nodes.Goals as goal
 
 pub first_front-requires-clause-names : goal.first_front-requires-clause-names

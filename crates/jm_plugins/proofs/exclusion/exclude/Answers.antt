@@ -1,6 +1,6 @@
 use Rattle.std.proofs.Common.{not, ap, ◌∙◌}
 use Rattle.jm_pool.specs.Pairs.{flagged_items}
-use Rattle.jm_plugins.specs.Matching.{matches_any}
+use Rattle.jm_pattern.specs.ComputedMatching.{matches_any}
 use Rattle.jm_plugins.proofs.Beside.{flagged_filter}
 use Rattle.jm_plugins.proofs.exclusion.exclude.Goals as goal
 

@@ -1,7 +1,7 @@
 use Rattle.std.proofs.Common.{◌≡◌, ℕ, List, Bool, Some, not, slice_get, Contains, subst, ap, ◌∙◌, arith, rules, of_calls}
 use Rattle.std.specs.List.{range_with_len}
 use Rattle.jm_bytes.proofs.Members.{from_range}
-use Rattle.jm_plugins.specs.Matching.{matches_any}
+use Rattle.jm_pattern.specs.ComputedMatching.{matches_any}
 use Rattle.jm_plugins.proofs.Beside.{each_ok, mapped_ok}
 use Rattle.jm_plugins.proofs.exclusion.flags.Goals as goal
 

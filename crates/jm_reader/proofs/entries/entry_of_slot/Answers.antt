@@ -1,11 +1,14 @@
 use Rattle.std.proofs.Common.{◌∙◌, sym, ap}
+use Rattle.std.proofs.lemmas.Bool.{false≢true}
 use Rattle.jm_form.specs.Entries.{spelled_row}
-use Rattle.jm_form.proofs.SlotLaws.{sound_row}
+use Rattle.jm_form.proofs.SlotLaws.{sound_row, sound_texts}
 use Rattle.jm_reader.proofs.entries.entry_of_slot.Goals as goal
 
-pub pieces_of-pieces-requires-clause-sound : goal.pieces_of-pieces-requires-clause-sound
-pieces_of-pieces-requires-clause-sound g c =
-    sound_row c.args.buf.now c.args.header.now c.args.slot c.in_ok-row.row (c.requires.valid.slots c.args.slot c.requires.below) (sym (c.in_ok-row.ensures ∙ ap spelled_row c.row_of_slot.ensures.row))
+-- the texts of the row end, so it has its pieces
+pub returns-in_err-pieces-clause-spare : goal.returns-in_err-pieces-clause-spare
+returns-in_err-pieces-clause-spare g c =
+    let sound = sound_row c.args.buf.now c.args.header.now c.args.slot c.in_ok-row.row (c.requires.valid.slots c.args.slot c.requires.below) (sym (c.in_ok-row.ensures ∙ ap spelled_row c.row_of_slot.ensures.row)) in
+    absurd (false≢true (c.in_err-pieces.ensures.ends ∙ sound_texts c.args.buf.now c.args.header.now c.in_ok-row.row sound))
 
 pub content-bytes-requires-clause-sound : goal.content-bytes-requires-clause-sound
 content-bytes-requires-clause-sound g c =

@@ -1,4 +1,4 @@
-use Rattle.std.proofs.Common.{◌≡◌, ◌<◌, length, map}
+use Rattle.std.proofs.Common.{◌≡◌, length, map}
 use Rattle.jm_redirect.specs.Marks.{names_at}
 use Rattle.jm_redirect.specs.Reached.{Reached}
 use Rattle.jm_redirect.proofs.buckets.give_all.Given as goal
@@ -7,7 +7,6 @@ abbrev pub invariant-loop-left : goal.invariant-loop-left
 invariant-loop-left l = record {
   named : map (λ name. name.now) l.left.names.now ≡ names_at l.names l.left.turns.now;
   reached : Reached l.names (length l.fn.redirects) l.taken l.redirects l.free l.left.turns.now;
-  given : l.given < 16;
 }
 
 abbrev pub decreases-loop-left : goal.decreases-loop-left

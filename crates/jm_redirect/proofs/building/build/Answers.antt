@@ -11,19 +11,19 @@ loop-tried-init c = record {
   left = ap (greedy_among c.args.names.now) (lengths_all (length c.args.names.now));
 }
 
-pub returns-in-Ok-Some-clause-table : goal.returns-in-Ok-Some-clause-table
-returns-in-Ok-Some-clause-table c =
-    built c.args.names.now c.loop-tried._tried c.loop-tried.length c.in-Ok-Some.table (omega arith) (sym c.in-Ok-Some.ensures ∙ c.in-Ok-Some.field-0-is) c.loop-tried.invariant.left
+pub returns-in-Some-clause-table : goal.returns-in-Some-clause-table
+returns-in-Some-clause-table c =
+    built c.args.names.now c.loop-tried._tried c.loop-tried.length c.in-Some.table (omega arith) (sym c.in_ok-table.ensures ∙ c.in-Some.is) c.loop-tried.invariant.left
 
-pub returns-in-Ok-Some-clause-serves : goal.returns-in-Ok-Some-clause-serves
-returns-in-Ok-Some-clause-serves c =
+pub returns-in-Some-clause-serves : goal.returns-in-Some-clause-serves
+returns-in-Some-clause-serves c =
     let few : c.loop-tried.length < 2 ^ 31 = omega (arith, c.loop-tried.invariant.few, c.requires, c.loop-tried-test.true) in
-    built_serves c.args.names.now c.loop-tried.length c.in-Ok-Some.table c.loop-tried.invariant.enough few (sym c.in-Ok-Some.ensures ∙ c.in-Ok-Some.field-0-is)
+    built_serves c.args.names.now c.loop-tried.length c.in-Some.table c.loop-tried.invariant.enough few (sym c.in_ok-table.ensures ∙ c.in-Some.is)
 
 pub loop-tried-preserved : goal.loop-tried-preserved
 loop-tried-preserved c =
     let i = c.loop-tried.invariant in
-    let none = not_built c.args.names.now c.loop-tried.length (sym c.in-Ok-None.ensures ∙ c.in-Ok-None.field-0-is) in
+    let none = not_built c.args.names.now c.loop-tried.length (sym c.in_ok-table.ensures ∙ c.in-None.is) in
     let next = c.next_length-length.ensures in
     let steps = next_within c.loop-tried.length in
     record {

@@ -2,11 +2,6 @@ use Rattle.std.proofs.Common.{◌∙◌}
 use Rattle.std.specs.Str.{bytes_eq}
 use Rattle.indexmap.proofs.CallerLemmas.{insert_entry-new}
 use Rattle.jm_strings.proofs.strings.insert.Goals as goal
-use Rattle.jm_strings.proofs.strings.insert.Goals.{in-Ok, in-Err}
 
 pub returns-clause-ok : goal.returns-clause-ok
-returns-clause-ok c =
-    elim c.match-insert.branch [
-      | in-Ok w ↦ rw w.result-is (w.in-Ok.ensures.entries ∙ insert_entry-new (λ one other. bytes_eq one.items other.items) c.args.places.now c.args.text c.args.place c.requires)
-      | in-Err w ↦ rw w.result-is tt
-    ]
+returns-clause-ok c = c.in_ok-insert.ensures.entries ∙ insert_entry-new (λ one other. bytes_eq one.items other.items) c.args.places.now c.args.text c.args.place c.requires

@@ -1,5 +1,6 @@
 use Rattle.std.proofs.Common.{arith, rules, of_calls}
-use Rattle.jm_valid.proofs.PartLaws.{IsPart, part_joined, part_room, parts_all, zipped_each}
+use Rattle.jm_halves.proofs.Zipped.{zipped_each}
+use Rattle.jm_valid.proofs.PartLaws.{IsPart, part_joined, part_room, parts_all}
 use Rattle.jm_valid.proofs.entries.contents_of_parts.Goals as goal
 
 pub add_part-requires : goal.add_part-requires

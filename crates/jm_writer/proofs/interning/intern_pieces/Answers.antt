@@ -1,6 +1,7 @@
 use Rattle.std.proofs.Common.{rules, ◌≡◌, ◌∷◌, ◌<◌, [], Err, Some, length, ap, ◌∙◌, sym, subst}
 use Rattle.jm_strings.specs.declared.strings.StringsError.TheVariants.{Full, Zero}
-use Rattle.jm_strings.specs.Texts.{IsZeroFree, limit, place_of, section_of, with_text}
+use Rattle.jm_form.specs.Strings.{place_of, section_of, with_text, IsZeroFree}
+use Rattle.jm_strings.specs.Limit.{limit}
 use Rattle.jm_form.specs.Layout.{pieces, with_texts}
 use Rattle.jm_names.specs.Pieces.{cut_of}
 use Rattle.jm_writer.specs.declared.interning.TextPlaces.{TextPlaces}

@@ -2,7 +2,8 @@ use Rattle.std.proofs.Common.{rules, ◌≡◌, ◌+◌, ◌∷◌, ◌++◌, �
 use Rattle.std.specs.List.{flat_map}
 use Rattle.jm_names.specs.Names.{split}
 use Rattle.jm_form.specs.Layout.{pieces, texts_of, with_texts}
-use Rattle.jm_strings.specs.Texts.{IsZeroFree, limit, section_of}
+use Rattle.jm_form.specs.Strings.{section_of, IsZeroFree}
+use Rattle.jm_strings.specs.Limit.{limit}
 use Rattle.jm_strings.specs.declared.strings.StringsError.TheVariants.{Full}
 use Rattle.jm_writer.specs.declared.interning.TextPlaces.{TextPlaces}
 use Rattle.jm_writer.specs.Parts.{StandAt, places_in}
@@ -53,5 +54,5 @@ loop-name-preserved c =
     let one = sym (ap (λ p. before ++ (p ∷ behind)) found) ∙ step in
     record {
       texts = texts;
-      places = ap (λ l. l ++ behind) c.in-Ok-push.ensures.ok ∙ (append_assoc before (own ∷ []) behind ∙ one);
+      places = ap (λ l. l ++ behind) c.in_ok-push.ensures.ok ∙ (append_assoc before (own ∷ []) behind ∙ one);
     }

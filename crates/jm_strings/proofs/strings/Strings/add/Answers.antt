@@ -1,5 +1,6 @@
 use Rattle.std.proofs.Common.{rules, ◌≡◌, ◌∙◌, ◌≤◌, ◌++◌, ◌∷◌, [], ap, sym, length, subst}
-use Rattle.jm_strings.specs.Texts.{place_of, section_of, limit}
+use Rattle.jm_form.specs.Strings.{place_of, section_of}
+use Rattle.jm_strings.specs.Limit.{limit}
 use Rattle.jm_strings.specs.Table.{texts_of}
 use Rattle.jm_strings.proofs.TableLaws.{lookup-place, agrees-push, not_refused}
 use Rattle.jm_strings.proofs.strings.Strings.add.Goals as goal

@@ -1,6 +1,7 @@
 use Rattle.std.proofs.Common.{◌∙◌, ap, sym}
 use Rattle.std.specs.Option.{option_copied}
-use Rattle.jm_strings.proofs.TableLaws.{lookup-place, place-iff}
+use Rattle.jm_form.proofs.StringsLaws.{place-iff}
+use Rattle.jm_strings.proofs.TableLaws.{lookup-place}
 use Rattle.jm_strings.proofs.strings.Strings.place.Goals as goal
 
 pub returns-in-Some-clause-place : goal.returns-in-Some-clause-place

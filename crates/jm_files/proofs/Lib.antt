@@ -1,3 +1,0 @@
-pub mod HoldsLaws
-pub mod MadeLaws
-pub mod ResultLaws

@@ -1,0 +1,243 @@
+-- The modules that the resources of some modules show, where the descriptor of each stands among
+-- them: these modules, with the same descriptors, and only packages that they had.
+use Rattle.std.proofs.Common.{◌≡◌, ◌≢◌, ◌↔◌, inl, inr, ℕ, true, false, cond, List, map, All, AllPairs, Contains, Option, Some, None, Ok, refl, sym, ap, subst, ◌∙◌}
+use Rattle.std.proofs.lemmas.Slice.Eq.{bytes_eq-Decides}
+use Rattle.std.specs.List.{filter_map, flat_map, list_any}
+use Rattle.std.specs.Prelude.{IsTrue}
+use Rattle.std.specs.Str.{bytes_eq}
+use Rattle.jm_bytes.proofs.Choice.{chosen, same_some}
+use Rattle.jm_bytes.proofs.Members.{all_from_contains, contains_filter_map, contains_map, from_filter_map, from_map}
+use Rattle.jm_bytes.proofs.Pairs.{pairs_filter_map, pairs_map, pairs_weaker}
+use Rattle.jm_bytes.proofs.SameOrder.{contains_flat_map, from_flat_map, same_order}
+use Rattle.jm_closure.specs.declared.candidate.Candidate.{Candidate}
+use Rattle.jm_closure.specs.Modules as closure
+use Rattle.jm_form.specs.Layout.{Written}
+use Rattle.jm_form.specs.Trees.{class_packages, module_of, path_of}
+use Rattle.jm_bytes.specs.ByteOrder.{is_before}
+use Rattle.jm_modpath.specs.Finding.{class_package}
+use Rattle.jm_modpath.specs.Modules.{info_name}
+use Rattle.jm_modpath.proofs.PackageLaws.{class_packages_are}
+use Rattle.jm_form.proofs.RisingLaws.{from_rising}
+use Rattle.jm_names.specs.Names.{is_slash}
+use Rattle.jm_nodes.proofs.SoundLaws.{module_again, path_again}
+use Rattle.jm_relink.specs.Files.{file_name, info_entry}
+use Rattle.jm_names.specs.ByName.{RisesByName}
+use Rattle.jm_relink.specs.Files as image
+use Rattle.jm_relink.specs.Gathering.{resource_of}
+use Rattle.jm_relink.specs.Modules.{IsSeenIn, IsVisibleIn, SeenModule, name_of}
+use Rattle.jm_relink.proofs.ListLaws.{one_of}
+use Rattle.jm_relink.proofs.NameLaws.{names_tell}
+use Rattle.jm_bytes.proofs.ByteOrderLaws.{before_apart}
+use Rattle.jm_link.specs.ImageLinked.{seen_resources}
+use Rattle.jm_link.proofs.FileOrder.{IsFirst, IsFirstOrOne, modules_first, never_both, pairs_joined, paths_first}
+use Rattle.jm_link.proofs.KeptLaws.{AreKept}
+use Rattle.jm_link.proofs.SaidLaws.{Says, says_info}
+
+abbrev pub Before : Candidate → Candidate → Type 0
+Before c d = is_before (closure.name_of c) (closure.name_of d) ≡ true
+
+-- a resource of one of some modules, which has the package of the resource; that which makes the
+-- module says its descriptor
+pub record IsOf (cs : List Candidate) (r : Written) : Type 0 where
+  pub candidate : Candidate
+  pub path : List ℕ
+  pub among : Contains cs candidate
+  pub name : r.0 ≡ file_name (closure.name_of candidate) path
+  pub has_package : (shared : List ℕ) → class_package r.0 ≡ Some shared → Contains candidate.packages shared
+  pub says : path ≡ info_name → Says r.1 candidate.descriptor
+
+-- resources of some modules, by module and then by path
+pub record AreOf (cs : List Candidate) (rs : List Written) : Type 0 where
+  pub rising : AllPairs Before cs
+  pub whole : (c : Candidate) → Contains cs c → list_any is_slash (closure.name_of c) ≡ false
+  pub each : (r : Written) → Contains rs r → IsOf cs r
+  pub order : AllPairs (λ (e f : Written). IsFirstOrOne e.0 f.0) rs
+
+-- what plug-ins leave of them
+pub kept_of : (cs : List Candidate) (old new : List Written) → AreKept IsFirstOrOne old new → AreOf cs old → AreOf cs new
+kept_of cs old new kept are = record {
+  rising = are.rising;
+  whole = are.whole;
+  each = λ r there.
+      let one = kept.each r there in
+      let of = are.each one.was one.there in
+      record {
+        candidate = of.candidate;
+        path = of.path;
+        among = of.among;
+        name = sym one.name ∙ of.name;
+        has_package = λ shared is. of.has_package shared (ap class_package one.name ∙ is);
+        says = λ is. one.says of.candidate.descriptor (of.says is);
+      };
+  order = kept.order are.order;
+}
+
+module _ (cs : List Candidate) (rs : List Written) (are : AreOf cs rs) (differ : AllPairs (λ (e f : Written). e.0 ≢ f.0) rs) where
+  strict : AllPairs (λ (e f : Written). IsFirst e.0 f.0) rs
+  strict i j d before inside = are.order i j d before inside (differ i j d before inside)
+
+  -- a resource with the name of a module's file is that module's
+  pub own : (c : Candidate) → Contains cs c → (r : Written) → Contains rs r → (path : List ℕ) → r.0 ≡ file_name (closure.name_of c) path → (of : IsOf cs r) × (of.candidate ≡ c) × (of.path ≡ path)
+  own c there r among path is =
+      let of = are.each r among in
+      let names = names_tell (closure.name_of of.candidate) (closure.name_of c) of.path path (are.whole of.candidate of.among) (are.whole c there) (sym of.name ∙ is) in
+      (of, one_of closure.name_of cs of.candidate c (pairs_weaker Before (λ a b. closure.name_of a ≢ closure.name_of b) (λ a b before. before_apart (closure.name_of a) (closure.name_of b) before) cs are.rising) of.among there names.0, names.1)
+
+  -- The files of a module
+
+  abbrev file_in : List ℕ → Written → Option image.Named
+  file_in m r = cond (bytes_eq (module_of r.0) m) (Some (path_of r.0, r.1)) None
+
+  abbrev pub files_of : Candidate → List image.Named
+  files_of c = filter_map (file_in (closure.name_of c)) rs
+
+  file_is : (m : List ℕ) (r : Written) (f : image.Named) → file_in m r ≡ Some f → (module_of r.0 ≡ m) × ((path_of r.0, r.1) ≡ f)
+  file_is m r f is =
+      elim (chosen (bytes_eq (module_of r.0) m) (Some (path_of r.0, r.1)) None (Some f) is) [
+        | inl passes ↦ ((bytes_eq-Decides (module_of r.0) m).0 passes.0, same_some (path_of r.0, r.1) f passes.1)
+        | inr fails ↦ cc
+      ]
+
+  files_from : (c : Candidate) (path content : List ℕ) → Contains (files_of c) (path, content) → Contains rs (file_name (closure.name_of c) path, content)
+  files_from c path content there =
+      let from = from_filter_map (file_in (closure.name_of c)) rs (path, content) there in
+      let r = from.0 in
+      let is = file_is (closure.name_of c) r (path, content) from.2 in
+      let of = are.each r from.1 in
+      let whole = are.whole of.candidate of.among in
+      let named : closure.name_of of.candidate ≡ closure.name_of c = sym (module_again (closure.name_of of.candidate) of.path whole) ∙ sym (ap module_of of.name) ∙ is.0 in
+      let placed : of.path ≡ path = sym (path_again (closure.name_of of.candidate) of.path whole) ∙ sym (ap path_of of.name) ∙ ap (λ (f : image.Named). f.0) is.1 in
+      let name : r.0 ≡ file_name (closure.name_of c) path = of.name ∙ ap (λ n. file_name n of.path) named ∙ ap (file_name (closure.name_of c)) placed in
+      subst (Contains rs) (ap (λ n. (n, r.1)) name ∙ ap (λ (f : image.Named). (file_name (closure.name_of c) path, f.1)) is.1) from.1
+
+  files_there : (c : Candidate) → Contains cs c → (path content : List ℕ) → Contains rs (file_name (closure.name_of c) path, content) → Contains (files_of c) (path, content)
+  files_there c among path content there =
+      let whole = are.whole c among in
+      contains_filter_map (file_in (closure.name_of c)) rs (file_name (closure.name_of c) path, content) (path, content) there
+      (rw (module_again (closure.name_of c) path whole, path_again (closure.name_of c) path whole, (bytes_eq-Decides (closure.name_of c) (closure.name_of c)).1 refl) refl)
+
+  files_rise : (c : Candidate) → RisesByName (files_of c)
+  files_rise c =
+      pairs_filter_map (λ (e f : Written). IsFirst e.0 f.0) (λ (e f : image.Named). IsTrue (is_before e.0 f.0)) (file_in (closure.name_of c))
+      (λ r q first e f one other.
+      let is = file_is (closure.name_of c) r e one in
+      let also = file_is (closure.name_of c) q f other in
+      elim first [
+        | inl lesser ↦ absurd (before_apart (module_of r.0) (module_of q.0) lesser (is.0 ∙ sym also.0))
+        | inr same ↦ subst (λ (n : List ℕ). is_before e.0 n ≡ true) (ap (λ (x : image.Named). x.0) also.1) (subst (λ (n : List ℕ). is_before n (path_of q.0) ≡ true) (ap (λ (x : image.Named). x.0) is.1) same.1)
+      ])
+      rs strict
+
+  -- What is seen
+
+  abbrev pub see : Candidate → SeenModule
+  see c = record {
+    candidate = record { descriptor = c.descriptor; packages = class_packages (map (λ f. file_name (closure.name_of c) f.0) (files_of c)) };
+    files = files_of c;
+  }
+
+  abbrev pub seen : List SeenModule
+  seen = map see cs
+
+  -- its packages are packages of the module
+  pub only_packages : (c : Candidate) → Contains cs c → (shared : List ℕ) → Contains (see c).candidate.packages shared → Contains c.packages shared
+  only_packages c among shared there =
+      let names = map (λ (f : image.Named). file_name (closure.name_of c) f.0) (files_of c) in
+      let back = from_rising (filter_map class_package names) shared (subst (λ ps. Contains ps shared) (sym (class_packages_are names)) there) in
+      let from = from_filter_map class_package names shared back in
+      let file = from_map (λ (f : image.Named). file_name (closure.name_of c) f.0) (files_of c) from.0 from.1 in
+      let r = files_from c file.0.0 file.0.1 file.1 in
+      let of = own c among (file_name (closure.name_of c) file.0.0, file.0.1) r file.0.0 refl in
+      subst (λ (d : Candidate). Contains d.packages shared) of.1 (of.0.has_package shared (ap class_package file.2 ∙ from.2))
+
+  -- Their resources, module by module
+
+  abbrev AreFirst : Written → Written → Type 0
+  AreFirst e f = IsFirst e.0 f.0
+
+  abbrev Mine : SeenModule → Type 0
+  Mine s = (c : Candidate) × Contains cs c × (see c ≡ s)
+
+  all_mine : All Mine seen
+  all_mine = all_from_contains Mine seen (λ s there. from_map see cs s there)
+
+  pub seen_rise : AllPairs (λ (s t : SeenModule). is_before (name_of s) (name_of t) ≡ true) seen
+  seen_rise = pairs_map (λ (s t : SeenModule). is_before (name_of s) (name_of t) ≡ true) see cs are.rising
+
+  mine_whole : (s : SeenModule) → Mine s → list_any is_slash (name_of s) ≡ false
+  mine_whole s (c, among, is) = subst (λ (t : SeenModule). list_any is_slash (name_of t) ≡ false) is (are.whole c among)
+
+  mine_rise : (s : SeenModule) → Mine s → RisesByName s.files
+  mine_rise s (c, among, is) = subst (λ (t : SeenModule). RisesByName t.files) is (files_rise c)
+
+  joined_strict : AllPairs AreFirst (flat_map seen_resources seen)
+  joined_strict =
+      pairs_joined Mine (λ (s t : SeenModule). is_before (name_of s) (name_of t) ≡ true) AreFirst seen_resources
+      (λ s mine.
+      pairs_map AreFirst (resource_of (name_of s)) s.files
+      (pairs_weaker (λ (e f : image.Named). is_before e.0 f.0 ≡ true) (λ e f. AreFirst (resource_of (name_of s) e) (resource_of (name_of s) f))
+      (λ e f before. paths_first (name_of s) (name_of s) e.0 f.0 (mine_whole s mine) (mine_whole s mine) refl before)
+      s.files (mine_rise s mine)))
+      (λ s t one other before a b there too.
+      let first = from_map (resource_of (name_of s)) s.files a there in
+      let second = from_map (resource_of (name_of t)) t.files b too in
+      subst (λ (x : Written). AreFirst x b) first.2 (subst (AreFirst (resource_of (name_of s) first.0)) second.2
+      (modules_first (name_of s) (name_of t) first.0.0 second.0.0 (mine_whole s one) (mine_whole t other) before)))
+      seen all_mine seen_rise
+
+  -- they are the resources, in their order
+  pub resources_again : flat_map seen_resources seen ≡ rs
+  resources_again =
+      same_order AreFirst (λ e f one other. never_both e.0 f.0 one other) (flat_map seen_resources seen) rs joined_strict strict
+      (λ r there.
+      let from = from_flat_map seen_resources seen r there in
+      let mine = from_map see cs from.0 from.1 in
+      let file = from_map (resource_of (name_of from.0)) from.0.files r from.2 in
+      back mine.0 from.0 mine.2 r file.0 file.1 file.2)
+      (λ r there.
+      let of = are.each r there in
+      let c = of.candidate in
+      let same : (file_name (closure.name_of c) of.path, r.1) ≡ r = ap (λ n. (n, r.1)) (sym of.name) in
+      let file = files_there c of.among of.path r.1 (subst (Contains rs) (sym same) there) in
+      subst (Contains (flat_map seen_resources seen)) same
+      (contains_flat_map seen_resources seen (see c) (file_name (closure.name_of c) of.path, r.1) (contains_map see cs c of.among)
+      (contains_map (resource_of (closure.name_of c)) (files_of c) (of.path, r.1) file)))
+    where
+      back : (c : Candidate) (s : SeenModule) → see c ≡ s → (r : Written) (f : image.Named) → Contains s.files f → resource_of (name_of s) f ≡ r → Contains rs r
+      back c s is r f there made =
+          subst (Contains rs) (ap (λ (t : SeenModule). resource_of (name_of t) f) is ∙ made)
+          (files_from c f.0 f.1 (subst (λ (t : SeenModule). Contains t.files f) (sym is) there))
+
+  -- In an image
+
+  module _ (infos : (c : Candidate) → Contains cs c → (content : List ℕ) × Contains rs (info_entry (closure.name_of c), content)) (held : List image.Named) (same : (r : Written) → Contains held r ↔ Contains rs r) where
+    seen_is : (c : Candidate) → Contains cs c → IsSeenIn held (see c)
+    seen_is c among =
+        let info = infos c among in
+        let of = own c among (info_entry (closure.name_of c), info.0) info.1 info_name refl in
+        let says = of.0.says of.2 in
+        record {
+          content = info.0;
+          info = record { whole = are.whole c among; there = (same (info_entry (closure.name_of c), info.0)).1 info.1 };
+          says = says_info info.0 of.0.candidate.descriptor says ∙ ap (λ (d : Candidate). Ok d.descriptor) of.1;
+          packages = refl;
+          files = record {
+            rising = files_rise c;
+            each = λ path content. (
+              λ there. (same (file_name (closure.name_of c) path, content)).1 (files_from c path content there),
+              λ there. files_there c among path content ((same (file_name (closure.name_of c) path, content)).0 there),
+            );
+          };
+        }
+
+    pub seen_visible : IsVisibleIn held seen
+    seen_visible = record {
+      rising = seen_rise;
+      each = all_from_contains (IsSeenIn held) seen (λ s there.
+          let mine = from_map see cs s there in
+          subst (IsSeenIn held) mine.2 (seen_is mine.0 mine.1));
+      all = λ m content info.
+          let of = are.each (info_entry m, content) ((same (info_entry m, content)).0 info.there) in
+          let names = names_tell m (closure.name_of of.candidate) info_name of.path info.whole (are.whole of.candidate of.among) of.name in
+          subst (Contains (map name_of seen)) (sym names.0) (contains_map name_of seen (see of.candidate) (contains_map see cs of.candidate of.among));
+    }

@@ -1,0 +1,94 @@
+-- Relinking: what is linked of the image that a link made, of all its modules and without plug-ins,
+-- is that image (this project's rule).
+use Rattle.std.specs.Prelude.{ℕ, ◌≡◌, ◌<◌, ◌↔◌, Bool, true, false, List, [], All, Contains}
+use Rattle.std.specs.Prelude.{Option, Result, Ok, Err}
+use Rattle.jm_closure.specs.declared.candidate.Candidate.{Candidate}
+use Rattle.jm_closure.specs.Modules.{HasName}
+use Rattle.jm_outside.specs.Holds.{Holds}
+use Rattle.jm_form.specs.Layout.{names_of}
+use Rattle.jm_modpath.specs.Modules.{bytes_at, candidates, visible}
+use Rattle.jm_outside.specs.Files.{Files}
+use Rattle.jm_plugins.specs.declared.Plugin.{Plugin}
+use Rattle.jm_plugins.specs.declared.Plugin.TheVariants as plugin
+use Rattle.jm_relink.specs.Files.{info_entry}
+use Rattle.jm_relink.specs.Modules.{ModulesOf, SeenModule}
+use Rattle.jm_link.specs.declared.linking.LinkStop.{LinkStop}
+use Rattle.jm_link.specs.declared.linking.LinkStop.TheVariants as stop
+use Rattle.jm_link.specs.declared.linking.Summary.{Summary}
+use Rattle.jm_texts.specs.declared.refusal.Refusal.{Refusal}
+use Rattle.jm_link.specs.Chosen.{Chosen}
+use Rattle.jm_link.specs.ImageLinked.{ImageLinksTo, seen_candidates}
+use Rattle.jm_link.specs.Linked.{LinkedImage, LinksTo, Request}
+use Rattle.jm_link.specs.Links.{IsLaid}
+
+-- Where a link takes its modules from
+
+pub data Source : Type 0 where
+  -- the directories of a module path, on a shelf with these files
+  ModulePath : (files : Files) → (directories : List (List ℕ)) → Source
+  -- the bytes of an image
+  Image : (bytes : List ℕ) → Source
+
+-- what a link of its modules comes to
+abbrev pub LinksFrom : Source → Request → Result LinkedImage Refusal → Type 0
+LinksFrom (ModulePath files directories) asked result = LinksTo files directories asked result
+LinksFrom (Image b) asked result = ImageLinksTo b asked result
+
+-- it shows these modules
+abbrev pub Shows : Source → List Candidate → Type 0
+Shows (ModulePath files directories) found = found ≡ candidates (visible files directories)
+Shows (Image b) found =
+    (seen : List SeenModule) × ModulesOf b (Ok seen) × (found ≡ seen_candidates seen)
+
+-- all that it holds are bytes
+abbrev pub HoldsBytes : Source → Type 0
+HoldsBytes (ModulePath files directories) =
+    (path : List ℕ) → All (λ byte. byte < 256) (bytes_at files path)
+HoldsBytes (Image b) = All (λ byte. byte < 256) b
+
+-- a module of this name is linked
+abbrev pub Takes : Source → Request → List ℕ → Type 0
+Takes source asked name =
+    (found : List Candidate) × Shows source found
+    × (i : ℕ) × Chosen asked.bind found asked.roots i × HasName found i name
+
+-- Relinking
+
+-- a plug-in that leaves the resources in their order
+abbrev pub leaves_order : Plugin → Bool
+leaves_order (plugin.Order patterns) = false
+leaves_order (plugin.Exclude patterns) = true
+leaves_order plugin.Strip = true
+leaves_order plugin.Compact = true
+
+-- a link made these bytes, without an order of resources, and the descriptor of each module that it
+-- took stands in them; what is asked for is these modules, in the same byte order and no plug-in
+pub record Relinks (b : List ℕ) (asked : Request) : Type 0 where
+  pub source : Source
+  pub holds : HoldsBytes source
+  pub first : Request
+  pub image : LinkedImage
+  pub linked : LinksFrom source first (Ok image)
+  pub laid : IsLaid first.order (Ok image)
+  pub made : b ≡ image.bytes
+  pub unordered : All (λ one. leaves_order one ≡ true) first.plugins
+  pub infos : (name : List ℕ) → Takes source first name
+      → Contains (names_of image.resources) (info_entry name)
+  pub roots : (name : List ℕ) → Contains asked.roots name ↔ Takes source first name
+  pub order : asked.order ≡ first.order
+  pub plugins : asked.plugins ≡ []
+
+-- by the answer: the file at the path is these bytes; no refusal
+abbrev pub IsGivenBack : List ℕ → List ℕ → Result Summary LinkStop → (old new : Option Files)
+    → Type 0
+IsGivenBack b path (Ok summary) old new = Holds old path b new
+IsGivenBack b path (Err (stop.Refused refusal)) old new = ⊥
+IsGivenBack b path (Err (stop.NotThere listed)) old new = ⊥
+IsGivenBack b path (Err stop.Outside) old new = Unit {0}
+IsGivenBack b path (Err stop.Memory) old new = Unit {0}
+
+-- relinking an image gives it back
+abbrev pub GivesBack : List ℕ → Request → List ℕ → Result Summary LinkStop
+    → (old new : Option Files) → Type 0
+GivesBack b asked path answer old new =
+    Relinks b asked → IsGivenBack b path answer old new
