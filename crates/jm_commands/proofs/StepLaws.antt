@@ -27,7 +27,7 @@ use Rattle.jm_commands.specs.World.{AnyRose, World}
 use Rattle.jm_commands.proofs.Gotten.{front_of_nothing, gets_nothing}
 use Rattle.jm_commands.proofs.Made.{stays_all, stays_part}
 use Rattle.jm_commands.proofs.OutcomeLaws.{plain_session}
-use Rattle.jm_link.proofs.LinkingLaws.{rose_sooner}
+use Rattle.jm_outside.proofs.CountLaws.{rose_sooner}
 
 -- an error of a step, by what it was made of
 pub from_stop : (answer : Result (Unit {0}) Stop) (is : Stop) → IsErrAnd answer (λ stop. stop ≡ is) → answer ≡ Err is

@@ -18,6 +18,7 @@ use Rattle.jm_bytes.specs.Metered.{Metered}
 use Rattle.jm_reader.specs.Walk.{IsFirst, IsLater}
 use Rattle.jm_names.specs.ByName.{Named, NeverFalls, RisesByName}
 use Rattle.jm_extract.specs.Taken.{taken, is_taken, named, taken_alone, taken_among, taken_as}
+use Rattle.jm_reader.proofs.WalkLaws.{entries_differ}
 
 -- One entry after another
 
@@ -40,22 +41,12 @@ taken_step include whole old new left rest given before first put =
 
 -- The names of the entries of an image differ
 
-entries_differ : (b : List ℕ) (h : Header) → AllPairs (λ e f. e.name ≢ f.name) (entries b h)
-entries_differ b h i j d before inside same =
-    let slots = slots_rise b h i j d before inside in
-    let one = Contains-get_or (entries b h) i d (omega arith) in
-    let other = Contains-get_or (entries b h) j d inside in
-    absurd (omega (arith, slots, names_differ b h (get_or (entries b h) i d) (get_or (entries b h) j d) one other same))
-
 taken_differ_with : (include : Option (List (List Sign))) (b : List ℕ) (header : Result Header HeaderFault) → AllPairs Differ (taken_among include (entries_with b header))
 taken_differ_with include b (Err fault) = pairs_none Differ
 taken_differ_with include b (Ok h) = AllPairs-filter Differ (λ e. is_taken include e.0) (map named (entries b h)) (pairs_map Differ named (entries b h) (entries_differ b h))
 
 pub taken_differ : (include : Option (List (List Sign))) (b : List ℕ) → AllPairs Differ (taken_among include (entries_of b))
 taken_differ include b = taken_differ_with include b (header_of b)
-
-pub later_further : (first second third : Metered) → IsLater first second → IsLater second third → IsLater first third
-later_further first second third one other = record { bytes = other.bytes ∙ one.bytes; count = omega (arith, one.count, other.count) }
 
 -- the taken entries, sorted
 pub taken_sorted : (include : Option (List (List Sign))) (b : List ℕ) (ts us : List TakenEntry) → map taken_as ts ≡ taken_among include (entries_of b) → IsPermutation ts us → NeverFalls (map taken_as us) → map taken_as us ≡ taken b include

@@ -18,6 +18,7 @@ use Rattle.jm_closure.specs.Refusals.{AreChosen}
 use Rattle.jm_link.specs.Closing.{ClosesWith}
 use Rattle.jm_link.proofs.FileLaws.{got}
 use Rattle.jm_bytes.proofs.ByteOrderLaws.{less}
+use Rattle.jm_bytes.proofs.Members.{element_at}
 
 named_below : (found : List Candidate) (i : ℕ) (name : List ℕ) → HasName found i name → i < length found
 named_below found i name (c, is, named) = slice_get_within found i c is
@@ -34,11 +35,6 @@ bound_below found roots j bound = let all = from_range 0 (length found) j (bound
       required = λ i k has required. inside k (named_below found k required.0 required.2);
       served = λ i k has served. inside k (slice_get_within found k served.2.0 served.2.1);
     }
-
-there : {X : Type 0} (xs : List X) (i : ℕ) → i < length xs → (x : X) × (slice_get xs i ≡ Some x)
-there [] i within = absurd (omega (arith, within))
-there (x ∷ xs) zero within = (x, refl)
-there (x ∷ xs) (suc i) within = there xs i (omega (arith, within))
 
 never_less : (name : List ℕ) → slice_cmp nat_cmp name name ≡ Less → ⊥
 never_less name is = not_both (sym is ∙ nat_list_cmp_total.antisymm name name ∙ ap ordering_reverse is)
@@ -79,8 +75,8 @@ module _ (found : List Candidate) (Chosen : ℕ → Type 0) (places : List ℕ) 
 
   at : (k : ℕ) → k < length places → (i : ℕ) × IsAt k i
   at k inside =
-      let one = there places k inside in
-      let held = there found one.0 (within one.0 (got places k one.0 one.1)) in
+      let one = element_at places k inside in
+      let held = element_at found one.0 (within one.0 (got places k one.0 one.1)) in
       (one.0, record { candidate = held.0; place = one.1; is = held.1 })
 
   rises : (k n : ℕ) → k + suc n < length places → (i j : ℕ) (one : IsAt k i) (other : IsAt (k + suc n) j) → slice_cmp nat_cmp (name_of one.candidate) (name_of other.candidate) ≡ Less

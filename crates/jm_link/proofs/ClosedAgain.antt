@@ -15,21 +15,23 @@ use Rattle.jm_closure.proofs.OnceLaws.{reached_found}
 use Rattle.jm_closure.proofs.ReachLaws.{leads_more}
 use Rattle.jm_closure.specs.Modules.{IsFound, IsRoot, Leads, Requires, name_of, needed_by, required_by}
 use Rattle.jm_closure.specs.Refusals.{AreChosen, Closes, Holds, IsAcyclic, IsUnsplit, NeedsFound, RootsFound}
-use Rattle.jm_relink.proofs.ListLaws.{mapped_some}
+use Rattle.jm_bytes.proofs.Choice.{mapped_some}
 use Rattle.jm_link.specs.Chosen.{Chosen}
-use Rattle.jm_link.proofs.ChosenLaws.{below, bound_below, places_by_name}
+use Rattle.jm_link.proofs.ChosenLaws.{bound_below, places_by_name}
 use Rattle.jm_link.proofs.FileLaws.{got}
 use Rattle.jm_link.proofs.SeenAgain.{Before}
+use Rattle.jm_bytes.proofs.Members.{element_at}
+use Rattle.std.proofs.lemmas.Option.{slice_get_within}
 
 -- Places
 
 pub pairs_at : {X : Type 0} (R : X → X → Type 0) (xs : List X) → AllPairs R xs → (i j : ℕ) (x y : X) → slice_get xs i ≡ Some x → slice_get xs j ≡ Some y → i < j → R x y
 pairs_at R xs pairs i j x y one other less =
-    let up = pairs i j x less (below xs j y other) in
+    let up = pairs i j x less (slice_get_within xs j y other) in
     rw (at i x one, at j y other) at up
   where
     at : (k : ℕ) (z : _) → slice_get xs k ≡ Some z → get_or xs k x ≡ z
-    at k z is = same_some _ _ (sym (slice_get-get_or xs k x (below xs k z is)) ∙ is)
+    at k z is = same_some _ _ (sym (slice_get-get_or xs k x (slice_get_within xs k z is)) ∙ is)
 
 place_of : {X : Type 0} (xs : List X) (x : X) → Contains xs x → (i : ℕ) × (slice_get xs i ≡ Some x)
 place_of [] x there = absurd (contains_none x there)
@@ -39,18 +41,13 @@ place_of (y ∷ xs) x there =
       | inr later ↦ let at = place_of xs x later in (suc at.0, at.1)
     ]
 
-pub there : {X : Type 0} (xs : List X) (i : ℕ) → i < length xs → (x : X) × (slice_get xs i ≡ Some x)
-there [] i inside = absurd (omega (arith, inside))
-there (x ∷ xs) zero inside = (x, refl)
-there (x ∷ xs) (suc i) inside = there xs i (omega (arith, inside))
-
 -- an item at a place among those that some places give
 pub at_place : {X : Type 0} (xs : List X) (places : List ℕ) → ((i : ℕ) → Contains places i → i < length xs) → (k : ℕ) (x : X) → slice_get (filter_map (slice_get xs) places) k ≡ Some x → (i : ℕ) × (slice_get places k ≡ Some i) × (slice_get xs i ≡ Some x)
 at_place xs [] inside k x is = cc
 at_place {X = X} xs (p ∷ places) inside k x is = go k (rw held.1 at is) (λ l later. at_place xs places (λ i among. inside i (contains_later p places i among)) l x later)
   where
     held : (y : X) × (slice_get xs p ≡ Some y)
-    held = there xs p (inside p (contains_here p places))
+    held = element_at xs p (inside p (contains_here p places))
 
     go : (k : ℕ) → slice_get (held.0 ∷ filter_map (slice_get xs) places) k ≡ Some x → ((l : ℕ) → slice_get (filter_map (slice_get xs) places) l ≡ Some x → (i : ℕ) × (slice_get places l ≡ Some i) × (slice_get xs i ≡ Some x)) → (i : ℕ) × (slice_get (p ∷ places) k ≡ Some i) × (slice_get xs i ≡ Some x)
     go zero first behind = (p, refl, held.1 ∙ first)
@@ -58,7 +55,7 @@ at_place {X = X} xs (p ∷ places) inside k x is = go k (rw held.1 at is) (λ l 
 
 range_at : (n k i : ℕ) → slice_get (range_with_len 0 n) k ≡ Some i → i ≡ k
 range_at n k i is =
-    let inside = below (range_with_len 0 n) k i is in
+    let inside = slice_get_within (range_with_len 0 n) k i is in
     let long = length-range_with_len 0 n in
     same_some i k (sym is ∙ slice_get-get_or (range_with_len 0 n) k 0 inside ∙ ap Some (get_or-range_with_len 0 n k 0 (omega (arith, inside, long)) ∙ omega arith))
 
@@ -209,7 +206,7 @@ module _ (found : List Candidate) (Taken : ℕ → Type 0) (places : List ℕ) (
 
       all_again : (k : ℕ) → k < length found_again → Again k
       all_again k less =
-          let held = there found_again k less in
+          let held = element_at found_again k less in
           let w = was k held.0 held.1 in
           root_chosen bind found_again roots k (name_of w.candidate, rooted w.candidate w.among, (held.0, held.1, ap name_of (sym w.here) ∙ name_same w.candidate))
 

@@ -16,10 +16,7 @@ use Rattle.jm_writer.proofs.LaidOut.{laid_out}
 use Rattle.jm_texts.specs.declared.refusal.Refusal.{Refusal}
 use Rattle.jm_texts.specs.declared.refusal.Refusal.TheVariants as refusal
 use Rattle.jm_link.specs.Linked.{image_with, layout_refusal, size_refusal}
-
-map_none : {A B : Type 0} (f : A → B) (o : Option A) → option_map f o ≡ None → o ≡ None
-map_none f None e = refl
-map_none f (Some a) e = cc
+use Rattle.jm_bytes.proofs.Choice.{mapped_none}
 
 -- the checks behind the third, the second and the first
 abbrev behind_table : Order → List Written → List (Option Refusal)
@@ -38,7 +35,7 @@ behind_clash order resources =
 module _ (order : Order) (resources : List Written) (free : layout_refusal order resources ≡ None) where
   -- no name is that of another's folder
   apart : first_clash (names_of resources) ≡ None
-  apart = map_none (λ name. refusal.Clash name) (first_clash (names_of resources)) (no_fault_head (option_map (λ name. refusal.Clash name) (first_clash (names_of resources))) (behind_clash order resources) free)
+  apart = mapped_none (λ name. refusal.Clash name) (first_clash (names_of resources)) (no_fault_head (option_map (λ name. refusal.Clash name) (first_clash (names_of resources))) (behind_clash order resources) free)
 
   -- the image by the table is within the limit
   within : option_and_then (size_refusal order resources) (layout_table resources) ≡ None

@@ -37,6 +37,7 @@ use Rattle.jm_link.specs.Resources.{link_files, resources_in, resources_of}
 use Rattle.jm_texts.specs.NameRefusals.{first_bad_name, name_refusal}
 use Rattle.jm_link.specs.Stops.{stop_of_path}
 use Rattle.jm_link.specs.Written.{WritesImage, WritesPart}
+use Rattle.jm_outside.proofs.CountLaws.{rose_sooner}
 
 -- the same of results that are others' too, and where the same isn't there
 pub links_as : (One Other : Result LinkedImage Refusal → Type 0) (Absent Missing : Type 0) (path : List ℕ) (answer : Result Summary LinkStop) (old new : Option Files) (faults new_faults : ℕ) → ((r : Result LinkedImage Refusal) → One r → Other r) → (Absent → Missing) → LinksBy One Absent path answer old new faults new_faults → LinksBy Other Missing path answer old new faults new_faults
@@ -157,11 +158,6 @@ module _ (told : Option Files) (asked : Request) (found : List VisibleModule) wh
       go : (t : Option Files) → LinksBy (FoundComesTo t asked found) (TellsNothing t) path (Err given) t t faults faults
       go None = stopped_among asked (candidates found) (λ places. []) (FoundComesTo None asked found) (TellsNothing None) given path None faults (λ r is. tt) closes
       go (Some files) = stopped_among asked (candidates found) (resources_in files found) (FoundComesTo (Some files) asked found) (TellsNothing (Some files)) given path (Some files) faults (λ r is. (is, tt)) closes
-
--- a count that rose from a later value rose from an earlier one
-pub rose_sooner : (first old new : ℕ) → first ≤ old → Rose old new → Rose first new
-rose_sooner first old new sooner (inl more) = inl (omega (arith, sooner, more))
-rose_sooner first old new sooner (inr last) = inr last
 
 -- the same from before some calls that changed no file
 pub links_sooner : (Comes : Result LinkedImage Refusal → Type 0) (Absent : Type 0) (path : List ℕ) (answer : Result Summary LinkStop) (old new : Option Files) (first faults new_faults : ℕ) → first ≤ faults → LinksBy Comes Absent path answer old new faults new_faults → LinksBy Comes Absent path answer old new first new_faults

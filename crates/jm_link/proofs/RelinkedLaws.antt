@@ -36,11 +36,12 @@ use Rattle.jm_link.specs.ImageLinked.{ImageLinksTo, resources_seen, seen_candida
 use Rattle.jm_link.specs.Linked.{IsClosedTo, IsFoundTo, IsGatheredTo, IsLinkedOf, IsPluggedTo, LinkedImage, LinksAmong, Request, image_with, laid_out, layout_refusal}
 use Rattle.jm_link.specs.Relinked.{leaves_order}
 use Rattle.jm_texts.specs.NameRefusals.{first_bad_name, name_refusal}
-use Rattle.jm_link.proofs.ClosedAgain.{chosen_further, closes_again, found_again, taken, there}
+use Rattle.jm_link.proofs.ClosedAgain.{chosen_further, closes_again, found_again, taken}
 use Rattle.jm_link.proofs.FileLaws.{free_names, got}
 use Rattle.jm_link.proofs.FileOrder.{IsFirstOrOne}
 use Rattle.jm_link.proofs.KeptLaws.{AreKept, applied}
 use Rattle.jm_link.proofs.SeenAgain.{AreOf, kept_of, only_packages, resources_again, see, seen, seen_visible}
+use Rattle.jm_bytes.proofs.Members.{element_at}
 
 -- Parts of a link that made an image
 
@@ -154,7 +155,7 @@ all_from front (x ∷ xs) =
 count_taken : {X : Type 0} (xs : List X) (places : List ℕ) → ((i : ℕ) → Contains places i → i < length xs) → length (filter_map (slice_get xs) places) ≡ length places
 count_taken xs [] within = refl
 count_taken xs (p ∷ places) within =
-    let held = there xs p (within p (contains_here p places)) in
+    let held = element_at xs p (within p (contains_here p places)) in
     rw held.1 (ap suc (count_taken xs places (λ i among. within i (contains_later p places i among))))
 
 -- Once more

@@ -41,7 +41,7 @@ use Rattle.jm_relink.specs.Files.{file_name, info_entry}
 use Rattle.jm_relink.specs.Files as image
 use Rattle.jm_relink.specs.Gathering.{resource_of}
 use Rattle.jm_relink.specs.Modules.{IsSeenIn, IsVisibleIn, SeenModule, name_of}
-use Rattle.jm_relink.proofs.ListLaws.{mapped_some}
+use Rattle.jm_bytes.proofs.Choice.{mapped_some}
 use Rattle.jm_relink.proofs.ModuleLaws.{one_content, resources_differ}
 use Rattle.jm_names.specs.ByName.{Named}
 use Rattle.jm_link.specs.ImageLinked.{resources_seen, seen_candidates, seen_resources}

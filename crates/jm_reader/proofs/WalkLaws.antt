@@ -1,12 +1,14 @@
 -- The entries of the slots from one on: that slot's, and those of the slots behind it.
-use Rattle.std.proofs.Common.{◌≡◌, ℕ, suc, ◌+◌, ◌-◌, ◌<◌, List, [], ◌∷◌, ◌++◌, Ok, sym, ap, ◌∙◌, arith}
-use Rattle.std.proofs.lemmas.List.Elements.{filter-append, filter_map-append}
+use Rattle.std.proofs.Common.{◌≡◌, ◌≢◌, ℕ, suc, ◌+◌, ◌-◌, ◌<◌, List, [], ◌∷◌, ◌++◌, get_or, AllPairs, Ok, sym, ap, ◌∙◌, arith}
+use Rattle.std.proofs.lemmas.List.Elements.{Contains-get_or, filter-append, filter_map-append}
 use Rattle.std.specs.List.{filter, filter_map, range_with_len}
+use Rattle.jm_bytes.specs.Metered.{Metered}
 use Rattle.jm_form.specs.declared.container.Header.{Header}
-use Rattle.jm_form.specs.Entries.{entry_at, is_reached}
+use Rattle.jm_form.specs.Entries.{entries, entry_at, is_reached}
 use Rattle.jm_form.specs.Head.{header_of}
+use Rattle.jm_form.proofs.EntryLaws.{names_differ, slots_rise}
 use Rattle.jm_reader.specs.declared.entries.Entry as handed
-use Rattle.jm_reader.specs.Walk.{entries_from, entries_to_come, to_come_with, entries_in, entry_alone, IsFirst}
+use Rattle.jm_reader.specs.Walk.{entries_from, entries_to_come, to_come_with, entries_in, entry_alone, IsFirst, IsLater}
 
 from_more : (b : List ℕ) (h : Header) (slot : ℕ) → slot < h.length → entries_from b h slot ≡ entry_alone b h slot ++ entries_from b h (slot + 1)
 from_more b h slot below =
@@ -41,3 +43,18 @@ first_to_come b h start slot given header below rest alone same = record {
   name = alone.name;
   content = alone.content;
 }
+
+-- All of them
+
+-- the entries of an image have different names
+pub entries_differ : (b : List ℕ) (h : Header) → AllPairs (λ e f. e.name ≢ f.name) (entries b h)
+entries_differ b h i j d before inside same =
+    let slots = slots_rise b h i j d before inside in
+    let one = Contains-get_or (entries b h) i d (omega arith) in
+    let other = Contains-get_or (entries b h) j d inside in
+    absurd (omega (arith, slots, names_differ b h (get_or (entries b h) i d) (get_or (entries b h) j d) one other same))
+
+-- Meters
+
+pub later_further : (first second third : Metered) → IsLater first second → IsLater second third → IsLater first third
+later_further first second third one other = record { bytes = other.bytes ∙ one.bytes; count = omega (arith, one.count, other.count) }

@@ -46,9 +46,6 @@ located_step whole old new left rest given before first put =
     ∙ ap (λ (p : Named). (old ++ located_alone p) ++ filter_map located (resources rest)) (sym pair)
     ∙ ap (λ es. es ++ filter_map located (resources rest)) (sym put)
 
-pub later_further : (first second third : Metered) → IsLater first second → IsLater second third → IsLater first third
-later_further first second third one other = record { bytes = other.bytes ∙ one.bytes; count = omega (arith, one.count, other.count) }
-
 -- The order of a sort
 
 filed_total : IsTotalOrder filed_cmp

@@ -39,18 +39,12 @@ use Rattle.jm_relink.proofs.NameLaws.{file_of_parts, parts_of_file}
 use Rattle.jm_bytes.proofs.ByteOrderLaws.{before_apart, one_way}
 use Rattle.jm_names.proofs.KeyLaws.{differ_moved}
 use Rattle.jm_relink.proofs.PackageLaws.{packages_are}
+use Rattle.jm_reader.proofs.WalkLaws.{entries_differ}
 
 -- The names of the entries of an image differ
 
 abbrev pub Differ : List Named → Type 0
 Differ rs = AllPairs (λ e f. e.0 ≢ f.0) rs
-
-entries_differ : (b : List ℕ) (h : Header) → AllPairs (λ e f. e.name ≢ f.name) (entries b h)
-entries_differ b h i j d before inside same =
-    let slots = slots_rise b h i j d before inside in
-    let one = Contains-get_or (entries b h) i d (omega arith) in
-    let other = Contains-get_or (entries b h) j d inside in
-    absurd (omega (arith, slots, names_differ b h (get_or (entries b h) i d) (get_or (entries b h) j d) one other same))
 
 differ_with : (b : List ℕ) (header : Result Header HeaderFault) → Differ (resources (entries_with b header))
 differ_with b (Err fault) = pairs_none (λ (e f : Named). e.0 ≢ f.0)

@@ -1,8 +1,9 @@
 use Rattle.std.proofs.Common.{◌∙◌, map}
 use Rattle.jm_reader.specs.Walk.{entries_of}
 use Rattle.jm_extract.specs.Taken.{taken_among, taken_as}
-use Rattle.jm_extract.proofs.TakingLaws.{later_further, taken_step}
+use Rattle.jm_extract.proofs.TakingLaws.{taken_step}
 use Rattle.jm_extract.proofs.taking.taken_by_slot.Goals as goal
+use Rattle.jm_reader.proofs.WalkLaws.{later_further}
 
 pub loop-entry-preserved : goal.loop-entry-preserved
 loop-entry-preserved g c =

@@ -1,8 +1,9 @@
 use Rattle.std.proofs.Common.{◌∙◌, map}
 use Rattle.std.specs.List.{filter_map}
 use Rattle.jm_relink.specs.Files.{located, located_as, resources_of}
-use Rattle.jm_relink.proofs.FileLaws.{later_further, located_step}
+use Rattle.jm_relink.proofs.FileLaws.{located_step}
 use Rattle.jm_relink.proofs.located.located_by_slot.Goals as goal
+use Rattle.jm_reader.proofs.WalkLaws.{later_further}
 
 pub loop-entry-preserved : goal.loop-entry-preserved
 loop-entry-preserved g c =
