@@ -19,8 +19,8 @@ pub record ShowsTrees (b : List ℕ) (resources : List (List ℕ × List ℕ)) :
   pub stats : (path : List ℕ) → stat b path ≡ ok_or (tree resources path) NotThere
   pub owners : (path : List ℕ) → owner b path ≡ full_owner (tree resources path)
 
--- for all resources for which the image stands and whose nodes it has, this is what their trees have
--- at the path
+-- for all resources for which the image stands and whose nodes it has, this is what their trees
+-- have at the path
 abbrev pub IsItemOfTrees : List ℕ → List ℕ → Result TreeItem JrtError → Type 0
 IsItemOfTrees b path item =
     (m : List (List ℕ × List ℕ)) → Stands b m → NodesOf b (names_of m)
