@@ -16,6 +16,7 @@ use crate::tables::{
 };
 use crate::values::is_of_form;
 use jm_bytes::{List, NoMemory};
+use jm_names::cut_at_first;
 use std::alloc::Global;
 use std::marker::Model;
 
