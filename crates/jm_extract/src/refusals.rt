@@ -7,8 +7,7 @@ ghost use Rattle.jm_extract.specs.Extracted.{begins, clash_refusal, first_clash,
 ghost use Rattle.jm_extract.specs.Taken.{taken_as};
 
 use crate::taking::TakenEntry;
-use jm_bytes::{NoMemory, Text};
-use jm_bytes::is_before;
+use jm_bytes::{NoMemory, Text, is_before};
 use jm_texts::{Refusal, first_bad_name};
 use std::alloc::Global;
 

@@ -5,8 +5,7 @@ ghost use Rattle.jm_texts.specs.NameRefusals.{first_bad_name, name_refusal};
 
 use crate::refusal::Refusal;
 use jm_bytes::{NoMemory, Text};
-use jm_names::check_name;
-use jm_names::HasName;
+use jm_names::{HasName, check_name};
 use std::alloc::Global;
 
 /// The refusal of an item whose name may not stand in an image.
