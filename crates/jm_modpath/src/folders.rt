@@ -13,7 +13,7 @@ ghost use Rattle.jm_modpath.specs.Modules.{folder_with_info};
 ghost use Rattle.jm_modpath.specs.TextView.{items_of};
 
 use crate::rising::rising;
-use jm_bytes::{List, NoMemory, Text, copy_of, is_before, is_before};
+use jm_bytes::{List, NoMemory, Text, copy_of, is_before};
 use jm_names::cut_at_first;
 use std::alloc::Global;
 
