@@ -11,6 +11,7 @@ use Rattle.jm_bytes.proofs.Firsts.{position_below}
 use Rattle.jm_bytes.proofs.Members.{all_filter_map}
 use Rattle.jm_names.specs.Names.{is_slash}
 use Rattle.jm_outside.specs.Files.{after_front}
+use Rattle.jm_outside.proofs.Names.{front_of}
 use Rattle.jm_modpath.specs.Finding.{folders_among, names_within}
 use Rattle.jm_modpath.specs.Modules.{folder_with_info, inside}
 use Rattle.jm_modpath.proofs.SetLaws.{rising_all}
