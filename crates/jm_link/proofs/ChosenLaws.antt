@@ -121,8 +121,8 @@ module _ (found : List Candidate) (Chosen : ℕ → Type 0) (places : List ℕ) 
       let behind : k + suc (l - k - 1) ≡ l = omega (arith, before) in
       let far : IsAt (k + suc (l - k - 1)) other.0 = subst (λ m. IsAt m other.0) (sym behind) other.1 in
       let less = rises k (l - k - 1) (omega (arith, before, inside)) one.0 other.0 one.1 far in
-      let first : one.1.candidate ≡ a = same_some one.1.candidate a (sym one.1.is ∙ ap (slice_get found) (sym (got_same places k one.0 d one.1.place)) ∙ is) in
-      let second : far.candidate ≡ b = same_some far.candidate b (sym far.is ∙ ap (slice_get found) (sym (got_same places l other.0 d other.1.place)) ∙ also) in
+      let first : one.1.candidate ≡ a = same_some one.1.candidate a (sym one.1.is ∙ ap (slice_get found) (sym (get_or_from_slice_get places k one.0 d one.1.place)) ∙ is) in
+      let second : far.candidate ≡ b = same_some far.candidate b (sym far.is ∙ ap (slice_get found) (sym (get_or_from_slice_get places l other.0 d other.1.place)) ∙ also) in
       subst (λ c. slice_cmp nat_cmp (name_of a) (name_of c) ≡ Less) second (subst (λ c. slice_cmp nat_cmp (name_of c) (name_of far.candidate) ≡ Less) first less)
 
 -- the places of a closure

@@ -19,8 +19,9 @@ use Rattle.jm_modinfo.specs.ComputedInfo.{info_of}
 use Rattle.jm_plugins.specs.declared.Plugin.{Plugin}
 use Rattle.jm_plugins.specs.declared.Plugin.TheVariants as plugin
 use Rattle.jm_plugins.specs.declared.chain.ApplyError.{ApplyError}
-use Rattle.jm_plugins.specs.Matching.{matches_any}
-use Rattle.jm_plugins.specs.Plugins.{act, apply, followed, remade, remade_pair, remade_pairs, stripped_text}
+use Rattle.jm_pattern.specs.ComputedMatching.{matches_any}
+use Rattle.jm_bytes.specs.Results.{followed}
+use Rattle.jm_plugins.specs.Plugins.{act, apply, remade, remade_pair, remade_pairs, stripped_text}
 use Rattle.jm_link.specs.Relinked.{leaves_order}
 use Rattle.jm_link.proofs.SaidLaws.{Says, compacted_says, stripped_says}
 

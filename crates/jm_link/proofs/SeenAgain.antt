@@ -14,7 +14,7 @@ use Rattle.jm_closure.specs.Modules as closure
 use Rattle.jm_form.specs.Layout.{Written}
 use Rattle.jm_form.specs.Trees.{class_packages, module_of, path_of}
 use Rattle.jm_bytes.specs.ByteOrder.{is_before}
-use Rattle.jm_modpath.specs.Finding.{class_package}
+use Rattle.jm_modpath.specs.Finding.{named_package}
 use Rattle.jm_modpath.specs.Modules.{info_name}
 use Rattle.jm_modpath.proofs.PackageLaws.{class_packages_are}
 use Rattle.jm_form.proofs.RisingLaws.{from_rising}
@@ -22,7 +22,6 @@ use Rattle.jm_names.specs.Names.{is_slash}
 use Rattle.jm_nodes.proofs.SoundLaws.{module_again, path_again}
 use Rattle.jm_relink.specs.Files.{file_name, info_entry}
 use Rattle.jm_names.specs.ByName.{RisesByName}
-use Rattle.jm_relink.specs.Files as image
 use Rattle.jm_relink.specs.Gathering.{resource_of}
 use Rattle.jm_relink.specs.Modules.{IsSeenIn, IsVisibleIn, SeenModule, name_of}
 use Rattle.jm_relink.proofs.ListLaws.{one_of}
@@ -43,7 +42,7 @@ pub record IsOf (cs : List Candidate) (r : Written) : Type 0 where
   pub path : List ℕ
   pub among : Contains cs candidate
   pub name : r.0 ≡ file_name (closure.name_of candidate) path
-  pub has_package : (shared : List ℕ) → class_package r.0 ≡ Some shared → Contains candidate.packages shared
+  pub has_package : (shared : List ℕ) → named_package r.0 ≡ Some shared → Contains candidate.packages shared
   pub says : path ≡ info_name → Says r.1 candidate.descriptor
 
 -- resources of some modules, by module and then by path
@@ -66,7 +65,7 @@ kept_of cs old new kept are = record {
         path = of.path;
         among = of.among;
         name = sym one.name ∙ of.name;
-        has_package = λ shared is. of.has_package shared (ap class_package one.name ∙ is);
+        has_package = λ shared is. of.has_package shared (ap named_package one.name ∙ is);
         says = λ is. one.says of.candidate.descriptor (of.says is);
       };
   order = kept.order are.order;
@@ -85,13 +84,13 @@ module _ (cs : List Candidate) (rs : List Written) (are : AreOf cs rs) (differ :
 
   -- The files of a module
 
-  abbrev file_in : List ℕ → Written → Option image.Named
+  abbrev file_in : List ℕ → Written → Option Named
   file_in m r = cond (bytes_eq (module_of r.0) m) (Some (path_of r.0, r.1)) None
 
-  abbrev pub files_of : Candidate → List image.Named
+  abbrev pub files_of : Candidate → List Named
   files_of c = filter_map (file_in (closure.name_of c)) rs
 
-  file_is : (m : List ℕ) (r : Written) (f : image.Named) → file_in m r ≡ Some f → (module_of r.0 ≡ m) × ((path_of r.0, r.1) ≡ f)
+  file_is : (m : List ℕ) (r : Written) (f : Named) → file_in m r ≡ Some f → (module_of r.0 ≡ m) × ((path_of r.0, r.1) ≡ f)
   file_is m r f is =
       elim (chosen (bytes_eq (module_of r.0) m) (Some (path_of r.0, r.1)) None (Some f) is) [
         | inl passes ↦ ((bytes_eq-Decides (module_of r.0) m).0 passes.0, same_some (path_of r.0, r.1) f passes.1)
@@ -106,9 +105,9 @@ module _ (cs : List Candidate) (rs : List Written) (are : AreOf cs rs) (differ :
       let of = are.each r from.1 in
       let whole = are.whole of.candidate of.among in
       let named : closure.name_of of.candidate ≡ closure.name_of c = sym (module_again (closure.name_of of.candidate) of.path whole) ∙ sym (ap module_of of.name) ∙ is.0 in
-      let placed : of.path ≡ path = sym (path_again (closure.name_of of.candidate) of.path whole) ∙ sym (ap path_of of.name) ∙ ap (λ (f : image.Named). f.0) is.1 in
+      let placed : of.path ≡ path = sym (path_again (closure.name_of of.candidate) of.path whole) ∙ sym (ap path_of of.name) ∙ ap (λ (f : Named). f.0) is.1 in
       let name : r.0 ≡ file_name (closure.name_of c) path = of.name ∙ ap (λ n. file_name n of.path) named ∙ ap (file_name (closure.name_of c)) placed in
-      subst (Contains rs) (ap (λ n. (n, r.1)) name ∙ ap (λ (f : image.Named). (file_name (closure.name_of c) path, f.1)) is.1) from.1
+      subst (Contains rs) (ap (λ n. (n, r.1)) name ∙ ap (λ (f : Named). (file_name (closure.name_of c) path, f.1)) is.1) from.1
 
   files_there : (c : Candidate) → Contains cs c → (path content : List ℕ) → Contains rs (file_name (closure.name_of c) path, content) → Contains (files_of c) (path, content)
   files_there c among path content there =
@@ -118,13 +117,13 @@ module _ (cs : List Candidate) (rs : List Written) (are : AreOf cs rs) (differ :
 
   files_rise : (c : Candidate) → RisesByName (files_of c)
   files_rise c =
-      pairs_filter_map (λ (e f : Written). IsFirst e.0 f.0) (λ (e f : image.Named). IsTrue (is_before e.0 f.0)) (file_in (closure.name_of c))
+      pairs_filter_map (λ (e f : Written). IsFirst e.0 f.0) (λ (e f : Named). IsTrue (is_before e.0 f.0)) (file_in (closure.name_of c))
       (λ r q first e f one other.
       let is = file_is (closure.name_of c) r e one in
       let also = file_is (closure.name_of c) q f other in
       elim first [
         | inl lesser ↦ absurd (before_apart (module_of r.0) (module_of q.0) lesser (is.0 ∙ sym also.0))
-        | inr same ↦ subst (λ (n : List ℕ). is_before e.0 n ≡ true) (ap (λ (x : image.Named). x.0) also.1) (subst (λ (n : List ℕ). is_before n (path_of q.0) ≡ true) (ap (λ (x : image.Named). x.0) is.1) same.1)
+        | inr same ↦ subst (λ (n : List ℕ). is_before e.0 n ≡ true) (ap (λ (x : Named). x.0) also.1) (subst (λ (n : List ℕ). is_before n (path_of q.0) ≡ true) (ap (λ (x : Named). x.0) is.1) same.1)
       ])
       rs strict
 
@@ -142,13 +141,13 @@ module _ (cs : List Candidate) (rs : List Written) (are : AreOf cs rs) (differ :
   -- its packages are packages of the module
   pub only_packages : (c : Candidate) → Contains cs c → (shared : List ℕ) → Contains (see c).candidate.packages shared → Contains c.packages shared
   only_packages c among shared there =
-      let names = map (λ (f : image.Named). file_name (closure.name_of c) f.0) (files_of c) in
-      let back = from_rising (filter_map class_package names) shared (subst (λ ps. Contains ps shared) (sym (class_packages_are names)) there) in
-      let from = from_filter_map class_package names shared back in
-      let file = from_map (λ (f : image.Named). file_name (closure.name_of c) f.0) (files_of c) from.0 from.1 in
+      let names = map (λ (f : Named). file_name (closure.name_of c) f.0) (files_of c) in
+      let back = from_rising (filter_map named_package names) shared (subst (λ ps. Contains ps shared) (sym (class_packages_are names)) there) in
+      let from = from_filter_map named_package names shared back in
+      let file = from_map (λ (f : Named). file_name (closure.name_of c) f.0) (files_of c) from.0 from.1 in
       let r = files_from c file.0.0 file.0.1 file.1 in
       let of = own c among (file_name (closure.name_of c) file.0.0, file.0.1) r file.0.0 refl in
-      subst (λ (d : Candidate). Contains d.packages shared) of.1 (of.0.has_package shared (ap class_package file.2 ∙ from.2))
+      subst (λ (d : Candidate). Contains d.packages shared) of.1 (of.0.has_package shared (ap named_package file.2 ∙ from.2))
 
   -- Their resources, module by module
 
@@ -175,7 +174,7 @@ module _ (cs : List Candidate) (rs : List Written) (are : AreOf cs rs) (differ :
       pairs_joined Mine (λ (s t : SeenModule). is_before (name_of s) (name_of t) ≡ true) AreFirst seen_resources
       (λ s mine.
       pairs_map AreFirst (resource_of (name_of s)) s.files
-      (pairs_weaker (λ (e f : image.Named). is_before e.0 f.0 ≡ true) (λ e f. AreFirst (resource_of (name_of s) e) (resource_of (name_of s) f))
+      (pairs_weaker (λ (e f : Named). is_before e.0 f.0 ≡ true) (λ e f. AreFirst (resource_of (name_of s) e) (resource_of (name_of s) f))
       (λ e f before. paths_first (name_of s) (name_of s) e.0 f.0 (mine_whole s mine) (mine_whole s mine) refl before)
       s.files (mine_rise s mine)))
       (λ s t one other before a b there too.
@@ -203,14 +202,14 @@ module _ (cs : List Candidate) (rs : List Written) (are : AreOf cs rs) (differ :
       (contains_flat_map seen_resources seen (see c) (file_name (closure.name_of c) of.path, r.1) (contains_map see cs c of.among)
       (contains_map (resource_of (closure.name_of c)) (files_of c) (of.path, r.1) file)))
     where
-      back : (c : Candidate) (s : SeenModule) → see c ≡ s → (r : Written) (f : image.Named) → Contains s.files f → resource_of (name_of s) f ≡ r → Contains rs r
+      back : (c : Candidate) (s : SeenModule) → see c ≡ s → (r : Written) (f : Named) → Contains s.files f → resource_of (name_of s) f ≡ r → Contains rs r
       back c s is r f there made =
           subst (Contains rs) (ap (λ (t : SeenModule). resource_of (name_of t) f) is ∙ made)
           (files_from c f.0 f.1 (subst (λ (t : SeenModule). Contains t.files f) (sym is) there))
 
   -- In an image
 
-  module _ (infos : (c : Candidate) → Contains cs c → (content : List ℕ) × Contains rs (info_entry (closure.name_of c), content)) (held : List image.Named) (same : (r : Written) → Contains held r ↔ Contains rs r) where
+  module _ (infos : (c : Candidate) → Contains cs c → (content : List ℕ) × Contains rs (info_entry (closure.name_of c), content)) (held : List Named) (same : (r : Written) → Contains held r ↔ Contains rs r) where
     seen_is : (c : Candidate) → Contains cs c → IsSeenIn held (see c)
     seen_is c among =
         let info = infos c among in

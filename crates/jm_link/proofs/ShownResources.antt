@@ -27,7 +27,7 @@ use Rattle.jm_modinfo.specs.declared.descriptor.Descriptor.{Descriptor}
 use Rattle.jm_modinfo.specs.declared.faults.DescriptorFault.{DescriptorFault}
 use Rattle.jm_modpath.specs.declared.visible.VisibleModule.{VisibleModule}
 use Rattle.jm_bytes.specs.ByteOrder.{is_before}
-use Rattle.jm_modpath.specs.Finding.{class_package}
+use Rattle.jm_modpath.specs.Finding.{named_package}
 use Rattle.jm_modpath.specs.Modules.{bytes_at, candidates, folder_info, folders_in, info_name, info_path, inside, is_named, module_in, module_of, module_with, modules_in, resource_name, unhidden, visible}
 use Rattle.jm_modpath.specs.Modules as shelf
 use Rattle.jm_modpath.proofs.PackageLaws.{class_packages_are}
@@ -123,13 +123,13 @@ module _ (files : Files) (directories : List (List ℕ)) (bytes : (path : List �
       let is = shown m there in
       subst (λ n. list_any is_slash n ≡ false) (sym (named_said m is)) (legal_plain is.descriptor.name (said_legal (bytes_at files (info_path m.folder)) is.descriptor is.says))
 
-  shown_package : (m : VisibleModule) → IsShown m → (path shared : List ℕ) → Contains m.files path → class_package (resource_name (shelf.name_of m) path) ≡ Some shared → Contains m.candidate.packages shared
+  shown_package : (m : VisibleModule) → IsShown m → (path shared : List ℕ) → Contains m.files path → named_package (resource_name (shelf.name_of m) path) ≡ Some shared → Contains m.candidate.packages shared
   shown_package m is path shared there has =
       let listed : Contains (names_below m.folder files) path = subst (λ (k : VisibleModule). Contains k.files path) (sym is.is) there in
       let names = map (resource_name is.descriptor.name) (names_below m.folder files) in
-      let own : class_package (resource_name is.descriptor.name path) ≡ Some shared = ap (λ n. class_package (resource_name n path)) (sym (named_said m is)) ∙ has in
-      let among = contains_rising (filter_map class_package names) shared
-      (contains_filter_map class_package names (resource_name is.descriptor.name path) shared (contains_map (resource_name is.descriptor.name) (names_below m.folder files) path listed) own) in
+      let own : named_package (resource_name is.descriptor.name path) ≡ Some shared = ap (λ n. named_package (resource_name n path)) (sym (named_said m is)) ∙ has in
+      let among = contains_rising (filter_map named_package names) shared
+      (contains_filter_map named_package names (resource_name is.descriptor.name path) shared (contains_map (resource_name is.descriptor.name) (names_below m.folder files) path listed) own) in
       subst (λ (k : VisibleModule). Contains k.candidate.packages shared) is.is (subst (λ ps. Contains ps shared) (class_packages_are names) among)
 
   shown_says : (m : VisibleModule) → IsShown m → Says (bytes_at files (info_path m.folder)) m.candidate.descriptor
@@ -202,7 +202,7 @@ module _ (files : Files) (directories : List (List ℕ)) (bytes : (path : List �
             path = modified file.0;
             among = contains_filter_map (slice_get (candidates ms)) places at.0 m.candidate at.1 (candidate_at at.0 m at.2);
             name = ap (λ (x : Written). x.0) (sym same);
-            has_package = λ shared has. shown_package m is file.0 shared file.1 (ap (λ (x : Written). class_package x.0) same ∙ has);
+            has_package = λ shared has. shown_package m is file.0 shared file.1 (ap (λ (x : Written). named_package x.0) same ∙ has);
             says = λ named.
                 let plain : file.0 ≡ info_name = modified_back file.0 info_name refl named in
                 subst (λ (x : Written). Says x.1 m.candidate.descriptor) same
@@ -259,14 +259,14 @@ module _ (b : List ℕ) (bytes : All (λ byte. byte < 256) b) (ss : List SeenMod
       (λ i j less s t one other. ap is_lt (less s.candidate t.candidate (seen_at i s one) (seen_at j t other)))
       places (places_by_name (seen_candidates ss) Taken places chosen within)
 
-  seen_package : (s : SeenModule) → Is s → (f : image.Named) (shared : List ℕ) → Contains s.files f → class_package (file_name (name_of s) f.0) ≡ Some shared → Contains s.candidate.packages shared
+  seen_package : (s : SeenModule) → Is s → (f : Named) (shared : List ℕ) → Contains s.files f → named_package (file_name (name_of s) f.0) ≡ Some shared → Contains s.candidate.packages shared
   seen_package s is f shared there has =
-      let names = map (λ (g : image.Named). file_name (name_of s) g.0) s.files in
-      let among = contains_rising (filter_map class_package names) shared
-      (contains_filter_map class_package names (file_name (name_of s) f.0) shared (contains_map (λ (g : image.Named). file_name (name_of s) g.0) s.files f there) has) in
+      let names = map (λ (g : Named). file_name (name_of s) g.0) s.files in
+      let among = contains_rising (filter_map named_package names) shared
+      (contains_filter_map named_package names (file_name (name_of s) f.0) shared (contains_map (λ (g : Named). file_name (name_of s) g.0) s.files f there) has) in
       subst (λ ps. Contains ps shared) (class_packages_are names ∙ sym is.packages) among
 
-  seen_says : (s : SeenModule) → Is s → (f : image.Named) → Contains s.files f → f.0 ≡ info_name → Says f.1 s.candidate.descriptor
+  seen_says : (s : SeenModule) → Is s → (f : Named) → Contains s.files f → f.0 ≡ info_name → Says f.1 s.candidate.descriptor
   seen_says s is f there named =
       let here = (is.files.each f.0 f.1).0 there in
       let same = one_content (image.resources_of b) (file_name (name_of s) f.0) (info_entry (name_of s)) f.1 is.content (resources_differ b) here is.info.there (ap (file_name (name_of s)) named) in
@@ -294,14 +294,14 @@ module _ (b : List ℕ) (bytes : All (λ byte. byte < 256) b) (ss : List SeenMod
           path = file.0.0;
           among = contains_filter_map (slice_get (seen_candidates ss)) places at.0 s.candidate at.1 (seen_at at.0 s at.2);
           name = ap (λ (x : Written). x.0) (sym file.2);
-          has_package = λ shared has. seen_package s is file.0 shared file.1 (ap (λ (x : Written). class_package x.0) file.2 ∙ has);
+          has_package = λ shared has. seen_package s is file.0 shared file.1 (ap (λ (x : Written). named_package x.0) file.2 ∙ has);
           says = λ named. subst (λ (x : Written). Says x.1 s.candidate.descriptor) file.2 (seen_says s is file.0 file.1 named);
         };
     order =
         pairs_joined Is (λ (s t : SeenModule). is_before (name_of s) (name_of t) ≡ true) Sorted seen_resources
         (λ s is.
         pairs_map Sorted (resource_of (name_of s)) s.files
-        (pairs_weaker (λ (e f : image.Named). is_before e.0 f.0 ≡ true) (λ e f. Sorted (resource_of (name_of s) e) (resource_of (name_of s) f))
+        (pairs_weaker (λ (e f : Named). is_before e.0 f.0 ≡ true) (λ e f. Sorted (resource_of (name_of s) e) (resource_of (name_of s) f))
         (λ e f before differ. paths_first (name_of s) (name_of s) e.0 f.0 is.info.whole is.info.whole refl before)
         s.files is.files.rising))
         (λ s t one other before e f there too differ.
