@@ -21,7 +21,7 @@ use Rattle.jm_form.proofs.RisingLaws.{from_rising}
 use Rattle.jm_names.specs.Names.{is_slash}
 use Rattle.jm_nodes.proofs.SoundLaws.{module_again, path_again}
 use Rattle.jm_relink.specs.Files.{file_name, info_entry}
-use Rattle.jm_names.specs.ByName.{RisesByName}
+use Rattle.jm_names.specs.ByName.{Named, RisesByName}
 use Rattle.jm_relink.specs.Gathering.{resource_of}
 use Rattle.jm_relink.specs.Modules.{IsSeenIn, IsVisibleIn, SeenModule, name_of}
 use Rattle.jm_relink.proofs.ListLaws.{one_of}
