@@ -91,12 +91,12 @@ module _ (b : List ℕ) (asked : Request) (relinks : Relinks b asked) where
 -- By where the modules came from
 
 path_links : (files : Files) (directories : List (List ℕ)) (asked : Request) (o : Option PathRefusal) (image : LinkedImage) → IsPathTo files directories asked o (Ok image) → LinksAmong asked (candidates (visible files directories)) (resources_in files (visible files directories)) (Ok image)
-path_links files directories asked None image is = is
-path_links files directories asked (Some given) image is = cc
+path_links files directories asked None linked is = is
+path_links files directories asked (Some given) linked is = cc
 
 image_links : (asked : Request) (m : Result (List SeenModule) RelinkError) (image : LinkedImage) → IsImageTo asked m (Ok image) → (ss : List SeenModule) × (m ≡ Ok ss) × LinksAmong asked (seen_candidates ss) (resources_seen ss) (Ok image)
-image_links asked (Ok ss) image is = (ss, refl, is)
-image_links asked (Err error) image is = absurd is
+image_links asked (Ok ss) linked is = (ss, refl, is)
+image_links asked (Err error) linked is = absurd is
 
 seen_once : (b : List ℕ) (ss : List SeenModule) → ModulesOf b (Ok ss) → (others : List Candidate) → Shows (Image b) others → others ≡ seen_candidates ss
 seen_once b ss shows others (ss', shows', is) =
