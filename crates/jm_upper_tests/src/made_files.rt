@@ -3,9 +3,8 @@ ghost use Rattle.std.specs.Prelude.{◌≤◌};
 
 use crate::calls::shelf_of;
 use jm_bytes::{NoMemory, copy_of, extend};
-use jm_outside::make_file;
 use jm_gen::generate;
-use jm_outside::{MemShelf, Shelf};
+use jm_outside::{MemShelf, Shelf, make_file};
 use std::alloc::Global;
 use std::test::Fail;
 
