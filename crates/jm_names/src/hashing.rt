@@ -12,7 +12,7 @@ pub const DEFAULT_SEED: u32 = 0x0100_0193;
 
 /// The factor of each step of the hash. The format has one number for it and for the default seed;
 /// a hash from another seed keeps the factor.
-const FACTOR: u32 = 0x0100_0193;
+pub const HASH_FACTOR: u32 = 0x0100_0193;
 
 /// The hash of a name from a seed, a number of 31 bits (jimage 1.0). It counts one hash.
 pub fn hash<H: Ledger>(seed: u32, name: &[u8], hashes: &mut Steps<H>) -> u32
@@ -20,7 +20,7 @@ pub fn hash<H: Ledger>(seed: u32, name: &[u8], hashes: &mut Steps<H>) -> u32
     ensures cost { hashes.new ≡ hashes.old + 1 }
 {
     hashes.add(1);
-    low_bits(state_after(seed, name))
+    hash_of_state(state_after(seed, name))
 }
 
 /// The hash of the name that the pieces make, from a seed, without putting it together.
@@ -31,16 +31,16 @@ pub fn hash_pieces(seed: u32, pieces: &Pieces) -> u32
     let state = state_after_module(seed, pieces.module);
     let state = state_after_parent(state, pieces.parent);
     let state = state_after(state, pieces.base);
-    low_bits(state_after_ext(state, pieces.ext))
+    hash_of_state(state_after_ext(state, pieces.ext))
 }
 
-/// The state after the bytes, from the state before them.
-fn state_after(seed: u32, bytes: &[u8]) -> u32
+/// The state of the hash after the bytes, from the state before them; a seed is the first state.
+pub fn state_after(seed: u32, bytes: &[u8]) -> u32
     ensures { result ≡ state_after seed bytes.now }
 {
     let mut state = seed;
     for byte in bytes {
-        state = state.wrapping_mul(FACTOR) ^ u32::from(*byte);
+        state = state.wrapping_mul(HASH_FACTOR) ^ u32::from(*byte);
     }
     state
 }
@@ -77,8 +77,8 @@ fn state_after_ext(state: u32, ext: &[u8]) -> u32
     state_after(state_after(state, b"."), ext)
 }
 
-/// The low 31 bits of the last state.
-fn low_bits(state: u32) -> u32
+/// The hash that the last state gives: its low 31 bits.
+pub fn hash_of_state(state: u32) -> u32
     ensures { result ≡ state % 2 ^ 31 }
 {
     state & 0x7FFF_FFFF

@@ -13,7 +13,7 @@ mod printed;
 
 pub use check::{NameFault, check_name};
 pub use forms::{to_modified, to_utf8};
-pub use hashing::{DEFAULT_SEED, hash, hash_pieces};
+pub use hashing::{DEFAULT_SEED, HASH_FACTOR, hash, hash_of_state, hash_pieces, state_after};
 pub use named::{HasName, sorted_by_name};
 pub use nodes::is_node;
 pub use packages::dotted;

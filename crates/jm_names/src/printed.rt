@@ -14,8 +14,8 @@ fn has_surrogate(name: &[u8]) -> bool
     memchr(0xED, name).is_some()
 }
 
-/// Puts a name in UTF-8 at the end of a text. One without surrogates is the same in UTF-8, and takes
-/// no memory but that of the text.
+/// Puts a name in UTF-8 at the end of a text. One without surrogates is the same in UTF-8, and
+/// takes no memory but that of the text.
 pub fn extend_utf8(alloc: Global, text: &mut Vec<u8>, name: &[u8]) -> Result<(), NoMemory>
     ensures { OnOk result (text.new.items ≡ text.old.items ++ utf name.now) }
 {
