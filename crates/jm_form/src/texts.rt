@@ -32,8 +32,8 @@ fn front(bytes: &[u8]) -> Option<&[u8]>
     Some(text)
 }
 
-/// The text at a place of the strings, or None where it doesn't end in them. The bytes from there to
-/// their end count as read.
+/// The text at a place of the strings, or None where it doesn't end in them. The bytes from there
+/// to their end count as read.
 pub fn text<'a, R: Ledger>(
     buf: &Buf<'a>,
     header: &Header,

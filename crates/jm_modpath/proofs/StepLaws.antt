@@ -8,7 +8,6 @@ use Rattle.std.specs.Prelude.{nat_lt}
 use Rattle.std.specs.Str.{IsAscii}
 use Rattle.std.specs.List.{before_first, after_first, cons_option, list_all, list_any}
 use Rattle.std.specs.Option.{is_some}
-use Rattle.std.specs.Result.{IsErrAnd}
 use Rattle.std.specs.Str.{bytes_eq}
 use Rattle.jm_bytes.specs.Results.{followed}
 use Rattle.jm_bytes.proofs.ByteOrderLaws.{ascii_all}
@@ -157,8 +156,3 @@ pub folders_ended : (files : Files) (directory : List ℕ) (folders : List (List
 folders_ended files directory folders i folder earlier e below is comes =
     subst (λ left. Comes ⊥ (folders_due files directory earlier left) (Err e)) (sym (drop_more folders i folder below ∙ ap (λ f. f ∷ drop (i + 1) folders) (sym is)))
     (comes_ended (added_due files directory earlier folder) (λ ms. folders_due files directory ms (drop (i + 1) folders)) e comes)
-
--- the error that a `?` passed on
-pub passed_on : {A E : Type 0} (r : Result A E) (is : E) → IsErrAnd r (λ e. e ≡ is) → r ≡ Err is
-passed_on (Ok x) is gives = absurd gives
-passed_on (Err e) is gives = ap (λ s. Err s) gives

@@ -1,5 +1,5 @@
 -- How the words are read, step by step.
-use Rattle.std.proofs.Common.{◌≡◌, ℕ, ◌+◌, ◌<◌, Bool, false, List, [], ◌∷◌, length, take, get_or, map, drop, Result, Ok, Err, IsErrAnd, refl, sym, ap, ◌∙◌, inl, inr, arith}
+use Rattle.std.proofs.Common.{◌≡◌, ℕ, ◌+◌, ◌<◌, Bool, false, List, [], ◌∷◌, length, take, get_or, map, drop, Result, Ok, Err, refl, sym, ap, ◌∙◌, inl, inr, arith}
 use Rattle.std.specs.List.{list_any, before_first, position_or_len}
 use Rattle.std.proofs.Math.Seq.{take-length}
 use Rattle.std.proofs.lemmas.Bool.{false≢true, false_from_ne_true}
@@ -21,11 +21,6 @@ before_first_none p xs none =
     let place : position_or_len p xs ≡ length xs =
     position_or_len_is p xs (length xs) 0 (omega arith) (λ j below. false_from_ne_true (p (get_or xs j 0)) (λ is. false≢true (sym none ∙ list_any_at p xs j 0 below is))) (λ below. absurd (omega (arith, below))) in
     ap (λ n. take n xs) place ∙ take-length xs
-
--- the fault that a `?` hands on
-pub error_stays : {A : Type 0} (r : Result A WordsError) (e : WordsError) → IsErrAnd r (λ other. other ≡ e) → r ≡ Err e
-error_stays (Ok value) e stays = absurd stays
-error_stays (Err other) e stays = ap (λ it. Err it) stays
 
 -- a fault ends the reading
 pub after_words_err : (choices : List Choice) (at : ℕ) (words : List (List ℕ)) (e : WordsError) → after_words choices at words (Err e) ≡ Err e

@@ -8,7 +8,7 @@ use Rattle.jm_link.specs.ImageLinked.{ImageComesTo}
 use Rattle.jm_link.specs.Linked.{Request}
 use Rattle.jm_link.proofs.ImageLaws.{fit_names, gathered_to, image_apart, image_free, image_places, unclosed_to, ungathered_to, unseen_to}
 use Rattle.jm_link.proofs.LinkingLaws.{links_as}
-use Rattle.jm_modpath.proofs.StepLaws.{passed_on}
+use Rattle.jm_bytes.proofs.ResultLaws.{passed_on}
 use Rattle.jm_link.proofs.relinking.link_seen.Goals as goal
 
 pub returns-in_err-modules : goal.returns-in_err-modules

@@ -1,5 +1,6 @@
 use Rattle.std.proofs.Common.{◌∙◌}
-use Rattle.jm_modpath.proofs.StepLaws.{folder_ended, folder_shown, passed_on}
+use Rattle.jm_bytes.proofs.ResultLaws.{passed_on}
+use Rattle.jm_modpath.proofs.StepLaws.{folder_ended, folder_shown}
 use Rattle.jm_modpath.proofs.TextCuts.{inside_is_text}
 use Rattle.jm_modpath.proofs.directory.visible_module.Goals as goal
 

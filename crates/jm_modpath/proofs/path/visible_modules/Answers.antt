@@ -1,5 +1,5 @@
 use Rattle.jm_modpath.proofs.PathLaws.{path_done, path_ended}
-use Rattle.jm_modpath.proofs.StepLaws.{passed_on}
+use Rattle.jm_bytes.proofs.ResultLaws.{passed_on}
 use Rattle.jm_modpath.proofs.path.visible_modules.Goals as goal
 
 pub with_directory-requires : goal.with_directory-requires

@@ -1,10 +1,11 @@
 use Rattle.std.proofs.Common.{string_bytes}
-use Rattle.jm_words.proofs.ReadingLaws.{error_stays, reading_goes, reading_stops}
+use Rattle.jm_bytes.proofs.ResultLaws.{passed_on}
+use Rattle.jm_words.proofs.ReadingLaws.{reading_goes, reading_stops}
 use Rattle.jm_words.proofs.reading.given_texts.Goals as goal
 
 pub returns-in_err-progress : goal.returns-in_err-progress
 returns-in_err-progress c =
-    rw (error_stays c.from_residual.result c.in_err-progress.field-0.0 c.from_residual.ensures.1) (reading_stops string_bytes c.args.verb c.args.words.now c.loop-i.i c.index-words-i.result c.as_bytes.result.now c.loop-i.progress c.options-choices.result.now c.loop-i-test.true c.index-words-i.is c.as_bytes.ensures.value c.options-choices.ensures c.loop-i.invariant c.in_err-progress.field-0.0 c.in_err-progress.ensures)
+    rw (passed_on c.from_residual.result c.in_err-progress.field-0.0 c.from_residual.ensures.1) (reading_stops string_bytes c.args.verb c.args.words.now c.loop-i.i c.index-words-i.result c.as_bytes.result.now c.loop-i.progress c.options-choices.result.now c.loop-i-test.true c.index-words-i.is c.as_bytes.ensures.value c.options-choices.ensures c.loop-i.invariant c.in_err-progress.field-0.0 c.in_err-progress.ensures)
 
 pub loop-i-preserved : goal.loop-i-preserved
 loop-i-preserved c =
