@@ -17,4 +17,4 @@ mod search;
 
 pub use gate::{Gate, NoGate};
 pub use map::map_halves;
-pub use search::first_some;
+pub use search::{first_between, first_some};

@@ -59,8 +59,9 @@ fn first_in_run<
     front.or(back)
 }
 
-/// The least place with a value from `start` on and below `end`.
-fn first_between<D, F: Fn(usize) -> Option<D>>(
+/// The least place from `start` on and below `end` for which `f` gives a value, with that value, or
+/// none where there is no such place: the search of one piece, which needs no runtime.
+pub fn first_between<D, F: Fn(usize) -> Option<D>>(
     start: usize,
     end: usize,
     f: &F,

@@ -1,4 +1,6 @@
+pub mod BodyLaws
 pub mod EntryRows
+pub mod LeastFault
 pub mod LeastRanges
 pub mod PartLaws
 pub mod Sorting

@@ -1,4 +1,4 @@
-ghost use Rattle.std.specs.Prelude.{◌≡◌, ◌+◌, ◌^◌, ◌<◌, ◌++◌, ◌∷◌, [], length, flat_map};
+ghost use Rattle.std.specs.Prelude.{◌≡◌, ◌+◌, ◌-◌, ◌^◌, ◌<◌, ◌≤◌, ◌++◌, ◌∷◌, [], length, flat_map};
 ghost use Rattle.std.specs.Prelude.{IfOk, OnOk, IsOkAnd};
 ghost use Rattle.std.specs.List.{range_with_len};
 ghost use Rattle.jm_form.specs.Overlap.{ranges_of};
@@ -40,11 +40,16 @@ fn add_entry(contents: &mut Contents, range: Range) -> Result<(), NoMemory>
     Ok(())
 }
 
-/// The entries of the part that begins at this slot.
-fn contents_of_part(alloc: Global, sections: &Sections, first: u32) -> Result<Contents, NoMemory>
+/// The entries of the slots from `first` on and below `end`.
+fn contents_of_slots(
+    alloc: Global,
+    sections: &Sections,
+    first: u32,
+    end: u32,
+) -> Result<Contents, NoMemory>
+    requires within { end ≤ sections.now.header.length }
     requires sound { IsSound sections.now }
-    ensures { IfOk result
-        (ContentsAt sections.now (part_slots sections.now.header.length first)) }
+    ensures { IfOk result (ContentsAt sections.now (range_with_len first (end - first))) }
 {
     let mut contents = Contents {
         count: 0,
@@ -52,7 +57,6 @@ fn contents_of_part(alloc: Global, sections: &Sections, first: u32) -> Result<Co
     };
     // A range ends within the contents, whose length has 64 bits.
     let _size = sections.size();
-    let end = first.saturating_add(PART).min(sections.header.length);
     for slot in first..end.max(first) {
         if let Some(row) = entry_row(sections, slot) {
             let range = Range {
@@ -64,6 +68,16 @@ fn contents_of_part(alloc: Global, sections: &Sections, first: u32) -> Result<Co
         }
     }
     Ok(contents)
+}
+
+/// The entries of the part that begins at this slot.
+fn contents_of_part(alloc: Global, sections: &Sections, first: u32) -> Result<Contents, NoMemory>
+    requires sound { IsSound sections.now }
+    ensures { IfOk result
+        (ContentsAt sections.now (part_slots sections.now.header.length first)) }
+{
+    let end = first.saturating_add(PART).min(sections.header.length);
+    contents_of_slots(alloc, sections, first, end)
 }
 
 /// The first slots of the parts of a table of this length.
@@ -137,4 +151,14 @@ pub fn contents_of<R: Threads + Sync, G: Gate + Sync>(
 {
     let firsts = parts_of(alloc, sections.header.length)?;
     contents_of_parts(rt, alloc, jobs, sections, firsts.as_slice(), gate)
+}
+
+/// The same, looked for one slot after another.
+pub fn contents_alone(alloc: Global, sections: &Sections) -> Result<Contents, NoMemory>
+    requires { IsSound sections.now }
+    ensures count { IfOk result (λ c. c.count ≡ length (entries_in sections.now)) }
+    ensures ranges { IfOk result (λ c. c.ranges.items
+        ≡ ranges_with_bytes (ranges_of (entries_in sections.now))) }
+{
+    contents_of_slots(alloc, sections, 0, sections.header.length)
 }

@@ -13,5 +13,5 @@ mod unmetered;
 
 pub use image::Image;
 pub use jm_form::Damage;
-pub use open::open_image;
+pub use open::{open_alone, open_image};
 pub use open_error::OpenError;

@@ -4,7 +4,7 @@ ghost use Rattle.jm_valid.specs.Sections.{slot_fault_in, least_fault_in};
 use crate::sections::Sections;
 use crate::slots::slot_fault;
 use jm_form::Damage;
-use jm_halves::{Gate, first_some};
+use jm_halves::{Gate, first_between, first_some};
 use std::thread::Threads;
 
 /// The first fault of the slot with this number.
@@ -28,5 +28,14 @@ pub fn least_fault<R: Threads + Sync, G: Gate + Sync>(
 {
     let slots = sections.header.length as usize;
     let (_, damage) = first_some(rt, jobs, slots, &|slot| fault_at(sections, slot), gate)?;
+    Some(damage)
+}
+
+/// The same, looked for one slot after another.
+pub fn least_fault_alone(sections: &Sections) -> Option<Damage>
+    ensures { result ≡ least_fault_in sections.now }
+{
+    let slots = sections.header.length as usize;
+    let (_, damage) = first_between(0, slots, &|slot| fault_at(sections, slot))?;
     Some(damage)
 }

@@ -22,16 +22,16 @@ entries_overlap : (stated : ℕ) (es : List Entry) → fault_if (not (stated == 
 entries_overlap stated es counted = rw counted (only_check (overlap_damage (first_overlap (ranges_of es))))
 
 pub first_overlap-requires-clause-rising : goal.first_overlap-requires-clause-rising
-first_overlap-requires-clause-rising g c =
-    rw (c.as_mut_slice.ensures.value ∙ c.in_ok-contents.ensures.ranges) (ranges_rise c.args.sections.now.bytes.now c.args.sections.now.header)
+first_overlap-requires-clause-rising c =
+    rw (c.as_mut_slice.ensures.value ∙ c.requires.ranges) (ranges_rise c.args.sections.now.bytes.now c.args.sections.now.header)
 
 pub first_overlap-requires-clause-some : goal.first_overlap-requires-clause-some
-first_overlap-requires-clause-some g c =
-    rw (c.as_mut_slice.ensures.value ∙ c.in_ok-contents.ensures.ranges) (ranges_some (ranges_of (entries c.args.sections.now.bytes.now c.args.sections.now.header)))
+first_overlap-requires-clause-some c =
+    rw (c.as_mut_slice.ensures.value ∙ c.requires.ranges) (ranges_some (ranges_of (entries c.args.sections.now.bytes.now c.args.sections.now.header)))
 
 pub returns : goal.returns
-returns g c =
+returns c =
     let es = entries c.args.sections.now.bytes.now c.args.sections.now.header in
-    let listed = c.as_mut_slice.ensures.value ∙ c.in_ok-contents.ensures.ranges in
+    let listed = c.as_mut_slice.ensures.value ∙ c.requires.ranges in
     c.first_overlap.ensures ∙ ap overlap_damage (ap first_overlap listed ∙ first_overlap-bytes (ranges_of es))
-    ∙ sym (entries_overlap c.args.sections.now.header.count es (rw c.in_ok-contents.ensures.count at (sym c.in_default.ensures)))
+    ∙ sym (entries_overlap c.args.sections.now.header.count es (rw c.requires.count at (sym c.in_default.ensures)))

@@ -1,4 +1,4 @@
-use Rattle.std.proofs.Common.{◌≡◌, ◌+◌, ◌-◌, ◌<◌, ◌++◌, ◌∷◌, [], length, min, sym, ap, ◌∙◌, arith, subst}
+use Rattle.std.proofs.Common.{◌≡◌, ◌+◌, ◌-◌, ◌<◌, ◌++◌, ◌∷◌, [], length, sym, ap, ◌∙◌, arith, subst}
 use Rattle.std.proofs.lemmas.List.{length_push}
 use Rattle.std.proofs.lemmas.List.FromFn.{length-range_with_len}
 use Rattle.std.specs.List.{range_with_len}
@@ -8,8 +8,8 @@ use Rattle.jm_form.proofs.SlotLaws.{sound_row}
 use Rattle.jm_valid.specs.Parts.{ContentsAt, entries_at}
 use Rattle.jm_valid.specs.Ranges.{ranges_with_bytes}
 use Rattle.jm_valid.proofs.EntryRows.{entry_more, entry_same, length-entries_at, ranges_more, row_reached, slots_next}
-use Rattle.jm_valid.proofs.entries.contents_of_part.Goals as goal
-use Rattle.jm_valid.proofs.entries.contents_of_part.Goals.{in-Some+in_ok-add_entry, in_default}
+use Rattle.jm_valid.proofs.entries.contents_of_slots.Goals as goal
+use Rattle.jm_valid.proofs.entries.contents_of_slots.Goals.{in-Some+in_ok-add_entry, in_default}
 
 pub add_entry-requires : goal.add_entry-requires
 add_entry-requires c =
@@ -56,5 +56,5 @@ loop-slot-preserved c =
 
 pub returns : goal.returns
 returns c =
-    let count : c.loop-slot.slot - c.args.first ≡ min (c.args.first + 4096) c.args.sections.now.header.length - c.args.first = omega arith in
+    let count : c.loop-slot.slot - c.args.first ≡ c.args.end - c.args.first = omega arith in
     subst (λ n. ContentsAt c.args.sections.now (range_with_len c.args.first n) c.loop-slot.contents) count c.loop-slot.invariant
