@@ -18,6 +18,6 @@ pub use ranges::Range;
 pub use rows::{Row, read_row};
 pub use slots::{SlotRow, row_at_place, row_of_slot};
 pub use spelling::write_row;
-pub use table::{Redirect, is_led_to, redirect_at, redirect_of};
-pub use texts::{pieces_of, text};
+pub use table::{HashedName, Redirect, is_led_to, redirect_at, redirect_of};
+pub use texts::{front, pieces_of, text};
 pub use trees::{Holds, Owner, TreeNode};

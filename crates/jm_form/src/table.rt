@@ -1,9 +1,8 @@
-ghost use Rattle.std.specs.Prelude.{◌≡◌, ◌<◌, Ok};
+ghost use Rattle.std.specs.Prelude.{◌≡◌, ◌<◌, ℕ, List, Ok};
 ghost use Rattle.jm_bytes.specs.Metered.{CostsAtMost};
 ghost use Rattle.jm_form.specs.Head.{header_of};
 ghost use Rattle.jm_form.specs.Table.{is_slot, probe, redirect_at, redirect_of};
-ghost use Rattle.jm_names.specs.Names.{join};
-ghost use Rattle.jm_names.specs.Pieces.{cut_of};
+ghost use Rattle.jm_names.specs.Hash.{hash};
 
 use crate::container::Header;
 use jm_bytes::{Buf, Meter};
@@ -54,24 +53,45 @@ pub fn redirect_at<R: Ledger>(
     redirect_of(buf.word(header.order, place, reads))
 }
 
-/// The table leads the name of these pieces to this slot. It costs at most the four bytes of one
-/// redirect word.
-pub fn is_led_to<R: Ledger>(
+/// A name, however it is kept, of which a hash can be taken from any seed.
+pub trait HashedName {
+    /// Its bytes.
+    ghost name: { Self → List ℕ };
+
+    /// Its hash from a seed, a number of 31 bits.
+    fn hash(&self, seed: u32) -> u32
+        ensures { result ≡ hash seed (name self.now) };
+}
+
+impl<'a> HashedName for Pieces<'a> {
+    ghost use Rattle.jm_names.specs.Names.{join};
+    ghost use Rattle.jm_names.specs.Pieces.{cut_of};
+
+    ghost name = { λ pieces. join (cut_of pieces) };
+
+    fn hash(&self, seed: u32) -> u32 {
+        hash_pieces(seed, self)
+    }
+}
+
+/// The table leads this name to this slot. It costs at most the four bytes of one redirect word; the
+/// name's hash is taken once, or twice where the word is a seed.
+pub fn is_led_to<R: Ledger, N: HashedName>(
     buf: &Buf,
     header: &Header,
     slot: u32,
-    pieces: &Pieces,
+    name: &N,
     reads: &mut Meter<R>,
 ) -> bool
     requires read { header_of buf.now ≡ Ok header.now }
     requires below { slot < header.now.length }
     requires metered { reads.old.bytes ≡ buf.now }
-    ensures led { result ≡ is_slot slot (probe buf.now header.now (join (cut_of pieces.now))) }
+    ensures led { result ≡ is_slot slot (probe buf.now header.now (N.name name.now)) }
     ensures cost { CostsAtMost reads.old reads.new 4 }
 {
-    match redirect_at(buf, header, hash_pieces(DEFAULT_SEED, pieces), reads) {
+    match redirect_at(buf, header, name.hash(DEFAULT_SEED), reads) {
         Redirect::Nowhere => false,
         Redirect::Slot(led) => led == slot,
-        Redirect::Seed(seed) => hash_pieces(seed, pieces) % header.length == slot,
+        Redirect::Seed(seed) => name.hash(seed) % header.length == slot,
     }
 }

@@ -22,7 +22,7 @@ fn strings_length(header: &Header) -> u32
 }
 
 /// The bytes in front of the first zero byte, or None where no byte is zero.
-fn front(bytes: &[u8]) -> Option<&[u8]>
+pub fn front(bytes: &[u8]) -> Option<&[u8]>
     ensures text { IfSome result (λ text. text.now ≡ text_at bytes.now 0) }
     ensures ends { is_some result ≡ text_ends bytes.now 0 }
     ensures within { IfSome result (λ text. length text.now ≤ length bytes.now) }
