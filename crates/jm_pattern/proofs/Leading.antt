@@ -1,9 +1,10 @@
 -- The steps of a search for a match: each leads from what was left to what is left behind it.
-use Rattle.std.proofs.Common.{◌≡◌, ◌≢◌, ◌∷◌, [], ℕ, List, refl}
+use Rattle.std.proofs.Common.{◌≡◌, ◌≢◌, ◌==◌, ◌∷◌, [], ℕ, Bool, true, false, cond, List, All, refl}
+use Rattle.std.proofs.lemmas.Bool.{eqb-false}
 use Rattle.std.proofs.lemmas.List.Elements.{All-nil, All-cons, All-head}
 use Rattle.jm_pattern.specs.Matching.{StandsFor, Match}
-use Rattle.jm_pattern.specs.MatchingSteps.{Leads, IsFixed, BeginsFixed, AtRun, AtAny}
-use Rattle.jm_pattern.proofs.Runs.{InRun, any-empty, run-empty, any-longer, run-longer, any-shorter, run-shorter, any-absorbs, run-absorbs, any-absorbs_before, any-fixed, run-fixed, fixed-on}
+use Rattle.jm_pattern.specs.MatchingSteps.{Leads, IsFixed, BeginsFixed, AtRun, AtAny, behind_line}
+use Rattle.jm_pattern.proofs.Runs.{InRun, any-empty, run-empty, any-longer, run-longer, any-shorter, run-shorter, any-absorbs, run-absorbs, any-absorbs_before, any-fixed, any-run, run-fixed, fixed-on}
 use Rattle.jm_pattern.specs.declared.signs.Sign.{Sign}
 use Rattle.jm_pattern.specs.declared.signs.Sign.TheVariants.{AnyRun, Run, One, Byte}
 
@@ -84,6 +85,17 @@ leads-any p n q o l e =
       any = λ m. any-empty q o (on (any-absorbs AnyRun p n m));
     }
 
+-- a `**` may stop within its first line for what a `*` takes of it
+leads-any_line : (p : List Sign) (n : List ℕ) → Leads (AnyRun ∷ p) n (AnyRun ∷ Run ∷ p) n
+leads-any_line p n =
+    let on : Match (AnyRun ∷ p) n → Match (AnyRun ∷ Run ∷ p) n = λ m. (m.0, m.1, m.2, tt, run-empty p m.1 m.4) in
+    record {
+      back = λ m. any-absorbs Run p n m;
+      on = on;
+      run = λ m. run-empty (AnyRun ∷ Run ∷ p) n (on (any-absorbs_before p n m));
+      any = λ m. any-empty (AnyRun ∷ Run ∷ p) n (on (any-absorbs AnyRun p n m));
+    }
+
 -- the same, of a name and signs that begin so
 pub leads-one : (signs : List Sign) (name : List ℕ) (s : Sign) (p : List Sign) (b : ℕ) (n : List ℕ) → signs ≡ s ∷ p → name ≡ b ∷ n → BeginsFixed signs → StandsFor s (b ∷ []) → Leads signs name p n
 leads-one signs name s p b n e1 e2 f h = rw (e1, e2) (leads-fixed s p b n (rw e1 at f) h)
@@ -100,10 +112,32 @@ pub none-run_on : (p : List Sign) (n rest : List ℕ) (b : ℕ) (after : List �
 none-run_on p n rest b after l e not_here h m =
     h (All-cons InRun b [] (run-shorter p b after (rw e at not_here) (rw e at (l.on m))).0 (All-nil InRun))
 
--- a `**` at a byte, behind which nothing matches here
-pub leads-any_on : (p : List Sign) (n rest : List ℕ) (b : ℕ) (after : List ℕ) → Leads (AnyRun ∷ p) n (AnyRun ∷ p) rest → rest ≡ b ∷ after → ¬ Match p rest → Leads (AnyRun ∷ p) n (AnyRun ∷ p) after
-leads-any_on p n rest b after l e not_here =
-    leads-further (AnyRun ∷ p) n (AnyRun ∷ p) (b ∷ after) (AnyRun ∷ p) after (rw e at l) (leads-any_byte p b after (rw e at not_here))
+-- a segment that stands in the first line decides for the `**` before it
+pub leads-in_line : (p : List Sign) (n : List ℕ) (q : List Sign) (o : List ℕ) → Leads (Run ∷ p) n q o → AtAny q o → Leads (AnyRun ∷ p) n q o
+leads-in_line p n q o l e =
+    leads-further (AnyRun ∷ p) n (AnyRun ∷ Run ∷ p) n q o (leads-any_line p n) (leads-any (Run ∷ p) n q o l e)
+
+-- where it stands nowhere in the first line, the `**` takes that line
+pub leads-next_line : (p : List Sign) (n : List ℕ) → ¬ Match (Run ∷ p) n → Leads (AnyRun ∷ p) n (AnyRun ∷ p) (behind_line n)
+leads-next_line p [] not_here = leads-here (AnyRun ∷ p) []
+leads-next_line p (b ∷ n) not_here = go (b == 47) refl (leads-next_line p n)
+  where
+    byte : Leads (AnyRun ∷ p) (b ∷ n) (AnyRun ∷ p) n
+    byte = leads-any_byte p b n (λ m. not_here (run-empty p (b ∷ n) m))
+
+    go : (slash : Bool) → b == 47 ≡ slash → (¬ Match (Run ∷ p) n → Leads (AnyRun ∷ p) n (AnyRun ∷ p) (behind_line n)) → Leads (AnyRun ∷ p) (b ∷ n) (AnyRun ∷ p) (cond slash n (behind_line n))
+    go true e more = byte
+    go false e more =
+        leads-further (AnyRun ∷ p) (b ∷ n) (AnyRun ∷ p) n (AnyRun ∷ p) (behind_line n) byte (more (λ m. not_here (run-longer p b n (eqb-false b 47 e) m)))
+
+-- the same, a line after others
+pub leads-line_on : (p : List Sign) (n rest after : List ℕ) → Leads (AnyRun ∷ p) n (AnyRun ∷ p) rest → ¬ Match (Run ∷ p) rest → after ≡ behind_line rest → Leads (AnyRun ∷ p) n (AnyRun ∷ p) after
+leads-line_on p n rest after l not_here e =
+    leads-further (AnyRun ∷ p) n (AnyRun ∷ p) rest (AnyRun ∷ p) after l (rw e (leads-next_line p rest not_here))
+
+-- and there is no other line
+pub none-line_on : (p : List Sign) (n rest : List ℕ) → Leads (AnyRun ∷ p) n (AnyRun ∷ p) rest → ¬ Match (Run ∷ p) rest → All InRun rest → ¬ Match (AnyRun ∷ p) n
+none-line_on p n rest l not_here a m = not_here (any-run p rest a (l.on m))
 
 -- the sign behind a segment is a `**`
 pub leads-past_any : (p : List Sign) (n : List ℕ) (q : List Sign) (o : List ℕ) (s : Sign) (behind r : List Sign) (t : List ℕ) → Leads p n q o → AtAny q o → q ≡ s ∷ behind → Leads (AnyRun ∷ behind) o r t → Leads p n r t

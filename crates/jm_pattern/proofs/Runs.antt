@@ -43,6 +43,15 @@ run-first p b n (c ∷ run) rest e a not_here m =
 pub run-shorter : (p : List Sign) (b : ℕ) (n : List ℕ) → ¬ Match p (b ∷ n) → Match (Run ∷ p) (b ∷ n) → (b ≢ 47) × Match (Run ∷ p) n
 run-shorter p b n not_here m = run-first p b n m.0 m.1 m.2 m.3 not_here m.4
 
+-- in a name without `/` a `*` takes what a `**` does
+run-front : (run rest : List ℕ) → All InRun (run ++ rest) → All InRun run
+run-front [] rest a = All-nil InRun
+run-front (b ∷ run) rest a =
+    All-cons InRun b run (All-head InRun b (run ++ rest) a) (run-front run rest (All-tail InRun b (run ++ rest) a))
+
+pub any-run : (p : List Sign) (n : List ℕ) → All InRun n → Match (AnyRun ∷ p) n → Match (Run ∷ p) n
+any-run p n a m = (m.0, m.1, m.2, run-front m.0 m.1 (rw m.2 at a), m.4)
+
 -- of no byte a run is empty
 any-none : (p : List Sign) (run rest : List ℕ) → [] ≡ run ++ rest → Match p rest → Match p []
 any-none p [] rest e m = rw e m

@@ -1,6 +1,6 @@
 -- How far a search for a match has come: what is left to match decides for the whole (words of the
 -- proof).
-use Rattle.std.specs.Prelude.{◌≡◌, ◌∷◌, [], ℕ, List}
+use Rattle.std.specs.Prelude.{◌≡◌, ◌==◌, ◌∷◌, [], ℕ, List, if◌then◌else◌}
 use Rattle.jm_pattern.specs.Matching.{Match}
 use Rattle.jm_pattern.specs.declared.signs.Sign.{Sign}
 use Rattle.jm_pattern.specs.declared.signs.Sign.TheVariants.{AnyRun, Run, One, Byte}
@@ -35,3 +35,8 @@ AtRun (sign ∷ signs) name = ¬ IsFixed sign
 abbrev pub AtAny : List Sign → List ℕ → Type 0
 AtAny [] name = name ≡ []
 AtAny (sign ∷ signs) name = sign ≡ AnyRun
+
+-- what stands behind the first line of a name, which ends with its first `/`; 47 is `/`
+abbrev pub behind_line : List ℕ → List ℕ
+behind_line [] = []
+behind_line (b ∷ name) = if b == 47 then name else behind_line name

@@ -1,15 +1,18 @@
-ghost use Rattle.std.specs.Prelude.{◌≡◌, ◌∷◌, ◌+◌, ◌≤◌, ◌↔◌, [], length, IsTrue, IfSome, IfNone};
+ghost use Rattle.std.specs.Prelude.{◌≡◌, ◌≢◌, ◌∷◌, ◌+◌, ◌<◌, ◌≤◌, ◌↔◌, [], All, length};
+ghost use Rattle.std.specs.Prelude.{IsTrue, IfSome, IfNone};
 ghost use Rattle.jm_pattern.specs.Matching.{StandsFor, Match};
-ghost use Rattle.jm_pattern.specs.MatchingSteps.{Leads, BeginsFixed, AtRun, AtAny};
+ghost use Rattle.jm_pattern.specs.MatchingSteps.{Leads, BeginsFixed, AtRun, AtAny, behind_line};
 
 use crate::signs::Sign;
 
 // The signs between two `**` are a segment, and those between two runs of either kind a block of
-// signs for one byte each. A block behind a `*` is put at its least place, and so is a segment
-// behind a `**`: whatever matches later also matches behind the earlier place, since the next run
-// may be longer. So no earlier choice is undone. A block is tried at each place at most once for
-// each place at which its segment is tried, which bounds the bytes compared by the number of signs
-// times the square of the name's length.
+// signs for one byte each. A line is the bytes of the name up to a `/` and with it. A block behind
+// a `*` is put at its least place, and so is a segment behind a `**`: whatever matches later also
+// matches behind the earlier place, since the next run may be longer. So no earlier choice is
+// undone. Since a `*` may end anywhere in its line, a segment that fits nowhere in one begins in a
+// later one, and is tried once for each line. Only a `/` of the signs leads it from line to line,
+// so what one try puts into a line no other try puts there: each block is put at each place at
+// most once, and the comparisons are at most in proportion to the signs times the bytes.
 
 /// The signs that are left to match, and the bytes of the name that are left for them.
 #[derive(Clone, Copy)]
@@ -37,7 +40,7 @@ fn whole<'s, 'n>(signs: &'s [Sign], name: &'n [u8]) -> Option<Left<'s, 'n>>
     Some(left)
 }
 
-/// Puts the segment behind a `**` at its least place.
+/// Puts the segment behind a `**` at its least place, line by line.
 fn after_any<'s, 'n>(signs: &'s [Sign], name: &'n [u8]) -> Option<Left<'s, 'n>>
     ensures leads { IfSome result
         (λ left. Leads (Sign.AnyRun ∷ signs.now) name.now left.signs.now left.name.now) }
@@ -47,22 +50,62 @@ fn after_any<'s, 'n>(signs: &'s [Sign], name: &'n [u8]) -> Option<Left<'s, 'n>>
 {
     let mut rest = name;
     loop {
-        if let Some(left) = segment(signs, rest) {
+        if let Some(left) = in_line(signs, rest) {
             return Some(left);
         }
-        let (_, after) = rest.split_first()?;
+        rest = behind_slash(rest)?;
+    }
+}
+
+/// What stands behind the first `/`.
+fn behind_slash(name: &[u8]) -> Option<&[u8]>
+    ensures some { IfSome result (λ rest. rest.now ≡ behind_line name.now) }
+    ensures shorter { IfSome result (λ rest. length rest.now < length name.now) }
+    ensures none { IfNone result (All (λ b. b ≢ 47) name.now) }
+{
+    let mut rest = name;
+    while let Some((byte, after)) = rest.split_first() {
+        if *byte == b'/' {
+            return Some(after);
+        }
         rest = after;
     }
+    None
+}
+
+/// Puts a segment at its least place behind a run of bytes other than `/`.
+fn in_line<'s, 'n>(signs: &'s [Sign], name: &'n [u8]) -> Option<Left<'s, 'n>>
+    ensures leads { IfSome result
+        (λ left. Leads (Sign.Run ∷ signs.now) name.now left.signs.now left.name.now) }
+    ensures rests { IfSome result (λ left. AtAny left.signs.now left.name.now) }
+    ensures shorter { IfSome result (λ left. length left.signs.now ≤ length signs.now) }
+    ensures none { IfNone result (¬ Match (Sign.Run ∷ signs.now) name.now) }
+{
+    let left = after_run(signs, name)?;
+    other_blocks(left)
 }
 
 /// Matches the signs up to the first `**`, or all where there is none.
 fn segment<'s, 'n>(signs: &'s [Sign], name: &'n [u8]) -> Option<Left<'s, 'n>>
     ensures leads { IfSome result (λ left. Leads signs.now name.now left.signs.now left.name.now) }
     ensures rests { IfSome result (λ left. AtAny left.signs.now left.name.now) }
-    ensures shorter { IfSome result (λ left. length left.signs.now ≤ length signs.now) }
     ensures none { IfNone result (¬ Match signs.now name.now) }
 {
-    let mut left = block(signs, name)?;
+    let left = block(signs, name)?;
+    other_blocks(left)
+}
+
+/// Matches the blocks of a segment behind its first.
+fn other_blocks<'s, 'n>(first: Left<'s, 'n>) -> Option<Left<'s, 'n>>
+    requires { AtRun first.signs.now first.name.now }
+    ensures leads { IfSome result (λ left.
+        Leads first.entry.signs.now first.entry.name.now left.signs.now left.name.now) }
+    ensures rests { IfSome result (λ left. AtAny left.signs.now left.name.now) }
+    ensures shorter { IfSome result
+        (λ left. length left.signs.now ≤ length first.entry.signs.now) }
+    ensures none { IfNone result (¬ Match first.entry.signs.now first.entry.name.now) }
+{
+    let mut left = first;
     while let Some(behind) = behind_run(left.signs) {
         left = after_run(behind, left.name)?;
     }

@@ -1,14 +1,8 @@
-use Rattle.std.proofs.Common.{◌∷◌, length, ap, arith}
+use Rattle.std.proofs.lemmas.Option.{IfSome_then}
 use Rattle.jm_pattern.proofs.Leading.{leads-further}
-use Rattle.jm_pattern.specs.declared.signs.Sign.TheVariants.{Run}
 use Rattle.jm_pattern.proofs.matching.segment.Goals as goal
 
-pub loop-behind-preserved : goal.loop-behind-preserved
-loop-behind-preserved c =
-    let here = c.loop-behind.left in
-    let next = c.in_ok-left-2.left in
-    record {
-      leads = leads-further c.args.signs.now c.args.name.now (Run ∷ c.in-Some.behind.now) here.name.now next.signs.now next.name.now (rw c.in-Some.ensures.some at c.loop-behind.invariant.leads) c.in_ok-left-2.ensures.leads;
-      rests = c.in_ok-left-2.ensures.rests;
-      shorter = omega (arith, ap length c.in-Some.ensures.some, c.in_ok-left-2.ensures.shorter);
-    }
+pub returns-clause-leads : goal.returns-clause-leads
+returns-clause-leads c =
+    let left = c.in_ok-left.left in
+    IfSome_then c.other_blocks.result c.other_blocks.ensures.leads (λ next more. leads-further c.args.signs.now c.args.name.now left.signs.now left.name.now next.signs.now next.name.now c.in_ok-left.ensures.leads more)

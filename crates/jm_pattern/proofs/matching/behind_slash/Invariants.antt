@@ -1,0 +1,13 @@
+use Rattle.std.proofs.Common.{◌≡◌, ◌≢◌, ◌≤◌, All, length}
+use Rattle.jm_pattern.specs.MatchingSteps.{behind_line}
+use Rattle.jm_pattern.proofs.matching.behind_slash.Given as goal
+
+abbrev pub invariant-loop-byte : goal.invariant-loop-byte
+invariant-loop-byte l = record {
+  same : behind_line l.rest ≡ behind_line l.fn.name;
+  shorter : length l.rest ≤ length l.fn.name;
+  free : All (λ b. b ≢ 47) l.rest → All (λ b. b ≢ 47) l.fn.name;
+}
+
+abbrev pub decreases-loop-byte : goal.decreases-loop-byte
+decreases-loop-byte l = length l.rest
