@@ -3,6 +3,6 @@ use Rattle.std.specs.Prelude.{ℕ, Bool, List}
 use Rattle.std.specs.Cmp.Lexicographic.{slice_cmp}
 use Rattle.std.specs.Ordering.{is_lt, nat_cmp}
 
--- byte order: unsigned bytes, a proper prefix first
+-- one text stands before another in byte order: unsigned bytes, a proper prefix first
 abbrev pub is_before : List ℕ → List ℕ → Bool
 is_before name other = is_lt (slice_cmp nat_cmp name other)

@@ -1,6 +1,7 @@
 -- A counter of bytes read, with the bytes that it is tied to (this project's rule).
 use Rattle.std.specs.Prelude.{◌≡◌, ◌≤◌, ◌+◌, ℕ, List}
 
+-- a count of bytes read, with the bytes that it is tied to
 pub record Metered : Type 0 where
   pub bytes : List ℕ
   pub count : ℕ

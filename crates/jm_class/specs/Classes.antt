@@ -13,10 +13,12 @@ pub data SlotData : Type 0 where
   Constant : (tag : ℕ) (body : List ℕ) → SlotData
   Hole : SlotData
 
+-- an attribute whose bytes aren't taken apart: the number of its name, and its bytes
 pub record OpaqueData : Type 0 where
   pub name : ℕ
   pub bytes : List ℕ
 
+-- a Code: its limits, its instructions, its handlers as bytes, and its own attributes
 pub record CodeData : Type 0 where
   pub max_stack : ℕ
   pub max_locals : ℕ
@@ -24,20 +26,24 @@ pub record CodeData : Type 0 where
   pub handlers : List ℕ
   pub attributes : List OpaqueData
 
+-- what an attribute holds: bytes as they are, or a Code
 pub data BodyData : Type 0 where
   Opaque : (bytes : List ℕ) → BodyData
   Coded : (code : CodeData) → BodyData
 
+-- an attribute: the number of its name, and what it holds
 pub record AttributeData : Type 0 where
   pub name : ℕ
   pub body : BodyData
 
+-- a field or a method: its flags, the numbers of its name and descriptor, its attributes
 pub record MemberData : Type 0 where
   pub access : ℕ
   pub name : ℕ
   pub descriptor : ℕ
   pub attributes : List AttributeData
 
+-- the fields of a class file in their order; the magic and all counts are left out
 pub record ClassData : Type 0 where
   pub minor : ℕ
   pub major : ℕ
@@ -57,13 +63,15 @@ abbrev pub joined : List (List ℕ) → List ℕ
 joined [] = []
 joined (part ∷ parts) = part ++ joined parts
 
--- numbers of one, two and four bytes, the highest first
+-- a number as one byte
 abbrev pub u1 : ℕ → List ℕ
 u1 n = to_be_bytes w8 n
 
+-- a number as two bytes, the highest first
 abbrev pub u2 : ℕ → List ℕ
 u2 n = to_be_bytes w16 n
 
+-- a number as four bytes, the highest first
 abbrev pub u4 : ℕ → List ℕ
 u4 n = to_be_bytes w32 n
 
@@ -75,45 +83,52 @@ counted_text text items = joined (u2 (length items) ∷ flat_map text items ∷ 
 abbrev pub sized_text : List ℕ → List ℕ
 sized_text bytes = joined (u4 (length bytes) ∷ bytes ∷ [])
 
--- 1 is Utf8, which has its length in two bytes
+-- the bytes behind a tag: the body, that of a Utf8 (tag 1) behind its length in two bytes
 abbrev pub body_text : ℕ → List ℕ → List ℕ
 body_text tag body = if tag == 1 then joined (u2 (length body) ∷ body ∷ []) else body
 
+-- a constant's tag and what stands behind it; nothing for a hole
 abbrev pub slot_text : SlotData → List ℕ
 slot_text (Constant tag body) = joined (u1 tag ∷ body_text tag body ∷ [])
 slot_text Hole = []
 
+-- the bytes of an attribute of a Code: its name's number, and its bytes behind theirs
 abbrev pub opaque_text : OpaqueData → List ℕ
 opaque_text a = joined (u2 a.name ∷ sized_text a.bytes ∷ [])
 
--- 8 bytes for each handler, behind their number
+-- handlers, which are 8 bytes each, behind their number
 abbrev pub rows_text : List ℕ → List ℕ
 rows_text rows = joined (u2 (length rows / 8) ∷ rows ∷ [])
 
+-- the bytes of a Code
 abbrev pub code_text : CodeData → List ℕ
 code_text c = joined (
     u2 c.max_stack ∷ u2 c.max_locals ∷ sized_text c.code ∷ rows_text c.handlers
     ∷ counted_text opaque_text c.attributes ∷ [])
 
+-- the bytes of what an attribute holds
 abbrev pub held_text : BodyData → List ℕ
 held_text (Opaque bytes) = bytes
 held_text (Coded code) = code_text code
 
+-- the bytes of an attribute: its name's number, and what it holds behind its length
 abbrev pub attribute_text : AttributeData → List ℕ
 attribute_text a = joined (u2 a.name ∷ sized_text (held_text a.body) ∷ [])
 
+-- the bytes of a field or a method
 abbrev pub member_text : MemberData → List ℕ
 member_text m = joined (
     u2 m.access ∷ u2 m.name ∷ u2 m.descriptor ∷ counted_text attribute_text m.attributes ∷ [])
 
--- 0xCAFEBABE
+-- the number with which a class file begins: 0xCAFEBABE
 abbrev pub magic : ℕ
 magic = 3405691582
 
--- one number more than the pool has, and its constants
+-- the constants behind a count that is one more than the numbers of the pool
 abbrev pub pool_text : List SlotData → List ℕ
 pool_text pool = joined (u2 (length pool + 1) ∷ flat_map slot_text pool ∷ [])
 
+-- the bytes of a class: the magic, and its fields in their order
 abbrev pub class_text : ClassData → List ℕ
 class_text c = joined (
     u4 magic ∷ u2 c.minor ∷ u2 c.major ∷ pool_text c.pool
@@ -134,10 +149,11 @@ body_size tag =
     else if tag == 15 then Some 3
     else None
 
+-- a number is the tag of a constant: that of a Utf8, or one with a size
 abbrev pub is_tag : ℕ → Bool
 is_tag tag = tag == 1 || is_some (body_size tag)
 
--- a Long or a Double takes two numbers
+-- a tag is that of a Long or a Double, which takes two numbers
 abbrev pub is_wide : ℕ → Bool
 is_wide tag = tag == 5 || tag == 6
 
@@ -145,17 +161,19 @@ is_wide tag = tag == 5 || tag == 6
 abbrev pub FitsTag : ℕ → List ℕ → Type 0
 FitsTag tag body = ((tag ≡ 1) × (length body < 2 ^ 16)) ⊎ (body_size tag ≡ Some (length body))
 
--- a hole stands exactly where one is due: after each Long and Double
+-- each body is as its tag says, and a hole stands exactly where one is due: after each Long and
+-- Double
 abbrev pub IsPoolFrom : Bool → List SlotData → Type 0
 IsPoolFrom due [] = due ≡ false
 IsPoolFrom true (Hole ∷ slots) = IsPoolFrom false slots
 IsPoolFrom false (Constant tag body ∷ slots) = FitsTag tag body × IsPoolFrom (is_wide tag) slots
 IsPoolFrom _ _ = ⊥
 
--- the constant of a number, from 1 on
+-- what stands at a number of the pool, from 1 on, or none
 abbrev pub slot_at : List SlotData → ℕ → Option SlotData
 slot_at pool index = if index == 0 then None else slice_get pool (index - 1)
 
+-- the bytes of a constant, if it is a Utf8
 abbrev pub utf8_of : SlotData → Option (List ℕ)
 utf8_of (Constant tag body) = if tag == 1 then Some body else None
 utf8_of Hole = None
@@ -174,13 +192,16 @@ NamesText pool name = (name < 2 ^ 16) × (is_some (utf8_at pool name) ≡ true)
 abbrev pub FitsCounted : {A : Type 0} → (A → Type 0) → List A → Type 0
 FitsCounted fits items = (length items < 2 ^ 16) × All fits items
 
+-- fewer than 2^32 bytes, which a length of four bytes can tell
 abbrev pub FitsSized : List ℕ → Type 0
 FitsSized bytes = length bytes < 2 ^ 32
 
+-- the name is that of a Utf8, and the bytes fit their length
 pub record IsOpaque (pool : List SlotData) (a : OpaqueData) : Type 0 where
   pub name : NamesText pool a.name
   pub bytes : FitsSized a.bytes
 
+-- numbers, counts and lengths of a Code fit their fields, and so do its attributes
 pub record IsCode (pool : List SlotData) (c : CodeData) : Type 0 where
   pub max_stack : c.max_stack < 2 ^ 16
   pub max_locals : c.max_locals < 2 ^ 16
@@ -189,31 +210,37 @@ pub record IsCode (pool : List SlotData) (c : CodeData) : Type 0 where
   pub handlers : length c.handlers % 8 ≡ 0
   pub attributes : FitsCounted (IsOpaque pool) c.attributes
 
+-- a text that was found is `Code`
 abbrev pub is_code_name : Option (List ℕ) → Bool
 is_code_name None = false
 is_code_name (Some text) = bytes_eq text (codes "Code")
 
--- a Code stands exactly where it has to
+-- a Code of the pool stands exactly where it has to, and bytes as they are everywhere else
 abbrev pub IsBody : List SlotData → Bool → BodyData → Type 0
 IsBody pool false (Opaque bytes) = Unit {0}
 IsBody pool true (Coded code) = IsCode pool code
 IsBody pool _ _ = ⊥
 
--- an attribute, in a method or not
+-- an attribute, in a method or not: its name is a Utf8, what it holds fits, and it is a Code
+-- exactly where it has that name and stands in a method
 pub record IsAttribute (pool : List SlotData) (in_method : Bool) (a : AttributeData) : Type 0 where
   pub name : NamesText pool a.name
   pub body : IsBody pool (in_method && is_code_name (utf8_at pool a.name)) a.body
   pub bytes : FitsSized (held_text a.body)
 
+-- the numbers, the count and the attributes of a field, or of a method, fit their fields
 pub record IsMember (pool : List SlotData) (in_method : Bool) (m : MemberData) : Type 0 where
   pub access : m.access < 2 ^ 16
   pub name : m.name < 2 ^ 16
   pub descriptor : m.descriptor < 2 ^ 16
   pub attributes : FitsCounted (IsAttribute pool in_method) m.attributes
 
+-- a major version that is taken: from 45 to 65
 abbrev pub is_major : ℕ → Bool
 is_major major = nat_le 45 major && nat_le major 65
 
+-- well formed: numbers, counts and lengths fit their fields, names of attributes are Utf8, and
+-- exactly in methods a Code is taken apart
 pub record IsClass (c : ClassData) : Type 0 where
   pub minor : c.minor < 2 ^ 16
   pub major : (45 ≤ c.major) × (c.major ≤ 65)

@@ -34,31 +34,34 @@ abbrev pub body_of_size : Option ℕ → Reading ClassFault (List ℕ)
 body_of_size None = text_field
 body_of_size (Some size) = part Short size
 
+-- the body behind a tag
 abbrev pub body_field : ℕ → Reading ClassFault (List ℕ)
 body_field tag = body_of_size (body_size tag)
 
+-- a constant: its tag and its body, where a Long or a Double needs one number more
 abbrev pub constant : Bool → Reading ClassFault SlotData
 constant more =
     and_then (tag_field more)
     (λ tag. and_then (body_field tag) (λ body. value (Constant tag body)))
 
+-- a slot is a Long or a Double
 abbrev pub is_wide_slot : SlotData → Bool
 is_wide_slot (Constant tag body) = is_wide tag
 is_wide_slot Hole = false
 
--- a number of the pool: a hole where one is due
+-- what takes a number of the pool: a hole where one is due, else a constant
 abbrev pub slot_field : Bool → Bool → Reading ClassFault SlotData
 slot_field true more = value Hole
 slot_field false more = constant more
 
--- n numbers of the pool
+-- so many numbers of the pool, where the first one is a hole or not
 abbrev pub slots : ℕ → Bool → Reading ClassFault (List SlotData)
 slots zero due = value []
 slots (suc n) due =
     and_then (slot_field due (nat_lt 0 n))
     (λ slot. and_then (slots n (is_wide_slot slot)) (λ slots. value (slot ∷ slots)))
 
--- the count is one more than the numbers
+-- the constants behind their count, which isn't 0 and is one more than the numbers
 abbrev pub pool_field : Reading ClassFault (List SlotData)
 pool_field =
     and_then (checked (λ count. nat_lt 0 count) (λ at count. Index at) short_number)
@@ -66,11 +69,12 @@ pool_field =
 
 -- Attributes
 
--- the name of an attribute
+-- the name of an attribute, which is the number of a Utf8
 abbrev pub name_field : (ℕ → ClassFault) → List SlotData → Reading ClassFault ℕ
 name_field short pool =
     checked (λ name. is_some (utf8_at pool name)) (λ at name. Index at) (number short w16)
 
+-- an attribute whose bytes aren't taken apart
 abbrev pub opaque_field : (ℕ → ClassFault) → List SlotData → Reading ClassFault OpaqueData
 opaque_field short pool =
     and_then (name_field short pool)
@@ -109,6 +113,7 @@ abbrev pub held_field : List SlotData → Bool → Reading ClassFault BodyData
 held_field pool false = and_then (sized Short) (λ bytes. value (Opaque bytes))
 held_field pool true = and_then (code_field pool) (λ code. value (Coded code))
 
+-- an attribute, in a method or not
 abbrev pub attribute_field : List SlotData → Bool → Reading ClassFault AttributeData
 attribute_field pool in_method =
     and_then (name_field Short pool)
@@ -117,6 +122,7 @@ attribute_field pool in_method =
 
 -- Members and the class
 
+-- a field or a method
 abbrev pub member_field : List SlotData → Bool → Reading ClassFault MemberData
 member_field pool in_method =
     and_then short_number (λ access.
@@ -130,12 +136,16 @@ member_field pool in_method =
       attributes = attributes;
     })))))
 
+-- the four bytes of the magic
 abbrev pub magic_field : Reading ClassFault ℕ
 magic_field = checked (λ found. found == magic) (λ at found. Magic) (number Short w32)
 
+-- the major version
 abbrev pub major_field : Reading ClassFault ℕ
 major_field = checked is_major (λ at major. Version major) short_number
 
+-- the fields of a class in their order, each with the fault of one that doesn't fit or isn't
+-- allowed
 abbrev pub class_fields : Reading ClassFault ClassData
 class_fields =
     and_then magic_field (λ found.
@@ -162,14 +172,16 @@ class_fields =
       attributes = attributes;
     }))))))))))))
 
--- the class that some bytes read as, or their first fault
+-- what was read, without what is left behind it, or the fault
 abbrev pub value_of : {A : Type 0} → Result (A × Left) ClassFault → Result A ClassFault
 value_of (Ok r) = Ok r.0
 value_of (Err fault) = Err fault
 
+-- the class that some bytes read as, all of them, or their first fault
 abbrev pub class_of : List ℕ → Result ClassData ClassFault
 class_of bytes = value_of (ended Rest class_fields (record { place = 0; bytes = bytes }))
 
+-- the fault of a result, or none
 abbrev pub fault_of : {A : Type 0} → Result A ClassFault → Option ClassFault
 fault_of (Ok c) = None
 fault_of (Err fault) = Some fault

@@ -5,6 +5,7 @@ use Rattle.jm_class.specs.declared.class.ClassFault.{ClassFault}
 use Rattle.jm_class.specs.declared.class.ClassFault.TheVariants.{Magic, Version, Short, Tag, Index}
 use Rattle.jm_class.specs.declared.class.ClassFault.TheVariants.{CodeLength, Rest}
 
+-- a fault in print: its name, and its place or its version behind a space
 abbrev pub class_fault_text : ClassFault → List ℕ
 class_fault_text Magic = codes "Magic"
 class_fault_text (Version major) = codes "Version " ++ decimal major

@@ -18,9 +18,11 @@ behind n left = record { place = left.place + n; bytes = drop n left.bytes }
 abbrev pub Outcome : Type 0 → Type 0 → Type 0
 Outcome F A = Result (A × Left) F
 
+-- from what is left, a value and what is left behind it, or a fault
 abbrev pub Reading : Type 0 → Type 0 → Type 0
 Reading F A = Left → Outcome F A
 
+-- a value, for which no byte is read
 abbrev pub value : {F A : Type 0} → A → Reading F A
 value a left = Ok (a, left)
 

@@ -20,16 +20,20 @@ use Rattle.jm_class.specs.Classes.{Coded, AttributeData, MemberData, ClassData}
 use Rattle.jm_class.specs.ComputedClass.{class_of}
 use Rattle.jm_class.specs.Readings.{Left, Outcome}
 
+-- a slot of the pool as plain data
 abbrev pub slot_of : Slot → SlotData
 slot_of (slot.Constant tag body) = Constant tag body.now
 slot_of slot.Hole = Hole
 
+-- a constant pool as plain data
 abbrev pub pool_of : List Slot → List SlotData
 pool_of slots = map slot_of slots
 
+-- an attribute of a Code as plain data
 abbrev pub opaque_of : Plain → OpaqueData
 opaque_of a = record { name = a.name; bytes = a.bytes.now }
 
+-- a Code as plain data
 abbrev pub code_of : Code → CodeData
 code_of c = record {
   max_stack = c.max_stack;
@@ -39,13 +43,16 @@ code_of c = record {
   attributes = map opaque_of c.attributes;
 }
 
+-- what an attribute holds, as plain data
 abbrev pub body_of : Body → BodyData
 body_of (body.Plain bytes) = Opaque bytes.now
 body_of (body.Code code) = Coded (code_of code)
 
+-- an attribute as plain data
 abbrev pub attribute_of : Attribute → AttributeData
 attribute_of a = record { name = a.name; body = body_of a.body }
 
+-- a field or a method as plain data
 abbrev pub member_of : Member → MemberData
 member_of m = record {
   access = m.access;
@@ -54,7 +61,7 @@ member_of m = record {
   attributes = map attribute_of m.attributes;
 }
 
--- the class as plain data
+-- a class that the code hands out, as plain data
 abbrev pub plain : Class → ClassData
 plain c = record {
   minor = c.minor;

@@ -9,9 +9,11 @@ abbrev pub FitsSlot : SlotData → Type 0
 FitsSlot (Constant tag body) = FitsTag tag body
 FitsSlot Hole = Unit {0}
 
+-- an attribute of a Code in some well-formed class
 abbrev pub OfSomeCode : OpaqueData → Type 0
 OfSomeCode a = (pool : List SlotData) × IsOpaque pool a
 
+-- a Code of some well-formed class
 abbrev pub SomeCode : CodeData → Type 0
 SomeCode c = (pool : List SlotData) × IsCode pool c
 
@@ -22,11 +24,13 @@ pub record SomeBody (b : BodyData) : Type 0 where
   pub body : IsBody pool coded b
   pub bytes : FitsSized (held_text b)
 
+-- an attribute of some well-formed class
 pub record SomeAttribute (a : AttributeData) : Type 0 where
   pub pool : List SlotData
   pub in_method : Bool
   pub attribute : IsAttribute pool in_method a
 
+-- a field or a method of some well-formed class
 pub record SomeMember (m : MemberData) : Type 0 where
   pub pool : List SlotData
   pub in_method : Bool

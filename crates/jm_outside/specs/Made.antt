@@ -28,6 +28,6 @@ BrokenOff old (write ∷ writes) new =
 abbrev pub MadeAll : Writes → Option Files → Option Files → Type 0
 MadeAll writes old new = new ≡ option_map (λ files. written files writes) old
 
--- and they were broken off
+-- they were broken off, where the files are told
 abbrev pub MadePart : Writes → Option Files → Option Files → Type 0
 MadePart writes old new = Told old new (λ before after. BrokenOff before writes after)

@@ -17,7 +17,7 @@ contents_of pairs = map (λ p. p.1) pairs
 abbrev pub NamesDiffer : List (List ℕ × List ℕ) → Type 0
 NamesDiffer pairs = AllPairs (λ one other. one ≢ other) (names_of pairs)
 
--- the bytes of a name
+-- the bytes of a name, or none
 abbrev pub bytes_of : List ℕ → List (List ℕ × List ℕ) → Option (List ℕ)
 bytes_of name pairs = lookup (λ other. bytes_eq name other) pairs
 
