@@ -7,8 +7,8 @@ use Rattle.jm_closure.specs.Modules.{Requires}
 use Rattle.jm_closure.specs.Places.{place_in, Puts}
 use Rattle.jm_bind.specs.Binding.{ProvidesService, UsesService}
 
--- from a module to one that it requires and to a service that it uses, and from a service to a
--- module that provides it
+-- an edge leads from a module to one that it requires and to a service that it uses, and from a
+-- service to a module that provides it
 abbrev pub IsStep : List Candidate → (ℕ → List ℕ → Type 0) → (ℕ → List ℕ → Type 0)
     → List (List ℕ × ℕ) → ℕ → ℕ → Type 0
 IsStep found Uses Provides services i j =
@@ -30,7 +30,7 @@ pub record IsDrawn (found : List Candidate) (Uses Provides : ℕ → List ℕ �
       → (i < length found) × ((node : ℕ) × (place_in services service ≡ Some node))
   pub exactly : (i j : ℕ) → HasEdge graph i j ↔ IsStep found Uses Provides services i j
 
--- the same of the modules below a place alone
+-- a relation of modules to services, of the modules below a place alone
 abbrev pub Below : ℕ → (ℕ → List ℕ → Type 0) → ℕ → List ℕ → Type 0
 Below n Relates i service = (i < n) × Relates i service
 

@@ -8,7 +8,7 @@ use Rattle.jm_closure.specs.Least.{lesser}
 use Rattle.jm_closure.specs.Modules.{name_of, required_by}
 use Rattle.jm_closure.specs.Places.{place_in}
 
--- the lesser of a text and the least of a list that pass
+-- the lesser of a text, if there is one, and the least of those of a list that pass
 abbrev pub least_of : (List ℕ → Bool) → Option (List ℕ) → List (List ℕ) → Option (List ℕ)
 least_of p least [] = least
 least_of p least (text ∷ texts) =
@@ -33,11 +33,11 @@ is_required name c = list_any (λ required. bytes_eq required name) (required_by
 abbrev pub holds : List ℕ → Candidate → Bool
 holds shared c = list_any (λ held. bytes_eq held shared) c.packages
 
--- the names of those chosen modules that pass
+-- the names of the modules that pass
 abbrev pub names_where : (Candidate → Bool) → List Candidate → List (List ℕ)
 names_where p found = map name_of (filter p found)
 
--- the text isn't that one
+-- the text isn't another one, if there is one
 abbrev pub differs : Option (List ℕ) → List ℕ → Bool
 differs None text = true
 differs (Some other) text = not (bytes_eq text other)

@@ -27,6 +27,7 @@ pub record IsReversed (graph back : List (List ℕ)) : Type 0 where
   pub within : EndsWithin back
   pub turned : (i j : ℕ) → HasEdge graph i j → HasEdge back j i
 
+-- a node has a flag that is up
 abbrev pub IsMarked : List Bool → ℕ → Type 0
 IsMarked flags node = slice_index_or flags node false ≡ true
 
@@ -42,12 +43,15 @@ OnCycle graph node = LedFrom graph (ends_at graph node) node
 -- Rounds: in each one, some nodes are reached that were not reached in the rounds before. A list
 -- has the round of each node, 0 for a node that is not reached yet.
 
+-- the round in which a node was reached, 0 where it wasn't yet
 abbrev pub round_of : List ℕ → ℕ → ℕ
 round_of rounds node = slice_index rounds node
 
+-- a node was reached
 abbrev pub IsReached : List ℕ → ℕ → Type 0
 IsReached rounds node = 0 < round_of rounds node
 
+-- a flag for each node: whether it was reached
 abbrev pub marks_of : List ℕ → List Bool
 marks_of rounds = map (λ round. not (round == 0)) rounds
 
@@ -69,11 +73,12 @@ pub record InRound (graph : List (List ℕ)) (before starts : List ℕ) (round :
   pub followed : (i j : ℕ) → IsReached rounds i → HasEdge graph i j
       → IsReached before i ⊎ (Contains work i ⊎ (IsReached rounds j ⊎ Contains next j))
 
--- a node is reached in a round, unless it was reached already, and its edges are to be followed
+-- a node is reached in a round, unless it was reached already
 abbrev pub with_reached : List ℕ → ℕ → ℕ → List ℕ
 with_reached rounds round node =
     if round_of rounds node == 0 then slice_set rounds node round else rounds
 
+-- the nodes whose edges are to be followed, with one more, unless it was reached already
 abbrev pub with_queued : List ℕ → List ℕ → ℕ → List ℕ
 with_queued rounds work node =
     if round_of rounds node == 0 then work ++ node ∷ [] else work

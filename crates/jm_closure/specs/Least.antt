@@ -4,6 +4,7 @@ use Rattle.std.specs.Cmp.Lexicographic.{slice_cmp}
 use Rattle.std.specs.Ordering.{is_le, nat_cmp}
 use Rattle.jm_closure.specs.Refusals.{IsLeast, IsNone}
 
+-- the least text with a property, or none where no text has it
 abbrev pub IsLeastOf : (List ℕ → Type 0) → Option (List ℕ) → Type 0
 IsLeastOf P None = IsNone P
 IsLeastOf P (Some text) = IsLeast P text

@@ -5,6 +5,7 @@ use Rattle.jm_modinfo.specs.declared.descriptor.Need.{Need}
 use Rattle.jm_modinfo.specs.Flags.{is_static}
 use Rattle.jm_closure.specs.declared.candidate.Candidate.{Candidate}
 
+-- the name of a module
 abbrev pub name_of : Candidate → List ℕ
 name_of c = c.descriptor.name
 
@@ -33,7 +34,7 @@ RequiresName found i name =
 abbrev pub Requires : List Candidate → ℕ → ℕ → Type 0
 Requires found i j = (name : List ℕ) × RequiresName found i name × HasName found j name
 
--- a root
+-- the module at place i has the name of a root
 abbrev pub IsRoot : List Candidate → List (List ℕ) → ℕ → Type 0
 IsRoot found roots i = (name : List ℕ) × Contains roots name × HasName found i name
 

@@ -8,7 +8,7 @@ use Rattle.std.specs.BTreeMap.{BTreeMap}
 use Rattle.std.specs.declared.vec.Vec.{Vec}
 use Rattle.std.specs.declared.alloc.Global.{Global}
 
--- the place of a text
+-- the place of a text, or none
 abbrev pub place_in : List (List ℕ × ℕ) → List ℕ → Option ℕ
 place_in [] text = None
 place_in (p ∷ ps) text = if bytes_eq text p.0 then Some p.1 else place_in ps text

@@ -10,7 +10,7 @@ use Rattle.jm_closure.specs.declared.error.CloseError.TheVariants as refusal
 use Rattle.jm_closure.specs.Modules.{name_of, HasName, HasPackage, IsFound, ReachesItself}
 use Rattle.jm_closure.specs.Modules.{RequiresName}
 
--- in byte order, a proper prefix first
+-- a text is another one or stands before it in byte order, a proper prefix first
 abbrev pub IsAtMost : List ℕ → List ℕ → Type 0
 IsAtMost a b = IsTrue (is_le (slice_cmp nat_cmp a b))
 
@@ -18,46 +18,52 @@ IsAtMost a b = IsTrue (is_le (slice_cmp nat_cmp a b))
 abbrev pub IsLeast : (List ℕ → Type 0) → List ℕ → Type 0
 IsLeast P text = P text × ((other : List ℕ) → P other → IsAtMost text other)
 
--- no text has it
+-- no text has a property
 abbrev pub IsNone : (List ℕ → Type 0) → Type 0
 IsNone P = (text : List ℕ) → ¬ P text
 
 -- 1: a root isn't found
 
+-- a root isn't found
 abbrev pub IsLostRoot : List Candidate → List (List ℕ) → List ℕ → Type 0
 IsLostRoot found roots name = Contains roots name × ¬ IsFound found name
 
 -- 2: a chosen module requires without `static` what isn't found
 
+-- a chosen module of the second name requires the first without `static`, which isn't found
 abbrev pub Lacks : List Candidate → (ℕ → Type 0) → List ℕ → List ℕ → Type 0
 Lacks found Chosen name by =
     (i : ℕ) × Chosen i × HasName found i by × RequiresName found i name × ¬ IsFound found name
 
+-- a chosen module requires a name without `static`, which isn't found
 abbrev pub IsLacking : List Candidate → (ℕ → Type 0) → List ℕ → Type 0
 IsLacking found Chosen name = (by : List ℕ) × Lacks found Chosen name by
 
 -- 3: a chosen module reaches itself
 
+-- a chosen module of this name reaches itself
 abbrev pub IsOnCycle : List Candidate → (ℕ → Type 0) → List ℕ → Type 0
 IsOnCycle found Chosen name =
     (i : ℕ) × Chosen i × HasName found i name × ReachesItself found i
 
 -- 4: two chosen modules have the same class package
 
+-- a chosen module of this name has a class package
 abbrev pub Holds : List Candidate → (ℕ → Type 0) → List ℕ → List ℕ → Type 0
 Holds found Chosen shared name =
     (i : ℕ) × Chosen i × HasName found i name × HasPackage found i shared
 
--- a module of this name and one of another name hold it
+-- a chosen module of this name and one of another name have the class package
 abbrev pub IsShared : List Candidate → (ℕ → Type 0) → List ℕ → List ℕ → Type 0
 IsShared found Chosen shared name =
     (other : List ℕ) × (name ≢ other)
     × Holds found Chosen shared name × Holds found Chosen shared other
 
+-- two chosen modules of different names have the class package
 abbrev pub IsSplit : List Candidate → (ℕ → Type 0) → List ℕ → Type 0
 IsSplit found Chosen shared = (name : List ℕ) × IsShared found Chosen shared name
 
--- the package, and the two least modules that hold it
+-- the least such class package, and the two least names of those that have it
 pub record SplitsAt (found : List Candidate) (Chosen : ℕ → Type 0)
     (shared first second : List ℕ) : Type 0 where
   pub least : IsLeast (IsSplit found Chosen) shared
@@ -66,20 +72,26 @@ pub record SplitsAt (found : List Candidate) (Chosen : ℕ → Type 0)
 
 -- none of the four, each by itself
 
+-- every root is found
 abbrev pub RootsFound : List Candidate → List (List ℕ) → Type 0
 RootsFound found roots = IsNone (IsLostRoot found roots)
 
+-- what the chosen modules require without `static` is found
 abbrev pub NeedsFound : List Candidate → (ℕ → Type 0) → Type 0
 NeedsFound found Chosen = IsNone (IsLacking found Chosen)
 
+-- no chosen module reaches itself
 abbrev pub IsAcyclic : List Candidate → (ℕ → Type 0) → Type 0
 IsAcyclic found Chosen = IsNone (IsOnCycle found Chosen)
 
+-- no two chosen modules of different names have one class package
 abbrev pub IsUnsplit : List Candidate → (ℕ → Type 0) → Type 0
 IsUnsplit found Chosen = IsNone (IsSplit found Chosen)
 
 -- the refusal is the one of its kind, with its least values, or want of memory
 
+-- the refusal is the least name that isn't found, with the least module that requires it, or want
+-- of memory
 abbrev pub RefusesNeeds : List Candidate → (ℕ → Type 0) → CloseError → Type 0
 RefusesNeeds found Chosen (refusal.NoRoot name) = ⊥
 RefusesNeeds found Chosen (refusal.Missing name by) =
@@ -88,6 +100,7 @@ RefusesNeeds found Chosen (refusal.Cycle name) = ⊥
 RefusesNeeds found Chosen (refusal.SplitPackage shared first second) = ⊥
 RefusesNeeds found Chosen refusal.Memory = Unit {0}
 
+-- the refusal is the least module that reaches itself, or want of memory
 abbrev pub RefusesCycle : List Candidate → (ℕ → Type 0) → CloseError → Type 0
 RefusesCycle found Chosen (refusal.NoRoot name) = ⊥
 RefusesCycle found Chosen (refusal.Missing name by) = ⊥
@@ -95,6 +108,7 @@ RefusesCycle found Chosen (refusal.Cycle name) = IsLeast (IsOnCycle found Chosen
 RefusesCycle found Chosen (refusal.SplitPackage shared first second) = ⊥
 RefusesCycle found Chosen refusal.Memory = Unit {0}
 
+-- the refusal is the least class package of two modules, with their least names, or want of memory
 abbrev pub RefusesSplit : List Candidate → (ℕ → Type 0) → CloseError → Type 0
 RefusesSplit found Chosen (refusal.NoRoot name) = ⊥
 RefusesSplit found Chosen (refusal.Missing name by) = ⊥
@@ -103,7 +117,7 @@ RefusesSplit found Chosen (refusal.SplitPackage shared first second) =
     SplitsAt found Chosen shared first second
 RefusesSplit found Chosen refusal.Memory = Unit {0}
 
--- these are the places of exactly the chosen modules, rising by name
+-- the places are those of exactly the chosen modules, rising by name
 pub record AreChosen (found : List Candidate) (Chosen : ℕ → Type 0) (places : List ℕ) : Type 0 where
   pub exactly : (i : ℕ) → Contains places i ↔ Chosen i
   pub rising : (k : ℕ) (i j : ℕ) (a b : Candidate)

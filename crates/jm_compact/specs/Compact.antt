@@ -41,15 +41,17 @@ renamed new Hole = Hole
 abbrev pub kept : {A : Type 0} → List Bool → List A → List A
 kept flags items = map (λ p. p.1) (filter (λ p. p.0) (zip flags items))
 
+-- the kept constants, each with its hole, that name others by new numbers
 abbrev pub compact_pool : List Bool → List SlotData → List SlotData
 compact_pool flags pool = map (renamed (new_number flags)) (kept flags pool)
 
 -- Classes
 
--- magic and versions stand in front of the pool, in 8 bytes
+-- what stands in front of the pool: magic and versions, 8 bytes
 abbrev pub front : ClassData → List ℕ
 front c = take 8 (class_text c)
 
+-- how many bytes stand up to the end of the pool
 abbrev pub pool_end : ClassData → ℕ
 pool_end c = 8 + length (pool_text c.pool)
 
@@ -71,25 +73,30 @@ pub data IsCompact (c : ClassData) (text : List ℕ) : Type 0 where
 
 -- the same, computed
 
+-- a flag for each slot by the sites that were found, or no flag where none were
 abbrev pub flags_by : ClassData → Option (List Found) → List Bool
 flags_by c None = []
 flags_by c (Some found) = flags_of c.pool (map (λ f. f.number) found)
 
+-- a flag for each slot of a class: whether its constant is live
 abbrev pub live_flags : ClassData → List Bool
 live_flags c = flags_by c (found_in c)
 
+-- the text of a class by its sites; its own where it has none
 abbrev pub text_by : ClassData → Option (List Site) → List ℕ
 text_by c None = class_text c
 text_by c (Some sites) = compact_with (live_flags c) sites c
 
+-- the text of a class with the constants that are live, or its own where it has no sites
 abbrev pub compact_text : ClassData → List ℕ
 compact_text c = text_by c (sites_of c)
 
--- of the bytes of a class
+-- the compact text of the class that was read, or the fault
 abbrev pub with_text : Result ClassData ClassFault → Result (List ℕ) ClassFault
 with_text (Ok c) = Ok (compact_text c)
 with_text (Err fault) = Err fault
 
+-- the compact text of the class that the bytes are, or their fault
 abbrev pub compact_of : List ℕ → Result (List ℕ) ClassFault
 compact_of bytes = with_text (class_of bytes)
 

@@ -11,16 +11,21 @@ use Rattle.jm_compact.specs.Compact.{name_sites, front, pool_end, back}
 -- Trees of constants, at most so deep: the tag, and the body with a tree in the place of each
 -- number; or none, for 0
 
+-- a constant as far as so many steps lead: none, or its tag and its body with a tree in the place
+-- of each number
 abbrev pub Tree : ℕ → Type 0
 Tree zero = Unit {0}
 Tree (suc depth) = Option (ℕ × List (Piece (Tree depth)))
 
+-- the tag of a constant, and its body with something else in the place of each number; none for a
+-- hole
 abbrev pub slot_tree : {A : Type 0} → (ℕ → A) → Option SlotData → Option (ℕ × List (Piece A))
 slot_tree tree None = None
 slot_tree tree (Some Hole) = None
 slot_tree tree (Some (Constant tag body)) =
     Some (tag, put_for_all tree (cut (name_sites tag) 0 body))
 
+-- the constant of a number as a tree, at most so deep
 abbrev pub tree : (depth : ℕ) → List SlotData → ℕ → Tree depth
 tree zero pool index = tt
 tree (suc depth) pool index = slot_tree (tree depth pool) (slot_at pool index)

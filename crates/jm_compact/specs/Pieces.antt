@@ -9,9 +9,11 @@ pub data Piece (A : Type 0) : Type 0 where
   Plain : (bytes : List ℕ) → Piece A
   Number : (wide : Bool) (number : A) → Piece A
 
+-- the width of a number: of two bytes where it is wide, else of one
 abbrev pub width : Bool → Width
 width wide = if wide then w16 else w8
 
+-- how many bytes such a number has
 abbrev pub size : Bool → ℕ
 size wide = byte_len (width wide)
 
@@ -30,14 +32,16 @@ abbrev pub put_for : {A B : Type 0} → (A → B) → Piece A → Piece B
 put_for new (Plain bytes) = Plain bytes
 put_for new (Number wide number) = Number wide (new number)
 
+-- something else in the place of each number of some pieces
 abbrev pub put_for_all : {A B : Type 0} → (A → B) → List (Piece A) → List (Piece B)
 put_for_all new pieces = map (put_for new) pieces
 
--- pieces end to end
+-- the bytes of a piece
 abbrev pub piece_text : Piece ℕ → List ℕ
 piece_text (Plain bytes) = bytes
 piece_text (Number wide number) = to_be_bytes (width wide) number
 
+-- pieces end to end
 abbrev pub text_of : List (Piece ℕ) → List ℕ
 text_of [] = []
 text_of (piece ∷ pieces) = piece_text piece ++ text_of pieces

@@ -14,17 +14,17 @@ AreIn [] at end = at ≤ end
 AreIn (site ∷ sites) at end =
     (at ≤ site.place) × AreIn sites (site.place + size site.wide) end
 
--- the new number of each slot, and of one behind them
+-- the new number of each slot's constant, and of one behind them all
 pub record AreNumbers (flags : List Bool) (numbers : Numbers) : Type 0 where
   pub slots : numbers.slots
       ≡ map (λ place. 1 + kept_before flags place) (range_with_len 0 (length flags))
   pub count : numbers.count ≡ 1 + kept_before flags (length flags)
 
--- the new number of a number
+-- the new number that a table of them gives of a number
 abbrev pub by_numbers : Numbers → ℕ → ℕ
 by_numbers numbers index =
     if index == 0 then 0 else slice_index_or numbers.slots (index - 1) numbers.count
 
--- the constants that are kept
+-- the text of the constants that are kept, which name others by new numbers
 abbrev pub kept_text : (ℕ → ℕ) → List Bool → List SlotData → List ℕ
 kept_text new flags pool = flat_map slot_text (map (renamed new) (kept flags pool))

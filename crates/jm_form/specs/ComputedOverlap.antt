@@ -12,9 +12,11 @@ meets r s = not (r.slot == s.slot) && nat_lt (max r.start s.start) (min r.end s.
 abbrev pub meets_one : List Range → Range → Bool
 meets_one all r = list_any (meets r) all
 
+-- the slots of a range and of the first one that meets it, or none
 abbrev pub overlap_of : List Range → Range → Option (ℕ × ℕ)
 overlap_of rs r = option_map (λ s. (r.slot, s.slot)) (find (meets r) rs)
 
+-- the same of a range that was found, none where none was
 abbrev pub overlap_from : List Range → Option Range → Option (ℕ × ℕ)
 overlap_from rs None = None
 overlap_from rs (Some r) = overlap_of rs r

@@ -7,12 +7,14 @@ use Rattle.jm_form.specs.declared.container.HeaderFault.TheVariants.{Short, Magi
 use Rattle.jm_form.specs.declared.damage.Damage.{Damage}
 use Rattle.jm_form.specs.declared.damage.Damage.TheVariants as damage
 
+-- a fault of a header in print: its kind, and the version behind a space
 abbrev pub header_fault_text : HeaderFault → List ℕ
 header_fault_text Short = codes "Short"
 header_fault_text Magic = codes "Magic"
 header_fault_text (Version word) = codes "Version " ++ decimal word
 header_fault_text Sizes = codes "Sizes"
 
+-- a damage in print: its kind, and each of its numbers behind a space
 abbrev pub damage_text : Damage → List ℕ
 damage_text (damage.Header fault) = codes "Header " ++ header_fault_text fault
 damage_text (damage.Offset slot) = codes "Offset " ++ decimal slot

@@ -20,7 +20,8 @@ use Rattle.jm_form.specs.Texts.{text_ends}
 abbrev pub content_fits : Row → ℕ → Bool
 content_fits row size = nat_le row.size size && nat_le row.offset (size - row.size)
 
--- of slot i with a row that isn't blank, over the strings and the size of the contents
+-- what can be wrong with slot i, whose row isn't blank, over the strings and the size of the
+-- contents: compressed, the four texts, the content
 abbrev pub row_checks : ℕ → List ℕ → ℕ → Row → List (Option Damage)
 row_checks i section size row =
     fault_if (not (row.packed == 0)) (damage.Compressed i)
@@ -31,12 +32,13 @@ row_checks i section size row =
     ∷ fault_if (not (content_fits row size)) (damage.Range i)
     ∷ []
 
--- a blank row is in order
+-- the same of a slot that may have no row: then there is nothing to check
 abbrev pub entry_checks : ℕ → List ℕ → ℕ → Option Row → List (Option Damage)
 entry_checks i section size None = []
 entry_checks i section size (Some row) = row_checks i section size row
 
--- of slot i, whether it holds an entry or not
+-- what can be wrong with slot i, whether it holds an entry or not: its offset word, its row, and
+-- what the row says
 abbrev pub slot_checks : List ℕ → Header → ℕ → List (Option Damage)
 slot_checks b h i =
     fault_if (not (nat_lt (offset_word b h i) h.locations)) (damage.Offset i)
@@ -47,24 +49,27 @@ slot_checks b h i =
 abbrev pub slot_fault : List ℕ → Header → ℕ → Option Damage
 slot_fault b h i = first_fault (slot_checks b h i)
 
+-- the first fault of each slot, by rising slot
 abbrev pub slot_faults : List ℕ → Header → List (Option Damage)
 slot_faults b h = map (slot_fault b h) (slots h)
 
--- of the entries, where so many were stated
+-- what can be wrong with entries of which so many were stated: their count, an overlap
 abbrev pub entries_checks : ℕ → List Entry → List (Option Damage)
 entries_checks stated es =
     fault_if (not (stated == length es)) (damage.Count stated (length es))
     ∷ option_map (λ o. damage.Overlap o.0 o.1) (first_overlap (ranges_of es))
     ∷ []
 
--- of an image with a header: each slot's fault, then the count, then the overlap
+-- what can be wrong with an image that has a header: each slot's fault, then the count, then the
+-- overlap
 abbrev pub image_checks : List ℕ → Header → List (Option Damage)
 image_checks b h = slot_faults b h ++ entries_checks h.count (entries b h)
 
+-- the damage, by what was read as the header
 abbrev pub damage_with : List ℕ → Result Header HeaderFault → Option Damage
 damage_with b (Err fault) = Some (damage.Header fault)
 damage_with b (Ok h) = first_fault (image_checks b h)
 
--- the header's fault, else the first of the image's checks that finds one
+-- the header's fault, else the first of the image's checks that finds one, else none
 abbrev pub first_damage : List ℕ → Option Damage
 first_damage b = damage_with b (header_of b)

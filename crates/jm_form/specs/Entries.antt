@@ -24,12 +24,12 @@ slots h = range_with_len 0 h.length
 abbrev pub row_text : List ℕ → Header → ℕ → List ℕ
 row_text b h i = drop (offset_word b h i) (locations b h)
 
--- a row that one byte spells is blank
+-- what a reading of a row comes to: unspelled, or the row; a row that one byte spells is blank
 abbrev pub row_read : Option (Row × ℕ) → SlotRow
 row_read None = slot_row.Unspelled
 row_read (Some r) = if r.1 == 1 then slot_row.Blank else slot_row.Spelled r.0
 
--- what stands at a place of the locations
+-- what stands at a place of the locations, or that the place is outside
 abbrev pub row_at_place : List ℕ → Header → ℕ → SlotRow
 row_at_place b h place =
     if nat_lt place h.locations then row_read (row_front (drop place (locations b h)))
@@ -39,6 +39,7 @@ row_at_place b h place =
 abbrev pub row_of_slot : List ℕ → Header → ℕ → SlotRow
 row_of_slot b h i = row_at_place b h (offset_word b h i)
 
+-- the row that was found, if one that isn't blank was
 abbrev pub spelled_row : SlotRow → Option Row
 spelled_row (slot_row.Spelled row) = Some row
 spelled_row other = None
@@ -82,6 +83,7 @@ pub record ShortPieces (cut : Cut) : Type 0 where
 abbrev pub content_of : List ℕ → Row → List ℕ
 content_of section row = take row.size (drop row.offset section)
 
+-- the entry that a row makes of a slot
 abbrev pub entry_of : List ℕ → Header → ℕ → Row → Entry
 entry_of b h i row = record {
   slot = i;
@@ -90,7 +92,7 @@ entry_of b h i row = record {
   content = content_of (contents b h) row;
 }
 
--- the entry that a slot spells, or none where it is blank
+-- the entry that a slot spells, or none where it has no row
 abbrev pub entry_at : List ℕ → Header → ℕ → Option Entry
 entry_at b h i = option_map (entry_of b h i) (row_at b h i)
 
@@ -102,6 +104,6 @@ is_reached b h e = is_slot e.slot (probe b h e.name)
 abbrev pub entries : List ℕ → Header → List Entry
 entries b h = filter (is_reached b h) (filter_map (entry_at b h) (slots h))
 
--- the entry of a name
+-- the first entry of a name, or none
 abbrev pub entry_with : List ℕ → List Entry → Option Entry
 entry_with name es = find (λ e. bytes_eq name e.name) es

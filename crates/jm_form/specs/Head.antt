@@ -24,7 +24,7 @@ read_order b = unwrap_or (order_of b) Little
 abbrev pub version_of : List ℕ → ℕ
 version_of b = word (read_order b) b 4
 
--- the words that stand at places 8 to 27
+-- the header's five words behind the version, in a byte order, whatever they say
 abbrev pub fields_in : Order → List ℕ → Header
 fields_in order b = record {
   order = order;
@@ -35,6 +35,7 @@ fields_in order b = record {
   strings = word order b 24;
 }
 
+-- the same in the order in which the bytes are read
 abbrev pub fields_of : List ℕ → Header
 fields_of b = fields_in (read_order b) b
 

@@ -36,7 +36,7 @@ abbrev pub texts_of : List (List ℕ) → List (List ℕ)
 texts_of names =
     with_texts ([] ∷ codes "class" ∷ []) (flat_map (λ name. pieces (split name)) names)
 
--- the place of a text that is held
+-- the place of a text in the strings, 0 where it isn't held
 abbrev pub text_place : List (List ℕ) → List ℕ → ℕ
 text_place texts text = unwrap_or (place_of text texts) 0
 
@@ -47,7 +47,7 @@ pub record Sized : Type 0 where
   pub name : List ℕ
   pub size : ℕ
 
--- the row of the four pieces of a name, whose content stands at an offset
+-- the row of a name's four pieces, of an offset and a size, nothing compressed
 abbrev pub row_with : List (List ℕ) → Cut → ℕ → ℕ → Row
 row_with texts cut offset size = record {
   «module» = text_place texts cut.module;
@@ -88,6 +88,7 @@ index_of order table es = record {
 abbrev pub row_in : Index → ℕ → Option Row
 row_in index slot = lookup (λ other. slot == other) (zip index.table.slots index.rows)
 
+-- the usual spelling of a row, or no byte for a spare slot
 abbrev pub location_of : Option Row → List ℕ
 location_of None = []
 location_of (Some row) = usual row
@@ -97,7 +98,7 @@ abbrev pub locations_below : Index → ℕ → List ℕ
 locations_below index slot =
     0 ∷ flat_map (λ below. location_of (row_in index below)) (range_with_len 0 slot)
 
--- all of them
+-- the locations: one byte 0, and then the rows of all slots
 abbrev pub locations_text : Index → List ℕ
 locations_text index = locations_below index index.table.length
 
@@ -106,13 +107,16 @@ abbrev pub row_place : Index → ℕ → ℕ
 row_place index slot =
     if is_some (row_in index slot) then length (locations_below index slot) else 0
 
+-- the word of each slot: the place of its row
 abbrev pub offset_words : Index → List ℕ
 offset_words index = map (row_place index) (range_with_len 0 index.table.length)
 
+-- the word of each bucket
 abbrev pub redirect_words : Index → List ℕ
 redirect_words index = map word_of index.table.redirects
 
--- magic, version, flags, entries, slots, bytes of locations, bytes of strings
+-- the words of the header: magic, version, flags, entries, slots, bytes of locations, bytes of
+-- strings
 abbrev pub header_words : Index → List ℕ
 header_words index =
     0xCAFEDADA ∷ 0x00010000 ∷ 0 ∷ length index.rows ∷ index.table.length
@@ -134,6 +138,7 @@ index_text index =
 abbrev pub Written : Type 0
 Written = List ℕ × List ℕ
 
+-- an entry's name with the size of its content
 abbrev pub sized : Written → Sized
 sized e = record { name = e.0; size = length e.1 }
 
@@ -141,13 +146,14 @@ sized e = record { name = e.0; size = length e.1 }
 abbrev pub contents_text : List Written → List ℕ
 contents_text es = flat_map (λ e. e.1) es
 
--- the image of entries, by a table of their names
+-- the image of any entries, by a table of their names
 abbrev pub image_of : Order → GreedyTable → List Written → List ℕ
 image_of order table es =
     index_text (index_of order table (map sized es)) ++ contents_text es
 
 -- The image of resources
 
+-- the names of resources
 abbrev pub names_of : List Written → List (List ℕ)
 names_of resources = map (λ r. r.0) resources
 
@@ -156,6 +162,7 @@ abbrev pub holds_size : Holds → ℕ
 holds_size (Children names) = 4 * length names
 holds_size (Owners owners) = 8 * length owners
 
+-- a node's name with the size of its content
 abbrev pub sized_node : TreeNode → Sized
 sized_node node = record { name = node.name; size = holds_size node.holds }
 
@@ -168,15 +175,16 @@ all_sized resources =
 abbrev pub all_names : List Written → List (List ℕ)
 all_names resources = map (λ e. e.name) (all_sized resources)
 
--- the place of the row of the entry that has a name
+-- the word of a child: the place of the row of the entry that has its name
 abbrev pub name_place : Index → List (List ℕ) → List ℕ → ℕ
 name_place index names name =
     row_place index (unwrap_or (lookup (bytes_eq name) (zip names index.table.slots)) 0)
 
--- an owner as two words
+-- an owner as two words: its flag and the place of its text in the strings
 abbrev pub owner_words : Index → Owner → List ℕ
 owner_words index owner = empty_flag owner.empty ∷ text_place index.texts owner.module ∷ []
 
+-- all words of what a node holds
 abbrev pub node_words : Index → List (List ℕ) → Holds → List ℕ
 node_words index names (Children list) = map (name_place index names) list
 node_words index names (Owners list) = flat_map (owner_words index) list
@@ -186,6 +194,7 @@ abbrev pub written_node : Index → List (List ℕ) → TreeNode → Written
 written_node index names node =
     (node.name, words_text index.order (node_words index names node.holds))
 
+-- all nodes of the resources' trees as entries, by the index
 abbrev pub written_nodes : Index → List Written → List Written
 written_nodes index resources =
     map (written_node index (all_names resources)) (tree_nodes (names_of resources))

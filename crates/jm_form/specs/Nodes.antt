@@ -27,6 +27,7 @@ empty_flag empty = if empty then 1 else 0
 abbrev pub owner_text : Order → Owner × ℕ → List ℕ
 owner_text order o = words_text order (empty_flag o.0.empty ∷ o.1 ∷ [])
 
+-- owners with the places of their texts, as words one behind another
 abbrev pub owners_text : Order → List Owner → List ℕ → List ℕ
 owners_text order owners places = flat_map (owner_text order) (zip owners places)
 

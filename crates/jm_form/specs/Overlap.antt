@@ -7,6 +7,7 @@ use Rattle.jm_form.specs.Entries.{Entry}
 abbrev pub range_of : Entry → Range
 range_of e = record { start = e.row.offset; slot = e.slot; end = e.row.offset + e.row.size }
 
+-- where the contents of entries stand, in the order of the entries
 abbrev pub ranges_of : List Entry → List Range
 ranges_of es = map range_of es
 

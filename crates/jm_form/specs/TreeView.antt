@@ -20,19 +20,21 @@ pub data TreeItem : Type 0 where
   File : (bytes : List ℕ) → TreeItem
   Link : («module» : List ℕ) → TreeItem
 
+-- what a node holds as what stands there: children as a folder, owners as a package
 abbrev pub item_of : Holds → TreeItem
 item_of (Children list) = Folder list
 item_of (Owners list) = Package list
 
+-- the names of resources
 abbrev pub names_of : List (List ℕ × List ℕ) → List (List ℕ)
 names_of resources = map (λ r. r.0) resources
 
--- the file of the resource of a name
+-- the bytes that were found as a file, if any were
 abbrev pub file_of : Option (List ℕ) → Option TreeItem
 file_of None = None
 file_of (Some bytes) = Some (File bytes)
 
--- the path of a package, a slash, and one of its owners
+-- the path is that of a package, a slash, and one of its owners
 abbrev pub is_link : List (List ℕ) → List ℕ → Bool
 is_link names path =
     is_package_node (before_last is_slash path)
@@ -40,7 +42,7 @@ is_link names path =
     && list_any (λ o. bytes_eq (after_last is_slash path) o.module)
     (owners names (drop 10 (before_last is_slash path)))
 
--- what stands at a path, or none
+-- what a file system of both trees has at a path, or none
 abbrev pub tree : List (List ℕ × List ℕ) → List ℕ → Option TreeItem
 tree resources path =
     if bytes_eq path (codes "/")

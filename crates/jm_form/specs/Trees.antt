@@ -18,9 +18,11 @@ use Rattle.jm_form.specs.Rising.{rising}
 
 -- Resources: the module and the path of the name `/module/path`
 
+-- the module of a resource: what stands between the first slash and the next one
 abbrev pub module_of : List ℕ → List ℕ
 module_of name = before_first is_slash (drop 1 name)
 
+-- the path of a resource within its module: what stands behind the second slash
 abbrev pub path_of : List ℕ → List ℕ
 path_of name = after_first is_slash (drop 1 name)
 
@@ -83,6 +85,7 @@ pub record IsPlain (names : List (List ℕ)) : Type 0 where
 abbrev pub is_meta : List ℕ → Bool
 is_meta path = starts_with nat_eq path (codes "META-INF")
 
+-- the folders that are packages
 abbrev pub package_folders : List (List ℕ) → List ModuleFolder
 package_folders names = filter (λ folder. not (is_meta folder.path)) (folders names)
 
@@ -123,12 +126,15 @@ class_packages names =
 
 -- Nodes
 
+-- the name of a module's node
 abbrev pub module_node : List ℕ → List ℕ
 module_node «module» = codes "/modules/" ++ «module»
 
+-- the name of a folder's node
 abbrev pub folder_node : ModuleFolder → List ℕ
 folder_node folder = codes "/modules" ++ folder_name folder
 
+-- the name of a package's node
 abbrev pub package_node : List ℕ → List ℕ
 package_node called = codes "/packages/" ++ called
 
@@ -169,10 +175,12 @@ entry_name names place =
 abbrev pub children : List (List ℕ) → List ℕ → List (List ℕ)
 children names node = map (entry_name names) (filter (is_child node) (tree_places names))
 
--- below `/packages/`
+-- the name begins with `/packages/`
 abbrev pub is_package_node : List ℕ → Bool
 is_package_node node = starts_with nat_eq node (codes "/packages/")
 
+-- what a node holds: the owners of its package, the nodes of all packages for `/packages`, or else
+-- its children
 abbrev pub holds_of : List (List ℕ) → List ℕ → Holds
 holds_of names node =
     if is_package_node node then Owners (owners names (drop 10 node))

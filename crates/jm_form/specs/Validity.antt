@@ -24,6 +24,7 @@ pub record ValidAs (b : List ℕ) (h : Header) : Type 0 where
   pub count : h.count ≡ length (entries b h)
   pub apart : Apart (ranges_of (entries b h))
 
+-- the bytes are an image: there is a header by which they are valid
 abbrev pub Valid : List ℕ → Type 0
 Valid b = (h : Header) × ValidAs b h
 
@@ -47,12 +48,15 @@ Stands b m = (h : Header) × ValidAs b h × IsPermutation (resources (entries b 
 
 -- the look-up: row and content of the entry of a name
 
+-- row and content of an entry
 abbrev pub entry_found : Entry → Row × List ℕ
 entry_found e = (e.row, e.content)
 
+-- row and content of the entry of a name, by what was read as the header
 abbrev pub look_with : List ℕ → List ℕ → Result Header HeaderFault → Option (Row × List ℕ)
 look_with b name (Err fault) = None
 look_with b name (Ok h) = option_map entry_found (entry_with name (entries b h))
 
+-- row and content of the entry of a name, or none where the bytes have no header or no such entry
 abbrev pub look : List ℕ → List ℕ → Option (Row × List ℕ)
 look b name = look_with b name (header_of b)

@@ -2,6 +2,7 @@
 -- the factor and the summand are those of D. Knuth's MMIX).
 use Rattle.std.specs.Prelude.{ℕ, zero, suc, ◌+◌, ◌*◌, ◌%◌, ◌^◌}
 
+-- the number that is drawn behind another
 abbrev pub draw : ℕ → ℕ
 draw x = (x * 6364136223846793005 + 1442695040888963407) % 2 ^ 64
 

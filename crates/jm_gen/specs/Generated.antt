@@ -13,6 +13,7 @@ use Rattle.jm_gen.specs.Draws.{drawn}
 
 -- Names
 
+-- the last digit of a number, as a byte
 abbrev pub digit : ℕ → ℕ
 digit n = 48 + n % 10
 
@@ -35,10 +36,11 @@ class_path k c =
 
 -- The descriptor of a module
 
+-- a module as what another one requires, without flags and version
 abbrev pub need_of : ℕ → Need
 need_of k = record { name = module_name k; flags = 0; version = None }
 
--- the module before, and one of those before that, by a draw
+-- what module k requires: the module before, and one of those before that, by a draw
 abbrev pub needs : ℕ → ℕ → List Need
 needs k d =
     if k == 0 then []
@@ -47,7 +49,8 @@ needs k d =
 
 -- The class of a number
 
--- the constants, by the path of the class, the name of its source and its number
+-- the constants of a class, by its path, the name of its source and its number; the eleventh is the
+-- number
 abbrev pub pool_with : List ℕ → List ℕ → List ℕ → List SlotData
 pool_with path source value =
     utf8 path ∷ Constant 7 (u2 1) ∷ utf8 (codes "java/lang/Object") ∷ Constant 7 (u2 3)
@@ -63,6 +66,7 @@ instructions = 0x14 ∷ 0x00 ∷ 0x0B ∷ 0xAD ∷ []
 abbrev pub line_numbers : OpaqueData
 line_numbers = record { name = 8; bytes = 0 ∷ 1 ∷ 0 ∷ 0 ∷ 0 ∷ 1 ∷ [] }
 
+-- the Code of the method
 abbrev pub code : CodeData
 code = record {
   max_stack = 2;
@@ -81,9 +85,11 @@ method = record {
   attributes = record { name = 7; body = Coded code } ∷ [];
 }
 
+-- the attribute with the source's name
 abbrev pub source_file : AttributeData
 source_file = record { name = 9; body = Opaque (0 ∷ 10 ∷ []) }
 
+-- the class of a path, a source and the 8 bytes of a number
 abbrev pub class_with : List ℕ → List ℕ → List ℕ → ClassData
 class_with path source value = record {
   minor = 0;
@@ -98,6 +104,7 @@ class_with path source value = record {
   attributes = source_file ∷ [];
 }
 
+-- the name of a class's source: its own and `.java`
 abbrev pub source_name : ℕ → List ℕ
 source_name c = class_name c ++ codes ".java"
 
@@ -107,14 +114,16 @@ class_data k c v = class_with (class_path k c) (source_name c) (to_be_bytes w64 
 
 -- The files, each a path and its bytes
 
--- a file of a module, by what stands behind the module's folder
+-- the path of a file of a module, by what stands behind the module's folder
 abbrev pub path_in : List ℕ → ℕ → List ℕ → List ℕ
 path_in dir k rest = joined (dir ∷ codes "/" ∷ module_name k ∷ codes "/" ∷ rest ∷ [])
 
+-- the file of a module's descriptor
 abbrev pub info_file : List ℕ → ℕ → ℕ → List ℕ × List ℕ
 info_file dir k d =
     (path_in dir k (codes "module-info.class"), info_text (module_name k) (needs k d))
 
+-- the file of a class
 abbrev pub class_file : List ℕ → ℕ → ℕ → ℕ → List ℕ × List ℕ
 class_file dir k c v =
     (path_in dir k (class_path k c ++ codes ".class"), class_text (class_data k c v))

@@ -3,6 +3,7 @@
 use Rattle.std.specs.Prelude.{ℕ, List, [], ◌∷◌, AllPairs, IsTrue, IsFalse, if◌then◌else◌}
 use Rattle.jm_bytes.specs.ByteOrder.{is_before}
 
+-- a name, and something else in bytes
 abbrev pub Named : Type 0
 Named = List ℕ × List ℕ
 
@@ -14,7 +15,7 @@ RisesByName es = AllPairs (λ e f. IsTrue (is_before e.0 f.0)) es
 abbrev pub NeverFalls : List Named → Type 0
 NeverFalls es = AllPairs (λ e f. IsFalse (is_before f.0 e.0)) es
 
--- one more behind those whose names stand before its own
+-- pairs with one more, behind those whose names stand before its own
 abbrev pub placed : Named → List Named → List Named
 placed e [] = e ∷ []
 placed e (f ∷ es) = if is_before f.0 e.0 then f ∷ placed e es else e ∷ f ∷ es

@@ -18,11 +18,11 @@ has_module (b ∷ name) = is_slash b && list_any is_slash name
 abbrev pub parts : List ℕ → List (List ℕ)
 parts name = slice_split is_slash (drop 1 name)
 
--- `.` or `..`
+-- a part is `.` or `..`
 abbrev pub is_dots : List ℕ → Bool
 is_dots part = bytes_eq part (codes ".") || bytes_eq part (codes "..")
 
--- a zero byte
+-- a byte is zero
 abbrev pub is_zero : ℕ → Bool
 is_zero b = b == 0
 

@@ -12,11 +12,11 @@ pub record Cut : Type 0 where
   pub base : List ℕ
   pub ext : List ℕ
 
--- `/`
+-- a byte is `/`
 abbrev pub is_slash : ℕ → Bool
 is_slash b = b == 47
 
--- `.`
+-- a byte is `.`
 abbrev pub is_dot : ℕ → Bool
 is_dot b = b == 46
 

@@ -16,7 +16,8 @@ use Rattle.jm_poolmap.specs.Items.{items}
 use Rattle.jm_poolmap.specs.Frames.{frame}
 use Rattle.jm_poolmap.specs.Instructions.{instructions}
 
--- what a body consists of
+-- what a body consists of: any bytes, some items, a count of one byte or of two and so many rows,
+-- bootstrap methods, frames, a Code
 pub data Content : Type 0 where
   Any : Content
   Items : (items : List Item) → Content
@@ -27,9 +28,11 @@ pub data Content : Type 0 where
   Frames : Content
   Coded : Content
 
+-- the attributes that are known in one place, by their names
 abbrev pub Named : Type 0
 Named = List (List ℕ × Content)
 
+-- the attributes of a class
 abbrev pub class_rows : Named
 class_rows =
     (codes "Signature", Items (Site ∷ []))
@@ -44,6 +47,7 @@ class_rows =
     ∷ (codes "Synthetic", Any)
     ∷ []
 
+-- the attributes of a field
 abbrev pub field_rows : Named
 field_rows =
     (codes "ConstantValue", Items (Site ∷ []))
@@ -52,6 +56,7 @@ field_rows =
     ∷ (codes "Synthetic", Any)
     ∷ []
 
+-- the attributes of a method
 abbrev pub method_rows : Named
 method_rows =
     (codes "Code", Coded)
@@ -62,6 +67,7 @@ method_rows =
     ∷ (codes "Synthetic", Any)
     ∷ []
 
+-- the attributes of a Code
 abbrev pub code_rows : Named
 code_rows =
     (codes "LineNumberTable", Any)
@@ -70,6 +76,7 @@ code_rows =
     ∷ (codes "StackMapTable", Frames)
     ∷ []
 
+-- the attributes that are known in a place
 abbrev pub rows_at : place.Place → Named
 rows_at Class = class_rows
 rows_at Field = field_rows
@@ -85,7 +92,7 @@ named (row ∷ rows) name = if bytes_eq name row.0 then Some row.1 else named ro
 abbrev pub content_at : place.Place → List SlotData → ℕ → Option Content
 content_at place pool index = option_and_then (named (rows_at place)) (utf8_at pool index)
 
--- a method, and its arguments
+-- a bootstrap method, and its arguments
 abbrev pub bootstrap_method : Form
 bootstrap_method = in_order (site ∷ counted w16 (items (Site ∷ [])) ∷ [])
 
@@ -115,11 +122,13 @@ attribute_with code place pool found left =
 abbrev pub attribute_of_code : List SlotData → Form
 attribute_of_code pool = attribute_with nowhere Code pool
 
--- the depth of the stack and the number of variables, the instructions, handlers and attributes
+-- the parts of a Code: the depth of the stack and the number of variables, the instructions,
+-- handlers and attributes
 abbrev pub code : List SlotData → Form
 code pool = in_order (
     skip 4 ∷ sized w32 instructions ∷ counted w16 handler ∷ counted w16 (attribute_of_code pool)
     ∷ [])
 
+-- an attribute of a class, a field or a method
 abbrev pub attribute : place.Place → List SlotData → Form
 attribute place pool = attribute_with (code pool) place pool

@@ -8,6 +8,7 @@ use Rattle.jm_poolmap.specs.Sites.{named_by}
 abbrev pub with_mark : List Bool → ℕ → List Bool
 with_mark flags index = if index == 0 then flags else slice_set flags (index - 1) true
 
+-- the constants of some numbers are marked
 abbrev pub with_marks : List Bool → List ℕ → List Bool
 with_marks flags [] = flags
 with_marks flags (index ∷ rest) = with_marks (with_mark flags index) rest
@@ -27,6 +28,7 @@ abbrev pub flag_of : SlotData → Bool → Bool → Bool
 flag_of (Constant tag body) flag before = flag
 flag_of Hole flag before = before
 
+-- the flags of slots, where a hole has the flag of the constant before it
 abbrev pub with_holes : Bool → List SlotData → List Bool → List Bool
 with_holes before [] flags = []
 with_holes before (slot ∷ pool) [] = []
@@ -37,6 +39,7 @@ with_holes before (slot ∷ pool) (flag ∷ flags) =
 abbrev pub rounds : List SlotData → List Bool → List Bool
 rounds pool flags = spread_from 0 pool (spread_from 0 pool (spread_from 0 pool flags))
 
+-- the flags of a pool's slots, from the numbers that stand at sites
 abbrev pub flags_of : List SlotData → List ℕ → List Bool
 flags_of pool numbers =
     with_holes false pool (rounds pool (with_marks (replicate (length pool) false) numbers))

@@ -19,9 +19,11 @@ use Rattle.jm_poolmap.specs.Instructions.{instructions}
 abbrev pub Walked : Type 0
 Walked = Result Walk NoForm
 
+-- what a part of a class makes of the sites so far
 abbrev pub Step : Type 0
 Step = Walk → Walked
 
+-- the next step, if the part before is of its form
 abbrev pub step_on : Walked → Step → Walked
 step_on (Ok walk) step = step walk
 step_on (Err fault) step = Err fault
@@ -62,65 +64,77 @@ over form bytes walk =
     behind_all (walk.place + length bytes)
     (ended unfit (form walk.found) (record { place = walk.place; bytes = bytes }))
 
+-- an attribute by its bytes, whose name says of which form these are
 abbrev pub opaque_step : place.Place → List SlotData → ℕ → List ℕ → Step
 opaque_step place pool name bytes = steps (
     notes false name ∷ passes 4
     ∷ over (form_if (body nowhere) (content_at place pool name)) bytes ∷ [])
 
+-- an attribute of a Code
 abbrev pub plain_step : List SlotData → OpaqueData → Step
 plain_step pool a = opaque_step Code pool a.name a.bytes
 
+-- a handler for each 8 bytes
 abbrev pub handlers_form : List ℕ → Form
 handlers_form handlers = in_order (replicate (length handlers / 8) handler)
 
+-- a Code: its limits, instructions, handlers and attributes
 abbrev pub code_step : List SlotData → CodeData → Step
 code_step pool c = steps (
     passes 8 ∷ over instructions c.code
     ∷ passes 2 ∷ over (handlers_form c.handlers) c.handlers
     ∷ passes 2 ∷ each (plain_step pool) c.attributes ∷ [])
 
+-- an attribute by its name and by what it holds
 abbrev pub held_step : place.Place → List SlotData → ℕ → BodyData → Step
 held_step place pool name (Opaque bytes) = opaque_step place pool name bytes
 held_step place pool name (Coded code) =
     steps (notes false name ∷ passes 4 ∷ code_step pool code ∷ [])
 
+-- an attribute of a class, a field or a method
 abbrev pub attribute_step : place.Place → List SlotData → AttributeData → Step
 attribute_step place pool a = held_step place pool a.name a.body
 
+-- a field or a method: its flags, name and descriptor, and its attributes
 abbrev pub member_step : place.Place → List SlotData → MemberData → Step
 member_step place pool m = steps (
     passes 2 ∷ notes false m.name ∷ notes false m.descriptor
     ∷ passes 2 ∷ each (attribute_step place pool) m.attributes ∷ [])
 
+-- a slot, which has no site
 abbrev pub slot_step : SlotData → Step
 slot_step slot = passes (length (slot_text slot))
 
--- magic, versions, the constants, flags, the class and the one above, interfaces
+-- a class up to its interfaces: magic, versions, the constants, flags, the class and the one above,
+-- interfaces
 abbrev pub front_step : ClassData → Step
 front_step c = steps (
     passes 10 ∷ each slot_step c.pool
     ∷ passes 2 ∷ notes false c.this_class ∷ notes true c.super_class
     ∷ passes 2 ∷ each (notes false) c.interfaces ∷ [])
 
+-- a class behind its interfaces: its fields, methods and attributes
 abbrev pub back_step : ClassData → Step
 back_step c = steps (
     passes 2 ∷ each (member_step Field c.pool) c.fields
     ∷ passes 2 ∷ each (member_step Method c.pool) c.methods
     ∷ passes 2 ∷ each (attribute_step Class c.pool) c.attributes ∷ [])
 
+-- the whole of a class
 abbrev pub class_step : ClassData → Step
 class_step c = steps (front_step c ∷ back_step c ∷ [])
 
--- how many bytes both have
+-- how many bytes a class has up to its interfaces, these included
 abbrev pub front_size : ClassData → ℕ
 front_size c = 18 + length (flat_map slot_text c.pool) + length (flat_map u2 c.interfaces)
 
+-- how many bytes a class has behind its interfaces
 abbrev pub back_size : ClassData → ℕ
 back_size c =
     6 + length (flat_map member_text c.fields) + length (flat_map member_text c.methods)
     + length (flat_map attribute_text c.attributes)
 
--- the sites of the whole
+-- the sites of the whole class and the place behind it, or no such form
 abbrev pub walk_of : ClassData → Walked
 walk_of c = class_step c (record { found = []; place = 0 })
 

@@ -12,9 +12,11 @@ use Rattle.jm_poolmap.specs.declared.site.Found.{Found}
 abbrev pub NoForm : Type 0
 NoForm = Unit {0}
 
+-- what doesn't fit is of no such form, wherever it stands
 abbrev pub unfit : ℕ → NoForm
 unfit at = tt
 
+-- what stands from a place on: it adds the sites in it to those that were met before
 abbrev pub Form : Type 0
 Form = List Found → Reading NoForm (List Found)
 
@@ -42,12 +44,15 @@ site_of_width w wide optional found left =
     } ∷ []))
     left
 
+-- the number of a constant in two bytes
 abbrev pub site : Form
 site = site_of_width w16 true false
 
+-- the number of a constant in two bytes, where 0 means none
 abbrev pub optional_site : Form
 optional_site = site_of_width w16 true true
 
+-- the number of a constant in one byte
 abbrev pub byte_site : Form
 byte_site = site_of_width w8 false false
 
@@ -83,12 +88,15 @@ any found left = skip (length left.bytes) found left
 
 -- Rows of a table by a byte: the bytes of the row, from one to another, and what it says
 
+-- rows of a table: the ranges of bytes that have the row, and what it says
 abbrev pub Rows : Type 0 → Type 0
 Rows A = List (List (ℕ × ℕ) × A)
 
+-- the range of one byte
 abbrev pub one : ℕ → ℕ × ℕ
 one byte = (byte, byte)
 
+-- a byte is in a range, whose both ends are of it
 abbrev pub is_in : ℕ → ℕ × ℕ → Bool
 is_in byte range = nat_le range.0 byte && nat_le byte range.1
 

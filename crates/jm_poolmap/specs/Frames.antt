@@ -8,7 +8,8 @@ use Rattle.jm_poolmap.specs.declared.forms.FramePart.TheVariants.{Distance, OneT
 use Rattle.jm_poolmap.specs.Forms.{Form, Rows, skip, in_order, counted, by_byte, one}
 use Rattle.jm_poolmap.specs.Items.{items}
 
--- 7 is a class; 8 is an object that isn't initialised, by the place of its `new`
+-- what stands behind the first byte of a type: 7 is a class; 8 is an object that isn't initialised,
+-- by the place of its `new`
 abbrev pub type_rows : Rows (List Item)
 type_rows =
     ((0, 6) ∷ [], [])
@@ -16,9 +17,11 @@ type_rows =
     ∷ (one 8 ∷ [], Bytes 2 ∷ [])
     ∷ []
 
+-- a type of a frame
 abbrev pub type : Form
 type = by_byte type_rows items
 
+-- what stands behind the first byte of a frame
 abbrev pub frame_rows : Rows (List FramePart)
 frame_rows =
     ((0, 63) ∷ [], [])
@@ -30,13 +33,16 @@ frame_rows =
     ∷ (one 255 ∷ [], Distance ∷ Types ∷ Types ∷ [])
     ∷ []
 
+-- a distance in two bytes, one type, or a count of two bytes and so many types
 abbrev pub frame_part : FramePart → Form
 frame_part Distance = skip 2
 frame_part OneType = type
 frame_part Types = counted w16 type
 
+-- parts of a frame one behind another
 abbrev pub frame_parts : List FramePart → Form
 frame_parts parts = in_order (map frame_part parts)
 
+-- a frame of a StackMapTable
 abbrev pub frame : Form
 frame = by_byte frame_rows frame_parts

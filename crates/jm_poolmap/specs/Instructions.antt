@@ -9,13 +9,15 @@ use Rattle.jm_poolmap.specs.Forms.{Form, NoForm, Rows, unfit, without, skip, in_
 use Rattle.jm_poolmap.specs.Forms.{by_byte, one}
 use Rattle.jm_poolmap.specs.Items.{items}
 
--- what follows an opcode
+-- what follows an opcode: some items, the cases of a tableswitch or of a lookupswitch, or an opcode
+-- behind a `wide`
 pub data Operands : Type 0 where
   Items : (items : List Item) → Operands
   Table : Operands
   Lookup : Operands
   Wide : Operands
 
+-- what follows each opcode, by the first row that has it
 abbrev pub instruction_rows : Rows Operands
 instruction_rows =
     (one 18 ∷ [], Items (ByteSite ∷ []))
@@ -31,7 +33,7 @@ instruction_rows =
     ∷ ((0, 201) ∷ [], Items [])
     ∷ []
 
--- behind the opcode 196
+-- what follows an opcode behind 196, which is `wide`
 abbrev pub wide_rows : Rows (List Item)
 wide_rows =
     ((21, 25) ∷ (54, 58) ∷ one 169 ∷ [], Bytes 2 ∷ [])
@@ -51,6 +53,7 @@ abbrev pub words : ℕ → ℕ → Reading NoForm (List ℕ)
 words low high left =
     if nat_le low high then part unfit (4 * (high - low + 1)) left else Err tt
 
+-- the cases of a tableswitch: the lowest and the highest, and a word for each between them
 abbrev pub table_cases : Reading NoForm (List ℕ)
 table_cases =
     and_then (number unfit w32)
@@ -60,6 +63,7 @@ table_cases =
 abbrev pub pairs : ℕ → Reading NoForm (List ℕ)
 pairs count left = if nat_lt count (2 ^ 31) then part unfit (8 * count) left else Err tt
 
+-- the cases of a lookupswitch: their count, and two words for each
 abbrev pub lookup_cases : Reading NoForm (List ℕ)
 lookup_cases = and_then (number unfit w32) pairs
 
@@ -70,6 +74,7 @@ operands start Table = in_order (without (filling start) ∷ skip 4 ∷ without 
 operands start Lookup = in_order (without (filling start) ∷ skip 4 ∷ without lookup_cases ∷ [])
 operands start Wide = by_byte wide_rows items
 
+-- an instruction, in a code that begins at a place
 abbrev pub instruction : ℕ → Form
 instruction start = by_byte instruction_rows (operands start)
 

@@ -29,6 +29,7 @@ abbrev pub first_number : Option SlotData → ℕ → ℕ
 first_number (Some Hole) place = place
 first_number _ place = place + 1
 
+-- the number of the constant that takes a slot of the pool
 abbrev pub number_of : List SlotData → ℕ → ℕ
 number_of pool place = first_number (slice_get pool place) place
 

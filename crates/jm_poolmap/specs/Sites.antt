@@ -37,6 +37,7 @@ abbrev pub met : Outcome NoForm (List Found) → Option (List Found)
 met (Ok r) = Some r.0
 met (Err fault) = None
 
+-- the sites in the text of a class with their numbers, or none where the class isn't of the form
 abbrev pub found_in : ClassData → Option (List Found)
 found_in c = met (ended unfit (class c.pool []) (record { place = 0; bytes = class_text c }))
 
@@ -50,7 +51,7 @@ rank tag =
     else if tag == 15 then 3
     else 0
 
--- where in a body the numbers of constants stand, two bytes each
+-- where in a body of this tag the numbers of constants stand, two bytes each
 abbrev pub name_places : ℕ → List ℕ
 name_places tag =
     if tag == 7 || tag == 8 || tag == 16 || tag == 19 || tag == 20 then 0 ∷ []
@@ -65,21 +66,23 @@ named_by (Constant tag body) =
     map (λ place. from_be_bytes w16 (take 2 (drop place body))) (name_places tag)
 named_by Hole = []
 
--- the rank of the constant of a number, or none: a hole is no constant
+-- the rank of a constant, by its tag, or none: a hole is no constant
 abbrev pub rank_of : SlotData → Option ℕ
 rank_of (Constant tag body) = Some (rank tag)
 rank_of Hole = None
 
+-- the rank of the constant of a number, or none
 abbrev pub rank_at : List SlotData → ℕ → Option ℕ
 rank_at pool index = option_and_then rank_of (slot_at pool index)
 
 -- Checks
 
+-- a number is there and lower than the limit
 abbrev pub is_some_below : ℕ → Option ℕ → Bool
 is_some_below limit None = false
 is_some_below limit (Some n) = nat_lt n limit
 
--- each constant that is named is of a lower rank
+-- each constant that a constant names is of a lower rank
 abbrev pub names_lower : List SlotData → SlotData → Bool
 names_lower pool Hole = true
 names_lower pool (Constant tag body) =
@@ -93,14 +96,17 @@ names_constant pool found =
 
 -- The sites
 
+-- place and width of a site
 abbrev pub site_of : Found → Site
 site_of found = record { place = found.place; wide = found.wide }
 
+-- the sites that were found, or none where one of them names no constant, or a constant of the pool
+-- names one that isn't of a lower rank
 abbrev pub judged : List SlotData → List Found → Option (List Site)
 judged pool found =
     if list_all (names_constant pool) found && list_all (names_lower pool) pool
     then Some (map site_of found) else None
 
--- the rule: none where the class isn't of the form, or a check fails
+-- the rule: the sites of a class, or none where it isn't of the form, or a check fails
 abbrev pub sites_of : ClassData → Option (List Site)
 sites_of c = option_and_then (judged c.pool) (found_in c)

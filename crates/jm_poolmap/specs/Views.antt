@@ -13,12 +13,14 @@ use Rattle.jm_poolmap.specs.Forms.{Form, nowhere, in_order}
 use Rattle.jm_poolmap.specs.Instructions as instructions
 use Rattle.jm_poolmap.specs.Instructions.{instructions}
 
+-- what the code's table says of an opcode, as plain data
 abbrev pub operands_of : operands.Operands → instructions.Operands
 operands_of (behind.Items list) = instructions.Items list.now
 operands_of behind.Table = instructions.Table
 operands_of behind.Lookup = instructions.Lookup
 operands_of behind.Wide = instructions.Wide
 
+-- what the code's table says of an attribute's body, as plain data
 abbrev pub content_of : content.Content → Content
 content_of told.Any = Any
 content_of (told.Items list) = Items list.now
@@ -28,7 +30,7 @@ content_of told.Methods = Methods
 content_of told.Frames = Frames
 content_of told.Code = Coded
 
--- the form of some bytes as a whole
+-- the form of some bytes as a whole: a body, the instructions of a code, or its handlers
 abbrev pub whole_form : walk.Kind → Form
 whole_form (whole.Body content) = body nowhere (content_of content)
 whole_form whole.Instructions = instructions

@@ -14,7 +14,7 @@ use Rattle.jm_redirect.specs.declared.building.Table.{Table}
 abbrev pub redirect_at : List Redirect → ℕ → Redirect
 redirect_at redirects hash = slice_index_or redirects (hash % length redirects) Nowhere
 
--- the redirects as words
+-- redirects as signed words
 abbrev pub words_of : List Redirect → List ℤ
 words_of redirects = map (λ r. cast_signed w32 (word_of r)) redirects
 
@@ -32,7 +32,7 @@ IsRefusal names (NoTable count) =
     (count ≡ 64) × All (λ slots. greedy names slots ≡ None) (table_lengths (length names))
 IsRefusal names Memory = Unit {0}
 
--- the words lead each name to its slot, and no two names share one
+-- the table's words lead each name to its slot, and no two names share one
 abbrev pub ServesNames : List (List ℕ) → Table → Type 0
 ServesNames names table =
     Serves names table.length (map (cast_unsigned w32) table.redirect) table.slot_of

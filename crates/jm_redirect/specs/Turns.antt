@@ -9,7 +9,8 @@ use Rattle.jm_redirect.specs.declared.turns.Turn.{Turn}
 abbrev pub size_of : List ℕ → ℕ → ℕ → ℕ
 size_of hashes slots bucket = length (filter (λ hash. hash % slots == bucket) hashes)
 
--- the turn of the name at a place, by its hash
+-- the turn of the name at a place, by the hashes of all names: how many fall into other buckets,
+-- its bucket, its place
 abbrev pub turn_at : List ℕ → ℕ → ℕ → Turn
 turn_at hashes slots place = record {
   others = length hashes - size_of hashes slots (slice_index hashes place % slots);

@@ -10,6 +10,7 @@ use Rattle.jm_strip.specs.declared.kind.Kind.{Kind}
 use Rattle.jm_strip.specs.declared.kind.Kind.TheVariants.{Other, Text, Code, OfCode, OfClass}
 use Rattle.jm_strip.specs.Strip.{debug_names, is_among}
 
+-- the kind of a text: `Code`, a debug attribute of a Code or of the class, or any other
 abbrev pub kind_of_text : List ℕ → Kind
 kind_of_text text =
     if is_code_name (Some text) then Code
@@ -17,22 +18,26 @@ kind_of_text text =
     else if is_among (debug_names false) (Some text) then OfClass
     else Text
 
+-- the kind of a text that was found, or `Other` where none was
 abbrev pub kind_of_name : Option (List ℕ) → Kind
 kind_of_name None = Other
 kind_of_name (Some text) = kind_of_text text
 
+-- the kind of a constant; what is no Utf8 has a kind of its own
 abbrev pub kind_of : SlotData → Kind
 kind_of slot = kind_of_name (utf8_of slot)
 
+-- the kind is that of a Utf8
 abbrev pub is_text_kind : Kind → Bool
 is_text_kind Other = false
 is_text_kind _ = true
 
+-- the kind is that of the name `Code`
 abbrev pub is_code_kind : Kind → Bool
 is_code_kind Code = true
 is_code_kind _ = false
 
--- debug information of a Code, or of a class
+-- the kind is that of the name of a debug attribute, of a Code or of the class
 abbrev pub is_debug_kind : Bool → Kind → Bool
 is_debug_kind true OfCode = true
 is_debug_kind false OfClass = true

@@ -12,6 +12,7 @@ debug_names true =
     codes "LineNumberTable" ∷ codes "LocalVariableTable" ∷ codes "LocalVariableTypeTable" ∷ []
 debug_names false = codes "SourceFile" ∷ codes "SourceDebugExtension" ∷ []
 
+-- a text that was found is one of some names
 abbrev pub is_among : List (List ℕ) → Option (List ℕ) → Bool
 is_among names None = false
 is_among names (Some text) = list_any (λ name. bytes_eq text name) names
@@ -20,19 +21,24 @@ is_among names (Some text) = list_any (λ name. bytes_eq text name) names
 abbrev pub stays : Bool → List SlotData → ℕ → Bool
 stays in_code pool name = not (is_among (debug_names in_code) (utf8_at pool name))
 
+-- a Code without its debug attributes
 abbrev pub strip_code : List SlotData → CodeData → CodeData
 strip_code pool c = record c { attributes = filter (λ a. stays true pool a.name) c.attributes }
 
+-- what an attribute holds, a Code without its debug attributes
 abbrev pub strip_body : List SlotData → BodyData → BodyData
 strip_body pool (Opaque bytes) = Opaque bytes
 strip_body pool (Coded code) = Coded (strip_code pool code)
 
+-- an attribute of a method; where it is a Code, this without its debug attributes
 abbrev pub strip_attribute : List SlotData → AttributeData → AttributeData
 strip_attribute pool a = record a { body = strip_body pool a.body }
 
+-- a method without the debug attributes of its Code
 abbrev pub strip_method : List SlotData → MemberData → MemberData
 strip_method pool m = record m { attributes = map (strip_attribute pool) m.attributes }
 
+-- a class without the debug attributes of each Code and of its own
 abbrev pub strip : ClassData → ClassData
 strip c = record c {
   methods = map (strip_method c.pool) c.methods;

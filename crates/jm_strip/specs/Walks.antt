@@ -15,6 +15,7 @@ abbrev pub shown : {F A B : Type 0} → (A → B) → Outcome F A → Outcome F 
 shown show (Ok r) = Ok (show r.0, r.1)
 shown show (Err fault) = Err fault
 
+-- the function that keeps nothing of a value
 abbrev pub nothing : {A : Type 0} → A → Unit {0}
 nothing a = tt
 
