@@ -26,6 +26,7 @@ gen_from words = record {
   seed = words.seed;
 }
 
+-- the `gen` that a command is, if it is one
 abbrev pub gen_of : Command → Option Gen
 gen_of (command.Gen dir modules classes seed jobs) =
     Some (record { dir = dir; modules = modules; classes = classes; seed = seed })
@@ -45,6 +46,7 @@ gen_of (command.Version jobs) = None
 abbrev pub modules_path : Gen → List ℕ
 modules_path gen = gen.dir ++ codes "/mods"
 
+-- where the image of a `gen` goes
 abbrev pub image_path : Gen → List ℕ
 image_path gen = gen.dir ++ codes "/image"
 

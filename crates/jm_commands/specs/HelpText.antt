@@ -80,8 +80,10 @@ statuses_text =
     ++ codes "  7 no memory was found\n"
     ++ codes "  8 a session broke its limits\n"
 
+-- the text of `--help`
 abbrev pub help_text : List ℕ
 help_text = usage_text ++ commands_text ++ options_text ++ plug_ins_text ++ statuses_text
 
+-- the text of `--version`
 abbrev pub version_text : List ℕ
 version_text = codes "jm_tool 0.1.0\n"

@@ -5,12 +5,14 @@ use Rattle.std.specs.Fmt.{decimal}
 use Rattle.std.specs.List.{concat}
 use Rattle.jm_link.specs.declared.linking.Summary.{Summary}
 
+-- the three lines on what was linked
 abbrev pub link_text : Summary → List ℕ
 link_text summary =
     concat (codes "modules " ∷ decimal summary.modules
     ∷ codes "\nresources " ∷ decimal summary.resources
     ∷ codes "\nbytes " ∷ decimal summary.length ∷ codes "\n" ∷ [])
 
+-- the four lines on what was made and linked
 abbrev pub gen_text : Summary → List ℕ
 gen_text summary =
     concat (codes "modules " ∷ decimal summary.modules

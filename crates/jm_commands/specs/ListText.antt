@@ -10,5 +10,6 @@ use Rattle.jm_extract.specs.Taken.{taken}
 abbrev pub list_line : Named → List ℕ
 list_line e = decimal (length e.1) ++ 32 ∷ utf e.0 ++ 10 ∷ []
 
+-- the text of `list`: a line for each entry that is taken
 abbrev pub list_text : List ℕ → Option (List (List Sign)) → List ℕ
 list_text b include = flat_map list_line (taken b include)

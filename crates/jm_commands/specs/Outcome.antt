@@ -64,6 +64,7 @@ pub record Outcome : Type 0 where
   pub writes : Writes
   pub session : Option (List ℕ)
 
+-- the outcome of an output, and of nothing else
 abbrev pub done : List ℕ → Outcome
 done output = record {
   status = status.Done;
@@ -73,6 +74,7 @@ done output = record {
   session = None;
 }
 
+-- the outcome of a status and a line, and of nothing else
 abbrev pub refused : Status → List ℕ → Outcome
 refused status text = record {
   status = status;
@@ -82,15 +84,19 @@ refused status text = record {
   session = None;
 }
 
+-- what a fault of the words comes to
 abbrev pub faulty : WordsError → Outcome
 faulty fault = refused status.Words (codes "words: " ++ error_text fault)
 
+-- what a damage of the image comes to
 abbrev pub damaged : Damage → Outcome
 damaged damage = refused status.Damaged (codes "damaged: " ++ damage_text damage)
 
+-- what a missing path or name comes to
 abbrev pub not_there : List ℕ → Outcome
 not_there text = refused status.NotThere (codes "not there: " ++ text)
 
+-- what a refusal comes to
 abbrev pub refusing : Refusal → Outcome
 refusing refusal = refused status.Refused (codes "refused: " ++ refusal_text refusal)
 
@@ -126,6 +132,7 @@ session_fault lines answered =
     else complaint.TooManyLines)
     else None
 
+-- what `serve` comes to, by its complaint, if there is one
 abbrev pub session_with : List ℕ → List ℕ → Option Complaint → Outcome
 session_with b output None = record {
   status = status.Done;
@@ -142,6 +149,7 @@ session_with b output (Some complaint) = record {
   session = Some b;
 }
 
+-- what `serve` comes to on an image's bytes, by the text of the source
 abbrev pub session_outcome : List ℕ → List ℕ → Outcome
 session_outcome b text =
     session_with b (replies b (answered_in text))
@@ -149,17 +157,21 @@ session_outcome b text =
 
 -- `describe`: what the class of a module says, by the class that the file's bytes read as
 
+-- what the refusal of the class of a module comes to
 abbrev pub bad_info : List ℕ → DescriptorFault → Outcome
 bad_info path fault = refusing (refusal.BadInfo path fault)
 
+-- what `describe` comes to, by what the class says
 abbrev pub descriptor_outcome : List ℕ → Result Descriptor InfoFault → Outcome
 descriptor_outcome path (Ok d) = done (describe_text d)
 descriptor_outcome path (Err fault) = bad_info path (fault_of.Info fault)
 
+-- what `describe` comes to, by the class that the file's bytes read as
 abbrev pub class_outcome : List ℕ → Result ClassData ClassFault → Outcome
 class_outcome path (Ok c) = descriptor_outcome path (info_of c)
 class_outcome path (Err fault) = bad_info path (fault_of.Class fault)
 
+-- what `describe` comes to, by the bytes of the file
 abbrev pub describe_outcome : List ℕ → List ℕ → Outcome
 describe_outcome path b = class_outcome path (class_of b)
 
@@ -174,7 +186,7 @@ pub record Link : Type 0 where
   pub output : List ℕ
   pub text : Summary → List ℕ
 
--- the words of a link
+-- the link that its words ask for
 abbrev pub link_from : LinkWords → Link
 link_from words = record {
   directories = words.directories.now;
@@ -184,6 +196,7 @@ link_from words = record {
   text = link_text;
 }
 
+-- the outcome of a link that made an image
 abbrev pub linked : Link → LinkedImage → Outcome
 linked link image = record {
   status = status.Done;
@@ -193,12 +206,14 @@ linked link image = record {
   session = None;
 }
 
+-- what a link comes to, by its image or its refusal
 abbrev pub link_outcome : Link → Result LinkedImage Refusal → Outcome
 link_outcome link (Ok image) = linked link image
 link_outcome link (Err refusal) = refusing refusal
 
 -- `extract`: a file of each taken entry below the directory, and the output says how many
 
+-- what `extract` comes to, by the entries that are taken or their refusal
 abbrev pub extract_outcome : List ℕ → Result (List Named) Refusal → Outcome
 extract_outcome dir (Ok entries) = record {
   status = status.Done;
@@ -209,6 +224,7 @@ extract_outcome dir (Ok entries) = record {
 }
 extract_outcome dir (Err refusal) = refusing refusal
 
+-- the link that a command is, if it is one
 abbrev pub link_of : Command → Option Link
 link_of (command.Link dirs roots output plugins order bind from_image jobs) =
     Some (record {
@@ -237,7 +253,7 @@ link_of (command.Version jobs) = None
 
 -- `gen`: files are made, and then they are linked
 
--- what is due, with files made before
+-- an outcome, with files made before
 abbrev pub behind : Writes → Outcome → Outcome
 behind made due = record {
   status = due.status;
@@ -257,15 +273,17 @@ gen_link gen = record {
   text = gen_text;
 }
 
--- the files of a `gen`; other commands make none first
+-- the files that a `gen` makes first; other commands make none
 abbrev pub first_writes : Option Gen → Writes
 first_writes (Some gen) = made_first gen
 first_writes None = []
 
+-- what a command comes to at a step of another one, where none ever stands
 abbrev pub misplaced : Outcome
 misplaced = faulty (error.Fault 1 kind.UnknownCommand)
 
--- a command on an image, by the bytes of its file, which have no damage, and by the source's text
+-- what a command comes to on an image, by the bytes of its file, which have no damage, and by the
+-- source's text
 abbrev pub image_outcome : Command → List ℕ → List ℕ → Outcome
 image_outcome (command.Cat image name jobs) b text = cat_outcome name (look b name)
 image_outcome (command.List image include jobs) b text = done (list_text b include)
@@ -281,6 +299,8 @@ image_outcome (command.Describe file jobs) b text = misplaced
 image_outcome (command.Help jobs) b text = misplaced
 image_outcome (command.Version jobs) b text = misplaced
 
+-- what a command comes to on an image, by its bytes, their first damage if they have one, and the
+-- source's text
 abbrev pub opened_outcome : Command → List ℕ → Option Damage → List ℕ → Outcome
 opened_outcome command b None text = image_outcome command b text
 opened_outcome command b (Some damage) text = damaged damage
@@ -300,7 +320,7 @@ reads_class (command.Gen dir modules classes seed jobs) = false
 reads_class (command.Help jobs) = false
 reads_class (command.Version jobs) = false
 
--- a command on the file of a path, if it is there
+-- what a command comes to on the file of a path, if it is there
 abbrev pub file_outcome : Command → List ℕ → Option (List ℕ) → List ℕ → Outcome
 file_outcome command path None text = not_there path
 file_outcome command path (Some b) text =
@@ -322,7 +342,7 @@ read_path (command.Gen dir modules classes seed jobs) = None
 read_path (command.Help jobs) = None
 read_path (command.Version jobs) = None
 
--- a command that reads no file
+-- what a command comes to that reads no file
 abbrev pub plain_outcome : Command → Outcome
 plain_outcome (command.Help jobs) = done help_text
 plain_outcome (command.Version jobs) = done version_text
@@ -337,11 +357,12 @@ plain_outcome (command.Serve image jobs) = misplaced
 plain_outcome (command.Gen dir modules classes seed jobs) = misplaced
 plain_outcome (command.Describe file jobs) = misplaced
 
--- a command by the path that it reads, the file there, and the source's text
+-- what a command comes to, by the path that it reads, the file there, and the source's text
 abbrev pub outcome_at : Command → Option (List ℕ) → Option (List ℕ) → List ℕ → Outcome
 outcome_at command None file text = plain_outcome command
 outcome_at command (Some path) file text = file_outcome command path file text
 
+-- what a command comes to, by the file that it reads and the source's text
 abbrev pub command_outcome : Command → Option (List ℕ) → List ℕ → Outcome
 command_outcome command file text = outcome_at command (read_path command) file text
 
@@ -349,7 +370,7 @@ command_outcome command file text = outcome_at command (read_path command) file 
 abbrev pub early_writes : Command → Writes
 early_writes command = first_writes (gen_of command)
 
--- the same of all words
+-- the files that all words make before it is known what they come to
 abbrev pub early_of : Result Command WordsError → Writes
 early_of (Ok command) = early_writes command
 early_of (Err fault) = []

@@ -66,12 +66,13 @@ OpenedLinkComesTo link b None due =
     (result : Result LinkedImage Refusal) × ImageComesTo b link.asked result
     × ShowsLinked result × (due ≡ link_outcome link result)
 
--- by the file at the path, if it is there
+-- a link of the modules of an image, by the file at its path, if it is there
 abbrev pub FoundLinkComesTo : Link → List ℕ → Option (List ℕ) → Outcome → Type 0
 FoundLinkComesTo link path None due = due ≡ not_there path
 FoundLinkComesTo link path (Some b) due = OpenedLinkComesTo link b (first_damage b) due
 
--- over a shelf that tells nothing, to what it does of some file
+-- a link of the modules of the image at a path; over a shelf that tells nothing, to what it does of
+-- some file
 abbrev pub ImageLinkComesTo : Option Files → Link → List ℕ → Outcome → Type 0
 ImageLinkComesTo told link path due =
     (found : Option (List ℕ)) × HasFile told (Some path) found
@@ -82,6 +83,7 @@ abbrev pub LinkComesFrom : Option Files → Link → Option (List ℕ) → Outco
 LinkComesFrom told link None due = PathLinkComesTo told link due
 LinkComesFrom told link (Some path) due = ImageLinkComesTo told link path due
 
+-- what a link comes to, by the files and by where its modules are
 abbrev pub LinkComesTo : Option Files → Link → Outcome → Type 0
 LinkComesTo told link due = LinkComesFrom told link link.image due
 
@@ -92,12 +94,14 @@ GenComesTo told gen due =
     × LinkComesTo (option_map (λ files. written files (made_first gen)) told) (gen_link gen) linked
     × (due ≡ behind (made_first gen) linked)
 
+-- what a command comes to, by the `gen` or the link that it is
 abbrev pub CommandWith : Option Files → Option (List ℕ) → Command → Option Gen → Option Link
     → Outcome → Type 0
 CommandWith told rest command (Some gen) link due = GenComesTo told gen due
 CommandWith told rest command None (Some link) due = LinkComesTo told link due
 CommandWith told rest command None None due = FileComesTo told rest command due
 
+-- what a command comes to, by the files and by what the source has
 abbrev pub CommandComesTo : Option Files → Option (List ℕ) → Command → Outcome → Type 0
 CommandComesTo told rest command due =
     CommandWith told rest command (gen_of command) (link_of command) due
@@ -110,7 +114,8 @@ WordsComeTo told rest (Err fault) due = due ≡ faulty fault
 
 -- What is read of a file
 
--- by the answer: its bytes; the complaint that it isn't there; a failure, or no memory
+-- what reading a file comes to: its bytes; the complaint that it isn't there; a failure, or no
+-- memory
 abbrev pub ReadsFile : Option Files → List ℕ → Result (List ℕ) Stop → Type 0
 ReadsFile told path (Ok bytes) = HasFile told (Some path) (Some bytes)
 ReadsFile told path (Err (stop.Complaint given)) =
@@ -118,7 +123,8 @@ ReadsFile told path (Err (stop.Complaint given)) =
 ReadsFile told path (Err stop.Outside) = Unit {0}
 ReadsFile told path (Err stop.Memory) = Unit {0}
 
--- by the answer: these bytes are an image; the complaint of their first damage; no memory
+-- what opening an image comes to: these bytes are one; the complaint of their first damage; no
+-- memory
 abbrev pub Opens : {A : Type 0} → List ℕ → Result A Stop → Type 0
 Opens b (Ok image) = first_damage b ≡ None
 Opens b (Err (stop.Complaint given)) =
@@ -128,6 +134,7 @@ Opens b (Err stop.Memory) = Unit {0}
 
 -- A step of a run
 
+-- the status with which a complaint ends a run
 abbrev pub status_of : Complaint → Status
 status_of (complaint.Words fault) = status.Words
 status_of (complaint.Damaged damage) = status.Damaged
@@ -153,7 +160,7 @@ Outputs (Err (stop.Complaint complaint)) output old new = Gets output old new
 Outputs (Err stop.Outside) output old new = GetsFront output old new
 Outputs (Err stop.Memory) output old new = GetsFront output old new
 
--- so are the files that are made
+-- the files are made, but some of them where the outside failed or no memory was found
 abbrev pub FilesMade : Result (Unit {0}) Stop → Writes → Option Files → Option Files → Type 0
 FilesMade (Ok _) writes old new = MadeAll writes old new
 FilesMade (Err (stop.Complaint complaint)) writes old new = MadeAll writes old new
@@ -167,7 +174,7 @@ IsFailure (Err (stop.Complaint complaint)) = ⊥
 IsFailure (Err stop.Outside) = Unit {0}
 IsFailure (Err stop.Memory) = Unit {0}
 
--- any step, where this is what the command comes to
+-- what any step does, where this is what the command comes to
 pub record StepDoes (due : Outcome) (answer : Result (Unit {0}) Stop) (old new : World)
     : Type 0 where
   pub answers : Answers due answer
@@ -182,8 +189,8 @@ StepOnText due answer old new =
     (text : List ℕ) × Shows old.input.told (λ told. text ≡ told)
     × StepDoes (due text) answer old new
 
--- it failed before it was known what the command comes to: with nothing put and nothing read from
--- the source, and of these files some made
+-- a step failed before it was known what the command comes to: with nothing put and nothing read
+-- from the source, and of these files some made
 pub record FailsAtOnce (early : Writes) (answer : Result (Unit {0}) Stop) (old new : World)
     : Type 0 where
   pub failed : IsFailure answer
@@ -209,7 +216,7 @@ AnswersAll due (Err (stop.Complaint complaint)) = due ≡ outcome_of complaint
 AnswersAll due (Err stop.Outside) = Unit {0}
 AnswersAll due (Err stop.Memory) = Unit {0}
 
--- a step that only puts to the output
+-- what a step does that only puts to the output
 pub record PutDoes (due : Outcome) (answer : Result (Unit {0}) Stop)
     (out new_out : Seen (List ℕ)) : Type 0 where
   pub answers : AnswersAll due answer
@@ -232,7 +239,7 @@ pub record DoesAll (due : Outcome) (old new : World) (err new_err : Seen (List �
   pub line : Gets due.line err new_err
   pub files : MadeAll due.writes old.shelf.told new.shelf.told
 
--- a front of it was done
+-- a front of all was done
 pub record DoesFront (due : Outcome) (old new : World) (err new_err : Seen (List ℕ)) : Type 0 where
   pub output : GetsFront due.output old.out new.out
   pub line : GetsFront due.line err new_err
@@ -254,14 +261,14 @@ EndsWith due is old new err new_err = (is ≡ due.status) × DoesAll due old new
 abbrev pub IsFailed : Status → Type 0
 IsFailed is = (is ≡ status.Outside) ⊎ (is ≡ status.Memory)
 
--- a whole run, where this is what the words come to
+-- what a whole run does, where this is what the words come to
 pub record RunDoes (due : Outcome) (is : Status) (old new : World) (err new_err : Seen (List ℕ))
     : Type 0 where
   pub ends : EndsWith due is old new err new_err
   pub source : SourceRead due.session (IsFailed is) (EndsAs is) old new
 
--- it failed before it was known what the words come to: with nothing put and nothing read from the
--- source, and of these files some made
+-- a run failed before it was known what the words come to: with nothing put and nothing read from
+-- the source, and of these files some made
 pub record RunStops (early : Writes) (is : Status) (old new : World) (err new_err : Seen (List ℕ))
     : Type 0 where
   pub failed : IsFailed is

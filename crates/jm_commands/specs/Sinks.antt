@@ -2,17 +2,19 @@
 use Rattle.std.specs.Prelude.{ℕ, ◌≡◌, ◌++◌, List, Option, option_map}
 use Rattle.jm_outside.specs.Outcome.{PutsFront, Told}
 
--- what it tells, if it tells it, and its count of faults
+-- what a shelf, a source or a sink tells, if it tells it, and its count of faults
 pub record Seen (A : Type 0) : Type 0 where
   pub told : Option A
   pub faults : ℕ
 
+-- what one of them tells and its count of faults, together
 abbrev pub seen : {A : Type 0} → Option A → ℕ → Seen A
 seen told faults = record { told = told; faults = faults }
 
--- the sink got this text behind what it had, or a front of it
+-- the sink got this text behind what it had
 abbrev pub Gets : List ℕ → Seen (List ℕ) → Seen (List ℕ) → Type 0
 Gets text old new = new.told ≡ option_map (λ put. put ++ text) old.told
 
+-- the sink got a front of this text behind what it had
 abbrev pub GetsFront : List ℕ → Seen (List ℕ) → Seen (List ℕ) → Type 0
 GetsFront text old new = Told old.told new.told (λ before after. PutsFront before after text)

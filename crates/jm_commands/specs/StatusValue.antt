@@ -4,6 +4,7 @@ use Rattle.jm_commands.specs.declared.status.Status.{Status}
 use Rattle.jm_commands.specs.declared.status.Status.TheVariants.{Done, Words, Refused, Damaged}
 use Rattle.jm_commands.specs.declared.status.Status.TheVariants.{NotThere, Outside, Memory, Session}
 
+-- the number with which the process ends
 abbrev pub value_of : Status → ℕ
 value_of Done = 0
 value_of Words = 2

@@ -20,28 +20,30 @@ use Rattle.jm_commands.specs.declared.stop.Stop.TheVariants as stop
 
 -- a failed call of the outside
 
+-- why a command stops where a call of the shelf failed
 abbrev pub stop_of_shelf : ShelfError → Stop
 stop_of_shelf shelf_error.Failed = stop.Outside
 stop_of_shelf shelf_error.Memory = stop.Memory
 
+-- why a command stops where a call of the sink failed
 abbrev pub stop_of_sink : SinkError → Stop
 stop_of_sink sink_error.Failed = stop.Outside
 stop_of_sink sink_error.Memory = stop.Memory
 
--- an extraction that stopped
+-- why a command stops where an extraction did
 abbrev pub stop_of_extract : ExtractStop → Stop
 stop_of_extract (extract_stop.Refused refusal) = stop.Complaint (complaint.Refused refusal)
 stop_of_extract extract_stop.Outside = stop.Outside
 stop_of_extract extract_stop.Memory = stop.Memory
 
--- a link that stopped
+-- why a command stops where a link did
 abbrev pub stop_of_link : LinkStop → Stop
 stop_of_link (link_stop.Refused refusal) = stop.Complaint (complaint.Refused refusal)
 stop_of_link (link_stop.NotThere path) = stop.Complaint (complaint.NotThere path)
 stop_of_link link_stop.Outside = stop.Outside
 stop_of_link link_stop.Memory = stop.Memory
 
--- a session that ended
+-- how `serve` ends, by how its session did
 abbrev pub stop_of_session : Result ℕ ServeError → Result (Unit {0}) Stop
 stop_of_session (Ok lines) = Ok tt
 stop_of_session (Err serve_error.ReadFault) = Err stop.Outside
@@ -50,7 +52,7 @@ stop_of_session (Err (serve_error.LongLine k)) = Err (stop.Complaint (complaint.
 stop_of_session (Err serve_error.TooManyLines) = Err (stop.Complaint complaint.TooManyLines)
 stop_of_session (Err serve_error.Memory) = Err stop.Memory
 
--- a command at a step of another one, where none ever stands
+-- how a command stops at a step of another one, where none ever stands
 abbrev pub misplaced_stop : Stop
 misplaced_stop = stop.Complaint (complaint.Words (error.Fault 1 kind.UnknownCommand))
 

@@ -7,6 +7,7 @@ use Rattle.jm_texts.specs.RefusalText.{refusal_text}
 use Rattle.jm_commands.specs.declared.complaint.Complaint.{Complaint}
 use Rattle.jm_commands.specs.declared.complaint.Complaint.TheVariants as complaint
 
+-- what the error sink is told of a complaint
 abbrev pub complaint_text : Complaint → List ℕ
 complaint_text (complaint.Words fault) = codes "words: " ++ error_text fault
 complaint_text (complaint.Damaged damage) = codes "damaged: " ++ damage_text damage
@@ -17,6 +18,6 @@ complaint_text complaint.NotFolder = codes "refused: NotFolder"
 complaint_text (complaint.LongLine k) = codes "session: LongLine " ++ decimal k
 complaint_text complaint.TooManyLines = codes "session: TooManyLines 1000001"
 
--- a line ends with one newline byte
+-- the line of a complaint, which ends with one newline byte
 abbrev pub line_of : Complaint → List ℕ
 line_of complaint = complaint_text complaint ++ 10 ∷ []

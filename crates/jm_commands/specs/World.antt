@@ -4,12 +4,13 @@ use Rattle.jm_outside.specs.Files.{Files}
 use Rattle.jm_outside.specs.Outcome.{Rose}
 use Rattle.jm_commands.specs.Sinks.{Seen, seen}
 
--- what each of them tells at one moment, and its count of faults
+-- what shelf, source and output tell at one moment, and their counts of faults
 pub record World : Type 0 where
   pub shelf : Seen Files
   pub input : Seen (List ℕ)
   pub out : Seen (List ℕ)
 
+-- shelf, source and output from what they tell and from their counts
 abbrev pub world : Option Files → ℕ → Option (List ℕ) → ℕ → Option (List ℕ) → ℕ → World
 world files shelf_faults rest input_faults put out_faults = record {
   shelf = seen files shelf_faults;

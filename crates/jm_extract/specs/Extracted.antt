@@ -47,6 +47,7 @@ extracted b include = unless_refused (taken b include)
 abbrev pub write_of : List ℕ → Named → List ℕ × List ℕ
 write_of dir e = (dir ++ utf e.0, e.1)
 
+-- the files of some entries below a directory, in their order
 abbrev pub writes_of : List ℕ → List Named → Writes
 writes_of dir entries = map (write_of dir) entries
 

@@ -11,9 +11,11 @@ use Rattle.jm_reader.specs.Walk.{entries_of}
 use Rattle.jm_names.specs.ByName.{Named, by_name}
 use Rattle.jm_extract.specs.declared.taking.TakenEntry.{TakenEntry}
 
+-- the name and the content of an entry
 abbrev pub named : Entry → Named
 named e = (e.name, e.content)
 
+-- the name and the content of what the code hands out
 abbrev pub taken_as : TakenEntry → Named
 taken_as t = (t.name, t.bytes.now)
 
@@ -26,6 +28,7 @@ is_included (Some patterns) name = list_any (λ signs. matches signs name) patte
 abbrev pub is_taken : Option (List (List Sign)) → List ℕ → Bool
 is_taken include name = not (is_node name) && is_included include name
 
+-- of some entries those that are taken, in their order
 abbrev pub taken_among : Option (List (List Sign)) → List Entry → List Named
 taken_among include entries = filter (λ e. is_taken include e.0) (map named entries)
 

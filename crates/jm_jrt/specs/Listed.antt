@@ -15,13 +15,16 @@ pub record Listed : Type 0 where
   pub bytes : List ℕ
   pub rest : Holds
 
+-- a root, if it is there
 abbrev pub root_if : Bool → List ℕ → List (List ℕ)
 root_if there name = if there then name ∷ [] else []
 
+-- the roots that are there, `/modules` first
 abbrev pub roots_if : Bool → Bool → List (List ℕ)
 roots_if modules packages =
     root_if modules (codes "/modules") ++ root_if packages (codes "/packages")
 
+-- what is still to come: of the roots, or of what a content tells from a word or a pair on
 abbrev pub rest_of : List ℕ → Header → ToCome → Holds
 rest_of b h (to_come.Roots modules packages) = Children (roots_if modules packages)
 rest_of b h (to_come.Words content next) = Children (names_left b h content.now next)
@@ -35,6 +38,7 @@ IsRead b h (to_come.Words content next) =
 IsRead b h (to_come.Pairs content next) =
     words_fault (is_pair_sound b h content.now) (2 * pair_count content.now) ≡ None
 
+-- the image has this header, and what is still to come is of a content without a bad word
 pub record IsListed (b : List ℕ) (h : Header) (left : ToCome) : Type 0 where
   pub header : header_of b ≡ Ok h
   pub read : IsRead b h left

@@ -22,6 +22,7 @@ use Rattle.jm_jrt.specs.Views.{count_of}
 
 -- Lines of a reply
 
+-- a text and a newline
 abbrev pub line : List ℕ → List ℕ
 line text = text ++ 10 ∷ []
 
@@ -33,28 +34,34 @@ numbered word n = line (word ++ decimal n)
 abbrev pub named : List ℕ → List ℕ → List ℕ
 named word name = line (word ++ utf name)
 
+-- the reply of an error
 abbrev pub error_reply : JrtError → List ℕ
 error_reply NotThere = line (codes "error NotThere")
 error_reply (BadNode at) = numbered (codes "error BadNode ") at
 error_reply NotFolder = line (codes "error NotFolder")
 
+-- the reply to a line that is no request
 abbrev pub request_error : List ℕ
 request_error = line (codes "error Request")
 
 -- `find`
 
+-- the reply of `find`, by what the look-up found
 abbrev pub find_reply : Option (Row × List ℕ) → List ℕ
 find_reply None = line (codes "none")
 find_reply (Some found) = numbered (codes "found ") (length found.1) ++ line found.1
 
 -- `stat`
 
+-- the reply of `stat` where something stands at the path; of a folder with the number of its
+-- children, of a file with that of its bytes
 abbrev pub item_reply : TreeItem → List ℕ
 item_reply (Folder names) = numbered (codes "folder ") (length names)
 item_reply (Package owners) = numbered (codes "folder ") (length owners)
 item_reply (File bytes) = numbered (codes "file ") (length bytes)
 item_reply (Link «module») = named (codes "link /modules/") «module»
 
+-- the reply of `stat`, by what stands at the path
 abbrev pub stat_reply : Result TreeItem JrtError → List ℕ
 stat_reply (Err error) = error_reply error
 stat_reply (Ok item) = item_reply item
@@ -65,6 +72,7 @@ stat_reply (Ok item) = item_reply item
 abbrev pub entry_line : List ℕ → List ℕ
 entry_line name = named (if is_node name then [] else codes "/modules") name
 
+-- what stands behind an owner for whom the package is empty
 abbrev pub empty_mark : Bool → List ℕ
 empty_mark empty = if empty then codes " empty" else []
 
@@ -77,22 +85,26 @@ abbrev pub held_lines : List ℕ → Holds → List ℕ
 held_lines path (Children names) = flat_map entry_line names
 held_lines path (Owners owners) = flat_map (owner_line (utf path)) owners
 
+-- the reply of `ls`: the number of what a folder holds, and a line for each
 abbrev pub ls_reply : List ℕ → Result Holds JrtError → List ℕ
 ls_reply path (Err error) = error_reply error
 ls_reply path (Ok holds) = numbered (codes "folder ") (count_of holds) ++ held_lines path holds
 
 -- `owner`
 
+-- the reply of `owner`, by the first owner that isn't empty, if there is one
 abbrev pub full_reply : Option (List ℕ) → List ℕ
 full_reply None = line (codes "none")
 full_reply (Some «module») = named (codes "owner ") «module»
 
+-- the reply of `owner`, by what stands at the path
 abbrev pub owner_reply : Result (Option (List ℕ)) JrtError → List ℕ
 owner_reply (Err error) = error_reply error
 owner_reply (Ok full) = full_reply full
 
 -- Requests
 
+-- the byte that ends the verb
 abbrev pub is_space : ℕ → Bool
 is_space b = b == 32
 
@@ -115,6 +127,7 @@ reply b line =
 
 -- What a reply costs
 
+-- how many bytes of content a look-up found
 abbrev pub found_length : Option (Row × List ℕ) → ℕ
 found_length None = 0
 found_length (Some found) = length found.1
@@ -123,6 +136,7 @@ found_length (Some found) = length found.1
 abbrev pub find_bytes : List ℕ → List ℕ → ℕ
 find_bytes b name = length name + 76 + found_length (look b name)
 
+-- the line has a space, and its verb is `find`
 abbrev pub is_find : List ℕ → Bool
 is_find line = list_any is_space line && bytes_eq (before_first is_space line) (codes "find")
 

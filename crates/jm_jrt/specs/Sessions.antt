@@ -82,13 +82,16 @@ pub record Serves (b : List ℕ) (answer : Result ℕ ServeError)
 
 -- Its steps
 
+-- no byte of the text ends a line
 abbrev pub IsFree : List ℕ → Type 0
 IsFree text = All (λ b. is_newline b ≡ false) text
 
+-- a line that is answered: without a newline, and of at most 8,192 bytes
 pub record IsLine (text : List ℕ) : Type 0 where
   pub free : IsFree text
   pub short : length text ≤ 8192
 
+-- lines one behind another, each with its newline
 abbrev pub joined : List (List ℕ) → List ℕ
 joined lines = flat_map line lines
 
@@ -99,6 +102,7 @@ pub record Moment : Type 0 where
   pub hashes : ℕ
   pub reads : Metered
 
+-- what the sink tells, how many lines were answered, and the counters, together
 abbrev pub moment : Option (List ℕ) → ℕ → ℕ → Metered → Moment
 moment put lines hashes reads = record {
   put = put;
@@ -171,6 +175,7 @@ pub record BeginsWithLine (first text : List ℕ) : Type 0 where
   pub is : text ≡ first ++ 10 ∷ rest
   pub good : IsLine first
 
+-- the text begins with more than 8,192 bytes of which none ends a line
 pub record BeginsTooLong (text : List ℕ) : Type 0 where
   pub front : List ℕ
   pub rest : List ℕ

@@ -44,12 +44,14 @@ abbrev pub owners_of : List ℕ → Header → Sought → Result Holds JrtError
 owners_of b h None = Err NotThere
 owners_of b h (Some found) = owners_told b h found.1
 
+-- the folder or package that was told, or the error
 abbrev pub folder : Result Holds JrtError → Result TreeItem JrtError
 folder (Err error) = Err error
 folder (Ok holds) = Ok (item_of holds)
 
 -- Below `/modules/`
 
+-- the file of a content that was found
 abbrev pub file : Sought → Result TreeItem JrtError
 file None = Err NotThere
 file (Some found) = Ok (File found.1)
@@ -70,6 +72,7 @@ abbrev pub link_among : List ℕ → List Owner → Result TreeItem JrtError
 link_among «module» owners =
     if list_any (λ o. bytes_eq «module» o.module) owners then Ok (Link «module») else Err NotThere
 
+-- the link to a module where it is one of the owners that were told
 abbrev pub link : List ℕ → Result Holds JrtError → Result TreeItem JrtError
 link «module» (Err error) = Err error
 link «module» (Ok (Children names)) = Err NotThere
@@ -89,6 +92,7 @@ in_packages b h path =
 
 -- Paths
 
+-- what stands at a path, by the image's header
 abbrev pub stat_with : List ℕ → Header → List ℕ → Result TreeItem JrtError
 stat_with b h path =
     if bytes_eq path (codes "/") then Ok (Folder (roots b))
@@ -96,6 +100,7 @@ stat_with b h path =
     else if starts_with nat_eq path (codes "/modules/") then in_modules b h path (look b path)
     else in_packages b h path
 
+-- what stands at a path, by what was read as the header
 abbrev pub stat_read : List ℕ → List ℕ → Result Header HeaderFault → Result TreeItem JrtError
 stat_read b path (Err fault) = Err NotThere
 stat_read b path (Ok h) = stat_with b h path
@@ -112,18 +117,22 @@ held (Ok (Package owners)) = Ok (Owners owners)
 held (Ok (File bytes)) = Err NotFolder
 held (Ok (Link «module»)) = Err NotFolder
 
+-- the first owner that isn't empty, or none
 abbrev pub first_full : List Owner → Option (List ℕ)
 first_full owners = option_map (λ o. o.module) (find (λ o. not o.empty) owners)
 
+-- the first owner that isn't empty, of what a package holds
 abbrev pub full_among : Result Holds JrtError → Result (Option (List ℕ)) JrtError
 full_among (Err error) = Err error
 full_among (Ok (Children names)) = Err NotThere
 full_among (Ok (Owners owners)) = Ok (first_full owners)
 
+-- the first owner that isn't empty of the package at a path, by the image's header
 abbrev pub owner_with : List ℕ → Header → List ℕ → Result (Option (List ℕ)) JrtError
 owner_with b h path =
     if is_package path then full_among (owners_of b h (look b path)) else Err NotThere
 
+-- the same by what was read as the header
 abbrev pub owner_read
     : List ℕ → List ℕ → Result Header HeaderFault → Result (Option (List ℕ)) JrtError
 owner_read b path (Err fault) = Err NotThere

@@ -20,6 +20,7 @@ use Rattle.jm_jrt.specs.declared.jrt_error.JrtError.TheVariants.{BadNode}
 
 -- Words of a content: word k stands at the place 4k
 
+-- word k of a node's content, from byte 4k on
 abbrev pub word_of : Header → List ℕ → ℕ → ℕ
 word_of h content k = word h.order content (4 * k)
 
@@ -49,10 +50,12 @@ words_fault is_sound n = first_fault (map (word_fault is_sound) (range_with_len 
 abbrev pub row_told : List ℕ → Header → ℕ → Option Row
 row_told b h place = spelled_row (row_at_place b h place)
 
+-- there is a row, and its texts end
 abbrev pub is_row_sound : List ℕ → Option Row → Bool
 is_row_sound section None = false
 is_row_sound section (Some row) = texts_end section row
 
+-- word k is there and leads to a row whose texts end
 abbrev pub is_child_sound : List ℕ → Header → List ℕ → ℕ → Bool
 is_child_sound b h content k =
     fits content k && is_row_sound (strings b h) (row_told b h (word_of h content k))
@@ -70,6 +73,7 @@ names_from b h content k n =
 abbrev pub names_left : List ℕ → Header → List ℕ → ℕ → List (List ℕ)
 names_left b h content next = names_from b h content next (word_count content - next)
 
+-- the children that the content of a node tells, or the place of its first bad word
 abbrev pub children_told : List ℕ → Header → List ℕ → Result Holds JrtError
 children_told b h content =
     unless_fault (words_fault (is_child_sound b h content) (word_count content))
@@ -81,6 +85,7 @@ children_told b h content =
 abbrev pub is_half_sound : List ℕ → ℕ → ℕ → Bool
 is_half_sound section k n = if k % 2 == 0 then nat_lt n 2 else text_ends section n
 
+-- word k is there, and is as a word of a pair must be
 abbrev pub is_pair_sound : List ℕ → Header → List ℕ → ℕ → Bool
 is_pair_sound b h content k =
     fits content k && is_half_sound (strings b h) k (word_of h content k)
@@ -92,6 +97,7 @@ owner_told b h content k = record {
   «module» = text_at (strings b h) (word_of h content (2 * k + 1));
 }
 
+-- the owners that n pairs tell, from one on
 abbrev pub owners_from : List ℕ → Header → List ℕ → ℕ → ℕ → List Owner
 owners_from b h content k n = map (owner_told b h content) (range_with_len k n)
 
@@ -99,6 +105,7 @@ owners_from b h content k n = map (owner_told b h content) (range_with_len k n)
 abbrev pub owners_left : List ℕ → Header → List ℕ → ℕ → List Owner
 owners_left b h content next = owners_from b h content next (pair_count content - next)
 
+-- the owners that the content of a node tells, or the place of its first bad word
 abbrev pub owners_told : List ℕ → Header → List ℕ → Result Holds JrtError
 owners_told b h content =
     unless_fault (words_fault (is_pair_sound b h content) (2 * pair_count content))

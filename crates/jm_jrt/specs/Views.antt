@@ -10,6 +10,7 @@ use Rattle.jm_jrt.specs.declared.jrt_error.JrtError.{JrtError}
 use Rattle.jm_jrt.specs.declared.owners.Owned.{Owned}
 use Rattle.jm_jrt.specs.Listed.{Listed}
 
+-- an owner that the code hands out, as plain data
 abbrev pub owner_as : Owned → Owner
 owner_as owned = record { empty = owned.empty; «module» = owned.module.now }
 

@@ -17,6 +17,7 @@ use Rattle.jm_modpath.specs.declared.visible.VisibleModule.{VisibleModule}
 use Rattle.jm_link.specs.Chosen.{reserved}
 use Rattle.jm_link.specs.Linked.{closing_refusal}
 
+-- the folder and the files of a module
 abbrev pub folder_of : VisibleModule → ModuleFolder
 folder_of m = record { folder = m.folder; files = m.files }
 

@@ -19,6 +19,7 @@ use Rattle.jm_texts.specs.declared.refusal.Refusal.TheVariants as refusal
 use Rattle.jm_link.specs.Linked.{LinkedImage, LinksAmong, Request}
 use Rattle.jm_link.specs.Links.{IsLaid, LinksBy}
 
+-- the modules of an image as a closure takes them
 abbrev pub seen_candidates : List SeenModule → List Candidate
 seen_candidates seen = map (λ s. s.candidate) seen
 
@@ -30,6 +31,7 @@ seen_resources s = resources_with (name_of s) s.files
 abbrev pub resources_seen : List SeenModule → List ℕ → List Written
 resources_seen seen places = flat_map seen_resources (filter_map (slice_get seen) places)
 
+-- the refusal of an image's modules as one of a link; none for want of memory
 abbrev pub image_refusal : RelinkError → Option Refusal
 image_refusal (relink.BadInfo name fault) = Some (refusal.BadEntry name fault)
 image_refusal (relink.Foreign name) = Some (refusal.Foreign name)

@@ -44,12 +44,14 @@ pub record LinkedImage : Type 0 where
 
 -- What keeps resources from being laid out
 
+-- `TooLarge` where the image by this table has too many bytes
 abbrev pub size_refusal : Order → List Written → GreedyTable → Option Refusal
 size_refusal order resources table =
     fault_if (nat_lt image_limit (length (layout_with order resources table)))
     (refusal.TooLarge (large_number order resources table))
 
--- a resource with the name of another's folder; too many entries; no table; too many bytes
+-- what keeps resources from being laid out: one with the name of another's folder; too many
+-- entries; no table; too many bytes
 abbrev pub layout_checks : Order → List Written → List (Option Refusal)
 layout_checks order resources =
     option_map (λ name. refusal.Clash name) (first_clash (names_of resources))
@@ -59,6 +61,7 @@ layout_checks order resources =
     ∷ option_and_then (size_refusal order resources) (layout_table resources)
     ∷ []
 
+-- the first refusal of the resources' layout, or none
 abbrev pub layout_refusal : Order → List Written → Option Refusal
 layout_refusal order resources = first_fault (layout_checks order resources)
 
@@ -71,6 +74,7 @@ image_with order modules resources = record {
   slots = unwrap_or (option_map (λ table. table.length) (layout_table resources)) 0;
 }
 
+-- the image of the resources of so many modules, or the refusal if there is one
 abbrev pub laid_out : Order → ℕ → List Written → Option Refusal → Result LinkedImage Refusal
 laid_out order modules resources None = Ok (image_with order modules resources)
 laid_out order modules resources (Some refusal) = Err refusal
@@ -93,6 +97,7 @@ IsGatheredTo asked modules resources None result =
 
 -- The closure
 
+-- the refusal of a closure as one of a link; none for want of memory
 abbrev pub closing_refusal : CloseError → Option Refusal
 closing_refusal (closing.NoRoot name) = Some (refusal.NoRoot name)
 closing_refusal (closing.Missing name by) = Some (refusal.Missing name by)
@@ -117,6 +122,7 @@ IsLinkedOf asked found resources result =
     × Closes found asked.roots (Chosen asked.bind found asked.roots) closed
     × IsClosedTo asked resources closed result
 
+-- the given refusal is the result if there is one, else what the closure comes to
 abbrev pub IsFoundTo : Request → List Candidate → (List ℕ → List Written) → Option Refusal
     → Result LinkedImage Refusal → Type 0
 IsFoundTo asked found resources (Some refusal) result = result ≡ Err refusal
@@ -130,10 +136,12 @@ LinksAmong asked found resources result =
 
 -- The module path
 
+-- the refusal of a module path as one of a link
 abbrev pub path_refusal_as : PathRefusal → Refusal
 path_refusal_as (path.BadInfo path fault) = refusal.BadInfo path fault
 path_refusal_as (path.TwoModules dir name) = refusal.TwoModules dir name
 
+-- the refusal of the module path is the result if there is one, else what its modules come to
 abbrev pub IsPathTo : Files → List (List ℕ) → Request → Option PathRefusal
     → Result LinkedImage Refusal → Type 0
 IsPathTo files directories asked (Some given) result = result ≡ Err (path_refusal_as given)

@@ -23,24 +23,25 @@ use Rattle.jm_link.specs.Links.{IsLaid}
 
 -- Where a link takes its modules from
 
+-- where a link takes its modules from: a module path on told files, or the bytes of an image
 pub data Source : Type 0 where
   -- the directories of a module path, on a shelf with these files
   ModulePath : (files : Files) → (directories : List (List ℕ)) → Source
   -- the bytes of an image
   Image : (bytes : List ℕ) → Source
 
--- what a link of its modules comes to
+-- what a link of a source's modules comes to
 abbrev pub LinksFrom : Source → Request → Result LinkedImage Refusal → Type 0
 LinksFrom (ModulePath files directories) asked result = LinksTo files directories asked result
 LinksFrom (Image b) asked result = ImageLinksTo b asked result
 
--- it shows these modules
+-- a source shows these modules
 abbrev pub Shows : Source → List Candidate → Type 0
 Shows (ModulePath files directories) found = found ≡ candidates (visible files directories)
 Shows (Image b) found =
     (seen : List SeenModule) × ModulesOf b (Ok seen) × (found ≡ seen_candidates seen)
 
--- all that it holds are bytes
+-- all that a source holds are bytes: numbers below 256
 abbrev pub HoldsBytes : Source → Type 0
 HoldsBytes (ModulePath files directories) =
     (path : List ℕ) → All (λ byte. byte < 256) (bytes_at files path)

@@ -9,6 +9,7 @@ use Rattle.jm_modpath.specs.declared.visible.VisibleModule.{VisibleModule}
 use Rattle.jm_names.specs.ByName.{Named}
 use Rattle.jm_modpath.specs.Modules.{inside, name_of, resource_name}
 
+-- a file's name as a resource, and its path on the shelf
 abbrev pub pair_of : ResourceFile → Named
 pair_of f = (f.name, f.path)
 

@@ -30,6 +30,7 @@ abbrev pub resolved : {F A B : Type 0} → (A → Option B) → (ℕ → F) → 
 resolved found fault reading left =
     continued (reading left) (λ a. found_or (fault left.place) (found a))
 
+-- a number of two bytes
 abbrev pub short_number : Reading InfoFault ℕ
 short_number = number Short w16
 
@@ -37,16 +38,20 @@ short_number = number Short w16
 abbrev pub index_field : {A : Type 0} → (ℕ → Option A) → Reading InfoFault A
 index_field found = resolved found Index short_number
 
+-- an index, as the text of a constant of a kind, where a module's name is legal
 abbrev pub named_field : List SlotData → Kind → Reading InfoFault (List ℕ)
 named_field pool kind =
     checked (is_allowed kind) (λ at text. Name at) (index_field (named_at pool kind))
 
+-- an index, as a version, if there is one
 abbrev pub version_field : List SlotData → Reading InfoFault (Option (List ℕ))
 version_field pool = index_field (version_at pool)
 
+-- a count, and so many texts of constants of a kind
 abbrev pub names_field : List SlotData → Kind → Reading InfoFault (List (List ℕ))
 names_field pool kind = list_of Short (named_field pool kind)
 
+-- a module that is required: its name, its flags, its version
 abbrev pub need_field : List SlotData → Reading InfoFault Need
 need_field pool =
     and_then (named_field pool Module) (λ name.
@@ -54,6 +59,7 @@ need_field pool =
     and_then (version_field pool) (λ version.
     value (record { name = name; flags = flags; version = version }))))
 
+-- a package that is exported or opened: its name, its flags, the modules to which it is
 abbrev pub opened_field : List SlotData → Reading InfoFault Opened
 opened_field pool =
     and_then (named_field pool Package) (λ name.
@@ -61,6 +67,7 @@ opened_field pool =
     and_then (names_field pool Module) (λ to.
     value (record { «package» = name; flags = flags; to = to }))))
 
+-- a service that is provided: its name, and the classes that do
 abbrev pub provides_field : List SlotData → Reading InfoFault Provides
 provides_field pool =
     and_then (named_field pool Class) (λ service.
@@ -90,6 +97,7 @@ module_field pool =
       main = None;
     })))))))))
 
+-- what was read, without what is left behind it, or the fault
 abbrev pub value_of : {A F : Type 0} → Outcome F A → Result A F
 value_of (Ok r) = Ok r.0
 value_of (Err fault) = Err fault
@@ -110,6 +118,8 @@ abbrev pub main_named : Option (List ℕ) → Result (Option (List ℕ)) InfoFau
 main_named (Some text) = Ok (Some text)
 main_named None = Err Main
 
+-- the main class that the bodies name: none where there is no body, `Main` where there are more
+-- than one
 abbrev pub main_of : List SlotData → List (List ℕ) → Result (Option (List ℕ)) InfoFault
 main_of pool [] = Ok None
 main_of pool (body ∷ []) = main_named (option_and_then (named_at pool Class) (number_in body))
@@ -120,11 +130,13 @@ abbrev pub with_main : Descriptor → Result (Option (List ℕ)) InfoFault → R
 with_main d (Ok main) = Ok (record d { main = main })
 with_main d (Err fault) = Err fault
 
+-- a descriptor that may have a fault, with its main class; its own fault comes first
 abbrev pub with_info : Result Descriptor InfoFault → Result (Option (List ℕ)) InfoFault
     → Result Descriptor InfoFault
 with_info (Ok d) main = with_main d main
 with_info (Err fault) main = Err fault
 
+-- the descriptor of a body that may have a fault, with its main class; the body's fault comes first
 abbrev pub with_body : List SlotData → Result (List ℕ) InfoFault
     → Result (Option (List ℕ)) InfoFault → Result Descriptor InfoFault
 with_body pool (Ok body) main = with_info (body_info pool body) main

@@ -44,11 +44,13 @@ abbrev pub IsNamed : List SlotData → Kind → List ℕ → List ℕ → Type 0
 IsNamed pool kind text bytes =
     (is_allowed kind text ≡ true) × IsIndex (named_at pool kind) text bytes
 
+-- the bytes are the index of a version, or 0 where there is none
 abbrev pub IsVersion : List SlotData → Option (List ℕ) → List ℕ → Type 0
 IsVersion pool = IsIndex (version_at pool)
 
 -- The Module attribute
 
+-- the bytes are a module that is required: its name, its flags, its version
 abbrev pub IsNeed : List SlotData → Need → List ℕ → Type 0
 IsNeed pool n =
     Then (IsNamed pool Module n.name) (Then (IsNumber n.flags) (IsVersion pool n.version))
@@ -59,6 +61,7 @@ IsOpened pool p =
     Then (IsNamed pool Package p.package)
     (Then (IsNumber p.flags) (Counted (IsNamed pool Module) p.to))
 
+-- the bytes are a service that is provided: its name, and the classes that do
 abbrev pub IsProvides : List SlotData → Provides → List ℕ → Type 0
 IsProvides pool p =
     Then (IsNamed pool Class p.service) (Counted (IsNamed pool Class) p.classes)
@@ -77,10 +80,12 @@ IsModuleBody pool d =
 
 -- The attributes of the class itself
 
+-- the bytes of a body that isn't taken apart, or none
 abbrev pub plain_bytes : BodyData → Option (List ℕ)
 plain_bytes (Opaque bytes) = Some bytes
 plain_bytes (Coded code) = None
 
+-- a text that was found is this name
 abbrev pub is_named : List ℕ → Option (List ℕ) → Bool
 is_named name (Some text) = bytes_eq text name
 is_named name None = false
@@ -94,9 +99,11 @@ bytes_named pool name a =
 abbrev pub bodies : List SlotData → List ℕ → List AttributeData → List (List ℕ)
 bodies pool name attributes = filter_map (bytes_named pool name) attributes
 
+-- the bytes of each attribute `Module` of the class itself
 abbrev pub module_bodies : ClassData → List (List ℕ)
 module_bodies c = bodies c.pool (codes "Module") c.attributes
 
+-- the bytes of each attribute `ModuleMainClass` of the class itself
 abbrev pub main_bodies : ClassData → List (List ℕ)
 main_bodies c = bodies c.pool (codes "ModuleMainClass") c.attributes
 

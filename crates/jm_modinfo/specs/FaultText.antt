@@ -8,6 +8,7 @@ use Rattle.jm_modinfo.specs.declared.faults.InfoFault.TheVariants as fault
 use Rattle.jm_modinfo.specs.declared.faults.DescriptorFault.{DescriptorFault}
 use Rattle.jm_modinfo.specs.declared.faults.DescriptorFault.TheVariants as kind
 
+-- a fault of a descriptor in print: its name, and its number behind a space
 abbrev pub info_fault_text : InfoFault → List ℕ
 info_fault_text fault.NotModule = codes "NotModule"
 info_fault_text (fault.OldVersion major) = codes "OldVersion " ++ decimal major
@@ -19,6 +20,7 @@ info_fault_text (fault.Rest at) = codes "Rest " ++ decimal at
 info_fault_text (fault.Name at) = codes "Name " ++ decimal at
 info_fault_text fault.Main = codes "Main"
 
+-- a fault in print, behind `Class` or `Info`
 abbrev pub descriptor_fault_text : DescriptorFault → List ℕ
 descriptor_fault_text (kind.Class fault) = codes "Class " ++ class_fault_text fault
 descriptor_fault_text (kind.Info fault) = codes "Info " ++ info_fault_text fault

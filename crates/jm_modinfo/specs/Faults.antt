@@ -9,6 +9,7 @@ use Rattle.jm_modinfo.specs.declared.faults.InfoFault.TheVariants.{NotModule, Ol
 use Rattle.jm_modinfo.specs.Descriptors.{module_bodies, main_bodies}
 use Rattle.jm_modinfo.specs.Flags.{is_module}
 
+-- the fault of a result, or none
 abbrev pub fault_of : {A F : Type 0} → Result A F → Option F
 fault_of (Ok a) = None
 fault_of (Err fault) = Some fault
@@ -18,6 +19,7 @@ abbrev pub body_fault : List SlotData → List (List ℕ) → Option InfoFault
 body_fault pool [] = None
 body_fault pool (body ∷ more) = fault_of (body_info pool body)
 
+-- what can be wrong with the class of a module, in the order of the faults
 abbrev pub info_checks : ClassData → List (Option InfoFault)
 info_checks c =
     fault_if (not (is_module c.access)) NotModule

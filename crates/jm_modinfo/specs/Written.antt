@@ -6,6 +6,7 @@ use Rattle.jm_modinfo.specs.Constants.{is_legal}
 use Rattle.jm_modinfo.specs.declared.descriptor.Descriptor.{Descriptor}
 use Rattle.jm_modinfo.specs.declared.descriptor.Need.{Need}
 
+-- a Utf8 constant of a text
 abbrev pub utf8 : List ℕ → SlotData
 utf8 text = Constant 1 text
 
@@ -13,6 +14,7 @@ utf8 text = Constant 1 text
 abbrev pub IsName : List ℕ → Type 0
 IsName name = (is_legal name ≡ true) × (length name < 2 ^ 16)
 
+-- a module that is required, of a name that can be written, and without a version
 pub record IsWritable (n : Need) : Type 0 where
   pub name : IsName n.name
   pub version : n.version ≡ None
@@ -28,6 +30,8 @@ need_slots number [] = []
 need_slots number (n ∷ needs) =
     utf8 n.name ∷ Constant 19 (u2 number) ∷ need_slots (number + 2) needs
 
+-- the constants of the class: its own name, `Module`, the module's name, and from number 6 on those
+-- of the needs
 abbrev pub info_pool : List ℕ → List Need → List SlotData
 info_pool name needs =
     utf8 (codes "module-info") ∷ Constant 7 (u2 1) ∷ utf8 (codes "Module") ∷ utf8 name
@@ -45,6 +49,7 @@ info_body needs = joined (
     u2 5 ∷ u2 0 ∷ u2 0 ∷ u2 (length needs) ∷ needs_text 7 needs
     ∷ u2 0 ∷ u2 0 ∷ u2 0 ∷ u2 0 ∷ [])
 
+-- the class of a module that requires others and says nothing else
 abbrev pub info_class : List ℕ → List Need → ClassData
 info_class name needs = record {
   minor = 0;
@@ -59,6 +64,7 @@ info_class name needs = record {
   attributes = record { name = 3; body = Opaque (info_body needs) } ∷ [];
 }
 
+-- the bytes of that class
 abbrev pub info_text : List ℕ → List Need → List ℕ
 info_text name needs = class_text (info_class name needs)
 

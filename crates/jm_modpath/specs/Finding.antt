@@ -80,6 +80,7 @@ abbrev pub refused_at : List ℕ → Result Descriptor DescriptorFault → Resul
 refused_at path (Err fault) = Err (refusal.BadInfo path fault)
 refused_at path (Ok d) = Ok d
 
+-- the descriptor of a folder, or the refusal of its file
 abbrev pub info_due : List ℕ → Result Descriptor DescriptorFault → Result Descriptor PathRefusal
 info_due folder info = refused_at (info_path folder) info
 
@@ -91,6 +92,7 @@ shown_due directory earlier folder d paths =
     if is_named earlier d.name then Err (refusal.TwoModules directory d.name)
     else Ok (module_with folder d paths)
 
+-- the module that a folder of a directory shows, where earlier folders showed some, or its refusal
 abbrev pub folder_due : Files → List ℕ → List VisibleModule → List ℕ
     → Result VisibleModule PathRefusal
 folder_due files directory earlier folder =
@@ -114,6 +116,7 @@ folders_due files directory earlier (folder ∷ folders) =
 
 -- Directories
 
+-- the modules of a directory, or its first refusal
 abbrev pub directory_due : Files → List ℕ → Result (List VisibleModule) PathRefusal
 directory_due files directory =
     unless_fault (first_fault (directory_checks files directory)) (modules_in files directory)

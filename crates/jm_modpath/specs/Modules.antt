@@ -36,16 +36,17 @@ inside folder name = folder ++ 47 ∷ name
 abbrev pub info_name : List ℕ
 info_name = codes "module-info.class"
 
+-- the path of the file that makes a folder a module
 abbrev pub info_path : List ℕ → List ℕ
 info_path folder = inside folder info_name
 
--- the bytes of a file that is there
+-- the bytes of the file at a path, no byte where it isn't there
 abbrev pub bytes_at : Files → List ℕ → List ℕ
 bytes_at files path = unwrap_or (file files path) []
 
 -- The folders of a directory
 
--- the folder of a file `FOLDER/module-info.class`
+-- the folder of a name that is a folder, a slash and `module-info.class`, or none
 abbrev pub folder_with_info : List ℕ → Option (List ℕ)
 folder_with_info name =
     if list_any is_slash name && not (is_empty (before_first is_slash name))
@@ -59,6 +60,7 @@ folders_in files directory = rising (filter_map folder_with_info (names_below di
 
 -- What a folder shows
 
+-- the descriptor that a class says, or its fault, or that of the bytes as a class
 abbrev pub info_with : Result ClassData ClassFault → Result Descriptor DescriptorFault
 info_with (Err fault) = Err (fault_of.Class fault)
 info_with (Ok c) = described (info_of c)
@@ -67,7 +69,7 @@ info_with (Ok c) = described (info_of c)
     described (Ok d) = Ok d
     described (Err fault) = Err (fault_of.Info fault)
 
--- what bytes say as the class of a module
+-- what bytes say as the class of a module, or their first fault
 abbrev pub info_in : List ℕ → Result Descriptor DescriptorFault
 info_in bytes = info_with (class_of bytes)
 
@@ -75,11 +77,13 @@ info_in bytes = info_with (class_of bytes)
 abbrev pub folder_info : Files → List ℕ → Result Descriptor DescriptorFault
 folder_info files folder = info_in (bytes_at files (info_path folder))
 
--- the name of the resource that a file of a module is
+-- the name of the resource that a file of a module is: `/`, the module, `/`, and the path in
+-- Modified UTF-8
 abbrev pub resource_name : List ℕ → List ℕ → List ℕ
 resource_name «module» path = 47 ∷ «module» ++ 47 ∷ modified path
 
--- a module with its files, by their paths within the folder
+-- a module of a descriptor, with its files by their paths within the folder, and the packages that
+-- have a class among them
 abbrev pub module_with : List ℕ → Descriptor → List (List ℕ) → VisibleModule
 module_with folder descriptor paths = record {
   folder = folder;
@@ -90,6 +94,7 @@ module_with folder descriptor paths = record {
   };
 }
 
+-- the module of a folder by what its file says, none where that is a fault
 abbrev pub module_of : Files → List ℕ → Result Descriptor DescriptorFault → Option VisibleModule
 module_of files folder (Err fault) = None
 module_of files folder (Ok d) = Some (module_with folder d (names_below folder files))
@@ -98,6 +103,7 @@ module_of files folder (Ok d) = Some (module_with folder d (names_below folder f
 abbrev pub module_in : Files → List ℕ → Option VisibleModule
 module_in files folder = module_of files folder (folder_info files folder)
 
+-- the name of a module
 abbrev pub name_of : VisibleModule → List ℕ
 name_of m = m.candidate.descriptor.name
 
@@ -112,8 +118,8 @@ modules_in files directory =
 abbrev pub is_named : List VisibleModule → List ℕ → Bool
 is_named ms name = list_any (λ m. bytes_eq name (name_of m)) ms
 
--- of a folder of a directory, in which these modules stand in earlier folders: its file says no
--- module; an earlier one has the name
+-- what can be wrong with a folder of a directory, behind earlier ones with some modules: its file
+-- says no module; an earlier one has the name
 abbrev pub folder_checks : List ℕ → List VisibleModule → List ℕ
     → Result Descriptor DescriptorFault → List (Option PathRefusal)
 folder_checks directory earlier folder (Err fault) =
@@ -121,7 +127,7 @@ folder_checks directory earlier folder (Err fault) =
 folder_checks directory earlier folder (Ok d) =
     fault_if (is_named earlier d.name) (refusal.TwoModules directory d.name) ∷ []
 
--- of the folder at a place of those of a directory
+-- the same of the folder at a place of those of a directory
 abbrev pub checks_at : Files → List ℕ → ℕ → List (Option PathRefusal)
 checks_at files directory place =
     folder_checks directory
@@ -130,6 +136,7 @@ checks_at files directory place =
     (inside directory (slice_index_or (folders_in files directory) place []))
     (folder_info files (inside directory (slice_index_or (folders_in files directory) place [])))
 
+-- the same of all folders of a directory, in their order
 abbrev pub directory_checks : Files → List ℕ → List (Option PathRefusal)
 directory_checks files directory =
     flat_map (checks_at files directory) (range_with_len 0 (length (folders_in files directory)))
@@ -152,5 +159,6 @@ unhidden earlier (m ∷ ms) =
 abbrev pub visible : Files → List (List ℕ) → List VisibleModule
 visible files directories = unhidden [] (flat_map (modules_in files) directories)
 
+-- the modules as a closure takes them: by their descriptors and class packages
 abbrev pub candidates : List VisibleModule → List Candidate
 candidates found = map (λ m. m.candidate) found

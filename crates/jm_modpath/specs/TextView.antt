@@ -4,6 +4,7 @@ use Rattle.std.specs.declared.vec.Vec.{Vec}
 use Rattle.std.specs.declared.alloc.Global.{Global}
 use Rattle.jm_form.specs.Rising.{with_placed}
 
+-- owned texts as lists of bytes
 abbrev pub items_of : List (Vec ℕ Global) → List (List ℕ)
 items_of texts = map (λ v. v.items) texts
 

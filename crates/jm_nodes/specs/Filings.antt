@@ -16,6 +16,7 @@ pub record Filing : Type 0 where
   pub name : List ℕ
   pub mark : Bool
 
+-- what the code files, as plain data
 abbrev pub filing_of : Filed → Filing
 filing_of filed = record { under = filed.under.now; name = filed.name.now; mark = filed.mark }
 

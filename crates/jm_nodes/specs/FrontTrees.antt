@@ -17,6 +17,7 @@ abbrev pub child_filing : Bool → List ℕ → Filing
 child_filing is_folder name =
     record { under = before_last is_slash name; name = name; mark = is_folder }
 
+-- all resources and all folders, each under what it stands in
 abbrev pub child_filings : List (List ℕ) → List (List ℕ) → List Filing
 child_filings names folders = map (child_filing false) names ++ map (child_filing true) folders
 
@@ -24,6 +25,7 @@ child_filings names folders = map (child_filing false) names ++ map (child_filin
 abbrev pub entry_of : Filing → List ℕ
 entry_of child = if child.mark then codes "/modules" ++ child.name else child.name
 
+-- the names of the entries of a front's children, from the table
 abbrev pub children_of : List Filing → List ℕ → List (List ℕ)
 children_of table front = map entry_of (filed_under front table)
 
@@ -37,6 +39,7 @@ pub record Folder : Type 0 where
   pub «module» : List ℕ
   pub path : List ℕ
 
+-- a package's folder that the code holds, as plain data
 abbrev pub folder_of : PackageFolder → Folder
 folder_of folder =
     record { front = folder.front.now; «module» = folder.module.now; path = folder.path.now }
@@ -45,12 +48,14 @@ folder_of folder =
 abbrev pub is_package : List ℕ → Bool
 is_package front = list_any is_slash (drop 1 front) && not (is_meta (path_of front))
 
+-- the folder of a front, if it makes a package
 abbrev pub package_folder : List ℕ → Option Folder
 package_folder front =
     if is_package front
     then Some (record { front = front; «module» = module_of front; path = path_of front })
     else None
 
+-- the packages of folders, with dots for slashes
 abbrev pub called_all : List Folder → List (List ℕ)
 called_all folders = map (λ folder. dotted folder.path) folders
 
@@ -62,6 +67,7 @@ package_filing table folder = record {
   mark = is_bare table folder.front;
 }
 
+-- the modules of all folders, each under its package
 abbrev pub package_filings : List Filing → List Folder → List Filing
 package_filings table folders = map (package_filing table) folders
 
@@ -71,6 +77,7 @@ owner_alone owned filing =
     if filing.mark && is_filed (record filing { mark = false }) owned then []
     else record { empty = filing.mark; «module» = filing.name } ∷ []
 
+-- the owners of a package, from the table
 abbrev pub owners_of : List Filing → List ℕ → List Owner
 owners_of owned called = flat_map (owner_alone owned) (filed_under called owned)
 
@@ -81,6 +88,7 @@ abbrev pub front_node : List Filing → List ℕ → TreeNode
 front_node table front =
     record { name = codes "/modules" ++ front; holds = Children (children_of table front) }
 
+-- the node of `/packages`, whose children are the nodes of packages
 abbrev pub packages_node : List (List ℕ) → TreeNode
 packages_node packages =
     record { name = codes "/packages"; holds = Children (map package_node packages) }

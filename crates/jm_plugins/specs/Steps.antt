@@ -60,6 +60,7 @@ put_one place (Err (read_error.Fault fault)) later pairs =
     Err (BadClass (slice_index_or (names_of pairs) place []) fault)
 put_one place (Err read_error.Memory) later pairs = Err Memory
 
+-- the pairs with several classes made anew at their places; the first that was refused decides
 abbrev pub put_remade : List Remade → List (List ℕ × List ℕ)
     → Result (List (List ℕ × List ℕ)) ApplyError
 put_remade [] pairs = Ok pairs

@@ -10,6 +10,7 @@ abbrev pub marked : Option ℕ → Option ℕ → List ℕ → List ℕ
 marked before after [] = []
 marked before after (b ∷ text) = option_to_list before ++ ((b ∷ text) ++ option_to_list after)
 
+-- the text at a place of some bytes, with its marks
 abbrev pub marked_text : List ℕ → MarkedText → List ℕ
 marked_text bytes text = marked text.before text.after (text_at bytes text.place)
 

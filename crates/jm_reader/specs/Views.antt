@@ -2,6 +2,7 @@
 use Rattle.std.specs.Prelude.{ℕ, ◌+◌, List, [], ◌∷◌, length}
 use Rattle.jm_names.specs.Names.{Cut, join}
 
+-- the four pieces of a name together
 abbrev pub cut_from : List ℕ → List ℕ → List ℕ → List ℕ → Cut
 cut_from «module» parent base ext =
     record { «module» = «module»; parent = parent; base = base; ext = ext }

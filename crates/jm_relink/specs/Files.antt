@@ -42,12 +42,15 @@ module_and_path (b ∷ name) =
 abbrev pub Filed : Type 0
 Filed = List ℕ × Named
 
+-- a file of an image that the code holds, as its path and its bytes
 abbrev pub file_as : ImageFile → Named
 file_as f = (f.path, f.bytes.now)
 
+-- files of an image that the code holds, as their paths and bytes
 abbrev pub files_as : List ImageFile → List Named
 files_as fs = map file_as fs
 
+-- such a file with its module, as plain data
 abbrev pub located_as : Located → Filed
 located_as l = (l.module, file_as l.file)
 
@@ -55,11 +58,11 @@ located_as l = (l.module, file_as l.file)
 abbrev pub located : Named → Option Filed
 located r = option_map (λ cut. (cut.0, (cut.1, r.1))) (module_and_path r.0)
 
--- the same of one entry, of which a node is none
+-- a resource as a file of a module, if it is one; a node is none
 abbrev pub located_alone : Named → List Filed
 located_alone r = if is_node r.0 then [] else option_to_list (located r)
 
--- by module and then by path
+-- the order of files: by module and then by path
 abbrev pub filed_cmp : Filed → Filed → Ordering
 filed_cmp e f = ordering_then (slice_cmp nat_cmp e.0 f.0) (slice_cmp nat_cmp e.1.0 f.1.0)
 

@@ -29,6 +29,7 @@ pub record ArePlaces (modules : ImageModules) (places : List ℕ) : Type 0 where
 
 -- Resources
 
+-- a file of a module as a resource: its name in the image, and its bytes
 abbrev pub resource_of : List ℕ → Named → Named
 resource_of «module» f = (file_name «module» f.0, f.1)
 

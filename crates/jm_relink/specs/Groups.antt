@@ -11,6 +11,7 @@ use Rattle.jm_names.specs.ByName.{Named}
 abbrev pub Group : Type 0
 Group = List ℕ × List Named
 
+-- a module's name and its files, as plain data
 abbrev pub group_as : ModuleFiles → Group
 group_as g = (g.module, files_as g.files)
 

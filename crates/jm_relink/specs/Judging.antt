@@ -34,6 +34,7 @@ abbrev pub mapped : {A B : Type 0} → (A → B) → Result A RelinkError → Re
 mapped f (Ok value) = Ok (f value)
 mapped f (Err e) = Err e
 
+-- a module of an image that the code hands out, as plain data
 abbrev pub seen_as : handed.SeenModule → SeenModule
 seen_as s = record { candidate = s.candidate; files = files_as s.files }
 
@@ -42,6 +43,8 @@ abbrev pub named_due : List ℕ → Descriptor → Result Descriptor RelinkError
 named_due «module» d =
     if bytes_eq d.name «module» then Ok d else Err (error.Foreign (info_entry «module»))
 
+-- the descriptor of a module's entry, or the refusal: there is none, or it is that of another
+-- module
 abbrev pub descriptor_due : List ℕ → Result Descriptor DescriptorFault
     → Result Descriptor RelinkError
 descriptor_due «module» (Ok d) = named_due «module» d
@@ -58,11 +61,12 @@ seen_with files d = record {
 abbrev pub seen_due : Group → Result Descriptor DescriptorFault → Result SeenModule RelinkError
 seen_due g said = followed (descriptor_due g.0 said) (λ d. Ok (seen_with g.1 d))
 
--- the same with its entry, if it is there
+-- the same by the content of its entry, none where no entry is there
 abbrev pub entry_due : Group → Option (List ℕ) → Result (Option SeenModule) RelinkError
 entry_due g None = Ok None
 entry_due g (Some content) = followed (seen_due g (info_in content)) (λ s. Ok (Some s))
 
+-- the module of some files, none where no entry makes it one, or its refusal
 abbrev pub group_due : Group → Result (Option SeenModule) RelinkError
 group_due g = entry_due g (info_content g.1)
 

@@ -22,6 +22,7 @@ pub record SeenModule : Type 0 where
   pub candidate : Candidate
   pub files : List Named
 
+-- the name of a module
 abbrev pub name_of : SeenModule → List ℕ
 name_of s = s.candidate.descriptor.name
 

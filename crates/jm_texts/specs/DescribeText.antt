@@ -15,6 +15,7 @@ use Rattle.jm_modinfo.specs.Flags.{is_static}
 abbrev pub is_marked : ℕ → Bool
 is_marked flags = not (bit_and flags 0x0020 == 0)
 
+-- a word, if something is so, or no byte
 abbrev pub word_if : Bool → List ℕ → List ℕ
 word_if there word = if there then word else []
 
@@ -22,6 +23,7 @@ word_if there word = if there then word else []
 abbrev pub behind_comma : List ℕ → List ℕ
 behind_comma text = 44 ∷ utf text
 
+-- texts in UTF-8 with commas between them
 abbrev pub listed : List (List ℕ) → List ℕ
 listed [] = []
 listed (text ∷ texts) = utf text ++ flat_map behind_comma texts
@@ -36,31 +38,38 @@ abbrev pub behind : List ℕ → Option (List ℕ) → List ℕ
 behind word None = []
 behind word (Some text) = word ++ utf text
 
+-- the line of a module: whether it is open, its name, its version
 abbrev pub module_line : Descriptor → List ℕ
 module_line d =
     word_if (is_marked d.flags) (codes "open ") ++ codes "module " ++ utf d.name
     ++ behind (codes "@") d.version ++ 10 ∷ []
 
+-- the line of a module that is required
 abbrev pub need_line : Need → List ℕ
 need_line n =
     codes "requires " ++ word_if (is_marked n.flags) (codes "transitive ")
     ++ word_if (is_static n.flags) (codes "static ") ++ utf n.name ++ 10 ∷ []
 
+-- the line of a package that is exported or opened, behind that word
 abbrev pub opened_line : List ℕ → Opened → List ℕ
 opened_line word p = word ++ utf p.package ++ listed_behind (codes " to ") p.to ++ 10 ∷ []
 
+-- the line of a service that is used
 abbrev pub uses_line : List ℕ → List ℕ
 uses_line service = codes "uses " ++ utf service ++ 10 ∷ []
 
+-- the line of a service that is provided
 abbrev pub provides_line : Provides → List ℕ
 provides_line p =
     codes "provides " ++ utf p.service ++ codes " with" ++ listed_behind (codes " ") p.classes
     ++ 10 ∷ []
 
+-- the line of the main class, if there is one
 abbrev pub main_line : Option (List ℕ) → List ℕ
 main_line None = []
 main_line (Some text) = codes "main " ++ utf text ++ 10 ∷ []
 
+-- the text of `describe`: a line for each thing that a descriptor says, the main class last
 abbrev pub describe_text : Descriptor → List ℕ
 describe_text d =
     module_line d ++ flat_map need_line d.needs

@@ -8,6 +8,7 @@ use Rattle.jm_form.specs.declared.container.Header.{Header}
 use Rattle.jm_form.specs.declared.container.HeaderFault.{HeaderFault}
 use Rattle.jm_form.specs.Head.{header_of, index_length}
 
+-- an order of bytes in print
 abbrev pub order_text : Order → List ℕ
 order_text Little = codes "little"
 order_text Big = codes "big"
@@ -28,9 +29,11 @@ lengths_text h contents =
     ∷ codes "\nindex " ∷ decimal (index_length h)
     ∷ codes "\ncontents " ∷ decimal contents ∷ codes "\n" ∷ [])
 
+-- the lines on a header, with so many bytes of contents
 abbrev pub header_text : Header → ℕ → List ℕ
 header_text h contents = front_text h ++ lengths_text h contents
 
+-- the lines on an image, by what was read as its header
 abbrev pub info_with : List ℕ → Result Header HeaderFault → List ℕ
 info_with b (Ok h) = header_text h (length b - index_length h)
 info_with b (Err fault) = []

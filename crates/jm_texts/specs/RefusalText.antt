@@ -11,6 +11,7 @@ use Rattle.jm_names.specs.declared.check.NameFault.TheVariants as fault_of
 use Rattle.jm_texts.specs.declared.refusal.Refusal.{Refusal}
 use Rattle.jm_texts.specs.declared.refusal.Refusal.TheVariants as refusal
 
+-- the fault of a name in print: its kind, and the place behind a space
 abbrev pub name_fault_text : NameFault → List ℕ
 name_fault_text fault_of.Empty = codes "Empty"
 name_fault_text fault_of.EmptyPart = codes "EmptyPart"
@@ -23,6 +24,7 @@ name_fault_text (fault_of.NotText at) = codes "NotText " ++ decimal at
 abbrev pub spaced : List ℕ → List ℕ
 spaced name = 32 ∷ utf name
 
+-- a refusal in print: its kind, and each of its names and numbers behind a space
 abbrev pub refusal_text : Refusal → List ℕ
 refusal_text (refusal.BadInfo path fault) =
     codes "BadInfo " ++ path ++ 32 ∷ descriptor_fault_text fault

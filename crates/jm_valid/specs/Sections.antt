@@ -13,9 +13,11 @@ use Rattle.jm_valid.specs.declared.sections.Sections.{Sections}
 
 -- The parts of the bytes
 
+-- the strings of the image whose sections these are
 abbrev pub strings_in : Sections → List ℕ
 strings_in s = strings s.bytes.now s.header
 
+-- the contents of the image whose sections these are
 abbrev pub contents_in : Sections → List ℕ
 contents_in s = contents s.bytes.now s.header
 
@@ -43,9 +45,11 @@ IsSound s = SoundSlots s.bytes.now s.header
 
 -- Entries
 
+-- the entries of the image whose sections these are
 abbrev pub entries_in : Sections → List Entry
 entries_in s = entries s.bytes.now s.header
 
+-- a row, if there is one and the table leads its name to the slot
 abbrev pub row_if_reached : Sections → ℕ → Option Row → Option Row
 row_if_reached s slot None = None
 row_if_reached s slot (Some row) =

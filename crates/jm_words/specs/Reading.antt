@@ -30,6 +30,7 @@ pub record Standing : Type 0 where
   pub left : List Argument
   pub pending : Option Choice
 
+-- a fault of a kind, with the number of its word
 abbrev pub fault_at : {A : Type 0} → ℕ → WordsKind → Result A WordsError
 fault_at at kind = Err (Fault at kind)
 
@@ -59,6 +60,7 @@ with_checked_text at name form text given left =
 abbrev pub is_equals : ℕ → Bool
 is_equals b = b == 61
 
+-- the form is that of an option without a value
 abbrev pub is_flag : Form → Bool
 is_flag form.Flag = true
 is_flag _ = false

@@ -15,7 +15,7 @@ use Rattle.jm_pattern.specs.Items.{list_of}
 use Rattle.jm_words.specs.declared.forms.Form.{Form}
 use Rattle.jm_words.specs.declared.forms.Form.TheVariants as form
 
--- a byte in front of a text without slashes at its end
+-- a byte in front of a text without slashes at its end; a slash in front of no byte is left out
 abbrev pub before_text : ℕ → List ℕ → List ℕ
 before_text b [] = if is_slash b then [] else b ∷ []
 before_text b (c ∷ text) = b ∷ c ∷ text
@@ -37,14 +37,16 @@ folders_of text = map without_slashes (parts_at 58 text)
 abbrev pub names_of : List ℕ → List (List ℕ)
 names_of text = map modified (parts_at 44 text)
 
--- patterns, none where the text reads as none
+-- the patterns of a list that reads as some, and none of one that doesn't
 abbrev pub patterns_in : Result (List (List Sign)) PatternError → List (List Sign)
 patterns_in (Ok patterns) = patterns
 patterns_in (Err fault) = []
 
+-- the patterns of a list
 abbrev pub patterns_of : List ℕ → List (List Sign)
 patterns_of text = patterns_in (list_of (modified text))
 
+-- a list of patterns reads
 abbrev pub reads : {A : Type 0} → Result A PatternError → Bool
 reads (Ok patterns) = true
 reads (Err fault) = false
@@ -53,13 +55,15 @@ reads (Err fault) = false
 abbrev pub order_of : List ℕ → Order
 order_of text = if bytes_eq text (codes "big") then Big else Little
 
+-- the text is `little` or `big`
 abbrev pub is_order : List ℕ → Bool
 is_order text = bytes_eq text (codes "little") || bytes_eq text (codes "big")
 
--- a digit, and the number that digits write behind those of another
+-- a byte is a digit
 abbrev pub is_digit : ℕ → Bool
 is_digit b = nat_le 48 b && nat_le b 57
 
+-- the number that digits write behind those of another one
 abbrev pub decimal_from : ℕ → List ℕ → ℕ
 decimal_from n [] = n
 decimal_from n (digit ∷ digits) = decimal_from (n * 10 + (digit - 48)) digits
@@ -76,7 +80,7 @@ number_of low high text =
     then Some (decimal_from 0 text)
     else None
 
--- the text is of the form
+-- the text is of the form; no text is of the form of a flag
 abbrev pub is_of_form : Form → List ℕ → Bool
 is_of_form form.Flag text = false
 is_of_form form.Folder text = not (is_empty (without_slashes text))

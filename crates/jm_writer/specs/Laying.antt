@@ -39,6 +39,7 @@ pub record IsTable (names : List (List ℕ)) (table : Table) : Type 0 where
   pub serves :
       Serves names table.length (map (cast_unsigned w32) table.redirect) table.slot_of
 
+-- what looking for a table comes to: the table, `NoTable` where there is none, or want of memory
 abbrev pub Tables : List (List ℕ) → Result Table PlanError → Type 0
 Tables names (Ok table) = IsTable names table
 Tables names (Err (refusal.NoTable lengths)) = (lengths ≡ 64) × (first_table names ≡ None)
@@ -53,6 +54,8 @@ pub record AreInterned (names : List (List ℕ)) (interned : Interned) : Type 0 
   pub places : interned.places ≡ places_of names
   pub within : length (section_of interned.strings) ≤ limit
 
+-- what holding the texts comes to: these, `TooLarge` where their section is too long, or want of
+-- memory
 abbrev pub Interns : List (List ℕ) → Result Interned PlanError → Type 0
 Interns names (Ok interned) = AreInterned names interned
 Interns names (Err (refusal.TooLarge number)) =
@@ -94,6 +97,7 @@ pub record IsLaid (entries : Entries) (table : Table) (laid : Laid) : Type 0 whe
   pub size : laid.length ≡ laid_length entries table
   pub within : laid.length ≤ image_limit
 
+-- what laying out comes to: the parts, `TooLarge` with its number, or want of memory
 abbrev pub Lays : Entries → Table → Result Laid PlanError → Type 0
 Lays entries table (Ok laid) = IsLaid entries table laid
 Lays entries table (Err (refusal.TooLarge number)) =
@@ -105,6 +109,7 @@ Lays entries table (Err other) = ⊥
 
 -- The draft, by what is laid out
 
+-- the draft is what its parts make: its index, the contents of its nodes, its length, its slots
 pub record IsDrawn (words : Order) (entries : Entries) (table : Table) (laid : Laid)
     (nodes : List TreeNode) (draft : Draft) : Type 0 where
   pub order : draft.order ≡ words

@@ -153,6 +153,7 @@ child_word table places name =
 abbrev pub owner_pair : List (List ℕ) → Owner → List ℕ
 owner_pair texts owner = empty_flag owner.empty ∷ text_place texts owner.module ∷ []
 
+-- the words of what a node holds: one for a child, two for an owner
 abbrev pub holds_words : List (List ℕ) → Table → List ℕ → Holds → List ℕ
 holds_words texts table places (Children names) = map (child_word table places) names
 holds_words texts table places (Owners owners) = flat_map (owner_pair texts) owners
