@@ -1,4 +1,5 @@
--- The entries of an image: rows, names and contents of its slots (jimage 1.0).
+-- The entries of an image: rows, names and contents of its slots (jimage 1.0; which rows are blank
+-- and which slots are spare is this project's rule).
 use Rattle.std.specs.Prelude.{ℕ, ◌==◌, ◌<◌, ◌^◌, nat_lt, Bool, ◌&&◌, List, length, take, drop}
 use Rattle.std.specs.Prelude.{filter, filter_map, find}
 use Rattle.std.specs.Prelude.{Option, Some, None, option_map, if◌then◌else◌}

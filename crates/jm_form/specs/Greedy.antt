@@ -1,5 +1,6 @@
--- The greedy table of names (jimage 1.0): which redirect each bucket gets, and so which slot each
--- name. It speaks of buckets and slots alone: no seed that fails leaves anything.
+-- The greedy table of names (jimage 1.0; that 64 lengths are tried is this project's rule): which
+-- redirect each bucket gets, and so which slot each name. It speaks of buckets and slots alone: no
+-- seed that fails leaves anything.
 use Rattle.std.specs.Prelude.{ℕ, zero, suc, ◌+◌, ◌-◌, ◌%◌, ◌^◌, ◌==◌, Bool, true, not, ◌&&◌}
 use Rattle.std.specs.Prelude.{if◌then◌else◌}
 use Rattle.std.specs.Prelude.{List, [], ◌∷◌, ◌++◌, length, map, filter, find}

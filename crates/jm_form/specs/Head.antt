@@ -1,4 +1,4 @@
--- The header of an image: seven words (jimage 1.0).
+-- The header of an image: seven words (jimage 1.0; the order of its faults is this project's rule).
 use Rattle.std.specs.Prelude.{ℕ, ◌+◌, ◌*◌, ◌==◌, nat_lt, not, List, [], ◌∷◌, length, Option, Some}
 use Rattle.std.specs.Prelude.{None, is_none, unwrap_or, Result, if◌then◌else◌}
 use Rattle.jm_bytes.specs.Checks.{fault_if, first_fault, unless_fault}

@@ -1,4 +1,5 @@
--- Location rows (jimage 1.0): a run of attributes and an end byte.
+-- Location rows (jimage 1.0; that kinds rise strictly is this project's rule): a run of attributes
+-- and an end byte.
 use Rattle.std.specs.Prelude.{ℕ, ◌+◌, ◌-◌, ◌*◌, ◌^◌, ◌<◌, ◌≤◌, ◌≡◌, ◌==◌, nat_lt, List, [], ◌∷◌}
 use Rattle.std.specs.Prelude.{◌++◌, length, if◌then◌else◌}
 use Rattle.std.specs.List.{find, flat_map, range_with_len}

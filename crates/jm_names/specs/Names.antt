@@ -1,4 +1,5 @@
--- The names of an image (jimage 1.0): a name is a list of bytes that is kept in four pieces.
+-- The names of an image (jimage 1.0; where a name's shape leaves a choice, this project's rule; JEP
+-- 220 for nodes, JLS 7 for packages): a name is a list of bytes that is kept in four pieces.
 use Rattle.std.specs.Prelude.{ℕ, Bool, true, false, nat_eq, map, ◌==◌, ◌&&◌, ◌||◌, not, List, []}
 use Rattle.std.specs.Prelude.{◌∷◌, ◌++◌, if◌then◌else◌, codes}
 use Rattle.std.specs.List.{list_any, before_first, after_first, before_last, after_last}
