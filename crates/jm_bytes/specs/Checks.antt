@@ -12,7 +12,7 @@ pub record IsFirstFault {F : Type 0} (checks : List (Option F)) (fault : F) : Ty
   pub found : slice_get checks place ≡ Some (Some fault)
   pub before : (k : ℕ) → k < place → slice_get checks k ≡ Some None
 
--- the same as a value: the fault of the first check that finds one, or none
+-- the fault of the first check that finds one, or none: `IsFirstFault` as a value
 abbrev pub first_fault : {F : Type 0} → List (Option F) → Option F
 first_fault [] = None
 first_fault (None ∷ checks) = first_fault checks

@@ -139,7 +139,7 @@ class_text c = joined (
 
 -- Constants
 
--- the bytes behind a tag other than that of a Utf8, or none where there is no such tag
+-- how many bytes stand behind a tag other than that of a Utf8, or none where there is no such tag
 abbrev pub body_size : ℕ → Option ℕ
 body_size tag =
     if tag == 3 || tag == 4 then Some 4
@@ -184,11 +184,11 @@ utf8_at pool index = option_and_then utf8_of (slot_at pool index)
 
 -- Well-formed classes: numbers, counts and lengths fit their fields
 
--- a number of two bytes that names a Utf8
+-- a number of two bytes is that of a Utf8
 abbrev pub NamesText : List SlotData → ℕ → Type 0
 NamesText pool name = (name < 2 ^ 16) × (is_some (utf8_at pool name) ≡ true)
 
--- at most so many as a count of two bytes says, each one fit
+-- at most 65,535 items, as many as a count of two bytes can tell, each of which fits
 abbrev pub FitsCounted : {A : Type 0} → (A → Type 0) → List A → Type 0
 FitsCounted fits items = (length items < 2 ^ 16) × All fits items
 
@@ -215,7 +215,7 @@ abbrev pub is_code_name : Option (List ℕ) → Bool
 is_code_name None = false
 is_code_name (Some text) = bytes_eq text (codes "Code")
 
--- a Code of the pool stands exactly where it has to, and bytes as they are everywhere else
+-- a Code where one has to stand, and bytes as they are everywhere else
 abbrev pub IsBody : List SlotData → Bool → BodyData → Type 0
 IsBody pool false (Opaque bytes) = Unit {0}
 IsBody pool true (Coded code) = IsCode pool code
