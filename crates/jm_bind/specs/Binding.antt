@@ -31,6 +31,6 @@ pub record IsClosed (found : List Candidate) (roots : List (List ℕ))
   pub required : (i j : ℕ) → Has i → Requires found i j → Has j
   pub served : (i j : ℕ) → Has i → IsServedBy found i j → Has j
 
--- the module at place i is in every closed set of places
+-- the rule: the module at place i is in every closed set of places
 abbrev pub Bound : List Candidate → List (List ℕ) → ℕ → Type 0
 Bound found roots i = (places : List ℕ) → IsClosed found roots (Contains places) → Contains places i

@@ -24,7 +24,7 @@ abbrev pub LeavesRound : List (List ℕ) → List ℕ → ℕ → Type 0
 LeavesRound graph rounds node =
     (j : ℕ) → HasEdge graph node j → round_of rounds j ≢ round_of rounds node
 
--- the graph of the found modules, with an edge to each that one requires without `static`
+-- the graph of the modules found, with an edge to each that one requires without `static`
 pub record IsGraphOf (found : List Candidate) (graph : List (List ℕ)) : Type 0 where
   pub size : length graph ≡ length found
   pub exactly : (i j : ℕ) → HasEdge graph i j ↔ Requires found i j

@@ -13,7 +13,7 @@ ends_at graph node = slice_index_or graph node []
 abbrev pub HasEdge : List (List ℕ) → ℕ → ℕ → Type 0
 HasEdge graph i j = Contains (ends_at graph i) j
 
--- one edge more
+-- a graph with one edge more
 abbrev pub with_edge : List (List ℕ) → ℕ → ℕ → List (List ℕ)
 with_edge graph from to = slice_set graph from (ends_at graph from ++ to ∷ [])
 

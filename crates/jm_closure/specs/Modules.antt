@@ -34,7 +34,7 @@ RequiresName found i name =
 abbrev pub Requires : List Candidate → ℕ → ℕ → Type 0
 Requires found i j = (name : List ℕ) × RequiresName found i name × HasName found j name
 
--- the module at place i has the name of a root
+-- the module at place i has the name of one of the roots
 abbrev pub IsRoot : List Candidate → List (List ℕ) → ℕ → Type 0
 IsRoot found roots i = (name : List ℕ) × Contains roots name × HasName found i name
 

@@ -2,6 +2,6 @@
 use Rattle.std.specs.Prelude.{ℕ, List, [], ◌∷◌, ◌++◌, codes}
 use Rattle.std.specs.Fmt.{decimal}
 
--- the number of the files that were made
+-- the line of `extract`, with the number of the files that were made
 abbrev pub extract_text : ℕ → List ℕ
 extract_text count = codes "extracted " ++ decimal count ++ 10 ∷ []

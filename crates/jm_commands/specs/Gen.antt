@@ -10,7 +10,7 @@ use Rattle.jm_words.specs.declared.commands.Command.{Command}
 use Rattle.jm_words.specs.declared.commands.Command.TheVariants as command
 use Rattle.jm_commands.specs.declared.generator.GenWords.{GenWords}
 
--- the folder, how many modules of how many classes it gets, and the seed
+-- what a `gen` is asked for: the folder, how many modules of how many classes it gets, and the seed
 pub record Gen : Type 0 where
   pub dir : List ℕ
   pub modules : ℕ
@@ -42,7 +42,7 @@ gen_of (command.Describe file jobs) = None
 gen_of (command.Help jobs) = None
 gen_of (command.Version jobs) = None
 
--- the folder of the modules, and the path of the image
+-- where the modules of a `gen` go
 abbrev pub modules_path : Gen → List ℕ
 modules_path gen = gen.dir ++ codes "/mods"
 
@@ -50,12 +50,12 @@ modules_path gen = gen.dir ++ codes "/mods"
 abbrev pub image_path : Gen → List ℕ
 image_path gen = gen.dir ++ codes "/image"
 
--- the files that are made first
+-- the files that a `gen` makes first
 abbrev pub made_first : Gen → Writes
 made_first gen = generated (modules_path gen) gen.modules gen.classes gen.seed
 
--- then the modules of that folder are linked: all that were made, without what their classes say
--- for debuggers
+-- what the link of that folder is asked for: all modules that were made, without what their classes
+-- say for debuggers
 abbrev pub gen_request : Gen → Request
 gen_request gen = record {
   roots = module_names gen.modules;

@@ -1,13 +1,13 @@
 -- The constant texts of `--help` and `--version` (this project's rule).
 use Rattle.std.specs.Prelude.{ℕ, List, ◌++◌, codes}
 
--- the first line
+-- the first line of the help
 abbrev pub usage_text : List ℕ
 usage_text =
     codes "usage: jm_tool COMMAND ..\n"
     ++ codes "\n"
 
--- each command with its words, and what it does
+-- the commands in the help: each with its words, and what it does
 abbrev pub commands_text : List ℕ
 commands_text =
     codes "commands:\n"
@@ -39,7 +39,7 @@ commands_text =
     ++ codes "      puts the version of the program\n"
     ++ codes "\n"
 
--- the options
+-- the options in the help
 abbrev pub options_text : List ℕ
 options_text =
     codes "options:\n"
@@ -53,7 +53,7 @@ options_text =
     ++ codes "      takes only the resources with a name that a pattern of the list matches\n"
     ++ codes "\n"
 
--- the plug-ins of `link`
+-- the plug-ins of `link` in the help
 abbrev pub plug_ins_text : List ℕ
 plug_ins_text =
     codes "plug-ins:\n"
@@ -67,7 +67,7 @@ plug_ins_text =
     ++ codes "      drops the constants of a class that nothing names\n"
     ++ codes "\n"
 
--- the statuses
+-- the statuses in the help
 abbrev pub statuses_text : List ℕ
 statuses_text =
     codes "statuses:\n"

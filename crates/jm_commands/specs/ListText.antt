@@ -6,7 +6,7 @@ use Rattle.jm_pattern.specs.declared.signs.Sign.{Sign}
 use Rattle.jm_names.specs.ByName.{Named}
 use Rattle.jm_extract.specs.Taken.{taken}
 
--- the size in bytes, a space, the name in UTF-8 and a newline
+-- the line of an entry: its size in bytes, a space, its name in UTF-8 and a newline
 abbrev pub list_line : Named → List ℕ
 list_line e = decimal (length e.1) ++ 32 ∷ utf e.0 ++ 10 ∷ []
 

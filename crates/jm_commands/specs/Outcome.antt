@@ -100,22 +100,22 @@ not_there text = refused status.NotThere (codes "not there: " ++ text)
 abbrev pub refusing : Refusal → Outcome
 refusing refusal = refused status.Refused (codes "refused: " ++ refusal_text refusal)
 
--- a folder of `ls` whose node has a bad content at this place
+-- what a folder of `ls` comes to whose node has a bad content at this place
 abbrev pub bad_node : ℕ → Outcome
 bad_node at = refused status.Damaged (codes "damaged: BadNode " ++ decimal at)
 
--- what `ls` was asked for is no folder
+-- what `ls` comes to where the path is that of no folder
 abbrev pub not_folder : Outcome
 not_folder = refused status.Refused (codes "refused: NotFolder")
 
 -- The commands
 
--- `cat`: the content of the entry of that name, by what the look-up found
+-- what `cat` comes to, by what the look-up found
 abbrev pub cat_outcome : List ℕ → Option (Row × List ℕ) → Outcome
 cat_outcome name None = not_there (utf name)
 cat_outcome name (Some found) = done found.1
 
--- `ls`: the lines of what the folder at the path holds
+-- what `ls` comes to, by what the folder at the path holds
 abbrev pub ls_outcome : List ℕ → Result Holds JrtError → Outcome
 ls_outcome path (Ok holds) = done (held_lines path holds)
 ls_outcome path (Err NotThere) = not_there (utf path)

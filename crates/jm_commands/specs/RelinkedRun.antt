@@ -9,7 +9,7 @@ use Rattle.jm_commands.specs.declared.status.Status.{Status}
 use Rattle.jm_commands.specs.declared.status.Status.TheVariants as status
 use Rattle.jm_commands.specs.Outcome.{Link, link_of}
 
--- the `link` that words ask for
+-- the `link` that words ask for, if they do
 abbrev pub link_in : Result Command WordsError → Option Link
 link_in (Ok command) = link_of command
 link_in (Err fault) = None
@@ -24,7 +24,7 @@ pub record RelinksFile (link : Link) (told : Option Files) (b : List ℕ) : Type
   pub found : file files path ≡ Some b
   pub relinks : Relinks b link.asked
 
--- by the status: the output is these bytes, and all other files are as before; no refusal
+-- by the status: the output is these bytes, and all other files are as before; it is no refusal
 abbrev pub IsRelinked : List ℕ → List ℕ → Status → (old new : Option Files) → Type 0
 IsRelinked output b status.Done old new = Holds old output b new
 IsRelinked output b status.Outside old new = Unit {0}

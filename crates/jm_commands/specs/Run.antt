@@ -31,7 +31,7 @@ use Rattle.jm_commands.specs.World.{AnyRose, World}
 
 -- What the words come to
 
--- the file of a path, where the files are told and there is a path
+-- this is the file of a path, where the files are told and there is a path
 abbrev pub HasFile : Option Files → Option (List ℕ) → Option (List ℕ) → Type 0
 HasFile told None found = Unit {0}
 HasFile told (Some path) found = Shows told (λ files. found ≡ file files path)
@@ -78,7 +78,7 @@ ImageLinkComesTo told link path due =
     (found : Option (List ℕ)) × HasFile told (Some path) found
     × FoundLinkComesTo link path found due
 
--- a link by where its modules are
+-- what a link comes to, by where its modules are
 abbrev pub LinkComesFrom : Option Files → Link → Option (List ℕ) → Outcome → Type 0
 LinkComesFrom told link None due = PathLinkComesTo told link due
 LinkComesFrom told link (Some path) due = ImageLinkComesTo told link path due

@@ -9,7 +9,7 @@ use Rattle.jm_commands.specs.Run.{HasFile}
 use Rattle.jm_commands.specs.SessionHeld.{EndsAs, Held, NotBegun}
 use Rattle.jm_commands.specs.World.{World}
 
--- the image of a `serve`
+-- the image of a `serve`, if a command is one
 abbrev pub served : Command → Option (List ℕ)
 served (command.Serve image jobs) = Some image
 served (command.Link dirs roots output plugins order bind from_image jobs) = None
@@ -24,7 +24,7 @@ served (command.Describe file jobs) = None
 served (command.Help jobs) = None
 served (command.Version jobs) = None
 
--- the same of all words
+-- the image of a `serve`, if words ask for one
 abbrev pub served_in : Result Command WordsError → Option (List ℕ)
 served_in (Ok command) = served command
 served_in (Err fault) = None

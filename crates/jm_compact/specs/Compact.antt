@@ -59,13 +59,13 @@ pool_end c = 8 + length (pool_text c.pool)
 abbrev pub back : ClassData → List ℕ
 back c = drop (pool_end c) (class_text c)
 
--- the text of a class of which these sites are known and these slots kept
+-- the text of a class with the kept constants, and with new numbers at the sites
 abbrev pub compact_with : List Bool → List Site → ClassData → List ℕ
 compact_with flags sites c =
     front c ++ (pool_text (compact_pool flags c.pool)
     ++ renumbered (new_number flags) sites (pool_end c) (back c))
 
--- the rule: the kept slots are those of live constants; a class without sites stays
+-- the rule: the text with the constants that are live, or the class's own where it has no sites
 pub data IsCompact (c : ClassData) (text : List ℕ) : Type 0 where
   Whole : sites_of c ≡ None → text ≡ class_text c → IsCompact c text
   Smaller : (sites : List Site) (flags : List Bool) → sites_of c ≡ Some sites

@@ -17,19 +17,21 @@ use Rattle.jm_extract.specs.Taken.{taken}
 
 -- Refusals
 
--- the name of an entry begins so
+-- the name of an entry begins with these bytes
 abbrev pub begins : List Named → List ℕ → Bool
 begins entries front = list_any (λ e. starts_with nat_eq e.0 front) entries
 
--- a name that is another one's folder: with a slash behind it, another name begins so
+-- the refusal of a name that is another one's folder: with a slash behind it, another name begins
+-- so
 abbrev pub clash_refusal : List Named → Named → Option Refusal
 clash_refusal entries e = fault_if (begins entries (e.0 ++ 47 ∷ [])) (refusal.Clash e.0)
 
--- the first name that is another one's folder
+-- the refusal of the first name that is another one's folder, or none
 abbrev pub first_clash : List Named → Option Refusal
 first_clash entries = first_fault (map (clash_refusal entries) entries)
 
--- the first name that may not stand in an image, before each that is another one's folder
+-- the refusal of the first name that may not stand in an image, before that of one that is
+-- another's folder
 unfoldable pub refusal_of : List Named → Option Refusal
 refusal_of entries = first_fault (first_bad_name entries ∷ first_clash entries ∷ [])
 

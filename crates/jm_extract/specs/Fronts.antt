@@ -6,7 +6,7 @@ use Rattle.std.specs.declared.cmp.Ordering.{Ordering}
 use Rattle.byteorder.specs.Endian.{big_number}
 use Rattle.jm_extract.specs.declared.taken_name.Front.{Front}
 
--- three times eight bytes as numbers, the highest byte first
+-- three times eight bytes as three numbers, the highest byte first
 abbrev pub front_numbers : List ℕ → Front
 front_numbers name = record {
   first = big_number 8 name;

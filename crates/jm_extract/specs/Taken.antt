@@ -19,12 +19,12 @@ named e = (e.name, e.content)
 abbrev pub taken_as : TakenEntry → Named
 taken_as t = (t.name, t.bytes.now)
 
--- one of the patterns matches, or none are given
+-- one of the patterns matches a name, or none are given
 abbrev pub is_included : Option (List (List Sign)) → List ℕ → Bool
 is_included None name = true
 is_included (Some patterns) name = list_any (λ signs. matches signs name) patterns
 
--- no node's name, and included
+-- a name is no node's, and is included
 abbrev pub is_taken : Option (List (List Sign)) → List ℕ → Bool
 is_taken include name = not (is_node name) && is_included include name
 

@@ -21,6 +21,7 @@ abbrev pub overlap_from : List Range → Option Range → Option (ℕ × ℕ)
 overlap_from rs None = None
 overlap_from rs (Some r) = overlap_of rs r
 
--- the slots of the first range that meets another one, and of the first range that meets it
+-- `IsFirstOverlap` as a value: the slots of the first range that meets another one, and of the
+-- first range that meets it
 abbrev pub first_overlap : List Range → Option (ℕ × ℕ)
 first_overlap rs = overlap_from rs (find (meets_one rs) rs)

@@ -16,11 +16,11 @@ use Rattle.jm_form.specs.Table.{slot_of}
 
 -- Lengths
 
--- one more, with the lowest bit set
+-- the length that is tried behind another: the next greater odd number
 abbrev pub next_length : ℕ → ℕ
 next_length length = if (length + 1) % 2 == 0 then length + 2 else length + 1
 
--- so many lengths, one after another
+-- so many lengths, one after another, the first a given one
 abbrev pub lengths_from : ℕ → ℕ → List ℕ
 lengths_from zero length = []
 lengths_from (suc count) length = length ∷ lengths_from count (next_length length)
@@ -57,7 +57,7 @@ buckets_in_turn names slots = buckets_up_to names slots (length names)
 
 -- What a bucket gets
 
--- a slot is among these
+-- a slot is in a list
 abbrev pub is_among : List ℕ → ℕ → Bool
 is_among taken slot = list_any (λ other. other == slot) taken
 
@@ -80,11 +80,11 @@ pub record Fits (names : List (List ℕ)) (slots seed : ℕ) (taken : List ℕ) 
   pub differ : AllPairs (λ one other. hash seed one % slots ≢ hash seed other % slots) names
   pub free : All (λ name. ¬ Contains taken (hash seed name % slots)) names
 
--- the same as a test
+-- `Fits` as a test: the seed sends the names to slots below the length that differ and aren't taken
 abbrev pub fits : ℕ → List ℕ → List (List ℕ) → ℕ → Bool
 fits slots taken names seed = are_free taken (slots_led slots (redirect.Seed seed) names)
 
--- the seeds that are tried, the least first
+-- the seeds that are tried: 1 to 1000, the least first
 unfoldable pub seeds : List ℕ
 seeds = range_with_len 1 1000
 
@@ -97,7 +97,7 @@ abbrev pub least_free : ℕ → List ℕ → Option ℕ
 least_free slots taken = find (λ slot. not (is_among taken slot)) (range_with_len 0 slots)
 
 -- what a bucket of these names gets: the least free slot where it has one name, else the least seed
--- that fits
+-- that fits, or nothing
 abbrev pub redirect_for : ℕ → List ℕ → List (List ℕ) → Option Redirect
 redirect_for slots taken names =
     if length names == 1 then option_map (λ slot. redirect.Slot slot) (least_free slots taken)

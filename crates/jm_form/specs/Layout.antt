@@ -31,7 +31,7 @@ abbrev pub with_texts : List (List ℕ) → List (List ℕ) → List (List ℕ)
 with_texts held [] = held
 with_texts held (text ∷ texts) = with_texts (with_text text held) texts
 
--- the empty text, `class`, and then the pieces of the names
+-- the texts of the strings: the empty text, `class`, and then the pieces of the names, each once
 abbrev pub texts_of : List (List ℕ) → List (List ℕ)
 texts_of names =
     with_texts ([] ∷ codes "class" ∷ []) (flat_map (λ name. pieces (split name)) names)

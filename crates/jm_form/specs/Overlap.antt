@@ -23,7 +23,7 @@ pub record Meets (r s : Range) : Type 0 where
   pub first : Covers r place
   pub second : Covers s place
 
--- no two ranges have a byte in common
+-- no two ranges of different slots have a byte in common
 abbrev pub Apart : List Range → Type 0
 Apart rs = (r s : Range) → Contains rs r → Contains rs s → Meets r s → ⊥
 

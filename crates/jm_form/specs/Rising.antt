@@ -11,7 +11,7 @@ with_placed text (first ∷ texts) =
     match_ordering (slice_cmp nat_cmp text first)
     (text ∷ first ∷ texts) (first ∷ texts) (first ∷ with_placed text texts)
 
--- the texts, each once, rising
+-- the texts, each once, in byte order
 abbrev pub rising : List (List ℕ) → List (List ℕ)
 rising [] = []
 rising (text ∷ texts) = with_placed text (rising texts)

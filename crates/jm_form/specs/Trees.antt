@@ -60,7 +60,7 @@ stands_in name folder =
     && list_any is_slash (path_of name)
     && bytes_eq folder.path (before_last is_slash (path_of name))
 
--- the name that a resource would have in the folder's place
+-- the name that a resource would have in the folder's place: `/`, the module, `/`, the path
 abbrev pub folder_name : ModuleFolder → List ℕ
 folder_name folder = 47 ∷ folder.module ++ 47 ∷ folder.path
 
@@ -81,7 +81,7 @@ pub record IsPlain (names : List (List ℕ)) : Type 0 where
 
 -- Packages
 
--- a path that begins with `META-INF` makes no package
+-- a path begins with `META-INF`: it makes no package
 abbrev pub is_meta : List ℕ → Bool
 is_meta path = starts_with nat_eq path (codes "META-INF")
 
@@ -146,7 +146,8 @@ inner_nodes names = map module_node (modules names) ++ map folder_node (folders 
 abbrev pub package_nodes : List (List ℕ) → List (List ℕ)
 package_nodes names = map package_node (packages names)
 
--- all nodes, falling; the two roots are always there
+-- all nodes, falling: `/modules` and `/packages`, which are always there, and one for each module,
+-- folder and package
 abbrev pub node_names : List (List ℕ) → List (List ℕ)
 node_names names =
     reverse (rising

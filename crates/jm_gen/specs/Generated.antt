@@ -29,7 +29,7 @@ module_names modules = map module_name (range_with_len 0 modules)
 abbrev pub class_name : ℕ → List ℕ
 class_name c = 67 ∷ digit (c / 1000) ∷ digit (c / 100) ∷ digit (c / 10) ∷ digit c ∷ []
 
--- a class by its module, one of eight packages and its own name
+-- the name of a class behind its package: its module's name, one of eight, and its own
 abbrev pub class_path : ℕ → ℕ → List ℕ
 class_path k c =
     joined (module_name k ∷ codes "/p" ∷ ((48 + c % 8) ∷ []) ∷ codes "/" ∷ class_name c ∷ [])
@@ -58,11 +58,11 @@ pool_with path source value =
     ∷ utf8 (codes "LineNumberTable") ∷ utf8 (codes "SourceFile") ∷ utf8 source
     ∷ Constant 5 value ∷ Hole ∷ []
 
--- ldc2_w of constant 11, and lreturn
+-- the instructions of the method: ldc2_w of constant 11, and lreturn
 abbrev pub instructions : List ℕ
 instructions = 0x14 ∷ 0x00 ∷ 0x0B ∷ 0xAD ∷ []
 
--- the first instruction is of line 1
+-- the attribute by which the first instruction is of line 1
 abbrev pub line_numbers : OpaqueData
 line_numbers = record { name = 8; bytes = 0 ∷ 1 ∷ 0 ∷ 0 ∷ 0 ∷ 1 ∷ [] }
 
@@ -76,7 +76,7 @@ code = record {
   attributes = line_numbers ∷ [];
 }
 
--- `public static long v()`, which gives the class's number
+-- the method `public static long v()`, which gives the class's number
 abbrev pub method : MemberData
 method = record {
   access = 0x0009;

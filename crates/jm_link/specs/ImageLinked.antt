@@ -27,7 +27,7 @@ seen_candidates seen = map (λ s. s.candidate) seen
 abbrev pub seen_resources : SeenModule → List Written
 seen_resources s = resources_with (name_of s) s.files
 
--- those of the modules at these places, one module after another
+-- the resources of the modules of an image at these places, one module after another
 abbrev pub resources_seen : List SeenModule → List ℕ → List Written
 resources_seen seen places = flat_map seen_resources (filter_map (slice_get seen) places)
 
@@ -37,7 +37,7 @@ image_refusal (relink.BadInfo name fault) = Some (refusal.BadEntry name fault)
 image_refusal (relink.Foreign name) = Some (refusal.Foreign name)
 image_refusal relink.Memory = None
 
--- of the modules of an image, or of their first refusal
+-- what a link comes to from the modules of an image, or from their first refusal
 abbrev pub IsImageTo : Request → Result (List SeenModule) RelinkError → Result LinkedImage Refusal
     → Type 0
 IsImageTo asked (Ok seen) result =
@@ -51,11 +51,13 @@ ImageLinksTo b asked result =
     (modules : Result (List SeenModule) RelinkError) × ModulesOf b modules
     × IsImageTo asked modules result
 
--- and the image that it comes to is what the layout of its resources is
+-- what a link of the modules of an image comes to, with an image that is what the layout of its
+-- resources is
 abbrev pub ImageComesTo : List ℕ → Request → Result LinkedImage Refusal → Type 0
 ImageComesTo b asked result = ImageLinksTo b asked result × IsLaid asked.order result
 
--- what such a link did; no file is read, so none is missing
+-- what a link of the modules of an image did to the files, by its answer; no file is read, so none
+-- is missing
 abbrev pub ImageLinks : List ℕ → Request → List ℕ → Result Summary LinkStop
     → (old new : Option Files) → (faults new_faults : ℕ) → Type 0
 ImageLinks b asked path answer old new faults new_faults =

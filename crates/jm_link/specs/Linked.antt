@@ -79,7 +79,8 @@ abbrev pub laid_out : Order → ℕ → List Written → Option Refusal → Resu
 laid_out order modules resources None = Ok (image_with order modules resources)
 laid_out order modules resources (Some refusal) = Err refusal
 
--- what plug-ins left of the resources of so many modules, or their refusal
+-- what plug-ins left of the resources of so many modules is laid out, or their refusal is the
+-- result
 abbrev pub IsPluggedTo : Order → ℕ → Result (List Written) ApplyError
     → Result LinkedImage Refusal → Type 0
 IsPluggedTo order modules (Ok resources) result =
@@ -88,7 +89,8 @@ IsPluggedTo order modules (Err (plugging.BadClass name fault)) result =
     result ≡ Err (refusal.BadClass name fault)
 IsPluggedTo order modules (Err plugging.Memory) result = ⊥
 
--- the resources of so many modules, whose first unfit name is refused before plug-ins act
+-- the first unfit name of the resources of so many modules is refused, else the plug-ins act on
+-- them
 abbrev pub IsGatheredTo : Request → ℕ → List Written → Option Refusal
     → Result LinkedImage Refusal → Type 0
 IsGatheredTo asked modules resources (Some refusal) result = result ≡ Err refusal
@@ -106,7 +108,7 @@ closing_refusal (closing.SplitPackage shared first second) =
     Some (refusal.SplitPackage shared first second)
 closing_refusal closing.Memory = None
 
--- the result of a closure: the resources of the modules at these places, or its refusal
+-- what the resources of the modules at a closure's places come to, or its refusal
 abbrev pub IsClosedTo : Request → (List ℕ → List Written) → Result (List ℕ) CloseError
     → Result LinkedImage Refusal → Type 0
 IsClosedTo asked resources (Ok places) result =
@@ -114,7 +116,7 @@ IsClosedTo asked resources (Ok places) result =
 IsClosedTo asked resources (Err error) (Ok image) = ⊥
 IsClosedTo asked resources (Err error) (Err refusal) = closing_refusal error ≡ Some refusal
 
--- the closure of the roots among the modules found, which has one answer
+-- what the closure of the roots among the modules found comes to
 abbrev pub IsLinkedOf : Request → List Candidate → (List ℕ → List Written)
     → Result LinkedImage Refusal → Type 0
 IsLinkedOf asked found resources result =

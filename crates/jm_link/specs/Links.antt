@@ -29,7 +29,7 @@ request_of asked = record {
   order = asked.order;
 }
 
--- what is told of an image
+-- what is told of an image: the numbers of its modules and resources, its length, its slots
 abbrev pub summary_of : LinkedImage → Summary
 summary_of image = record {
   modules = image.modules;
@@ -57,8 +57,8 @@ abbrev pub BreaksOff : (Result LinkedImage Refusal → Type 0) → List ℕ → 
 BreaksOff Comes path old new =
     (new ≡ old) ⊎ ((image : LinkedImage) × Comes (Ok image) × HoldsPart old path image.bytes new)
 
--- by the answer: the image stands at the path; a refusal, and no file was changed; a file that was
--- listed isn't there, which shows that something else holds; a failure of the outside; no memory
+-- by the answer: the image stands at the path; a refusal, or a listed file that isn't there, so
+-- that `Absent` holds, and no file was changed; a failure of the outside, or no memory
 abbrev pub LinksBy : (Result LinkedImage Refusal → Type 0) → Type 0 → List ℕ
     → Result Summary LinkStop → (old new : Option Files) → (faults new_faults : ℕ) → Type 0
 LinksBy Comes Absent path (Ok summary) old new faults new_faults =
@@ -72,11 +72,11 @@ LinksBy Comes Absent path (Err stop.Outside) old new faults new_faults =
     BreaksOff Comes path old new × Rose faults new_faults
 LinksBy Comes Absent path (Err stop.Memory) old new faults new_faults = BreaksOff Comes path old new
 
--- a shelf that tells its files never says of a listed one that it isn't there
+-- the shelf doesn't tell its files: one that does never says of a listed file that it isn't there
 abbrev pub TellsNothing : Option Files → Type 0
 TellsNothing told = Shows told (λ files. ⊥)
 
--- what a link of the files did
+-- what a link of the modules of a module path did to the files, by its answer
 abbrev pub Links : List (List ℕ) → Request → List ℕ → Result Summary LinkStop
     → (old new : Option Files) → (faults new_faults : ℕ) → Type 0
 Links directories asked path answer old new faults new_faults =

@@ -13,7 +13,7 @@ abbrev pub module_files : VisibleModule → List Named
 module_files m =
     by_name (map (λ path. (resource_name (name_of m) path, inside m.folder path)) m.files)
 
--- the same of the modules at these places, one module after another
+-- the files of the modules at these places, one module after another
 abbrev pub link_files : List VisibleModule → List ℕ → List Named
 link_files found places = flat_map module_files (filter_map (slice_get found) places)
 
@@ -21,6 +21,6 @@ link_files found places = flat_map module_files (filter_map (slice_get found) pl
 abbrev pub resources_of : Files → List Named → List Written
 resources_of files names = map (λ f. (f.0, bytes_at files f.1)) names
 
--- those of the modules at these places
+-- the resources of the modules at these places, with the bytes of their files
 abbrev pub resources_in : Files → List VisibleModule → List ℕ → List Written
 resources_in files found places = resources_of files (link_files found places)

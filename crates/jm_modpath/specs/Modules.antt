@@ -32,7 +32,7 @@ use Rattle.jm_modpath.specs.declared.visible.VisibleModule.{VisibleModule}
 abbrev pub inside : List ℕ → List ℕ → List ℕ
 inside folder name = folder ++ 47 ∷ name
 
--- the file that makes a folder a module
+-- the name of the file that makes a folder a module: `module-info.class`
 abbrev pub info_name : List ℕ
 info_name = codes "module-info.class"
 
@@ -73,7 +73,7 @@ info_with (Ok c) = described (info_of c)
 abbrev pub info_in : List ℕ → Result Descriptor DescriptorFault
 info_in bytes = info_with (class_of bytes)
 
--- what the file of a folder says
+-- what the `module-info.class` of a folder says, or its first fault
 abbrev pub folder_info : Files → List ℕ → Result Descriptor DescriptorFault
 folder_info files folder = info_in (bytes_at files (info_path folder))
 

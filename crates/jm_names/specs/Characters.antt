@@ -4,21 +4,21 @@ use Rattle.std.specs.Prelude.{◌≡◌, ℕ, ◌<◌, ◌≤◌, Bool, true, fa
 use Rattle.std.specs.Prelude.{[], ◌∷◌, length, take}
 use Rattle.std.specs.List.{list_all, concat}
 
--- a number from low to high
+-- a number is from low to high
 abbrev pub from_to : ℕ → ℕ → ℕ → Bool
 from_to low high b = nat_le low b && nat_le b high
 
--- a byte that goes on a character
+-- a byte goes on a character: it is from 0x80 to 0xBF
 abbrev pub goes_on : ℕ → Bool
 goes_on = from_to 0x80 0xBF
 
--- the first two of three bytes: neither an overlong form nor a surrogate
+-- two bytes begin a character of three: it is neither an overlong form nor a surrogate
 abbrev pub begins_three : ℕ → ℕ → Bool
 begins_three a x =
     a == 0xE0 && from_to 0xA0 0xBF x || from_to 0xE1 0xEC a && goes_on x
     || (a == 0xED && from_to 0x80 0x9F x || from_to 0xEE 0xEF a && goes_on x)
 
--- the three bytes of a surrogate whose second byte is from low to high
+-- three bytes are those of a surrogate whose second byte is from low to high
 abbrev pub is_surrogate : ℕ → ℕ → ℕ → ℕ → ℕ → Bool
 is_surrogate low high a x y = a == 0xED && from_to low high x && goes_on y
 

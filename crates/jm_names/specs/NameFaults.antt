@@ -26,7 +26,7 @@ is_dots part = bytes_eq part (codes ".") || bytes_eq part (codes "..")
 abbrev pub is_zero : ℕ → Bool
 is_zero b = b == 0
 
--- the cause of each fault, whatever else is wrong with the name
+-- the name has the cause of a fault, whatever else is wrong with it
 abbrev pub Fails : List ℕ → NameFault → Type 0
 Fails name Empty = has_module name ≡ false
 Fails name EmptyPart = list_any is_empty (parts name) ≡ true

@@ -21,7 +21,7 @@ is_slash b = b == 47
 abbrev pub is_dot : ℕ → Bool
 is_dot b = b == 46
 
--- a text of no byte
+-- a text has no byte
 abbrev pub is_empty : List ℕ → Bool
 is_empty [] = true
 is_empty (b ∷ bs) = false
@@ -45,7 +45,7 @@ ext_end (b ∷ bs) = 46 ∷ (b ∷ bs)
 abbrev pub join : Cut → List ℕ
 join cut = module_front cut.module ++ (parent_front cut.parent ++ (cut.base ++ ext_end cut.ext))
 
--- `modules` and `packages`, the two first parts that a tree's own nodes have
+-- a text is `modules` or `packages`, the two first parts that a tree's own nodes have
 abbrev pub is_tree : List ℕ → Bool
 is_tree text = bytes_eq text (codes "modules") || bytes_eq text (codes "packages")
 
@@ -83,7 +83,7 @@ split (b ∷ name) =
     then cut_rest (before_first is_slash name) (after_first is_slash name)
     else base_only (b ∷ name)
 
--- `/modules`, `/packages`, and what begins with one of these and `/`
+-- a name is `/modules` or `/packages`, or begins with one of these and `/`
 abbrev pub is_node : List ℕ → Bool
 is_node name =
     bytes_eq name (codes "/modules") || bytes_eq name (codes "/packages")

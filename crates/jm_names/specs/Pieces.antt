@@ -2,7 +2,7 @@
 use Rattle.jm_names.specs.Names.{Cut}
 use Rattle.jm_names.specs.declared.pieces.Pieces.{Pieces}
 
--- the texts of the pieces
+-- the pieces that the code holds, as texts
 abbrev pub cut_of : Pieces → Cut
 cut_of pieces = record {
   «module» = pieces.module.now;

@@ -5,14 +5,14 @@ use Rattle.std.specs.Prelude.{◌≡◌, ℕ, ◌+◌, ◌*◌, ◌-◌, ◌/◌
 use Rattle.std.specs.Prelude.{◌∷◌, ◌++◌, if◌then◌else◌}
 use Rattle.jm_names.specs.Characters.{from_to, goes_on, is_surrogate}
 
--- four bytes that are one character of UTF-8, from U+10000 to U+10FFFF
+-- four bytes are one character of UTF-8, from U+10000 to U+10FFFF
 abbrev pub is_four : ℕ → ℕ → ℕ → ℕ → Bool
 is_four a x y z =
     (a == 0xF0 && from_to 0x90 0xBF x || from_to 0xF1 0xF3 a && goes_on x
     || a == 0xF4 && from_to 0x80 0x8F x)
     && (goes_on y && goes_on z)
 
--- the number of that character, from the low three bits of the first byte and the low six of the
+-- the number of such a character, from the low three bits of the first byte and the low six of the
 -- others
 abbrev pub four_number : ℕ → ℕ → ℕ → ℕ → ℕ
 four_number a x y z = a % 8 * 0x40000 + x % 64 * 0x1000 + y % 64 * 64 + z % 64
@@ -22,7 +22,7 @@ abbrev pub four_bytes : ℕ → List ℕ
 four_bytes c =
     (0xF0 + c / 0x40000) ∷ (0x80 + c / 0x1000 % 64) ∷ (0x80 + c / 64 % 64) ∷ (0x80 + c % 64) ∷ []
 
--- six bytes that are a high surrogate and a low one
+-- six bytes are a high surrogate and a low one
 abbrev pub is_pair : ℕ → ℕ → ℕ → ℕ → ℕ → ℕ → Bool
 is_pair a x y b z w = is_surrogate 0xA0 0xAF a x y && is_surrogate 0xB0 0xBF b z w
 
@@ -42,14 +42,16 @@ surrogates u =
 abbrev pub pair_bytes : ℕ → List ℕ
 pair_bytes c = surrogates (c - 0x10000)
 
--- a text in Modified UTF-8: from left to right each character of four bytes becomes its pair
+-- a text in Modified UTF-8: from left to right each character of four bytes becomes its pair; every
+-- other byte stays
 abbrev pub modified : List ℕ → List ℕ
 modified (a ∷ x ∷ y ∷ z ∷ text) =
     if is_four a x y z then pair_bytes (four_number a x y z) ++ modified text
     else a ∷ modified (x ∷ y ∷ z ∷ text)
 modified text = text
 
--- a name in UTF-8: from left to right each pair becomes its character of four bytes
+-- a name in UTF-8: from left to right each pair becomes its character of four bytes; every other
+-- byte stays
 abbrev pub utf : List ℕ → List ℕ
 utf (a ∷ x ∷ y ∷ b ∷ z ∷ w ∷ name) =
     if is_pair a x y b z w then four_bytes (pair_number x y z w) ++ utf name

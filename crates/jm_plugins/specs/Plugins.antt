@@ -15,20 +15,20 @@ use Rattle.jm_plugins.specs.declared.chain.ApplyError.{ApplyError}
 use Rattle.jm_plugins.specs.declared.chain.ApplyError.TheVariants.{BadClass}
 use Rattle.jm_plugins.specs.Matching.{excluded, ordered}
 
--- the pair of a class that was read, with another text
+-- the pair of a class that was read, with another text of it, or the refusal by its fault
 abbrev pub remade : (ClassData → List ℕ) → List ℕ → Result ClassData ClassFault
     → Result (List ℕ × List ℕ) ApplyError
 remade text name (Ok class) = Ok (name, text class)
 remade text name (Err fault) = Err (BadClass name fault)
 
--- a pair with the other text of its class, where its name is that of one
+-- a pair with the other text of its class, where its name ends in `.class`, or that class's refusal
 abbrev pub remade_pair : (ClassData → List ℕ) → List ℕ × List ℕ
     → Result (List ℕ × List ℕ) ApplyError
 remade_pair text pair =
     if ends_with nat_eq pair.0 (codes ".class") then remade text pair.0 (class_of pair.1)
     else Ok pair
 
--- all pairs so; the first class that doesn't read decides
+-- all pairs so, or the first refusal
 abbrev pub remade_pairs : (ClassData → List ℕ) → List (List ℕ × List ℕ)
     → Result (List (List ℕ × List ℕ)) ApplyError
 remade_pairs text [] = Ok []
@@ -40,14 +40,14 @@ remade_pairs text (pair ∷ pairs) =
 abbrev pub stripped_text : ClassData → List ℕ
 stripped_text class = class_text (strip class)
 
--- what one plug-in makes of the pairs
+-- what one plug-in makes of the pairs, or its refusal
 abbrev pub act : Plugin → List (List ℕ × List ℕ) → Result (List (List ℕ × List ℕ)) ApplyError
 act (plugin.Exclude patterns) pairs = Ok (excluded patterns pairs)
 act (plugin.Order patterns) pairs = Ok (ordered patterns pairs)
 act plugin.Strip pairs = remade_pairs stripped_text pairs
 act plugin.Compact pairs = remade_pairs compact_text pairs
 
--- what plug-ins make of the pairs, from the first plug-in to the last
+-- what plug-ins make of the pairs, from the first plug-in to the last, or the first refusal
 abbrev pub apply : List Plugin → List (List ℕ × List ℕ)
     → Result (List (List ℕ × List ℕ)) ApplyError
 apply [] pairs = Ok pairs

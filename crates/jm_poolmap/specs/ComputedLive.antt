@@ -4,26 +4,26 @@ use Rattle.std.specs.Prelude.{replicate, slice_index_or, slice_set, if◌then◌
 use Rattle.jm_class.specs.Classes.{SlotData, Constant, Hole}
 use Rattle.jm_poolmap.specs.Sites.{named_by}
 
--- the constant of a number is marked
+-- flags with the constant of a number marked
 abbrev pub with_mark : List Bool → ℕ → List Bool
 with_mark flags index = if index == 0 then flags else slice_set flags (index - 1) true
 
--- the constants of some numbers are marked
+-- flags with the constants of some numbers marked
 abbrev pub with_marks : List Bool → List ℕ → List Bool
 with_marks flags [] = flags
 with_marks flags (index ∷ rest) = with_marks (with_mark flags index) rest
 
--- what a slot names is marked, if its constant is
+-- flags with what a slot names marked, if its own constant is
 abbrev pub spread : ℕ → SlotData → List Bool → List Bool
 spread place slot flags =
     if slice_index_or flags place false then with_marks flags (named_by slot) else flags
 
--- what the slots from a place on name
+-- flags with what the marked slots from a place on name marked too
 abbrev pub spread_from : ℕ → List SlotData → List Bool → List Bool
 spread_from place [] flags = flags
 spread_from place (slot ∷ pool) flags = spread_from (place + 1) pool (spread place slot flags)
 
--- a hole has the flag of the constant before it
+-- a slot's own flag, or for a hole that of the constant before it
 abbrev pub flag_of : SlotData → Bool → Bool → Bool
 flag_of (Constant tag body) flag before = flag
 flag_of Hole flag before = before
@@ -35,7 +35,7 @@ with_holes before (slot ∷ pool) [] = []
 with_holes before (slot ∷ pool) (flag ∷ flags) =
     flag_of slot flag before ∷ with_holes (flag_of slot flag before) pool flags
 
--- three rounds: a constant names one of a lower rank, and ranks are at most 3
+-- flags after three rounds: a constant names one of a lower rank, and ranks are at most 3
 abbrev pub rounds : List SlotData → List Bool → List Bool
 rounds pool flags = spread_from 0 pool (spread_from 0 pool (spread_from 0 pool flags))
 

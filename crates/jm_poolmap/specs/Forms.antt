@@ -20,7 +20,7 @@ unfit at = tt
 abbrev pub Form : Type 0
 Form = List Found → Reading NoForm (List Found)
 
--- no form is allowed here
+-- no form is allowed here: nothing is of it
 abbrev pub nowhere : Form
 nowhere found left = Err tt
 

@@ -44,7 +44,7 @@ wide_rows =
 abbrev pub filling : ℕ → Reading NoForm (List ℕ)
 filling start left = part unfit ((4 - (left.place - start) % 4) % 4) left
 
--- the place of a number of four bytes in the order of the signed ones
+-- how far a number of four bytes, read as a signed one, is above the least of these
 abbrev pub from_least : ℕ → ℕ
 from_least n = if nat_lt n (2 ^ 31) then n + 2 ^ 31 else n - 2 ^ 31
 

@@ -24,7 +24,7 @@ abbrev pub member : place.Place → List SlotData → Form
 member place pool =
     in_order (skip 2 ∷ site ∷ site ∷ counted w16 (attribute place pool) ∷ [])
 
--- magic and versions, the constants, the flags, the class and the one above, and the rest
+-- a class: magic and versions, the constants, the flags, the class and the one above, and the rest
 abbrev pub class : List SlotData → Form
 class pool = in_order (
     skip 8 ∷ skip (length (pool_text pool)) ∷ skip 2 ∷ site ∷ optional_site

@@ -7,7 +7,7 @@ abbrev pub cut_from : List ℕ → List ℕ → List ℕ → List ℕ → Cut
 cut_from «module» parent base ext =
     record { «module» = «module»; parent = parent; base = base; ext = ext }
 
--- the name that the pieces make
+-- the name that four pieces make
 abbrev pub joined : List ℕ → List ℕ → List ℕ → List ℕ → List ℕ
 joined «module» parent base ext = join (cut_from «module» parent base ext)
 

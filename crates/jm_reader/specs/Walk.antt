@@ -13,7 +13,7 @@ pub record Walked : Type 0 where
   pub bytes : List ℕ
   pub rest : List Entry
 
--- the entries of some slots: of those that the slots spell, the ones that are reached
+-- the entries of some slots: of those that the slots spell, the ones that the table reaches
 abbrev pub entries_in : List ℕ → Header → List ℕ → List Entry
 entries_in b h places = filter (is_reached b h) (filter_map (entry_at b h) places)
 
@@ -25,7 +25,7 @@ entry_alone b h slot = entries_in b h (slot ∷ [])
 abbrev pub entries_from : List ℕ → Header → ℕ → List Entry
 entries_from b h slot = entries_in b h (range_with_len slot (h.length - slot))
 
--- the same with what was read as the header; none where that is a fault
+-- the entries from a slot on, by what was read as the header; none where that is a fault
 abbrev pub to_come_with : List ℕ → ℕ → Result Header HeaderFault → List Entry
 to_come_with b slot (Err fault) = []
 to_come_with b slot (Ok h) = entries_from b h slot
@@ -34,7 +34,7 @@ to_come_with b slot (Ok h) = entries_from b h slot
 abbrev pub entries_to_come : List ℕ → ℕ → List Entry
 entries_to_come b slot = to_come_with b slot (header_of b)
 
--- all entries, with what was read as the header
+-- all entries, by what was read as the header; none where that is a fault
 abbrev pub entries_with : List ℕ → Result Header HeaderFault → List Entry
 entries_with b (Err fault) = []
 entries_with b (Ok h) = entries b h

@@ -18,7 +18,7 @@ redirect_at redirects hash = slice_index_or redirects (hash % length redirects) 
 abbrev pub words_of : List Redirect → List ℤ
 words_of redirects = map (λ r. cast_signed w32 (word_of r)) redirects
 
--- a greedy table with its redirects as words
+-- a greedy table with its redirects as signed words
 abbrev pub with_words : GreedyTable → Table
 with_words table = record {
   length = table.length;
@@ -26,7 +26,7 @@ with_words table = record {
   slot_of = table.slots;
 }
 
--- none of the 64 lengths has a table; want of memory says nothing
+-- none of the 64 lengths has a table, and that number is told; want of memory says nothing
 abbrev pub IsRefusal : List (List ℕ) → BuildError → Type 0
 IsRefusal names (NoTable count) =
     (count ≡ 64) × All (λ slots. greedy names slots ≡ None) (table_lengths (length names))

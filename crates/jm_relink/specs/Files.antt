@@ -20,11 +20,11 @@ resources_of b = resources (entries_of b)
 
 -- Names
 
--- the resource that a file of a module is; its path stays as it is
+-- the name of the resource that a file of a module is: `/module/path`; the path stays as it is
 abbrev pub file_name : List ℕ → List ℕ → List ℕ
 file_name «module» path = 47 ∷ «module» ++ 47 ∷ path
 
--- the entry that makes a module
+-- the name of the entry that makes a module
 abbrev pub info_entry : List ℕ → List ℕ
 info_entry «module» = file_name «module» info_name
 

@@ -47,11 +47,11 @@ abbrev pub gathered : ImageModules → List ℕ → List Named
 gathered modules places =
     flat_map (λ m. resources_with m.0 m.1) (filter_map (slice_get (named_files modules)) places)
 
--- a name that may not stand in an image
+-- the refusal of a name that may not stand in an image, with its fault
 abbrev pub name_refusal : Named → Option GatherError
 name_refusal r = option_map (λ fault. error.BadName r.0 fault) (name_fault r.0)
 
--- the first name that may not
+-- the refusal of the first name that may not stand in an image, or none
 abbrev pub first_bad_name : List Named → Option GatherError
 first_bad_name rs = first_fault (map name_refusal rs)
 
@@ -63,7 +63,8 @@ Gathers rs (Err (error.BadName name fault)) old new =
     first_bad_name rs ≡ Some (error.BadName name fault)
 Gathers rs (Err error.Memory) old new = Unit {0}
 
--- the pool of exactly these resources; the first name that may not stand in an image; no memory
+-- the pool of exactly these resources, or the refusal of the first name that may not stand in an
+-- image, or no memory
 abbrev pub GathersAll : List Named → Result (List Named) GatherError → Type 0
 GathersAll rs (Ok pool) = (first_bad_name rs ≡ None) × (pool ≡ rs)
 GathersAll rs (Err (error.BadName name fault)) =

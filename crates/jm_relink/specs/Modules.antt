@@ -39,7 +39,8 @@ pub record AreFilesOf (rs : List Named) («module» : List ℕ) (files : List Na
   pub each : (path content : List ℕ)
       → Contains files (path, content) ↔ Contains rs (file_name «module» path, content)
 
--- what is seen of a module: what its entry says, which has its name, and its files
+-- what is seen of a module: what its entry says, which has its name, its class packages, and its
+-- files
 pub record IsSeenIn (rs : List Named) (s : SeenModule) : Type 0 where
   pub content : List ℕ
   pub info : HasInfo rs (name_of s) content
@@ -57,7 +58,7 @@ pub record IsVisibleIn (rs : List Named) (seen : List SeenModule) : Type 0 where
 
 -- Refusals
 
--- of a module with what its entry says: no descriptor; one of another module
+-- what is refused of a module by what its entry says: no descriptor, or one of another module
 abbrev pub info_refusal : List ℕ → Result Descriptor DescriptorFault → Option RelinkError
 info_refusal «module» (Err fault) = Some (error.BadInfo (info_entry «module») fault)
 info_refusal «module» (Ok d) =
@@ -79,12 +80,12 @@ ModulesOf b (Err refusal) = IsRefusedIn (resources_of b) refusal
 
 -- What is handed out
 
--- these modules, in two lists
+-- the code's two lists hold these modules
 pub record HoldsModules (found : ImageModules) (seen : List SeenModule) : Type 0 where
   pub candidates : found.candidates ≡ map (λ s. s.candidate) seen
   pub files : map files_as found.files ≡ map (λ s. s.files) seen
 
--- by the answer: the modules of an image; their first refusal; no memory
+-- what looking for an image's modules comes to: these, their first refusal, or no memory
 abbrev pub FindsModules : List ℕ → Result ImageModules RelinkError → Type 0
 FindsModules b (Ok found) =
     (seen : List SeenModule) × ModulesOf b (Ok seen) × HoldsModules found seen

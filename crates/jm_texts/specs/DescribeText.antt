@@ -10,8 +10,8 @@ use Rattle.jm_modinfo.specs.declared.descriptor.Opened.{Opened}
 use Rattle.jm_modinfo.specs.declared.descriptor.Provides.{Provides}
 use Rattle.jm_modinfo.specs.Flags.{is_static}
 
--- 0x0020: of a module that it is open, of one that is required that who requires this module gets
--- it
+-- the flag 0x0020 is set: a module is open, or who requires this module gets the one that it
+-- requires
 abbrev pub is_marked : ℕ → Bool
 is_marked flags = not (bit_and flags 0x0020 == 0)
 
@@ -19,7 +19,7 @@ is_marked flags = not (bit_and flags 0x0020 == 0)
 abbrev pub word_if : Bool → List ℕ → List ℕ
 word_if there word = if there then word else []
 
--- texts with commas between them: each but the first behind one
+-- a text in UTF-8 behind a comma
 abbrev pub behind_comma : List ℕ → List ℕ
 behind_comma text = 44 ∷ utf text
 
@@ -28,12 +28,12 @@ abbrev pub listed : List (List ℕ) → List ℕ
 listed [] = []
 listed (text ∷ texts) = utf text ++ flat_map behind_comma texts
 
--- a word and the texts, or nothing where there are none
+-- a word and some texts, or nothing where there are none
 abbrev pub listed_behind : List ℕ → List (List ℕ) → List ℕ
 listed_behind word [] = []
 listed_behind word (text ∷ texts) = word ++ listed (text ∷ texts)
 
--- a word and a text
+-- one text behind a word, or nothing where there is none
 abbrev pub behind : List ℕ → Option (List ℕ) → List ℕ
 behind word None = []
 behind word (Some text) = word ++ utf text

@@ -20,7 +20,7 @@ name_fault_text fault_of.Zero = codes "Zero"
 name_fault_text fault_of.TooLong = codes "TooLong"
 name_fault_text (fault_of.NotText at) = codes "NotText " ++ decimal at
 
--- a name behind a space
+-- a name in UTF-8 behind a space
 abbrev pub spaced : List ℕ → List ℕ
 spaced name = 32 ∷ utf name
 

@@ -18,11 +18,11 @@ use Rattle.jm_words.specs.Values.{folders_of, names_of, number_of, order_of, pat
 use Rattle.jm_words.specs.Values.{without_slashes}
 use Rattle.jm_words.specs.Reading.{GivenText, fault_at, given_texts, stands}
 
--- the text that was given first by a name
+-- the text that was given first by a name, or none
 abbrev pub look : List ℕ → List GivenText → Option (List ℕ)
 look name given = option_map (λ g. g.text) (find (λ g. bytes_eq g.name name) given)
 
--- the same, or no byte
+-- the text that was given first by a name, or no byte
 abbrev pub text_of : List ℕ → List GivenText → List ℕ
 text_of name given = unwrap_or (look name given) []
 
@@ -94,7 +94,7 @@ abbrev pub command_unless_fault : Verb → Result (List GivenText) WordsError
 command_unless_fault verb (Ok given) = Ok (command_of verb given)
 command_unless_fault verb (Err fault) = Err fault
 
--- the words behind the first one, which is the name of a command
+-- the command of a name that was looked up, with the words behind it, or their first fault
 abbrev pub command_after : Option Verb → List (List ℕ) → Result Command WordsError
 command_after None words = fault_at 1 kind.UnknownCommand
 command_after (Some verb) words = command_unless_fault verb (given_texts verb words)

@@ -6,7 +6,7 @@ use Rattle.jm_words.specs.declared.errors.WordsError.TheVariants.{Fault, Memory}
 use Rattle.jm_words.specs.declared.errors.WordsKind.{WordsKind}
 use Rattle.jm_words.specs.declared.errors.WordsKind.TheVariants as kind
 
--- the name of a kind
+-- the name of a kind of fault
 abbrev pub kind_text : WordsKind → List ℕ
 kind_text kind.NoCommand = codes "NoCommand"
 kind_text kind.UnknownCommand = codes "UnknownCommand"
@@ -17,11 +17,11 @@ kind_text kind.BadValue = codes "BadValue"
 kind_text kind.TooManyArguments = codes "TooManyArguments"
 kind_text kind.Missing = codes "Missing"
 
--- a fault by its kind and its word's number
+-- a fault in print: its kind and its word's number
 abbrev pub fault_text : ℕ → WordsKind → List ℕ
 fault_text at kind = kind_text kind ++ codes " at " ++ decimal at
 
--- a fault, or want of memory
+-- a fault of the words in print, or `Memory`
 abbrev pub error_text : WordsError → List ℕ
 error_text (Fault at kind) = fault_text at kind
 error_text Memory = codes "Memory"

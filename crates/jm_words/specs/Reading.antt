@@ -50,13 +50,13 @@ with_text given left name text = record {
   pending = None;
 }
 
--- the same where the text is of its form
+-- the same where the text is of its form, else `BadValue`
 abbrev pub with_checked_text : ℕ → List ℕ → Form → List ℕ → List GivenText → List Argument
     → Result Standing WordsError
 with_checked_text at name form text given left =
     if is_of_form form text then Ok (with_text given left name text) else fault_at at kind.BadValue
 
--- `=`
+-- a byte is `=`
 abbrev pub is_equals : ℕ → Bool
 is_equals b = b == 61
 
@@ -73,7 +73,7 @@ option_named name choices = find (λ choice. bytes_eq (option_row choice).name n
 abbrev pub value_behind : List ℕ → Option (List ℕ)
 value_behind word = if list_any is_equals word then Some (after_first is_equals word) else None
 
--- an option that may stand here: its value stands behind `=`, or is the next word
+-- what stands after an option that may stand here: its value stands behind `=`, or is the next word
 abbrev pub after_choice : ℕ → Choice → Option (List ℕ) → List GivenText → List Argument
     → Result Standing WordsError
 after_choice at choice (Some text) given left =
@@ -83,7 +83,7 @@ after_choice at choice None given left =
     then Ok (with_text given left (option_row choice).name [])
     else Ok (record { given = given; left = left; pending = Some choice })
 
--- a word that is an option
+-- what stands after a word that is an option, or its fault: it is unknown, or stands again
 abbrev pub after_option : ℕ → List ℕ → List GivenText → List Argument → Option Choice
     → Result Standing WordsError
 after_option at word given left None = fault_at at kind.UnknownOption
@@ -92,17 +92,17 @@ after_option at word given left (Some choice) =
     then fault_at at kind.Repeated
     else after_choice at choice (value_behind word) given left
 
--- a word that is an argument
+-- what stands after a word that is an argument, or its fault: no argument is left
 abbrev pub after_argument : ℕ → List ℕ → List GivenText → List Argument → Result Standing WordsError
 after_argument at word given [] = fault_at at kind.TooManyArguments
 after_argument at word given (argument ∷ left) =
     with_checked_text at (argument_row argument).name (argument_row argument).form word given left
 
--- a word that begins with two hyphens is an option
+-- a word begins with two hyphens: it is an option
 abbrev pub is_option : List ℕ → Bool
 is_option word = starts_with nat_eq word (codes "--")
 
--- a word by itself
+-- what stands after a word by itself: an option or an argument
 abbrev pub after_plain_word : List Choice → ℕ → List ℕ → List GivenText → List Argument
     → Result Standing WordsError
 after_plain_word choices at word given left =
@@ -110,7 +110,8 @@ after_plain_word choices at word given left =
     then after_option at word given left (option_named (before_first is_equals word) choices)
     else after_argument at word given left
 
--- one word: the value that an option waits for, whatever it is, or a word by itself
+-- what stands after one word: the value that an option waits for, whatever it is, or a word by
+-- itself
 abbrev pub after_word : List Choice → ℕ → List ℕ → Standing → Option Choice
     → Result Standing WordsError
 after_word choices at word standing None =
@@ -119,7 +120,7 @@ after_word choices at word standing (Some choice) =
     with_checked_text at (option_row choice).name (option_row choice).form word
     standing.given standing.left
 
--- the words from a number on
+-- what stands after some words, of which the first has a number, or the first fault
 abbrev pub after_words : List Choice → ℕ → List (List ℕ) → Result Standing WordsError
     → Result Standing WordsError
 after_words choices at [] standing = standing
@@ -136,7 +137,8 @@ abbrev pub is_missing : List Choice → List GivenText → List Argument → Boo
 is_missing choices given [] = list_any (lacks given) choices
 is_missing choices given (argument ∷ left) = true
 
--- what stands behind the last word, with the number of all words
+-- what was given where no more words come, or the fault: a value, an argument or an option isn't
+-- there
 abbrev pub texts_at_end : List Choice → ℕ → Standing → Option Choice
     → Result (List GivenText) WordsError
 texts_at_end choices all standing (Some choice) = fault_at all kind.NoValue
@@ -144,7 +146,7 @@ texts_at_end choices all standing None =
     if is_missing choices standing.given standing.left then fault_at all kind.Missing
     else Ok standing.given
 
--- the end of a reading
+-- what was given at the end of a reading, or its first fault
 abbrev pub texts_unless_fault : List Choice → ℕ → Result Standing WordsError
     → Result (List GivenText) WordsError
 texts_unless_fault choices all (Ok standing) = texts_at_end choices all standing standing.pending

@@ -2,13 +2,13 @@
 use Rattle.std.specs.Prelude.{ℕ, Bool, true, false, List}
 use Rattle.jm_words.specs.declared.forms.Form.{Form}
 
--- an argument
+-- an argument's row: its name, and how its text is read
 pub record ArgumentForm : Type 0 where
   pub name : List ℕ
   pub form : Form
 
--- an option: it may stand again and again, or is required; `instead` is the option in whose place
--- it stands, or its own name
+-- an option's row: it may stand again and again, or is required; `instead` is the option in whose
+-- place it stands, or its own name
 pub record OptionForm : Type 0 where
   pub name : List ℕ
   pub form : Form

@@ -25,15 +25,15 @@ abbrev pub without_slashes : List ℕ → List ℕ
 without_slashes [] = []
 without_slashes (b ∷ text) = before_text b (without_slashes text)
 
--- the parts of a text that such bytes cut; 58 is `:` and 44 is `,`
+-- the parts of a text that the bytes of a number cut; 58 is `:` and 44 is `,`
 abbrev pub parts_at : ℕ → List ℕ → List (List ℕ)
 parts_at byte text = slice_split (λ b. b == byte) text
 
--- folders, without the slashes at their ends
+-- the folders of a text, cut at `:`, without the slashes at their ends
 abbrev pub folders_of : List ℕ → List (List ℕ)
 folders_of text = map without_slashes (parts_at 58 text)
 
--- names of modules
+-- the names of modules in a text, cut at `,`
 abbrev pub names_of : List ℕ → List (List ℕ)
 names_of text = map modified (parts_at 44 text)
 
