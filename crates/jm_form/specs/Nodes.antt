@@ -1,4 +1,4 @@
--- How an image tells the two trees: the contents of its nodes (jimage 1.0).
+-- How an image tells the two trees (JEP 220): the contents of its nodes (jimage 1.0).
 use Rattle.std.specs.Prelude.{ℕ, ◌≡◌, ◌<◌, Bool, true, List, [], ◌∷◌, map, filter}
 use Rattle.std.specs.Prelude.{Contains, IsPermutation, Ok, if◌then◌else◌}
 use Rattle.std.specs.List.{AllZip, flat_map, zip}

@@ -60,7 +60,8 @@ folders_in files directory = rising (filter_map folder_with_info (names_below di
 
 -- What a folder shows
 
--- the descriptor that a class says, or its fault, or that of the bytes as a class
+-- the descriptor by the class that bytes read as (JVMS 4), or the fault of the class or of its
+-- descriptor
 abbrev pub info_with : Result ClassData ClassFault → Result Descriptor DescriptorFault
 info_with (Err fault) = Err (fault_of.Class fault)
 info_with (Ok c) = described (info_of c)

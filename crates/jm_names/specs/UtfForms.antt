@@ -1,6 +1,6 @@
--- A name's two forms: UTF-8, where a character above U+FFFF has four bytes, and Modified UTF-8
--- (JVMS 4), where it is a pair of surrogates of three bytes each. Whatever is no such character
--- or pair stays as it is (this project's rule).
+-- A name's two forms: UTF-8 (RFC 3629), where a character above U+FFFF has four bytes, and Modified
+-- UTF-8 (JVMS 4), where it is a pair of surrogates of three bytes each. Whatever is no such
+-- character or pair stays as it is (this project's rule).
 use Rattle.std.specs.Prelude.{◌≡◌, ℕ, ◌+◌, ◌*◌, ◌-◌, ◌/◌, ◌%◌, Bool, ◌==◌, ◌&&◌, ◌||◌, List, []}
 use Rattle.std.specs.Prelude.{◌∷◌, ◌++◌, if◌then◌else◌}
 use Rattle.jm_names.specs.Characters.{from_to, goes_on, is_surrogate}

@@ -1,4 +1,4 @@
--- The resources of chosen modules of an image (this project's rule).
+-- The resources of chosen modules of an image (this project's rule; JEP 220 for their names).
 use Rattle.std.specs.Prelude.{ℕ, ◌≡◌, ◌≢◌, ◌<◌, false, List, ◌++◌, length, map, All, AllPairs}
 use Rattle.std.specs.Prelude.{Option, Some, None, option_map, Result, Ok, Err, slice_get}
 use Rattle.std.specs.List.{filter_map, flat_map, list_any, zip}
