@@ -37,7 +37,8 @@ tree (suc depth) pool index = slot_tree (tree depth pool) (slot_at pool index)
 abbrev pub meaning : List Site → ClassData → List ℕ × List (Piece (Tree 4))
 meaning sites c = (front c, put_for_all (tree 4 c.pool) (cut sites (pool_end c) (back c)))
 
--- the text is that of a class that says the same, all of whose constants are live
+-- the text reads as a class that has sites and the same meaning, and all of whose constants are
+-- live
 pub record SaysTheSame (c : ClassData) (old : List Site) (text : List ℕ) : Type 0 where
   pub class : ClassData
   pub reads : ReadsAs text class

@@ -17,7 +17,7 @@ width wide = if wide then w16 else w8
 abbrev pub size : Bool → ℕ
 size wide = byte_len (width wide)
 
--- bytes from a place on, cut at sites
+-- bytes from a place on, cut at sites: the bytes between two sites, and the number at each
 abbrev pub cut : List Site → ℕ → List ℕ → List (Piece ℕ)
 cut [] at bytes = Plain bytes ∷ []
 cut (site ∷ sites) at bytes =

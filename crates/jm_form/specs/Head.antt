@@ -39,7 +39,7 @@ fields_in order b = record {
 abbrev pub fields_of : List ℕ → Header
 fields_of b = fields_in (read_order b) b
 
--- how many bytes stand in front of the contents
+-- how many bytes stand in front of the contents: 28, 8 for each slot, the locations and the strings
 abbrev pub index_length : Header → ℕ
 index_length h = 28 + 8 * h.length + h.locations + h.strings
 

@@ -16,7 +16,7 @@ pub record Covers (r : Range) (place : ℕ) : Type 0 where
   pub from : r.start ≤ place
   pub to : place < r.end
 
--- two ranges of different slots have a byte in common
+-- the rule: two ranges of different slots have a byte in common
 pub record Meets (r s : Range) : Type 0 where
   pub slots : r.slot ≢ s.slot
   pub place : ℕ

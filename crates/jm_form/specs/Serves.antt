@@ -4,7 +4,8 @@ use Rattle.std.specs.Prelude.{slice_index_or}
 use Rattle.jm_form.specs.Greedy.{bucket_of}
 use Rattle.jm_form.specs.Table.{redirect_of, slot_of}
 
--- the redirect word of each name's bucket leads the name to its slot, and no two names share one
+-- the redirect word of each name's bucket leads the name to its slot, in the look-up's own words,
+-- and no two names share one
 pub record Serves (names : List (List ℕ)) (slots : ℕ) (words given : List ℕ) : Type 0 where
   pub words_length : length words ≡ slots
   pub given_length : length given ≡ length names

@@ -42,7 +42,8 @@ is_link names path =
     && list_any (λ o. bytes_eq (after_last is_slash path) o.module)
     (owners names (drop 10 (before_last is_slash path)))
 
--- what a file system of both trees has at a path, or none
+-- what a file system of both trees has at a path: a folder, a package with its owners, a file, a
+-- link, or nothing
 abbrev pub tree : List (List ℕ × List ℕ) → List ℕ → Option TreeItem
 tree resources path =
     if bytes_eq path (codes "/")

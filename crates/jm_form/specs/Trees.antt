@@ -172,7 +172,8 @@ abbrev pub entry_name : List (List ℕ) → List ℕ → List ℕ
 entry_name names place =
     if list_any (λ name. bytes_eq place (tree_place name)) names then drop 8 place else place
 
--- the names of the direct children of `/modules` or of a node below it, rising by their last part
+-- the names of the entries directly below `/modules` or a node of it, rising by their last part: a
+-- resource's own name, a folder's node's name
 abbrev pub children : List (List ℕ) → List ℕ → List (List ℕ)
 children names node = map (entry_name names) (filter (is_child node) (tree_places names))
 

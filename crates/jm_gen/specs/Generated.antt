@@ -134,7 +134,8 @@ module_files dir classes seed k before =
     info_file dir k (drawn seed (before + 1))
     ∷ map (λ c. class_file dir k c (drawn seed (before + 2 + c))) (range_with_len 0 classes)
 
--- the files of all modules; each module takes one draw, and one more for each class
+-- the files of all modules: for each one its descriptor by one draw, and then its classes, each by
+-- one more
 abbrev pub generated : List ℕ → ℕ → ℕ → ℕ → Writes
 generated dir modules classes seed =
     flat_map (λ k. module_files dir classes seed k (k * (classes + 1))) (range_with_len 0 modules)

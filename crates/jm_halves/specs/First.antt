@@ -1,8 +1,8 @@
 -- The least place with a value (this project's rule: the answer that one thread gives).
 use Rattle.std.specs.Prelude.{ℕ, ◌<◌, ◌≤◌, Option, Some, None, IfSome, IfNone}
 
--- the least place from low on and below high for which gives says that there is a value, with that
--- value
+-- the least place from low on and below high that has a value, with the value, or none has one;
+-- `gives` says of a place which value it has, if it has one
 pub record IsFirstIn {D : Type 0}
     (gives : ℕ → Option D → Type 0) (low high : ℕ) (found : Option (ℕ × D)) : Type 0 where
   -- what is found is the value at a place within

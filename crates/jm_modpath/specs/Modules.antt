@@ -54,7 +54,8 @@ folder_with_info name =
     then Some (before_first is_slash name)
     else None
 
--- the names of the folders of a directory that are modules, rising
+-- the names of the folders that stand directly in a directory and hold a `module-info.class`,
+-- rising
 abbrev pub folders_in : Files → List ℕ → List (List ℕ)
 folders_in files directory = rising (filter_map folder_with_info (names_below directory files))
 
@@ -142,7 +143,8 @@ abbrev pub directory_checks : Files → List ℕ → List (Option PathRefusal)
 directory_checks files directory =
     flat_map (checks_at files directory) (range_with_len 0 (length (folders_in files directory)))
 
--- the first refusal of a module path: directory by directory, folder by folder
+-- the first refusal of a module path, directory by directory and folder by folder: no module, or a
+-- name twice in a directory
 abbrev pub path_refusal : Files → List (List ℕ) → Option PathRefusal
 path_refusal files directories = first_fault (flat_map (directory_checks files) directories)
 

@@ -31,7 +31,7 @@ is_character (a ∷ x ∷ y ∷ b ∷ z ∷ w ∷ []) =
     is_surrogate 0xA0 0xAF a x y && is_surrogate 0xB0 0xBF b z w
 is_character _ = false
 
--- the bytes are a run of characters
+-- the bytes are a run of characters: some list of characters concatenates to them
 abbrev pub IsText : List ℕ → Type 0
 IsText bytes =
     (characters : List (List ℕ)) × (list_all is_character characters ≡ true)

@@ -44,7 +44,7 @@ rank Zero = 3
 rank TooLong = 4
 rank (NotText at) = 5
 
--- the fault is the first that holds
+-- the fault is the first that holds: each other one that holds has no lesser rank
 pub record HasFault (name : List ℕ) (fault : NameFault) : Type 0 where
   pub fails : Fails name fault
   pub first : (other : NameFault) → Fails name other → rank fault ≤ rank other

@@ -6,7 +6,7 @@ use Rattle.std.specs.List.{list_any, before_first, after_first, before_last, aft
 use Rattle.std.specs.List.{starts_with}
 use Rattle.std.specs.Str.{bytes_eq}
 
--- the four pieces of a name
+-- the four pieces of a name: module, parent, base, extension
 pub record Cut : Type 0 where
   pub «module» : List ℕ
   pub parent : List ℕ

@@ -36,7 +36,8 @@ remade_pairs text (pair ∷ pairs) =
     followed (remade_pair text pair)
     (λ first. followed (remade_pairs text pairs) (λ rest. Ok (first ∷ rest)))
 
--- the text of a class without its debug information
+-- the text of a class without its debug information: that of `Strip`, as `compact_text` is that of
+-- `Compact`
 abbrev pub stripped_text : ClassData → List ℕ
 stripped_text class = class_text (strip class)
 

@@ -21,14 +21,14 @@ use Rattle.jm_plugins.specs.Plugins.{stripped_text}
 abbrev pub rank : List (List Sign) → List ℕ → ℕ
 rank patterns name = position_or_len (λ pattern. matches pattern name) patterns
 
--- the places of the classes among pairs, the first of which has this place
+-- the places of the pairs whose name ends in `.class`, where the first pair has a given place
 abbrev pub class_places : ℕ → List (List ℕ × List ℕ) → List ℕ
 class_places at [] = []
 class_places at (pair ∷ pairs) =
     if ends_with nat_eq pair.0 (codes ".class") then at ∷ class_places (at + 1) pairs
     else class_places (at + 1) pairs
 
--- the text of a class that is made anew so
+-- the text that one of the two ways gives of a class
 abbrev pub text_of : Remaking → ClassData → List ℕ
 text_of remaking.Strip class = stripped_text class
 text_of remaking.Compact class = compact_text class
@@ -45,7 +45,7 @@ IsRemade text pairs place one =
     (one.place ≡ place)
     × ((pair : _) → slice_get pairs place ≡ Some pair → RemadeAs text pair.1 one.outcome)
 
--- why a class at a place isn't made anew
+-- the refusal is by the fault of the class at a place, with its name, or want of memory
 abbrev pub Refuses : List (List ℕ × List ℕ) → ℕ → ReadError → ApplyError → Type 0
 Refuses pairs place (read_error.Fault fault) refusal =
     (refusal ≡ Memory) ⊎ (refusal ≡ BadClass (slice_index_or (names_of pairs) place []) fault)

@@ -43,7 +43,8 @@ entries_with b (Ok h) = entries b h
 abbrev pub entries_of : List ℕ → List Entry
 entries_of b = entries_with b (header_of b)
 
--- the entry that is handed out is the first of some entries, and the rest follows it
+-- what is handed out has slot, name and content of the first of some entries, and the rest follows
+-- it
 pub record IsFirst (all : List Entry) (given : handed.Entry) (rest : List Entry) : Type 0 where
   pub entry : Entry
   pub first : all ≡ entry ∷ rest
