@@ -5,5 +5,7 @@ pub mod FirstItem
 pub mod FirstSign
 pub mod Laws
 pub mod Leading
+pub mod LineSums
 pub mod RuleLaws
 pub mod Runs
+pub mod SearchCosts

@@ -3,6 +3,7 @@ pub mod ComputedReading
 pub mod ItemRules
 pub mod Items
 pub mod Matching
+pub mod MatchingCosts
 pub mod MatchingSteps
 pub mod Reading
 pub mod ReadingSteps

@@ -1,18 +1,25 @@
-ghost use Rattle.std.specs.Prelude.{◌≡◌, ◌≢◌, ◌∷◌, ◌+◌, ◌<◌, ◌≤◌, ◌↔◌, [], All, length};
-ghost use Rattle.std.specs.Prelude.{IsTrue, IfSome, IfNone};
+ghost use Rattle.std.specs.Prelude.{◌≡◌, ◌≢◌, ◌∷◌, ◌+◌, ◌*◌, ◌<◌, ◌≤◌, ◌↔◌, [], ℕ};
+ghost use Rattle.std.specs.Prelude.{All, length, IsTrue, IfSome, IfNone};
 ghost use Rattle.jm_pattern.specs.Matching.{StandsFor, Match};
-ghost use Rattle.jm_pattern.specs.MatchingSteps.{Leads, BeginsFixed, AtRun, AtAny, behind_line};
+ghost use Rattle.jm_pattern.specs.MatchingSteps.{Leads, NoLonger, TakesByte};
+ghost use Rattle.jm_pattern.specs.MatchingSteps.{BeginsFixed, AtRun, AtAny, behind_line};
+ghost use Rattle.jm_pattern.specs.MatchingCosts.{line_places, block_length};
+ghost use Rattle.jm_pattern.specs.MatchingCosts.{behind_segment, segment_cost};
 
 use crate::signs::Sign;
+use jm_bytes::Steps;
+use std::sync::ledger::Ledger;
 
 // The signs between two `**` are a segment, and those between two runs of either kind a block of
-// signs for one byte each. A line is the bytes of the name up to a `/` and with it. A block behind
-// a `*` is put at its least place, and so is a segment behind a `**`: whatever matches later also
-// matches behind the earlier place, since the next run may be longer. So no earlier choice is
-// undone. Since a `*` may end anywhere in its line, a segment that fits nowhere in one begins in a
-// later one, and is tried once for each line. Only a `/` of the signs leads it from line to line,
-// so what one try puts into a line no other try puts there: each block is put at each place at
-// most once, and the comparisons are at most in proportion to the signs times the bytes.
+// signs for one byte each. A block behind a `*` is put at its least place, and so is a segment
+// behind a `**`: whatever matches later also matches behind the earlier place, since the next run
+// may be longer. So no earlier choice is undone.
+//
+// A line is the bytes of a name as far as a `/` and with it. A segment behind a `**` that couldn't
+// stand behind a `*` at a line's begin stands at no place in that line, so it is tried once for
+// each line. Within a try only a `/` among the signs leads from one line to the next, so the tries
+// put a block into lines that all differ, and compare it at most once at each place of the name.
+// That is the bound of `cost`.
 
 /// The signs that are left to match, and the bytes of the name that are left for them.
 #[derive(Clone, Copy)]
@@ -22,49 +29,68 @@ struct Left<'s, 'n> {
 }
 
 /// Whether the whole name is a concatenation of what the signs stand for.
-pub fn is_match(signs: &[Sign], name: &[u8]) -> bool
-    ensures { IsTrue result ↔ Match signs.now name.now }
+pub fn is_match<L: Ledger>(signs: &[Sign], name: &[u8], compared: &mut Steps<L>) -> bool
+    ensures rule { IsTrue result ↔ Match signs.now name.now }
+    ensures cost { compared.new ≤ compared.old + 2 * length signs.now * (length name.now + 1) }
 {
-    whole(signs, name).is_some()
+    whole(signs, name, compared).is_some()
 }
 
 /// Matches segment by segment; nothing is left.
-fn whole<'s, 'n>(signs: &'s [Sign], name: &'n [u8]) -> Option<Left<'s, 'n>>
+fn whole<'s, 'n, L: Ledger>(
+    signs: &'s [Sign],
+    name: &'n [u8],
+    compared: &mut Steps<L>,
+) -> Option<Left<'s, 'n>>
     ensures some { IfSome result (λ left. Match signs.now name.now) }
     ensures none { IfNone result (¬ Match signs.now name.now) }
+    ensures cost { compared.new ≤ compared.old + 2 * length signs.now * (length name.now + 1) }
 {
-    let mut left = segment(signs, name)?;
+    let mut left = segment(signs, name, compared)?;
     while let Some((_, behind)) = left.signs.split_first() {
-        left = after_any(behind, left.name)?;
+        left = after_any(behind, left.name, compared)?;
     }
     Some(left)
 }
 
 /// Puts the segment behind a `**` at its least place, line by line.
-fn after_any<'s, 'n>(signs: &'s [Sign], name: &'n [u8]) -> Option<Left<'s, 'n>>
+fn after_any<'s, 'n, L: Ledger>(
+    signs: &'s [Sign],
+    name: &'n [u8],
+    compared: &mut Steps<L>,
+) -> Option<Left<'s, 'n>>
     ensures leads { IfSome result
         (λ left. Leads (Sign.AnyRun ∷ signs.now) name.now left.signs.now left.name.now) }
     ensures rests { IfSome result (λ left. AtAny left.signs.now left.name.now) }
-    ensures shorter { IfSome result (λ left. length left.signs.now ≤ length signs.now) }
+    ensures shorter { IfSome result
+        (λ left. NoLonger signs.now name.now left.signs.now left.name.now) }
     ensures none { IfNone result (¬ Match (Sign.AnyRun ∷ signs.now) name.now) }
+    ensures cost { IfSome result (λ left. (most : ℕ) → 2 * (length name.now + 1) ≤ most
+        → compared.new + length left.signs.now * most
+        ≤ compared.old + (length signs.now + 1) * most) }
+    ensures cost_none { IfNone result ((most : ℕ) → 2 * (length name.now + 1) ≤ most
+        → compared.new ≤ compared.old + (length signs.now + 1) * most) }
 {
     let mut rest = name;
     loop {
-        if let Some(left) = in_line(signs, rest) {
+        if let Some(left) = in_line(signs, rest, compared) {
             return Some(left);
         }
-        rest = behind_slash(rest)?;
+        rest = behind_slash(rest, compared)?;
     }
 }
 
 /// What stands behind the first `/`.
-fn behind_slash(name: &[u8]) -> Option<&[u8]>
+fn behind_slash<'n, L: Ledger>(name: &'n [u8], compared: &mut Steps<L>) -> Option<&'n [u8]>
     ensures some { IfSome result (λ rest. rest.now ≡ behind_line name.now) }
     ensures shorter { IfSome result (λ rest. length rest.now < length name.now) }
     ensures none { IfNone result (All (λ b. b ≢ 47) name.now) }
+    ensures slash { IfSome result (λ _. ¬ All (λ b. b ≢ 47) name.now) }
+    ensures cost { compared.new ≤ compared.old + line_places name.now }
 {
     let mut rest = name;
     while let Some((byte, after)) = rest.split_first() {
+        compared.add(1);
         if *byte == b'/' {
             return Some(after);
         }
@@ -74,40 +100,63 @@ fn behind_slash(name: &[u8]) -> Option<&[u8]>
 }
 
 /// Puts a segment at its least place behind a run of bytes other than `/`.
-fn in_line<'s, 'n>(signs: &'s [Sign], name: &'n [u8]) -> Option<Left<'s, 'n>>
+fn in_line<'s, 'n, L: Ledger>(
+    signs: &'s [Sign],
+    name: &'n [u8],
+    compared: &mut Steps<L>,
+) -> Option<Left<'s, 'n>>
     ensures leads { IfSome result
         (λ left. Leads (Sign.Run ∷ signs.now) name.now left.signs.now left.name.now) }
     ensures rests { IfSome result (λ left. AtAny left.signs.now left.name.now) }
-    ensures shorter { IfSome result (λ left. length left.signs.now ≤ length signs.now) }
+    ensures shorter { IfSome result
+        (λ left. NoLonger signs.now name.now left.signs.now left.name.now) }
     ensures none { IfNone result (¬ Match (Sign.Run ∷ signs.now) name.now) }
+    ensures end { IfSome result (λ left. left.signs.now ≡ behind_segment signs.now) }
+    ensures cost { compared.new ≤ compared.old + segment_cost 0 (Sign.Run ∷ signs.now) name.now }
 {
-    let left = after_run(signs, name)?;
-    other_blocks(left)
+    let left = after_run(signs, name, compared)?;
+    other_blocks(left, compared)
 }
 
 /// Matches the signs up to the first `**`, or all where there is none.
-fn segment<'s, 'n>(signs: &'s [Sign], name: &'n [u8]) -> Option<Left<'s, 'n>>
+fn segment<'s, 'n, L: Ledger>(
+    signs: &'s [Sign],
+    name: &'n [u8],
+    compared: &mut Steps<L>,
+) -> Option<Left<'s, 'n>>
     ensures leads { IfSome result (λ left. Leads signs.now name.now left.signs.now left.name.now) }
     ensures rests { IfSome result (λ left. AtAny left.signs.now left.name.now) }
     ensures none { IfNone result (¬ Match signs.now name.now) }
+    ensures end { IfSome result (λ left. left.signs.now ≡ behind_segment signs.now) }
+    ensures shorter { IfSome result
+        (λ left. NoLonger signs.now name.now left.signs.now left.name.now) }
+    ensures cost { compared.new
+        ≤ compared.old + segment_cost (line_places name.now) signs.now name.now }
 {
-    let left = block(signs, name)?;
-    other_blocks(left)
+    let left = block(signs, name, compared)?;
+    other_blocks(left, compared)
 }
 
 /// Matches the blocks of a segment behind its first.
-fn other_blocks<'s, 'n>(first: Left<'s, 'n>) -> Option<Left<'s, 'n>>
+fn other_blocks<'s, 'n, L: Ledger>(
+    first: Left<'s, 'n>,
+    compared: &mut Steps<L>,
+) -> Option<Left<'s, 'n>>
     requires { AtRun first.signs.now first.name.now }
     ensures leads { IfSome result (λ left.
         Leads first.entry.signs.now first.entry.name.now left.signs.now left.name.now) }
     ensures rests { IfSome result (λ left. AtAny left.signs.now left.name.now) }
-    ensures shorter { IfSome result
-        (λ left. length left.signs.now ≤ length first.entry.signs.now) }
+    ensures shorter { IfSome result (λ left.
+        NoLonger first.entry.signs.now first.entry.name.now left.signs.now left.name.now) }
     ensures none { IfNone result (¬ Match first.entry.signs.now first.entry.name.now) }
+    ensures end { IfSome result
+        (λ left. left.signs.now ≡ behind_segment first.entry.signs.now) }
+    ensures cost { compared.new
+        ≤ compared.old + segment_cost 0 first.entry.signs.now first.entry.name.now }
 {
     let mut left = first;
     while let Some(behind) = behind_run(left.signs) {
-        left = after_run(behind, left.name)?;
+        left = after_run(behind, left.name, compared)?;
     }
     Some(left)
 }
@@ -124,19 +173,32 @@ fn behind_run(signs: &[Sign]) -> Option<&[Sign]>
 }
 
 /// Puts the block behind a `*` at its least place.
-fn after_run<'s, 'n>(signs: &'s [Sign], name: &'n [u8]) -> Option<Left<'s, 'n>>
+fn after_run<'s, 'n, L: Ledger>(
+    signs: &'s [Sign],
+    name: &'n [u8],
+    compared: &mut Steps<L>,
+) -> Option<Left<'s, 'n>>
     ensures leads { IfSome result
         (λ left. Leads (Sign.Run ∷ signs.now) name.now left.signs.now left.name.now) }
     ensures rests { IfSome result (λ left. AtRun left.signs.now left.name.now) }
-    ensures shorter { IfSome result (λ left. length left.signs.now ≤ length signs.now) }
+    ensures shorter { IfSome result
+        (λ left. NoLonger signs.now name.now left.signs.now left.name.now) }
     ensures none { IfNone result (¬ Match (Sign.Run ∷ signs.now) name.now) }
+    ensures end { IfSome result
+        (λ left. behind_segment left.signs.now ≡ behind_segment signs.now) }
+    ensures cost { IfSome result
+        (λ left. compared.new + segment_cost 0 left.signs.now left.name.now
+        ≤ compared.old + segment_cost 0 (Sign.Run ∷ signs.now) name.now) }
+    ensures cost_none { IfNone result
+        (compared.new ≤ compared.old + segment_cost 0 (Sign.Run ∷ signs.now) name.now) }
 {
     let mut rest = name;
     loop {
-        if let Some(left) = block(signs, rest) {
+        if let Some(left) = block(signs, rest, compared) {
             return Some(left);
         }
         let (byte, after) = rest.split_first()?;
+        compared.add(1);
         if !takes(Sign::Run, *byte) {
             return None;
         }
@@ -145,15 +207,26 @@ fn after_run<'s, 'n>(signs: &'s [Sign], name: &'n [u8]) -> Option<Left<'s, 'n>>
 }
 
 /// Matches the signs up to the first `*` or `**`, or all where there is none.
-fn block<'s, 'n>(signs: &'s [Sign], name: &'n [u8]) -> Option<Left<'s, 'n>>
+fn block<'s, 'n, L: Ledger>(
+    signs: &'s [Sign],
+    name: &'n [u8],
+    compared: &mut Steps<L>,
+) -> Option<Left<'s, 'n>>
     ensures leads { IfSome result (λ left. Leads signs.now name.now left.signs.now left.name.now) }
     ensures rests { IfSome result (λ left. AtRun left.signs.now left.name.now) }
-    ensures shorter { IfSome result (λ left. length left.signs.now ≤ length signs.now) }
+    ensures shorter { IfSome result
+        (λ left. NoLonger signs.now name.now left.signs.now left.name.now) }
     ensures none { IfNone result (¬ Match signs.now name.now) }
+    ensures end { IfSome result
+        (λ left. behind_segment left.signs.now ≡ behind_segment signs.now) }
+    ensures cost { IfSome result
+        (λ left. compared.new + segment_cost (line_places name.now) left.signs.now left.name.now
+        ≤ compared.old + segment_cost (line_places name.now) signs.now name.now) }
+    ensures cost_none { IfNone result (compared.new ≤ compared.old + block_length signs.now) }
 {
     let mut left = Left { signs, name };
     while begins_fixed(left.signs) {
-        left = one_byte(left)?;
+        left = one_byte(left, compared)?;
     }
     if left.signs.is_empty() && !left.name.is_empty() {
         return None;
@@ -172,16 +245,18 @@ fn begins_fixed(signs: &[Sign]) -> bool
 }
 
 /// Matches a sign for one byte.
-fn one_byte<'s, 'n>(left: Left<'s, 'n>) -> Option<Left<'s, 'n>>
+fn one_byte<'s, 'n, L: Ledger>(left: Left<'s, 'n>, compared: &mut Steps<L>) -> Option<Left<'s, 'n>>
     requires { BeginsFixed left.signs.now }
     ensures leads { IfSome result
         (λ next. Leads left.entry.signs.now left.entry.name.now next.signs.now next.name.now) }
-    ensures shorter { IfSome result
-        (λ next. length next.signs.now + 1 ≡ length left.entry.signs.now) }
+    ensures takes { IfSome result (λ next.
+        TakesByte left.entry.signs.now left.entry.name.now next.signs.now next.name.now) }
     ensures none { IfNone result (¬ Match left.entry.signs.now left.entry.name.now) }
+    ensures cost { compared.new ≤ compared.old + 1 }
 {
     let (sign, signs) = left.signs.split_first()?;
     let (byte, name) = left.name.split_first()?;
+    compared.add(1);
     if takes(*sign, *byte) {
         Some(Left { signs, name })
     } else {

@@ -1,4 +1,5 @@
-ghost use Rattle.std.specs.Prelude.{◌≡◌, ◌↔◌, ◌⊎◌, IsTrue, IfOk, IfErr, All, codes};
+ghost use Rattle.std.specs.Prelude.{◌≡◌, ◌≤◌, ◌<◌, ◌+◌, ◌*◌, ◌↔◌, ◌⊎◌, length};
+ghost use Rattle.std.specs.Prelude.{IsTrue, IfOk, IfErr, All, codes};
 ghost use Rattle.jm_pattern.specs.Matching.{Match, MatchesOnly, MatchesAll};
 ghost use Rattle.jm_pattern.specs.ComputedMatching.{matches, matches_any};
 ghost use Rattle.jm_bytes.specs.Results.{UnlessMemory};
@@ -7,9 +8,10 @@ ghost use Rattle.jm_pattern.specs.Reading.{IsFaultOf, IsPlain, Reads};
 
 use crate::matching::is_match;
 use crate::reading::signs_of;
-use jm_bytes::{List, NoMemory};
+use jm_bytes::{List, NoMemory, Steps};
 use std::alloc::Global;
-use std::marker::Model;
+use std::marker::{Brand, Model};
+use std::sync::ledger::{Blank, Ledger};
 
 /// What stands for a run of bytes in a pattern.
 #[derive(Clone, Copy, Debug, PartialEq, Eq)]
@@ -82,13 +84,35 @@ impl Pattern {
         Ok(Pattern { signs })
     }
 
-    /// Whether the whole of `name` is a concatenation of what the signs stand for.
+    /// Whether the whole of `name` is a concatenation of what the signs stand for. It costs no more
+    /// than `matches_counted`.
     pub fn matches(&self, name: &[u8]) -> bool
         ensures rule { IsTrue result ↔ Match self.now name.now }
         ensures value { result ≡ matches self.now name.now }
     {
-        is_match(self.signs.as_slice(), name)
+        matches_from::<Brand>(self, name, Blank::new(1))
     }
+
+    /// The same as `matches`, and counts the comparisons of a byte with a sign or with a `/`: at
+    /// most two for each sign at each place in the name, of which the end is one.
+    pub fn matches_counted<L: Ledger>(&self, name: &[u8], compared: &mut Steps<L>) -> bool
+        ensures rule { IsTrue result ↔ Match self.now name.now }
+        ensures value { result ≡ matches self.now name.now }
+        ensures cost { compared.new ≤ compared.old + 2 * length self.now * (length name.now + 1) }
+    {
+        is_match(self.signs.as_slice(), name, compared)
+    }
+}
+
+/// Whether a pattern matches a name, counted from a blank of the ledger.
+fn matches_from<L: Ledger>(pattern: &Pattern, name: &[u8], blank: Blank) -> bool
+    requires name { blank.name ≡ L.name }
+    requires parts { (blank.parts ≡ L.parts) × (0 < blank.parts) }
+    ensures rule { IsTrue result ↔ Match pattern.now name.now }
+    ensures value { result ≡ matches pattern.now name.now }
+{
+    let mut compared = Steps::<L>::new(blank);
+    pattern.matches_counted(name, &mut compared)
 }
 
 /// Whether one of the patterns matches a name.
