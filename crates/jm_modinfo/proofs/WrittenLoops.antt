@@ -38,11 +38,10 @@ module _ (needs : List Need) (i : ℕ) (item : Need) (more : i < length needs) (
       ∙ ap (λ (n : Need). utf8 n.name ∷ Constant 19 (u2 (6 + 2 * i)) ∷ need_slots (6 + 2 * i + 2) (drop (i + 1) needs)) (sym is)
       ∙ ap (λ (n : ℕ). utf8 item.name ∷ Constant 19 (u2 (6 + 2 * i)) ∷ need_slots n (drop (i + 1) needs)) next
 
-  pub slots-next : (old once twice all : List SlotData) (number : List ℕ) → old ++ need_slots (6 + 2 * i) (drop i needs) ≡ all → once ≡ old ++ utf8 item.name ∷ [] → twice ≡ once ++ Constant 19 number ∷ [] → number ≡ u2 (6 + 2 * i) → twice ++ need_slots (6 + 2 * (i + 1)) (drop (i + 1) needs) ≡ all
-  slots-next old once twice all number e first second same =
+  pub slots-next : (old new all : List SlotData) (number : List ℕ) → old ++ need_slots (6 + 2 * i) (drop i needs) ≡ all → new ≡ old ++ utf8 item.name ∷ Constant 19 number ∷ [] → number ≡ u2 (6 + 2 * i) → new ++ need_slots (6 + 2 * (i + 1)) (drop (i + 1) needs) ≡ all
+  slots-next old new all number e grown same =
       let rest = need_slots (6 + 2 * (i + 1)) (drop (i + 1) needs) in
-      ap (λ t. t ++ rest) second ∙ append_assoc once (Constant 19 number ∷ []) rest
-      ∙ ap (λ t. t ++ (Constant 19 number ∷ rest)) first ∙ append_assoc old (utf8 item.name ∷ []) (Constant 19 number ∷ rest)
+      ap (λ t. t ++ rest) grown ∙ append_assoc old (utf8 item.name ∷ Constant 19 number ∷ []) rest
       ∙ ap (λ (n : List ℕ). old ++ (utf8 item.name ∷ Constant 19 n ∷ rest)) same
       ∙ ap (λ t. old ++ t) (sym slots-more) ∙ e
 

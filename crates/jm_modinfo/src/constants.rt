@@ -1,6 +1,7 @@
 ghost use Rattle.std.specs.Prelude.{◌≡◌, option_map, IfSome};
 ghost use Rattle.std.specs.List.{list_all};
-ghost use Rattle.jm_class.specs.Views.{plain};
+ghost use Rattle.jm_class.specs.Classes.{slot_at};
+ghost use Rattle.jm_class.specs.Views.{slot_of, plain};
 ghost use Rattle.jm_modinfo.specs.Descriptors.{IsNumber};
 ghost use Rattle.jm_modinfo.specs.Constants.{number_in, tag_of, named_at, is_legal_byte, is_legal};
 ghost use Rattle.jm_modinfo.specs.Constants.{is_allowed};
@@ -44,12 +45,19 @@ pub fn number_in(bytes: &[u8]) -> Option<u16>
     }
 }
 
+/// What stands in the pool at a number, from 1 on.
+fn slot_at<'a, 'c>(class: &'c Class<'a>, index: u16) -> Option<&'c Slot<'a>>
+    ensures { option_map (λ slot. slot_of slot.now) result ≡ slot_at (plain class.now).pool index }
+{
+    let place = usize::from(index).checked_sub(1)?;
+    class.pool.as_slice().get(place)
+}
+
 /// The text for which the constant of a number stands; none where it isn't of this kind.
 pub fn named<'a>(class: &Class<'a>, kind: Kind, index: u16) -> Option<&'a [u8]>
     ensures { option_map (λ text. text.now) result ≡ named_at (plain class.now).pool kind index }
 {
-    let place = usize::from(index).checked_sub(1)?;
-    match class.pool.as_slice().get(place)? {
+    match slot_at(class, index)? {
         Slot::Constant { tag, body } => {
             if *tag == kind.tag() {
                 utf8(class, number_in(body)?)

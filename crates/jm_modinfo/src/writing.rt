@@ -1,5 +1,5 @@
-ghost use Rattle.std.specs.Prelude.{◌≡◌, ◌++◌, ◌<◌, ◌≤◌, ◌^◌, length, All, IfOk, OnOk};
-ghost use Rattle.jm_class.specs.Classes.{ReadsAs, IsClass, u2};
+ghost use Rattle.std.specs.Prelude.{◌≡◌, [], ◌∷◌, ◌++◌, ◌<◌, ◌≤◌, ◌^◌, length, All, IfOk, OnOk};
+ghost use Rattle.jm_class.specs.Classes.{Constant, ReadsAs, IsClass, u2};
 ghost use Rattle.jm_class.specs.Views.{slot_of, pool_of, plain};
 ghost use Rattle.jm_modinfo.specs.Descriptors.{InfoOf};
 ghost use Rattle.jm_modinfo.specs.Written.{IsName, IsWritable, utf8, numbers_text, need_slots};
@@ -74,6 +74,20 @@ fn utf8<'a>(body: &'a [u8]) -> Slot<'a>
     Slot::Constant { tag: 1, body }
 }
 
+/// Puts a Utf8 at the end, and behind it the constant of a kind that holds its number.
+fn push_named<'a>(
+    pool: &mut List<Slot<'a>>,
+    name: &'a [u8],
+    tag: u8,
+    number: &'a [u8],
+) -> Result<(), NoMemory>
+    ensures { OnOk result (pool_of pool.new
+        ≡ pool_of pool.old ++ utf8 name.now ∷ Constant tag number.now ∷ []) }
+{
+    pool.push(utf8(name))?;
+    pool.push(Slot::Constant { tag, body: number })
+}
+
 /// Puts the constants of the needs behind others: each name, and a Module of that name.
 fn push_needs<'a>(
     pool: &mut List<Slot<'a>>,
@@ -86,11 +100,7 @@ fn push_needs<'a>(
     let mut rest = numbers;
     for need in needs {
         let (number, behind) = rest.split_at(2);
-        pool.push(utf8(need.name.as_slice()))?;
-        pool.push(Slot::Constant {
-            tag: 19,
-            body: number,
-        })?;
+        push_named(pool, need.name.as_slice(), 19, number)?;
         rest = behind;
     }
     Ok(())
@@ -107,17 +117,9 @@ fn pool<'a>(
     ensures { IfOk result (λ pool. pool_of pool ≡ info_pool name.now needs.now) }
 {
     let mut pool = List::new(alloc);
-    pool.push(utf8(b"module-info"))?;
-    pool.push(Slot::Constant {
-        tag: 7,
-        body: &[0, 1],
-    })?;
+    push_named(&mut pool, b"module-info", 7, &[0, 1])?;
     pool.push(utf8(b"Module"))?;
-    pool.push(utf8(name))?;
-    pool.push(Slot::Constant {
-        tag: 19,
-        body: &[0, 4],
-    })?;
+    push_named(&mut pool, name, 19, &[0, 4])?;
     push_needs(&mut pool, needs, numbers)?;
     Ok(pool)
 }

@@ -1,6 +1,5 @@
 use Rattle.std.proofs.Common.{◌++◌, length, ◌∙◌}
-use Rattle.jm_class.proofs.Stops.{map_pushed}
-use Rattle.jm_class.specs.Views.{slot_of, pool_of}
+use Rattle.jm_class.specs.Views.{pool_of}
 use Rattle.jm_modinfo.specs.Written.{need_slots}
 use Rattle.jm_modinfo.proofs.WrittenLoops.{numbers-front, numbers-behind, slots-next}
 use Rattle.jm_modinfo.proofs.writing.push_needs.Goals as goal
@@ -11,10 +10,9 @@ loop-need-preserved c =
     let i = c.loop-need.need-index in
     let rest = c.loop-need.invariant.0 in (
       c.split_at.ensures.back ∙ numbers-behind count i c.loop-need-test.true c.loop-need.rest.now rest,
-      slots-next c.args.needs.now i c.need-item.result c.loop-need-test.true c.need-item.is (pool_of c.loop-need.pool) (pool_of c.push.new.self) (pool_of c.push-in-loop-need.new.self)
+      slots-next c.args.needs.now i c.need-item.result c.loop-need-test.true c.need-item.is (pool_of c.loop-need.pool) (pool_of c.push_named.new.pool)
           (pool_of c.args.pool.now ++ need_slots 6 c.args.needs.now)
           c.split_at.result.0.now c.loop-need.invariant.1
-          (rw (c.utf8-2.ensures, c.as_slice.ensures) at (map_pushed slot_of c.loop-need.pool c.push.new.self c.utf8-2.result c.in_ok-push.ensures.ok))
-          (map_pushed slot_of c.push.new.self c.push-in-loop-need.new.self _ c.in_ok-push-2.ensures.ok)
+          (rw c.as_slice.ensures at c.in_ok-push_named.ensures)
           (c.split_at.ensures.front ∙ numbers-front count i c.loop-need-test.true c.loop-need.rest.now rest),
     )
