@@ -1,8 +1,8 @@
 -- A well-formed class is well formed without its debug information, and reads back.
-use Rattle.std.proofs.Common.{◌≡◌, ◌≤◌, Bool, true, false, List, [], ◌∷◌, length, map, filter, refl, arith}
+use Rattle.std.proofs.Common.{◌≡◌, ◌≤◌, Bool, true, false, List, length, map, filter, refl, arith}
 use Rattle.std.proofs.lemmas.List.{length-map}
 use Rattle.std.proofs.lemmas.List.Elements.{All-filter, All-map, All-weaker}
-use Rattle.std.specs.Prelude.{All, Ok}
+use Rattle.std.specs.Prelude.{Ok}
 use Rattle.jm_bytes.proofs.Members.{length_filter}
 use Rattle.jm_class.specs.Classes.{SlotData, OpaqueData, CodeData, BodyData, Opaque, Coded, AttributeData, MemberData, ClassData, held_text, class_text, utf8_at, is_code_name, FitsCounted, IsOpaque, IsCode, IsBody, IsAttribute, IsMember, IsClass}
 use Rattle.jm_class.specs.ComputedClass.{class_of}

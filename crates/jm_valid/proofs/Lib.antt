@@ -2,6 +2,8 @@ pub mod BodyLaws
 pub mod EntryRows
 pub mod LeastFault
 pub mod LeastRanges
+pub mod NameLaws
 pub mod PartLaws
+pub mod PassageLaws
 pub mod Sorting
 pub mod Sweeping

@@ -1,5 +1,6 @@
 pub mod Opened
 pub mod Parts
+pub mod Passages
 pub mod Ranges
 pub mod Sections
 pub mod Sweep

@@ -6,6 +6,7 @@ ghost use Rattle.jm_valid.specs.Parts.{part_slots, ContentsAt, Joins};
 ghost use Rattle.jm_valid.specs.Ranges.{ranges_with_bytes};
 ghost use Rattle.jm_valid.specs.Sections.{entries_in, IsSound};
 
+use crate::row_names::Names;
 use crate::sections::Sections;
 use crate::unmetered::entry_row;
 use jm_bytes::{List, NoMemory};
@@ -43,22 +44,23 @@ fn add_entry(contents: &mut Contents, range: Range) -> Result<(), NoMemory>
 /// The entries of the slots from `first` on and below `end`.
 fn contents_of_slots(
     alloc: Global,
-    sections: &Sections,
+    names: &Names,
     first: u32,
     end: u32,
 ) -> Result<Contents, NoMemory>
-    requires within { end ≤ sections.now.header.length }
-    requires sound { IsSound sections.now }
-    ensures { IfOk result (ContentsAt sections.now (range_with_len first (end - first))) }
+    requires within { end ≤ names.now.sections.header.length }
+    requires sound { IsSound names.now.sections }
+    ensures { IfOk result
+        (ContentsAt names.now.sections (range_with_len first (end - first))) }
 {
     let mut contents = Contents {
         count: 0,
         ranges: Vec::new(alloc),
     };
     // A range ends within the contents, whose length has 64 bits.
-    let _size = sections.size();
+    let _size = names.sections.size();
     for slot in first..end.max(first) {
-        if let Some(row) = entry_row(sections, slot) {
+        if let Some(row) = entry_row(names, slot) {
             let range = Range {
                 start: row.offset,
                 slot,
@@ -71,13 +73,13 @@ fn contents_of_slots(
 }
 
 /// The entries of the part that begins at this slot.
-fn contents_of_part(alloc: Global, sections: &Sections, first: u32) -> Result<Contents, NoMemory>
-    requires sound { IsSound sections.now }
+fn contents_of_part(alloc: Global, names: &Names, first: u32) -> Result<Contents, NoMemory>
+    requires sound { IsSound names.now.sections }
     ensures { IfOk result
-        (ContentsAt sections.now (part_slots sections.now.header.length first)) }
+        (ContentsAt names.now.sections (part_slots names.now.sections.header.length first)) }
 {
-    let end = first.saturating_add(PART).min(sections.header.length);
-    contents_of_slots(alloc, sections, first, end)
+    let end = first.saturating_add(PART).min(names.sections.header.length);
+    contents_of_slots(alloc, names, first, end)
 }
 
 /// The first slots of the parts of a table of this length.
@@ -112,17 +114,18 @@ fn contents_of_parts<R: Threads + Sync, G: Gate + Sync>(
     rt: &R,
     alloc: Global,
     jobs: u32,
-    sections: &Sections,
+    names: &Names,
     firsts: &[u32],
     gate: &G,
 ) -> Result<Contents, NoMemory>
     requires jobs { 0 < jobs }
-    requires sound { IsSound sections.now }
-    requires few { length (flat_map (part_slots sections.now.header.length) firsts.now) < 2 ^ 32 }
-    ensures { IfOk result (ContentsAt sections.now
-        (flat_map (part_slots sections.now.header.length) firsts.now)) }
+    requires sound { IsSound names.now.sections }
+    requires few { length (flat_map (part_slots names.now.sections.header.length) firsts.now)
+        < 2 ^ 32 }
+    ensures { IfOk result (ContentsAt names.now.sections
+        (flat_map (part_slots names.now.sections.header.length) firsts.now)) }
 {
-    let look = |first: &u32| contents_of_part(alloc, sections, *first);
+    let look = |first: &u32| contents_of_part(alloc, names, *first);
     let parts = map_halves(rt, alloc, jobs, firsts, &look, gate)?;
     let mut all = Contents {
         count: 0,
@@ -149,8 +152,9 @@ pub fn contents_of<R: Threads + Sync, G: Gate + Sync>(
     ensures ranges { IfOk result (λ c. c.ranges.items
         ≡ ranges_with_bytes (ranges_of (entries_in sections.now))) }
 {
+    let names = Names::of(alloc, sections)?;
     let firsts = parts_of(alloc, sections.header.length)?;
-    contents_of_parts(rt, alloc, jobs, sections, firsts.as_slice(), gate)
+    contents_of_parts(rt, alloc, jobs, &names, firsts.as_slice(), gate)
 }
 
 /// The same, looked for one slot after another.
@@ -160,5 +164,6 @@ pub fn contents_alone(alloc: Global, sections: &Sections) -> Result<Contents, No
     ensures ranges { IfOk result (λ c. c.ranges.items
         ≡ ranges_with_bytes (ranges_of (entries_in sections.now))) }
 {
-    contents_of_slots(alloc, sections, 0, sections.header.length)
+    let names = Names::of(alloc, sections)?;
+    contents_of_slots(alloc, &names, 0, sections.header.length)
 }

@@ -6,6 +6,8 @@ mod image;
 mod open;
 mod open_error;
 mod overlap;
+mod passages;
+mod row_names;
 mod search;
 mod sections;
 mod slots;

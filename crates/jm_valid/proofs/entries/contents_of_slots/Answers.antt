@@ -1,4 +1,4 @@
-use Rattle.std.proofs.Common.{◌≡◌, ◌+◌, ◌-◌, ◌<◌, ◌++◌, ◌∷◌, [], length, sym, ap, ◌∙◌, arith, subst}
+use Rattle.std.proofs.Common.{◌≡◌, ◌+◌, ◌-◌, ◌<◌, ◌++◌, ◌∷◌, [], length, refl, sym, ap, ◌∙◌, arith, subst}
 use Rattle.std.proofs.lemmas.List.{length_push}
 use Rattle.std.proofs.lemmas.List.FromFn.{length-range_with_len}
 use Rattle.std.specs.List.{range_with_len}
@@ -11,16 +11,21 @@ use Rattle.jm_valid.proofs.EntryRows.{entry_more, entry_same, length-entries_at,
 use Rattle.jm_valid.proofs.entries.contents_of_slots.Goals as goal
 use Rattle.jm_valid.proofs.entries.contents_of_slots.Goals.{in-Some+in_ok-add_entry, in_default}
 
+pub loop-slot-init : goal.loop-slot-init
+loop-slot-init c =
+    let none : c.args.first - c.args.first ≡ 0 = omega arith in
+    rw none (record { count = refl; ranges = c.new.ensures.items })
+
 pub add_entry-requires : goal.add_entry-requires
 add_entry-requires c =
     let slots = range_with_len c.args.first (c.loop-slot.slot - c.args.first) in
-    let few = length-entries_at c.args.sections.now slots in
+    let few = length-entries_at c.args.names.now.sections slots in
     let count = length-range_with_len c.args.first (c.loop-slot.slot - c.args.first) in
     record { room = omega (arith, few, count, c.loop-slot.invariant.count) }
 
 pub overflow_add-range : goal.overflow_add-range
 overflow_add-range c =
-    let s = c.args.sections.now in
+    let s = c.args.names.now.sections in
     let there = row_reached s c.loop-slot.slot c.in-Some.row (sym c.in-Some.ensures) in
     let below : c.loop-slot.slot < s.header.length = omega arith in
     let sound = sound_row s.bytes.now s.header c.loop-slot.slot c.in-Some.row (c.requires.sound c.loop-slot.slot below) there.0 in
@@ -29,7 +34,7 @@ overflow_add-range c =
 
 pub loop-slot-preserved : goal.loop-slot-preserved
 loop-slot-preserved c =
-    let s = c.args.sections.now in
+    let s = c.args.names.now.sections in
     let i = c.loop-slot.slot in
     let slots = range_with_len c.args.first (i - c.args.first) in
     let before = entries_at s slots in
@@ -57,4 +62,4 @@ loop-slot-preserved c =
 pub returns : goal.returns
 returns c =
     let count : c.loop-slot.slot - c.args.first ≡ c.args.end - c.args.first = omega arith in
-    subst (λ n. ContentsAt c.args.sections.now (range_with_len c.args.first n) c.loop-slot.contents) count c.loop-slot.invariant
+    subst (λ n. ContentsAt c.args.names.now.sections (range_with_len c.args.first n) c.loop-slot.contents) count c.loop-slot.invariant

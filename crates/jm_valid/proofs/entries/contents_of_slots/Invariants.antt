@@ -4,4 +4,4 @@ use Rattle.jm_valid.specs.Parts.{ContentsAt}
 use Rattle.jm_valid.proofs.entries.contents_of_slots.Given as goal
 
 abbrev pub invariant-loop-slot : goal.invariant-loop-slot
-invariant-loop-slot l = ContentsAt l.sections (range_with_len l.first (l.slot - l.first)) l.contents
+invariant-loop-slot l = ContentsAt l.names.sections (range_with_len l.first (l.slot - l.first)) l.contents

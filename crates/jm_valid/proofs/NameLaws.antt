@@ -1,0 +1,84 @@
+-- The texts of a row's name in the strings' front, and the states after them.
+use Rattle.std.proofs.Common.{◌≡◌, ℕ, suc, ◌+◌, ◌<◌, ◌==◌, ◌&&◌, not, Bool, true, false, cond, List, [], ◌∷◌, ◌++◌, length, take, drop, get_or, refl, sym, ap, ◌∙◌, arith}
+use Rattle.std.proofs.Math.Seq.{drop-cons}
+use Rattle.std.proofs.lemmas.Bool.{ltb-true}
+use Rattle.std.proofs.lemmas.List.{length-take-le}
+use Rattle.std.specs.List.{before_first, position_or_len}
+use Rattle.jm_form.proofs.TextLaws.{ended_length-le, text_ends-below, text_in_front}
+use Rattle.jm_form.specs.Texts.{ended_length, text_at, text_ends}
+use Rattle.jm_names.proofs.HashLaws.{state_after-append}
+use Rattle.jm_names.specs.Hash.{state_after}
+use Rattle.jm_names.specs.Names.{Cut, ext_end, is_empty, join, module_front, parent_front}
+use Rattle.jm_valid.specs.declared.sections.Sections.{Sections}
+use Rattle.jm_valid.specs.Sections.{strings_in}
+use Rattle.jm_valid.proofs.PassageLaws.{take_next}
+
+-- a text that ends in the strings begins and ends in their front
+pub record InFront (s : Sections) (place : ℕ) : Type 0 where
+  pub below : place < length s.texts.now
+  pub same : text_at s.texts.now place ≡ text_at (strings_in s) place
+
+pub in_front : (s : Sections) (place : ℕ) → text_ends (strings_in s) place ≡ true → InFront s place
+in_front s place ends =
+    let section = strings_in s in
+    let inside = ltb-true place (ended_length section) (sym (text_ends-below section place) ∙ ends) in
+    let size = ap length s.texts_cut ∙ length-take-le (ended_length section) section (ended_length-le section) in
+    record {
+      below = omega (arith, inside, size);
+      same = ap (λ (l : List ℕ). text_at l place) s.texts_cut ∙ text_in_front section place inside;
+    }
+
+empty_first : (x : ℕ) (xs : List ℕ) → is_empty (before_first (λ x. x == 0) (x ∷ xs)) ≡ (x == 0)
+empty_first x xs = go (x == 0)
+  where
+    go : (b : Bool) → is_empty (take (cond (not b) (1 + position_or_len (λ x. x == 0) xs) 0) (x ∷ xs)) ≡ b
+    go true = refl
+    go false = ap is_empty (take_next (position_or_len (λ x. x == 0) xs) x xs)
+
+-- a text is empty where a zero byte stands at its place
+pub empty_at : (texts : List ℕ) (place : ℕ) → place < length texts → (get_or texts place 0 == 0) ≡ is_empty (text_at texts place)
+empty_at texts place below =
+    sym (ap (λ (l : List ℕ). is_empty (before_first (λ x. x == 0) l)) (drop-cons texts place 0 below) ∙ empty_first (get_or texts place 0) (drop (suc place) texts))
+
+-- The marks of the pieces that aren't empty
+
+pub module_none : (t : List ℕ) (s : ℕ) → is_empty t ≡ true → s ≡ state_after s (module_front t)
+module_none [] s none = refl
+module_none (x ∷ t) s none = cc
+
+pub module_some : (t : List ℕ) (s : ℕ) → is_empty t ≡ false → state_after (state_after (state_after s (47 ∷ [])) t) (47 ∷ []) ≡ state_after s (module_front t)
+module_some [] s some = cc
+module_some (x ∷ t) s some = sym (state_after-append (state_after s (47 ∷ [])) (x ∷ t) (47 ∷ []))
+
+pub parent_none : (t : List ℕ) (s : ℕ) → is_empty t ≡ true → s ≡ state_after s (parent_front t)
+parent_none [] s none = refl
+parent_none (x ∷ t) s none = cc
+
+pub parent_some : (t : List ℕ) (s : ℕ) → is_empty t ≡ false → state_after (state_after s t) (47 ∷ []) ≡ state_after s (parent_front t)
+parent_some [] s some = cc
+parent_some (x ∷ t) s some = sym (state_after-append s (x ∷ t) (47 ∷ []))
+
+pub ext_none : (t : List ℕ) (s : ℕ) → is_empty t ≡ true → s ≡ state_after s (ext_end t)
+ext_none [] s none = refl
+ext_none (x ∷ t) s none = cc
+
+pub ext_some : (t : List ℕ) (s : ℕ) → is_empty t ≡ false → state_after (state_after s (46 ∷ [])) t ≡ state_after s (ext_end t)
+ext_some [] s some = cc
+ext_some (x ∷ t) s some = refl
+
+pub joined_state : (cut : Cut) (s : ℕ) → state_after (state_after (state_after (state_after s (module_front cut.module)) (parent_front cut.parent)) cut.base) (ext_end cut.ext) ≡ state_after s (join cut)
+joined_state cut s =
+    let m = module_front cut.module in
+    let p = parent_front cut.parent in
+    let e = ext_end cut.ext in
+    sym (
+    state_after-append s m (p ++ (cut.base ++ e)) ∙ state_after-append (state_after s m) p (cut.base ++ e) ∙ state_after-append (state_after (state_after s m) p) cut.base e
+    )
+
+-- each of the four texts ends where all do
+pub each_ends : (a b c d : Bool) → a && b && c && d ≡ true → (a ≡ true) × (b ≡ true) × (c ≡ true) × (d ≡ true)
+each_ends true true true true all = (refl, refl, refl, refl)
+each_ends false b c d all = cc
+each_ends true false c d all = cc
+each_ends true true false d all = cc
+each_ends true true true false all = cc

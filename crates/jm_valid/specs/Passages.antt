@@ -1,0 +1,21 @@
+-- What texts do to all states of the hash (this project's rule).
+use Rattle.std.specs.Prelude.{◌≡◌, ℕ, ◌-◌, ◌*◌, List, length, map}
+use Rattle.std.specs.List.{range_with_len}
+use Rattle.jm_form.specs.Texts.{text_at}
+use Rattle.jm_names.specs.Hash.{state_after}
+
+-- the states after a text, of the numbers from 0 to 256
+abbrev pub passage_of : List ℕ → List ℕ
+passage_of text = map (λ state. state_after state text) (range_with_len 0 257)
+
+-- the passage of the text at the place that so many stretches of 4096 bytes lead to
+abbrev pub nth_passage : List ℕ → ℕ → List ℕ
+nth_passage texts nth = passage_of (text_at texts (nth * 4096))
+
+-- those of the first so many such places, the last one first
+abbrev pub passages : List ℕ → ℕ → List (List ℕ)
+passages texts count = map (λ k. nth_passage texts (count - 1 - k)) (range_with_len 0 count)
+
+-- they are those of as many places as there are, which may be none
+abbrev pub ArePassages : List ℕ → List (List ℕ) → Type 0
+ArePassages texts ps = ps ≡ passages texts (length ps)
