@@ -4,7 +4,8 @@ use Rattle.jm_pattern.specs.MatchingSteps.{behind_line}
 use Rattle.jm_pattern.specs.declared.signs.Sign.{Sign}
 use Rattle.jm_pattern.specs.declared.signs.Sign.TheVariants.{AnyRun, Run, One, Byte}
 
--- how many places a name's first line has: in front of each of its bytes, and at its end
+-- how many places a name's first line has: one in front of each of its bytes, its `/` among them,
+-- and one at its end where it has no `/`
 abbrev pub line_places : List ℕ → ℕ
 line_places [] = 1
 line_places (b ∷ name) = if b == 47 then 1 else 1 + line_places name
