@@ -74,8 +74,8 @@ impl<'a> HashedName for Pieces<'a> {
     }
 }
 
-/// The table leads this name to this slot. It costs at most the four bytes of one redirect word; the
-/// name's hash is taken once, or twice where the word is a seed.
+/// The table leads this name to this slot. It costs at most the four bytes of one redirect word;
+/// the name's hash is taken once, or twice where the word is a seed.
 pub fn is_led_to<R: Ledger, N: HashedName>(
     buf: &Buf,
     header: &Header,
