@@ -1,21 +1,18 @@
 -- The taken entries, one entry after another and in the order of a sort.
-use Rattle.std.proofs.Common.{◌≡◌, ◌≢◌, ℕ, Bool, true, false, cond, List, [], ◌∷◌, ◌++◌, map, Option, AllPairs, Result, Ok, Err, IsPermutation, get_or, refl, sym, ap, subst, ◌∙◌, append_assoc, arith}
-use Rattle.std.proofs.lemmas.List.Elements.{Contains-get_or}
+use Rattle.std.proofs.Common.{◌≡◌, ◌≢◌, ℕ, Bool, true, false, cond, List, [], ◌∷◌, ◌++◌, map, Option, AllPairs, Result, Ok, Err, IsPermutation, refl, sym, ap, subst, ◌∙◌, append_assoc}
 use Rattle.std.proofs.lemmas.List.Kept.{AllPairs-filter}
 use Rattle.jm_bytes.proofs.Pairs.{pairs_map, pairs_none}
 use Rattle.jm_form.specs.declared.container.Header.{Header}
 use Rattle.jm_form.specs.declared.container.HeaderFault.{HeaderFault}
 use Rattle.jm_form.specs.Entries.{Entry, entries}
 use Rattle.jm_form.specs.Head.{header_of}
-use Rattle.jm_form.proofs.EntryLaws.{names_differ, slots_rise}
 use Rattle.jm_pattern.specs.declared.signs.Sign.{Sign}
 use Rattle.jm_reader.specs.Walk.{entries_of, entries_with}
 use Rattle.jm_extract.specs.declared.taking.TakenEntry.{TakenEntry}
 use Rattle.jm_names.proofs.NameOrder.{Differ, by_name_rises, items_sorted}
 use Rattle.jm_bytes.proofs.Choice.{same_pair}
 use Rattle.jm_reader.specs.declared.entries.Entry as handed
-use Rattle.jm_bytes.specs.Metered.{Metered}
-use Rattle.jm_reader.specs.Walk.{IsFirst, IsLater}
+use Rattle.jm_reader.specs.Walk.{IsFirst}
 use Rattle.jm_names.specs.ByName.{Named, NeverFalls, RisesByName}
 use Rattle.jm_extract.specs.Taken.{taken, is_taken, named, taken_alone, taken_among, taken_as}
 use Rattle.jm_reader.proofs.WalkLaws.{entries_differ}

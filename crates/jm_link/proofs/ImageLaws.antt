@@ -29,7 +29,7 @@ use Rattle.jm_relink.specs.declared.error.RelinkError.TheVariants as relink
 use Rattle.jm_relink.specs.declared.modules.ImageModules.{ImageModules}
 use Rattle.jm_relink.specs.Files.{file_name, resources_of}
 use Rattle.jm_names.specs.ByName.{Named}
-use Rattle.jm_relink.specs.Gathering.{AreModules, ArePlaces, GathersAll, gathered, named_files, resource_of, resources_with}
+use Rattle.jm_relink.specs.Gathering.{ArePlaces, GathersAll, gathered, named_files, resource_of, resources_with}
 use Rattle.jm_relink.specs.Gathering as gathering
 use Rattle.jm_relink.specs.Modules.{FindsModules, HoldsModules, IsSeenIn, IsVisibleIn, ModulesOf, SeenModule, name_of}
 use Rattle.jm_relink.proofs.AskedLaws.{before_at, candidates_rise, image_names_differ, visible_in}

@@ -15,7 +15,6 @@ use Rattle.jm_bytes.proofs.SameOrder.{mapped_twice}
 use Rattle.jm_bytes.specs.declared.words.Order.{Order}
 use Rattle.jm_closure.specs.declared.candidate.Candidate.{Candidate}
 use Rattle.jm_closure.specs.declared.error.CloseError.{CloseError}
-use Rattle.jm_closure.specs.Modules.{HasName, Requires}
 use Rattle.jm_closure.specs.Modules as closure
 use Rattle.jm_closure.specs.Refusals.{Closes}
 use Rattle.jm_form.specs.Layout.{Written}

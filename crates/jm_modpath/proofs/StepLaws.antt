@@ -1,12 +1,10 @@
 -- The steps that look for modules: what each comes to, from what its calls answered.
-use Rattle.std.proofs.Common.{◌≡◌, ℕ, zero, suc, ◌+◌, ◌<◌, Bool, true, false, cond, ◌&&◌, not, List, [], ◌∷◌, ◌++◌, append_assoc, length, drop, get_or, IsUtf8, Contains, Option, Some, None, unwrap_or, option_and_then, Result, Ok, Err, refl, sym, ap, ◌∙◌, subst, arith, filter_map}
-use Rattle.std.proofs.lemmas.Bool.{eqb-true, ltb-true, false≢true}
+use Rattle.std.proofs.Common.{◌≡◌, ℕ, ◌+◌, ◌<◌, Bool, true, false, cond, ◌&&◌, not, List, [], ◌∷◌, ◌++◌, append_assoc, length, drop, get_or, IsUtf8, Contains, Option, Some, None, unwrap_or, option_and_then, Result, Ok, Err, refl, sym, ap, ◌∙◌, subst, filter_map}
+use Rattle.std.proofs.lemmas.Bool.{eqb-true, false≢true}
 use Rattle.std.proofs.lemmas.List.{drop_more}
 use Rattle.std.proofs.lemmas.Str.{IsUtf8-from_ascii}
 use Rattle.std.proofs.lemmas.Slice.Eq.{bytes_eq-Decides}
-use Rattle.std.specs.Prelude.{nat_lt}
-use Rattle.std.specs.Str.{IsAscii}
-use Rattle.std.specs.List.{before_first, after_first, cons_option, list_all, list_any}
+use Rattle.std.specs.List.{before_first, after_first, cons_option, list_any}
 use Rattle.std.specs.Option.{is_some}
 use Rattle.std.specs.Str.{bytes_eq}
 use Rattle.jm_bytes.specs.Results.{followed}

@@ -11,12 +11,11 @@ use Rattle.std.specs.List.Sorted.{IsSortedBy}
 use Rattle.std.specs.Ordering.{is_lt}
 use Rattle.std.specs.declared.cmp.Ordering.{Ordering}
 use denote.Param.Members.{Mut}
-use Rattle.jm_bytes.specs.Metered.{Metered}
 use Rattle.jm_bytes.proofs.Pairs.{pairs_map}
 use Rattle.jm_form.specs.Entries.{Entry}
 use Rattle.jm_form.specs.Validity.{resources}
 use Rattle.jm_names.specs.Names.{is_node}
-use Rattle.jm_reader.specs.Walk.{IsFirst, IsLater}
+use Rattle.jm_reader.specs.Walk.{IsFirst}
 use Rattle.jm_reader.specs.declared.entries.Entry as handed
 use Rattle.jm_relink.specs.declared.located.Located.{Located}
 use Rattle.jm_relink.specs.Files.{Filed, NeverFalls, filed_cmp, located, located_alone, located_as, resources_of}

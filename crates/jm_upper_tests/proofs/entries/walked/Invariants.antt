@@ -1,4 +1,4 @@
-use Rattle.std.proofs.Common.{◌≡◌, ℕ, length}
+use Rattle.std.proofs.Common.{◌≡◌, length}
 use Rattle.jm_upper_tests.proofs.entries.walked.Given as goal
 
 abbrev pub invariant-loop-count : goal.invariant-loop-count
