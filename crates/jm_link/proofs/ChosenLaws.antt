@@ -15,6 +15,7 @@ use Rattle.jm_closure.specs.declared.candidate.Candidate.{Candidate}
 use Rattle.jm_closure.proofs.OnceLaws.{reached_found}
 use Rattle.jm_closure.specs.Modules.{HasName, Reached, name_of}
 use Rattle.jm_closure.specs.Refusals.{AreChosen}
+use Rattle.jm_link.specs.Chosen.{Chosen}
 use Rattle.jm_link.specs.Closing.{ClosesWith}
 use Rattle.jm_link.proofs.FileLaws.{got}
 use Rattle.jm_bytes.proofs.ByteOrderLaws.{less}
@@ -35,6 +36,11 @@ bound_below found roots j bound = let all = from_range 0 (length found) j (bound
       required = λ i k has required. inside k (named_below found k required.0 required.2);
       served = λ i k has served. inside k (slice_get_within found k served.2.0 served.2.1);
     }
+
+-- a chosen module is one of those that were found
+pub chosen_below : (bind : Bool) (found : List Candidate) (roots : List (List ℕ)) (i : ℕ) → Chosen bind found roots i → i < length found
+chosen_below true found roots i bound = bound_below found roots i bound
+chosen_below false found roots i reached = reached_found found roots i reached
 
 never_less : (name : List ℕ) → slice_cmp nat_cmp name name ≡ Less → ⊥
 never_less name is = not_both (sym is ∙ nat_list_cmp_total.antisymm name name ∙ ap ordering_reverse is)

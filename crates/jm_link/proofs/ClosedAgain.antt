@@ -11,13 +11,12 @@ use Rattle.jm_bytes.proofs.Choice.{same_some}
 use Rattle.jm_bytes.proofs.Members.{contains_cases, contains_filter_map, contains_here, contains_later, contains_map, contains_none, contains_range, from_map, from_range}
 use Rattle.jm_bytes.proofs.Pairs.{pairs_filter_map, pairs_map, pairs_weaker}
 use Rattle.jm_closure.specs.declared.candidate.Candidate.{Candidate}
-use Rattle.jm_closure.proofs.OnceLaws.{reached_found}
 use Rattle.jm_closure.proofs.ReachLaws.{leads_more}
 use Rattle.jm_closure.specs.Modules.{IsFound, IsRoot, Leads, Requires, name_of, needed_by, required_by}
 use Rattle.jm_closure.specs.Refusals.{AreChosen, Closes, Holds, IsAcyclic, IsUnsplit, NeedsFound, RootsFound}
 use Rattle.jm_bytes.proofs.Choice.{mapped_some}
 use Rattle.jm_link.specs.Chosen.{Chosen}
-use Rattle.jm_link.proofs.ChosenLaws.{bound_below, places_by_name}
+use Rattle.jm_link.proofs.ChosenLaws.{chosen_below, places_by_name}
 use Rattle.jm_link.proofs.FileLaws.{got}
 use Rattle.jm_link.proofs.SeenAgain.{Before}
 use Rattle.jm_bytes.proofs.Members.{element_at}
@@ -63,10 +62,6 @@ range_at n k i is =
 pub chosen_further : (bind : Bool) (found : List Candidate) (roots : List (List ℕ)) (i j : ℕ) → Chosen bind found roots i → Requires found i j → Chosen bind found roots j
 chosen_further true found roots i j bound requires = λ places closed. closed.required i j (bound places closed) requires
 chosen_further false found roots i j (from, places, root, leads) requires = (from, places ++ j ∷ [], root, leads_more (Requires found) from places i j leads requires)
-
-pub chosen_below : (bind : Bool) (found : List Candidate) (roots : List (List ℕ)) (i : ℕ) → Chosen bind found roots i → i < length found
-chosen_below true found roots i bound = bound_below found roots i bound
-chosen_below false found roots i reached = reached_found found roots i reached
 
 -- a root is chosen
 root_chosen : (bind : Bool) (found : List Candidate) (roots : List (List ℕ)) (i : ℕ) → IsRoot found roots i → Chosen bind found roots i

@@ -24,7 +24,8 @@ use Rattle.jm_link.specs.Relinked.{GivesBack, HoldsBytes, LinksFrom, Relinks, Sh
 use Rattle.jm_link.specs.Relinked.Source.{ModulePath, Image}
 use Rattle.jm_link.specs.Resources.{resources_in}
 use Rattle.jm_outside.specs.Holds.{Holds}
-use Rattle.jm_link.proofs.ClosedAgain.{chosen_below, taken}
+use Rattle.jm_link.proofs.ChosenLaws.{chosen_below}
+use Rattle.jm_link.proofs.ClosedAgain.{taken}
 use Rattle.jm_relink.proofs.AskedLaws.{visible_in}
 use Rattle.jm_link.proofs.OnceLaws.{among_once}
 use Rattle.jm_link.proofs.RelinkedLaws.{IsMade, links_to, made_parts}

@@ -1,30 +1,19 @@
 -- A shelf that tells its files has each file that a link takes of its visible modules.
-use Rattle.std.proofs.Common.{◌≡◌, ◌≢◌, inl, inr, ℕ, Bool, true, false, cond, List, [], ◌∷◌, ◌++◌, All, Contains, Some, None, Result, Ok, Err, refl, sym, ap, ◌∙◌, subst}
+use Rattle.std.proofs.Common.{◌≡◌, ◌≢◌, ℕ, List, [], ◌∷◌, ◌++◌, All, Contains, Some, None, Result, Ok, Err, refl, sym, ap, ◌∙◌, subst}
 use Rattle.jm_bytes.proofs.Choice.{same_some}
-use Rattle.jm_bytes.proofs.Members.{all_from_contains, contains_cases, contains_here, contains_later, from_filter_map}
+use Rattle.jm_bytes.proofs.Members.{all_from_contains, from_filter_map}
 use Rattle.jm_modinfo.specs.declared.descriptor.Descriptor.{Descriptor}
 use Rattle.jm_modinfo.specs.declared.faults.DescriptorFault.{DescriptorFault}
 use Rattle.jm_outside.specs.Files.{Files, file, names_below}
 use Rattle.std.specs.List.{flat_map}
 use Rattle.jm_modpath.specs.declared.visible.VisibleModule.{VisibleModule}
 use Rattle.jm_names.specs.ByName.{Named}
-use Rattle.jm_modpath.specs.Modules.{folder_info, folders_in, inside, is_named, module_in, module_of, modules_in, name_of, unhidden, visible}
+use Rattle.jm_modpath.specs.Modules.{folder_info, folders_in, inside, module_in, module_of, modules_in, visible}
 use Rattle.jm_link.specs.Resources.{link_files}
 use Rattle.jm_link.specs.Showing.{ListsItsFiles}
 use Rattle.jm_link.proofs.FileLaws.{file_from}
 use Rattle.jm_bytes.proofs.SameOrder.{from_flat_map}
-use Rattle.jm_modpath.proofs.StepLaws.{listed_there}
-
-from_unhidden : (earlier ms : List VisibleModule) (m : VisibleModule) → Contains (unhidden earlier ms) m → Contains ms m
-from_unhidden earlier [] m there = there
-from_unhidden earlier (k ∷ ms) m there = go (is_named earlier (name_of k)) there (from_unhidden earlier ms m) (from_unhidden (earlier ++ k ∷ []) ms m)
-  where
-    go : (hidden : Bool) → Contains (cond hidden (unhidden earlier ms) (k ∷ unhidden (earlier ++ k ∷ []) ms)) m → (Contains (unhidden earlier ms) m → Contains ms m) → (Contains (unhidden (earlier ++ k ∷ []) ms) m → Contains ms m) → Contains (k ∷ ms) m
-    go true there one other = contains_later k ms m (one there)
-    go false there one other = elim (contains_cases k (unhidden (earlier ++ k ∷ []) ms) m there) [
-      | inl same ↦ subst (Contains (k ∷ ms)) same (contains_here k ms)
-      | inr later ↦ contains_later k ms m (other later)
-    ]
+use Rattle.jm_modpath.proofs.StepLaws.{from_unhidden, listed_there}
 
 listed_in : (files : Files) (folder : List ℕ) (said : Result Descriptor DescriptorFault) (m : VisibleModule) → module_of files folder said ≡ Some m → m.files ≡ names_below m.folder files
 listed_in files folder (Err fault) m is = cc

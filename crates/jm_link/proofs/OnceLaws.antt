@@ -1,8 +1,8 @@
 -- A link of told files comes to one image or to one refusal.
-use Rattle.std.proofs.Common.{◌≡◌, ◌≢◌, ◌<◌, ℕ, Bool, true, false, List, length, Option, Some, None, Result, Ok, Err, refl, sym, ◌∙◌, subst}
+use Rattle.std.proofs.Common.{◌≡◌, ◌≢◌, ◌<◌, ℕ, List, length, Option, Some, None, Result, Ok, Err, refl, sym, ◌∙◌, subst}
 use Rattle.jm_bytes.proofs.Choice.{same_some}
 use Rattle.jm_bytes.specs.declared.words.Order.{Order}
-use Rattle.jm_closure.proofs.OnceLaws.{closes_once, reached_found}
+use Rattle.jm_closure.proofs.OnceLaws.{closes_once}
 use Rattle.jm_closure.specs.declared.candidate.Candidate.{Candidate}
 use Rattle.jm_closure.specs.declared.error.CloseError.{CloseError}
 use Rattle.jm_closure.specs.declared.error.CloseError.TheVariants as closing
@@ -18,7 +18,7 @@ use Rattle.jm_link.specs.Chosen.{Chosen, reserved}
 use Rattle.jm_link.specs.Linked.{IsClosedTo, IsFoundTo, IsGatheredTo, IsLinkedOf, IsPathTo, IsPluggedTo, LinkedImage, LinksAmong, LinksTo, Request}
 use Rattle.jm_link.specs.Resources.{resources_in}
 use Rattle.jm_texts.specs.NameRefusals.{first_bad_name}
-use Rattle.jm_link.proofs.ChosenLaws.{bound_below}
+use Rattle.jm_link.proofs.ChosenLaws.{chosen_below}
 
 abbrev Answer : Type 0
 Answer = Result LinkedImage Refusal
@@ -54,13 +54,9 @@ closed_some asked resources (Err closing.Memory) (Err refusal) is memory = none 
     none : ◌≡◌ {A = Option Refusal} None (Some refusal) → ⊥
     none same = cc
 
-chosen_found : (bind : Bool) (found : List Candidate) (roots : List (List ℕ)) (i : ℕ) → Chosen bind found roots i → i < length found
-chosen_found true found roots i bound = bound_below found roots i bound
-chosen_found false found roots i reached = reached_found found roots i reached
-
 linked_once : (asked : Request) (found : List Candidate) (resources : List ℕ → List Written) (a b : Answer) → IsLinkedOf asked found resources a → IsLinkedOf asked found resources b → a ≡ b
 linked_once asked found resources a b (closed, closes, is) (closed', closes', is') =
-    let same = closes_once found (Chosen asked.bind found asked.roots) (chosen_found asked.bind found asked.roots) asked.roots closed closed' (closed_some asked resources closed a is) (closed_some asked resources closed' b is') closes closes' in
+    let same = closes_once found (Chosen asked.bind found asked.roots) (chosen_below asked.bind found asked.roots) asked.roots closed closed' (closed_some asked resources closed a is) (closed_some asked resources closed' b is') closes closes' in
     closed_once asked resources closed' a b (subst (λ c. IsClosedTo asked resources c a) same is) is'
 
 found_once : (asked : Request) (found : List Candidate) (resources : List ℕ → List Written) (taken : Option Refusal) (a b : Answer) → IsFoundTo asked found resources taken a → IsFoundTo asked found resources taken b → a ≡ b

@@ -1,6 +1,6 @@
 -- What a module path and an image hand to a link are resources of their modules, by module and then
 -- by path.
-use Rattle.std.proofs.Common.{◌≡◌, ◌≢◌, ◌<◌, inl, inr, ℕ, zero, suc, Bool, true, false, ◌&&◌, cond, List, [], ◌∷◌, ◌++◌, drop, filter, length, map, take, All, AllPairs, Contains, Some, option_map, slice_get, Result, Ok, Err, refl, sym, ap, subst, ◌∙◌, not}
+use Rattle.std.proofs.Common.{◌≡◌, ◌≢◌, ◌<◌, ℕ, zero, suc, Bool, true, false, ◌&&◌, cond, List, [], ◌∷◌, ◌++◌, drop, filter, length, map, take, All, AllPairs, Contains, Some, option_map, slice_get, Result, Ok, Err, refl, sym, ap, subst, ◌∙◌, not}
 use Rattle.std.proofs.lemmas.Bool.{false≢true}
 use Rattle.std.proofs.lemmas.Option.{slice_get-map}
 use Rattle.std.proofs.lemmas.List.Elements.{All-contains, All-cons, All-head, All-nil, All-tail}
@@ -10,7 +10,7 @@ use Rattle.std.specs.Ordering.{is_lt, nat_cmp}
 use Rattle.std.specs.Prelude.{nat_lt}
 use Rattle.std.specs.declared.cmp.Ordering.TheVariants.{Less}
 use Rattle.jm_bytes.proofs.Choice.{same_some}
-use Rattle.jm_bytes.proofs.Members.{all_from_contains, contains_filter_map, contains_here, contains_later, contains_map, contains_cases, contains_none, from_filter, from_filter_map, from_map}
+use Rattle.jm_bytes.proofs.Members.{all_from_contains, contains_filter_map, contains_map, contains_none, from_filter, from_filter_map, from_map}
 use Rattle.jm_bytes.proofs.Pairs.{pairs_among, pairs_filter_map, pairs_map, pairs_weaker}
 use Rattle.jm_bytes.proofs.SameOrder.{from_flat_map}
 use Rattle.jm_closure.specs.declared.candidate.Candidate.{Candidate}
@@ -28,9 +28,10 @@ use Rattle.jm_modinfo.specs.declared.faults.DescriptorFault.{DescriptorFault}
 use Rattle.jm_modpath.specs.declared.visible.VisibleModule.{VisibleModule}
 use Rattle.jm_bytes.specs.ByteOrder.{is_before}
 use Rattle.jm_modpath.specs.Finding.{named_package}
-use Rattle.jm_modpath.specs.Modules.{bytes_at, candidates, folder_info, folders_in, info_name, info_path, inside, is_named, module_in, module_of, module_with, modules_in, resource_name, unhidden, visible}
+use Rattle.jm_modpath.specs.Modules.{bytes_at, candidates, folder_info, folders_in, info_name, info_path, inside, module_in, module_of, module_with, modules_in, resource_name, visible}
 use Rattle.jm_modpath.specs.Modules as shelf
 use Rattle.jm_modpath.proofs.PackageLaws.{class_packages_are}
+use Rattle.jm_modpath.proofs.StepLaws.{from_unhidden}
 use Rattle.jm_form.proofs.RisingLaws.{contains_rising}
 use Rattle.jm_names.specs.Names.{is_node, is_slash}
 use Rattle.jm_names.specs.UtfForms.{four_number, is_four, modified, pair_bytes}
@@ -79,19 +80,6 @@ modified_back (a ∷ x ∷ y ∷ z ∷ text) form low is = go (is_four a x y z) 
         later false v h = absurd (false≢true h)
 
 -- From a module path
-
-from_unhidden : (earlier ms : List VisibleModule) (m : VisibleModule) → Contains (unhidden earlier ms) m → Contains ms m
-from_unhidden earlier [] m there = there
-from_unhidden earlier (k ∷ ms) m there =
-    go (is_named earlier (shelf.name_of k)) there (from_unhidden earlier ms m) (from_unhidden (earlier ++ k ∷ []) ms m)
-  where
-    go : (b : Bool) → Contains (cond b (unhidden earlier ms) (k ∷ unhidden (earlier ++ k ∷ []) ms)) m → (Contains (unhidden earlier ms) m → Contains ms m) → (Contains (unhidden (earlier ++ k ∷ []) ms) m → Contains ms m) → Contains (k ∷ ms) m
-    go true there one other = contains_later k ms m (one there)
-    go false there one other =
-        elim (contains_cases k (unhidden (earlier ++ k ∷ []) ms) m there) [
-          | inl same ↦ subst (Contains (k ∷ ms)) same (contains_here k ms)
-          | inr later ↦ contains_later k ms m (other later)
-        ]
 
 module _ (files : Files) (directories : List (List ℕ)) (bytes : (path : List ℕ) → All (λ byte. byte < 256) (bytes_at files path)) where
   abbrev pub ms : List VisibleModule

@@ -1,5 +1,5 @@
 -- The steps that look for modules: what each comes to, from what its calls answered.
-use Rattle.std.proofs.Common.{◌≡◌, ℕ, ◌+◌, ◌<◌, Bool, true, false, cond, ◌&&◌, not, List, [], ◌∷◌, ◌++◌, append_assoc, length, drop, get_or, IsUtf8, Contains, Option, Some, None, unwrap_or, option_and_then, Result, Ok, Err, refl, sym, ap, ◌∙◌, subst, filter_map}
+use Rattle.std.proofs.Common.{◌≡◌, ℕ, ◌+◌, ◌<◌, Bool, true, false, cond, ◌&&◌, not, List, [], ◌∷◌, ◌++◌, append_assoc, length, drop, get_or, IsUtf8, Contains, Option, Some, None, unwrap_or, option_and_then, Result, Ok, Err, refl, sym, ap, ◌∙◌, subst, filter_map, inl, inr}
 use Rattle.std.proofs.lemmas.Bool.{eqb-true, false≢true}
 use Rattle.std.proofs.lemmas.List.{drop_more}
 use Rattle.std.proofs.lemmas.Str.{IsUtf8-from_ascii}
@@ -11,7 +11,7 @@ use Rattle.jm_bytes.specs.Results.{followed}
 use Rattle.jm_bytes.proofs.ByteOrderLaws.{ascii_all}
 use Rattle.jm_bytes.proofs.Choice.{same_some}
 use Rattle.jm_bytes.proofs.Cuts.{first_parts}
-use Rattle.jm_bytes.proofs.Members.{any_contains, from_filter_map}
+use Rattle.jm_bytes.proofs.Members.{any_contains, contains_cases, contains_here, contains_later, from_filter_map}
 use Rattle.jm_modinfo.specs.declared.descriptor.Descriptor.{Descriptor}
 use Rattle.jm_names.specs.Names.{is_empty, is_slash}
 use Rattle.jm_outside.specs.Files.{Files, after_front, file, names_below}
@@ -23,7 +23,7 @@ use Rattle.jm_modpath.specs.declared.refusal.PathStop.TheVariants as stop
 use Rattle.jm_modpath.specs.declared.refusal.PathRefusal.{PathRefusal}
 use Rattle.jm_modpath.specs.declared.visible.VisibleModule.{VisibleModule}
 use Rattle.jm_modpath.specs.Finding.{Comes, added_due, folder_due, folders_among, folders_due, info_due, names_within, refused_at, shown_due}
-use Rattle.jm_modpath.specs.Modules.{folder_info, folder_with_info, info_in, info_name, info_path, inside}
+use Rattle.jm_modpath.specs.Modules.{folder_info, folder_with_info, info_in, info_name, info_path, inside, is_named, name_of, unhidden}
 use Rattle.jm_form.proofs.RisingLaws.{from_rising}
 
 pub info_is_text : IsUtf8 info_name
@@ -154,3 +154,15 @@ pub folders_ended : (files : Files) (directory : List ℕ) (folders : List (List
 folders_ended files directory folders i folder earlier e below is comes =
     subst (λ left. Comes ⊥ (folders_due files directory earlier left) (Err e)) (sym (drop_more folders i folder below ∙ ap (λ f. f ∷ drop (i + 1) folders) (sym is)))
     (comes_ended (added_due files directory earlier folder) (λ ms. folders_due files directory ms (drop (i + 1) folders)) e comes)
+
+-- a module that is not hidden is one of those that were found
+pub from_unhidden : (earlier ms : List VisibleModule) (m : VisibleModule) → Contains (unhidden earlier ms) m → Contains ms m
+from_unhidden earlier [] m there = there
+from_unhidden earlier (k ∷ ms) m there = go (is_named earlier (name_of k)) there (from_unhidden earlier ms m) (from_unhidden (earlier ++ k ∷ []) ms m)
+  where
+    go : (hidden : Bool) → Contains (cond hidden (unhidden earlier ms) (k ∷ unhidden (earlier ++ k ∷ []) ms)) m → (Contains (unhidden earlier ms) m → Contains ms m) → (Contains (unhidden (earlier ++ k ∷ []) ms) m → Contains ms m) → Contains (k ∷ ms) m
+    go true there one other = contains_later k ms m (one there)
+    go false there one other = elim (contains_cases k (unhidden (earlier ++ k ∷ []) ms) m there) [
+      | inl same ↦ subst (Contains (k ∷ ms)) same (contains_here k ms)
+      | inr later ↦ contains_later k ms m (other later)
+    ]
