@@ -1,5 +1,5 @@
 -- Laws of passages, and of lists whose elements are replaced one after another.
-use Rattle.std.proofs.Common.{◌≡◌, ℕ, zero, suc, ◌+◌, ◌-◌, ◌*◌, ◌/◌, ◌%◌, ◌^◌, ◌<◌, ◌≤◌, ◌||◌, append-nil, not, Bool, true, false, cond, List, [], ◌∷◌, ◌++◌, All, length, take, drop, get_or, map, set, min, refl, sym, ap, ap₂, ◌∙◌, ◌==◌, arith, length-take, length-drop, take-append-drop, drop-drop}
+use Rattle.std.proofs.Common.{◌≡◌, ℕ, zero, suc, ◌+◌, ◌-◌, ◌*◌, ◌/◌, ◌%◌, ◌^◌, ◌<◌, ◌≤◌, ◌||◌, append-nil, not, Bool, true, false, cond, List, [], ◌∷◌, ◌++◌, All, length, take, drop, get_or, map, set, min, refl, sym, ap, ap₂, ◌∙◌, ◌==◌, arith, take-append-drop, drop-drop}
 use Rattle.std.proofs.Math.Nat.{add-mul}
 use Rattle.std.proofs.Math.Seq.{drop-cons}
 use Rattle.std.proofs.lemmas.List.{drop_all, take_min}
@@ -7,7 +7,6 @@ use Rattle.std.proofs.lemmas.Simd.{map-map}
 use Rattle.std.proofs.lemmas.List.FromFn.{get_or-map-range_with_len, length-map-range_with_len}
 use Rattle.std.specs.List.{before_first, list_any, position_or_len, range_with_len}
 use Rattle.jm_bytes.proofs.Pairs.{range_more}
-use Rattle.jm_form.specs.Texts.{text_at}
 use Rattle.jm_names.specs.Hash.{state_after}
 use Rattle.jm_names.proofs.HashLaws.{state_after-append, state_after-low}
 use Rattle.jm_valid.specs.Passages.{nth_passage, passage_of, passages, ArePassages}

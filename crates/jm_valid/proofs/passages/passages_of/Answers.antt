@@ -1,4 +1,4 @@
-use Rattle.std.proofs.Common.{◌≡◌, ◌+◌, ◌-◌, ◌*◌, ◌/◌, ◌∷◌, ◌++◌, [], List, ℕ, length, get_or, ap, ap₂, ◌∙◌, sym, arith, subst, ◌<◌}
+use Rattle.std.proofs.Common.{◌≡◌, ◌+◌, ◌-◌, ◌*◌, ◌/◌, ◌∷◌, ◌++◌, [], List, ℕ, length, get_or, ap, ap₂, ◌∙◌, sym, arith}
 use Rattle.std.proofs.lemmas.List.FromFn.{get_or-map-range_with_len, length-map-range_with_len, map-range_with_len_more}
 use Rattle.jm_valid.specs.Passages.{nth_passage, passage_of}
 use Rattle.jm_form.specs.Texts.{text_at}
