@@ -4,10 +4,9 @@ use Rattle.std.proofs.Common.{◌≡◌, ◌≢◌, ℕ, ◌^◌, ◌<◌, ◌�
 use Rattle.std.specs.Option.{ok_or}
 use Rattle.jm_bytes.proofs.Choice.{same_ok}
 use Rattle.jm_bytes.proofs.WordLaws.{word-lt}
-use Rattle.jm_bytes.specs.Checks.{first_fault, unless_fault}
+use Rattle.jm_bytes.specs.Checks.{first_fault}
 use Rattle.jm_form.specs.declared.container.Header.{Header}
-use Rattle.jm_form.specs.declared.container.HeaderFault.{HeaderFault}
-use Rattle.jm_form.specs.Head.{fields_of, header_checks, header_of, read_order}
+use Rattle.jm_form.specs.Head.{header_checks, header_of, read_order}
 use Rattle.jm_form.specs.Nodes.{NodesOf}
 use Rattle.jm_form.specs.TreeView.{TreeItem, names_of, tree}
 use Rattle.jm_form.specs.Validity.{Stands, ValidAs}

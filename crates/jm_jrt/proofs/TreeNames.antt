@@ -1,23 +1,16 @@
 -- The names of nodes: which there are, and how those of the two trees look.
-use Rattle.std.proofs.Common.{◌≡◌, ℕ, ◌⊎◌, inl, inr, Bool, true, false, not, ◌||◌, List, [], ◌∷◌, ◌++◌, length, drop, map, reverse, Contains, refl, sym, ap, ◌∙◌, subst}
+use Rattle.std.proofs.Common.{◌≡◌, ℕ, inl, inr, Bool, true, false, not, ◌||◌, List, [], ◌∷◌, ◌++◌, length, drop, map, Contains, refl, sym, ap, ◌∙◌, subst}
 use Rattle.std.specs.Prelude.{codes, if◌then◌else◌, nat_eq}
 use Rattle.std.specs.List.{after_last, before_last, list_any, starts_with}
 use Rattle.std.specs.Str.{bytes_eq}
-use Rattle.std.specs.Cmp.Lexicographic.{slice_cmp}
-use Rattle.std.specs.Ordering.{match_ordering, nat_cmp}
-use Rattle.std.specs.declared.cmp.Ordering.{Ordering}
-use Rattle.std.specs.declared.cmp.Ordering.TheVariants.{Less, Equal, Greater}
 use Rattle.std.proofs.lemmas.Bool.{and_parts, cases_Bool, false_from_ne_true, false≢true, or_cases}
 use Rattle.std.proofs.lemmas.Bool.Decides.{Decides-eqb}
 use Rattle.std.proofs.lemmas.List.Elements.{Contains-append_cases, Contains-append_right}
-use Rattle.std.proofs.lemmas.List.Sorted.{Contains-permutation, IsPermutation-reverse, IsPermutation-sym}
-use Rattle.std.proofs.lemmas.Map.Lookups.{exact_bytes}
 use Rattle.std.proofs.lemmas.Slice.Eq.{bytes_eq-Decides, starts_is}
 use Rattle.jm_bytes.proofs.Cuts.{before_last_none, last_parts, last_within}
-use Rattle.jm_bytes.proofs.Members.{any_contains, contains_here, contains_later, contains_cases, contains_none, from_map}
+use Rattle.jm_bytes.proofs.Members.{any_contains, contains_here, contains_later, contains_cases, from_map}
 use Rattle.jm_names.specs.Names.{dotted, is_node, is_slash}
 use Rattle.jm_form.specs.declared.trees.Holds.TheVariants.{Children, Owners}
-use Rattle.jm_form.specs.Rising.{rising}
 use Rattle.jm_form.specs.Trees.{children, folder_node, folders, holds_of, inner_nodes, is_package_node, module_node, modules, node_names, owners, package_folders, package_node, package_nodes, package_of, packages}
 use Rattle.jm_form.proofs.RisingLaws.{contains_falling, from_falling, from_rising}
 use Rattle.jm_jrt.specs.Stat.{is_package, is_root}

@@ -1,11 +1,6 @@
 -- Words that tell items tell them in turn.
-use Rattle.std.proofs.Common.{◌≡◌, ℕ, zero, suc, ◌+◌, ◌*◌, ◌^◌, ◌<◌, List, [], ◌∷◌, ◌++◌, length, drop, get_or, map, refl, sym, ap, ◌∙◌, arith, length-append, drop-drop, drop_at, slice_index}
+use Rattle.std.proofs.Common.{◌≡◌, ℕ, zero, suc, ◌+◌, ◌<◌, List, [], ◌∷◌, length, get_or, map, refl, ap, ◌∙◌, arith}
 use Rattle.std.specs.List.{AllZip, range_with_len}
-use Rattle.byteorder.specs.Numbers.{big_from-lt, little_from-lt, big_number-reads_back, little_number-reads_back, length-bytes_high_first, length-bytes_low_first}
-use Rattle.jm_bytes.specs.Word.{word, word_bytes}
-use Rattle.jm_bytes.specs.declared.words.Order.{Order}
-use Rattle.jm_bytes.specs.declared.words.Order.TheVariants.{Little, Big}
-use Rattle.jm_form.specs.Nodes.{words_text}
 
 -- What words tell
 
