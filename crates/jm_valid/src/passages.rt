@@ -1,9 +1,9 @@
 //! What a text does to every state of the hash.
 //!
-//! The part of a state above its low byte passes a text as a factor, whatever the text's bytes are.
-//! So the states after a text of the numbers up to 256, its passage, tell the state after it of any.
-ghost use Rattle.std.specs.Prelude.{◌≡◌, ◌∷◌, ◌<◌, ◌≤◌, ◌+◌, ◌/◌, ◌++◌, [], ℕ, List, All, length, map};
-ghost use Rattle.std.specs.Prelude.{IfOk};
+//! The part of a state above its low byte passes a text as a factor, whatever the text's bytes
+//! are. So the states after a text of the numbers up to 256, its passage, tell that of each state.
+ghost use Rattle.std.specs.Prelude.{◌≡◌, ◌∷◌, ◌<◌, ◌≤◌, ◌+◌, ◌/◌, ◌++◌, [], ℕ, List, All, length};
+ghost use Rattle.std.specs.Prelude.{IfOk, map};
 ghost use Rattle.std.specs.List.{range_with_len};
 ghost use Rattle.jm_form.specs.Texts.{text_at};
 ghost use Rattle.jm_names.specs.Hash.{state_after};

@@ -27,7 +27,7 @@ pub struct Names<'a> {
 }
 
 impl<'a> Names<'a> {
-    /// Takes memory only where a text is long: a word for each four bytes of the strings.
+    /// Takes memory only where a text is long: a byte for each four bytes of the strings.
     pub fn of(alloc: Global, sections: &Sections<'a>) -> Result<Names<'a>, NoMemory>
         ensures { IfOk result (λ names. names.sections ≡ sections.now) }
     {
@@ -51,8 +51,8 @@ impl<'a> Names<'a> {
         Some(self.passages.as_slice()[count - 1 - nth].as_slice())
     }
 
-    /// The state after the text at a place of the strings' front. It looks at no more bytes than two
-    /// stretches have.
+    /// The state after the text at a place of the strings' front. It looks at no more bytes than
+    /// two stretches have.
     fn state_at(&self, state: u32, place: usize) -> u32
         requires { place ≤ length self.now.sections.texts.now }
         ensures { result ≡ state_after state (text_at self.now.sections.texts.now place) }
@@ -139,8 +139,8 @@ fn text_in(bytes: &[u8]) -> &[u8]
     }
 }
 
-/// The state after the text at the front of the bytes. `passage` is that of the text at the front of
-/// what stands behind the first `size` of them.
+/// The state after the text at the front of the bytes. `passage` is that of the text at the front
+/// of what stands behind the first `size` of them.
 fn state_over_stretch(state: u32, bytes: &[u8], size: usize, passage: &[u32]) -> u32
     requires { passage.now ≡ passage_of (text_at (drop size bytes.now) 0) }
     ensures { result ≡ state_after state (text_at bytes.now 0) }
