@@ -4,18 +4,18 @@ use Rattle.std.specs.List.{range_with_len}
 use Rattle.jm_form.specs.Texts.{text_at}
 use Rattle.jm_names.specs.Hash.{state_after}
 
--- the states after a text, of the numbers from 0 to 256
+-- The passage of a text: the states after it of the numbers from 0 to 256.
 abbrev pub passage_of : List ℕ → List ℕ
 passage_of text = map (λ state. state_after state text) (range_with_len 0 257)
 
--- the passage of the text at the place that so many stretches of 4096 bytes lead to
+-- The passage of the text at the place that lies so many stretches of 4096 bytes from the front.
 abbrev pub nth_passage : List ℕ → ℕ → List ℕ
 nth_passage texts nth = passage_of (text_at texts (nth * 4096))
 
--- those of the first so many such places, the last one first
+-- The passages of the texts at the first so many such places, the last place first.
 abbrev pub passages : List ℕ → ℕ → List (List ℕ)
 passages texts count = map (λ k. nth_passage texts (count - 1 - k)) (range_with_len 0 count)
 
--- they are those of as many places as there are, which may be none
+-- These are the passages of as many such places as there are of them, which may be none.
 abbrev pub ArePassages : List ℕ → List (List ℕ) → Type 0
 ArePassages texts ps = ps ≡ passages texts (length ps)
