@@ -6,7 +6,6 @@ use Rattle.std.proofs.lemmas.List.{drop_all, take_min}
 use Rattle.std.proofs.lemmas.Simd.{map-map}
 use Rattle.std.proofs.lemmas.List.FromFn.{get_or-map-range_with_len, length-map-range_with_len}
 use Rattle.std.specs.List.{before_first, list_any, position_or_len, range_with_len}
-use Rattle.jm_bytes.proofs.Pairs.{range_more}
 use Rattle.jm_names.specs.Hash.{state_after}
 use Rattle.jm_names.proofs.HashLaws.{state_after-append, state_after-low}
 use Rattle.jm_valid.specs.Passages.{nth_passage, passage_of, passages, ArePassages}
@@ -69,9 +68,6 @@ replaced {X} f xs now i d y is below made =
     ap₂ (λ (l : List X) z. set l i z) is same ∙ mapped_more f xs i d below
 
 -- States taken through texts
-
-pub range_next : (n : ℕ) → range_with_len 0 (n + 1) ≡ range_with_len 0 n ++ n ∷ []
-range_next n = let last : 0 + n ≡ n = omega arith in range_more 0 n ∙ ap (λ k. range_with_len 0 n ++ k ∷ []) last
 
 -- one byte more
 pub passed_byte : (states more whole : List ℕ) (text : List ℕ) (i : ℕ) → i < length text → more ≡ map (λ s. state_after s (get_or text i 0 ∷ [])) states → map (λ s. state_after s (drop i text)) states ≡ whole → map (λ s. state_after s (drop (i + 1) text)) more ≡ whole

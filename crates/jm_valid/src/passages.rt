@@ -58,7 +58,6 @@ fn pass_text(states: &mut [u32], text: &[u8])
 }
 
 /// The numbers up to 256, which is the passage of the empty text.
-#[tactic(auto, using(crate::proofs::PassageLaws::range_next))]
 fn first_states(alloc: Global) -> Result<Vec<u32>, NoMemory>
     ensures { IfOk result (λ states. states.items ≡ range_with_len 0 257) }
 {
