@@ -2,7 +2,7 @@ ghost use Rattle.std.specs.Prelude.{◌≡◌};
 ghost use Rattle.jm_form.specs.Validity.{ValidAs};
 
 use jm_bytes::Buf;
-use jm_form::Header;
+use jm_form::{Header, read_header};
 use std::marker::Model;
 
 /// A valid image: its bytes, which leave it only by counted calls, and its header.
@@ -24,7 +24,7 @@ impl<'a> Model for Image<'a> {
 }
 
 impl<'a> Image<'a> {
-    ghost use Rattle.jm_form.specs.Validity.{ValidAs};
+    ghost use Rattle.jm_form.specs.Validity.{Valid, ValidAs};
 
     /// The image of bytes that were found to be valid.
     pub(crate) fn checked(bytes: &'a [u8], header: Header) -> Image<'a>
@@ -34,6 +34,18 @@ impl<'a> Image<'a> {
         Image {
             buf: Buf::new(bytes),
             header,
+        }
+    }
+
+    /// The image of bytes that were found to be valid before. Nothing is checked again; the header
+    /// is read.
+    pub fn of_valid(bytes: &'a [u8]) -> Image<'a>
+        requires { Valid bytes.now }
+        ensures { result ≡ bytes.now }
+    {
+        match read_header(bytes) {
+            Ok(header) => Image::checked(bytes, header),
+            Err(_) => unreachable!(),
         }
     }
 
