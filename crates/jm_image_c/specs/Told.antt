@@ -1,0 +1,145 @@
+-- The numbers in which the exports tell what the libraries below them answer.
+use Rattle.std.specs.Prelude.{ℕ, ◌+◌, nat_lt, List, [], ◌∷◌, length, Option, Some, None}
+use Rattle.std.specs.Prelude.{Result, Ok, Err, if◌then◌else◌, true, false}
+use Rattle.jm_form.specs.declared.container.Header.{Header}
+use Rattle.jm_form.specs.declared.container.HeaderFault.{HeaderFault}
+use Rattle.jm_form.specs.declared.container.HeaderFault.TheVariants.{Short, Magic, Version, Sizes}
+use Rattle.jm_form.specs.declared.damage.Damage.{Damage}
+use Rattle.jm_form.specs.declared.damage.Damage.TheVariants as damage
+use Rattle.jm_form.specs.declared.rows.Row.{Row}
+use Rattle.jm_form.specs.Entries as form
+use Rattle.jm_form.specs.Head.{header_of, index_length}
+use Rattle.jm_form.specs.Places.{strings_place}
+use Rattle.jm_form.specs.TreeView.{TreeItem, Folder, Package, File, Link}
+use Rattle.jm_reader.specs.Walk.{entry_alone}
+use Rattle.jm_jrt.specs.declared.jrt_error.JrtError.{JrtError}
+use Rattle.jm_jrt.specs.declared.jrt_error.JrtError.TheVariants.{NotThere, BadNode, NotFolder}
+use Rattle.jm_image_c.specs.declared.numbers.Content.{Content}
+use Rattle.jm_image_c.specs.declared.numbers.Entry.{Entry}
+use Rattle.jm_image_c.specs.declared.numbers.Owner.{Owner}
+use Rattle.jm_image_c.specs.declared.numbers.Standing.{Standing}
+use Rattle.jm_image_c.specs.declared.numbers.Verdict.{Verdict}
+
+-- Damages
+
+abbrev pub verdict_of : ℕ → ℕ → ℕ → Verdict
+verdict_of kind first second = record { kind = kind; first = first; second = second }
+
+-- a header's fault by its kind, with the version where it is that
+abbrev pub header_verdict : HeaderFault → Verdict
+header_verdict Short = verdict_of 1 0 0
+header_verdict Magic = verdict_of 2 0 0
+header_verdict (Version word) = verdict_of 3 word 0
+header_verdict Sizes = verdict_of 4 0 0
+
+-- a damage by its kind and its numbers, in the order in which the damage has them
+abbrev pub damage_verdict : Damage → Verdict
+damage_verdict (damage.Header fault) = header_verdict fault
+damage_verdict (damage.Offset slot) = verdict_of 5 slot 0
+damage_verdict (damage.Row slot) = verdict_of 6 slot 0
+damage_verdict (damage.Compressed slot) = verdict_of 7 slot 0
+damage_verdict (damage.Text slot kind) = verdict_of 8 slot kind
+damage_verdict (damage.Range slot) = verdict_of 9 slot 0
+damage_verdict (damage.Count stated found) = verdict_of 10 stated found
+damage_verdict (damage.Overlap first second) = verdict_of 11 first second
+
+-- Contents
+
+abbrev pub nowhere : Content
+nowhere = record { place = 0; size = 0; found = false }
+
+-- where the content of a row stands in the bytes of an image that has this header
+abbrev pub row_content : Header → Row → Content
+row_content h row =
+    record { place = index_length h + row.offset; size = row.size; found = true }
+
+-- the content of what a look-up answers, or none
+abbrev pub sought_content : Header → Option (Row × List ℕ) → Content
+sought_content h None = nowhere
+sought_content h (Some found) = row_content h found.0
+
+abbrev pub content_read : Option (Row × List ℕ) → Result Header HeaderFault → Content
+content_read sought (Err fault) = nowhere
+content_read sought (Ok h) = sought_content h sought
+
+-- the same in some bytes, whose header says where the contents begin
+abbrev pub content_told : List ℕ → Option (Row × List ℕ) → Content
+content_told b sought = content_read sought (header_of b)
+
+-- Trees
+
+abbrev pub standing_of : ℕ → ℕ → Standing
+standing_of kind number = record { kind = kind; number = number }
+
+-- what stands at a path, by its kind and its number of children, bytes or the bad word's place
+abbrev pub standing_told : Result TreeItem JrtError → Standing
+standing_told (Ok (Folder names)) = standing_of 1 (length names)
+standing_told (Ok (Package owners)) = standing_of 1 (length owners)
+standing_told (Ok (File bytes)) = standing_of 2 (length bytes)
+standing_told (Ok (Link name)) = standing_of 3 (length name)
+standing_told (Err (BadNode place)) = standing_of 4 place
+standing_told (Err NotThere) = standing_of 0 0
+standing_told (Err NotFolder) = standing_of 0 0
+
+abbrev pub owner_of : ℕ → ℕ → Owner
+owner_of kind number = record { kind = kind; number = number }
+
+-- the first full owner, by the size of its name
+abbrev pub owner_told : Result (Option (List ℕ)) JrtError → Owner
+owner_told (Ok (Some name)) = owner_of 1 (length name)
+owner_told (Ok None) = owner_of 2 0
+owner_told (Err (BadNode place)) = owner_of 4 place
+owner_told (Err NotThere) = owner_of 0 0
+owner_told (Err NotFolder) = owner_of 0 0
+
+-- the name of the first full owner; no byte where there is none
+abbrev pub owner_name : Result (Option (List ℕ)) JrtError → List ℕ
+owner_name (Ok (Some name)) = name
+owner_name other = []
+
+-- Entries
+
+abbrev pub no_entry : Entry
+no_entry = record {
+  «module» = 0;
+  parent = 0;
+  base = 0;
+  ext = 0;
+  place = 0;
+  size = 0;
+  found = false;
+}
+
+-- where the texts and the content of a row stand in the bytes of an image that has this header
+abbrev pub row_entry : Header → Row → Entry
+row_entry h row = record {
+  «module» = strings_place h + row.module;
+  parent = strings_place h + row.parent;
+  base = strings_place h + row.base;
+  ext = strings_place h + row.ext;
+  place = index_length h + row.offset;
+  size = row.size;
+  found = true;
+}
+
+-- the first of some entries, or none
+abbrev pub first_entry : Header → List form.Entry → Entry
+first_entry h [] = no_entry
+first_entry h (e ∷ es) = row_entry h e.row
+
+abbrev pub entry_with : List ℕ → ℕ → Result Header HeaderFault → Entry
+entry_with b slot (Err fault) = no_entry
+entry_with b slot (Ok h) =
+    if nat_lt slot h.length then first_entry h (entry_alone b h slot) else no_entry
+
+-- the entry that a slot of an image holds, or none
+abbrev pub entry_told : List ℕ → ℕ → Entry
+entry_told b slot = entry_with b slot (header_of b)
+
+abbrev pub slots_with : Result Header HeaderFault → ℕ
+slots_with (Err fault) = 0
+slots_with (Ok h) = h.length
+
+-- how many slots the table has
+abbrev pub slots_of : List ℕ → ℕ
+slots_of b = slots_with (header_of b)
