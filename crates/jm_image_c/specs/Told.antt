@@ -22,6 +22,7 @@ use Rattle.jm_image_c.specs.declared.numbers.Verdict.{Verdict}
 
 -- Damages
 
+-- a kind of damage with its two numbers
 abbrev pub verdict_of : ℕ → ℕ → ℕ → Verdict
 verdict_of kind first second = record { kind = kind; first = first; second = second }
 
@@ -45,6 +46,7 @@ damage_verdict (damage.Overlap first second) = verdict_of 11 first second
 
 -- Contents
 
+-- no content
 abbrev pub nowhere : Content
 nowhere = record { place = 0; size = 0; found = false }
 
@@ -58,6 +60,7 @@ abbrev pub sought_content : Header → Option (Row × List ℕ) → Content
 sought_content h None = nowhere
 sought_content h (Some found) = row_content h found.0
 
+-- the same by what the header reads as, which is a header where the bytes are valid
 abbrev pub content_read : Option (Row × List ℕ) → Result Header HeaderFault → Content
 content_read sought (Err fault) = nowhere
 content_read sought (Ok h) = sought_content h sought
@@ -68,6 +71,7 @@ content_told b sought = content_read sought (header_of b)
 
 -- Trees
 
+-- a kind with its number
 abbrev pub standing_of : ℕ → ℕ → Standing
 standing_of kind number = record { kind = kind; number = number }
 
@@ -81,6 +85,7 @@ standing_told (Err (BadNode place)) = standing_of 4 place
 standing_told (Err NotThere) = standing_of 0 0
 standing_told (Err NotFolder) = standing_of 0 0
 
+-- a kind with its number
 abbrev pub owner_of : ℕ → ℕ → Owner
 owner_of kind number = record { kind = kind; number = number }
 
@@ -99,6 +104,7 @@ owner_name other = []
 
 -- Entries
 
+-- no entry
 abbrev pub no_entry : Entry
 no_entry = record {
   «module» = 0;
@@ -127,6 +133,7 @@ abbrev pub first_entry : Header → List form.Entry → Entry
 first_entry h [] = no_entry
 first_entry h (e ∷ es) = row_entry h e.row
 
+-- the entry that a slot holds, or none, by what the header reads as
 abbrev pub entry_with : List ℕ → ℕ → Result Header HeaderFault → Entry
 entry_with b slot (Err fault) = no_entry
 entry_with b slot (Ok h) =
@@ -136,6 +143,7 @@ entry_with b slot (Ok h) =
 abbrev pub entry_told : List ℕ → ℕ → Entry
 entry_told b slot = entry_with b slot (header_of b)
 
+-- the length of the table, by what the header reads as
 abbrev pub slots_with : Result Header HeaderFault → ℕ
 slots_with (Err fault) = 0
 slots_with (Ok h) = h.length
