@@ -9,8 +9,8 @@ use jm_reader::find;
 use jm_valid::Image;
 use std::sync::ledger::{Blank, Ledger};
 
-/// Where the content of the entry of a name stands. It costs at most two hashes, and of the index at
-/// most the name's bytes and 76 more; the content is handed out, which costs its size.
+/// Where the content of the entry of a name stands. It costs at most two hashes, and of the index
+/// at most the name's bytes and 76 more; the content is handed out, which costs its size.
 fn content_named<H: Ledger, R: Ledger>(
     image: &Image,
     name: &[u8],
