@@ -9,7 +9,7 @@ use Rattle.jm_jrt.specs.Reply.{line_bytes, reply}
 abbrev pub is_newline : ℕ → Bool
 is_newline b = b == 10
 
--- a last part is a line where it has a byte
+-- a last part as a line, if it has a byte
 abbrev pub last_line : List ℕ → List (List ℕ)
 last_line [] = []
 last_line (b ∷ bytes) = (b ∷ bytes) ∷ []
@@ -47,7 +47,7 @@ answered most lines = take_while is_short (take most lines)
 abbrev pub replies : List ℕ → List (List ℕ) → List ℕ
 replies b lines = flat_map (reply b) lines
 
--- the sum of two bounds, if there are two
+-- the sum of two bounds, or none where one is missing
 abbrev pub both_bounds : Option ℕ → Option ℕ → Option ℕ
 both_bounds None n = None
 both_bounds (Some m) None = None

@@ -108,7 +108,7 @@ owner_reply (Ok full) = full_reply full
 abbrev pub is_space : ℕ → Bool
 is_space b = b == 32
 
--- by the verb; the argument is a name or a path as an image stores it
+-- the reply by verb and argument; the argument is a name or a path as an image stores it
 abbrev pub request_reply : List ℕ → List ℕ → List ℕ → List ℕ
 request_reply b verb argument =
     if bytes_eq verb (codes "find") then find_reply (look b argument)
@@ -118,7 +118,8 @@ request_reply b verb argument =
     then owner_reply (owner b (codes "/packages/" ++ argument))
     else request_error
 
--- the verb ends at the first space, and the rest of the line is the argument
+-- the reply to a line: by the verb in front of its first space, with the rest of the line as
+-- Modified UTF-8
 abbrev pub reply : List ℕ → List ℕ → List ℕ
 reply b line =
     if list_any is_space line

@@ -30,7 +30,7 @@ Sought = Option (Row × List ℕ)
 abbrev pub roots : List ℕ → List (List ℕ)
 roots b = filter (λ name. is_some (look b name)) (codes "/modules" ∷ codes "/packages" ∷ [])
 
--- `/modules` and `/packages`
+-- a path is `/modules` or `/packages`
 abbrev pub is_root : List ℕ → Bool
 is_root path = bytes_eq path (codes "/modules") || bytes_eq path (codes "/packages")
 
@@ -39,7 +39,7 @@ abbrev pub children_of : List ℕ → Header → Sought → Result Holds JrtErro
 children_of b h None = Err NotThere
 children_of b h (Some found) = children_told b h found.1
 
--- and in the form of pairs
+-- what the content of a node tells, in the form of pairs
 abbrev pub owners_of : List ℕ → Header → Sought → Result Holds JrtError
 owners_of b h None = Err NotThere
 owners_of b h (Some found) = owners_told b h found.1
@@ -56,11 +56,11 @@ abbrev pub file : Sought → Result TreeItem JrtError
 file None = Err NotThere
 file (Some found) = Ok (File found.1)
 
--- the path without `/modules`, if it is the name of no node
+-- the file of the path without `/modules`, if that is the name of no node
 abbrev pub resource : List ℕ → List ℕ → Result TreeItem JrtError
 resource b path = if is_node (drop 8 path) then Err NotThere else file (look b (drop 8 path))
 
--- a folder where the path is that of a node, and else a file
+-- what stands below `/modules/`: a folder where the path is that of a node, and else a file
 abbrev pub in_modules : List ℕ → Header → List ℕ → Sought → Result TreeItem JrtError
 in_modules b h path None = resource b path
 in_modules b h path (Some found) = folder (children_told b h found.1)
@@ -78,11 +78,11 @@ link «module» (Err error) = Err error
 link «module» (Ok (Children names)) = Err NotThere
 link «module» (Ok (Owners owners)) = link_among «module» owners
 
--- `/packages/p` with no slash in p
+-- a path is `/packages/p` with no slash in p
 abbrev pub is_package : List ℕ → Bool
 is_package path = is_package_node path && not (list_any is_slash (drop 10 path))
 
--- `/packages/p/m` with no slash in p and m is a link where m is among the owners
+-- what stands below `/packages/`: a package, or behind one more slash a link to one of its owners
 abbrev pub in_packages : List ℕ → Header → List ℕ → Result TreeItem JrtError
 in_packages b h path =
     if is_package path then folder (owners_of b h (look b path))

@@ -32,11 +32,11 @@ fits content k = nat_lt k (length content / 4)
 abbrev pub word_count : List ℕ → ℕ
 word_count content = (length content + 3) / 4
 
--- the same for pairs of words
+-- how many pairs of words a content is read as; the last may not fit
 abbrev pub pair_count : List ℕ → ℕ
 pair_count content = (length content + 7) / 8
 
--- a word that isn't sound is bad
+-- `BadNode` with the place of word k where it isn't sound
 abbrev pub word_fault : (ℕ → Bool) → ℕ → Option JrtError
 word_fault is_sound k = fault_if (not (is_sound k)) (BadNode (4 * k))
 
@@ -60,7 +60,7 @@ abbrev pub is_child_sound : List ℕ → Header → List ℕ → ℕ → Bool
 is_child_sound b h content k =
     fits content k && is_row_sound (strings b h) (row_told b h (word_of h content k))
 
--- the name that the row there spells
+-- the name that the row at a place of the locations spells
 abbrev pub name_told : List ℕ → Header → ℕ → List ℕ
 name_told b h place = name_of (strings b h) (unwrap_or (row_told b h place) blank)
 

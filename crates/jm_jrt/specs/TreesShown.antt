@@ -8,7 +8,8 @@ use Rattle.jm_jrt.specs.declared.jrt_error.JrtError.{JrtError}
 use Rattle.jm_jrt.specs.declared.jrt_error.JrtError.TheVariants.{NotThere}
 use Rattle.jm_jrt.specs.Stat.{first_full, owner, stat}
 
--- the first owner, of a package that stands there, for which it isn't empty
+-- the first owner, of a package that stands there, for which it isn't empty; anything else is not
+-- there
 abbrev pub full_owner : Option TreeItem → Result (Option (List ℕ)) JrtError
 full_owner (Some (Package owners)) = Ok (first_full owners)
 full_owner other = Err NotThere
@@ -26,7 +27,7 @@ IsItemOfTrees b path item =
     (m : List (List ℕ × List ℕ)) → Stands b m → NodesOf b (names_of m)
     → item ≡ ok_or (tree m path) NotThere
 
--- and this is the first full owner of the package there
+-- for all such resources, this is the first full owner of the package at the path
 abbrev pub IsOwnerOfTrees : List ℕ → List ℕ → Result (Option (List ℕ)) JrtError → Type 0
 IsOwnerOfTrees b path owner =
     (m : List (List ℕ × List ℕ)) → Stands b m → NodesOf b (names_of m)

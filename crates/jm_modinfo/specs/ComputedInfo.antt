@@ -59,7 +59,7 @@ need_field pool =
     and_then (version_field pool) (λ version.
     value (record { name = name; flags = flags; version = version }))))
 
--- a package that is exported or opened: its name, its flags, the modules to which it is
+-- a package that is exported or opened: its name, its flags, the modules that get it
 abbrev pub opened_field : List SlotData → Reading InfoFault Opened
 opened_field pool =
     and_then (named_field pool Package) (λ name.
@@ -67,14 +67,14 @@ opened_field pool =
     and_then (names_field pool Module) (λ to.
     value (record { «package» = name; flags = flags; to = to }))))
 
--- a service that is provided: its name, and the classes that do
+-- a service that is provided: its name, and the classes that provide it
 abbrev pub provides_field : List SlotData → Reading InfoFault Provides
 provides_field pool =
     and_then (named_field pool Class) (λ service.
     and_then (names_field pool Class) (λ classes.
     value (record { service = service; classes = classes })))
 
--- the body of the Module attribute; the main class stands elsewhere
+-- the whole body of the Module attribute; the main class stands elsewhere
 abbrev pub module_field : List SlotData → Reading InfoFault Descriptor
 module_field pool =
     and_then (named_field pool Module) (λ name.
@@ -107,7 +107,7 @@ abbrev pub body_info : List SlotData → List ℕ → Result Descriptor InfoFaul
 body_info pool body =
     value_of (ended Rest (module_field pool) (record { place = 0; bytes = body }))
 
--- the one body of several, if it is one
+-- the one body of several, `NoModule` where there is none, `TwoModule` where there are more
 abbrev pub only_body : List (List ℕ) → Result (List ℕ) InfoFault
 only_body [] = Err NoModule
 only_body (body ∷ []) = Ok body

@@ -33,12 +33,12 @@ abbrev pub version_at : List SlotData → ℕ → Option (Option (List ℕ))
 version_at pool index =
     if index == 0 then Some None else option_map (λ text. Some text) (utf8_at pool index)
 
--- no control character, and none of / \ : @ ,
+-- a byte is no control character, and none of / \ : @ ,
 abbrev pub is_legal_byte : ℕ → Bool
 is_legal_byte byte =
     nat_le 0x20 byte && not (byte == 47 || byte == 92 || byte == 58 || byte == 64 || byte == 44)
 
--- a legal name of a module
+-- a text is a legal name of a module: it isn't empty, and each byte is legal
 abbrev pub is_legal : List ℕ → Bool
 is_legal name = not (length name == 0) && list_all is_legal_byte name
 

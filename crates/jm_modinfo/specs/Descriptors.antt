@@ -17,25 +17,25 @@ use Rattle.jm_modinfo.specs.Flags.{is_module}
 
 -- Bytes as fields
 
--- bytes in two parts, one behind the other
+-- the bytes are in two parts, one behind the other
 abbrev pub Then : (List ℕ → Type 0) → (List ℕ → Type 0) → List ℕ → Type 0
 Then First Second bytes =
     (front : List ℕ) × (rest : List ℕ) × (bytes ≡ front ++ rest) × First front × Second rest
 
--- a number in two bytes
+-- the bytes are a number in two bytes
 abbrev pub IsNumber : ℕ → List ℕ → Type 0
 IsNumber n bytes = (n < 2 ^ 16) × (bytes ≡ u2 n)
 
--- an index in two bytes, by which this value is found
+-- the bytes are an index in two bytes, by which this value is found
 abbrev pub IsIndex : {A : Type 0} → (ℕ → Option A) → A → List ℕ → Type 0
 IsIndex found value bytes = (index : ℕ) × (found index ≡ Some value) × IsNumber index bytes
 
--- items one behind another
+-- the bytes are items one behind another
 abbrev pub Each : {A : Type 0} → (A → List ℕ → Type 0) → List A → List ℕ → Type 0
 Each IsItem [] bytes = bytes ≡ []
 Each IsItem (item ∷ items) bytes = Then (IsItem item) (Each IsItem items) bytes
 
--- a count in two bytes, and so many items
+-- the bytes are a count in two bytes, and so many items
 abbrev pub Counted : {A : Type 0} → (A → List ℕ → Type 0) → List A → List ℕ → Type 0
 Counted IsItem items = Then (IsNumber (length items)) (Each IsItem items)
 
@@ -55,18 +55,18 @@ abbrev pub IsNeed : List SlotData → Need → List ℕ → Type 0
 IsNeed pool n =
     Then (IsNamed pool Module n.name) (Then (IsNumber n.flags) (IsVersion pool n.version))
 
--- a package that is exported or opened
+-- the bytes are a package that is exported or opened
 abbrev pub IsOpened : List SlotData → Opened → List ℕ → Type 0
 IsOpened pool p =
     Then (IsNamed pool Package p.package)
     (Then (IsNumber p.flags) (Counted (IsNamed pool Module) p.to))
 
--- the bytes are a service that is provided: its name, and the classes that do
+-- the bytes are a service that is provided: its name, and the classes that provide it
 abbrev pub IsProvides : List SlotData → Provides → List ℕ → Type 0
 IsProvides pool p =
     Then (IsNamed pool Class p.service) (Counted (IsNamed pool Class) p.classes)
 
--- the body of the attribute
+-- the bytes are the whole body of the Module attribute
 abbrev pub IsModuleBody : List SlotData → Descriptor → List ℕ → Type 0
 IsModuleBody pool d =
     Then (IsNamed pool Module d.name)
@@ -114,7 +114,7 @@ IsMain pool (body ∷ []) main =
     (text : List ℕ) × (main ≡ Some text) × IsIndex (named_at pool Class) text body
 IsMain pool (body ∷ other ∷ more) main = ⊥
 
--- the rule: the class is a module's, and its descriptor says this
+-- the rule: the class is a module's, of a major version from 53 on, and its descriptor says this
 pub record InfoOf (c : ClassData) (d : Descriptor) : Type 0 where
   pub access : is_module c.access ≡ true
   pub major : 53 ≤ c.major

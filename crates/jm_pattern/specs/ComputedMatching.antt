@@ -10,7 +10,7 @@ abbrev pub behind_any : List ℕ → List (List ℕ)
 behind_any [] = [] ∷ []
 behind_any (b ∷ name) = (b ∷ name) ∷ behind_any name
 
--- the same for a run without `/`, which is 47
+-- what a run of bytes without `/`, which is 47, at its front leaves of a name, for each such run
 abbrev pub behind_run : List ℕ → List (List ℕ)
 behind_run [] = [] ∷ []
 behind_run (b ∷ name) = (b ∷ name) ∷ (if b == 47 then [] else behind_run name)
@@ -24,7 +24,7 @@ left_by One (b ∷ name) = if b == 47 then [] else name ∷ []
 left_by (Byte own) [] = []
 left_by (Byte own) (b ∷ name) = if b == own then name ∷ [] else []
 
--- the signs match the whole name
+-- `Match` as a value: the signs match the whole name
 abbrev pub matches : List Sign → List ℕ → Bool
 matches [] [] = true
 matches [] (b ∷ name) = false

@@ -47,6 +47,6 @@ patterns_from number [] = Ok []
 patterns_from number (item ∷ items) =
     with_first (item_pattern number item) (patterns_from (number + 1) items)
 
--- the patterns of a comma list
+-- the patterns of a comma list, or the fault of the least item that has one
 abbrev pub list_of : List ℕ → Result (List (List Sign)) PatternError
 list_of text = patterns_from 0 (items_of text)

@@ -37,7 +37,7 @@ pub record EndsEscaped (text : List ℕ) (at : ℕ) : Type 0 where
   pub reads : Reads front signs
   pub place : at ≡ length front
 
--- why a text of its own is no pattern
+-- why a text is no pattern: it has no byte, or it ends with a `\` that takes none
 abbrev pub IsFaultOf : List ℕ → PatternError → Type 0
 IsFaultOf text (BadEscape at) = EndsEscaped text at
 IsFaultOf text Empty = text ≡ []

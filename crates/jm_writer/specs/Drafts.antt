@@ -52,14 +52,15 @@ large_number order pool table =
     if nat_lt limit (length (section_of (layout_index order table pool).texts)) then 0
     else length (layout_with order pool table)
 
--- the image by the pool's table would be too large
+-- the image by the pool's table is too large, and this is its number
 pub record IsLarge (order : Order) (pool : List Written) (stated : ℕ) : Type 0 where
   pub table : GreedyTable
   pub has_table : layout_table pool ≡ Some table
   pub long : image_limit < length (layout_with order pool table)
   pub number : stated ≡ large_number order pool table
 
--- what is answered of a pool; want of memory says nothing
+-- what `plan` answers: the draft, or the first refusal that holds, with its number; want of memory
+-- says nothing
 abbrev pub Plans : Order → List Written → Result Draft PlanError → Type 0
 Plans order pool (Ok draft) = IsDraft order pool draft
 Plans order pool (Err (refusal.Clash name)) = first_clash (names_of pool) ≡ Some name
