@@ -7,7 +7,7 @@ use Rattle.jm_link.specs.Links.{TellsNothing, request_of}
 use Rattle.jm_link.proofs.ChosenLaws.{chosen_differ, chosen_within}
 use Rattle.jm_link.proofs.ClosingLaws.{candidates_length, joined_same}
 use Rattle.jm_link.proofs.LinkingLaws.{closed_to, links_as, stopped_to}
-use Rattle.jm_modpath.proofs.StepLaws.{passed_on}
+use Rattle.jm_bytes.proofs.ResultLaws.{passed_on}
 use Rattle.jm_link.proofs.linking.link_found.Goals as goal
 
 pub closed-requires : goal.closed-requires
