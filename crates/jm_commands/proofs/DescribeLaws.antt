@@ -1,5 +1,5 @@
 -- What `describe` comes to, from what its calls answered.
-use Rattle.std.proofs.Common.{◌≡◌, ℕ, List, Option, Some, Result, Ok, Err, refl, sym, ap, ◌∙◌}
+use Rattle.std.proofs.Common.{◌≡◌, ℕ, List, Some, Result, Ok, Err, sym, ap, ◌∙◌}
 use Rattle.jm_class.specs.declared.class.ClassFault.{ClassFault}
 use Rattle.jm_class.specs.Classes.{ClassData, ReadsAs}
 use Rattle.jm_class.specs.ComputedClass.{class_fault, class_of, fault_of}

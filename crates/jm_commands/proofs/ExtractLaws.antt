@@ -1,12 +1,12 @@
 -- What `extract` does, from what its call answered.
-use Rattle.std.proofs.Common.{◌≡◌, inl, inr, ℕ, List, [], length, Option, Some, None, Result, Ok, Err, refl, sym, ap, ◌∙◌, subst}
-use Rattle.jm_outside.specs.Made.{MadeAll, MadePart}
+use Rattle.std.proofs.Common.{◌≡◌, inl, inr, ℕ, List, [], length, Option, None, Result, Ok, Err, refl, sym, ◌∙◌, subst}
+use Rattle.jm_outside.specs.Made.{MadePart}
 use Rattle.jm_outside.proofs.MadeLaws.{part_of_all}
 use Rattle.jm_names.specs.ByName.{Named}
 use Rattle.jm_texts.specs.declared.refusal.Refusal.{Refusal}
 use Rattle.jm_extract.specs.declared.extracting.ExtractStop.{ExtractStop}
 use Rattle.jm_extract.specs.declared.extracting.ExtractStop.TheVariants as extract_stop
-use Rattle.jm_extract.specs.Extracted.{BreaksOff, Extracts, writes_of}
+use Rattle.jm_extract.specs.Extracted.{BreaksOff, Extracts}
 use Rattle.jm_outside.specs.Files.{Files}
 use Rattle.jm_outside.specs.Outcome.{Rose}
 use Rattle.jm_commands.specs.declared.complaint.Complaint.TheVariants as complaint

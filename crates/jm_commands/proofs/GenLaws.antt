@@ -1,21 +1,18 @@
 -- What `gen` does, from what its calls answered.
-use Rattle.std.proofs.Common.{◌≡◌, ◌≤◌, ◌⊎◌, inl, inr, ℕ, List, [], ◌++◌, ◌∷◌, Option, option_map, Result, Ok, Err, false, refl, ap, ◌∙◌, subst, append-nil}
-use Rattle.jm_bytes.specs.declared.words.Order.TheVariants.{Little}
+use Rattle.std.proofs.Common.{◌≡◌, ◌≤◌, ◌⊎◌, inl, inr, ℕ, List, [], ◌++◌, ◌∷◌, Option, Result, Ok, Err, refl, ◌∙◌, subst, append-nil}
 use Rattle.jm_outside.specs.Files.{Files}
 use Rattle.jm_outside.specs.Outcome.{Rose}
 use Rattle.jm_outside.specs.declared.shelf.ShelfError.{ShelfError}
 use Rattle.jm_outside.specs.declared.shelf.ShelfError.TheVariants as shelf_error
-use Rattle.jm_outside.specs.Made.{MadeAll, MadePart, Writes, written}
+use Rattle.jm_outside.specs.Made.{MadeAll, MadePart, Writes}
 use Rattle.jm_outside.proofs.MadeLaws.{made_append, part_append}
 use Rattle.jm_link.specs.declared.linking.LinkStop.{LinkStop}
 use Rattle.jm_link.specs.declared.linking.Summary.{Summary}
-use Rattle.jm_link.specs.Linked.{Request}
 use Rattle.jm_link.specs.Links.{Links}
-use Rattle.jm_gen.specs.Generated.{module_names}
 use Rattle.jm_plugins.specs.declared.Plugin.TheVariants as plugin
 use Rattle.jm_commands.specs.declared.stop.Stop.{Stop}
 use Rattle.jm_commands.specs.declared.stop.Stop.TheVariants as stop
-use Rattle.jm_commands.specs.Gen.{Gen, gen_request, image_path, made_first, modules_path}
+use Rattle.jm_commands.specs.Gen.{Gen, gen_request, generated_request, image_path, made_first, modules_path}
 use Rattle.jm_commands.specs.LinkText.{gen_text}
 use Rattle.jm_commands.specs.Outcome.{Outcome, behind, done, gen_link}
 use Rattle.jm_commands.specs.Run.{Answers, FilesMade, GenComesTo, LinkComesTo, PutDoes, StepComesTo}
@@ -64,16 +61,11 @@ module _ (made : Writes) (shelf : Seen Files) (now new : World) (first : MadeAll
     },
   )
 
--- what a link of these modules is asked for
-abbrev asked_with : List (List ℕ) → Request
-asked_with roots = record { roots = roots; bind = false; plugins = plugin.Strip ∷ []; order = Little }
-
--- the link of a `gen`, by what its parts are
-pub links_as : (gen : Gen) (directories roots : List (List ℕ)) (output : List ℕ) (answer : Result Summary LinkStop) (old new : Option Files) (faults new_faults : ℕ) → directories ≡ modules_path gen ∷ [] → roots ≡ module_names gen.modules → output ≡ image_path gen → Links directories (asked_with roots) output answer old new faults new_faults → Links (modules_path gen ∷ []) (gen_request gen) (image_path gen) answer old new faults new_faults
-links_as gen directories roots output answer old new faults new_faults one two three links =
-    subst (λ (path : List ℕ). Links (modules_path gen ∷ []) (gen_request gen) path answer old new faults new_faults) three
-    (subst (λ (ds : List (List ℕ)). Links ds (gen_request gen) output answer old new faults new_faults) one
-    (subst (λ (rs : List (List ℕ)). Links directories (asked_with rs) output answer old new faults new_faults) two links))
+-- the link of a `gen`, by the paths that it was made with
+pub links_as : (gen : Gen) (mods image : List ℕ) (answer : Result Summary LinkStop) (old new : Option Files) (faults new_faults : ℕ) → mods ≡ modules_path gen → image ≡ image_path gen → Links (mods ∷ []) (generated_request gen.modules) image answer old new faults new_faults → Links (modules_path gen ∷ []) (gen_request gen) (image_path gen) answer old new faults new_faults
+links_as gen mods image answer old new faults new_faults one two links =
+    subst (λ (path : List ℕ). Links (modules_path gen ∷ []) (gen_request gen) path answer old new faults new_faults) two
+    (subst (λ (path : List ℕ). Links (path ∷ []) (gen_request gen) image answer old new faults new_faults) one links)
 
 module _ (gen : Gen) (shelf : Seen Files) (now new : World) where
   abbrev before : World

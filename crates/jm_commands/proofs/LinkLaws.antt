@@ -1,15 +1,14 @@
 -- What `link` does, from what its call answered.
-use Rattle.std.proofs.Common.{◌≡◌, ◌⊎◌, inl, inr, ℕ, ◌≤◌, List, [], ◌∷◌, length, take, Option, Some, None, option_map, Result, Ok, Err, refl, sym, ap, ◌∙◌, subst, arith}
+use Rattle.std.proofs.Common.{◌≡◌, ◌⊎◌, inl, inr, ℕ, ◌≤◌, List, [], ◌∷◌, Option, Some, None, Result, Ok, Err, refl, sym, ap, ◌∙◌, subst, arith}
 use Rattle.jm_bytes.specs.declared.words.Order.{Order}
 use Rattle.jm_outside.specs.Files.{Files, put}
-use Rattle.jm_outside.specs.Outcome.{Rose, Shows, Told}
-use Rattle.jm_outside.specs.Made.{MadeAll, MadePart}
+use Rattle.jm_outside.specs.Outcome.{Shows}
+use Rattle.jm_outside.specs.Made.{MadeAll}
 use Rattle.jm_outside.proofs.MadeLaws.{part_alone, part_of_all}
 use Rattle.jm_link.specs.declared.linking.LinkStop.{LinkStop}
 use Rattle.jm_link.specs.declared.linking.LinkStop.TheVariants as link_stop
 use Rattle.jm_link.specs.declared.linking.Summary.{Summary}
 use Rattle.jm_texts.specs.declared.refusal.Refusal.{Refusal}
-use Rattle.jm_form.specs.Damages.{first_damage}
 use Rattle.jm_jrt.proofs.TreeLaws.{trees_shown_short}
 use Rattle.jm_link.specs.Linked.{LinkedImage, Request}
 use Rattle.jm_link.specs.ImageLinked.{ImageComesTo, ImageLinks}
@@ -19,14 +18,13 @@ use Rattle.jm_commands.specs.declared.complaint.Complaint.TheVariants as complai
 use Rattle.jm_commands.specs.declared.status.Status.TheVariants as status
 use Rattle.jm_commands.specs.declared.stop.Stop.{Stop}
 use Rattle.jm_commands.specs.declared.stop.Stop.TheVariants as stop
-use Rattle.jm_commands.specs.Outcome.{Link, Outcome, damaged, done, link_outcome, linked, not_there, refusing}
-use Rattle.jm_commands.specs.Run.{ImageLinkComesTo, LinkComesFrom, LinkComesTo, OpenedLinkComesTo, Opens, PathLinkComesTo, PutDoes, ReadsFile, ShowsLinked, StepComesTo, StepDoes, outcome_of}
-use Rattle.jm_commands.specs.Sinks.{Gets, GetsFront, Seen}
+use Rattle.jm_commands.specs.Outcome.{Link, Outcome, done, link_outcome, linked, not_there, refusing}
+use Rattle.jm_commands.specs.Run.{ImageLinkComesTo, LinkComesFrom, LinkComesTo, PathLinkComesTo, PutDoes, ShowsLinked, StepComesTo, StepDoes, outcome_of}
 use Rattle.jm_commands.specs.Stops.{stop_of_link}
 use Rattle.jm_commands.specs.World.{World}
-use Rattle.jm_commands.proofs.Gotten.{front_of_nothing, gets_nothing}
+use Rattle.jm_commands.proofs.Gotten.{front_of_nothing}
 use Rattle.jm_commands.proofs.Made.{stays_part}
-use Rattle.jm_commands.proofs.StepLaws.{Unmoved, complained, put_step, rises, step_behind, words_unread}
+use Rattle.jm_commands.proofs.StepLaws.{complains}
 
 -- an image that is laid out shows the trees of its resources
 linked_shown : (order : Order) (result : Result LinkedImage Refusal) → IsLaid order result → ShowsLinked result
@@ -52,11 +50,6 @@ never_done given text is = go given (ap (λ o. o.status) is)
     go (complaint.LongLine k) same = cc
     go complaint.TooManyLines same = cc
 
--- nothing was made and put, and a complaint is all
-complaint_step : (old new : World) → new.input.told ≡ old.input.told → (due : Outcome) (given : Complaint) → due ≡ outcome_of given → new.shelf.told ≡ old.shelf.told → new.out.told ≡ old.out.told → StepDoes due (Err (stop.Complaint given)) old new
-complaint_step old new source due given is files unput =
-    put_step due old new files source (ap (λ o. o.session) is) (Err (stop.Complaint given)) (complained due given old.out new.out is unput)
-
 -- of a link that comes to one of these results, or finds a listed file missing, from what is due then
 module _ (link : Link) (Comes : Result LinkedImage Refusal → Type 0) (Absent : Type 0) (Due : Outcome → Type 0) (old new : World) (source : new.input.told ≡ old.input.told) (as_due : (result : Result LinkedImage Refusal) → Comes result → Due (link_outcome link result)) (as_absent : (listed : List ℕ) → Absent → Due (not_there listed)) where
   abbrev Does : Result (Unit {0}) Stop → Type 0
@@ -81,16 +74,10 @@ module _ (link : Link) (Comes : Result LinkedImage Refusal → Type 0) (Absent :
 
   -- it stopped before anything was put
   pub stopped_linked : (given : LinkStop) → LinksBy Comes Absent link.output (Err given) old.shelf.told new.shelf.told old.shelf.faults new.shelf.faults → new.out.told ≡ old.out.told → Does (Err (stop_of_link given))
-  stopped_linked (link_stop.Refused refusal) (comes, files) unput = inr (
-    refusing refusal,
-    as_due (Err refusal) comes,
-    complaint_step old new source (refusing refusal) (complaint.Refused refusal) refl files unput,
-  )
-  stopped_linked (link_stop.NotThere listed) (none, files) unput = inr (
-    not_there listed,
-    as_absent listed none,
-    complaint_step old new source (not_there listed) (complaint.NotThere listed) refl files unput,
-  )
+  stopped_linked (link_stop.Refused refusal) (comes, files) unput =
+      complains Due [] (refusing refusal) (complaint.Refused refusal) (complaint.Refused refusal) old new (as_due (Err refusal) comes) refl refl (record { files = files; source = source; output = unput })
+  stopped_linked (link_stop.NotThere listed) (none, files) unput =
+      complains Due [] (not_there listed) (complaint.NotThere listed) (complaint.NotThere listed) old new (as_absent listed none) refl refl (record { files = files; source = source; output = unput })
   stopped_linked link_stop.Outside (breaks, rose) unput = broken breaks
     where
       broken : BreaksOff Comes link.output old.shelf.told new.shelf.told → Does (Err stop.Outside)
@@ -140,40 +127,14 @@ module _ (link : Link) (old new : World) (source : new.input.told ≡ old.input.
 -- From an image
 
 module _ (link : Link) (b : List ℕ) (old new : World) (source : new.input.told ≡ old.input.told) where
-  image_due : (result : Result LinkedImage Refusal) → ImageComesTo b link.asked result → OpenedLinkComesTo link b None (link_outcome link result)
+  image_due : (result : Result LinkedImage Refusal) → ImageComesTo b link.asked result → ImageLinkComesTo link b (link_outcome link result)
   image_due result comes = (result, comes, linked_shown link.asked.order result comes.1, refl)
 
-  pub image_put : (summary : Summary) (answer : Result (Unit {0}) Stop) → ImageLinks b link.asked link.output (Ok summary) old.shelf.told new.shelf.told old.shelf.faults new.shelf.faults → PutDoes (done (link.text summary)) answer old.out new.out → StepComesTo (OpenedLinkComesTo link b None) [] answer old new
-  image_put = put_linked link (ImageComesTo b link.asked) ⊥ (OpenedLinkComesTo link b None) old new source image_due (λ listed never. absurd never)
+  pub image_put : (summary : Summary) (answer : Result (Unit {0}) Stop) → ImageLinks b link.asked link.output (Ok summary) old.shelf.told new.shelf.told old.shelf.faults new.shelf.faults → PutDoes (done (link.text summary)) answer old.out new.out → StepComesTo (ImageLinkComesTo link b) [] answer old new
+  image_put = put_linked link (ImageComesTo b link.asked) ⊥ (ImageLinkComesTo link b) old new source image_due (λ listed never. absurd never)
 
-  pub image_stopped : (given : LinkStop) → ImageLinks b link.asked link.output (Err given) old.shelf.told new.shelf.told old.shelf.faults new.shelf.faults → new.out.told ≡ old.out.told → StepComesTo (OpenedLinkComesTo link b None) [] (Err (stop_of_link given)) old new
-  image_stopped = stopped_linked link (ImageComesTo b link.asked) ⊥ (OpenedLinkComesTo link b None) old new source image_due (λ listed never. absurd never)
-
--- the file is no image
-pub link_unopened : (link : Link) (b : List ℕ) (given : Stop) (now : World) → Opens {A = List ℕ} b (Err given) → StepComesTo (OpenedLinkComesTo link b (first_damage b)) [] (Err given) now now
-link_unopened link b (stop.Complaint given) now (damage, found, is) =
-    inr (damaged damage, rw found refl, subst (λ (c : Complaint). StepDoes (damaged damage) (Err (stop.Complaint c)) now now) (sym is) (complaint_step now now refl (damaged damage) (complaint.Damaged damage) refl refl refl))
-link_unopened link b stop.Outside now never = absurd never
-link_unopened link b stop.Memory now none = words_unread (OpenedLinkComesTo link b (first_damage b)) [] now
-
--- a link behind the read of its file
-pub link_read : (link : Link) (path b : List ℕ) (shelf : Seen Files) (now new : World) (answer : Result (Unit {0}) Stop) → ReadsFile shelf.told path (Ok b) → now.shelf.told ≡ shelf.told → shelf.faults ≤ now.shelf.faults → StepComesTo (OpenedLinkComesTo link b (first_damage b)) [] answer now new → StepComesTo (ImageLinkComesTo shelf.told link path) [] answer (record { shelf = shelf; input = now.input; out = now.out }) new
-link_read link path b shelf now new answer has same up (inl fails) = inl (record {
-  failed = fails.failed;
-  files = subst (λ (told : Option Files). MadePart [] told new.shelf.told) same fails.files;
-  source = fails.source;
-  output = fails.output;
-  outside = λ failed. rises shelf now new up (fails.outside failed);
-})
-link_read link path b shelf now new answer has same up (inr (due, is, step)) =
-    inr (due, (Some b, has, is), step_behind shelf now new due answer same up step)
-
--- the file isn't there, or its read failed
-pub link_unread : (link : Link) (path : List ℕ) (given : Stop) (old new : World) → ReadsFile old.shelf.told path (Err given) → Unmoved old new → (given ≡ stop.Outside → Rose old.shelf.faults new.shelf.faults) → StepComesTo (ImageLinkComesTo old.shelf.told link path) [] (Err given) old new
-link_unread link path (stop.Complaint given) old new (none, is) unmoved rose =
-    inr (not_there path, (None, none, refl), subst (λ (c : Complaint). StepDoes (not_there path) (Err (stop.Complaint c)) old new) (sym is) (complaint_step old new unmoved.source (not_there path) (complaint.NotThere path) refl unmoved.files unmoved.output))
-link_unread link path stop.Outside old new read unmoved rose = inl (record { failed = tt; files = stays_part [] old.shelf.told new.shelf.told unmoved.files; source = unmoved.source; output = unmoved.output; outside = λ failed. inl (rose refl) })
-link_unread link path stop.Memory old new read unmoved rose = inl (record { failed = tt; files = stays_part [] old.shelf.told new.shelf.told unmoved.files; source = unmoved.source; output = unmoved.output; outside = λ failed. cc })
+  pub image_stopped : (given : LinkStop) → ImageLinks b link.asked link.output (Err given) old.shelf.told new.shelf.told old.shelf.faults new.shelf.faults → new.out.told ≡ old.out.told → StepComesTo (ImageLinkComesTo link b) [] (Err (stop_of_link given)) old new
+  image_stopped = stopped_linked link (ImageComesTo b link.asked) ⊥ (ImageLinkComesTo link b) old new source image_due (λ listed never. absurd never)
 
 -- by where the modules are
 pub link_comes : (told : Option Files) (link : Link) (image : Option (List ℕ)) (answer : Result (Unit {0}) Stop) (old new : World) → link.image ≡ image → StepComesTo (LinkComesFrom told link image) [] answer old new → StepComesTo (LinkComesTo told link) [] answer old new

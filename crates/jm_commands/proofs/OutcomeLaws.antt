@@ -1,5 +1,5 @@
 -- What all commands have in common.
-use Rattle.std.proofs.Common.{◌≡◌, Bool, true, false, cond, ℕ, List, [], length, Option, Some, None, Result, Ok, Err, refl, ap, ◌∙◌, subst}
+use Rattle.std.proofs.Common.{◌≡◌, ◌≢◌, Bool, true, false, ℕ, List, [], length, Option, Some, None, IsSome, Result, Ok, Err, refl, ap, ◌∙◌, subst}
 use Rattle.jm_form.specs.declared.damage.Damage.{Damage}
 use Rattle.jm_form.specs.declared.rows.Row.{Row}
 use Rattle.jm_form.specs.declared.trees.Holds.{Holds}
@@ -12,6 +12,8 @@ use Rattle.jm_jrt.specs.Stat.{held, stat}
 use Rattle.jm_form.specs.Validity.{look}
 use Rattle.jm_words.specs.declared.commands.Command.{Command}
 use Rattle.jm_words.specs.declared.commands.Command.TheVariants as command
+use Rattle.jm_bytes.specs.declared.words.Order.{Order}
+use Rattle.jm_plugins.specs.declared.Plugin.{Plugin}
 use Rattle.jm_class.specs.declared.class.ClassFault.{ClassFault}
 use Rattle.jm_class.specs.Classes.{ClassData}
 use Rattle.jm_class.specs.ComputedClass.{class_of}
@@ -20,9 +22,11 @@ use Rattle.jm_modinfo.specs.declared.faults.InfoFault.{InfoFault}
 use Rattle.jm_modinfo.specs.ComputedInfo.{info_of}
 use Rattle.jm_outside.specs.Files.{Files}
 use Rattle.jm_commands.specs.declared.complaint.Complaint.{Complaint}
-use Rattle.jm_commands.specs.Run.{CommandComesTo, CommandWith, HasFile}
-use Rattle.jm_commands.specs.Gen.{Gen, gen_of}
-use Rattle.jm_commands.specs.Outcome.{Link, Outcome, early_writes, first_writes, link_of, cat_outcome, class_outcome, command_outcome, describe_outcome, descriptor_outcome, file_outcome, ls_outcome, reads_class, session_fault, session_with, image_outcome, read_path, opened_outcome, outcome_at, plain_outcome}
+use Rattle.jm_commands.specs.declared.image_file.ImageTask.{ImageTask}
+use Rattle.jm_commands.specs.declared.image_file.ImageTask.TheVariants as image_task
+use Rattle.jm_commands.specs.Run.{CommandComesTo, OpenedComesTo, TaskComesTo, TextComesTo}
+use Rattle.jm_commands.specs.Outcome.{Outcome, early_writes, first_writes, gen_of, link_of, cat_outcome, class_outcome, describe_outcome, descriptor_outcome, ls_outcome, session_fault, session_with, image_outcome, task_of}
+use Rattle.jm_commands.specs.Outcome.{Task, Puts, Describes, OnImage, Links, Makes}
 
 -- Whether a session is due
 
@@ -35,11 +39,6 @@ ls_session path (Ok holds) = refl
 ls_session path (Err NotThere) = refl
 ls_session path (Err (BadNode at)) = refl
 ls_session path (Err NotFolder) = refl
-
-pub plain_session : (given : Command) → (plain_outcome given).session ≡ None
-plain_session (command.Help jobs) = refl
-plain_session (command.Version jobs) = refl
-plain_session _ = refl
 
 descriptor_session : (path : List ℕ) (d : Result Descriptor InfoFault) → (descriptor_outcome path d).session ≡ None
 descriptor_session path (Ok d) = refl
@@ -68,29 +67,19 @@ session_writes : (b output : List ℕ) (fault : Option Complaint) → (session_w
 session_writes b output None = refl
 session_writes b output (Some given) = refl
 
--- the command on an image that makes files
-abbrev pub extracts : Command → Bool
-extracts (command.Extract image dir include jobs) = true
-extracts _ = false
+-- the tasks that make files
+abbrev pub makes_files : Task → Bool
+makes_files (OnImage path (image_task.Extract dir include)) = true
+makes_files (Links link) = true
+makes_files (Makes gen) = true
+makes_files _ = false
 
-image_writes : (given : Command) (b text : List ℕ) → extracts given ≡ false → (image_outcome given b text).writes ≡ []
-image_writes (command.Cat image name jobs) b text other = cat_writes name (look b name)
-image_writes (command.List image include jobs) b text other = refl
-image_writes (command.Ls image path jobs) b text other = ls_writes path (held (stat b path))
-image_writes (command.Serve image jobs) b text other = session_writes b (replies b (answered_in text)) (session_fault (length (lines_of text)) (length (answered_in text)))
-image_writes (command.Info image jobs) b text other = refl
-image_writes (command.Extract image dir include jobs) b text other = cc
-image_writes (command.Verify image jobs) b text other = refl
-image_writes _ b text other = refl
-
-opened_writes : (given : Command) (b : List ℕ) (damage : Option Damage) (text : List ℕ) → extracts given ≡ false → (opened_outcome given b damage text).writes ≡ []
-opened_writes given b None text other = image_writes given b text other
-opened_writes given b (Some damage) text other = refl
-
-plain_writes : (given : Command) → (plain_outcome given).writes ≡ []
-plain_writes (command.Help jobs) = refl
-plain_writes (command.Version jobs) = refl
-plain_writes _ = refl
+image_writes : (path : List ℕ) (task : ImageTask) (b text : List ℕ) → makes_files (OnImage path task) ≡ false → (image_outcome task b text).writes ≡ []
+image_writes path (image_task.Cat name) b text other = cat_writes name (look b name)
+image_writes path (image_task.Ls folder) b text other = ls_writes folder (held (stat b folder))
+image_writes path image_task.Serve b text other = session_writes b (replies b (answered_in text)) (session_fault (length (lines_of text)) (length (answered_in text)))
+image_writes path (image_task.Extract dir include) b text other = cc
+image_writes path _ b text other = refl
 
 descriptor_writes : (path : List ℕ) (d : Result Descriptor InfoFault) → (descriptor_outcome path d).writes ≡ []
 descriptor_writes path (Ok d) = refl
@@ -100,21 +89,29 @@ class_writes : (path : List ℕ) (c : Result ClassData ClassFault) → (class_ou
 class_writes path (Ok c) = descriptor_writes path (info_of c)
 class_writes path (Err fault) = refl
 
-file_writes : (given : Command) (path : List ℕ) (found : Option (List ℕ)) (text : List ℕ) → extracts given ≡ false → (file_outcome given path found text).writes ≡ []
-file_writes given path None text other = refl
-file_writes given path (Some b) text other = go (reads_class given)
+-- only `link`, `gen` and `extract` make files
+pub task_writes : (told : Option Files) (rest : Option (List ℕ)) (task : Task) (due : Outcome) → makes_files task ≡ false → TaskComesTo told rest task due → due.writes ≡ []
+task_writes told rest (Puts text) due other is = ap (λ o. o.writes) is
+task_writes told rest (Describes path) due other (None, has, is) = ap (λ o. o.writes) is
+task_writes told rest (Describes path) due other (Some b, has, is) = ap (λ o. o.writes) is ∙ class_writes path (class_of b)
+task_writes told rest (Links link) due other comes = cc
+task_writes told rest (Makes gen) due other comes = cc
+task_writes told rest (OnImage path task) due other (None, has, is) = ap (λ o. o.writes) is
+task_writes told rest (OnImage path task) due other (Some b, has, comes) = opened (first_damage b) comes
   where
-    go : (class : Bool) → (cond class (describe_outcome path b) (opened_outcome given b (first_damage b) text)).writes ≡ []
-    go true = class_writes path (class_of b)
-    go false = opened_writes given b (first_damage b) text other
+    opened : (damage : Option Damage) → OpenedComesTo (TextComesTo rest (image_outcome task b)) damage due → due.writes ≡ []
+    opened None (text, told_text, is) = ap (λ o. o.writes) is ∙ image_writes path task b text other
+    opened (Some damage) is = ap (λ o. o.writes) is
 
-writes_at : (given : Command) (path found : Option (List ℕ)) (text : List ℕ) → extracts given ≡ false → (outcome_at given path found text).writes ≡ []
-writes_at given None found text other = plain_writes given
-writes_at given (Some path) found text other = file_writes given path found text other
+-- Which commands are links, and which make modules
 
--- of the commands on one file or none, only `extract` makes files
-pub command_writes : (given : Command) (found : Option (List ℕ)) (text : List ℕ) → extracts given ≡ false → (command_outcome given found text).writes ≡ []
-command_writes given found text other = writes_at given (read_path given) found text other
+pub only_link : (given : Command) → IsSome (link_of (task_of given)) → ((dirs roots : List (List ℕ)) (output : List ℕ) (plugins : List Plugin) (order : Order) (bind : Bool) (from_image : Option (List ℕ)) (jobs : ℕ) → given ≢ command.Link dirs roots output plugins order bind from_image jobs) → ⊥
+only_link (command.Link dirs roots output plugins order bind from_image jobs) is other = other dirs roots output plugins order bind from_image jobs refl
+only_link _ is other = cc
+
+pub only_gen : (given : Command) → IsSome (gen_of (task_of given)) → ((dir : List ℕ) (modules classes seed jobs : ℕ) → given ≢ command.Gen dir modules classes seed jobs) → ⊥
+only_gen (command.Gen dir modules classes seed jobs) is other = other dir modules classes seed jobs refl
+only_gen _ is other = cc
 
 -- No number of jobs shows in what a command comes to
 
@@ -134,55 +131,12 @@ with_jobs n (command.Help jobs) = command.Help n
 with_jobs n (command.Version jobs) = command.Version n
 
 module _ (n : ℕ) where
-  pub read_path-with_jobs : (given : Command) → read_path (with_jobs n given) ≡ read_path given
-  read_path-with_jobs (command.Cat image name jobs) = refl
-  read_path-with_jobs _ = refl
-
-  plain-with_jobs : (given : Command) → plain_outcome (with_jobs n given) ≡ plain_outcome given
-  plain-with_jobs (command.Help jobs) = refl
-  plain-with_jobs _ = refl
-
-  image-with_jobs : (given : Command) (b text : List ℕ) → image_outcome (with_jobs n given) b text ≡ image_outcome given b text
-  image-with_jobs (command.Cat image name jobs) b text = refl
-  image-with_jobs _ b text = refl
-
-  opened-with_jobs : (given : Command) (b : List ℕ) (damage : Option Damage) (text : List ℕ) → opened_outcome (with_jobs n given) b damage text ≡ opened_outcome given b damage text
-  opened-with_jobs given b None text = image-with_jobs given b text
-  opened-with_jobs given b (Some damage) text = refl
-
-  class-with_jobs : (given : Command) → reads_class (with_jobs n given) ≡ reads_class given
-  class-with_jobs (command.Describe file jobs) = refl
-  class-with_jobs _ = refl
-
-  file-with_jobs : (given : Command) (path : List ℕ) (found : Option (List ℕ)) (text : List ℕ) → file_outcome (with_jobs n given) path found text ≡ file_outcome given path found text
-  file-with_jobs given path None text = refl
-  file-with_jobs given path (Some b) text = rw (class-with_jobs given) (ap (λ due. cond (reads_class given) (describe_outcome path b) due) (opened-with_jobs given b (first_damage b) text))
-
-  outcome-with_jobs : (given : Command) (path found : Option (List ℕ)) (text : List ℕ) → outcome_at (with_jobs n given) path found text ≡ outcome_at given path found text
-  outcome-with_jobs given None found text = plain-with_jobs given
-  outcome-with_jobs given (Some path) found text = file-with_jobs given path found text
-
-  pub command_outcome-with_jobs : (given : Command) (found : Option (List ℕ)) (text : List ℕ) → command_outcome (with_jobs n given) found text ≡ command_outcome given found text
-  command_outcome-with_jobs given found text = rw (read_path-with_jobs given) (outcome-with_jobs given (read_path given) found text)
-
-  link_of-with_jobs : (given : Command) → link_of (with_jobs n given) ≡ link_of given
-  link_of-with_jobs (command.Link dirs roots output plugins order bind from_image jobs) = refl
-  link_of-with_jobs _ = refl
-
-  gen_of-with_jobs : (given : Command) → gen_of (with_jobs n given) ≡ gen_of given
-  gen_of-with_jobs (command.Gen dir modules classes seed jobs) = refl
-  gen_of-with_jobs _ = refl
+  pub task-with_jobs : (given : Command) → task_of (with_jobs n given) ≡ task_of given
+  task-with_jobs (command.Help jobs) = refl
+  task-with_jobs _ = refl
 
   pub early-with_jobs : (given : Command) → early_writes (with_jobs n given) ≡ early_writes given
-  early-with_jobs given = ap first_writes (gen_of-with_jobs given)
+  early-with_jobs given = ap first_writes (task-with_jobs given)
 
   pub comes-with_jobs : (told : Option Files) (rest : Option (List ℕ)) (given : Command) (due : Outcome) → CommandComesTo told rest (with_jobs n given) due → CommandComesTo told rest given due
-  comes-with_jobs told rest given due comes =
-      go (gen_of given) (link_of given)
-      (subst (λ o. CommandWith told rest (with_jobs n given) o (link_of given) due) (gen_of-with_jobs given)
-      (subst (λ o. CommandWith told rest (with_jobs n given) (gen_of (with_jobs n given)) o due) (link_of-with_jobs given) comes))
-    where
-      go : (gen : Option Gen) (link : Option Link) → CommandWith told rest (with_jobs n given) gen link due → CommandWith told rest given gen link due
-      go (Some gen) link same = same
-      go None (Some link) same = same
-      go None None (found, has, (text, told_text, is)) = (found, subst (λ path. HasFile told path found) (read_path-with_jobs given) has, (text, told_text, is ∙ command_outcome-with_jobs given found text))
+  comes-with_jobs told rest given due = subst (λ (task : Task). TaskComesTo told rest task due) (task-with_jobs given)

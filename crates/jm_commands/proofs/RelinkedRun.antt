@@ -1,7 +1,5 @@
 -- A run that relinks an image gives it back.
-use Rattle.std.proofs.Common.{◌≡◌, inl, inr, ℕ, List, [], ◌∷◌, Option, Some, None, Result, Ok, Err, refl, sym, ap, subst, ◌∙◌, option_map}
-use Rattle.jm_bytes.proofs.Choice.{same_some}
-use Rattle.jm_outside.specs.Holds.{Holds}
+use Rattle.std.proofs.Common.{◌≡◌, inl, inr, ℕ, List, [], ◌∷◌, Option, Some, None, Result, Ok, Err, sym, ap, subst, ◌∙◌}
 use Rattle.jm_outside.specs.Made.{MadeAll, Writes}
 use Rattle.jm_form.specs.Damages.{first_damage}
 use Rattle.jm_form.specs.Validity.{Valid}
@@ -9,19 +7,16 @@ use Rattle.jm_form.proofs.Validity.{valid_sound}
 use Rattle.jm_texts.specs.declared.refusal.Refusal.{Refusal}
 use Rattle.jm_link.specs.ImageLinked.{ImageComesTo}
 use Rattle.jm_link.specs.Linked.{LinkedImage}
-use Rattle.jm_link.specs.Relinked.{Relinks}
 use Rattle.jm_link.proofs.GivenBack.{never_refused, same_bytes}
 use Rattle.jm_outside.specs.Files.{Files, file as read}
 use Rattle.jm_outside.specs.Outcome.{Shows}
 use Rattle.jm_words.specs.declared.commands.Command.{Command}
-use Rattle.jm_words.specs.declared.commands.Command.TheVariants as command
 use Rattle.jm_words.specs.declared.errors.WordsError.{WordsError}
 use Rattle.jm_commands.specs.declared.status.Status.{Status}
 use Rattle.jm_commands.specs.declared.status.Status.TheVariants as status
-use Rattle.jm_commands.specs.Gen.{gen_of}
-use Rattle.jm_commands.specs.Outcome.{Link, Outcome, link_of, link_outcome, linked}
+use Rattle.jm_commands.specs.Outcome.{Link, Outcome, Task, Links, link_of, link_outcome, task_of}
 use Rattle.jm_commands.specs.RelinkedRun.{IsRelinked, RelinksFile, RelinksRun, link_in}
-use Rattle.jm_commands.specs.Run.{CommandComesTo, EndsWith, FoundLinkComesTo, HasFile, ImageLinkComesTo, IsFailed, LinkComesFrom, LinkComesTo, OpenedLinkComesTo, RunComesTo, RunDoes, WordsComeTo}
+use Rattle.jm_commands.specs.Run.{EndsWith, FoundComesTo, HasFile, ImageComes, ImageLinkComesTo, IsFailed, LinkComesFrom, LinkComesTo, OpenedComesTo, RunComesTo, RunDoes, TaskComesTo, WordsComeTo}
 use Rattle.jm_commands.specs.Sinks.{Seen}
 use Rattle.jm_commands.specs.World.{World}
 
@@ -67,37 +62,33 @@ module _ (link : Link) (b : List ℕ) where
     valid : Valid b
     valid = subst Valid (sym file.relinks.made) file.relinks.laid.valid
 
-    opened : OpenedLinkComesTo link b (first_damage b) due → (due.status ≡ status.Done) × (due.writes ≡ (link.output, b) ∷ [])
-    opened comes = go (subst (λ d. OpenedLinkComesTo link b d due) (valid_sound b valid) comes)
+    opened : OpenedComesTo (ImageLinkComesTo link b) (first_damage b) due → (due.status ≡ status.Done) × (due.writes ≡ (link.output, b) ∷ [])
+    opened comes = go (subst (λ d. OpenedComesTo (ImageLinkComesTo link b) d due) (valid_sound b valid) comes)
       where
-        go : OpenedLinkComesTo link b None due → (due.status ≡ status.Done) × (due.writes ≡ (link.output, b) ∷ [])
+        go : ImageLinkComesTo link b due → (due.status ≡ status.Done) × (due.writes ≡ (link.output, b) ∷ [])
         go (result, links, shows, is) = by_result result links is
 
-    found_is : (found : Option (List ℕ)) → HasFile told (Some file.path) found → found ≡ Some b
+    found_is : (found : Option (List ℕ)) → HasFile told file.path found → found ≡ Some b
     found_is found has = subst (λ o. Shows o (λ files. found ≡ files_at files)) file.tells has ∙ file.found
       where
         files_at : Files → Option (List ℕ)
         files_at files = read files file.path
 
-    by_image : ImageLinkComesTo told link file.path due → (due.status ≡ status.Done) × (due.writes ≡ (link.output, b) ∷ [])
-    by_image (found, has, comes) = opened (subst (λ o. FoundLinkComesTo link file.path o due) (found_is found has) comes)
+    by_image : ImageComes told file.path (ImageLinkComesTo link) due → (due.status ≡ status.Done) × (due.writes ≡ (link.output, b) ∷ [])
+    by_image (found, has, comes) = opened (subst (λ o. FoundComesTo (λ bytes. OpenedComesTo (ImageLinkComesTo link bytes) (first_damage bytes)) file.path o due) (found_is found has) comes)
 
     by_link : LinkComesTo told link due → (due.status ≡ status.Done) × (due.writes ≡ (link.output, b) ∷ [])
     by_link comes = by_image (subst (λ o. LinkComesFrom told link o due) file.image comes)
 
 module _ (due : Outcome) (is : Status) (old new : World) (err new_err : Seen (List ℕ)) (does : RunDoes due is old new err new_err) where
-  by_command : (given : Command) (link : Option Link) → link_of given ≡ link → CommandComesTo old.shelf.told old.input.told given due → RelinksRun link is old.shelf.told new.shelf.told
-  by_command given None none comes = tt
-  by_command given (Some link) asks comes = λ b file.
-      let makes = by_link link b old.shelf.told file due (as_link given link asks comes) in
+  by_task : (task : Task) → TaskComesTo old.shelf.told old.input.told task due → RelinksRun (link_of task) is old.shelf.told new.shelf.told
+  by_task (Links link) comes = λ b file.
+      let makes = by_link link b old.shelf.told file due comes in
       ends_so link b due is old new err new_err makes.0 makes.1 does.ends
-    where
-      as_link : (given : Command) (link : Link) → link_of given ≡ Some link → CommandComesTo old.shelf.told old.input.told given due → LinkComesTo old.shelf.told link due
-      as_link (command.Link dirs roots output plugins order bind from_image jobs) link asks comes = subst (λ l. LinkComesTo old.shelf.told l due) (same_some _ link asks) comes
-      as_link _ link asks comes = cc
+  by_task _ comes = tt
 
   by_words : (asked : Result Command WordsError) → WordsComeTo old.shelf.told old.input.told asked due → RelinksRun (link_in asked) is old.shelf.told new.shelf.told
-  by_words (Ok given) comes = by_command given (link_of given) refl comes
+  by_words (Ok given) comes = by_task (task_of given) comes
   by_words (Err fault) comes = tt
 
 pub run_relinks : (asked : Result Command WordsError) (early : Writes) (is : Status) (old new : World) (err new_err : Seen (List ℕ)) → RunComesTo (WordsComeTo old.shelf.told old.input.told asked) early is old new err new_err → RelinksRun (link_in asked) is old.shelf.told new.shelf.told

@@ -11,11 +11,11 @@ use Rattle.jm_commands.specs.declared.status.Status.TheVariants as status
 use Rattle.jm_commands.specs.declared.stop.Stop.{Stop}
 use Rattle.jm_commands.specs.declared.stop.Stop.TheVariants as stop
 use Rattle.jm_commands.specs.Outcome.{Outcome}
-use Rattle.jm_commands.specs.Run.{DoesAll, DoesFront, EndsWith, IsFailed, IsFailure, ReportDoes, RunComesTo, RunDoes, StepComesTo, StepDoes, status_of}
+use Rattle.jm_commands.specs.Run.{DoesAll, DoesFront, EndsStep, EndsWith, IsFailed, IsFailure, ReportDoes, RunComesTo, RunDoes, StepComesTo, StepDoes, status_of}
 use Rattle.jm_commands.specs.SessionHeld.{EndsAs, EndsBroken, SourceRead, StopsAs}
 use Rattle.jm_commands.specs.Sinks.{Gets, GetsFront, Seen}
 use Rattle.jm_commands.specs.Texts.{line_of}
-use Rattle.jm_commands.specs.World.{AnyRose, World}
+use Rattle.jm_commands.specs.World.{World}
 use Rattle.jm_commands.proofs.Gotten.{front_of_all, front_of_nothing, gets_nothing}
 
 -- a complaint's line was put
@@ -147,11 +147,11 @@ module _ (due : Outcome) (old new : World) where
 
 -- from what a step comes to, whatever is due
 module _ (Due : Outcome → Type 0) (early : Writes) (old new : World) where
-  pub comes_done : (err : Seen (List ℕ)) → StepComesTo Due early (Ok tt) old new → RunComesTo Due early status.Done old new err err
+  comes_done : (err : Seen (List ℕ)) → StepComesTo Due early (Ok tt) old new → RunComesTo Due early status.Done old new err err
   comes_done err (inl fails) = absurd fails.failed
   comes_done err (inr (due, is, step)) = inr (due, is, ran_done due old new err step)
 
-  pub comes_outside : (err : Seen (List ℕ)) → StepComesTo Due early (Err stop.Outside) old new → RunComesTo Due early status.Outside old new err err
+  comes_outside : (err : Seen (List ℕ)) → StepComesTo Due early (Err stop.Outside) old new → RunComesTo Due early status.Outside old new err err
   comes_outside err (inl fails) = inl (record {
     failed = inl refl;
     files = fails.files;
@@ -162,10 +162,16 @@ module _ (Due : Outcome → Type 0) (early : Writes) (old new : World) where
   })
   comes_outside err (inr (due, is, step)) = inr (due, is, ran_outside due old new err step)
 
-  pub comes_memory : (err : Seen (List ℕ)) → StepComesTo Due early (Err stop.Memory) old new → RunComesTo Due early status.Memory old new err err
+  comes_memory : (err : Seen (List ℕ)) → StepComesTo Due early (Err stop.Memory) old new → RunComesTo Due early status.Memory old new err err
   comes_memory err (inl fails) = inl (record { failed = inr refl; files = fails.files; source = fails.source; output = fails.output; line = refl; outside = λ failed. cc })
   comes_memory err (inr (due, is, step)) = inr (due, is, ran_memory due old new err step)
 
-  pub comes_complaint : (given : Complaint) (is : Status) (err new_err : Seen (List ℕ)) → StepComesTo Due early (Err (stop.Complaint given)) old new → ReportDoes given is err new_err → RunComesTo Due early is old new err new_err
+  comes_complaint : (given : Complaint) (is : Status) (err new_err : Seen (List ℕ)) → StepComesTo Due early (Err (stop.Complaint given)) old new → ReportDoes given is err new_err → RunComesTo Due early is old new err new_err
   comes_complaint given is err new_err (inl fails) report = absurd fails.failed
   comes_complaint given is err new_err (inr (due, comes, step)) report = inr (due, comes, ran_complaint due old new given is err new_err step report)
+
+  pub comes_ended : (answer : Result (Unit {0}) Stop) (is : Status) (err new_err : Seen (List ℕ)) → StepComesTo Due early answer old new → EndsStep answer is err new_err → RunComesTo Due early is old new err new_err
+  comes_ended (Ok _) is err new_err step (same, stays) = rw (same, stays) (comes_done err step)
+  comes_ended (Err (stop.Complaint given)) is err new_err step report = comes_complaint given is err new_err step report
+  comes_ended (Err stop.Outside) is err new_err step (same, stays) = rw (same, stays) (comes_outside err step)
+  comes_ended (Err stop.Memory) is err new_err step (same, stays) = rw (same, stays) (comes_memory err step)

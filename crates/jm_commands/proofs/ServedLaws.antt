@@ -1,5 +1,5 @@
 -- What a run did to the source: nothing, but by a session.
-use Rattle.std.proofs.Common.{◌≡◌, ℕ, zero, suc, List, [], ◌++◌, take, Bool, true, false, cond, Option, Some, None, option_map, Result, Ok, Err, inl, inr, refl, sym, ap, ◌∙◌, subst, append-nil}
+use Rattle.std.proofs.Common.{◌≡◌, ℕ, zero, suc, List, [], ◌++◌, take, Option, Some, None, option_map, Result, Ok, Err, inl, inr, refl, ap, ◌∙◌, subst, append-nil}
 use Rattle.jm_bytes.proofs.Choice.{same_some}
 use Rattle.jm_extract.specs.Extracted.{extracted}
 use Rattle.jm_outside.specs.Made.{Writes, written}
@@ -7,82 +7,70 @@ use Rattle.jm_form.specs.declared.damage.Damage.{Damage}
 use Rattle.jm_form.specs.Damages.{first_damage}
 use Rattle.jm_form.specs.Validity.{look}
 use Rattle.jm_jrt.specs.Stat.{held, stat}
-use Rattle.jm_jrt.specs.Lines.{lines_of, replies}
+use Rattle.jm_jrt.specs.Lines.{replies}
 use Rattle.jm_jrt.specs.Sessions.{answered_in}
 use Rattle.jm_texts.specs.declared.refusal.Refusal.{Refusal}
 use Rattle.jm_link.specs.Linked.{LinkedImage}
 use Rattle.jm_outside.specs.Files.{Files}
 use Rattle.jm_outside.specs.Outcome.{PutsFront, Told}
 use Rattle.jm_words.specs.declared.commands.Command.{Command}
-use Rattle.jm_words.specs.declared.commands.Command.TheVariants as command
 use Rattle.jm_words.specs.declared.errors.WordsError.{WordsError}
 use Rattle.jm_commands.specs.declared.complaint.Complaint.{Complaint}
+use Rattle.jm_commands.specs.declared.image_file.ImageTask.{ImageTask}
+use Rattle.jm_commands.specs.declared.image_file.ImageTask.TheVariants as image_task
 use Rattle.jm_commands.specs.declared.status.Status.{Status}
 use Rattle.jm_commands.specs.declared.status.Status.TheVariants as status
-use Rattle.jm_commands.specs.Gen.{Gen, gen_of, made_first}
-use Rattle.jm_commands.specs.Outcome.{Link, Outcome, command_outcome, describe_outcome, file_outcome, gen_link, image_outcome, link_of, link_outcome, opened_outcome, outcome_at, read_path, reads_class, session_fault, session_outcome, session_with}
-use Rattle.jm_commands.specs.Run.{CommandComesTo, CommandWith, EndsWith, HasFile, IsFailed, LinkComesFrom, LinkComesTo, OpenedLinkComesTo, RunComesTo, RunDoes, WordsComeTo}
+use Rattle.jm_commands.specs.Gen.{made_first}
+use Rattle.jm_commands.specs.Outcome.{Link, Outcome, gen_link, image_outcome, link_outcome, session_outcome, session_with, task_of}
+use Rattle.jm_commands.specs.Outcome.{Task, Puts, Describes, OnImage, Links, Makes}
+use Rattle.jm_commands.specs.Run.{EndsWith, HasFile, ImageLinkComesTo, IsFailed, LinkComesFrom, LinkComesTo, OpenedComesTo, RunComesTo, RunDoes, TaskComesTo, TextComesTo, WordsComeTo}
 use Rattle.jm_commands.specs.Served.{ServesRun, served, served_in}
 use Rattle.jm_commands.specs.SessionHeld.{EndsAs, NotBegun, SourceRead}
 use Rattle.jm_commands.specs.Sinks.{Gets, GetsFront, Seen}
 use Rattle.jm_commands.specs.World.{World}
 use Rattle.jm_commands.proofs.ExtractLaws.{extract_session}
-use Rattle.jm_commands.proofs.OutcomeLaws.{cat_session, describe_session, ls_session, plain_session}
+use Rattle.jm_commands.proofs.OutcomeLaws.{cat_session, describe_session, ls_session}
 use Rattle.jm_commands.proofs.StepLaws.{not_begun}
 
 -- A session is due of `serve` alone
 
-image_session : (given : Command) (b text : List ℕ) → served given ≡ None → (image_outcome given b text).session ≡ None
-image_session (command.Cat image name jobs) b text none = cat_session name (look b name)
-image_session (command.Ls image path jobs) b text none = ls_session path (held (stat b path))
-image_session (command.Extract image dir include jobs) b text none = extract_session dir (extracted b include)
-image_session (command.Serve image jobs) b text none = cc
-image_session _ b text none = refl
-
-opened_session : (given : Command) (b : List ℕ) (damage : Option Damage) (text : List ℕ) → served given ≡ None → (opened_outcome given b damage text).session ≡ None
-opened_session given b None text none = image_session given b text none
-opened_session given b (Some damage) text none = refl
-
-file_session : (given : Command) (path : List ℕ) (found : Option (List ℕ)) (text : List ℕ) → served given ≡ None → (file_outcome given path found text).session ≡ None
-file_session given path None text none = refl
-file_session given path (Some b) text none = go (reads_class given)
-  where
-    go : (class : Bool) → (cond class (describe_outcome path b) (opened_outcome given b (first_damage b) text)).session ≡ None
-    go true = describe_session path b
-    go false = opened_session given b (first_damage b) text none
-
-session_at : (given : Command) (path found : Option (List ℕ)) (text : List ℕ) → served given ≡ None → (outcome_at given path found text).session ≡ None
-session_at given None found text none = plain_session given
-session_at given (Some path) found text none = file_session given path found text none
-
-command_session : (given : Command) (found : Option (List ℕ)) (text : List ℕ) → served given ≡ None → (command_outcome given found text).session ≡ None
-command_session given found text none = session_at given (read_path given) found text none
+image_session : (path : List ℕ) (task : ImageTask) (b text : List ℕ) → served (OnImage path task) ≡ None → (image_outcome task b text).session ≡ None
+image_session path (image_task.Cat name) b text none = cat_session name (look b name)
+image_session path (image_task.Ls folder) b text none = ls_session folder (held (stat b folder))
+image_session path (image_task.Extract dir include) b text none = extract_session dir (extracted b include)
+image_session path image_task.Serve b text none = cc
+image_session path _ b text none = refl
 
 link_session : (link : Link) (result : Result LinkedImage Refusal) → (link_outcome link result).session ≡ None
 link_session link (Ok image) = refl
 link_session link (Err refusal) = refl
 
+-- an image is opened, and what comes of it without a damage has no session
+opened_session : (Sound : Outcome → Type 0) (due : Outcome) → (Sound due → due.session ≡ None) → (damage : Option Damage) → OpenedComesTo Sound damage due → due.session ≡ None
+opened_session Sound due alone None comes = alone comes
+opened_session Sound due alone (Some damage) is = ap (λ o. o.session) is
+
 -- what a link comes to
 linked_session : (told : Option Files) (link : Link) (due : Outcome) → LinkComesTo told link due → due.session ≡ None
 linked_session told link due comes = from link.image comes
   where
-    opened : (b : List ℕ) (damage : Option Damage) → OpenedLinkComesTo link b damage due → due.session ≡ None
-    opened b None (result, comes, shows, is) = ap (λ o. o.session) is ∙ link_session link result
-    opened b (Some damage) is = ap (λ o. o.session) is
-
     from : (image : Option (List ℕ)) → LinkComesFrom told link image due → due.session ≡ None
     from None (inl (result, comes, shows, is)) = ap (λ o. o.session) is ∙ link_session link result
     from None (inr (listed, never, is)) = ap (λ o. o.session) is
     from (Some path) (None, has, is) = ap (λ o. o.session) is
-    from (Some path) (Some b, has, comes) = opened b (first_damage b) comes
+    from (Some path) (Some b, has, comes) =
+        opened_session (ImageLinkComesTo link b) due (λ (result, comes, shows, is). ap (λ o. o.session) is ∙ link_session link result) (first_damage b) comes
 
-due_session : (told : Option Files) (rest : Option (List ℕ)) (given : Command) (due : Outcome) → served given ≡ None → CommandComesTo told rest given due → due.session ≡ None
-due_session told rest given due none comes = go (gen_of given) (link_of given) comes
-  where
-    go : (gen : Option Gen) (link : Option Link) → CommandWith told rest given gen link due → due.session ≡ None
-    go (Some gen) link (linked, comes, is) = ap (λ o. o.session) is ∙ linked_session (option_map (λ files. written files (made_first gen)) told) (gen_link gen) linked comes
-    go None (Some link) comes = linked_session told link due comes
-    go None None (found, has, (text, told_text, is)) = ap (λ o. o.session) is ∙ command_session given found text none
+due_session : (told : Option Files) (rest : Option (List ℕ)) (task : Task) (due : Outcome) → served task ≡ None → TaskComesTo told rest task due → due.session ≡ None
+due_session told rest (Puts text) due none is = ap (λ o. o.session) is
+due_session told rest (Describes path) due none (None, has, is) = ap (λ o. o.session) is
+due_session told rest (Describes path) due none (Some b, has, is) = ap (λ o. o.session) is ∙ describe_session path b
+due_session told rest (OnImage path task) due none (None, has, is) = ap (λ o. o.session) is
+due_session told rest (OnImage path task) due none (Some b, has, comes) =
+    opened_session (TextComesTo rest (image_outcome task b)) due (λ (text, told_text, is). ap (λ o. o.session) is ∙ image_session path task b text none) (first_damage b) comes
+due_session told rest (Links link) due none comes = linked_session told link due comes
+due_session told rest (Makes gen) due none (linked, comes, is) =
+    ap (λ o. o.session) is ∙ linked_session (option_map (λ files. written files (made_first gen)) told) (gen_link gen) linked comes
 
 -- Nothing was put
 
@@ -119,8 +107,8 @@ module _ (due : Outcome) (old new : World) (err new_err : Seen (List ℕ)) (noth
 
 -- The run
 
-serve_of : (given : Command) (image : List ℕ) → served given ≡ Some image → (jobs : ℕ) × (given ≡ command.Serve image jobs)
-serve_of (command.Serve path jobs) image is = (jobs, ap (λ (p : List ℕ). command.Serve p jobs) (same_some path image is))
+serve_of : (task : Task) (image : List ℕ) → served task ≡ Some image → task ≡ OnImage image image_task.Serve
+serve_of (OnImage path image_task.Serve) image is = ap (λ (p : List ℕ). OnImage p image_task.Serve) (same_some path image is)
 serve_of _ image is = cc
 
 session_is : (b output : List ℕ) (fault : Option Complaint) → (session_with b output fault).session ≡ Some b
@@ -134,30 +122,25 @@ module _ (due : Outcome) (is : Status) (old new : World) (err new_err : Seen (Li
   unbegun : due.session ≡ None → due.output ≡ [] → NotBegun old new
   unbegun none nothing = record { source = unread none; output = ends_unput due old new err new_err nothing is does.ends }
 
-  by_damage : (image b text : List ℕ) (jobs : ℕ) → HasFile old.shelf.told (Some image) (Some b) → (damage : Option Damage) → first_damage b ≡ damage → due ≡ opened_outcome (command.Serve image jobs) b damage text → ServesRun (Some image) is old new
-  by_damage image b text jobs has (Some damage) found same = inl (unbegun (ap (λ o. o.session) same) (ap (λ o. o.output) same))
-  by_damage image b text jobs has None sound same = go (subst (λ (o : Option (List ℕ)). SourceRead o (IsFailed is) (EndsAs is) old new) (ap (λ o. o.session) same ∙ session_is b (replies b (answered_in text)) _) does.source)
+  by_damage : (image b : List ℕ) → HasFile old.shelf.told image (Some b) → (damage : Option Damage) → first_damage b ≡ damage → OpenedComesTo (TextComesTo old.input.told (session_outcome b)) damage due → ServesRun (Some image) is old new
+  by_damage image b has (Some damage) found same = inl (unbegun (ap (λ o. o.session) same) (ap (λ o. o.output) same))
+  by_damage image b has None sound (text, told_text, same) = go (subst (λ (o : Option (List ℕ)). SourceRead o (IsFailed is) (EndsAs is) old new) (ap (λ o. o.session) same ∙ session_is b (replies b (answered_in text)) _) does.source)
     where
       go : SourceRead (Some b) (IsFailed is) (EndsAs is) old new → ServesRun (Some image) is old new
       go (inl (failed, begun)) = inl begun
       go (inr held) = inr (b, has, sound, held)
 
-  by_file : (image text : List ℕ) (jobs : ℕ) (found : Option (List ℕ)) → HasFile old.shelf.told (Some image) found → due ≡ file_outcome (command.Serve image jobs) image found text → ServesRun (Some image) is old new
-  by_file image text jobs None has same = inl (unbegun (ap (λ o. o.session) same) (ap (λ o. o.output) same))
-  by_file image text jobs (Some b) has same = by_damage image b text jobs has (first_damage b) refl same
+  by_image : (image : List ℕ) → TaskComesTo old.shelf.told old.input.told (OnImage image image_task.Serve) due → ServesRun (Some image) is old new
+  by_image image (None, has, same) = inl (unbegun (ap (λ o. o.session) same) (ap (λ o. o.output) same))
+  by_image image (Some b, has, comes) = by_damage image b has (first_damage b) refl comes
 
-  by_command : (given : Command) (session : Option (List ℕ)) → served given ≡ session → CommandComesTo old.shelf.told old.input.told given due → ServesRun session is old new
-  by_command given None none comes = unread (due_session old.shelf.told old.input.told given due none comes)
-  by_command given (Some image) serves comes = go (serve_of given image serves)
-    where
-      go : (jobs : ℕ) × (given ≡ command.Serve image jobs) → ServesRun (Some image) is old new
-      go (jobs, same) = at (subst (λ (c : Command). CommandComesTo old.shelf.told old.input.told c due) same comes)
-        where
-          at : CommandComesTo old.shelf.told old.input.told (command.Serve image jobs) due → ServesRun (Some image) is old new
-          at (found, has, (text, told_text, due_is)) = by_file image text jobs found has due_is
+  by_task : (task : Task) (session : Option (List ℕ)) → served task ≡ session → TaskComesTo old.shelf.told old.input.told task due → ServesRun session is old new
+  by_task task None none comes = unread (due_session old.shelf.told old.input.told task due none comes)
+  by_task task (Some image) serves comes =
+      by_image image (subst (λ (t : Task). TaskComesTo old.shelf.told old.input.told t due) (serve_of task image serves) comes)
 
   by_words : (asked : Result Command WordsError) → WordsComeTo old.shelf.told old.input.told asked due → ServesRun (served_in asked) is old new
-  by_words (Ok given) comes = by_command given (served given) refl comes
+  by_words (Ok given) comes = by_task (task_of given) (served (task_of given)) refl comes
   by_words (Err fault) comes = unread (ap (λ o. o.session) comes)
 
 pub run_serves : (asked : Result Command WordsError) (early : Writes) (is : Status) (old new : World) (err new_err : Seen (List ℕ)) → RunComesTo (WordsComeTo old.shelf.told old.input.told asked) early is old new err new_err → ServesRun (served_in asked) is old new

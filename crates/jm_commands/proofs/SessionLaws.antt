@@ -1,5 +1,5 @@
 -- What a session's step and its run do, from what `serve` answered.
-use Rattle.std.proofs.Common.{◌≡◌, ◌<◌, ◌≤◌, ◌+◌, ℕ, zero, suc, Bool, true, false, cond, List, [], ◌∷◌, ◌++◌, length, take, drop, Option, Some, None, option_map, Result, Ok, Err, inl, inr, refl, sym, ap, ◌∙◌, subst, arith, append-nil}
+use Rattle.std.proofs.Common.{◌≡◌, ◌<◌, ◌≤◌, ◌+◌, ℕ, zero, suc, List, [], ◌∷◌, ◌++◌, length, take, drop, Option, Some, None, option_map, Result, Ok, Err, inl, inr, refl, sym, ap, ◌∙◌, subst, arith}
 use Rattle.std.proofs.lemmas.Bool.{le-ltb, lt-ltb}
 use Rattle.std.proofs.lemmas.List.{length-append, take-append-drop}
 use Rattle.std.proofs.Math.Seq.{take-append_seam}
@@ -9,14 +9,14 @@ use Rattle.jm_outside.specs.Outcome.{CountsFaults, PutsFront, Shows, Told}
 use Rattle.jm_jrt.specs.declared.serve_error.ServeError.{ServeError}
 use Rattle.jm_jrt.specs.declared.serve_error.ServeError.TheVariants as serve_error
 use Rattle.jm_jrt.specs.Lines.{lines_of, replies}
-use Rattle.jm_jrt.specs.Sessions.{Ended, IsTooLong, IsTooMany, IsWhole, PutBehind, Serves, answered_in}
+use Rattle.jm_jrt.specs.Sessions.{Ended, IsTooLong, IsTooMany, PutBehind, Serves, answered_in}
 use Rattle.jm_jrt.proofs.SessionSteps.{replies_append}
 use Rattle.jm_commands.specs.declared.complaint.Complaint.{Complaint}
 use Rattle.jm_commands.specs.declared.complaint.Complaint.TheVariants as complaint
 use Rattle.jm_commands.specs.declared.stop.Stop.{Stop}
 use Rattle.jm_commands.specs.declared.stop.Stop.TheVariants as stop
-use Rattle.jm_commands.specs.Outcome.{Outcome, session_fault, session_outcome, session_with}
-use Rattle.jm_commands.specs.Run.{IsFailure, StepDoes, StepOnText}
+use Rattle.jm_commands.specs.Outcome.{session_fault, session_outcome, session_with}
+use Rattle.jm_commands.specs.Run.{StepDoes, StepOnText}
 use Rattle.jm_commands.specs.SessionHeld.{Held, StopsAs}
 use Rattle.jm_commands.specs.Sinks.{Gets, GetsFront}
 use Rattle.jm_commands.specs.Stops.{stop_of_session}
@@ -128,9 +128,9 @@ module _ (b text : List ℕ) (old new : World) (files : new.shelf.told ≡ old.s
       (front_put old.out.told new.out.told more output (length (replies b (take n (answered_in text)))) is (put ∙ replies_front b n (answered_in text)))
 
 pub session_step : (b : List ℕ) (answered : Result ℕ ServeError) (old new : World) (reads new_reads : Metered) → new.shelf.told ≡ old.shelf.told → Serves b answered old.input.told new.input.told old.out.told new.out.told reads new_reads → CountsFaults old.input.faults new.input.faults (answered ≡ Err serve_error.ReadFault) → CountsFaults old.out.faults new.out.faults (answered ≡ Err serve_error.WriteFault) → StepOnText (session_outcome b) (stop_of_session answered) old new
-session_step b answered old new reads new_reads files serves input out = (
-  serves.text,
-  shows_text old.input.told new.input.told serves.text serves.left serves.told,
+session_step b answered old new reads new_reads files serves input out = inr (
+  session_outcome b serves.text,
+  (serves.text, shows_text old.input.told new.input.told serves.text serves.left serves.told, refl),
   by_answer b serves.text old new files answered serves.left serves.ended serves.put
       (record { answered = answered; ends = refl; reads = reads; new_reads = new_reads; serves = serves }) input out,
 )

@@ -1,32 +1,29 @@
 -- What a step does, from what its calls answered.
-use Rattle.std.proofs.Common.{◌≡◌, ℕ, ◌<◌, ◌≤◌, true, false, List, [], Option, Some, None, is_some, Result, Ok, Err, inl, inr, refl, sym, ap, ◌∙◌, subst, arith, IsErrAnd}
-use Rattle.jm_outside.specs.Made.{MadeAll, Writes}
-use Rattle.jm_outside.proofs.MadeLaws.{part_longer}
+use Rattle.std.proofs.Common.{◌≡◌, ℕ, ◌<◌, ◌≤◌, true, false, List, [], Option, Some, None, is_some, Result, Ok, Err, inl, inr, refl, sym, ap, ◌∙◌, subst, IsErrAnd}
+use Rattle.jm_outside.specs.Made.{MadeAll, MadePart, Writes}
 use Rattle.jm_form.specs.declared.rows.Row.{Row}
 use Rattle.jm_form.specs.Damages.{first_damage}
 use Rattle.jm_jrt.specs.declared.serve_error.ServeError.{ServeError}
 use Rattle.jm_names.specs.UtfForms.{utf}
-use Rattle.jm_outside.specs.Files.{Files, file}
+use Rattle.jm_outside.specs.Files.{Files}
 use Rattle.jm_outside.specs.Outcome.{Rose, Shows, Told}
 use Rattle.jm_words.specs.declared.commands.Command.{Command}
 use Rattle.jm_words.specs.declared.errors.WordsError.{WordsError}
 use Rattle.jm_words.specs.declared.errors.WordsError.TheVariants as error
-use Rattle.jm_words.specs.declared.errors.WordsKind.{WordsKind}
 use Rattle.jm_bytes.specs.Results.{UnlessMemory}
 use Rattle.jm_commands.specs.declared.complaint.Complaint.{Complaint}
 use Rattle.jm_commands.specs.declared.complaint.Complaint.TheVariants as complaint
 use Rattle.jm_commands.specs.declared.stop.Stop.{Stop}
 use Rattle.jm_commands.specs.declared.stop.Stop.TheVariants as stop
 use Rattle.jm_commands.specs.Cat.{content_of}
-use Rattle.jm_commands.specs.Gen.{Gen, gen_of, made_first}
-use Rattle.jm_commands.specs.Outcome.{Link, Outcome, cat_outcome, command_outcome, damaged, early_of, early_writes, faulty, file_outcome, first_writes, link_of, not_there, opened_outcome, outcome_at, plain_outcome, read_path}
-use Rattle.jm_commands.specs.Run.{CommandComesTo, CommandWith, FilesMade, HasFile, IsFailure, GenComesTo, LinkComesTo, Opens, PutDoes, ReadsFile, StepComesTo, StepDoes, StepOnText, WordsComeTo, outcome_of}
+use Rattle.jm_commands.specs.Outcome.{Outcome, cat_outcome, damaged, early_of, early_writes, faulty, not_there}
+use Rattle.jm_commands.specs.Run.{CommandComesTo, FileComesTo, FilesMade, IsFailure, OpenedComesTo, Opens, PutDoes, ReadsFile, StepComesTo, StepDoes, StepOnText, WordsComeTo, outcome_of}
 use Rattle.jm_commands.specs.SessionHeld.{NotBegun, SourceRead}
 use Rattle.jm_commands.specs.Sinks.{Gets, Seen}
+use Rattle.jm_commands.specs.Stops.{stop_of_words}
 use Rattle.jm_commands.specs.World.{AnyRose, World}
 use Rattle.jm_commands.proofs.Gotten.{front_of_nothing, gets_nothing}
 use Rattle.jm_commands.proofs.Made.{stays_all, stays_part}
-use Rattle.jm_commands.proofs.OutcomeLaws.{plain_session}
 use Rattle.jm_outside.proofs.CountLaws.{rose_sooner}
 
 -- an error of a step, by what it was made of
@@ -62,17 +59,6 @@ nothing_found (Some found) name there = cc
 
 -- Steps that read
 
--- what a shelf has at a path, whether it tells its files or not
-abbrev pub told_file : Option Files → Option (List ℕ) → Option (List ℕ)
-told_file None path = None
-told_file (Some files) None = None
-told_file (Some files) (Some path) = file files path
-
-pub has_told_file : (told : Option Files) (path : Option (List ℕ)) → HasFile told path (told_file told path)
-has_told_file told None = tt
-has_told_file None (Some path) = tt
-has_told_file (Some files) (Some path) = refl
-
 -- the text of a source, whether it tells its rest or not
 abbrev pub told_text : Option (List ℕ) → List ℕ
 told_text None = []
@@ -100,27 +86,19 @@ not_begun old new source output = record {
     go None = tt
     go (Some put) = refl
 
-pub source_unread : (session : Option (List ℕ)) (failed : Type 0) (Ends : Result ℕ ServeError → Type 0) (old new : World) → failed → Unmoved old new → SourceRead session failed Ends old new
-source_unread None failed Ends old new fails unmoved = unmoved.source
-source_unread (Some b) failed Ends old new fails unmoved = inl (fails, not_begun old new unmoved.source unmoved.output)
+-- whatever was due
+pub fails_at_once : (Due : Outcome → Type 0) (early : Writes) (answer : Result (Unit {0}) Stop) (old new : World) → IsFailure answer → Unmoved old new → (answer ≡ Err stop.Outside → AnyRose old new) → StepComesTo Due early answer old new
+fails_at_once Due early answer old new fails unmoved rose = inl (record {
+  failed = fails;
+  files = stays_part early old.shelf.told new.shelf.told unmoved.files;
+  source = unmoved.source;
+  output = unmoved.output;
+  outside = rose;
+})
 
-pub failed_first : (due : Outcome) (answer : Result (Unit {0}) Stop) (old new : World) → IsFailure answer → Unmoved old new → (answer ≡ Err stop.Outside → AnyRose old new) → StepDoes due answer old new
-failed_first due (Ok _) old new fails unmoved rose = absurd fails
-failed_first due (Err (stop.Complaint given)) old new fails unmoved rose = absurd fails
-failed_first due (Err stop.Outside) old new fails unmoved rose = record {
-  answers = tt;
-  output = front_of_nothing due.output old.out new.out unmoved.output;
-  files = stays_part due.writes old.shelf.told new.shelf.told unmoved.files;
-  source = source_unread due.session _ _ old new fails unmoved;
-  outside = rose;
-}
-failed_first due (Err stop.Memory) old new fails unmoved rose = record {
-  answers = tt;
-  output = front_of_nothing due.output old.out new.out unmoved.output;
-  files = stays_part due.writes old.shelf.told new.shelf.told unmoved.files;
-  source = source_unread due.session _ _ old new fails unmoved;
-  outside = rose;
-}
+-- no memory was found
+pub out_of_memory : (Due : Outcome → Type 0) (early : Writes) (now : World) → StepComesTo Due early (Err stop.Memory) now now
+out_of_memory Due early now = fails_at_once Due early (Err stop.Memory) now now tt (record { files = refl; source = refl; output = refl }) (λ failed. cc)
 
 -- A put
 
@@ -150,46 +128,32 @@ module _ (due : Outcome) (old new : World) (files : new.shelf.told ≡ old.shelf
   put_step (Err stop.Outside) put = record { answers = tt; output = put.output; files = stays_part due.writes old.shelf.told new.shelf.told files; source = unread _ _; outside = λ failed. inr (inr (put.outside failed)) }
   put_step (Err stop.Memory) put = record { answers = tt; output = put.output; files = stays_part due.writes old.shelf.told new.shelf.told files; source = unread _ _; outside = λ failed. cc }
 
+-- a put, which is due
+pub put_comes : (Due : Outcome → Type 0) (early : Writes) (due : Outcome) (answer : Result (Unit {0}) Stop) (old new : World) → Due due → PutDoes due answer old.out new.out → new.shelf.told ≡ old.shelf.told → new.input.told ≡ old.input.told → due.session ≡ None → StepComesTo Due early answer old new
+put_comes Due early due answer old new comes put files source alone = inr (due, comes, put_step due old new files source alone answer put)
+
+-- nothing was done, and a complaint is due
+pub complains : (Due : Outcome → Type 0) (early : Writes) (due : Outcome) (given same : Complaint) (old new : World) → Due due → due ≡ outcome_of same → given ≡ same → Unmoved old new → StepComesTo Due early (Err (stop.Complaint given)) old new
+complains Due early due given same old new comes is as_given unmoved =
+    subst (λ (c : Complaint). StepComesTo Due early (Err (stop.Complaint c)) old new) (sym as_given)
+    (put_comes Due early due (Err (stop.Complaint same)) old new comes (complained due same old.out new.out is unmoved.output) unmoved.files unmoved.source (ap (λ o. o.session) is))
+
 -- what is due is the same for each text
-pub on_any_text : (due : List ℕ → Outcome) (same : Outcome) (answer : Result (Unit {0}) Stop) (old new : World) → ((text : List ℕ) → due text ≡ same) → StepDoes same answer old new → StepOnText due answer old new
-on_any_text due same answer old new is does =
+pub on_any_text : (of_text : List ℕ → Outcome) (same : Outcome) (answer : Result (Unit {0}) Stop) (old new : World) → ((text : List ℕ) → of_text text ≡ same) → StepDoes same answer old new → StepOnText of_text answer old new
+on_any_text of_text same answer old new is does =
     let text = told_text old.input.told in
-    (text, has_told_text old.input.told, rw (is text) does)
+    inr (same, (text, has_told_text old.input.told, sym (is text)), does)
 
 -- a put, where what is due is the same for each text
-pub put_on_text : (due : List ℕ → Outcome) (same : Outcome) (answer : Result (Unit {0}) Stop) (old new : World) → PutDoes same answer old.out new.out → new.shelf.told ≡ old.shelf.told → new.input.told ≡ old.input.told → same.session ≡ None → ((text : List ℕ) → due text ≡ same) → StepOnText due answer old new
-put_on_text due same answer old new put files source alone is = on_any_text due same answer old new is (put_step same old new files source alone answer put)
+pub put_on_text : (of_text : List ℕ → Outcome) (same : Outcome) (answer : Result (Unit {0}) Stop) (old new : World) → PutDoes same answer old.out new.out → new.shelf.told ≡ old.shelf.told → new.input.told ≡ old.input.told → same.session ≡ None → ((text : List ℕ) → of_text text ≡ same) → StepOnText of_text answer old new
+put_on_text of_text same answer old new put files source alone is = on_any_text of_text same answer old new is (put_step same old new files source alone answer put)
 
--- a failure before anything was done, whatever is due
-pub failed_on_text : (due : List ℕ → Outcome) (answer : Result (Unit {0}) Stop) (old new : World) → IsFailure answer → Unmoved old new → (answer ≡ Err stop.Outside → AnyRose old new) → StepOnText due answer old new
-failed_on_text due answer old new fails unmoved rose =
-    let text = told_text old.input.told in
-    (text, has_told_text old.input.told, failed_first (due text) answer old new fails unmoved rose)
-
--- the file isn't there, or its read failed
-pub file_unread : (command : Command) (path : List ℕ) (given : Stop) (old new : World) → ReadsFile old.shelf.told path (Err given) → Unmoved old new → (given ≡ stop.Outside → Rose old.shelf.faults new.shelf.faults) → (found : Option (List ℕ)) × HasFile old.shelf.told (Some path) found × StepOnText (file_outcome command path found) (Err given) old new
-file_unread command path (stop.Complaint given) old new (none, is) unmoved rose = (
-  None,
-  none,
-  subst (λ (c : Complaint). StepOnText (file_outcome command path None) (Err (stop.Complaint c)) old new) (sym is)
-      (put_on_text (file_outcome command path None) (not_there path) (Err (stop.Complaint (complaint.NotThere path))) old new (complained (not_there path) (complaint.NotThere path) old.out new.out refl unmoved.output) unmoved.files unmoved.source refl (λ text. refl)),
-)
-file_unread command path stop.Outside old new read unmoved rose =
-    let found = told_file old.shelf.told (Some path) in
-    (found, has_told_file old.shelf.told (Some path), failed_on_text (file_outcome command path found) (Err stop.Outside) old new tt unmoved (λ failed. inl (rose refl)))
-file_unread command path stop.Memory old new read unmoved rose =
-    let found = told_file old.shelf.told (Some path) in
-    (found, has_told_file old.shelf.told (Some path), failed_on_text (file_outcome command path found) (Err stop.Memory) old new tt unmoved (λ failed. cc))
-
--- the file is no image
-pub file_unopened : (command : Command) (b : List ℕ) (given : Stop) (now : World) → Opens {A = List ℕ} b (Err given) → StepOnText (opened_outcome command b (first_damage b)) (Err given) now now
-file_unopened command b (stop.Complaint given) now (damage, found, is) =
-    subst (λ (c : Complaint). StepOnText (opened_outcome command b (first_damage b)) (Err (stop.Complaint c)) now now) (sym is)
-    (put_on_text (opened_outcome command b (first_damage b)) (damaged damage) (Err (stop.Complaint (complaint.Damaged damage))) now now
-    (complained (damaged damage) (complaint.Damaged damage) now.out now.out refl refl) refl refl refl
-    (λ text. ap (λ d. opened_outcome command b d text) found))
-file_unopened command b stop.Outside now never = absurd never
-file_unopened command b stop.Memory now none = failed_on_text (opened_outcome command b (first_damage b)) (Err stop.Memory) now now tt (record { files = refl; source = refl; output = refl }) (λ failed. cc)
+-- the bytes are no image
+pub image_unopened : (Sound : Outcome → Type 0) (b : List ℕ) (given : Stop) (now : World) → Opens {A = List ℕ} b (Err given) → StepComesTo (OpenedComesTo Sound (first_damage b)) [] (Err given) now now
+image_unopened Sound b (stop.Complaint given) now (damage, found, is) =
+    complains (OpenedComesTo Sound (first_damage b)) [] (damaged damage) given (complaint.Damaged damage) now now (rw found refl) refl is (record { files = refl; source = refl; output = refl })
+image_unopened Sound b stop.Outside now never = absurd never
+image_unopened Sound b stop.Memory now none = out_of_memory (OpenedComesTo Sound (first_damage b)) [] now
 
 -- A step behind a call of the shelf that changed no file
 
@@ -215,66 +179,42 @@ module _ (shelf : Seen Files) (now new : World) where
     outside = λ failed. rises up (step.outside failed);
   }
 
--- What a command comes to
+-- A step on the file of a path
 
--- a step does what its command comes to
-abbrev pub CommandDoes : Command → Result (Unit {0}) Stop → World → World → Type 0
-CommandDoes command answer old new =
-    StepComesTo (CommandComesTo old.shelf.told old.input.told command) (early_writes command) answer old new
-
--- a link does what its command comes to
-pub link_step : (command : Command) (answer : Result (Unit {0}) Stop) (old new : World) (link : Link) → gen_of command ≡ None → Some link ≡ link_of command → StepComesTo (LinkComesTo old.shelf.told link) [] answer old new → CommandDoes command answer old new
-link_step command answer old new link first is (inl fails) = inl (record {
+-- behind the read of the file
+pub file_read : (Bytes : List ℕ → Outcome → Type 0) (path b : List ℕ) (shelf : Seen Files) (now new : World) (answer : Result (Unit {0}) Stop) → ReadsFile shelf.told path (Ok b) → now.shelf.told ≡ shelf.told → shelf.faults ≤ now.shelf.faults → StepComesTo (Bytes b) [] answer now new → StepComesTo (FileComesTo shelf.told path Bytes) [] answer (record { shelf = shelf; input = now.input; out = now.out }) new
+file_read Bytes path b shelf now new answer has same up (inl fails) = inl (record {
   failed = fails.failed;
-  files = part_longer [] (early_writes command) old.shelf.told new.shelf.told fails.files;
+  files = subst (λ (told : Option Files). MadePart [] told new.shelf.told) same fails.files;
   source = fails.source;
   output = fails.output;
-  outside = fails.outside;
+  outside = λ failed. rises shelf now new up (fails.outside failed);
 })
-link_step command answer old new link first is (inr (due, comes, step)) = inr (due, rw (first, sym is) comes, step)
+file_read Bytes path b shelf now new answer has same up (inr (due, is, step)) =
+    inr (due, (Some b, has, is), step_behind shelf now new due answer same up step)
 
--- a `gen` does what its command comes to
-pub gen_step : (command : Command) (answer : Result (Unit {0}) Stop) (old new : World) (gen : Gen) → Some gen ≡ gen_of command → StepComesTo (GenComesTo old.shelf.told gen) (made_first gen) answer old new → CommandDoes command answer old new
-gen_step command answer old new gen is step =
-    subst (λ (o : Option Gen). StepComesTo (λ due. CommandWith old.shelf.told old.input.told command o (link_of command) due) (first_writes o) answer old new) is step
-
-module _ (command : Command) (answer : Result (Unit {0}) Stop) (old new : World) (first : gen_of command ≡ None) (other : link_of command ≡ None) where
-  -- from the file that was found, and what is due then
-  step_with : (found : Option (List ℕ)) → HasFile old.shelf.told (read_path command) found → StepOnText (command_outcome command found) answer old new → CommandDoes command answer old new
-  step_with found has (text, told, does) = inr (command_outcome command found text, rw (first, other) (found, has, (text, told, refl)), does)
-
-  pub file_step : (path : List ℕ) → read_path command ≡ Some path → (found : Option (List ℕ)) × HasFile old.shelf.told (Some path) found × StepOnText (file_outcome command path found) answer old new → CommandDoes command answer old new
-  file_step path is (found, has, (text, told, does)) =
-      let due : command_outcome command found text ≡ file_outcome command path found text = ap (λ p. outcome_at command p found text) is in
-      step_with found (rw is has) (text, told, rw due does)
-
-  -- what is due without a file
-  step_without : (due : Outcome) → ((found : Option (List ℕ)) (text : List ℕ) → command_outcome command found text ≡ due) → StepDoes due answer old new → CommandDoes command answer old new
-  step_without due is does =
-      let found = told_file old.shelf.told (read_path command) in
-      step_with found (has_told_file old.shelf.told (read_path command)) (on_any_text (command_outcome command found) due answer old new (is found) does)
-
-  pub plain_step : read_path command ≡ None → new.shelf.told ≡ old.shelf.told → new.input.told ≡ old.input.told → PutDoes (plain_outcome command) answer old.out new.out → CommandDoes command answer old new
-  plain_step is files source does =
-      step_without (plain_outcome command) (λ found text. ap (λ p. outcome_at command p found text) is)
-      (put_step (plain_outcome command) old new files source (plain_session command) answer does)
+-- the file isn't there, or its read failed
+pub file_unread : (Bytes : List ℕ → Outcome → Type 0) (path : List ℕ) (given : Stop) (old new : World) → ReadsFile old.shelf.told path (Err given) → Unmoved old new → (given ≡ stop.Outside → Rose old.shelf.faults new.shelf.faults) → StepComesTo (FileComesTo old.shelf.told path Bytes) [] (Err given) old new
+file_unread Bytes path (stop.Complaint given) old new (none, is) unmoved rose =
+    complains (FileComesTo old.shelf.told path Bytes) [] (not_there path) given (complaint.NotThere path) old new (None, none, refl) refl is unmoved
+file_unread Bytes path stop.Outside old new read unmoved rose = fails_at_once (FileComesTo old.shelf.told path Bytes) [] (Err stop.Outside) old new tt unmoved (λ failed. inl (rose refl))
+file_unread Bytes path stop.Memory old new read unmoved rose = fails_at_once (FileComesTo old.shelf.told path Bytes) [] (Err stop.Memory) old new tt unmoved (λ failed. cc)
 
 -- All words
 
--- words make no command
-pub words_faulty : (asked : Result Command WordsError) (at : ℕ) (kind : WordsKind) (now : World) → UnlessMemory error.Memory (Err (error.Fault at kind)) asked → StepComesTo (WordsComeTo now.shelf.told now.input.told asked) (early_of asked) (Err (stop.Complaint (complaint.Words (error.Fault at kind)))) now now
-words_faulty asked at kind now (inl memory) = cc
-words_faulty asked at kind now (inr read) = subst (λ (a : Result Command WordsError). StepComesTo (WordsComeTo now.shelf.told now.input.told a) (early_of a) answer now now) read (inr (due, refl, put_step due now now refl refl refl answer (complained due given now.out now.out refl refl)))
+-- words that were read to a command
+pub words_read : (asked : Result Command WordsError) (given : Command) (answer : Result (Unit {0}) Stop) (old new : World) → UnlessMemory error.Memory (Ok given) asked → StepComesTo (CommandComesTo old.shelf.told old.input.told given) (early_writes given) answer old new → StepComesTo (WordsComeTo old.shelf.told old.input.told asked) (early_of asked) answer old new
+words_read asked given answer old new (inl memory) step = cc
+words_read asked given answer old new (inr read) step =
+    subst (λ (a : Result Command WordsError). StepComesTo (WordsComeTo old.shelf.told old.input.told a) (early_of a) answer old new) read step
+
+-- words that weren't read to a command
+pub words_unread : (asked : Result Command WordsError) (fault : WordsError) (now : World) → UnlessMemory error.Memory (Err fault) asked → StepComesTo (WordsComeTo now.shelf.told now.input.told asked) (early_of asked) (Err (stop_of_words fault)) now now
+words_unread asked error.Memory now read = out_of_memory (WordsComeTo now.shelf.told now.input.told asked) (early_of asked) now
+words_unread asked (error.Fault at kind) now (inl memory) = cc
+words_unread asked (error.Fault at kind) now (inr read) =
+    subst (λ (a : Result Command WordsError). StepComesTo (WordsComeTo now.shelf.told now.input.told a) (early_of a) (Err (stop.Complaint given)) now now) read
+    (complains (λ due. due ≡ faulty (error.Fault at kind)) [] (faulty (error.Fault at kind)) given given now now refl refl refl (record { files = refl; source = refl; output = refl }))
   where
     given : Complaint
     given = complaint.Words (error.Fault at kind)
-
-    due : Outcome
-    due = faulty (error.Fault at kind)
-
-    answer : Result (Unit {0}) Stop
-    answer = Err (stop.Complaint given)
-
--- no memory was found for the command
-pub words_unread : (Due : Outcome → Type 0) (early : Writes) (now : World) → StepComesTo Due early (Err stop.Memory) now now
-words_unread Due early now = inl (record { failed = tt; files = stays_part early now.shelf.told now.shelf.told refl; source = refl; output = refl; outside = λ failed. cc })

@@ -1,14 +1,12 @@
--- What a command comes to: plain data, a function of the command, of the file that it names and of
--- the text of the source (this project's rule).
-use Rattle.std.specs.Prelude.{ℕ, ◌+◌, nat_lt, Bool, true, false, List, [], ◌∷◌, ◌++◌, length, codes}
-use Rattle.std.specs.Prelude.{Option, Some, None, Result, Ok, Err, if◌then◌else◌}
+-- What a command comes to: plain data, a function of its task, of the file that it names and of the
+-- text of the source (this project's rule).
+use Rattle.std.specs.Prelude.{ℕ, ◌+◌, nat_lt, List, [], ◌∷◌, ◌++◌, length, codes}
+use Rattle.std.specs.Prelude.{Option, Some, None, Result, Ok, Err, if◌then◌else◌, IsUtf8}
 use Rattle.std.specs.Fmt.{decimal}
-use Rattle.jm_bytes.specs.declared.words.Order.{Order}
 use Rattle.jm_form.specs.declared.damage.Damage.{Damage}
 use Rattle.jm_form.specs.declared.rows.Row.{Row}
 use Rattle.jm_form.specs.declared.trees.Holds.{Holds}
 use Rattle.jm_form.specs.DamageText.{damage_text}
-use Rattle.jm_form.specs.Damages.{first_damage}
 use Rattle.jm_form.specs.Validity.{look}
 use Rattle.jm_jrt.specs.declared.jrt_error.JrtError.{JrtError}
 use Rattle.jm_jrt.specs.declared.jrt_error.JrtError.TheVariants.{BadNode, NotFolder, NotThere}
@@ -21,8 +19,6 @@ use Rattle.jm_outside.specs.Made.{Writes}
 use Rattle.jm_words.specs.declared.commands.Command.{Command}
 use Rattle.jm_words.specs.declared.commands.Command.TheVariants as command
 use Rattle.jm_words.specs.declared.errors.WordsError.{WordsError}
-use Rattle.jm_words.specs.declared.errors.WordsError.TheVariants as error
-use Rattle.jm_words.specs.declared.errors.WordsKind.TheVariants as kind
 use Rattle.jm_words.specs.FaultText.{error_text}
 use Rattle.jm_class.specs.declared.class.ClassFault.{ClassFault}
 use Rattle.jm_class.specs.Classes.{ClassData}
@@ -41,6 +37,8 @@ use Rattle.jm_link.specs.Links.{request_of, summary_of}
 use Rattle.jm_texts.specs.declared.refusal.Refusal.TheVariants as refusal
 use Rattle.jm_commands.specs.declared.complaint.Complaint.{Complaint}
 use Rattle.jm_commands.specs.declared.complaint.Complaint.TheVariants as complaint
+use Rattle.jm_commands.specs.declared.image_file.ImageTask.{ImageTask}
+use Rattle.jm_commands.specs.declared.image_file.ImageTask.TheVariants as image_task
 use Rattle.jm_commands.specs.declared.link.LinkWords.{LinkWords}
 use Rattle.jm_texts.specs.DescribeText.{describe_text}
 use Rattle.jm_texts.specs.RefusalText.{refusal_text}
@@ -49,7 +47,7 @@ use Rattle.jm_commands.specs.declared.status.Status.TheVariants as status
 use Rattle.jm_commands.specs.ExtractText.{extract_text}
 use Rattle.jm_commands.specs.HelpText.{help_text, version_text}
 use Rattle.jm_texts.specs.InfoText.{info_text}
-use Rattle.jm_commands.specs.Gen.{Gen, gen_of, gen_request, image_path, made_first, modules_path}
+use Rattle.jm_commands.specs.Gen.{Gen, gen_request, image_path, made_first, modules_path}
 use Rattle.jm_commands.specs.LinkText.{gen_text, link_text}
 use Rattle.jm_commands.specs.ListText.{list_text}
 use Rattle.jm_commands.specs.Texts.{line_of}
@@ -224,33 +222,6 @@ extract_outcome dir (Ok entries) = record {
 }
 extract_outcome dir (Err refusal) = refusing refusal
 
--- the link that a command is, if it is one
-abbrev pub link_of : Command → Option Link
-link_of (command.Link dirs roots output plugins order bind from_image jobs) =
-    Some (record {
-      directories = dirs;
-      image = from_image;
-      asked = record {
-        roots = roots;
-        bind = bind;
-        plugins = plugins;
-        order = order;
-      };
-      output = output;
-      text = link_text;
-    })
-link_of (command.Cat image name jobs) = None
-link_of (command.List image include jobs) = None
-link_of (command.Ls image path jobs) = None
-link_of (command.Info image jobs) = None
-link_of (command.Extract image dir include jobs) = None
-link_of (command.Verify image jobs) = None
-link_of (command.Serve image jobs) = None
-link_of (command.Gen dir modules classes seed jobs) = None
-link_of (command.Describe file jobs) = None
-link_of (command.Help jobs) = None
-link_of (command.Version jobs) = None
-
 -- `gen`: files are made, and then they are linked
 
 -- an outcome, with files made before
@@ -273,102 +244,76 @@ gen_link gen = record {
   text = gen_text;
 }
 
--- the files that a `gen` makes first; other commands make none
-abbrev pub first_writes : Option Gen → Writes
-first_writes (Some gen) = made_first gen
-first_writes None = []
-
--- what a command comes to at a step of another one, where none ever stands
-abbrev pub misplaced : Outcome
-misplaced = faulty (error.Fault 1 kind.UnknownCommand)
-
--- what a command comes to on an image, by the bytes of its file, which have no damage, and by the
+-- what a task on an image comes to, by the bytes of its file, which have no damage, and by the
 -- source's text
-abbrev pub image_outcome : Command → List ℕ → List ℕ → Outcome
-image_outcome (command.Cat image name jobs) b text = cat_outcome name (look b name)
-image_outcome (command.List image include jobs) b text = done (list_text b include)
-image_outcome (command.Ls image path jobs) b text = ls_outcome path (held (stat b path))
-image_outcome (command.Info image jobs) b text = done (info_text b)
-image_outcome (command.Extract image dir include jobs) b text =
-    extract_outcome dir (extracted b include)
-image_outcome (command.Verify image jobs) b text = done (verify_text b)
-image_outcome (command.Serve image jobs) b text = session_outcome b text
-image_outcome (command.Link dirs roots output plugins order bind from_image jobs) b text = misplaced
-image_outcome (command.Gen dir modules classes seed jobs) b text = misplaced
-image_outcome (command.Describe file jobs) b text = misplaced
-image_outcome (command.Help jobs) b text = misplaced
-image_outcome (command.Version jobs) b text = misplaced
+abbrev pub image_outcome : ImageTask → List ℕ → List ℕ → Outcome
+image_outcome (image_task.Cat name) b text = cat_outcome name (look b name)
+image_outcome (image_task.List include) b text = done (list_text b include)
+image_outcome (image_task.Ls path) b text = ls_outcome path (held (stat b path))
+image_outcome image_task.Info b text = done (info_text b)
+image_outcome (image_task.Extract dir include) b text = extract_outcome dir (extracted b include)
+image_outcome image_task.Verify b text = done (verify_text b)
+image_outcome image_task.Serve b text = session_outcome b text
 
--- what a command comes to on an image, by its bytes, their first damage if they have one, and the
--- source's text
-abbrev pub opened_outcome : Command → List ℕ → Option Damage → List ℕ → Outcome
-opened_outcome command b None text = image_outcome command b text
-opened_outcome command b (Some damage) text = damaged damage
+-- the folder that a task makes files in has a path that is UTF-8
+abbrev pub FolderIsText : ImageTask → Type 0
+FolderIsText (image_task.Extract dir include) = IsUtf8 dir
+FolderIsText _ = Unit {0}
 
--- the file that the command reads is a class and no image
-abbrev pub reads_class : Command → Bool
-reads_class (command.Describe file jobs) = true
-reads_class (command.Link dirs roots output plugins order bind from_image jobs) = false
-reads_class (command.Cat image name jobs) = false
-reads_class (command.List image include jobs) = false
-reads_class (command.Ls image path jobs) = false
-reads_class (command.Info image jobs) = false
-reads_class (command.Extract image dir include jobs) = false
-reads_class (command.Verify image jobs) = false
-reads_class (command.Serve image jobs) = false
-reads_class (command.Gen dir modules classes seed jobs) = false
-reads_class (command.Help jobs) = false
-reads_class (command.Version jobs) = false
+-- What a command asks for
 
--- what a command comes to on the file of a path, if it is there
-abbrev pub file_outcome : Command → List ℕ → Option (List ℕ) → List ℕ → Outcome
-file_outcome command path None text = not_there path
-file_outcome command path (Some b) text =
-    if reads_class command then describe_outcome path b
-    else opened_outcome command b (first_damage b) text
+-- what is asked of a run, apart from its number of jobs
+pub data Task : Type 0 where
+  -- a text is put
+  Puts : (text : List ℕ) → Task
+  -- the file of a path is described, which is the class of a module
+  Describes : (path : List ℕ) → Task
+  -- something is done with the image in the file of a path
+  OnImage : (path : List ℕ) → (task : ImageTask) → Task
+  Links : (link : Link) → Task
+  Makes : (gen : Gen) → Task
 
--- the path of the one file that a command reads, if it reads one
-abbrev pub read_path : Command → Option (List ℕ)
-read_path (command.Cat image name jobs) = Some image
-read_path (command.List image include jobs) = Some image
-read_path (command.Ls image path jobs) = Some image
-read_path (command.Info image jobs) = Some image
-read_path (command.Extract image dir include jobs) = Some image
-read_path (command.Verify image jobs) = Some image
-read_path (command.Serve image jobs) = Some image
-read_path (command.Describe file jobs) = Some file
-read_path (command.Link dirs roots output plugins order bind from_image jobs) = None
-read_path (command.Gen dir modules classes seed jobs) = None
-read_path (command.Help jobs) = None
-read_path (command.Version jobs) = None
+-- the task of a command
+abbrev pub task_of : Command → Task
+task_of (command.Link dirs roots output plugins order bind from_image jobs) =
+    Links (record {
+      directories = dirs;
+      image = from_image;
+      asked = record { roots = roots; bind = bind; plugins = plugins; order = order };
+      output = output;
+      text = link_text;
+    })
+task_of (command.Cat image name jobs) = OnImage image (image_task.Cat name)
+task_of (command.List image include jobs) = OnImage image (image_task.List include)
+task_of (command.Ls image path jobs) = OnImage image (image_task.Ls path)
+task_of (command.Info image jobs) = OnImage image image_task.Info
+task_of (command.Extract image dir include jobs) = OnImage image (image_task.Extract dir include)
+task_of (command.Verify image jobs) = OnImage image image_task.Verify
+task_of (command.Serve image jobs) = OnImage image image_task.Serve
+task_of (command.Gen dir modules classes seed jobs) =
+    Makes (record { dir = dir; modules = modules; classes = classes; seed = seed })
+task_of (command.Describe file jobs) = Describes file
+task_of (command.Help jobs) = Puts help_text
+task_of (command.Version jobs) = Puts version_text
 
--- what a command comes to that reads no file
-abbrev pub plain_outcome : Command → Outcome
-plain_outcome (command.Help jobs) = done help_text
-plain_outcome (command.Version jobs) = done version_text
-plain_outcome (command.Link dirs roots output plugins order bind from_image jobs) = misplaced
-plain_outcome (command.Cat image name jobs) = misplaced
-plain_outcome (command.List image include jobs) = misplaced
-plain_outcome (command.Ls image path jobs) = misplaced
-plain_outcome (command.Info image jobs) = misplaced
-plain_outcome (command.Extract image dir include jobs) = misplaced
-plain_outcome (command.Verify image jobs) = misplaced
-plain_outcome (command.Serve image jobs) = misplaced
-plain_outcome (command.Gen dir modules classes seed jobs) = misplaced
-plain_outcome (command.Describe file jobs) = misplaced
+-- the link that a task is, if it is one
+abbrev pub link_of : Task → Option Link
+link_of (Links link) = Some link
+link_of _ = None
 
--- what a command comes to, by the path that it reads, the file there, and the source's text
-abbrev pub outcome_at : Command → Option (List ℕ) → Option (List ℕ) → List ℕ → Outcome
-outcome_at command None file text = plain_outcome command
-outcome_at command (Some path) file text = file_outcome command path file text
+-- the `gen` that a task is, if it is one
+abbrev pub gen_of : Task → Option Gen
+gen_of (Makes gen) = Some gen
+gen_of _ = None
 
--- what a command comes to, by the file that it reads and the source's text
-abbrev pub command_outcome : Command → Option (List ℕ) → List ℕ → Outcome
-command_outcome command file text = outcome_at command (read_path command) file text
+-- the files that a task makes before it is known what it comes to; all but a `gen` make none
+abbrev pub first_writes : Task → Writes
+first_writes (Makes gen) = made_first gen
+first_writes _ = []
 
 -- the files that a command makes before it is known what it comes to
 abbrev pub early_writes : Command → Writes
-early_writes command = first_writes (gen_of command)
+early_writes command = first_writes (task_of command)
 
 -- the files that all words make before it is known what they come to
 abbrev pub early_of : Result Command WordsError → Writes

@@ -7,11 +7,11 @@ use Rattle.jm_words.specs.declared.commands.Command.{Command}
 use Rattle.jm_words.specs.declared.errors.WordsError.{WordsError}
 use Rattle.jm_commands.specs.declared.status.Status.{Status}
 use Rattle.jm_commands.specs.declared.status.Status.TheVariants as status
-use Rattle.jm_commands.specs.Outcome.{Link, link_of}
+use Rattle.jm_commands.specs.Outcome.{Link, link_of, task_of}
 
 -- the `link` that words ask for, if they do
 abbrev pub link_in : Result Command WordsError → Option Link
-link_in (Ok command) = link_of command
+link_in (Ok command) = link_of (task_of command)
 link_in (Err fault) = None
 
 -- the image that is linked is these bytes, where the files are told, and what is asked for relinks

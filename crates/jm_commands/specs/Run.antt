@@ -19,11 +19,11 @@ use Rattle.jm_commands.specs.declared.status.Status.{Status}
 use Rattle.jm_commands.specs.declared.status.Status.TheVariants as status
 use Rattle.jm_commands.specs.declared.stop.Stop.{Stop}
 use Rattle.jm_commands.specs.declared.stop.Stop.TheVariants as stop
-use Rattle.jm_commands.specs.Gen.{Gen, gen_of, made_first}
-use Rattle.jm_commands.specs.Outcome.{Link, Outcome, behind, command_outcome, damaged, done}
-use Rattle.jm_commands.specs.Outcome.{faulty}
-use Rattle.jm_commands.specs.Outcome.{gen_link, link_of, link_outcome, not_there, read_path}
-use Rattle.jm_commands.specs.Outcome.{refused}
+use Rattle.jm_commands.specs.Gen.{Gen, made_first}
+use Rattle.jm_commands.specs.Outcome.{Link, Outcome, behind, damaged, describe_outcome, done}
+use Rattle.jm_commands.specs.Outcome.{faulty, gen_link, image_outcome, link_outcome, not_there}
+use Rattle.jm_commands.specs.Outcome.{refused, task_of}
+use Rattle.jm_commands.specs.Outcome.{Task, Puts, Describes, OnImage, Links, Makes}
 use Rattle.jm_commands.specs.SessionHeld.{EndsAs, SourceRead, StopsAs}
 use Rattle.jm_commands.specs.Sinks.{Seen, Gets, GetsFront}
 use Rattle.jm_commands.specs.Texts.{complaint_text, line_of}
@@ -31,19 +31,35 @@ use Rattle.jm_commands.specs.World.{AnyRose, World}
 
 -- What the words come to
 
--- this is the file of a path, where the files are told and there is a path
-abbrev pub HasFile : Option Files → Option (List ℕ) → Option (List ℕ) → Type 0
-HasFile told None found = Unit {0}
-HasFile told (Some path) found = Shows told (λ files. found ≡ file files path)
+-- this is the file of a path, where the files are told
+abbrev pub HasFile : Option Files → List ℕ → Option (List ℕ) → Type 0
+HasFile told path found = Shows told (λ files. found ≡ file files path)
 
--- a command that reads one file or none comes to one outcome, whether the shelf tells its files and
--- the source its rest or not: over a shelf that tells nothing, to that of some file, and over a
--- source that tells nothing, to that of some text
-abbrev pub FileComesTo : Option Files → Option (List ℕ) → Command → Outcome → Type 0
-FileComesTo told rest command due =
-    (found : Option (List ℕ)) × HasFile told (read_path command) found
-    × ((text : List ℕ) × Shows rest (λ told_text. text ≡ told_text)
-    × (due ≡ command_outcome command found text))
+-- what comes of the file of a path, if it is there, by what comes of its bytes
+abbrev pub FoundComesTo
+    : (List ℕ → Outcome → Type 0) → List ℕ → Option (List ℕ) → Outcome → Type 0
+FoundComesTo Bytes path None due = due ≡ not_there path
+FoundComesTo Bytes path (Some b) due = Bytes b due
+
+-- what comes of the file of a path; over a shelf that tells nothing, what comes of some file
+abbrev pub FileComesTo : Option Files → List ℕ → (List ℕ → Outcome → Type 0) → Outcome → Type 0
+FileComesTo told path Bytes due =
+    (found : Option (List ℕ)) × HasFile told path found × FoundComesTo Bytes path found due
+
+-- what comes of the bytes of an image, by their first damage, if they have one
+abbrev pub OpenedComesTo : (Outcome → Type 0) → Option Damage → Outcome → Type 0
+OpenedComesTo Sound None due = Sound due
+OpenedComesTo Sound (Some damage) due = due ≡ damaged damage
+
+-- what comes of the image in the file of a path, by what comes of bytes without a damage
+abbrev pub ImageComes : Option Files → List ℕ → (List ℕ → Outcome → Type 0) → Outcome → Type 0
+ImageComes told path Sound due =
+    FileComesTo told path (λ b. OpenedComesTo (Sound b) (first_damage b)) due
+
+-- what is due for the text of the source; where that isn't told, for some text
+abbrev pub TextComesTo : Option (List ℕ) → (List ℕ → Outcome) → Outcome → Type 0
+TextComesTo rest of_text due =
+    (text : List ℕ) × Shows rest (λ told. text ≡ told) × (due ≡ of_text text)
 
 -- at every path of an image's trees stands what the trees of its resources have there, and nothing
 -- else; of a refusal, nothing
@@ -59,29 +75,16 @@ PathLinkComesTo told link due =
     × Shows told (λ files. ShowsLinked result) × (due ≡ link_outcome link result))
     ⊎ ((listed : List ℕ) × Shows told (λ files. ⊥) × (due ≡ not_there listed))
 
--- a link of the modules of an image, by the bytes of its file and their first damage
-abbrev pub OpenedLinkComesTo : Link → List ℕ → Option Damage → Outcome → Type 0
-OpenedLinkComesTo link b (Some damage) due = due ≡ damaged damage
-OpenedLinkComesTo link b None due =
+-- a link of the modules of an image without a damage
+abbrev pub ImageLinkComesTo : Link → List ℕ → Outcome → Type 0
+ImageLinkComesTo link b due =
     (result : Result LinkedImage Refusal) × ImageComesTo b link.asked result
     × ShowsLinked result × (due ≡ link_outcome link result)
-
--- a link of the modules of an image, by the file at its path, if it is there
-abbrev pub FoundLinkComesTo : Link → List ℕ → Option (List ℕ) → Outcome → Type 0
-FoundLinkComesTo link path None due = due ≡ not_there path
-FoundLinkComesTo link path (Some b) due = OpenedLinkComesTo link b (first_damage b) due
-
--- a link of the modules of the image at a path; over a shelf that tells nothing, to what it does of
--- some file
-abbrev pub ImageLinkComesTo : Option Files → Link → List ℕ → Outcome → Type 0
-ImageLinkComesTo told link path due =
-    (found : Option (List ℕ)) × HasFile told (Some path) found
-    × FoundLinkComesTo link path found due
 
 -- what a link comes to, by where its modules are
 abbrev pub LinkComesFrom : Option Files → Link → Option (List ℕ) → Outcome → Type 0
 LinkComesFrom told link None due = PathLinkComesTo told link due
-LinkComesFrom told link (Some path) due = ImageLinkComesTo told link path due
+LinkComesFrom told link (Some path) due = ImageComes told path (ImageLinkComesTo link) due
 
 -- what a link comes to, by the files and by where its modules are
 abbrev pub LinkComesTo : Option Files → Link → Outcome → Type 0
@@ -94,17 +97,19 @@ GenComesTo told gen due =
     × LinkComesTo (option_map (λ files. written files (made_first gen)) told) (gen_link gen) linked
     × (due ≡ behind (made_first gen) linked)
 
--- what a command comes to, by the `gen` or the link that it is
-abbrev pub CommandWith : Option Files → Option (List ℕ) → Command → Option Gen → Option Link
-    → Outcome → Type 0
-CommandWith told rest command (Some gen) link due = GenComesTo told gen due
-CommandWith told rest command None (Some link) due = LinkComesTo told link due
-CommandWith told rest command None None due = FileComesTo told rest command due
+-- what a task comes to, by the told files and the told text of the source
+abbrev pub TaskComesTo : Option Files → Option (List ℕ) → Task → Outcome → Type 0
+TaskComesTo told rest (Puts text) due = due ≡ done text
+TaskComesTo told rest (Describes path) due =
+    FileComesTo told path (λ b described. described ≡ describe_outcome path b) due
+TaskComesTo told rest (OnImage path task) due =
+    ImageComes told path (λ b. TextComesTo rest (image_outcome task b)) due
+TaskComesTo told rest (Links link) due = LinkComesTo told link due
+TaskComesTo told rest (Makes gen) due = GenComesTo told gen due
 
 -- what a command comes to, by the files and by what the source has
 abbrev pub CommandComesTo : Option Files → Option (List ℕ) → Command → Outcome → Type 0
-CommandComesTo told rest command due =
-    CommandWith told rest command (gen_of command) (link_of command) due
+CommandComesTo told rest command due = TaskComesTo told rest (task_of command) due
 
 -- what all words come to: their command, or their first fault
 abbrev pub WordsComeTo
@@ -117,9 +122,9 @@ WordsComeTo told rest (Err fault) due = due ≡ faulty fault
 -- what reading a file comes to: its bytes; the complaint that it isn't there; a failure, or no
 -- memory
 abbrev pub ReadsFile : Option Files → List ℕ → Result (List ℕ) Stop → Type 0
-ReadsFile told path (Ok bytes) = HasFile told (Some path) (Some bytes)
+ReadsFile told path (Ok bytes) = HasFile told path (Some bytes)
 ReadsFile told path (Err (stop.Complaint given)) =
-    HasFile told (Some path) None × (given ≡ complaint.NotThere path)
+    HasFile told path None × (given ≡ complaint.NotThere path)
 ReadsFile told path (Err stop.Outside) = Unit {0}
 ReadsFile told path (Err stop.Memory) = Unit {0}
 
@@ -183,12 +188,6 @@ pub record StepDoes (due : Outcome) (answer : Result (Unit {0}) Stop) (old new :
   pub source : SourceRead due.session (IsFailure answer) (StopsAs answer) old new
   pub outside : answer ≡ Err stop.Outside → AnyRose old new
 
--- a step does what is due for the text of the source; where that isn't told, for some text
-abbrev pub StepOnText : (List ℕ → Outcome) → Result (Unit {0}) Stop → World → World → Type 0
-StepOnText due answer old new =
-    (text : List ℕ) × Shows old.input.told (λ told. text ≡ told)
-    × StepDoes (due text) answer old new
-
 -- a step failed before it was known what the command comes to: with nothing put and nothing read
 -- from the source, and of these files some made
 pub record FailsAtOnce (early : Writes) (answer : Result (Unit {0}) Stop) (old new : World)
@@ -204,6 +203,11 @@ abbrev pub StepComesTo : (Outcome → Type 0) → Writes → Result (Unit {0}) S
     → Type 0
 StepComesTo Due early answer old new =
     FailsAtOnce early answer old new ⊎ ((due : Outcome) × Due due × StepDoes due answer old new)
+
+-- a step does what is due for the text of the source
+abbrev pub StepOnText : (List ℕ → Outcome) → Result (Unit {0}) Stop → World → World → Type 0
+StepOnText of_text answer old new =
+    StepComesTo (TextComesTo old.input.told of_text) [] answer old new
 
 -- what a complaint comes to by itself
 abbrev pub outcome_of : Complaint → Outcome
@@ -232,6 +236,14 @@ ReportDoes complaint status.Outside err new_err =
 ReportDoes complaint status.Memory err new_err = GetsFront (line_of complaint) err new_err
 ReportDoes complaint is err new_err =
     (is ≡ status_of complaint) × Gets (line_of complaint) err new_err
+
+-- how a run ends by what its step answered: a complaint is reported, and else nothing is put to the
+-- error sink
+abbrev pub EndsStep : Result (Unit {0}) Stop → Status → Seen (List ℕ) → Seen (List ℕ) → Type 0
+EndsStep (Ok _) is err new_err = (is ≡ status.Done) × (new_err ≡ err)
+EndsStep (Err (stop.Complaint complaint)) is err new_err = ReportDoes complaint is err new_err
+EndsStep (Err stop.Outside) is err new_err = (is ≡ status.Outside) × (new_err ≡ err)
+EndsStep (Err stop.Memory) is err new_err = (is ≡ status.Memory) × (new_err ≡ err)
 
 -- all was done: the sinks got their texts, and the files were made
 pub record DoesAll (due : Outcome) (old new : World) (err new_err : Seen (List ℕ)) : Type 0 where

@@ -8,8 +8,8 @@ use Rattle.jm_outside.specs.declared.shelf.ShelfError.{ShelfError}
 use Rattle.jm_outside.specs.declared.shelf.ShelfError.TheVariants as shelf_error
 use Rattle.jm_outside.specs.declared.streams.SinkError.{SinkError}
 use Rattle.jm_outside.specs.declared.streams.SinkError.TheVariants as sink_error
+use Rattle.jm_words.specs.declared.errors.WordsError.{WordsError}
 use Rattle.jm_words.specs.declared.errors.WordsError.TheVariants as error
-use Rattle.jm_words.specs.declared.errors.WordsKind.TheVariants as kind
 use Rattle.jm_modinfo.specs.declared.faults.DescriptorFault.{DescriptorFault}
 use Rattle.jm_link.specs.declared.linking.LinkStop.{LinkStop}
 use Rattle.jm_link.specs.declared.linking.LinkStop.TheVariants as link_stop
@@ -52,9 +52,10 @@ stop_of_session (Err (serve_error.LongLine k)) = Err (stop.Complaint (complaint.
 stop_of_session (Err serve_error.TooManyLines) = Err (stop.Complaint complaint.TooManyLines)
 stop_of_session (Err serve_error.Memory) = Err stop.Memory
 
--- how a command stops at a step of another one, where none ever stands
-abbrev pub misplaced_stop : Stop
-misplaced_stop = stop.Complaint (complaint.Words (error.Fault 1 kind.UnknownCommand))
+-- why a command stops where the words were read to none
+abbrev pub stop_of_words : WordsError → Stop
+stop_of_words (error.Fault at kind) = stop.Complaint (complaint.Words (error.Fault at kind))
+stop_of_words error.Memory = stop.Memory
 
 -- how `describe` stops where the file at a path is refused, unless no memory is found
 abbrev pub Refuses : List ℕ → DescriptorFault → Stop → Type 0

@@ -2,7 +2,7 @@ ghost use Rattle.std.specs.Prelude.{◌≡◌, ◌+◌, length};
 ghost use Rattle.jm_bytes.specs.Metered.{CostsAtMost, RisesAtMost};
 ghost use Rattle.jm_form.specs.Validity.{look};
 ghost use Rattle.jm_commands.specs.Cat.{content_of, CatDoes};
-ghost use Rattle.jm_commands.specs.Sinks.{seen};
+ghost use Rattle.jm_commands.specs.World.{sink_at};
 
 use jm_bytes::{Meter, Steps};
 use jm_outside::{Sink, SinkError};
@@ -26,8 +26,7 @@ pub fn cat_command<O: Sink, H: Ledger, R: Ledger>(
 ) -> Result<bool, SinkError>
     requires { reads.old.bytes ≡ image.now }
     ensures does { CatDoes (look image.now name.now) result
-        (seen (O.content out.old) (O.faults out.old))
-        (seen (O.content out.new) (O.faults out.new)) }
+        (sink_at O.Sink out.old) (sink_at O.Sink out.new) }
     ensures hashes { RisesAtMost hashes.old hashes.new 2 }
     ensures reads { CostsAtMost reads.old reads.new
         (length name.now + 76 + length (content_of (look image.now name.now))) }

@@ -1,15 +1,13 @@
 //! The command `extract`.
-ghost use Rattle.std.specs.Prelude.{◌≡◌, ◌<◌, ◌++◌, ℕ, IfOk, IsErrOf, IsUtf8, List, OnOk, Option};
+ghost use Rattle.std.specs.Prelude.{◌≡◌, ◌<◌, ℕ, IfOk, IsErrOf, IsUtf8, List};
 ghost use Rattle.jm_outside.specs.Outcome.{CountsFaults};
 ghost use Rattle.jm_extract.specs.Extracted.{Extracts, extracted};
 ghost use Rattle.jm_commands.specs.ExtractText.{extract_text};
 ghost use Rattle.jm_commands.specs.Outcome.{done, extract_outcome};
 ghost use Rattle.jm_commands.specs.Run.{PutDoes, StepDoes};
-ghost use Rattle.jm_commands.specs.Sinks.{seen};
-ghost use Rattle.jm_commands.specs.Stops.{stop_of_extract};
-ghost use Rattle.jm_commands.specs.World.{world};
+ghost use Rattle.jm_commands.specs.Sinks.{Seen};
+ghost use Rattle.jm_commands.specs.World.{shelf_at, sink_at, world};
 
-use crate::complaint::Complaint;
 use crate::output::put_output;
 use crate::stop::Stop;
 use itoa::Buffer;
@@ -34,22 +32,10 @@ fn extract_text(alloc: Global, count: usize) -> Result<Text, NoMemory>
     Ok(Text::from_vec(text))
 }
 
-/// How an extraction that stopped ends.
-fn stop_of_extract(stop: ExtractStop) -> Stop
-    ensures { result ≡ stop_of_extract stop }
-{
-    match stop {
-        ExtractStop::Refused(refusal) => Stop::Complaint(Complaint::Refused(refusal)),
-        ExtractStop::Outside => Stop::Outside,
-        ExtractStop::Memory => Stop::Memory,
-    }
-}
-
 /// Puts how many files were made.
 fn put_count<O: Sink>(alloc: Global, count: usize, out: &mut O) -> Result<(), Stop>
     ensures { PutDoes (done (extract_text count)) result
-        (seen (O.content out.old) (O.faults out.old))
-        (seen (O.content out.new) (O.faults out.new)) }
+        (sink_at O.Sink out.old) (sink_at O.Sink out.new) }
 {
     let text = extract_text(alloc, count)?;
     put_output(alloc, text.as_slice(), out)
@@ -92,16 +78,12 @@ pub fn extract_command<S: Shelf, O: Sink>(
 ) -> Result<(), Stop>
     requires bytes { image.now ≡ bytes.now }
     requires text { IsUtf8 dir.now }
-    ensures { (rest : Option (List ℕ)) (faults : ℕ) →
+    ensures { (source : Seen (List ℕ)) →
         StepDoes (extract_outcome dir.now (extracted bytes.now include.now)) result
-        (world (S.files shelf.old) (S.faults shelf.old) rest faults
-        (O.content out.old) (O.faults out.old))
-        (world (S.files shelf.new) (S.faults shelf.new) rest faults
-        (O.content out.new) (O.faults out.new)) }
+        (world (shelf_at S.Shelf shelf.old) source (sink_at O.Sink out.old))
+        (world (shelf_at S.Shelf shelf.new) source (sink_at O.Sink out.new)) }
 {
     let reads = Blank::new(1);
-    match extract_counted::<S, Brand>(alloc, image, bytes, include, dir, shelf, reads) {
-        Ok(count) => put_count(alloc, count, out),
-        Err(stop) => Err(stop_of_extract(stop)),
-    }
+    let count = extract_counted::<S, Brand>(alloc, image, bytes, include, dir, shelf, reads)?;
+    put_count(alloc, count, out)
 }

@@ -2,7 +2,7 @@ ghost use Rattle.std.specs.Prelude.{◌≡◌};
 ghost use Rattle.jm_commands.specs.HelpText.{help_text};
 ghost use Rattle.jm_commands.specs.Outcome.{done};
 ghost use Rattle.jm_commands.specs.Run.{PutDoes};
-ghost use Rattle.jm_commands.specs.Sinks.{seen};
+ghost use Rattle.jm_commands.specs.World.{sink_at};
 
 use crate::output::put_output;
 use crate::stop::Stop;
@@ -74,8 +74,7 @@ statuses:
 /// `--help`: every command with its words, the options, the plug-ins and the statuses.
 pub fn help_command<O: Sink>(alloc: Global, out: &mut O) -> Result<(), Stop>
     ensures { PutDoes (done help_text) result
-        (seen (O.content out.old) (O.faults out.old))
-        (seen (O.content out.new) (O.faults out.new)) }
+        (sink_at O.Sink out.old) (sink_at O.Sink out.new) }
 {
     put_output(alloc, HELP.as_bytes(), out)
 }

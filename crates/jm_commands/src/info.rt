@@ -1,7 +1,7 @@
 ghost use Rattle.jm_texts.specs.InfoText.{info_text};
 ghost use Rattle.jm_commands.specs.Outcome.{done};
 ghost use Rattle.jm_commands.specs.Run.{PutDoes};
-ghost use Rattle.jm_commands.specs.Sinks.{seen};
+ghost use Rattle.jm_commands.specs.World.{sink_at};
 
 use crate::output::put_output;
 use crate::stop::Stop;
@@ -13,8 +13,7 @@ use std::alloc::Global;
 /// `info`: what the header of an image says, and how long its contents are.
 pub fn info_command<O: Sink>(alloc: Global, image: &Image, out: &mut O) -> Result<(), Stop>
     ensures { PutDoes (done (info_text image.now)) result
-        (seen (O.content out.old) (O.faults out.old))
-        (seen (O.content out.new) (O.faults out.new)) }
+        (sink_at O.Sink out.old) (sink_at O.Sink out.new) }
 {
     let header = image.header();
     let contents = image.buf().len() - header.contents_place();

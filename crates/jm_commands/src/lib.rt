@@ -19,6 +19,7 @@ mod status;
 mod stop;
 mod verify;
 mod version;
+mod workers;
 
 pub use cat::cat_command;
 pub use program::run;

@@ -2,8 +2,8 @@ ghost use Rattle.std.specs.Prelude.{◌≡◌, ◌<◌, ◌++◌, IfOk, OnOk, ma
 ghost use Rattle.jm_commands.specs.ListText.{list_line, list_text};
 ghost use Rattle.jm_commands.specs.Outcome.{done};
 ghost use Rattle.jm_commands.specs.Run.{PutDoes};
-ghost use Rattle.jm_commands.specs.Sinks.{seen};
 ghost use Rattle.jm_extract.specs.Taken.{taken_as};
+ghost use Rattle.jm_commands.specs.World.{sink_at};
 
 use crate::output::put_output;
 use crate::stop::Stop;
@@ -70,8 +70,7 @@ pub fn list_command<O: Sink>(
 ) -> Result<(), Stop>
     requires { image.now ≡ bytes.now }
     ensures { PutDoes (done (list_text bytes.now include.now)) result
-        (seen (O.content out.old) (O.faults out.old))
-        (seen (O.content out.new) (O.faults out.new)) }
+        (sink_at O.Sink out.old) (sink_at O.Sink out.new) }
 {
     let text = list_text::<Brand>(alloc, image, bytes, include, Blank::new(1))?;
     put_output(alloc, text.as_slice(), out)

@@ -4,7 +4,7 @@ ghost use Rattle.jm_jrt.specs.Reply.{held_lines};
 ghost use Rattle.jm_jrt.specs.Stat.{held, stat};
 ghost use Rattle.jm_commands.specs.Outcome.{done, ls_outcome};
 ghost use Rattle.jm_commands.specs.Run.{PutDoes, outcome_of};
-ghost use Rattle.jm_commands.specs.Sinks.{seen};
+ghost use Rattle.jm_commands.specs.World.{sink_at};
 
 use crate::complaint::Complaint;
 use crate::output::put_output;
@@ -39,8 +39,7 @@ fn put_children<O: Sink, R: Ledger>(
 ) -> Result<(), Stop>
     requires { reads.old.bytes ≡ list.old.bytes }
     ensures { PutDoes (done (held_lines path.now list.old.rest)) result
-        (seen (O.content out.old) (O.faults out.old))
-        (seen (O.content out.new) (O.faults out.new)) }
+        (sink_at O.Sink out.old) (sink_at O.Sink out.new) }
 {
     let mut text = Vec::new(alloc);
     extend_children(alloc, &mut text, path, list, reads)?;
@@ -65,8 +64,7 @@ fn ls_counted<O: Sink, H: Ledger, R: Ledger>(
     requires reads_parts { reads.parts ≡ R.parts }
     requires reads_some { 0 < reads.parts }
     ensures { PutDoes (ls_outcome path.now (held (stat bytes.now path.now))) result
-        (seen (O.content out.old) (O.faults out.old))
-        (seen (O.content out.new) (O.faults out.new)) }
+        (sink_at O.Sink out.old) (sink_at O.Sink out.new) }
 {
     let mut hashes = Steps::<H>::new(hashes);
     let mut reads = Meter::<R>::new(bytes, reads);
@@ -87,8 +85,7 @@ pub fn ls_command<O: Sink>(
 ) -> Result<(), Stop>
     requires { image.now ≡ bytes.now }
     ensures { PutDoes (ls_outcome path.now (held (stat bytes.now path.now))) result
-        (seen (O.content out.old) (O.faults out.old))
-        (seen (O.content out.new) (O.faults out.new)) }
+        (sink_at O.Sink out.old) (sink_at O.Sink out.new) }
 {
     let (hashes, reads) = (Blank::new(1), Blank::new(1));
     ls_counted::<O, Brand, Brand>(alloc, image, bytes, path, out, hashes, reads)

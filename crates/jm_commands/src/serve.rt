@@ -1,13 +1,14 @@
 //! The command `serve`.
-ghost use Rattle.std.specs.Prelude.{◌≡◌, ◌<◌, ℕ, IsErrOf, Option};
+ghost use Rattle.std.specs.Prelude.{◌≡◌, ◌<◌, IsErrOf};
 ghost use Rattle.jm_bytes.specs.Metered.{Metered};
 ghost use Rattle.jm_outside.specs.Files.{Files};
 ghost use Rattle.jm_outside.specs.Outcome.{CountsFaults};
 ghost use Rattle.jm_jrt.specs.Sessions.{Serves};
 ghost use Rattle.jm_commands.specs.Outcome.{session_outcome};
 ghost use Rattle.jm_commands.specs.Run.{StepOnText};
+ghost use Rattle.jm_commands.specs.Sinks.{Seen};
 ghost use Rattle.jm_commands.specs.Stops.{stop_of_session};
-ghost use Rattle.jm_commands.specs.World.{world};
+ghost use Rattle.jm_commands.specs.World.{sink_at, source_at, world};
 
 use crate::complaint::Complaint;
 use crate::stop::Stop;
@@ -73,12 +74,10 @@ pub fn serve_command<I: Source, O: Sink>(
     out: &mut O,
 ) -> Result<(), Stop>
     requires { image.now ≡ bytes.now }
-    ensures { (files : Option Files) (faults : ℕ) →
+    ensures { (shelf : Seen Files) →
         StepOnText (session_outcome bytes.now) result
-        (world files faults (I.rest input.old) (I.faults input.old)
-        (O.content out.old) (O.faults out.old))
-        (world files faults (I.rest input.new) (I.faults input.new)
-        (O.content out.new) (O.faults out.new)) }
+        (world shelf (source_at I.Source input.old) (sink_at O.Sink out.old))
+        (world shelf (source_at I.Source input.new) (sink_at O.Sink out.new)) }
 {
     let (hashes, reads) = (Blank::new(1), Blank::new(1));
     let answered = serve_counted::<I, O, Brand, Brand>(

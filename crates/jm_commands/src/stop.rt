@@ -1,10 +1,13 @@
 ghost use Rattle.std.specs.Prelude.{◌≡◌};
-ghost use Rattle.jm_commands.specs.Stops.{stop_of_shelf, stop_of_sink, misplaced_stop};
+ghost use Rattle.jm_commands.specs.Stops.{stop_of_extract, stop_of_link, stop_of_shelf};
+ghost use Rattle.jm_commands.specs.Stops.{stop_of_sink, stop_of_words};
 
 use crate::complaint::Complaint;
 use jm_bytes::NoMemory;
+use jm_extract::ExtractStop;
+use jm_link::LinkStop;
 use jm_outside::{ShelfError, SinkError};
-use jm_words::{WordsError, WordsKind};
+use jm_words::WordsError;
 use std::alloc::AllocError;
 
 /// Why a command has not put its whole output.
@@ -40,6 +43,44 @@ impl From<SinkError> for Stop {
     }
 }
 
+impl From<ExtractStop> for Stop {
+    ghost from_gives = { λ error stop. stop ≡ stop_of_extract error };
+
+    fn from(error: ExtractStop) -> Stop {
+        match error {
+            ExtractStop::Refused(refusal) => Stop::Complaint(Complaint::Refused(refusal)),
+            ExtractStop::Outside => Stop::Outside,
+            ExtractStop::Memory => Stop::Memory,
+        }
+    }
+}
+
+impl From<LinkStop> for Stop {
+    ghost from_gives = { λ error stop. stop ≡ stop_of_link error };
+
+    fn from(error: LinkStop) -> Stop {
+        match error {
+            LinkStop::Refused(refusal) => Stop::Complaint(Complaint::Refused(refusal)),
+            LinkStop::NotThere(path) => Stop::Complaint(Complaint::NotThere(path)),
+            LinkStop::Outside => Stop::Outside,
+            LinkStop::Memory => Stop::Memory,
+        }
+    }
+}
+
+impl From<WordsError> for Stop {
+    ghost from_gives = { λ error stop. stop ≡ stop_of_words error };
+
+    fn from(error: WordsError) -> Stop {
+        match error {
+            WordsError::Memory => Stop::Memory,
+            WordsError::Fault { at, kind } => {
+                Stop::Complaint(Complaint::Words(WordsError::Fault { at, kind }))
+            }
+        }
+    }
+}
+
 impl From<NoMemory> for Stop {
     ghost use Rattle.jm_commands.specs.declared.stop.Stop.TheVariants as stop;
 
@@ -58,15 +99,4 @@ impl From<AllocError> for Stop {
     fn from(_: AllocError) -> Stop {
         Stop::Memory
     }
-}
-
-/// How a command ends that stands at a step of another one, where none ever stands: as if its name
-/// were unknown.
-pub fn misplaced() -> Stop
-    ensures { result ≡ misplaced_stop }
-{
-    Stop::Complaint(Complaint::Words(WordsError::Fault {
-        at: 1,
-        kind: WordsKind::UnknownCommand,
-    }))
 }

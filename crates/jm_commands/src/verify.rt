@@ -2,8 +2,8 @@ ghost use Rattle.std.specs.Prelude.{◌≡◌, ◌++◌, codes, IfOk, string_byt
 ghost use Rattle.std.specs.Fmt.{decimal};
 ghost use Rattle.jm_commands.specs.Outcome.{done};
 ghost use Rattle.jm_commands.specs.Run.{PutDoes};
-ghost use Rattle.jm_commands.specs.Sinks.{seen};
 ghost use Rattle.jm_commands.specs.VerifyText.{verify_text};
+ghost use Rattle.jm_commands.specs.World.{sink_at};
 
 use crate::output::put_output;
 use crate::stop::Stop;
@@ -22,8 +22,7 @@ fn valid_line(alloc: Global, count: u32) -> Result<String, AllocError>
 /// `verify`: the number of entries of an image, which has no damage.
 pub fn verify_command<O: Sink>(alloc: Global, image: &Image, out: &mut O) -> Result<(), Stop>
     ensures { PutDoes (done (verify_text image.now)) result
-        (seen (O.content out.old) (O.faults out.old))
-        (seen (O.content out.new) (O.faults out.new)) }
+        (sink_at O.Sink out.old) (sink_at O.Sink out.new) }
 {
     let line = valid_line(alloc, image.header().count)?;
     put_output(alloc, line.as_bytes(), out)

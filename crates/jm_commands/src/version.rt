@@ -1,7 +1,7 @@
 ghost use Rattle.jm_commands.specs.HelpText.{version_text};
 ghost use Rattle.jm_commands.specs.Outcome.{done};
 ghost use Rattle.jm_commands.specs.Run.{PutDoes};
-ghost use Rattle.jm_commands.specs.Sinks.{seen};
+ghost use Rattle.jm_commands.specs.World.{sink_at};
 
 use crate::output::put_output;
 use crate::stop::Stop;
@@ -11,8 +11,7 @@ use std::alloc::Global;
 /// `--version`: the name and the version of the program.
 pub fn version_command<O: Sink>(alloc: Global, out: &mut O) -> Result<(), Stop>
     ensures { PutDoes (done version_text) result
-        (seen (O.content out.old) (O.faults out.old))
-        (seen (O.content out.new) (O.faults out.new)) }
+        (sink_at O.Sink out.old) (sink_at O.Sink out.new) }
 {
     put_output(alloc, b"jm_tool 0.1.0\n", out)
 }

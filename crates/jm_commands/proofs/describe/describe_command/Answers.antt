@@ -1,15 +1,22 @@
-use Rattle.std.proofs.Common.{Err, ap, refl}
-use Rattle.jm_class.specs.Views.{plain}
-use Rattle.jm_modinfo.specs.declared.faults.DescriptorFault.TheVariants as kind
-use Rattle.jm_commands.proofs.DescribeLaws.{class_due, no_class_due, refused_step}
+use Rattle.std.proofs.Common.{◌≡◌, [], refl}
+use Rattle.jm_commands.specs.Outcome.{describe_outcome}
+use Rattle.jm_commands.specs.World.{shelf_at, sink_at, world}
+use Rattle.jm_commands.proofs.OutcomeLaws.{describe_session}
+use Rattle.jm_commands.proofs.StepLaws.{file_read, file_unread, put_comes}
 use Rattle.jm_commands.proofs.describe.describe_command.Goals as goal
 
 pub returns-in-Ok : goal.returns-in-Ok
-returns-in-Ok g c =
-    rw (class_due c.args.path.now c.args.bytes.now (plain c.in-Ok.class) c.in-Ok.ensures.class) c.describe_class.ensures
+returns-in-Ok g c source =
+    let read = c.in-Ok.ensures in
+    let path = c.args.path.now in
+    let b = c.in-Ok.bytes in
+    let put = rw (c.as_slice.ensures, c.as_slice-in-Ok.ensures) at c.describe_bytes.ensures in
+    file_read (λ bytes due. due ≡ describe_outcome path bytes) path b (shelf_at g.S.Shelf c.args.shelf.now)
+    (world (shelf_at g.S.Shelf c.file_bytes.new.shelf) source (sink_at g.O.Sink c.args.out.now))
+    _ _ read.reads read.files read.faults.count
+    (put_comes (λ due. due ≡ describe_outcome path b) [] (describe_outcome path b) _ _ _ refl put refl refl (describe_session path b))
 
-pub returns-in-Err-Fault : goal.returns-in-Err-Fault
-returns-in-Err-Fault g c =
-    let fault = c.in-Err-Fault.fault in
-    let due = no_class_due c.args.path.now c.args.bytes.now fault (c.in-Err-Fault.ensures.fault fault (ap (λ e. Err e) c.in-Err-Fault.field-0-is)) in
-    refused_step _ c.args.path.now (kind.Class fault) c.refuse.result _ _ due c.refuse.ensures refl
+pub returns-in-Err : goal.returns-in-Err
+returns-in-Err g c source =
+    let read = c.in-Err.ensures in
+    file_unread _ c.args.path.now c.in-Err.stop _ _ read.reads (record { files = read.files; source = refl; output = refl }) (λ failed. read.faults.rose (rw failed refl))

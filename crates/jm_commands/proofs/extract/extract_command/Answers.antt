@@ -1,11 +1,13 @@
-use Rattle.std.proofs.Common.{Err, ap, refl}
+use Rattle.std.proofs.Common.{refl}
 use Rattle.jm_commands.proofs.ExtractLaws.{extract_put, extract_stopped}
+use Rattle.jm_commands.proofs.StepLaws.{from_stop}
 use Rattle.jm_commands.proofs.extract.extract_command.Goals as goal
 
-pub returns-in-Ok : goal.returns-in-Ok
-returns-in-Ok g c rest faults = extract_put c.args.dir.now _ _ _ refl c.in-Ok.count _ c.in-Ok.ensures.extracts c.put_count.ensures
+pub returns-in_err-count : goal.returns-in_err-count
+returns-in_err-count g c source =
+    let did = c.in_err-count.ensures in
+    let is = from_stop c.from_residual.result _ c.from_residual.ensures.1 in
+    rw is (extract_stopped c.args.dir.now _ _ _ refl _ did.extracts (λ failed. did.faults.rose (rw failed refl)) refl)
 
-pub returns-in-Err : goal.returns-in-Err
-returns-in-Err g c rest faults =
-    let did = c.in-Err.ensures in
-    rw c.stop_of_extract.ensures (extract_stopped c.args.dir.now _ _ _ refl c.in-Err.stop did.extracts (λ failed. did.faults.rose (rw failed refl)) refl)
+pub returns : goal.returns
+returns g c source = extract_put c.args.dir.now _ _ _ refl _ _ c.in_ok-count.ensures.extracts c.put_count.ensures

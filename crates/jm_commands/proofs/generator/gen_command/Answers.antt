@@ -1,31 +1,36 @@
-use Rattle.std.proofs.Common.{◌++◌, ℕ, List, refl, ap, ◌∙◌, subst}
+use Rattle.std.proofs.Common.{◌≡◌, ◌++◌, ℕ, List, Ok, Err, refl, ◌∙◌, subst}
+use Rattle.std.specs.Prelude.{codes}
 use Rattle.jm_outside.specs.Made.{MadeAll}
 use Rattle.jm_gen.specs.Generated.{generated}
-use Rattle.jm_commands.specs.Gen.{gen_from}
-use Rattle.jm_commands.specs.Sinks.{seen}
-use Rattle.jm_commands.specs.World.{world}
-use Rattle.jm_commands.proofs.GenLaws.{gen_put, gen_stopped}
+use Rattle.jm_commands.specs.Gen.{Gen, image_path, modules_path}
+use Rattle.jm_commands.specs.World.{shelf_at, sink_at, world}
+use Rattle.jm_commands.proofs.GenLaws.{gen_put, gen_stopped, links_as}
+use Rattle.jm_commands.proofs.OutcomeLaws.{only_gen}
+use Rattle.jm_commands.proofs.StepLaws.{from_stop}
 use Rattle.jm_commands.proofs.generator.gen_command.Goals as goal
 
-pub returns-in-Ok : goal.returns-in-Ok
-returns-in-Ok g c rest faults =
-    let gen = gen_from c.args.words.now in
-    let old = g.S.Shelf.files c.args.shelf.now in
-    let now = g.S.Shelf.files c.generate.new.shelf in
-    let path = c.as_slice.ensures ∙ c.in_ok-mods.ensures.path ∙ ap (λ (end : List ℕ). gen.dir ++ end) c.as_bytes.ensures.value in
-    let made = subst (λ (dir : List ℕ). MadeAll (generated dir gen.modules gen.classes gen.seed) old now) path c.in_ok-generate.ensures.ok in
-    gen_put gen (seen old (g.S.Shelf.faults c.args.shelf.now))
-    (world now (g.S.Shelf.faults c.generate.new.shelf) rest faults (g.O.Sink.content c.args.out.now) (g.O.Sink.faults c.args.out.now))
-    _ c.in-Ok.summary c.put_generated.result made c.in_ok-generate.ensures.faults.count refl c.in-Ok.ensures c.put_generated.ensures
+pub unreachable-requires : goal.unreachable-requires
+unreachable-requires g c = only_gen c.args.command c.requires.generates c.in_default.not-Gen
 
-pub returns-in-Err : goal.returns-in-Err
-returns-in-Err g c rest faults =
-    let gen = gen_from c.args.words.now in
-    let old = g.S.Shelf.files c.args.shelf.now in
-    let now = g.S.Shelf.files c.generate.new.shelf in
-    let path = c.as_slice.ensures ∙ c.in_ok-mods.ensures.path ∙ ap (λ (end : List ℕ). gen.dir ++ end) c.as_bytes.ensures.value in
-    let made = subst (λ (dir : List ℕ). MadeAll (generated dir gen.modules gen.classes gen.seed) old now) path c.in_ok-generate.ensures.ok in
-    rw c.stop_of_link.ensures
-    (gen_stopped gen (seen old (g.S.Shelf.faults c.args.shelf.now))
-    (world now (g.S.Shelf.faults c.generate.new.shelf) rest faults (g.O.Sink.content c.args.out.now) (g.O.Sink.faults c.args.out.now))
-    _ c.in-Err.stop made c.in_ok-generate.ensures.faults.count refl c.in-Err.ensures refl)
+pub returns : goal.returns
+returns g c source =
+    let gen : Gen = record { dir = c.in-Gen.dir; modules = c.in-Gen.modules; classes = c.in-Gen.classes; seed = c.in-Gen.seed } in
+    let path : c.in_ok-mods.mods ≡ modules_path gen = c.in_ok-mods.ensures.path ∙ rw (c.as_slice-dir.ensures, c.as_bytes.ensures.value) refl in
+    let made = subst (λ (dir : List ℕ). MadeAll (generated dir gen.modules gen.classes gen.seed) (g.S.Shelf.files c.args.shelf.now) (g.S.Shelf.files c.generate.new.shelf)) (c.as_slice.ensures ∙ path) c.in_ok-generate.ensures.ok in
+    let image : c.as_slice-dir.result.now ++ codes "/image" ≡ image_path gen = rw c.as_slice-dir.ensures refl in
+    let links = links_as gen _ _ (Ok c.in_ok-summary.summary) (g.S.Shelf.files c.generate.new.shelf) (g.S.Shelf.files c.link_generated.new.shelf) (g.S.Shelf.faults c.generate.new.shelf) (g.S.Shelf.faults c.link_generated.new.shelf) path image c.in_ok-summary.ensures in
+    rw c.in-Gen.is
+    (gen_put gen (shelf_at g.S.Shelf c.args.shelf.now) (world (shelf_at g.S.Shelf c.generate.new.shelf) source (sink_at g.O.Sink c.args.out.now))
+    _ _ _ made c.in_ok-generate.ensures.faults.count refl links c.put_generated.ensures)
+
+pub returns-in_err-summary : goal.returns-in_err-summary
+returns-in_err-summary g c source =
+    let gen : Gen = record { dir = c.in-Gen.dir; modules = c.in-Gen.modules; classes = c.in-Gen.classes; seed = c.in-Gen.seed } in
+    let path : c.in_ok-mods.mods ≡ modules_path gen = c.in_ok-mods.ensures.path ∙ rw (c.as_slice-dir.ensures, c.as_bytes.ensures.value) refl in
+    let made = subst (λ (dir : List ℕ). MadeAll (generated dir gen.modules gen.classes gen.seed) (g.S.Shelf.files c.args.shelf.now) (g.S.Shelf.files c.generate.new.shelf)) (c.as_slice.ensures ∙ path) c.in_ok-generate.ensures.ok in
+    let image : c.as_slice-dir.result.now ++ codes "/image" ≡ image_path gen = rw c.as_slice-dir.ensures refl in
+    let links = links_as gen _ _ (Err c.in_err-summary.field-0.0) (g.S.Shelf.files c.generate.new.shelf) (g.S.Shelf.files c.link_generated.new.shelf) (g.S.Shelf.faults c.generate.new.shelf) (g.S.Shelf.faults c.link_generated.new.shelf) path image c.in_err-summary.ensures in
+    let is = from_stop c.from_residual-in_err-summary.result _ c.from_residual-in_err-summary.ensures.1 in
+    rw (c.in-Gen.is, is)
+    (gen_stopped gen (shelf_at g.S.Shelf c.args.shelf.now) (world (shelf_at g.S.Shelf c.generate.new.shelf) source (sink_at g.O.Sink c.args.out.now))
+    _ _ made c.in_ok-generate.ensures.faults.count refl links refl)

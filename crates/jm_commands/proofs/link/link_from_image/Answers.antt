@@ -1,20 +1,28 @@
 use Rattle.std.proofs.Common.{refl}
+use Rattle.jm_form.specs.Damages.{first_damage}
 use Rattle.jm_commands.specs.Outcome.{link_from}
-use Rattle.jm_commands.specs.Sinks.{seen}
-use Rattle.jm_commands.specs.World.{world}
-use Rattle.jm_commands.proofs.LinkLaws.{link_read, link_unread}
+use Rattle.jm_commands.specs.Run.{ImageLinkComesTo, OpenedComesTo}
+use Rattle.jm_commands.proofs.StepLaws.{file_read, file_unread, image_unopened}
 use Rattle.jm_commands.proofs.link.link_from_image.Goals as goal
 
-pub returns-in-Ok : goal.returns-in-Ok
-returns-in-Ok g c rest faults =
+pub returns-in-Ok-opened : goal.returns-in-Ok-opened
+returns-in-Ok-opened g c source =
     let read = c.in-Ok.ensures in
-    let does = c.link_bytes.ensures rest faults in
-    let linked = rw c.as_slice.ensures at does in
-    link_read (link_from c.args.words.now) c.args.path.now c.in-Ok.bytes (seen (g.S.Shelf.files c.args.shelf.now) (g.S.Shelf.faults c.args.shelf.now))
-    (world (g.S.Shelf.files c.file_bytes.new.shelf) (g.S.Shelf.faults c.file_bytes.new.shelf) rest faults (g.O.Sink.content c.args.out.now) (g.O.Sink.faults c.args.out.now))
-    _ _ read.reads read.files read.faults.count linked
+    let b = c.as_slice-bytes.result.now in
+    let link = link_from c.args.words.now in
+    file_read (λ bytes. OpenedComesTo (ImageLinkComesTo link bytes) (first_damage bytes)) c.args.path.now b _ _ _ _
+    (rw c.as_slice-bytes.ensures read.reads) read.files read.faults.count (rw c.in-Ok-opened.ensures.opens (c.link_opened.ensures source))
 
-pub returns-in-Err : goal.returns-in-Err
-returns-in-Err g c rest faults =
+pub returns-in-Ok : goal.returns-in-Ok
+returns-in-Ok g c source =
+    let read = c.in-Ok.ensures in
+    let b = c.as_slice-bytes.result.now in
+    let link = link_from c.args.words.now in
+    file_read (λ bytes. OpenedComesTo (ImageLinkComesTo link bytes) (first_damage bytes)) c.args.path.now b _ _ _ _
+    (rw c.as_slice-bytes.ensures read.reads) read.files read.faults.count (image_unopened (ImageLinkComesTo link b) b c.in-Err-opened.stop _ c.in-Err-opened.ensures.opens)
+
+pub returns : goal.returns
+returns g c source =
     let read = c.in-Err.ensures in
-    link_unread (link_from c.args.words.now) c.args.path.now c.in-Err.stop _ _ read.reads (record { files = read.files; source = refl; output = refl }) (λ failed. read.faults.rose (rw failed refl))
+    let link = link_from c.args.words.now in
+    file_unread (λ bytes. OpenedComesTo (ImageLinkComesTo link bytes) (first_damage bytes)) c.args.path.now c.in-Err.stop _ _ read.reads (record { files = read.files; source = refl; output = refl }) (λ failed. read.faults.rose (rw failed refl))

@@ -1,11 +1,11 @@
-use Rattle.std.proofs.Common.{rules, refl}
+use Rattle.std.proofs.Common.{refl}
 use Rattle.jm_form.specs.Validity.{look}
 use Rattle.jm_extract.specs.Extracted.{extracted}
 use Rattle.jm_jrt.specs.Stat.{held, stat}
-use Rattle.jm_commands.specs.Outcome.{cat_outcome, extract_outcome, image_outcome, ls_outcome, misplaced}
+use Rattle.jm_commands.specs.Outcome.{cat_outcome, extract_outcome, ls_outcome}
 use Rattle.jm_commands.proofs.OutcomeLaws.{cat_session, ls_session}
-use Rattle.jm_commands.proofs.StepLaws.{complained, on_any_text, put_on_text}
-use Rattle.jm_commands.proofs.image_file.do_on_image.Goals as goal
+use Rattle.jm_commands.proofs.StepLaws.{on_any_text, put_on_text}
+use Rattle.jm_commands.proofs.image_file.do_task.Goals as goal
 
 pub returns-in-Cat : goal.returns-in-Cat
 returns-in-Cat g c =
@@ -26,17 +26,12 @@ pub returns-in-Extract : goal.returns-in-Extract
 returns-in-Extract g c =
     let dir = c.as_slice-in-Extract.result.now in
     let due = extracted c.args.bytes.now c.in-Extract.include in
-    rw c.in-Extract.is (on_any_text _ (extract_outcome dir due) _ _ _ (λ text. rw c.as_slice-in-Extract.ensures refl) (c.extract_command.ensures _ _))
+    rw c.in-Extract.is (on_any_text _ (extract_outcome dir due) _ _ _ (λ text. rw c.as_slice-in-Extract.ensures refl) (c.extract_command.ensures _))
 
 pub returns-in-Verify : goal.returns-in-Verify
 returns-in-Verify g c =
     let put = rw c.requires.bytes at c.verify_command.ensures in
     rw c.in-Verify.is (put_on_text _ _ _ _ _ put refl refl refl (λ text. refl))
-
-pub returns-in-Link : goal.returns-in-Link
-returns-in-Link g c =
-    rw c.misplaced.ensures
-    (put_on_text (image_outcome c.args.command.now c.args.bytes.now) misplaced _ _ _ (complained misplaced _ _ _ refl refl) refl refl refl (λ text. search rules))
 
 pub returns-in-Ls : goal.returns-in-Ls
 returns-in-Ls g c =
@@ -45,4 +40,4 @@ returns-in-Ls g c =
     rw c.in-Ls.is (put_on_text _ (ls_outcome path holds) _ _ _ c.ls_command.ensures refl refl (ls_session path holds) (λ text. rw c.as_slice-in-Ls.ensures refl))
 
 pub returns-in-Serve : goal.returns-in-Serve
-returns-in-Serve g c = rw c.in-Serve.is (c.serve_command.ensures _ _)
+returns-in-Serve g c = rw c.in-Serve.is (c.serve_command.ensures _)
