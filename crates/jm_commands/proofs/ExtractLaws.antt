@@ -1,5 +1,5 @@
 -- What `extract` does, from what its call answered.
-use Rattle.std.proofs.Common.{◌≡◌, inl, inr, ℕ, List, [], length, Option, None, Result, Ok, Err, refl, sym, ◌∙◌, subst}
+use Rattle.std.proofs.Common.{◌≡◌, inl, inr, ℕ, List, [], length, Option, None, Result, Ok, Err, refl, sym, subst}
 use Rattle.jm_outside.specs.Made.{MadePart}
 use Rattle.jm_outside.proofs.MadeLaws.{part_of_all}
 use Rattle.jm_names.specs.ByName.{Named}

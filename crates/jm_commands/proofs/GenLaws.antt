@@ -1,5 +1,5 @@
 -- What `gen` does, from what its calls answered.
-use Rattle.std.proofs.Common.{◌≡◌, ◌≤◌, ◌⊎◌, inl, inr, ℕ, List, [], ◌++◌, ◌∷◌, Option, Result, Ok, Err, refl, ◌∙◌, subst, append-nil}
+use Rattle.std.proofs.Common.{◌≡◌, ◌≤◌, inl, inr, ℕ, List, [], ◌++◌, ◌∷◌, Option, Result, Ok, Err, refl, subst, append-nil}
 use Rattle.jm_outside.specs.Files.{Files}
 use Rattle.jm_outside.specs.Outcome.{Rose}
 use Rattle.jm_outside.specs.declared.shelf.ShelfError.{ShelfError}
@@ -9,7 +9,6 @@ use Rattle.jm_outside.proofs.MadeLaws.{made_append, part_append}
 use Rattle.jm_link.specs.declared.linking.LinkStop.{LinkStop}
 use Rattle.jm_link.specs.declared.linking.Summary.{Summary}
 use Rattle.jm_link.specs.Links.{Links}
-use Rattle.jm_plugins.specs.declared.Plugin.TheVariants as plugin
 use Rattle.jm_commands.specs.declared.stop.Stop.{Stop}
 use Rattle.jm_commands.specs.declared.stop.Stop.TheVariants as stop
 use Rattle.jm_commands.specs.Gen.{Gen, gen_request, generated_request, image_path, made_first, modules_path}

@@ -1,5 +1,5 @@
 -- What `link` does, from what its call answered.
-use Rattle.std.proofs.Common.{◌≡◌, ◌⊎◌, inl, inr, ℕ, ◌≤◌, List, [], ◌∷◌, Option, Some, None, Result, Ok, Err, refl, sym, ap, ◌∙◌, subst, arith}
+use Rattle.std.proofs.Common.{◌≡◌, inl, inr, ℕ, List, [], Option, Some, None, Result, Ok, Err, refl, sym, ap, subst, arith}
 use Rattle.jm_bytes.specs.declared.words.Order.{Order}
 use Rattle.jm_outside.specs.Files.{Files, put}
 use Rattle.jm_outside.specs.Outcome.{Shows}
