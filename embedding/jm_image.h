@@ -3,6 +3,7 @@
  * Each call says what it promises, which is proved, and what it asks of its caller, which nothing
  * checks. Bytes come as a pointer and a length; a pointer is not null, not even for no byte, and
  * the bytes stay as they are while the call runs. Places count bytes from the front of the image.
+ * Names and paths are taken byte for byte, as the image has them: in Modified UTF-8.
  *
  * VALID stands for: jm_image_check gave the kind JM_VALID for exactly these bytes, and they were
  * not changed since. Calls that ask for it take no memory and change nothing but their answer, so
@@ -23,10 +24,12 @@ enum {
   JM_OFFSET = 5,     /* first: a slot whose offset lies outside the locations */
   JM_ROW = 6,        /* first: a slot at whose offset no row is spelled */
   JM_COMPRESSED = 7, /* first: a slot whose content is compressed */
-  JM_TEXT = 8,       /* first: a slot; second: the kind of its text that doesn't end, 1 to 4 */
+  JM_TEXT = 8,       /* first: a slot; second: its text that doesn't end in the strings: 1 module,
+                        2 parent, 3 base, 4 extension */
   JM_RANGE = 9,      /* first: a slot whose content reaches past the end of the file */
   JM_COUNT = 10,     /* first: the entries that the header states; second: those found */
-  JM_OVERLAP = 11,   /* first, second: the two least slots whose contents share a byte */
+  JM_OVERLAP = 11,   /* first: the least slot whose content shares a byte with another's; second:
+                        the least of those others */
   JM_NO_MEMORY = 12  /* no memory was found; it says nothing of the bytes */
 };
 struct jm_verdict { uint32_t kind, first, second; };
