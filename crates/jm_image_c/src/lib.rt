@@ -45,8 +45,8 @@ pub extern "C" fn jm_image_check(alloc: Global, bytes: &[u8]) -> Verdict
     }
 }
 
-/// Where the content of the entry of a name stands; nowhere exactly where no entry has the name. It
-/// costs what `find_content` says.
+/// Where the content of the entry of a name stands; nowhere exactly where no entry has the name.
+/// What the look-up costs is said by the clauses of `content_named`.
 #[unsafe(no_mangle)]
 pub extern "C" fn jm_image_find(bytes: &[u8], name: &[u8]) -> Content
     requires { Valid bytes.now }
@@ -70,8 +70,7 @@ pub extern "C" fn jm_image_stat(bytes: &[u8], path: &[u8]) -> Standing
 }
 
 /// The first owner, of the package at a path such as `/packages/java.lang`, for which it isn't
-/// empty. As many bytes of its name as there is room for are put into `name`; the other bytes of
-/// the room stay.
+/// empty. As many bytes of its name as there is room for are put into `name`.
 #[unsafe(no_mangle)]
 pub extern "C" fn jm_image_owner(bytes: &[u8], path: &[u8], name: &mut [u8]) -> Owner
     requires { Valid bytes.now }
