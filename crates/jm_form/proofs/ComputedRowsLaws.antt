@@ -1,22 +1,74 @@
 -- The row that `row_front` computes is the one that `Spells` rules: both ways, and no spelling is a
 -- proper prefix of another.
-use Rattle.std.proofs.Common.{◌≡◌, ℕ, zero, suc, ◌+◌, ◌-◌, ◌*◌, ◌/◌, ◌%◌, ◌<◌, ◌≤◌, ◌&&◌, inl, inr, Bool, true, cond, List, [], ◌∷◌, ◌++◌, length, take, drop, Option, Some, None, refl, sym, ap, ◌∙◌, subst, arith, append_assoc, length-append, length-take, length-drop, take-append-drop, option_map}
+use Rattle.std.proofs.Common.{◌≡◌, ℕ, zero, suc, ◌+◌, ◌-◌, ◌*◌, ◌/◌, ◌%◌, ◌<◌, ◌≤◌, ◌^◌, ◌&&◌, ◌⊎◌, inl, inr, Bool, true, cond, List, [], ◌∷◌, ◌++◌, length, slice_index, take, drop, Option, Some, None, refl, sym, ap, ◌∙◌, subst, arith, append_assoc, length-append, length-take, length-drop, take-append-drop, option_map}
+use Rattle.std.proofs.Math.Nat.{add-mul, mul_assoc, pow-suc}
 use Rattle.std.proofs.lemmas.Bool.{ltb-false, ltb-true}
 use Rattle.std.proofs.lemmas.Bool.Decides.{nat_tests}
 use Rattle.std.proofs.lemmas.List.{nil_from_length, take_all, take_at, take-take, drop_at, length-take-le}
 use Rattle.std.specs.List.{flat_map}
 use Rattle.std.specs.Prelude.{nat_lt, nat_le}
-use Rattle.byteorder.specs.Endian.{big_number}
+use Rattle.byteorder.specs.Endian.{big_from, big_number}
 use Rattle.byteorder.specs.Numbers.{big_from-append, big_from-take}
 use Rattle.jm_form.specs.declared.rows.Row.{Row}
 use Rattle.jm_form.specs.ComputedRows.{row_from, row_front}
 use Rattle.jm_form.specs.Rows.{Attribute, spelled, Rising, Spells, blank, row_of, with_value}
 use Rattle.jm_bytes.proofs.Choice.{chosen, same_first, same_second}
 
+-- the number of the bytes from a place and one more
+number_behind : (i n : ℕ) (bytes : List ℕ) → big_from i (suc n) bytes ≡ big_from i n bytes * 256 + slice_index bytes (i + n)
+number_behind i zero bytes = let place : i + 0 ≡ i = omega arith in rw place (omega arith)
+number_behind i (suc n) bytes =
+    let first : ℕ = slice_index bytes i in
+    let more = number_behind (suc i) n bytes in
+    let place : suc i + n ≡ i + suc n = omega arith in
+    let power : first * 256 ^ suc n ≡ first * 256 ^ n * 256 = ap (λ p. first * p) (pow-suc 256 n) ∙ sym (mul_assoc first (256 ^ n) 256) in
+    let sum = add-mul (first * 256 ^ n) (big_from (suc i) n bytes) 256 in
+    let last = rw place at more in
+    omega (arith, power, sum, last)
+
+-- the number of the first bytes and one more
+pub number_more : (n : ℕ) (bytes : List ℕ) → big_number (n + 1) bytes ≡ big_number n bytes * 256 + slice_index bytes n
+number_more n bytes =
+    let one : n + 1 ≡ suc n = omega arith in
+    let none : 0 + n ≡ n = omega arith in
+    ap (λ k. big_number k bytes) one ∙ number_behind 0 n bytes ∙ ap (λ k. big_number n bytes * 256 + slice_index bytes k) none
+
 -- one attribute more is read
-pub row_from_more : (left above : ℕ) (row : Row) (b : ℕ) (bytes : List ℕ) (kind len : ℕ) → 0 < left → kind ≡ b / 8 → len ≡ b % 8 + 1 → 8 ≤ b → above < kind → kind < 8 → len ≤ length bytes → row_from left above row (b ∷ bytes) ≡ row_from (left - 1) kind (with_value row kind (big_number len bytes)) (drop len bytes)
+row_from_more : (left above : ℕ) (row : Row) (b : ℕ) (bytes : List ℕ) (kind len : ℕ) → 0 < left → kind ≡ b / 8 → len ≡ b % 8 + 1 → 8 ≤ b → above < kind → kind < 8 → len ≤ length bytes → row_from left above row (b ∷ bytes) ≡ row_from (left - 1) kind (with_value row kind (big_number len bytes)) (drop len bytes)
 row_from_more zero above row b bytes kind len more k l high rises small fits = grind (arith, nat_tests)
 row_from_more (suc left) above row b bytes kind len more k l high rises small fits = grind (arith, nat_tests)
+
+-- kinds rise and there are seven, so from a kind on at most so many attributes can come
+enough : (left more above : ℕ) (row : Row) (bytes : List ℕ) → 7 ≤ above + left → row_from (left + more) above row bytes ≡ row_from left above row bytes
+enough left more above row [] room = refl
+enough zero zero above row (b ∷ bytes) room = refl
+enough zero (suc more) above row (b ∷ bytes) room = grind (arith, nat_tests)
+enough (suc left) more above row (b ∷ bytes) room =
+    let kind : ℕ = b / 8 in
+    let n : ℕ = b % 8 + 1 in
+    let count : suc left + more ≡ suc (left + more) = omega arith in
+    let later : above < kind → row_from (left + more) kind (with_value row kind (big_number n bytes)) (drop n bytes) ≡ row_from left kind (with_value row kind (big_number n bytes)) (drop n bytes) =
+    λ rises. enough left more kind (with_value row kind (big_number n bytes)) (drop n bytes) (omega arith) in
+    rw count (grind (arith, nat_tests))
+
+-- what is left above a kind, one attribute later
+pub row_goes_on : (above : ℕ) (row : Row) (b : ℕ) (bytes : List ℕ) (len : ℕ) → len ≡ b % 8 + 1 → 8 ≤ b → above < b / 8 → b / 8 < 8 → len ≤ length bytes → row_from (7 - above) above row (b ∷ bytes) ≡ row_from (7 - b / 8) (b / 8) (with_value row (b / 8) (big_number len bytes)) (drop len bytes)
+row_goes_on above row b bytes len is high rises small fits =
+    let one = row_from_more (7 - above) above row b bytes (b / 8) len (omega arith) refl is high rises small fits in
+    let count : 7 - above - 1 ≡ 7 - b / 8 + (b / 8 - above - 1) = omega arith in
+    one ∙ rw count (enough (7 - b / 8) (b / 8 - above - 1) (b / 8) (with_value row (b / 8) (big_number len bytes)) (drop len bytes) (omega arith))
+
+-- a byte below 8 ends the row
+pub row_ends : (left above : ℕ) (row : Row) (b : ℕ) (bytes : List ℕ) → b < 8 → row_from left above row (b ∷ bytes) ≡ Some (row, bytes)
+row_ends zero above row b bytes low = grind (arith, nat_tests)
+row_ends (suc left) above row b bytes low = grind (arith, nat_tests)
+
+-- no row is spelled where a kind doesn't rise, is above 7, or has no room for its value
+pub row_breaks : (left above : ℕ) (row : Row) (b : ℕ) (bytes : List ℕ) → 8 ≤ b → (b / 8 ≤ above) ⊎ (7 < b / 8) ⊎ (length bytes < b % 8 + 1) → row_from left above row (b ∷ bytes) ≡ None
+row_breaks zero above row b bytes high bad = grind (arith, nat_tests)
+row_breaks (suc left) above row b bytes high (inl same) = grind (arith, nat_tests)
+row_breaks (suc left) above row b bytes high (inr (inl large)) = grind (arith, nat_tests)
+row_breaks (suc left) above row b bytes high (inr (inr short)) = grind (arith, nat_tests)
 
 -- what is spelled is read
 pub spelled_read : (left above : ℕ) (row : Row) (parts : List Attribute) (last : ℕ) (rest : List ℕ) → Rising above parts → last < 8 → 7 ≤ above + left → row_from left above row (flat_map spelled parts ++ last ∷ rest) ≡ Some (row_of row parts, rest)

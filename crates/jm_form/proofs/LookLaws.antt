@@ -1,5 +1,5 @@
 -- What the table leads to is what the look-up answers.
-use Rattle.std.proofs.Common.{◌≡◌, ℕ, ◌%◌, ◌<◌, inl, inr, true, List, Option, Some, None, Contains, Ok, option_map, refl, sym, ap, ◌∙◌}
+use Rattle.std.proofs.Common.{◌≡◌, ℕ, ◌%◌, ◌<◌, inl, inr, true, List, Option, Some, None, Contains, Ok, option_map, refl, sym, ap, ◌∙◌, subst}
 use Rattle.std.proofs.lemmas.Bool.{false_from_ne_true, ltb-true}
 use Rattle.std.proofs.lemmas.Slice.Eq.{bytes_eq-Decides}
 use Rattle.std.specs.Prelude.{nat_lt}
@@ -15,8 +15,9 @@ use Rattle.jm_form.specs.Entries.{Entry, content_of, entries, entry_of, entry_wi
 use Rattle.jm_form.specs.Head.{header_of}
 use Rattle.jm_form.specs.Places.{contents, strings}
 use Rattle.jm_form.specs.Table.{probe, redirect_at, slot_below, slot_of}
-use Rattle.jm_form.specs.Validity.{ValidAs, entry_found, look, look_with}
+use Rattle.jm_form.specs.Validity.{SoundRow, ValidAs, entry_found, look, look_with}
 use Rattle.jm_form.proofs.EntryLaws.{entry_from, entry_there, same_entry}
+use Rattle.jm_form.proofs.SlotLaws.{sound_row}
 
 -- the look-up in bytes with a header is the search in their entries
 pub look_with_header : (b : List ℕ) (h : Header) (name : List ℕ) → header_of b ≡ Ok h → look b name ≡ option_map entry_found (entry_with name (entries b h))
@@ -44,6 +45,20 @@ look_entry b h name found header answer = go (entry_with name (entries b h)) ref
     go (Some e) is answer =
         let both = find_found (λ e. bytes_eq name e.name) (entries b h) e is in
         (e, both.0, (bytes_eq-Decides name e.name).0 both.1, same_some (entry_found e) found answer)
+
+-- a row that it answers is sound, and its content is answered with it
+pub look_row : (b : List ℕ) (h : Header) (name : List ℕ) (row : Row) → ValidAs b h → option_map (λ found. found.0) (look b name) ≡ Some row → SoundRow b h row × (look b name ≡ Some (row, content_of (contents b h) row))
+look_row b h name row valid answer = go (look b name) refl answer
+  where
+    go : (o : Option (Row × List ℕ)) → look b name ≡ o → option_map (λ found. found.0) o ≡ Some row → SoundRow b h row × (look b name ≡ Some (row, content_of (contents b h) row))
+    go None is answer = cc
+    go (Some found) is answer =
+        let (e, there, same, of) = look_entry b h name found valid.header is in
+        let entry = entry_from b h e there in
+        let sound = sound_row b h e.slot e.row (valid.slots e.slot entry.below) entry.row in
+        let content : e.content ≡ content_of (contents b h) e.row = ap (λ (f : Entry). f.content) entry.is in
+        let rows : e.row ≡ row = ap (λ (f : Row × List ℕ). f.0) of ∙ same_some found.0 row answer in
+        (subst (SoundRow b h) rows sound, is ∙ ap Some (sym of) ∙ ap (λ (bytes : List ℕ). Some (e.row, bytes)) content ∙ ap (λ (r : Row). Some (r, content_of (contents b h) r)) rows)
 
 -- a name that leads to no slot is looked up in vain
 pub look_nowhere : (b : List ℕ) (h : Header) (name : List ℕ) → ValidAs b h → probe b h name ≡ None → look b name ≡ None

@@ -1,8 +1,7 @@
 ghost use Rattle.std.specs.Prelude.{◌≡◌, ◌<◌, ◌≤◌, ℕ, length, take, option_map, IfNone, IfSome};
+ghost use Rattle.byteorder.specs.Endian.{big_number};
 ghost use Rattle.jm_form.specs.ComputedRows.{row_from, row_front};
-ghost use Rattle.jm_form.specs.Rows.{with_value, Spells};
-
-use byteorder::{BigEndian, ByteOrder};
+ghost use Rattle.jm_form.specs.Rows.{blank, with_value, Spells};
 
 /// The attributes of a location row; one that isn't spelled is 0.
 #[derive(Clone, Copy, Debug, PartialEq, Eq)]
@@ -33,56 +32,57 @@ const BLANK: Row = Row {
     size: 0,
 };
 
-/// The row with the attribute of this kind set.
-fn with(row: Row, kind: u8, value: u64) -> Row
-    ensures { result ≡ with_value row kind value }
+/// Sets the attribute of this kind.
+fn set(row: &mut Row, kind: u8, value: u64)
+    ensures { row.new ≡ with_value row.old kind value }
 {
     match kind {
-        1 => Row {
-            module: value,
-            ..row
-        },
-        2 => Row {
-            parent: value,
-            ..row
-        },
-        3 => Row { base: value, ..row },
-        4 => Row { ext: value, ..row },
-        5 => Row {
-            offset: value,
-            ..row
-        },
-        6 => Row {
-            packed: value,
-            ..row
-        },
-        7 => Row { size: value, ..row },
-        _ => row,
+        1 => row.module = value,
+        2 => row.parent = value,
+        3 => row.base = value,
+        4 => row.ext = value,
+        5 => row.offset = value,
+        6 => row.packed = value,
+        7 => row.size = value,
+        _ => {}
     }
 }
 
-/// Reads on from a row whose attributes so far are all of kind `above` or less. At most `left` more
-/// can come.
-#[tactic(auto, using(crate::proofs::ComputedRowsLaws::row_from_more))]
-fn row_of(left: u8, above: u8, row: Row, bytes: &[u8]) -> Option<(Row, &[u8])>
-    ensures { option_map (λ x. (x.0, x.1.now)) result ≡ row_from left above row bytes.now }
+/// The number that at most eight bytes are, the highest first. Most have two or three, and a step
+/// for each takes less time than `read_uint`, which copies them.
+fn number_of(bytes: &[u8]) -> u64
+    requires { length bytes.now ≤ 8 }
+    ensures { result ≡ big_number (length bytes.now) bytes.now }
 {
-    let (first, rest) = bytes.split_first()?;
-    if *first < 8 {
-        return Some((row, rest));
+    let mut number = 0;
+    for byte in bytes {
+        number = number * 256 + u64::from(*byte);
     }
-    if left == 0 {
-        return None;
+    number
+}
+
+/// The row that is spelled at the front, and what stands behind it.
+fn row_in_front(bytes: &[u8]) -> Option<(Row, &[u8])>
+    ensures { option_map (λ x. (x.0, x.1.now)) result ≡ row_from 7 0 blank bytes.now }
+{
+    let mut row = BLANK;
+    let mut above = 0;
+    let mut rest = bytes;
+    while let Some((first, after)) = rest.split_first() {
+        if *first < 8 {
+            return Some((row, after));
+        }
+        let kind = *first / 8;
+        let len = usize::from(*first % 8) + 1;
+        if kind <= above || kind > 7 || after.len() < len {
+            return None;
+        }
+        let (value, behind) = after.split_at(len);
+        set(&mut row, kind, number_of(value));
+        above = kind;
+        rest = behind;
     }
-    let kind = *first / 8;
-    let len = usize::from(*first % 8) + 1;
-    if above < kind && kind < 8 && len <= rest.len() {
-        let value = BigEndian::read_uint(rest, len);
-        let (_, after) = rest.split_at(len);
-        row_of(left - 1, kind, with(row, kind, value), after)
-    } else {
-        None
-    }
+    None
 }
 
 /// The row that is spelled at the front, and how many bytes spell it; 1 exactly for a blank row.
@@ -95,6 +95,6 @@ pub fn read_row(bytes: &[u8]) -> Option<(Row, usize)>
     ensures none { IfNone result ((n : ℕ) (row : Row) → Spells (take n bytes.now) row → ⊥) }
     ensures value { result ≡ row_front bytes.now }
 {
-    let (row, rest) = row_of(7, 0, BLANK, bytes)?;
+    let (row, rest) = row_in_front(bytes)?;
     Some((row, bytes.len() - rest.len()))
 }
