@@ -2,7 +2,7 @@
 use Rattle.std.proofs.Common.{◌≡◌, ℕ, zero, suc, ◌+◌, ◌-◌, ◌*◌, ◌/◌, ◌%◌, ◌^◌, ◌<◌, ◌≤◌, ◌||◌, append-nil, not, Bool, true, false, cond, List, [], ◌∷◌, ◌++◌, All, length, take, drop, get_or, map, set, min, refl, sym, ap, ap₂, ◌∙◌, ◌==◌, arith, take-append-drop, drop-drop}
 use Rattle.std.proofs.Math.Nat.{add-mul}
 use Rattle.std.proofs.Math.Seq.{drop-cons}
-use Rattle.std.proofs.lemmas.List.{drop_all, take_min}
+use Rattle.std.proofs.lemmas.List.{drop_all, length-append, length-take-le, take_min}
 use Rattle.std.proofs.lemmas.Simd.{map-map}
 use Rattle.std.proofs.lemmas.List.FromFn.{get_or-map-range_with_len, length-map-range_with_len}
 use Rattle.std.specs.List.{before_first, list_any, position_or_len, range_with_len}
@@ -118,6 +118,14 @@ text_on (x ∷ xs) ys none = go (x == 0) none (text_on xs ys)
     go : (b : Bool) → (b || list_any (λ x. x == 0) xs) ≡ false → (list_any (λ x. x == 0) xs ≡ false → before_first (λ x. x == 0) (xs ++ ys) ≡ xs ++ before_first (λ x. x == 0) ys) → take (cond (not b) (1 + position_or_len (λ x. x == 0) (xs ++ ys)) 0) (x ∷ (xs ++ ys)) ≡ x ∷ (xs ++ before_first (λ x. x == 0) ys)
     go true none more = cc
     go false none more = take_next (position_or_len (λ x. x == 0) (xs ++ ys)) x (xs ++ ys) ∙ ap (λ l. x ∷ l) (more none)
+
+-- a stretch without an end is in a text that is as long
+pub long_stretch : (bytes : List ℕ) (n : ℕ) → n ≤ length bytes → list_any (λ x. x == 0) (take n bytes) ≡ false → n ≤ length (before_first (λ x. x == 0) bytes)
+long_stretch bytes n within none =
+    let behind = before_first (λ x. x == 0) (drop n bytes) in
+    let text : before_first (λ x. x == 0) bytes ≡ take n bytes ++ behind = ap (before_first (λ x. x == 0)) (sym (take-append-drop n bytes)) ∙ text_on (take n bytes) (drop n bytes) none in
+    let long : length (before_first (λ x. x == 0) bytes) ≡ n + length behind = ap length text ∙ length-append (take n bytes) behind ∙ ap (λ k. k + length behind) (length-take-le n bytes within) in
+    omega (arith, long)
 
 -- it has no end
 pub text_none : (xs : List ℕ) → list_any (λ x. x == 0) xs ≡ false → xs ≡ before_first (λ x. x == 0) xs

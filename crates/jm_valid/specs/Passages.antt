@@ -1,5 +1,5 @@
 -- What texts do to all states of the hash (this project's rule).
-use Rattle.std.specs.Prelude.{◌≡◌, ℕ, ◌-◌, ◌*◌, List, length, map}
+use Rattle.std.specs.Prelude.{◌≡◌, ◌≤◌, ℕ, ◌-◌, ◌*◌, List, length, map}
 use Rattle.std.specs.List.{range_with_len}
 use Rattle.jm_form.specs.Texts.{text_at}
 use Rattle.jm_names.specs.Hash.{state_after}
@@ -19,3 +19,7 @@ passages texts count = map (λ k. nth_passage texts (count - 1 - k)) (range_with
 -- These are the passages of as many such places as there are of them, which may be none.
 abbrev pub ArePassages : List ℕ → List (List ℕ) → Type 0
 ArePassages texts ps = ps ≡ passages texts (length ps)
+
+-- A text has 4096 bytes or more.
+abbrev pub HasLongText : List ℕ → Type 0
+HasLongText texts = (place : ℕ) × (4096 ≤ length (text_at texts place))

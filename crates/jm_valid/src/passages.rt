@@ -2,17 +2,16 @@
 //!
 //! The part of a state above its low byte passes a text as a factor, whatever the text's bytes
 //! are. So the states after a text of the numbers up to 256, its passage, tell that of each state.
-ghost use Rattle.std.specs.Prelude.{◌≡◌, ◌∷◌, ◌<◌, ◌≤◌, ◌+◌, ◌/◌, ◌++◌, [], ℕ, List, All, length};
-ghost use Rattle.std.specs.Prelude.{IfOk, map};
+ghost use Rattle.std.specs.Prelude.{◌≡◌, ◌⊎◌, ◌∷◌, ◌<◌, ◌≤◌, ◌+◌, ◌/◌, ◌++◌, [], ℕ, List, All};
+ghost use Rattle.std.specs.Prelude.{IfOk, Ok, length, map, true};
 ghost use Rattle.std.specs.List.{range_with_len};
 ghost use Rattle.jm_form.specs.Texts.{text_at};
 ghost use Rattle.jm_names.specs.Hash.{state_after};
-ghost use Rattle.jm_valid.specs.Passages.{passage_of, passages, ArePassages};
+ghost use Rattle.jm_valid.specs.Passages.{passage_of, passages, ArePassages, HasLongText};
 
 use jm_bytes::{List, NoMemory};
 use jm_form::front;
 use jm_names::HASH_FACTOR;
-use memchr::memchr;
 use std::alloc::Global;
 
 /// How many bytes of the strings lie between two places whose passages are kept.
@@ -120,12 +119,14 @@ fn passages_of(alloc: Global, texts: &[u8]) -> Result<List<List<u32>>, NoMemory>
     Ok(passages)
 }
 
-/// A stretch has no zero byte: a text is about so long or longer.
-fn has_long_text(texts: &[u8]) -> bool {
+/// Whether a stretch has no zero byte, so that a text is so long or longer.
+fn has_long_text(texts: &[u8]) -> bool
+    ensures { result ≡ true → HasLongText texts.now }
+{
     let mut rest = texts;
     while rest.len() >= STRETCH {
         let (stretch, behind) = rest.split_at(STRETCH);
-        if memchr(0, stretch).is_none() {
+        if front(stretch).is_none() {
             return true;
         }
         rest = behind;
@@ -137,7 +138,8 @@ fn has_long_text(texts: &[u8]) -> bool {
 /// one first; none where each text is short.
 #[tactic(auto, using(crate::proofs::PassageLaws::passages_are))]
 pub fn passages_if_long(alloc: Global, texts: &[u8]) -> Result<List<List<u32>>, NoMemory>
-    ensures { IfOk result (ArePassages texts.now) }
+    ensures passages { IfOk result (ArePassages texts.now) }
+    ensures short { result ≡ Ok [] ⊎ HasLongText texts.now }
 {
     if !has_long_text(texts) {
         return Ok(List::new(alloc));

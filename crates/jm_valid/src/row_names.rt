@@ -1,11 +1,11 @@
 //! Hashes of the names of an image's rows, in time that the length of a text that many rows share
 //! doesn't multiply.
-ghost use Rattle.std.specs.Prelude.{◌≡◌, ◌≤◌, ◌+◌, ◌/◌, true, length, drop, IfOk, IfSome};
+ghost use Rattle.std.specs.Prelude.{◌≡◌, ◌≤◌, ◌+◌, ◌/◌, true, length, drop, IfErr, IfOk, IfSome};
 ghost use Rattle.jm_form.specs.Entries.{name_of, texts_end};
 ghost use Rattle.jm_form.specs.Texts.{text_at, text_ends};
 ghost use Rattle.jm_names.specs.Hash.{hash, state_after};
 ghost use Rattle.jm_names.specs.Names.{is_empty, module_front, parent_front, ext_end};
-ghost use Rattle.jm_valid.specs.Passages.{nth_passage, passage_of, ArePassages};
+ghost use Rattle.jm_valid.specs.Passages.{nth_passage, passage_of, ArePassages, HasLongText};
 ghost use Rattle.jm_valid.specs.Sections.{strings_in};
 
 use crate::passages::{STRETCH, passages_if_long, passed};
@@ -29,7 +29,8 @@ pub struct Names<'a> {
 impl<'a> Names<'a> {
     /// Takes memory only where a text is long: a byte for each four bytes of the strings.
     pub fn of(alloc: Global, sections: &Sections<'a>) -> Result<Names<'a>, NoMemory>
-        ensures { IfOk result (λ names. names.sections ≡ sections.now) }
+        ensures names { IfOk result (λ names. names.sections ≡ sections.now) }
+        ensures long { IfErr result (λ _. HasLongText sections.now.texts.now) }
     {
         let passages = passages_if_long(alloc, sections.texts)?;
         Ok(Names {

@@ -7,4 +7,4 @@ contents_of_parts-requires-clause-few g c κs within =
     let count = length-range_with_len 0 c.args.sections.now.header.length in
     let whole = ap length c.in_ok-firsts.ensures in
     let same = rw (← c.as_slice.ensures) at whole in
-    rw c.in_ok-names.ensures (omega (arith, same, count))
+    rw c.in_ok-names.ensures.names (omega (arith, same, count))
