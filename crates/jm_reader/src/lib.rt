@@ -12,6 +12,6 @@ mod table;
 mod texts;
 
 pub use entries::{Entries, Entry, walk};
-pub use look_up::{Found, find};
+pub use look_up::{Found, find, find_row};
 pub use name_bytes::NameBytes;
 pub use name_view::NameView;

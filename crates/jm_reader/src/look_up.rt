@@ -74,36 +74,52 @@ fn is_named<R: Ledger>(
     spells(buf, &texts, name, reads)
 }
 
-/// The entry of that name in the valid image that has this header.
-fn find_in<'a, H: Ledger, R: Ledger>(
-    buf: &Buf<'a>,
+/// The row of the entry of that name in the valid image that has this header.
+fn row_in<H: Ledger, R: Ledger>(
+    buf: &Buf,
     header: &Header,
     name: &[u8],
     hashes: &mut Steps<H>,
     reads: &mut Meter<R>,
-) -> Option<Found<'a>>
+) -> Option<Row>
     requires valid { ValidAs buf.now header.now }
     requires metered { reads.old.bytes ≡ buf.now }
-    ensures found { option_map found_as result ≡ look buf.now name.now }
+    ensures found { result ≡ option_map (λ found. found.0) (look buf.now name.now) }
     ensures hashes { RisesAtMost hashes.old hashes.new 2 }
-    ensures reads { CostsAtMost reads.old reads.new
-        (length name.now + 76 + answer_length result) }
+    ensures reads { CostsAtMost reads.old reads.new (length name.now + 76) }
 {
     let slot = probe(buf, header, name, hashes, reads)?;
     let row = row_of_slot(buf, header, slot, reads).row()?;
-    if !is_named(buf, header, &row, name, reads) {
-        return None;
+    if is_named(buf, header, &row, name, reads) {
+        Some(row)
+    } else {
+        None
     }
-    let bytes = content(buf, header, &row, reads);
-    Some(Found { row, bytes })
 }
 
-/// The entry of that name, or None where no entry has it (jimage 1.0). The name is compared with
-/// the entry's own, byte by byte.
+/// The row of the entry of that name, or None where no entry has it (jimage 1.0). The name is
+/// compared with the entry's own, byte by byte.
 ///
-/// It costs at most two hashes, and at most the name's bytes, 76 more and those of the content:
-/// four of a redirect word, four of an offset word, 64 of a row and one at the end of each of four
-/// texts.
+/// It costs at most two hashes, and at most the name's bytes and 76 more: four of a redirect word,
+/// four of an offset word, 64 of a row and one at the end of each of four texts.
+pub fn find_row<H: Ledger, R: Ledger>(
+    image: &Image,
+    name: &[u8],
+    hashes: &mut Steps<H>,
+    reads: &mut Meter<R>,
+) -> Option<Row>
+    requires { reads.old.bytes ≡ image.now }
+    ensures found { result ≡ option_map (λ found. found.0) (look image.now name.now) }
+    ensures hashes { RisesAtMost hashes.old hashes.new 2 }
+    ensures reads { CostsAtMost reads.old reads.new (length name.now + 76) }
+{
+    row_in(&image.buf(), &image.header(), name, hashes, reads)
+}
+
+/// The entry of that name, or None where no entry has it: what `find_row` answers, and the content
+/// behind it.
+///
+/// It costs what `find_row` does, and the bytes of the content.
 pub fn find<'a, H: Ledger, R: Ledger>(
     image: &Image<'a>,
     name: &[u8],
@@ -116,5 +132,7 @@ pub fn find<'a, H: Ledger, R: Ledger>(
     ensures reads { CostsAtMost reads.old reads.new
         (length name.now + 76 + answer_length result) }
 {
-    find_in(&image.buf(), &image.header(), name, hashes, reads)
+    let row = find_row(image, name, hashes, reads)?;
+    let bytes = content(&image.buf(), &image.header(), &row, reads);
+    Some(Found { row, bytes })
 }
