@@ -1,4 +1,5 @@
 pub mod MarkLaws
 pub mod NameTexts
+pub mod OrderLaws
 pub mod ViewLaws
 pub mod WalkLaws

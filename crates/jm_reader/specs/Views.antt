@@ -20,3 +20,7 @@ mark_of (b ∷ piece) mark = mark
 abbrev pub marked_length : List ℕ → ℕ → ℕ
 marked_length [] marks = 0
 marked_length (b ∷ piece) marks = length (b ∷ piece) + marks
+
+-- the base and the extension alone
+abbrev pub without_folder : Cut → Cut
+without_folder cut = cut_from [] [] cut.base cut.ext

@@ -8,6 +8,7 @@ mod look_up;
 mod marks;
 mod name_bytes;
 mod name_view;
+mod order;
 mod table;
 mod texts;
 

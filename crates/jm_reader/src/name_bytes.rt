@@ -47,6 +47,16 @@ fn pop(bytes: &mut &[u8]) -> Option<u8>
     Some(*first)
 }
 
+/// Takes all of the bytes.
+fn take_all<'a>(bytes: &mut &'a [u8]) -> &'a [u8]
+    ensures taken { result.now ≡ bytes.old.now }
+    ensures none { bytes.new.now ≡ [] }
+{
+    let all = *bytes;
+    *bytes = &[];
+    all
+}
+
 impl<'a> NameBytes<'a> {
     /// The bytes of the name that the pieces make.
     pub(crate) fn of(pieces: &Pieces<'a>) -> NameBytes<'a>
@@ -62,6 +72,35 @@ impl<'a> NameBytes<'a> {
             behind_parent: mark(pieces.parent, b"/"),
             before_ext: mark(pieces.ext, b"."),
         }
+    }
+
+    /// Takes the first piece or mark that isn't empty; nothing exactly at the end.
+    pub(crate) fn take_part(&mut self) -> &'a [u8]
+        ensures part { self.old ≡ result.now ++ self.new }
+        ensures end { result.now ≡ [] → self.new ≡ [] }
+    {
+        if !self.before_module.is_empty() {
+            return take_all(&mut self.before_module);
+        }
+        if !self.module.is_empty() {
+            return take_all(&mut self.module);
+        }
+        if !self.behind_module.is_empty() {
+            return take_all(&mut self.behind_module);
+        }
+        if !self.parent.is_empty() {
+            return take_all(&mut self.parent);
+        }
+        if !self.behind_parent.is_empty() {
+            return take_all(&mut self.behind_parent);
+        }
+        if !self.base.is_empty() {
+            return take_all(&mut self.base);
+        }
+        if !self.before_ext.is_empty() {
+            return take_all(&mut self.before_ext);
+        }
+        take_all(&mut self.ext)
     }
 
     /// Puts all of them at the end of a text.

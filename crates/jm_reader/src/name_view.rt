@@ -1,15 +1,20 @@
 ghost use Rattle.std.specs.Prelude.{◌≡◌, ◌≢◌, ◌++◌, ◌+◌, ◌<◌, ◌^◌, ℕ, List, length, IfOk, IsTrue};
 ghost use Rattle.std.specs.Prelude.{IsFalse, ◌↔◌, nat_eq, []};
+ghost use Rattle.std.specs.Cmp.Lexicographic.{slice_cmp};
 ghost use Rattle.std.specs.List.{starts_with};
+ghost use Rattle.std.specs.Ordering.{nat_cmp};
+ghost use Rattle.jm_bytes.specs.ByteOrder.{is_before};
 ghost use Rattle.jm_names.specs.Names.{is_node, join};
 ghost use Rattle.jm_names.specs.Pieces.{cut_of};
 ghost use Rattle.jm_form.specs.Entries.{ShortPieces};
 ghost use Rattle.jm_reader.specs.Views.{marked_length};
 
 use crate::name_bytes::NameBytes;
+use crate::order::order;
 use jm_bytes::{NoMemory, Text};
 use jm_names::Pieces;
 use std::alloc::Global;
+use std::cmp::Ordering;
 use std::marker::Model;
 
 /// The name of an entry, `/module/parent/base.ext` without the marks of the pieces that are empty.
@@ -61,6 +66,18 @@ fn takes_front(bytes: &mut NameBytes, front: &[u8]) -> bool
     true
 }
 
+/// The pieces that make a name of any form, which is the base of them.
+fn text_alone<'a>(name: &'a [u8]) -> Pieces<'a>
+    ensures { join (cut_of result) ≡ name.now }
+{
+    Pieces {
+        module: &[],
+        parent: &[],
+        base: name,
+        ext: &[],
+    }
+}
+
 /// An empty text with room for so many bytes.
 fn empty_with_room(alloc: Global, size: usize) -> Result<Vec<u8>, NoMemory>
     ensures { IfOk result (λ text. text.items ≡ []) }
@@ -85,6 +102,18 @@ impl<'a> NameView<'a> {
         }
     }
 
+    /// The pieces that make it.
+    fn pieces(&self) -> Pieces<'a>
+        ensures { join (cut_of result) ≡ self.now }
+    {
+        Pieces {
+            module: self.module,
+            parent: self.parent,
+            base: self.base,
+            ext: self.ext,
+        }
+    }
+
     /// How many bytes it has.
     pub fn len(&self) -> usize
         ensures { result ≡ length self.now }
@@ -103,8 +132,22 @@ impl<'a> NameView<'a> {
         takes_front(&mut bytes, name) && bytes.next().is_none()
     }
 
+    /// How it stands to another name in byte order.
+    pub fn order(&self, other: &NameView) -> Ordering
+        ensures { result ≡ slice_cmp nat_cmp self.now other.now }
+    {
+        order(&self.pieces(), &other.pieces())
+    }
+
+    /// It stands before `name` in byte order.
+    pub fn is_before(&self, name: &[u8]) -> bool
+        ensures { result ≡ is_before self.now name.now }
+    {
+        order(&self.pieces(), &text_alone(name)) == Ordering::Less
+    }
+
     /// The name begins with `front`.
-    fn begins_with(&self, front: &[u8]) -> bool
+    pub fn begins_with(&self, front: &[u8]) -> bool
         ensures { result ≡ starts_with nat_eq self.now front.now }
     {
         takes_front(&mut self.bytes(), front)
@@ -125,12 +168,7 @@ impl<'a> NameView<'a> {
     pub fn bytes(&self) -> NameBytes<'a>
         ensures { result ≡ self.now }
     {
-        NameBytes::of(&Pieces {
-            module: self.module,
-            parent: self.parent,
-            base: self.base,
-            ext: self.ext,
-        })
+        NameBytes::of(&self.pieces())
     }
 
     /// A text of its own with the same bytes, for which memory is taken once.
