@@ -1,5 +1,5 @@
 -- The taken entries, one entry after another and in the order of a sort.
-use Rattle.std.proofs.Common.{◌≡◌, ◌≢◌, ℕ, Bool, true, false, cond, List, [], ◌∷◌, ◌++◌, map, Option, AllPairs, Result, Ok, Err, IsPermutation, refl, sym, ap, subst, ◌∙◌, append_assoc}
+use Rattle.std.proofs.Common.{◌≡◌, ℕ, Bool, true, false, cond, List, [], ◌∷◌, ◌++◌, map, Option, AllPairs, Result, Ok, Err, IsPermutation, refl, sym, ap, subst, ◌∙◌, append_assoc}
 use Rattle.std.proofs.lemmas.List.Kept.{AllPairs-filter}
 use Rattle.jm_bytes.proofs.Pairs.{pairs_map, pairs_none}
 use Rattle.jm_form.specs.declared.container.Header.{Header}

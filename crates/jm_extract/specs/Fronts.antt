@@ -1,6 +1,6 @@
 -- The numbers of the first bytes of a name, by which names are sorted before their bytes are looked
 -- at (this project's rule).
-use Rattle.std.specs.Prelude.{ℕ, ◌<◌, nat_lt, List, length, drop, slice_index, if◌then◌else◌}
+use Rattle.std.specs.Prelude.{ℕ, ◌≡◌, ◌<◌, nat_lt, List, length, drop, slice_index, if◌then◌else◌}
 use Rattle.std.specs.Ordering.{nat_cmp, ordering_then}
 use Rattle.std.specs.declared.cmp.Ordering.{Ordering}
 use Rattle.byteorder.specs.Endian.{big_number}
@@ -29,3 +29,8 @@ order_of_fronts a b =
 -- the numbers of a list are bytes
 abbrev pub AreBytes : List ℕ → Type 0
 AreBytes bytes = (k : ℕ) → slice_index bytes k < 256
+
+-- these are the numbers of the first bytes of a name that has bytes alone
+pub record IsFrontOf (front : Front) (name : List ℕ) : Type 0 where
+  pub numbers : front ≡ front_of name
+  pub bytes : AreBytes name

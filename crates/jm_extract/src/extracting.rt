@@ -82,7 +82,8 @@ fn make_entry<S: Shelf>(
     ensures faults { CountsFaults (S.faults shelf.old) (S.faults shelf.new)
         (IsErrOf result ShelfError.Failed) }
 {
-    let path = path_of(alloc, dir, entry.name.as_slice())?;
+    let name = entry.name.view().to_text(alloc)?;
+    let path = path_of(alloc, dir, name.as_slice())?;
     make_file(alloc, shelf, path.as_slice(), entry.bytes)
 }
 

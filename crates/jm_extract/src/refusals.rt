@@ -2,13 +2,15 @@
 ghost use Rattle.std.specs.Prelude.{◌≡◌, ◌∷◌, ◌++◌, [], None, Ok, All, IfOk, map};
 ghost use Rattle.jm_names.specs.NameFaults.{IsSound};
 ghost use Rattle.jm_names.specs.ByName.{RisesByName};
-ghost use Rattle.jm_texts.specs.NameRefusals.{first_bad_name};
+ghost use Rattle.jm_texts.specs.NameRefusals.{first_bad_name, name_refusal};
 ghost use Rattle.jm_extract.specs.Extracted.{begins, clash_refusal, first_clash, refusal_of};
 ghost use Rattle.jm_extract.specs.Taken.{taken_as};
 
 use crate::taking::TakenEntry;
-use jm_bytes::{NoMemory, Text, is_before};
-use jm_texts::{Refusal, first_bad_name};
+use jm_bytes::{NoMemory, Text};
+use jm_names::check_name;
+use jm_reader::NameView;
+use jm_texts::Refusal;
 use std::alloc::Global;
 
 /// Whether the name of one of the entries begins so. Such names stand side by side, so a binary
@@ -17,18 +19,18 @@ fn begins(entries: &[TakenEntry], front: &[u8]) -> bool
     requires { RisesByName (map taken_as entries.now) }
     ensures { result ≡ begins (map taken_as entries.now) front.now }
 {
-    let place = entries.partition_point(|entry| is_before(entry.name.as_slice(), front));
+    let place = entries.partition_point(|entry| entry.name.view().is_before(front));
     match entries.get(place) {
-        Some(entry) => entry.name.as_slice().starts_with(front),
+        Some(entry) => entry.name.view().begins_with(front),
         None => false,
     }
 }
 
 /// A name with a slash behind it.
-fn as_folder(alloc: Global, name: &[u8]) -> Result<Text, NoMemory>
+fn as_folder(alloc: Global, name: &NameView) -> Result<Text, NoMemory>
     ensures { IfOk result (λ folder. folder ≡ name.now ++ 47 ∷ []) }
 {
-    let mut folder = Text::copy_of(alloc, name)?;
+    let mut folder = name.to_text(alloc)?;
     folder.push(b'/')?;
     Ok(folder)
 }
@@ -43,11 +45,11 @@ fn clash_refusal(
     ensures { IfOk result (λ refusal.
         refusal ≡ clash_refusal (map taken_as entries.now) (taken_as entry.now)) }
 {
-    let folder = as_folder(alloc, entry.name.as_slice())?;
+    let folder = as_folder(alloc, entry.name.view())?;
     if !begins(entries, folder.as_slice()) {
         return Ok(None);
     }
-    let name = Text::copy_of(alloc, entry.name.as_slice())?;
+    let name = entry.name.view().to_text(alloc)?;
     Ok(Some(Refusal::Clash(name)))
 }
 
@@ -64,8 +66,32 @@ fn first_clash(alloc: Global, entries: &[TakenEntry]) -> Result<Option<Refusal>,
     Ok(None)
 }
 
+/// The refusal of an entry whose name may not stand in an image.
+fn name_refusal(alloc: Global, entry: &TakenEntry) -> Result<Option<Refusal>, NoMemory>
+    ensures { IfOk result (λ refusal. refusal ≡ name_refusal (taken_as entry.now)) }
+{
+    let name = entry.name.view().to_text(alloc)?;
+    match check_name(name.as_slice()) {
+        Ok(()) => Ok(None),
+        Err(fault) => Ok(Some(Refusal::BadName { name, fault })),
+    }
+}
+
+/// The refusal of the first name that may not stand in an image.
+fn first_bad_name(alloc: Global, entries: &[TakenEntry]) -> Result<Option<Refusal>, NoMemory>
+    ensures { IfOk result (λ refusal. refusal ≡ first_bad_name (map taken_as entries.now)) }
+{
+    for entry in entries {
+        if let Some(refusal) = name_refusal(alloc, entry)? {
+            return Ok(Some(refusal));
+        }
+    }
+    Ok(None)
+}
+
 /// The refusal of entries that rise by name: of the first name that may not stand in an image, and
-/// where there is none, of the first name that is another one's folder.
+/// where there is none, of the first name that is another one's folder. At one time two names at
+/// most take memory of their own.
 pub fn refusal_of(alloc: Global, entries: &[TakenEntry]) -> Result<Option<Refusal>, NoMemory>
     requires { RisesByName (map taken_as entries.now) }
     ensures refusal { IfOk result (λ refusal. refusal ≡ refusal_of (map taken_as entries.now)) }

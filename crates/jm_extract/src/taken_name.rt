@@ -1,10 +1,10 @@
 ghost use Rattle.std.specs.Prelude.{◌≡◌};
 ghost use Rattle.std.specs.Cmp.Lexicographic.{slice_cmp};
 ghost use Rattle.std.specs.Ordering.{nat_cmp};
-ghost use Rattle.jm_extract.specs.Fronts.{AreBytes, front_of, order_of_fronts};
+ghost use Rattle.jm_extract.specs.Fronts.{AreBytes, IsFrontOf, front_of, order_of_fronts};
 
 use byteorder::{BigEndian, ByteOrder};
-use jm_bytes::Text;
+use jm_reader::NameView;
 use std::cmp::Ordering;
 use std::marker::Model;
 
@@ -16,23 +16,23 @@ pub struct Front {
     third: u64,
 }
 
-/// A name beside the numbers of its first 24 bytes: a sort compares the numbers first, and so goes
-/// to the bytes of few names, which lie all over the memory.
+/// A name of an image beside the numbers of its first 24 bytes: a sort compares the numbers first,
+/// and so goes to the bytes of few names, which lie all over the image.
 #[derive(Debug, Drop)]
-pub struct TakenName {
+pub struct TakenName<'a> {
     front: Front,
-    text: Text,
+    view: NameView<'a>,
 }
 
-impl Model for TakenName {
-    ghost use Rattle.std.specs.Prelude.{List, ℕ, ◌≡◌};
-    ghost use Rattle.jm_extract.specs.Fronts.{front_of};
+impl<'a> Model for TakenName<'a> {
+    ghost use Rattle.std.specs.Prelude.{List, ℕ};
+    ghost use Rattle.jm_extract.specs.Fronts.{IsFrontOf};
 
     ghost Value = { List ℕ };
 
-    ghost view = { λ a. a.text };
+    ghost view = { λ a. a.view };
 
-    ghost invariant = { λ a. a.front ≡ front_of a.text };
+    ghost invariant = { λ a. IsFrontOf a.front a.view };
 }
 
 /// The front of a name.
@@ -66,54 +66,50 @@ fn order_of_fronts(front: &Front, other: &Front) -> Ordering
     front.first.cmp(&other.first).then(later)
 }
 
-/// The same slice, which has bytes alone.
-fn as_bytes<'a>(bytes: &'a [u8]) -> &'a [u8]
-    ensures same { result.now ≡ bytes.now }
-    ensures bytes { AreBytes result.now }
+/// The front of a name, which has bytes alone.
+fn front_of_bytes(name: &[u8]) -> Front
+    ensures front { result ≡ front_of name.now }
+    ensures bytes { AreBytes name.now }
 {
-    bytes
+    front_of(name)
 }
 
 /// How two names with their fronts stand to one another in byte order.
-fn order_of(front: &Front, name: &[u8], other_front: &Front, other: &[u8]) -> Ordering
-    requires front { front.now ≡ front_of name.now }
-    requires other { other_front.now ≡ front_of other.now }
-    ensures { AreBytes name.now → AreBytes other.now →
-        result ≡ slice_cmp nat_cmp name.now other.now }
+fn order_of(front: &Front, name: &NameView, other_front: &Front, other: &NameView) -> Ordering
+    requires front { IsFrontOf front.now name.now }
+    requires other { IsFrontOf other_front.now other.now }
+    ensures { result ≡ slice_cmp nat_cmp name.now other.now }
 {
     if front.first == 0 || other_front.first == 0 {
-        return name.cmp(other);
+        return name.order(other);
     }
     match order_of_fronts(front, other_front) {
-        Ordering::Equal => name.cmp(other),
+        Ordering::Equal => name.order(other),
         order => order,
     }
 }
 
-impl TakenName {
-    /// The same name.
-    pub fn of(text: Text) -> TakenName
-        ensures { result ≡ text }
+impl<'a> TakenName<'a> {
+    /// The name of a view, which as a text is `text`.
+    pub(crate) fn of(view: NameView<'a>, text: &[u8]) -> TakenName<'a>
+        requires { text.now ≡ view }
+        ensures { result ≡ view.entry }
     {
-        TakenName {
-            front: front_of(text.as_slice()),
-            text,
-        }
+        let front = front_of_bytes(text);
+        TakenName { front, view }
     }
 
-    /// Its bytes.
-    pub fn as_slice(&self) -> &[u8]
-        ensures name { result.now ≡ self.now }
-        ensures bytes { AreBytes result.now }
+    /// The name in the image.
+    pub fn view(&self) -> &NameView<'a>
+        ensures { result.now ≡ self.now }
     {
-        as_bytes(self.text.as_slice())
+        &self.view
     }
 
     /// How it stands to another name in byte order.
     pub fn order(&self, other: &TakenName) -> Ordering
         ensures { result ≡ slice_cmp nat_cmp self.now other.now }
     {
-        let (name, other_name) = (self.as_slice(), other.as_slice());
-        order_of(&self.front, name, &other.front, other_name)
+        order_of(&self.front, &self.view, &other.front, &other.view)
     }
 }

@@ -6,11 +6,11 @@ use Rattle.jm_extract.proofs.refusals.refusal_of.Goals as goal
 
 pub returns-in-Some-clause-refusal : goal.returns-in-Some-clause-refusal
 returns-in-Some-clause-refusal c =
-    refused_name (map taken_as c.args.entries.now) c.in-Some.refusal (sym c.in-Some.is ∙ c.in_ok-refusal.ensures.refusal)
+    refused_name (map taken_as c.args.entries.now) c.in-Some.refusal (sym c.in-Some.is ∙ c.in_ok-refusal.ensures)
 
 pub returns-in-None-clause-refusal : goal.returns-in-None-clause-refusal
 returns-in-None-clause-refusal c =
-    clash_decides (map taken_as c.args.entries.now) c.first_clash.result (sym c.in-None.is ∙ c.in_ok-refusal.ensures.refusal) c.first_clash.ensures
+    clash_decides (map taken_as c.args.entries.now) c.first_clash.result (sym c.in-None.is ∙ c.in_ok-refusal.ensures) c.first_clash.ensures
 
 pub returns-in-None-clause-sound : goal.returns-in-None-clause-sound
-returns-in-None-clause-sound c none = all_sound taken_as c.args.entries.now (sym c.in_ok-refusal.ensures.refusal ∙ c.in-None.is)
+returns-in-None-clause-sound c none = all_sound taken_as c.args.entries.now (sym c.in_ok-refusal.ensures ∙ c.in-None.is)
