@@ -18,7 +18,7 @@ mod words;
 pub use child_list::{Child, ChildList};
 pub use jrt_error::JrtError;
 pub use node::Node;
-pub use replies::extend_children;
+pub use replies::{extend_children, extend_next_children};
 pub use requests::answer;
 pub use serve_error::ServeError;
 pub use session::serve;

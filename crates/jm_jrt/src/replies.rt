@@ -1,9 +1,10 @@
 //! The texts of replies.
-ghost use Rattle.std.specs.Prelude.{◌≡◌, ◌++◌, codes, length, IfOk, OnOk};
+ghost use Rattle.std.specs.Prelude.{◌≡◌, ◌≤◌, ◌++◌, true, false, codes, length, Ok, IfOk, OnOk};
 ghost use Rattle.jm_reader.specs.Walk.{IsLater};
 ghost use Rattle.jm_jrt.specs.Nodes.{item_as};
 ghost use Rattle.jm_jrt.specs.Reply as reply;
 ghost use Rattle.jm_jrt.specs.Lists.{child_line};
+ghost use Rattle.jm_jrt.specs.Views.{count_of};
 
 use crate::child_list::{Child, ChildList};
 use crate::jrt_error::JrtError;
@@ -156,4 +157,33 @@ pub fn extend_children<R: Ledger>(
         extend_child(alloc, text, path.as_slice(), &child)?;
     }
     Ok(())
+}
+
+/// Puts the lines of the next children of a list at the end of a text, as `extend_children` does,
+/// until the text has `limit` bytes or more, which it answers by true, or the list has no child
+/// left: false.
+pub fn extend_next_children<R: Ledger>(
+    alloc: Global,
+    text: &mut Vec<u8>,
+    path: &[u8],
+    list: &mut ChildList,
+    limit: usize,
+    reads: &mut Meter<R>,
+) -> Result<bool, NoMemory>
+    requires { reads.old.bytes ≡ list.old.bytes }
+    ensures lines { OnOk result (text.new.items ++ reply.held_lines path.now list.new.rest
+        ≡ text.old.items ++ reply.held_lines path.now list.old.rest) }
+    ensures full { result ≡ Ok true → limit ≤ length text.new.items }
+    ensures end { result ≡ Ok false → count_of list.new.rest ≡ 0 }
+    ensures bytes { list.new.bytes ≡ list.old.bytes }
+    ensures reads { IsLater reads.old reads.new }
+{
+    let path = to_utf8(alloc, path)?;
+    while text.len() < limit {
+        match list.step(reads) {
+            Some(child) => extend_child(alloc, text, path.as_slice(), &child)?,
+            None => return Ok(false),
+        }
+    }
+    Ok(true)
 }
