@@ -1,6 +1,7 @@
 pub mod FolderLaws
 pub mod FoundLaws
 pub mod InfoAnswers
+pub mod ModulesLaws
 pub mod PackageLaws
 pub mod PathLaws
 pub mod PathVectors

@@ -6,6 +6,7 @@ use Rattle.std.specs.Prelude.{Err, codes, not, ◌&&◌, nat_eq}
 use Rattle.std.specs.List.{before_last, ends_with, list_any}
 use Rattle.jm_bytes.specs.Checks.{first_fault, unless_fault}
 use Rattle.jm_bytes.specs.Results.{followed}
+use Rattle.jm_closure.specs.Names.{NamesDiffer}
 use Rattle.jm_form.specs.Rising.{rising}
 use Rattle.jm_form.specs.Trees.{is_meta, path_of}
 use Rattle.jm_modinfo.specs.declared.descriptor.Descriptor.{Descriptor}
@@ -22,6 +23,7 @@ use Rattle.jm_modpath.specs.declared.refusal.PathStop.TheVariants as stop
 use Rattle.jm_modpath.specs.declared.refusal.PathRefusal.{PathRefusal}
 use Rattle.jm_modpath.specs.declared.refusal.PathRefusal.TheVariants as refusal
 use Rattle.jm_modpath.specs.declared.visible.VisibleModule.{VisibleModule}
+use Rattle.jm_modpath.specs.Modules.{candidates}
 use Rattle.jm_modpath.specs.Modules.{directory_checks, folder_info, folder_with_info, info_path}
 use Rattle.jm_modpath.specs.Modules.{inside, is_named}
 use Rattle.jm_modpath.specs.Modules.{module_with, modules_in, name_of, path_refusal, unhidden}
@@ -160,3 +162,8 @@ pub record HasTexts (m : VisibleModule) : Type 0 where
 -- no two modules have one name
 abbrev pub Differing : List VisibleModule → Type 0
 Differing ms = AllPairs (λ m k. name_of m ≢ name_of k) ms
+
+-- modules as a module path shows them: their texts are as said, and no two of them have one name
+pub record AreVisible (ms : List VisibleModule) : Type 0 where
+  pub texts : All HasTexts ms
+  pub differ : NamesDiffer (candidates ms)

@@ -1,8 +1,7 @@
 //! Modules that are found, which are looked up by their names.
 ghost use Rattle.std.specs.Prelude.{◌≡◌, ◌∷◌, ◌++◌, [], All, AllPairs, false, IfOk};
-ghost use Rattle.jm_closure.specs.Names.{NamesDiffer};
-ghost use Rattle.jm_modpath.specs.Finding.{Differing, HasTexts};
-ghost use Rattle.jm_modpath.specs.Modules.{candidates, is_named, name_of};
+ghost use Rattle.jm_modpath.specs.Finding.{AreVisible, HasTexts};
+ghost use Rattle.jm_modpath.specs.Modules.{is_named, name_of};
 
 use crate::visible::VisibleModule;
 use jm_bytes::{List, NoMemory};
@@ -70,8 +69,7 @@ impl Found {
     /// The modules.
     pub fn into_list(self) -> List<VisibleModule>
         ensures list { result ≡ self }
-        ensures differ { NamesDiffer (candidates result) }
-        ensures texts { All HasTexts result }
+        ensures are { AreVisible result }
     {
         let Found { modules, .. } = self;
         modules

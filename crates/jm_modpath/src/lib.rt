@@ -6,6 +6,7 @@ mod directory;
 mod folders;
 mod found;
 mod info;
+mod modules;
 mod names;
 mod packages;
 mod path;
@@ -15,8 +16,9 @@ mod stops;
 mod visible;
 
 pub use info::{InfoStop, info_in};
+pub use modules::VisibleModules;
 pub use names::{inside, resource_name};
 pub use packages::class_folder;
 pub use path::visible_modules;
 pub use refusal::{PathRefusal, PathStop};
-pub use visible::VisibleModule;
+pub use visible::{ModuleFolder, VisibleModule};

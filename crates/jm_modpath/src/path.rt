@@ -1,13 +1,14 @@
 //! The modules that a module path shows.
 ghost use Rattle.std.specs.Prelude.{◌≡◌, ◌∷◌, ◌++◌, [], All, IsUtf8, IfOk, IsErrOf};
-ghost use Rattle.jm_closure.specs.Names.{NamesDiffer};
 ghost use Rattle.jm_outside.specs.Outcome.{CountsFaults, Shows};
-ghost use Rattle.jm_modpath.specs.Finding.{Comes, HasTexts, ShowsModules, shown_more};
+ghost use Rattle.jm_modpath.specs.Finding.{AreVisible, Comes, HasTexts, ShowsModules};
+ghost use Rattle.jm_modpath.specs.Finding.{shown_more};
 ghost use Rattle.jm_modpath.specs.Finding.{with_unhidden};
-ghost use Rattle.jm_modpath.specs.Modules.{candidates, unhidden};
+ghost use Rattle.jm_modpath.specs.Modules.{unhidden};
 
 use crate::directory::found_in;
 use crate::found::Found;
+use crate::modules::VisibleModules;
 use crate::refusal::PathStop;
 use crate::visible::VisibleModule;
 use jm_bytes::{List, NoMemory, Text};
@@ -67,13 +68,12 @@ pub fn visible_modules<S: Shelf>(
     alloc: Global,
     directories: &[Text],
     shelf: &mut S,
-) -> Result<List<VisibleModule>, PathStop>
+) -> Result<VisibleModules, PathStop>
     requires { All IsUtf8 directories.now }
     ensures files { S.files shelf.new ≡ S.files shelf.old }
     ensures modules { Shows (S.files shelf.old) (λ files.
         ShowsModules files directories.now result) }
-    ensures differ { IfOk result (λ found. NamesDiffer (candidates found)) }
-    ensures texts { IfOk result (All HasTexts) }
+    ensures are { IfOk result AreVisible }
     ensures faults { CountsFaults (S.faults shelf.old) (S.faults shelf.new)
         (IsErrOf result PathStop.Outside) }
 {
@@ -81,5 +81,5 @@ pub fn visible_modules<S: Shelf>(
     for directory in directories {
         found = with_directory(alloc, found, directory.as_slice(), shelf)?;
     }
-    Ok(found.into_list())
+    Ok(VisibleModules::of(alloc, found.into_list())?)
 }

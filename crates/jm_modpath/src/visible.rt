@@ -11,3 +11,12 @@ pub struct VisibleModule {
     /// What its descriptor says, and its class packages.
     pub candidate: Candidate,
 }
+
+/// The folder of a module.
+#[derive(Debug, Drop)]
+pub struct ModuleFolder {
+    /// Its path.
+    pub path: Text,
+    /// The files in it to any depth, each by its path within it.
+    pub files: List<Text>,
+}

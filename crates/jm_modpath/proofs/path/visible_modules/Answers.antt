@@ -13,5 +13,5 @@ returns-in_err-found-clause-modules g c =
 
 pub returns-clause-modules : goal.returns-clause-modules
 returns-clause-modules g c =
-    rw c.into_list.ensures.list
+    rw (c.in_ok-of.ensures, c.into_list.ensures.list)
     (path_done _ c.args.directories.now c.loop-directory.directory-index c.loop-directory.found c.loop-directory-test.false c.loop-directory.invariant.told)
