@@ -1,6 +1,6 @@
 -- The modules of an image as what a link is made of: their names differ, their resources are no
 -- nodes and differ too, and what a link of them does, from what its steps did.
-use Rattle.std.proofs.Common.{inl, ◌≡◌, ◌≢◌, ◌<◌, ℕ, suc, Bool, true, false, not, List, [], ◌∷◌, ◌++◌, length, map, All, AllPairs, Contains, Option, Some, None, option_map, slice_get, Result, Ok, Err, refl, sym, ap, subst, ◌∙◌, arith}
+use Rattle.std.proofs.Common.{◌⊎◌, ◌≡◌, ◌≢◌, ◌<◌, ℕ, suc, Bool, true, false, not, List, [], ◌∷◌, ◌++◌, length, map, All, AllPairs, Contains, Option, Some, None, option_map, slice_get, Result, Ok, Err, refl, sym, ap, subst, ◌∙◌, arith}
 use Rattle.std.proofs.lemmas.List.Elements.{All-contains, All-cons, All-map, All-nil}
 use Rattle.std.proofs.lemmas.Option.{slice_get-map}
 use Rattle.std.specs.List.{filter_map, flat_map, zip}
@@ -20,7 +20,6 @@ use Rattle.jm_names.proofs.ComputedFaultLaws.{IsSound-computed}
 use Rattle.jm_form.specs.Validity.{resources}
 use Rattle.jm_form.specs.Entries.{Entry}
 use Rattle.jm_bytes.specs.ByteOrder.{is_before}
-use Rattle.jm_outside.specs.Files.{Files}
 use Rattle.jm_reader.specs.Walk.{entries_of}
 use Rattle.jm_relink.specs.declared.error.GatherError.{GatherError}
 use Rattle.jm_relink.specs.declared.error.GatherError.TheVariants as gather
@@ -34,17 +33,19 @@ use Rattle.jm_relink.specs.Gathering as gathering
 use Rattle.jm_relink.specs.Modules.{FindsModules, HoldsModules, IsSeenIn, IsVisibleIn, ModulesOf, SeenModule, name_of}
 use Rattle.jm_relink.proofs.AskedLaws.{before_at, candidates_rise, image_names_differ, visible_in}
 use Rattle.jm_relink.proofs.NameLaws.{names_tell}
-use Rattle.jm_link.specs.declared.linking.LinkStop.{LinkStop}
 use Rattle.jm_texts.specs.declared.refusal.Refusal.{Refusal}
 use Rattle.jm_texts.specs.declared.refusal.Refusal.TheVariants as refusal
-use Rattle.jm_link.specs.Closing.{ClosesAmong, ClosesWith}
-use Rattle.jm_link.specs.ImageLinked.{ImageComesTo, resources_seen, seen_candidates, seen_resources, stop_of_gathering, stop_of_modules}
+use Rattle.jm_link.specs.Chosen.{reserved}
+use Rattle.jm_link.specs.Closing.{ClosesAmong, ClosesWith, IsRefusedAmong}
+use Rattle.jm_link.specs.ImageLinked.{ImageComesTo, image_refusal, resources_seen, seen_candidates, seen_resources}
 use Rattle.jm_link.specs.Linked.{LinkedImage, Request}
-use Rattle.jm_link.specs.Links.{LinksBy, PoolComesTo}
+use Rattle.jm_link.specs.Links.{PoolComesTo}
+use Rattle.jm_link.specs.Resources.{AreFit}
+use Rattle.jm_link.specs.Steps.{gathering_refusal}
 use Rattle.jm_texts.specs.NameRefusals.{first_bad_name}
 use Rattle.jm_link.proofs.ChosenLaws.{chosen_differ, chosen_rise, chosen_within}
 use Rattle.jm_link.proofs.FileLaws.{got}
-use Rattle.jm_link.proofs.LinkingLaws.{among_to, stopped_among}
+use Rattle.jm_link.proofs.LinkingLaws.{among_to, refused_among}
 use Rattle.jm_bytes.proofs.ByteOrderLaws.{before_less, before_other}
 
 -- Two lists of modules that were seen
@@ -203,38 +204,46 @@ same_bad (r ∷ rs) name fault is = go (name_fault r.0) refl is (same_bad rs nam
         same : (f : NameFault) → gather.BadName r.0 f ≡ gather.BadName name fault → ◌≡◌ {A = Option Refusal} (Some (refusal.BadName r.0 f)) (Some (refusal.BadName name fault))
         same f e = cc
 
--- What a link does
+-- The steps of a link from an image
 
-module _ (b : List ℕ) (asked : Request) (path : List ℕ) (told : Option Files) (faults : ℕ) where
-  -- the image shows no modules
-  pub unseen_to : (error : RelinkError) → FindsModules b (Err error) → LinksBy (ImageComesTo b asked) ⊥ path (Err (stop_of_modules error)) told told faults faults
-  unseen_to (relink.BadInfo name fault) is = (((Err (relink.BadInfo name fault), is, refl), tt), refl)
-  unseen_to (relink.Foreign name) is = (((Err (relink.Foreign name), is, refl), tt), refl)
-  unseen_to relink.Memory is = inl refl
+-- the image shows no modules
+pub unseen : (b : List ℕ) (asked : Request) (error : RelinkError) → FindsModules b (Err error) → (r : Refusal) → image_refusal error ≡ Some r → ImageComesTo b asked (Err r)
+unseen b asked (relink.BadInfo name fault) is r same = ((Err (relink.BadInfo name fault), is, same), tt)
+unseen b asked (relink.Foreign name) is r same = ((Err (relink.Foreign name), is, same), tt)
+unseen b asked relink.Memory is r same = cc
 
 module _ (b : List ℕ) (asked : Request) (modules : ImageModules) (seen : List SeenModule) (shows : ModulesOf b (Ok seen)) (holds : HoldsModules modules seen) where
   -- no closure was had
-  pub unclosed_to : (path : List ℕ) (told : Option Files) (faults : ℕ) (given : LinkStop) → ClosesAmong modules.candidates asked.roots asked.bind (Err given) → LinksBy (ImageComesTo b asked) ⊥ path (Err given) told told faults faults
-  unclosed_to path told faults given closes =
-      stopped_among asked (seen_candidates seen) (resources_seen seen) (ImageComesTo b asked) ⊥ given path told faults
-      (λ r is. ((Ok seen, shows, is), tt))
-      (subst (λ (cs : List Candidate). ClosesAmong cs asked.roots asked.bind (Err given)) holds.candidates closes)
+  pub unclosed : (r : Refusal) → (reserved modules.candidates ≡ Some r) ⊎ IsRefusedAmong modules.candidates asked.roots asked.bind r → ImageComesTo b asked (Err r)
+  unclosed r why =
+      let same = subst (λ (cs : List Candidate). (reserved cs ≡ Some r) ⊎ IsRefusedAmong cs asked.roots asked.bind r) holds.candidates why in
+      ((Ok seen, shows, refused_among asked (seen_candidates seen) (resources_seen seen) r same), tt)
 
   module _ (places : List ℕ) (closed : ClosesAmong modules.candidates asked.roots asked.bind (Ok places)) where
     abbrev as_seen : ClosesAmong (seen_candidates seen) asked.roots asked.bind (Ok places)
     as_seen = subst (λ (cs : List Candidate). ClosesAmong cs asked.roots asked.bind (Ok places)) holds.candidates closed
 
-    -- a name is unfit
-    pub ungathered_to : (path : List ℕ) (told : Option Files) (faults : ℕ) (error : GatherError) → GathersAll (gathered modules places) (Err error) → LinksBy (ImageComesTo b asked) ⊥ path (Err (stop_of_gathering error)) told told faults faults
-    ungathered_to path told faults (gather.BadName name fault) is =
-        let unfit = same_bad (resources_seen seen places) name fault (subst (λ (rs : List Named). gathering.first_bad_name rs ≡ Some (gather.BadName name fault)) (gathered_is b modules seen (visible_in b seen shows) holds places) is) in
-        (((Ok seen, shows, among_to asked (seen_candidates seen) (resources_seen seen) places as_seen.0 as_seen.1 (Err (refusal.BadName name fault)) (rw unfit refl)), tt), refl)
-    ungathered_to path told faults gather.Memory is = inl refl
+    abbrev is : gathered modules places ≡ resources_seen seen places
+    is = gathered_is b modules seen (visible_in b seen shows) holds places
 
-    -- from the resources to the whole
+    -- a name is unfit
+    pub unfit : (error : GatherError) → GathersAll (gathered modules places) (Err error) → (r : Refusal) → gathering_refusal error ≡ Some r → ImageComesTo b asked (Err r)
+    unfit (gather.BadName name fault) gathers r same =
+        let bad = same_bad (resources_seen seen places) name fault (subst (λ (rs : List Named). gathering.first_bad_name rs ≡ Some (gather.BadName name fault)) is gathers) ∙ same in
+        ((Ok seen, shows, among_to asked (seen_candidates seen) (resources_seen seen) places as_seen (Err r) (rw bad refl)), tt)
+    unfit gather.Memory gathers r same = cc
+
+    -- the resources were gathered
     pub gathered_to : (pool : List Written) → GathersAll (gathered modules places) (Ok pool) → (r : Result LinkedImage Refusal) → PoolComesTo asked (length places) pool r → ImageComesTo b asked r
-    gathered_to pool (none, is) r (comes, laid) =
-        let same = gathered_is b modules seen (visible_in b seen shows) holds places in
-        let fit = none_bad (resources_seen seen places) (subst (λ (rs : List Named). gathering.first_bad_name rs ≡ None) same none) in
-        let plugged = rw (is, same) at comes in
-        ((Ok seen, shows, among_to asked (seen_candidates seen) (resources_seen seen) places as_seen.0 as_seen.1 r (rw fit plugged)), laid)
+    gathered_to pool (none, same) r (comes, laid) =
+        let fit = none_bad (resources_seen seen places) (subst (λ (rs : List Named). gathering.first_bad_name rs ≡ None) is none) in
+        let plugged = rw (same, is) at comes in
+        ((Ok seen, shows, among_to asked (seen_candidates seen) (resources_seen seen) places as_seen r (rw fit plugged)), laid)
+
+    -- they have fit names
+    pub gathered_fit : (pool : List Written) → GathersAll (gathered modules places) (Ok pool) → AreFit (names_of pool)
+    gathered_fit pool (none, same) = rw same (record {
+      differ = image_apart b modules seen (visible_in b seen shows) holds asked.roots asked.bind places closed.1;
+      sound = fit_names (gathered modules places) none;
+      plain = image_free b modules seen (visible_in b seen shows) holds asked.roots asked.bind places closed.1;
+    })

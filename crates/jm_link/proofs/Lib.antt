@@ -1,6 +1,5 @@
 pub mod ChosenLaws
 pub mod ClosedAgain
-pub mod ClosingLaws
 pub mod FileLaws
 pub mod FileOrder
 pub mod GivenBack

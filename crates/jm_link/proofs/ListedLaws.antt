@@ -1,5 +1,5 @@
 -- A shelf that tells its files has each file that a link takes of its visible modules.
-use Rattle.std.proofs.Common.{◌≡◌, ◌≢◌, ℕ, List, [], ◌∷◌, ◌++◌, All, Contains, Some, None, Result, Ok, Err, refl, sym, ap, ◌∙◌, subst}
+use Rattle.std.proofs.Common.{◌≡◌, ◌≢◌, ℕ, List, [], All, Contains, Some, None, Result, Ok, Err, refl, sym, ap, ◌∙◌, subst}
 use Rattle.jm_bytes.proofs.Choice.{same_some}
 use Rattle.jm_bytes.proofs.Members.{all_from_contains, from_filter_map}
 use Rattle.jm_modinfo.specs.declared.descriptor.Descriptor.{Descriptor}

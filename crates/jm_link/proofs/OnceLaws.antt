@@ -1,5 +1,5 @@
 -- A link of told files comes to one image or to one refusal.
-use Rattle.std.proofs.Common.{◌≡◌, ◌≢◌, ◌<◌, ℕ, List, length, Option, Some, None, Result, Ok, Err, refl, sym, ◌∙◌, subst}
+use Rattle.std.proofs.Common.{◌≡◌, ◌≢◌, ℕ, List, length, Option, Some, None, Result, Ok, Err, refl, sym, ◌∙◌, subst}
 use Rattle.jm_bytes.proofs.Choice.{same_some}
 use Rattle.jm_bytes.specs.declared.words.Order.{Order}
 use Rattle.jm_closure.proofs.OnceLaws.{closes_once}
@@ -11,7 +11,6 @@ use Rattle.jm_modpath.specs.declared.refusal.PathRefusal.{PathRefusal}
 use Rattle.jm_modpath.specs.Modules.{candidates, path_refusal, visible}
 use Rattle.jm_outside.specs.Files.{Files}
 use Rattle.jm_plugins.specs.declared.chain.ApplyError.{ApplyError}
-use Rattle.jm_plugins.specs.declared.chain.ApplyError.TheVariants as plugging
 use Rattle.jm_plugins.specs.Plugins.{apply}
 use Rattle.jm_texts.specs.declared.refusal.Refusal.{Refusal}
 use Rattle.jm_link.specs.Chosen.{Chosen, reserved}
@@ -25,8 +24,10 @@ Answer = Result LinkedImage Refusal
 
 plugged_once : (order : Order) (modules : ℕ) (plugged : Result (List Written) ApplyError) (a b : Answer) → IsPluggedTo order modules plugged a → IsPluggedTo order modules plugged b → a ≡ b
 plugged_once order modules (Ok resources) a b one other = one ∙ sym other
-plugged_once order modules (Err (plugging.BadClass name fault)) a b one other = one ∙ sym other
-plugged_once order modules (Err plugging.Memory) a b one other = absurd one
+plugged_once order modules (Err error) (Ok image) b one other = absurd one
+plugged_once order modules (Err error) (Err refusal) (Ok image) one other = absurd other
+plugged_once order modules (Err error) (Err refusal) (Err refusal') one other =
+    rw (same_some refusal refusal' (sym one ∙ other)) refl
 
 gathered_once : (asked : Request) (modules : ℕ) (resources : List Written) (bad : Option Refusal) (a b : Answer) → IsGatheredTo asked modules resources bad a → IsGatheredTo asked modules resources bad b → a ≡ b
 gathered_once asked modules resources (Some refusal) a b one other = one ∙ sym other

@@ -21,7 +21,6 @@ use Rattle.jm_form.specs.Layout.{Written}
 use Rattle.jm_form.specs.Validity.{Stands, resources}
 use Rattle.jm_names.specs.ComputedFault.{name_fault}
 use Rattle.jm_plugins.specs.declared.chain.ApplyError.{ApplyError}
-use Rattle.jm_plugins.specs.declared.chain.ApplyError.TheVariants as plugging
 use Rattle.jm_plugins.specs.Plugins.{apply}
 use Rattle.jm_reader.specs.Walk.{entries_with}
 use Rattle.jm_relink.specs.Files.{info_entry, resources_of}
@@ -60,8 +59,7 @@ laid_parts order modules left (Some refusal) image is = cc
 
 plugged_parts : (order : Order) (modules : ℕ) (r : Result (List Written) ApplyError) (image : LinkedImage) → IsPluggedTo order modules r (Ok image) → (left : List Written) × (r ≡ Ok left) × (layout_refusal order left ≡ None) × (image ≡ image_with order modules left)
 plugged_parts order modules (Ok left) image is = let parts = laid_parts order modules left (layout_refusal order left) image is in (left, refl, parts.0, parts.1)
-plugged_parts order modules (Err (plugging.BadClass name fault)) image is = cc
-plugged_parts order modules (Err plugging.Memory) image is = absurd is
+plugged_parts order modules (Err error) image is = absurd is
 
 gathered_parts : (asked : Request) (modules : ℕ) (rs : List Written) (o : Option Refusal) (image : LinkedImage) → IsGatheredTo asked modules rs o (Ok image) → (o ≡ None) × IsPluggedTo asked.order modules (apply asked.plugins rs) (Ok image)
 gathered_parts asked modules rs None image is = (refl, is)

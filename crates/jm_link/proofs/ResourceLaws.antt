@@ -1,22 +1,24 @@
 -- The files that are linked: sorted, module by module, checked and read.
-use Rattle.std.proofs.Common.{◌≡◌, ◌≢◌, ℕ, ◌+◌, ◌<◌, List, [], ◌∷◌, ◌++◌, append-nil, length, map, take, get_or, All, AllPairs, IsUtf8, IsPermutation, Some, None, slice_get, refl, sym, ap, subst, ◌∙◌}
+use Rattle.std.proofs.Common.{◌≡◌, ◌≢◌, ℕ, ◌+◌, ◌<◌, List, [], ◌∷◌, ◌++◌, append-nil, arith, length, length-append, map, take, get_or, All, AllPairs, IsUtf8, IsPermutation, Option, Some, None, slice_get, refl, sym, ap, subst, ◌∙◌}
 use Rattle.std.proofs.lemmas.Grind.{flat_map-append}
-use Rattle.std.proofs.lemmas.List.{get_or-map, length-map, take-map, take_more}
-use Rattle.std.proofs.lemmas.List.Elements.{All-contains, filter_map-append}
+use Rattle.std.proofs.lemmas.List.{map-append, take_at, take_more}
+use Rattle.std.proofs.lemmas.List.Elements.{All-contains, Contains-append_right, filter_map-append}
 use Rattle.std.specs.List.{filter_map, flat_map}
-use Rattle.jm_bytes.proofs.Members.{all_filter_map, all_from_contains, contains_map}
+use Rattle.jm_bytes.proofs.Members.{all_filter_map, all_from_contains, contains_here, contains_map}
 use Rattle.jm_bytes.proofs.Pairs.{pairs_before}
 use Rattle.jm_pool.specs.Pairs.{bytes_of, names_of}
 use Rattle.jm_link.specs.declared.resources.ResourceFile.{ResourceFile}
 use Rattle.jm_modpath.specs.declared.visible.VisibleModule.{VisibleModule}
 use Rattle.jm_names.specs.ByName.{Named, NeverFalls}
 use Rattle.jm_modpath.specs.Finding.{HasTexts}
+use Rattle.jm_modpath.specs.Modules.{bytes_at}
+use Rattle.jm_outside.specs.Files.{Files}
+use Rattle.jm_outside.specs.Outcome.{Shows}
 use Rattle.jm_link.specs.ResourceFiles.{file_names, file_of, pair_of}
-use Rattle.jm_link.specs.Resources.{link_files, module_files}
+use Rattle.jm_link.specs.Resources.{link_files, module_files, resources_of}
 use Rattle.jm_modpath.proofs.FoundLaws.{got}
 use Rattle.jm_names.proofs.NameOrder.{items_sorted}
 use Rattle.jm_relink.proofs.GatherLaws.{bytes_of_none}
-use Rattle.std.proofs.lemmas.Option.{slice_get-get_or}
 use Rattle.jm_link.proofs.ResourceNames.{PathIsText, files_differ, modules_texts}
 
 -- The order of a sort
@@ -28,10 +30,9 @@ files_sorted m ts us has is moved sorted =
 
 -- Module by module
 
-pub files_more : (found : List VisibleModule) (places : List ℕ) (i : ℕ) (m : VisibleModule) (old new : List Named) → i < length places → All (λ p. p < length found) places → m ≡ get_or found (get_or places i 0) m → new ≡ old ++ module_files m → old ≡ link_files found (take i places) → new ≡ link_files found (take (i + 1) places)
-files_more found places i m old new below within is put so_far =
+pub files_more : (found : List VisibleModule) (places : List ℕ) (i : ℕ) (m : VisibleModule) (old new : List Named) → i < length places → slice_get found (get_or places i 0) ≡ Some m → new ≡ old ++ module_files m → old ≡ link_files found (take i places) → new ≡ link_files found (take (i + 1) places)
+files_more found places i m old new below there put so_far =
     let place = get_or places i 0 in
-    let there : slice_get found place ≡ Some m = slice_get-get_or found place m (within i 0 below) ∙ ap (λ k. Some k) (sym is) in
     let one : filter_map (slice_get found) (place ∷ []) ≡ m ∷ [] = rw there refl in
     let both = flat_map-append module_files (filter_map (slice_get found) (take i places)) (filter_map (slice_get found) (place ∷ [])) in
     let ends : flat_map module_files (filter_map (slice_get found) (place ∷ [])) ≡ module_files m = ap (flat_map module_files) one ∙ append-nil (module_files m) in
@@ -54,10 +55,32 @@ files_texts found places fs texts below is =
 -- The names of a pool
 
 -- a name is new where those before it were put into a pool and names differ
-pub name_is_new : (fs : List ResourceFile) (i : ℕ) (f : ResourceFile) (pool : List Named) → AllPairs (λ a b. a ≢ b) (file_names fs) → i < length fs → f ≡ get_or fs i f → names_of pool ≡ file_names (take i fs) → bytes_of f.name pool ≡ None
-name_is_new fs i f pool differ below is names =
-    let long : i < length (file_names fs) = rw (length-map fs (λ (g : ResourceFile). g.name)) below in
-    let before = pairs_before (λ (a b : List ℕ). a ≢ b) (file_names fs) i f.name differ long in
-    let here : get_or (file_names fs) i f.name ≡ f.name = get_or-map (λ (g : ResourceFile). g.name) fs i f f.name below ∙ ap (λ (g : ResourceFile). g.name) (sym is) in
-    let front : take i (file_names fs) ≡ names_of pool = take-map (λ (g : ResourceFile). g.name) i fs ∙ sym names in
-    bytes_of_none f.name pool (rw (here, front) at before)
+pub name_is_new : (fs done : List ResourceFile) (f : ResourceFile) (rest : List ResourceFile) (pool : List Named) → AllPairs (λ a b. a ≢ b) (file_names fs) → done ++ f ∷ rest ≡ fs → names_of pool ≡ file_names done → bytes_of f.name pool ≡ None
+name_is_new fs done f rest pool differ all names =
+    let apart = subst (λ gs. AllPairs (λ (a b : List ℕ). a ≢ b) (file_names gs)) (sym all) differ in
+    let parts : file_names (done ++ f ∷ rest) ≡ file_names done ++ f.name ∷ file_names rest = map-append (λ (g : ResourceFile). g.name) done (f ∷ rest) in
+    let pairs = subst (AllPairs (λ (a b : List ℕ). a ≢ b)) (parts ∙ ap (λ ns. ns ++ f.name ∷ file_names rest) (sym names)) apart in
+    let long = length-append (names_of pool) (f.name ∷ file_names rest) in
+    let before = pairs_before (λ (a b : List ℕ). a ≢ b) (names_of pool ++ f.name ∷ file_names rest) (length (names_of pool)) f.name pairs (omega (arith, long)) in
+    bytes_of_none f.name pool (rw (at_front (names_of pool) (f.name ∷ file_names rest) f.name, take_at (names_of pool) (f.name ∷ file_names rest) (length (names_of pool)) refl) at before)
+  where
+    at_front : (front back : List (List ℕ)) (d : List ℕ) → get_or (front ++ back) (length front) d ≡ get_or back 0 d
+    at_front [] back d = refl
+    at_front (n ∷ front) back d = at_front front back d
+
+-- Files that are read one after another
+
+-- what holds of all files holds of one among them
+pub held_among : (P : ResourceFile → Type 0) (fs done : List ResourceFile) (f : ResourceFile) (rest : List ResourceFile) → All P fs → done ++ f ∷ rest ≡ fs → P f
+held_among P fs done f rest each all =
+    All-contains P (done ++ f ∷ rest) f (subst (All P) (sym all) each) (Contains-append_right done (f ∷ rest) f (contains_here f rest))
+
+-- one resource more
+pub read_more : (told now : Option Files) (done : List ResourceFile) (f : ResourceFile) (pool new : List Named) → now ≡ told → Shows told (λ files. pool ≡ resources_of files (map pair_of done)) → Shows now (λ files. new ≡ pool ++ (f.name, bytes_at files f.path) ∷ []) → Shows told (λ files. new ≡ resources_of files (map pair_of (done ++ f ∷ [])))
+read_more told now done f pool new same so_far put = go told so_far (subst (λ t. Shows t (λ files. new ≡ pool ++ (f.name, bytes_at files f.path) ∷ [])) same put)
+  where
+    go : (t : Option Files) → Shows t (λ files. pool ≡ resources_of files (map pair_of done)) → Shows t (λ files. new ≡ pool ++ (f.name, bytes_at files f.path) ∷ []) → Shows t (λ files. new ≡ resources_of files (map pair_of (done ++ f ∷ [])))
+    go None so_far put = tt
+    go (Some files) so_far put =
+        put ∙ ap (λ rs. rs ++ (f.name, bytes_at files f.path) ∷ []) so_far
+        ∙ sym (ap (resources_of files) (map-append pair_of done (f ∷ [])) ∙ map-append (λ (n : Named). (n.0, bytes_at files n.1)) (map pair_of done) (pair_of f ∷ []))

@@ -5,14 +5,11 @@ use Rattle.std.specs.List.{filter_map, flat_map}
 use Rattle.jm_closure.specs.declared.candidate.Candidate.{Candidate}
 use Rattle.jm_form.specs.Layout.{Written}
 use Rattle.jm_outside.specs.Files.{Files}
-use Rattle.jm_relink.specs.declared.error.GatherError.{GatherError}
-use Rattle.jm_relink.specs.declared.error.GatherError.TheVariants as gather
 use Rattle.jm_relink.specs.declared.error.RelinkError.{RelinkError}
 use Rattle.jm_relink.specs.declared.error.RelinkError.TheVariants as relink
 use Rattle.jm_relink.specs.Gathering.{resources_with}
 use Rattle.jm_relink.specs.Modules.{ModulesOf, SeenModule, name_of}
 use Rattle.jm_link.specs.declared.linking.LinkStop.{LinkStop}
-use Rattle.jm_link.specs.declared.linking.LinkStop.TheVariants as stop
 use Rattle.jm_link.specs.declared.linking.Summary.{Summary}
 use Rattle.jm_texts.specs.declared.refusal.Refusal.{Refusal}
 use Rattle.jm_texts.specs.declared.refusal.Refusal.TheVariants as refusal
@@ -62,14 +59,3 @@ abbrev pub ImageLinks : List ℕ → Request → List ℕ → Result Summary Lin
     → (old new : Option Files) → (faults new_faults : ℕ) → Type 0
 ImageLinks b asked path answer old new faults new_faults =
     LinksBy (ImageComesTo b asked) ⊥ path answer old new faults new_faults
-
--- why an image shows no modules
-abbrev pub stop_of_modules : RelinkError → LinkStop
-stop_of_modules (relink.BadInfo name fault) = stop.Refused (refusal.BadEntry name fault)
-stop_of_modules (relink.Foreign name) = stop.Refused (refusal.Foreign name)
-stop_of_modules relink.Memory = stop.Memory
-
--- why the files of modules are no resources
-abbrev pub stop_of_gathering : GatherError → LinkStop
-stop_of_gathering (gather.BadName name fault) = stop.Refused (refusal.BadName name fault)
-stop_of_gathering gather.Memory = stop.Memory

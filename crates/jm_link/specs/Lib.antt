@@ -7,5 +7,5 @@ pub mod Relinked
 pub mod ResourceFiles
 pub mod Resources
 pub mod Showing
-pub mod Stops
+pub mod Steps
 pub mod Written

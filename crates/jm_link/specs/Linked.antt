@@ -79,15 +79,19 @@ abbrev pub laid_out : Order → ℕ → List Written → Option Refusal → Resu
 laid_out order modules resources None = Ok (image_with order modules resources)
 laid_out order modules resources (Some refusal) = Err refusal
 
+-- the refusal of plug-ins as one of a link; none for want of memory
+abbrev pub plugging_refusal : ApplyError → Option Refusal
+plugging_refusal (plugging.BadClass name fault) = Some (refusal.BadClass name fault)
+plugging_refusal plugging.Memory = None
+
 -- what plug-ins left of the resources of so many modules is laid out, or their refusal is the
 -- result
 abbrev pub IsPluggedTo : Order → ℕ → Result (List Written) ApplyError
     → Result LinkedImage Refusal → Type 0
 IsPluggedTo order modules (Ok resources) result =
     result ≡ laid_out order modules resources (layout_refusal order resources)
-IsPluggedTo order modules (Err (plugging.BadClass name fault)) result =
-    result ≡ Err (refusal.BadClass name fault)
-IsPluggedTo order modules (Err plugging.Memory) result = ⊥
+IsPluggedTo order modules (Err error) (Ok image) = ⊥
+IsPluggedTo order modules (Err error) (Err refusal) = plugging_refusal error ≡ Some refusal
 
 -- the first unfit name of the resources of so many modules is refused, else the plug-ins act on
 -- them

@@ -11,14 +11,8 @@ use Rattle.jm_link.specs.declared.linking.LinkStop.{LinkStop}
 use Rattle.jm_link.specs.declared.linking.LinkStop.TheVariants as stop
 use Rattle.jm_link.specs.declared.linking.Summary.{Summary}
 use Rattle.jm_texts.specs.declared.refusal.Refusal.{Refusal}
-use Rattle.jm_modpath.specs.declared.visible.VisibleModule.{VisibleModule}
-use Rattle.jm_modpath.specs.Modules.{candidates}
 use Rattle.jm_plugins.specs.Plugins.{apply}
-use Rattle.jm_names.specs.ByName.{Named}
-use Rattle.jm_link.specs.Linked.{IsGatheredTo, IsPluggedTo, LinkedImage, LinksAmong, LinksTo}
-use Rattle.jm_link.specs.Linked.{Request}
-use Rattle.jm_link.specs.Resources.{resources_in, resources_of}
-use Rattle.jm_texts.specs.NameRefusals.{first_bad_name}
+use Rattle.jm_link.specs.Linked.{IsPluggedTo, LinkedImage, LinksTo, Request}
 
 -- what is asked for, as plain data
 abbrev pub request_of : Asked → Request
@@ -82,24 +76,8 @@ abbrev pub Links : List (List ℕ) → Request → List ℕ → Result Summary L
 Links directories asked path answer old new faults new_faults =
     LinksBy (ComesTo old directories asked) (TellsNothing old) path answer old new faults new_faults
 
--- of the modules found: their closure, and so on
-abbrev pub FoundComesTo : Option Files → Request → List VisibleModule
-    → Result LinkedImage Refusal → Type 0
-FoundComesTo told asked found result =
-    Shows told (λ files.
-    LinksAmong asked (candidates found) (resources_in files found) result
-    × IsLaid asked.order result)
-
--- of the files of so many modules: their names, and so on
-abbrev pub NamesComeTo : Option Files → Request → ℕ → List Named → Result LinkedImage Refusal
-    → Type 0
-NamesComeTo told asked modules names result =
-    Shows told (λ files.
-    IsGatheredTo asked modules (resources_of files names)
-    (first_bad_name (resources_of files names)) result
-    × IsLaid asked.order result)
-
--- of the resources of so many modules: the plug-ins, and so on
+-- what the resources of so many modules come to: the plug-ins act on them, and what these leave is
+-- laid out
 abbrev pub PoolComesTo : Request → ℕ → List Written → Result LinkedImage Refusal → Type 0
 PoolComesTo asked modules resources result =
     IsPluggedTo asked.order modules (apply asked.plugins resources) result

@@ -4,13 +4,10 @@ use Rattle.jm_bytes.specs.declared.words.Order.{Order}
 use Rattle.jm_form.specs.Layout.{Written}
 use Rattle.jm_outside.specs.Files.{Files}
 use Rattle.jm_outside.specs.Outcome.{Rose}
-use Rattle.jm_writer.specs.declared.draft.PlanError.{PlanError}
-use Rattle.jm_writer.specs.declared.draft.PlanError.TheVariants as plan
 use Rattle.jm_outside.specs.Holds.{Holds, HoldsPart}
 use Rattle.jm_link.specs.declared.linking.LinkStop.{LinkStop}
 use Rattle.jm_link.specs.declared.linking.LinkStop.TheVariants as stop
 use Rattle.jm_link.specs.declared.linking.Summary.{Summary}
-use Rattle.jm_texts.specs.declared.refusal.Refusal.TheVariants as refusal
 use Rattle.jm_link.specs.Linked.{image_with, layout_refusal}
 use Rattle.jm_link.specs.Links.{summary_of}
 
@@ -35,11 +32,3 @@ WritesImage order modules resources path (Err stop.Outside) old new faults new_f
     WritesPart order modules resources path old new × Rose faults new_faults
 WritesImage order modules resources path (Err stop.Memory) old new faults new_faults =
     (new ≡ old) ⊎ WritesPart order modules resources path old new
-
--- what a refused plan stops with
-abbrev pub stop_of_plan : PlanError → LinkStop
-stop_of_plan (plan.Clash name) = stop.Refused (refusal.Clash name)
-stop_of_plan (plan.TooMany count) = stop.Refused (refusal.TooMany count)
-stop_of_plan (plan.NoTable lengths) = stop.Refused (refusal.NoTable lengths)
-stop_of_plan (plan.TooLarge length) = stop.Refused (refusal.TooLarge length)
-stop_of_plan plan.Memory = stop.Memory

@@ -5,8 +5,6 @@
 mod closing;
 mod image;
 mod linking;
-mod plugging;
-mod pooled;
 mod relinking;
 mod resources;
 mod stops;

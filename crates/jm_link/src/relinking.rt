@@ -5,52 +5,23 @@ ghost use Rattle.jm_link.specs.Links.{request_of};
 ghost use Rattle.jm_link.specs.Relinked.{GivesBack};
 
 use crate::closing::closed;
+use crate::image::write_image;
 use crate::linking::{Asked, LinkStop, Summary};
-use crate::pooled::link_pool;
 use jm_bytes::Meter;
 use jm_halves::Gate;
 use jm_outside::Shelf;
+use jm_plugins::apply;
 use jm_relink::{gather, modules_of};
 use jm_valid::Image;
 use std::alloc::Global;
 use std::sync::ledger::Ledger;
 use std::thread::Threads;
 
-/// Finds the modules of an image and links those that are asked for.
-fn link_seen<T: Threads + Sync, S: Shelf, G: Gate + Sync, R: Ledger>(
-    rt: &T,
-    alloc: Global,
-    jobs: u32,
-    asked: &Asked,
-    image: &Image,
-    reads: &mut Meter<R>,
-    shelf: &mut S,
-    gate: &G,
-) -> Result<Summary, LinkStop>
-    requires jobs { 0 < jobs }
-    requires reads { reads.old.bytes ≡ image.now }
-    requires output { IsUtf8 asked.now.output.now }
-    ensures { ImageLinks image.now (request_of asked.now) asked.now.output.now result
-        (S.files shelf.old) (S.files shelf.new) (S.faults shelf.old) (S.faults shelf.new) }
-{
-    let modules = modules_of(alloc, image, reads)?;
-    let places = closed(
-        alloc,
-        modules.candidates.as_slice(),
-        asked.roots,
-        asked.bind,
-    )?;
-    let places = places.as_slice();
-    let pool = gather(alloc, &modules, places)?;
-    link_pool(rt, alloc, jobs, asked, places.len(), pool, shelf, gate)
-}
-
 /// Links the modules of an image that are reached from the roots, or bound by them, lets the
 /// plug-ins act on their resources, each on all jobs, and writes the image to the file at a path,
 /// which may be that of the image that is read. No file is read. The answer depends neither on the
 /// number of jobs nor on the gate. An image that a link made comes back as it is, where all of its
 /// modules are linked without a plug-in.
-#[tactic(auto, using(crate::proofs::GivenBack::given_back))]
 pub fn link_image<T: Threads + Sync, S: Shelf, G: Gate + Sync, R: Ledger>(
     rt: &T,
     alloc: Global,
@@ -69,5 +40,9 @@ pub fn link_image<T: Threads + Sync, S: Shelf, G: Gate + Sync, R: Ledger>(
     ensures gives_back { GivesBack image.now (request_of asked.now) asked.now.output.now result
         (S.files shelf.old) (S.files shelf.new) }
 {
-    link_seen(rt, alloc, jobs, asked, image, reads, shelf, gate)
+    let modules = modules_of(alloc, image, reads)?;
+    let places = closed(alloc, modules.candidates.as_slice(), asked)?;
+    let read = gather(alloc, &modules, places.as_slice())?;
+    let left = apply(rt, alloc, jobs, read, asked.plugins, gate)?;
+    write_image(alloc, asked, places.len(), &left, shelf)
 }

@@ -1,25 +1,24 @@
 //! The files of the modules that are linked, and the resources that they are.
 ghost use Rattle.std.specs.Prelude.{◌≡◌, ◌≢◌, ◌<◌, ◌∷◌, ◌++◌, [], All, AllPairs, IsUtf8, IfOk};
-ghost use Rattle.std.specs.Prelude.{OnOk, IsErrOf, IsPermutation, None, Ok, length, map};
-ghost use Rattle.jm_names.specs.NameFaults.{IsSound};
+ghost use Rattle.std.specs.Prelude.{OnOk, IsErrOf, None, length, map};
 ghost use Rattle.jm_outside.specs.Files.{file};
 ghost use Rattle.jm_outside.specs.Outcome.{CountsFaults, Shows};
 ghost use Rattle.jm_pool.specs.Pairs.{bytes_of, names_of};
-ghost use Rattle.jm_names.specs.ByName.{NeverFalls};
-ghost use Rattle.jm_modpath.specs.Finding.{HasTexts};
-ghost use Rattle.jm_modpath.specs.Modules.{bytes_at};
-ghost use Rattle.jm_link.specs.ResourceFiles.{OnlyFails, file_names, file_of, pair_of};
-ghost use Rattle.jm_link.specs.Resources.{link_files, module_files};
-ghost use Rattle.jm_texts.specs.NameRefusals.{first_bad_name};
-ghost use Rattle.jm_link.specs.Resources.{resources_of};
-ghost use Rattle.jm_texts.specs.NameRefusals.{name_refusal};
+ghost use Rattle.jm_modpath.specs.Finding.{AreVisible, HasTexts};
+ghost use Rattle.jm_modpath.specs.Modules.{bytes_at, candidates};
+ghost use Rattle.jm_modpath.specs.ModulesView.{module_with_folder};
+ghost use Rattle.jm_link.specs.Chosen.{reserved};
+ghost use Rattle.jm_link.specs.ResourceFiles.{NamesAll, OnlyFails, file_names, file_of, pair_of};
+ghost use Rattle.jm_link.specs.Resources.{AreFit, link_files, module_files, resources_of};
 
 use crate::linking::LinkStop;
 use jm_bytes::{List, NoMemory, Text};
-use jm_modpath::{VisibleModule, inside, resource_name};
+use jm_closure::Candidate;
+use jm_modpath::{ModuleFolder, VisibleModules, inside, resource_name};
 use jm_names::{HasName, sorted_by_name};
 use jm_outside::Shelf;
 use jm_pool::Pool;
+use jm_texts::first_bad_name;
 use std::alloc::Global;
 use std::cmp::Ordering;
 
@@ -47,11 +46,17 @@ impl HasName for ResourceFile {
 }
 
 /// A file of a module, by its path within the module's folder.
-fn file_of(alloc: Global, module: &VisibleModule, path: &[u8]) -> Result<ResourceFile, NoMemory>
-    ensures { IfOk result (λ file. pair_of file ≡ file_of «module».now path.now) }
+fn file_of(
+    alloc: Global,
+    module: &Candidate,
+    folder: &ModuleFolder,
+    path: &[u8],
+) -> Result<ResourceFile, NoMemory>
+    ensures { IfOk result (λ file.
+        pair_of file ≡ file_of (module_with_folder («module».now, folder.now)) path.now) }
 {
-    let name = resource_name(alloc, module.candidate.descriptor.name.as_slice(), path)?;
-    let path = inside(alloc, module.folder.as_slice(), path)?;
+    let name = resource_name(alloc, module.descriptor.name.as_slice(), path)?;
+    let path = inside(alloc, folder.path.as_slice(), path)?;
     Ok(ResourceFile {
         name: Text::from_vec(name),
         path,
@@ -59,23 +64,32 @@ fn file_of(alloc: Global, module: &VisibleModule, path: &[u8]) -> Result<Resourc
 }
 
 /// The files of a module in the order of their paths.
-fn files_of(alloc: Global, module: &VisibleModule) -> Result<List<ResourceFile>, NoMemory>
-    ensures { IfOk result (λ files.
-        map pair_of files ≡ map (file_of «module».now) «module».now.files) }
+fn files_of(
+    alloc: Global,
+    module: &Candidate,
+    folder: &ModuleFolder,
+) -> Result<List<ResourceFile>, NoMemory>
+    ensures { IfOk result (λ files. map pair_of files
+        ≡ map (file_of (module_with_folder («module».now, folder.now))) folder.now.files) }
 {
     let mut files = List::new(alloc);
-    for path in module.files.as_slice() {
-        files.push(file_of(alloc, module, path.as_slice())?)?;
+    for path in folder.files.as_slice() {
+        files.push(file_of(alloc, module, folder, path.as_slice())?)?;
     }
     Ok(files)
 }
 
 /// The files of a module, rising by name.
-fn module_files(alloc: Global, module: &VisibleModule) -> Result<List<ResourceFile>, NoMemory>
-    requires { HasTexts «module».now }
-    ensures { IfOk result (λ files. map pair_of files ≡ module_files «module».now) }
+fn module_files(
+    alloc: Global,
+    module: &Candidate,
+    folder: &ModuleFolder,
+) -> Result<List<ResourceFile>, NoMemory>
+    requires { HasTexts (module_with_folder («module».now, folder.now)) }
+    ensures { IfOk result (λ files. map pair_of files
+        ≡ module_files (module_with_folder («module».now, folder.now))) }
 {
-    Ok(sorted_by_name(files_of(alloc, module)?))
+    Ok(sorted_by_name(files_of(alloc, module, folder)?))
 }
 
 /// Puts some files behind others.
@@ -88,52 +102,60 @@ fn append(files: &mut List<ResourceFile>, more: List<ResourceFile>) -> Result<()
     Ok(())
 }
 
-/// Puts the files of a module behind others.
-fn put_module(
-    alloc: Global,
-    files: &mut List<ResourceFile>,
-    module: &VisibleModule,
-) -> Result<(), NoMemory>
-    requires { HasTexts «module».now }
-    ensures { OnOk result
-        (map pair_of files.new ≡ map pair_of files.old ++ module_files «module».now) }
-{
-    append(files, module_files(alloc, module)?)
-}
-
 /// The files of the modules at these places, one module after another, each rising by name.
-pub fn link_files(
+fn files_at(
     alloc: Global,
-    found: &[VisibleModule],
+    visible: &VisibleModules,
     places: &[usize],
 ) -> Result<List<ResourceFile>, NoMemory>
-    requires places { All (λ place. place < length found.now) places.now }
-    requires texts { All HasTexts found.now }
-    ensures files { IfOk result (λ files. map pair_of files ≡ link_files found.now places.now) }
-    ensures texts { IfOk result (All (λ f. IsUtf8 f.path)) }
+    requires places { All (λ place. place < length visible.now) places.now }
+    requires texts { All HasTexts visible.now }
+    ensures { IfOk result (λ files. map pair_of files ≡ link_files visible.now places.now) }
 {
     let mut files = List::new(alloc);
     for place in places {
-        put_module(alloc, &mut files, &found[*place])?;
+        let (module, folder) = visible.at(*place);
+        append(&mut files, module_files(alloc, module, folder)?)?;
     }
     Ok(files)
 }
 
+/// The files of the modules at the places of a closure, one module after another, each rising by
+/// name, if all of their names may stand in an image.
+pub fn link_files(
+    alloc: Global,
+    visible: &VisibleModules,
+    places: &[usize],
+) -> Result<List<ResourceFile>, LinkStop>
+    requires visible { AreVisible visible.now }
+    requires free { reserved (candidates visible.now) ≡ None }
+    requires places { All (λ place. place < length visible.now) places.now }
+    requires once { AllPairs (λ place other. place ≢ other) places.now }
+    ensures files { NamesAll (link_files visible.now places.now) result }
+    ensures fit { IfOk result (λ files. AreFit (file_names files)) }
+    ensures texts { IfOk result (All (λ f. IsUtf8 f.path)) }
+{
+    let files = files_at(alloc, visible, places)?;
+    match first_bad_name(alloc, files.as_slice())? {
+        Some(refusal) => Err(LinkStop::Refused(refusal)),
+        None => Ok(files),
+    }
+}
+
 /// The bytes of a file.
-fn read_file<S: Shelf>(alloc: Global, path: &[u8], shelf: &mut S) -> Result<Text, LinkStop>
-    requires text { IsUtf8 path.now }
-    requires told { Shows (S.files shelf.old) (λ told. file told path.now ≢ None) }
+fn read_file<S: Shelf>(alloc: Global, path: Text, shelf: &mut S) -> Result<Text, LinkStop>
+    requires text { IsUtf8 path }
+    requires told { Shows (S.files shelf.old) (λ told. file told path ≢ None) }
     ensures files { S.files shelf.new ≡ S.files shelf.old }
     ensures bytes { IfOk result (λ bytes.
-        Shows (S.files shelf.old) (λ told. bytes ≡ bytes_at told path.now)) }
+        Shows (S.files shelf.old) (λ told. bytes ≡ bytes_at told path)) }
     ensures stops { OnlyFails (S.files shelf.old) result }
     ensures faults { CountsFaults (S.faults shelf.old) (S.faults shelf.new)
         (IsErrOf result LinkStop.Outside) }
 {
-    match shelf.read(alloc, path) {
-        Ok(Some(bytes)) => Ok(bytes),
-        Ok(None) => Err(LinkStop::NotThere(Text::copy_of(alloc, path)?)),
-        Err(error) => Err(LinkStop::from(error)),
+    match shelf.read(alloc, path.as_slice())? {
+        Some(bytes) => Ok(bytes),
+        None => Err(LinkStop::NotThere(path)),
     }
 }
 
@@ -153,45 +175,45 @@ fn put_resource(pool: &mut Pool, name: Text, bytes: Text) -> Result<(), NoMemory
 fn read_resource<S: Shelf>(
     alloc: Global,
     pool: &mut Pool,
-    resource: &ResourceFile,
+    resource: ResourceFile,
     shelf: &mut S,
 ) -> Result<(), LinkStop>
-    requires text { IsUtf8 resource.now.path }
-    requires new { bytes_of resource.now.name pool.old ≡ None }
-    requires told { Shows (S.files shelf.old) (λ told. file told resource.now.path ≢ None) }
+    requires text { IsUtf8 resource.path }
+    requires new { bytes_of resource.name pool.old ≡ None }
+    requires told { Shows (S.files shelf.old) (λ told. file told resource.path ≢ None) }
     ensures files { S.files shelf.new ≡ S.files shelf.old }
     ensures pool { OnOk result (Shows (S.files shelf.old) (λ told.
-        pool.new ≡ pool.old ++ (resource.now.name, bytes_at told resource.now.path) ∷ [])) }
-    ensures names { OnOk result (names_of pool.new ≡ names_of pool.old ++ resource.now.name ∷ []) }
+        pool.new ≡ pool.old ++ (resource.name, bytes_at told resource.path) ∷ [])) }
+    ensures names { OnOk result (names_of pool.new ≡ names_of pool.old ++ resource.name ∷ []) }
     ensures stops { OnlyFails (S.files shelf.old) result }
     ensures faults { CountsFaults (S.faults shelf.old) (S.faults shelf.new)
         (IsErrOf result LinkStop.Outside) }
 {
-    let bytes = read_file(alloc, resource.path.as_slice(), shelf)?;
-    let name = Text::copy_of(alloc, resource.name.as_slice())?;
+    let ResourceFile { name, path } = resource;
+    let bytes = read_file(alloc, path, shelf)?;
     Ok(put_resource(pool, name, bytes)?)
 }
 
 /// The resources that these files are, in their order. Each file is read once.
 pub fn read_resources<S: Shelf>(
     alloc: Global,
-    files: &[ResourceFile],
+    files: List<ResourceFile>,
     shelf: &mut S,
 ) -> Result<Pool, LinkStop>
-    requires texts { All (λ f. IsUtf8 f.path) files.now }
-    requires differ { AllPairs (λ a b. a ≢ b) (file_names files.now) }
+    requires texts { All (λ f. IsUtf8 f.path) files }
+    requires differ { AllPairs (λ name other. name ≢ other) (file_names files) }
     requires told { Shows (S.files shelf.old) (λ told.
-        All (λ f. file told f.path ≢ None) files.now) }
+        All (λ f. file told f.path ≢ None) files) }
     ensures files { S.files shelf.new ≡ S.files shelf.old }
     ensures pool { IfOk result (λ pool. Shows (S.files shelf.old) (λ told.
-        pool ≡ resources_of told (map pair_of files.now))) }
-    ensures names { IfOk result (λ pool. names_of pool ≡ file_names files.now) }
+        pool ≡ resources_of told (map pair_of files))) }
+    ensures names { IfOk result (λ pool. names_of pool ≡ file_names files) }
     ensures stops { OnlyFails (S.files shelf.old) result }
     ensures faults { CountsFaults (S.faults shelf.old) (S.faults shelf.new)
         (IsErrOf result LinkStop.Outside) }
 {
     let mut pool = Pool::new(alloc);
-    for file in files {
+    for file in files.into_vec() {
         read_resource(alloc, &mut pool, file, shelf)?;
     }
     Ok(pool)

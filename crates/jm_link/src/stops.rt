@@ -1,18 +1,24 @@
-//! What ends the work of a `link`, from what ends a call.
+//! What ends the work of a `link`, from what ends a step of it.
 ghost use Rattle.std.specs.Prelude.{◌≡◌};
-ghost use Rattle.jm_link.specs.Linked.{path_refusal_as};
+ghost use Rattle.jm_link.specs.ImageLinked.{image_refusal};
+ghost use Rattle.jm_link.specs.Linked.{closing_refusal, plugging_refusal};
+ghost use Rattle.jm_link.specs.Steps.{gathering_refusal, plan_refusal, stop_of, stop_of_path};
+ghost use Rattle.jm_link.specs.Steps.{stop_of_refusal};
 
 use crate::linking::LinkStop;
 use jm_bytes::NoMemory;
+use jm_closure::CloseError;
 use jm_modpath::{PathRefusal, PathStop};
 use jm_outside::ShelfError;
+use jm_plugins::ApplyError;
 use jm_relink::{GatherError, RelinkError};
 use jm_texts::Refusal;
+use jm_writer::PlanError;
 
 impl From<NoMemory> for LinkStop {
     ghost use Rattle.jm_link.specs.declared.linking.LinkStop.TheVariants.{Memory};
 
-    ghost from_gives = { λ _ e. e ≡ Memory };
+    ghost from_gives = { λ _ stop. stop ≡ Memory };
 
     fn from(_none: NoMemory) -> LinkStop {
         LinkStop::Memory
@@ -20,9 +26,7 @@ impl From<NoMemory> for LinkStop {
 }
 
 impl From<ShelfError> for LinkStop {
-    ghost use Rattle.jm_link.specs.Stops.{stop_of};
-
-    ghost from_gives = { λ error e. e ≡ stop_of error };
+    ghost from_gives = { λ error stop. stop ≡ stop_of error };
 
     fn from(error: ShelfError) -> LinkStop {
         match error {
@@ -32,24 +36,17 @@ impl From<ShelfError> for LinkStop {
     }
 }
 
-/// The refusal of a module path, as that of a link.
-fn path_refusal_as(refusal: PathRefusal) -> Refusal
-    ensures { result ≡ path_refusal_as refusal }
-{
-    match refusal {
-        PathRefusal::BadInfo { path, fault } => Refusal::BadInfo { path, fault },
-        PathRefusal::TwoModules { dir, name } => Refusal::TwoModules { dir, name },
-    }
-}
-
 impl From<PathStop> for LinkStop {
-    ghost use Rattle.jm_link.specs.Stops.{stop_of_path};
+    ghost from_gives = { λ error stop. stop ≡ stop_of_path error };
 
-    ghost from_gives = { λ stop e. e ≡ stop_of_path stop };
-
-    fn from(stop: PathStop) -> LinkStop {
-        match stop {
-            PathStop::Refused(refusal) => LinkStop::Refused(path_refusal_as(refusal)),
+    fn from(error: PathStop) -> LinkStop {
+        match error {
+            PathStop::Refused(PathRefusal::BadInfo { path, fault }) => {
+                LinkStop::Refused(Refusal::BadInfo { path, fault })
+            }
+            PathStop::Refused(PathRefusal::TwoModules { dir, name }) => {
+                LinkStop::Refused(Refusal::TwoModules { dir, name })
+            }
             PathStop::NotThere(path) => LinkStop::NotThere(path),
             PathStop::Outside => LinkStop::Outside,
             PathStop::Memory => LinkStop::Memory,
@@ -58,9 +55,7 @@ impl From<PathStop> for LinkStop {
 }
 
 impl From<RelinkError> for LinkStop {
-    ghost use Rattle.jm_link.specs.ImageLinked.{stop_of_modules};
-
-    ghost from_gives = { λ error e. e ≡ stop_of_modules error };
+    ghost from_gives = { λ error stop. stop ≡ stop_of_refusal (image_refusal error) };
 
     fn from(error: RelinkError) -> LinkStop {
         match error {
@@ -73,10 +68,30 @@ impl From<RelinkError> for LinkStop {
     }
 }
 
-impl From<GatherError> for LinkStop {
-    ghost use Rattle.jm_link.specs.ImageLinked.{stop_of_gathering};
+impl From<CloseError> for LinkStop {
+    ghost from_gives = { λ error stop. stop ≡ stop_of_refusal (closing_refusal error) };
 
-    ghost from_gives = { λ error e. e ≡ stop_of_gathering error };
+    fn from(error: CloseError) -> LinkStop {
+        match error {
+            CloseError::NoRoot(name) => LinkStop::Refused(Refusal::NoRoot(name)),
+            CloseError::Missing { name, by } => LinkStop::Refused(Refusal::Missing { name, by }),
+            CloseError::Cycle(name) => LinkStop::Refused(Refusal::Cycle(name)),
+            CloseError::SplitPackage {
+                package,
+                first,
+                second,
+            } => LinkStop::Refused(Refusal::SplitPackage {
+                package,
+                first,
+                second,
+            }),
+            CloseError::Memory => LinkStop::Memory,
+        }
+    }
+}
+
+impl From<GatherError> for LinkStop {
+    ghost from_gives = { λ error stop. stop ≡ stop_of_refusal (gathering_refusal error) };
 
     fn from(error: GatherError) -> LinkStop {
         match error {
@@ -84,6 +99,33 @@ impl From<GatherError> for LinkStop {
                 LinkStop::Refused(Refusal::BadName { name, fault })
             }
             GatherError::Memory => LinkStop::Memory,
+        }
+    }
+}
+
+impl From<ApplyError> for LinkStop {
+    ghost from_gives = { λ error stop. stop ≡ stop_of_refusal (plugging_refusal error) };
+
+    fn from(error: ApplyError) -> LinkStop {
+        match error {
+            ApplyError::BadClass { name, fault } => {
+                LinkStop::Refused(Refusal::BadClass { name, fault })
+            }
+            ApplyError::Memory => LinkStop::Memory,
+        }
+    }
+}
+
+impl From<PlanError> for LinkStop {
+    ghost from_gives = { λ error stop. stop ≡ stop_of_refusal (plan_refusal error) };
+
+    fn from(error: PlanError) -> LinkStop {
+        match error {
+            PlanError::Clash(name) => LinkStop::Refused(Refusal::Clash(name)),
+            PlanError::TooMany(count) => LinkStop::Refused(Refusal::TooMany(count)),
+            PlanError::NoTable(lengths) => LinkStop::Refused(Refusal::NoTable(lengths)),
+            PlanError::TooLarge(length) => LinkStop::Refused(Refusal::TooLarge(length)),
+            PlanError::Memory => LinkStop::Memory,
         }
     }
 }

@@ -1,18 +1,98 @@
-use Rattle.jm_link.specs.Linked.{Request}
-use Rattle.jm_link.specs.Links.{ComesTo, FoundComesTo, TellsNothing, request_of}
-use Rattle.jm_link.proofs.LinkingLaws.{found_to, links_as, links_sooner, shown_lists}
+use Rattle.std.proofs.Common.{◌≡◌, ◌∙◌, ◌<◌, ℕ, List, length, map, Err, arith, subst, sym}
+use Rattle.jm_bytes.proofs.Members.{all_from_contains}
+use Rattle.jm_bytes.proofs.ResultLaws.{passed_on}
+use Rattle.jm_closure.specs.declared.candidate.Candidate.{Candidate}
+use Rattle.jm_modpath.specs.Modules.{candidates}
+use Rattle.jm_outside.specs.Outcome.{Shows}
+use Rattle.jm_link.specs.Closing.{ClosesAmong}
+use Rattle.jm_link.specs.Linked.{Request, plugging_refusal}
+use Rattle.jm_link.specs.Links.{ComesTo, PoolComesTo, TellsNothing, request_of}
+use Rattle.jm_link.specs.ResourceFiles.{NamesAll, pair_of}
+use Rattle.jm_link.specs.Resources.{AreFit, link_files, resources_of}
+use Rattle.jm_link.proofs.ChosenLaws.{chosen_differ, chosen_within}
+use Rattle.jm_link.proofs.LinkingLaws.{candidates_length, ended, fit_left, image_written, left_is, links_as, links_sooner, named_there, none_absent, read_to, refused, shown_lists, unclosed, unfit, unplugged}
 use Rattle.jm_link.proofs.linking.link.Goals as goal
 
-pub link_found-requires-clause-told : goal.link_found-requires-clause-told
-link_found-requires-clause-told g c = λ lives within.
-    rw c.visible_modules.ensures.files (shown_lists _ c.args.directories.now c.in_ok-found.found c.in_ok-found.ensures.modules)
+pub closed-requires : goal.closed-requires
+closed-requires g c = rw c.candidates.ensures c.in_ok-visible.ensures.are.differ
+
+pub returns-in_err-places : goal.returns-in_err-places
+returns-in_err-places g c =
+    let asked : Request = request_of c.args.asked.now in
+    let told = g.S.Shelf.files c.args.shelf.now in
+    let stop = c.in_err-places.field-0.0 in
+    let closes = subst (λ (cs : List Candidate). ClosesAmong cs asked.roots asked.bind (Err stop)) c.candidates.ensures c.in_err-places.ensures in
+    rw (passed_on c.from_residual-in_err-places.result _ c.from_residual-in_err-places.ensures.1)
+    (ended (ComesTo told c.args.directories.now asked) (TellsNothing told) c.args.asked.now.output.now told (g.S.Shelf.files c.visible_modules.new.shelf) (g.S.Shelf.faults c.args.shelf.now) (g.S.Shelf.faults c.visible_modules.new.shelf) c.visible_modules.ensures.files _ stop closes
+    (unclosed told c.args.directories.now asked c.in_ok-visible.visible c.in_ok-visible.ensures.modules))
+
+pub link_files-requires-clause-places : goal.link_files-requires-clause-places
+link_files-requires-clause-places g c =
+    let visible = c.in_ok-visible.visible in
+    let closes = rw c.candidates.ensures at c.in_ok-places.ensures in
+    rw c.as_slice.ensures
+    (all_from_contains (λ i. i < length visible) c.in_ok-places.places
+    (λ i has. subst (λ n. i < n) (candidates_length visible) (chosen_within (candidates visible) c.args.asked.now.roots.now c.args.asked.now.bind c.in_ok-places.places closes.1 i has)))
+
+pub link_files-requires-clause-once : goal.link_files-requires-clause-once
+link_files-requires-clause-once g c =
+    let closes = rw c.candidates.ensures at c.in_ok-places.ensures in
+    rw c.as_slice.ensures (chosen_differ (candidates c.in_ok-visible.visible) c.args.asked.now.roots.now c.args.asked.now.bind c.in_ok-places.places closes.1)
+
+pub returns-in_err-files : goal.returns-in_err-files
+returns-in_err-files g c =
+    let asked : Request = request_of c.args.asked.now in
+    let told = g.S.Shelf.files c.args.shelf.now in
+    let visible = c.in_ok-visible.visible in
+    let stop = c.in_err-files.field-0.0 in
+    let closes = rw c.candidates.ensures at c.in_ok-places.ensures in
+    let named = subst (λ (places : List ℕ). NamesAll (link_files visible places) (Err stop)) c.as_slice.ensures c.in_err-files.ensures.files in
+    rw (passed_on c.from_residual-in_err-files.result _ c.from_residual-in_err-files.ensures.1)
+    (ended (ComesTo told c.args.directories.now asked) (TellsNothing told) c.args.asked.now.output.now told (g.S.Shelf.files c.visible_modules.new.shelf) (g.S.Shelf.faults c.args.shelf.now) (g.S.Shelf.faults c.visible_modules.new.shelf) c.visible_modules.ensures.files _ stop named
+    (unfit told c.args.directories.now asked visible c.in_ok-visible.ensures.modules c.in_ok-places.places closes))
+
+pub read_resources-requires-clause-told : goal.read_resources-requires-clause-told
+read_resources-requires-clause-told g c =
+    let visible = c.in_ok-visible.visible in
+    rw c.visible_modules.ensures.files
+    (named_there _ c.in_ok-files.files visible c.as_slice.result.now c.in_ok-files.ensures.files.1 (shown_lists _ c.args.directories.now visible c.in_ok-visible.ensures.modules))
+
+pub returns-in_err-left : goal.returns-in_err-left
+returns-in_err-left g c =
+    let asked : Request = request_of c.args.asked.now in
+    let told = g.S.Shelf.files c.args.shelf.now in
+    let visible = c.in_ok-visible.visible in
+    let error = c.in_err-left.field-0.0 in
+    let closes = rw c.candidates.ensures at c.in_ok-places.ensures in
+    let named = rw c.as_slice.ensures at c.in_ok-files.ensures.files in
+    let read = subst (λ t. Shows t (λ files. c.in_ok-read.read ≡ resources_of files (map pair_of c.in_ok-files.files))) c.visible_modules.ensures.files c.in_ok-read.ensures.pool in
+    let to = read_to told c.args.directories.now asked visible c.in_ok-visible.ensures.modules c.in_ok-places.places closes named.0 c.in_ok-read.read (subst (λ names. Shows told (λ files. c.in_ok-read.read ≡ resources_of files names)) named.1 read) in
+    rw (passed_on c.from_residual-in_err-left.result _ c.from_residual-in_err-left.ensures.1)
+    (refused (ComesTo told c.args.directories.now asked) (TellsNothing told) c.args.asked.now.output.now told (g.S.Shelf.files c.read_resources.new.shelf) (g.S.Shelf.faults c.args.shelf.now) (g.S.Shelf.faults c.read_resources.new.shelf) (c.read_resources.ensures.files ∙ c.visible_modules.ensures.files) (plugging_refusal error)
+    (λ r is. to (Err r) (unplugged asked (length c.in_ok-places.places) c.in_ok-read.read error c.in_err-left.ensures r is)))
+
+pub write_image-requires-clause-fit : goal.write_image-requires-clause-fit
+write_image-requires-clause-fit g c =
+    fit_left c.args.asked.now.plugins.now c.in_ok-read.read c.in_ok-left.left (left_is c.in_ok-left.left _ c.in_ok-left.ensures) (subst AreFit (sym c.in_ok-read.ensures.names) c.in_ok-files.ensures.fit)
 
 pub returns : goal.returns
 returns g c =
-    let told = g.S.Shelf.files c.args.shelf.now in
     let asked : Request = request_of c.args.asked.now in
-    let directories = c.args.directories.now in
     let path = c.args.asked.now.output.now in
-    let linked = rw c.visible_modules.ensures.files at c.link_found.ensures in
-    links_sooner (ComesTo told directories asked) (TellsNothing told) path c.link_found.result told (g.S.Shelf.files c.link_found.new.shelf) (g.S.Shelf.faults c.args.shelf.now) (g.S.Shelf.faults c.visible_modules.new.shelf) (g.S.Shelf.faults c.link_found.new.shelf) c.visible_modules.ensures.faults.count
-    (links_as (FoundComesTo told asked c.in_ok-found.found) (ComesTo told directories asked) (TellsNothing told) (TellsNothing told) path c.link_found.result told (g.S.Shelf.files c.link_found.new.shelf) (g.S.Shelf.faults c.visible_modules.new.shelf) (g.S.Shelf.faults c.link_found.new.shelf) (found_to told directories asked c.in_ok-found.found c.in_ok-found.ensures.modules) (λ none. none) linked)
+    let told = g.S.Shelf.files c.args.shelf.now in
+    let new = g.S.Shelf.files c.write_image.new.shelf in
+    let read_faults = g.S.Shelf.faults c.read_resources.new.shelf in
+    let new_faults = g.S.Shelf.faults c.write_image.new.shelf in
+    let visible = c.in_ok-visible.visible in
+    let modules = length c.in_ok-places.places in
+    let resources = c.in_ok-read.read in
+    let closes = rw c.candidates.ensures at c.in_ok-places.ensures in
+    let named = rw c.as_slice.ensures at c.in_ok-files.ensures.files in
+    let read = subst (λ t. Shows t (λ files. resources ≡ resources_of files (map pair_of c.in_ok-files.files))) c.visible_modules.ensures.files c.in_ok-read.ensures.pool in
+    let to = read_to told c.args.directories.now asked visible c.in_ok-visible.ensures.modules c.in_ok-places.places closes named.0 resources (subst (λ names. Shows told (λ files. resources ≡ resources_of files names)) named.1 read) in
+    let left = left_is c.in_ok-left.left _ c.in_ok-left.ensures in
+    let fit = fit_left asked.plugins resources c.in_ok-left.left left (subst AreFit (sym c.in_ok-read.ensures.names) c.in_ok-files.ensures.fit) in
+    let written = rw (c.len.ensures, c.read_resources.ensures.files, c.visible_modules.ensures.files) at c.write_image.ensures in
+    let did = image_written asked modules resources c.in_ok-left.left left fit path c.write_image.result told new read_faults new_faults written in
+    links_sooner (ComesTo told c.args.directories.now asked) (TellsNothing told) path c.write_image.result told new (g.S.Shelf.faults c.args.shelf.now) read_faults new_faults (omega (arith, c.visible_modules.ensures.faults.count, c.read_resources.ensures.faults.count))
+    (links_as (PoolComesTo asked modules resources) (ComesTo told c.args.directories.now asked) ⊥ (TellsNothing told) path c.write_image.result told new read_faults new_faults to (none_absent told) did)

@@ -1,15 +1,13 @@
-use Rattle.std.proofs.Common.{◌∙◌, ap, arith, map}
-use Rattle.std.proofs.lemmas.List.{take_all}
-use Rattle.jm_link.specs.ResourceFiles.{pair_of}
-use Rattle.jm_link.specs.Resources.{link_files}
-use Rattle.jm_link.proofs.ResourceLaws.{files_more, files_texts}
+use Rattle.std.proofs.Common.{◌∙◌, Ok, ap}
+use Rattle.jm_link.proofs.LinkingLaws.{files_fit}
+use Rattle.jm_link.proofs.ResourceLaws.{files_texts}
 use Rattle.jm_link.proofs.resources.link_files.Goals as goal
 
-pub loop-place-preserved : goal.loop-place-preserved
-loop-place-preserved c =
-    files_more c.args.found.now c.args.places.now c.loop-place.place-index c.index-found-place.result (map pair_of c.loop-place.files) (map pair_of c.put_module.new.files) c.loop-place-test.true c.requires.places c.index-found-place.is c.in_ok-put_module.ensures c.loop-place.invariant
+pub returns-in-None-clause-fit : goal.returns-in-None-clause-fit
+returns-in-None-clause-fit c =
+    files_fit c.args.visible.now c.args.places.now c.in_ok-files.files c.in_ok-files.ensures c.requires.visible c.requires.free c.requires.places c.requires.once
+    (rw c.as_slice.ensures at (c.first_bad_name.ensures.sound (c.in_ok-refusal.was ∙ ap (λ r. Ok r) c.in-None.is)))
 
-pub returns-clause-texts : goal.returns-clause-texts
-returns-clause-texts c =
-    let all = take_all c.loop-place.place-index c.args.places.now (omega arith) in
-    files_texts c.args.found.now c.args.places.now c.loop-place.files c.requires.texts c.requires.places (c.loop-place.invariant ∙ ap (link_files c.args.found.now) all)
+pub returns-in-None-clause-texts : goal.returns-in-None-clause-texts
+returns-in-None-clause-texts c =
+    files_texts c.args.visible.now c.args.places.now c.in_ok-files.files c.requires.visible.texts c.requires.places c.in_ok-files.ensures

@@ -1,4 +1,4 @@
-use Rattle.std.proofs.Common.{◌≡◌, ◌≤◌, map, take}
+use Rattle.std.proofs.Common.{◌≡◌, ◌≤◌, ◌++◌, map}
 use Rattle.jm_outside.specs.Outcome.{Shows}
 use Rattle.jm_pool.specs.Pairs.{names_of}
 use Rattle.jm_link.specs.ResourceFiles.{file_names, pair_of}
@@ -7,8 +7,11 @@ use Rattle.jm_link.proofs.resources.read_resources.Given as goal
 
 abbrev pub invariant-loop-file : goal.invariant-loop-file
 invariant-loop-file g l = record {
+  can : ((goal.iterator-loop-file) g).can_next l.file-iterator;
+  ends : ((goal.iterator-loop-file) g).is_finite l.file-iterator;
+  all : l.yielded ++ l.file-iterator.rest.items ≡ l.fn.files;
   files : g.S.Shelf.files l.shelf ≡ g.S.Shelf.files l.fn.shelf;
   faults : g.S.Shelf.faults l.fn.shelf ≤ g.S.Shelf.faults l.shelf;
-  pool : Shows (g.S.Shelf.files l.fn.shelf) (λ told. l.pool ≡ resources_of told (map pair_of (take l.file-index l.files)));
-  names : names_of l.pool ≡ file_names (take l.file-index l.files);
+  pool : Shows (g.S.Shelf.files l.fn.shelf) (λ told. l.pool ≡ resources_of told (map pair_of l.yielded));
+  names : names_of l.pool ≡ file_names l.yielded;
 }

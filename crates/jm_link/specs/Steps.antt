@@ -1,0 +1,59 @@
+-- What a step of a `link` answers, and why it ends the work (this project's rule).
+use Rattle.std.specs.Prelude.{Option, Some, None, Result, Ok, Err}
+use Rattle.jm_modpath.specs.declared.refusal.PathStop.{PathStop}
+use Rattle.jm_modpath.specs.declared.refusal.PathStop.TheVariants as path_stop
+use Rattle.jm_outside.specs.declared.shelf.ShelfError.{ShelfError}
+use Rattle.jm_outside.specs.declared.shelf.ShelfError.TheVariants as outside
+use Rattle.jm_relink.specs.declared.error.GatherError.{GatherError}
+use Rattle.jm_relink.specs.declared.error.GatherError.TheVariants as gather
+use Rattle.jm_texts.specs.declared.refusal.Refusal.{Refusal}
+use Rattle.jm_texts.specs.declared.refusal.Refusal.TheVariants as refusal
+use Rattle.jm_writer.specs.declared.draft.PlanError.{PlanError}
+use Rattle.jm_writer.specs.declared.draft.PlanError.TheVariants as plan
+use Rattle.jm_link.specs.declared.linking.LinkStop.{LinkStop}
+use Rattle.jm_link.specs.declared.linking.LinkStop.TheVariants as stop
+use Rattle.jm_link.specs.Linked.{path_refusal_as}
+
+-- by why a step ended the work: what holds of its refusal; what shows that a listed file isn't
+-- there; what shows that a call of the shelf failed; no memory
+abbrev pub StepStops : (Refusal → Type 0) → (Absent Fails : Type 0) → LinkStop → Type 0
+StepStops Refuses Absent Fails (stop.Refused refusal) = Refuses refusal
+StepStops Refuses Absent Fails (stop.NotThere listed) = Absent
+StepStops Refuses Absent Fails stop.Outside = Fails
+StepStops Refuses Absent Fails stop.Memory = Unit {0}
+
+-- by the answer of a step: what holds of all that it gives, or of why it ended the work
+abbrev pub StepGives : {A : Type 0} → (A → Type 0) → (Refusal → Type 0) → (Absent Fails : Type 0)
+    → Result A LinkStop → Type 0
+StepGives Gives Refuses Absent Fails (Ok given) = Gives given
+StepGives Gives Refuses Absent Fails (Err stop) = StepStops Refuses Absent Fails stop
+
+-- why a refusal ends the work, and want of memory where there is none
+abbrev pub stop_of_refusal : Option Refusal → LinkStop
+stop_of_refusal (Some given) = stop.Refused given
+stop_of_refusal None = stop.Memory
+
+-- why a call of a shelf ends the work
+abbrev pub stop_of : ShelfError → LinkStop
+stop_of outside.Failed = stop.Outside
+stop_of outside.Memory = stop.Memory
+
+-- why a search for modules ends the work
+abbrev pub stop_of_path : PathStop → LinkStop
+stop_of_path (path_stop.Refused given) = stop.Refused (path_refusal_as given)
+stop_of_path (path_stop.NotThere path) = stop.NotThere path
+stop_of_path path_stop.Outside = stop.Outside
+stop_of_path path_stop.Memory = stop.Memory
+
+-- the refusal of an image's resources as one of a link; none for want of memory
+abbrev pub gathering_refusal : GatherError → Option Refusal
+gathering_refusal (gather.BadName name fault) = Some (refusal.BadName name fault)
+gathering_refusal gather.Memory = None
+
+-- the refusal of a plan as one of a link; none for want of memory
+abbrev pub plan_refusal : PlanError → Option Refusal
+plan_refusal (plan.Clash name) = Some (refusal.Clash name)
+plan_refusal (plan.TooMany count) = Some (refusal.TooMany count)
+plan_refusal (plan.NoTable lengths) = Some (refusal.NoTable lengths)
+plan_refusal (plan.TooLarge length) = Some (refusal.TooLarge length)
+plan_refusal plan.Memory = None
