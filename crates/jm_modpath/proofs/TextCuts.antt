@@ -1,5 +1,5 @@
 -- What is cut out of a text at a slash is text, and what is put together with a slash.
-use Rattle.std.proofs.Common.{◌≡◌, ℕ, suc, ◌+◌, ◌<◌, ◌==◌, ◌||◌, ap, ◌∙◌, Bool, true, false, List, [], ◌∷◌, ◌++◌, take, drop, length, length-append, get_or, cond, All, IsUtf8, Option, Some, None, Result, Ok, Err, IfOk, refl, sym, subst, arith, rules, lit<}
+use Rattle.std.proofs.Common.{◌≡◌, ℕ, suc, ◌+◌, ◌<◌, ◌||◌, ap, ◌∙◌, Bool, true, false, List, [], ◌∷◌, ◌++◌, take, drop, length, length-append, get_or, cond, All, IsUtf8, Option, Some, None, Result, Ok, Err, IfOk, refl, sym, subst, arith, rules, lit<}
 use Rattle.std.specs.List.{list_any, before_first, filter_map, position_or_len}
 use Rattle.std.specs.Str.{IsCharBoundary}
 use Rattle.std.proofs.lemmas.Bool.{eqb-true}

@@ -1,4 +1,4 @@
-//! The modules of a module path, as their descriptors are chosen among and their files read.
+//! The modules of a module path: what they say, side by side with their folders.
 ghost use Rattle.std.specs.Prelude.{◌≡◌, ◌<◌, IfOk, Some, length, map, slice_get};
 ghost use Rattle.jm_modpath.specs.Modules.{candidates};
 ghost use Rattle.jm_modpath.specs.ModulesView.{folder_of, module_with_folder, modules_with};
