@@ -8,13 +8,14 @@ use Rattle.jm_extract.specs.declared.extracting.ExtractStop.{ExtractStop}
 use Rattle.jm_extract.specs.declared.extracting.ExtractStop.TheVariants as extract_stop
 use Rattle.jm_extract.specs.Extracted.{BreaksOff, Extracts}
 use Rattle.jm_outside.specs.Files.{Files}
-use Rattle.jm_outside.specs.Outcome.{Rose}
 use Rattle.jm_commands.specs.declared.complaint.Complaint.TheVariants as complaint
 use Rattle.jm_commands.specs.declared.stop.Stop.{Stop}
 use Rattle.jm_commands.specs.declared.stop.Stop.TheVariants as stop
 use Rattle.jm_commands.specs.ExtractText.{extract_text}
 use Rattle.jm_commands.specs.Outcome.{Outcome, done, extract_outcome, refusing}
+use Rattle.jm_commands.specs.FailedBefore.{WorkFailed}
 use Rattle.jm_commands.specs.Run.{PutDoes, StepDoes}
+use Rattle.jm_commands.specs.Sinks.{Failed}
 use Rattle.jm_commands.specs.Stops.{stop_of_extract}
 use Rattle.jm_commands.specs.World.{World}
 use Rattle.jm_commands.proofs.Gotten.{front_of_nothing}
@@ -31,6 +32,11 @@ extract_session dir (Err refusal) = refl
 broken_part : (dir : List ℕ) (due : Result (List Named) Refusal) (old new : Option Files) → BreaksOff due dir old new → MadePart (extract_outcome dir due).writes old new
 broken_part dir (Ok entries) old new part = part
 broken_part dir (Err refusal) old new same = stays_part [] old new same
+
+-- the shelf may fail before either
+shelf_failed : (dir : List ℕ) (due : Result (List Named) Refusal) (old new : World) → Failed old.shelf new.shelf → WorkFailed (extract_outcome dir due).session (extract_outcome dir due).status old new
+shelf_failed dir (Ok entries) old new failed = inl failed
+shelf_failed dir (Err refusal) old new failed = failed
 
 module _ (dir : List ℕ) (due : Result (List Named) Refusal) (old new : World) (source : new.input.told ≡ old.input.told) where
   abbrev Does : Result (Unit {0}) Stop → Type 0
@@ -49,13 +55,13 @@ module _ (dir : List ℕ) (due : Result (List Named) Refusal) (old new : World) 
       part = part_of_all made.writes old.shelf.told new.shelf.told all
 
       go : (answer : Result (Unit {0}) Stop) → PutDoes (done (extract_text (length entries))) answer old.out new.out → StepDoes made answer old new
-      go (Ok _) put = record { answers = (refl, refl); output = put.output; files = all; source = source; outside = λ failed. cc }
+      go (Ok _) put = record { answers = (refl, refl); output = put.output; files = all; files_first = inl all; source = source; outside = λ failed. cc }
       go (Err (stop.Complaint given)) put = absurd (never_done given (extract_text (length entries)) put.answers)
-      go (Err stop.Outside) put = record { answers = tt; output = put.output; files = part; source = source; outside = λ failed. inr (inr (put.outside failed)) }
-      go (Err stop.Memory) put = record { answers = tt; output = put.output; files = part; source = source; outside = λ failed. cc }
+      go (Err stop.Outside) put = record { answers = tt; output = put.output; files = part; files_first = inl all; source = source; outside = λ failed. inr (put.outside failed) }
+      go (Err stop.Memory) put = record { answers = tt; output = put.output; files = part; files_first = inl all; source = source; outside = λ failed. cc }
 
   -- it stopped before anything was put
-  pub extract_stopped : (given : ExtractStop) → Extracts due dir (Err given) old.shelf.told new.shelf.told → (given ≡ extract_stop.Outside → Rose old.shelf.faults new.shelf.faults) → new.out.told ≡ old.out.told → Does (Err (stop_of_extract given))
+  pub extract_stopped : (given : ExtractStop) → Extracts due dir (Err given) old.shelf.told new.shelf.told → (given ≡ extract_stop.Outside → Failed old.shelf new.shelf) → new.out.told ≡ old.out.told → Does (Err (stop_of_extract given))
   extract_stopped (extract_stop.Refused refusal) (is, files) rose unput =
       subst (λ (d : Result (List Named) Refusal). StepDoes (extract_outcome dir d) answer old new) (sym is)
       (put_step (refusing refusal) old new files source refl answer (complained (refusing refusal) (complaint.Refused refusal) old.out new.out refl unput))
@@ -66,13 +72,15 @@ module _ (dir : List ℕ) (due : Result (List Named) Refusal) (old new : World) 
     answers = tt;
     output = front_of_nothing (extract_outcome dir due).output old.out new.out unput;
     files = broken_part dir due old.shelf.told new.shelf.told broken;
+    files_first = inr unput;
     source = rw (extract_session dir due) source;
-    outside = λ failed. inl (rose refl);
+    outside = λ failed. shelf_failed dir due old new (rose refl);
   }
   extract_stopped extract_stop.Memory broken rose unput = record {
     answers = tt;
     output = front_of_nothing (extract_outcome dir due).output old.out new.out unput;
     files = broken_part dir due old.shelf.told new.shelf.told broken;
+    files_first = inr unput;
     source = rw (extract_session dir due) source;
     outside = λ failed. cc;
   }

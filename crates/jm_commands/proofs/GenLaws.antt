@@ -1,7 +1,6 @@
 -- What `gen` does, from what its calls answered.
-use Rattle.std.proofs.Common.{◌≡◌, ◌≤◌, inl, inr, ℕ, List, [], ◌++◌, ◌∷◌, Option, Result, Ok, Err, refl, subst, append-nil}
+use Rattle.std.proofs.Common.{◌≡◌, ◌≤◌, ◌⊎◌, inl, inr, true, ℕ, List, [], ◌++◌, ◌∷◌, Option, Result, Ok, Err, refl, subst, append-nil}
 use Rattle.jm_outside.specs.Files.{Files}
-use Rattle.jm_outside.specs.Outcome.{Rose}
 use Rattle.jm_outside.specs.declared.shelf.ShelfError.{ShelfError}
 use Rattle.jm_outside.specs.declared.shelf.ShelfError.TheVariants as shelf_error
 use Rattle.jm_outside.specs.Made.{MadeAll, MadePart, Writes}
@@ -13,13 +12,13 @@ use Rattle.jm_commands.specs.declared.stop.Stop.{Stop}
 use Rattle.jm_commands.specs.declared.stop.Stop.TheVariants as stop
 use Rattle.jm_commands.specs.Gen.{Gen, gen_request, generated_request, image_path, made_first, modules_path}
 use Rattle.jm_commands.specs.LinkText.{gen_text}
-use Rattle.jm_commands.specs.Outcome.{Outcome, behind, done, gen_link}
-use Rattle.jm_commands.specs.Run.{Answers, FilesMade, GenComesTo, LinkComesTo, PutDoes, StepComesTo}
-use Rattle.jm_commands.specs.Sinks.{Seen}
+use Rattle.jm_commands.specs.Outcome.{Early, Outcome, behind, done, gen_link, reading}
+use Rattle.jm_commands.specs.Run.{Answers, FilesFirst, FilesMade, GenComesTo, LinkComesTo, PutDoes, StepComesTo}
+use Rattle.jm_commands.specs.Sinks.{Failed, Seen}
 use Rattle.jm_commands.specs.Stops.{stop_of_link, stop_of_shelf}
 use Rattle.jm_commands.specs.World.{World}
 use Rattle.jm_commands.proofs.LinkLaws.{link_put, link_stopped}
-use Rattle.jm_commands.proofs.StepLaws.{rises, source_behind}
+use Rattle.jm_commands.proofs.StepLaws.{early_sooner, source_behind, work_sooner}
 
 -- the answer is that of what is due with files made before
 answers_behind : (made : Writes) (due : Outcome) (answer : Result (Unit {0}) Stop) → Answers due answer → Answers (behind made due) answer
@@ -35,18 +34,27 @@ files_behind made writes (Err (stop.Complaint given)) old now new first more = m
 files_behind made writes (Err stop.Outside) old now new first more = part_append made writes old now new first more
 files_behind made writes (Err stop.Memory) old now new first more = part_append made writes old now new first more
 
+-- the output is put behind all of them
+first_behind_made : (made writes : Writes) (old : Option Files) (now new : World) → MadeAll made old now.shelf.told → FilesFirst writes now new → MadeAll (made ++ writes) old new.shelf.told ⊎ (new.out.told ≡ now.out.told)
+first_behind_made made writes old now new first (inl more) = inl (made_append made writes old now.shelf.told new.shelf.told first more)
+first_behind_made made writes old now new first (inr unput) = inr unput
+
+-- files are read, and these are made, before it is known what is due
+abbrev making : Writes → Early
+making made = record { writes = made; reads = true }
+
 module _ (made : Writes) (shelf : Seen Files) (now new : World) (first : MadeAll made shelf.told now.shelf.told) (up : shelf.faults ≤ now.shelf.faults) where
   abbrev old : World
   old = record { shelf = shelf; input = now.input; out = now.out }
 
   -- a step behind the making of files
-  pub step_after : (Due : Outcome → Type 0) (answer : Result (Unit {0}) Stop) → StepComesTo Due [] answer now new → StepComesTo (λ due. (last : Outcome) × Due last × (due ≡ behind made last)) made answer old new
+  pub step_after : (Due : Outcome → Type 0) (answer : Result (Unit {0}) Stop) → StepComesTo Due reading answer now new → StepComesTo (λ due. (last : Outcome) × Due last × (due ≡ behind made last)) (making made) answer old new
   step_after Due answer (inl fails) = inl (record {
     failed = fails.failed;
     files = subst (λ (writes : Writes). MadePart writes shelf.told new.shelf.told) (append-nil made) (part_append made [] shelf.told now.shelf.told new.shelf.told first fails.files);
     source = fails.source;
     output = fails.output;
-    outside = λ failed. rises shelf now new up (fails.outside failed);
+    outside = λ failed. early_sooner shelf now new up reading (fails.outside failed);
   })
   step_after Due answer (inr (due, is, step)) = inr (
     behind made due,
@@ -55,8 +63,9 @@ module _ (made : Writes) (shelf : Seen Files) (now new : World) (first : MadeAll
       answers = answers_behind made due answer step.answers;
       output = step.output;
       files = files_behind made due.writes answer shelf.told now.shelf.told new.shelf.told first step.files;
-      source = source_behind shelf now new due.session _ _ step.source;
-      outside = λ failed. rises shelf now new up (step.outside failed);
+      files_first = first_behind_made made due.writes shelf.told now new first step.files_first;
+      source = source_behind shelf now new due.session _ step.source;
+      outside = λ failed. work_sooner shelf now new up due.session due.status (step.outside failed);
     },
   )
 
@@ -71,12 +80,12 @@ module _ (gen : Gen) (shelf : Seen Files) (now new : World) where
   before = record { shelf = shelf; input = now.input; out = now.out }
 
   abbrev Does : Result (Unit {0}) Stop → Type 0
-  Does answer = StepComesTo (GenComesTo shelf.told gen) (made_first gen) answer before new
+  Does answer = StepComesTo (GenComesTo shelf.told gen) (making (made_first gen)) answer before new
 
   -- the link of all that was made
-  linked_after : (answer : Result (Unit {0}) Stop) → MadeAll (made_first gen) shelf.told now.shelf.told → shelf.faults ≤ now.shelf.faults → StepComesTo (LinkComesTo now.shelf.told (gen_link gen)) [] answer now new → Does answer
+  linked_after : (answer : Result (Unit {0}) Stop) → MadeAll (made_first gen) shelf.told now.shelf.told → shelf.faults ≤ now.shelf.faults → StepComesTo (LinkComesTo now.shelf.told (gen_link gen)) reading answer now new → Does answer
   linked_after answer made up step =
-      subst (λ (told : Option Files). StepComesTo (λ due. (last : Outcome) × LinkComesTo told (gen_link gen) last × (due ≡ behind (made_first gen) last)) (made_first gen) answer before new) made
+      subst (λ (told : Option Files). StepComesTo (λ due. (last : Outcome) × LinkComesTo told (gen_link gen) last × (due ≡ behind (made_first gen) last)) (making (made_first gen)) answer before new) made
       (step_after (made_first gen) shelf now new made up (LinkComesTo now.shelf.told (gen_link gen)) answer step)
 
   -- all was made and linked, and then the text was put
@@ -90,6 +99,6 @@ module _ (gen : Gen) (shelf : Seen Files) (now new : World) where
       linked_after (Err (stop_of_link given)) made up (link_stopped (gen_link gen) now new source given links unput)
 
 -- the making was broken off
-pub gen_unmade : (gen : Gen) (error : ShelfError) (old new : World) → MadePart (made_first gen) old.shelf.told new.shelf.told → new.input.told ≡ old.input.told → new.out.told ≡ old.out.told → (error ≡ shelf_error.Failed → Rose old.shelf.faults new.shelf.faults) → StepComesTo (GenComesTo old.shelf.told gen) (made_first gen) (Err (stop_of_shelf error)) old new
-gen_unmade gen shelf_error.Failed old new part source unput rose = inl (record { failed = tt; files = part; source = source; output = unput; outside = λ failed. inl (rose refl) })
+pub gen_unmade : (gen : Gen) (error : ShelfError) (old new : World) → MadePart (made_first gen) old.shelf.told new.shelf.told → new.input.told ≡ old.input.told → new.out.told ≡ old.out.told → (error ≡ shelf_error.Failed → Failed old.shelf new.shelf) → StepComesTo (GenComesTo old.shelf.told gen) (making (made_first gen)) (Err (stop_of_shelf error)) old new
+gen_unmade gen shelf_error.Failed old new part source unput rose = inl (record { failed = tt; files = part; source = source; output = unput; outside = λ failed. (refl, rose refl) })
 gen_unmade gen shelf_error.Memory old new part source unput rose = inl (record { failed = tt; files = part; source = source; output = unput; outside = λ failed. cc })

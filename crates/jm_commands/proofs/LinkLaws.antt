@@ -18,7 +18,7 @@ use Rattle.jm_commands.specs.declared.complaint.Complaint.TheVariants as complai
 use Rattle.jm_commands.specs.declared.status.Status.TheVariants as status
 use Rattle.jm_commands.specs.declared.stop.Stop.{Stop}
 use Rattle.jm_commands.specs.declared.stop.Stop.TheVariants as stop
-use Rattle.jm_commands.specs.Outcome.{Link, Outcome, done, link_outcome, linked, not_there, refusing}
+use Rattle.jm_commands.specs.Outcome.{Link, Outcome, done, link_outcome, linked, not_there, reading, refusing}
 use Rattle.jm_commands.specs.Run.{ImageLinkComesTo, LinkComesFrom, LinkComesTo, PathLinkComesTo, PutDoes, ShowsLinked, StepComesTo, StepDoes, outcome_of}
 use Rattle.jm_commands.specs.Stops.{stop_of_link}
 use Rattle.jm_commands.specs.World.{World}
@@ -53,7 +53,7 @@ never_done given text is = go given (ap (λ o. o.status) is)
 -- of a link that comes to one of these results, or finds a listed file missing, from what is due then
 module _ (link : Link) (Comes : Result LinkedImage Refusal → Type 0) (Absent : Type 0) (Due : Outcome → Type 0) (old new : World) (source : new.input.told ≡ old.input.told) (as_due : (result : Result LinkedImage Refusal) → Comes result → Due (link_outcome link result)) (as_absent : (listed : List ℕ) → Absent → Due (not_there listed)) where
   abbrev Does : Result (Unit {0}) Stop → Type 0
-  Does answer = StepComesTo Due [] answer old new
+  Does answer = StepComesTo Due reading answer old new
 
   -- the image was written, and then the text was put
   pub put_linked : (summary : Summary) (answer : Result (Unit {0}) Stop) → LinksBy Comes Absent link.output (Ok summary) old.shelf.told new.shelf.told old.shelf.faults new.shelf.faults → PutDoes (done (link.text summary)) answer old.out new.out → Does answer
@@ -67,21 +67,21 @@ module _ (link : Link) (Comes : Result LinkedImage Refusal → Type 0) (Absent :
       made = held
 
       go : (answer : Result (Unit {0}) Stop) → PutDoes (done (link.text (summary_of image))) answer old.out new.out → StepDoes due answer old new
-      go (Ok _) put = record { answers = (refl, refl); output = put.output; files = made; source = source; outside = λ failed. cc }
+      go (Ok _) put = record { answers = (refl, refl); output = put.output; files = made; files_first = inl made; source = source; outside = λ failed. cc }
       go (Err (stop.Complaint given)) put = absurd (never_done given (link.text (summary_of image)) put.answers)
-      go (Err stop.Outside) put = record { answers = tt; output = put.output; files = part_of_all due.writes old.shelf.told new.shelf.told made; source = source; outside = λ failed. inr (inr (put.outside failed)) }
-      go (Err stop.Memory) put = record { answers = tt; output = put.output; files = part_of_all due.writes old.shelf.told new.shelf.told made; source = source; outside = λ failed. cc }
+      go (Err stop.Outside) put = record { answers = tt; output = put.output; files = part_of_all due.writes old.shelf.told new.shelf.told made; files_first = inl made; source = source; outside = λ failed. inr (put.outside failed) }
+      go (Err stop.Memory) put = record { answers = tt; output = put.output; files = part_of_all due.writes old.shelf.told new.shelf.told made; files_first = inl made; source = source; outside = λ failed. cc }
 
   -- it stopped before anything was put
   pub stopped_linked : (given : LinkStop) → LinksBy Comes Absent link.output (Err given) old.shelf.told new.shelf.told old.shelf.faults new.shelf.faults → new.out.told ≡ old.out.told → Does (Err (stop_of_link given))
   stopped_linked (link_stop.Refused refusal) (comes, files) unput =
-      complains Due [] (refusing refusal) (complaint.Refused refusal) (complaint.Refused refusal) old new (as_due (Err refusal) comes) refl refl (record { files = files; source = source; output = unput })
+      complains Due reading (refusing refusal) (complaint.Refused refusal) (complaint.Refused refusal) old new (as_due (Err refusal) comes) refl refl (record { files = files; source = source; output = unput })
   stopped_linked (link_stop.NotThere listed) (none, files) unput =
-      complains Due [] (not_there listed) (complaint.NotThere listed) (complaint.NotThere listed) old new (as_absent listed none) refl refl (record { files = files; source = source; output = unput })
+      complains Due reading (not_there listed) (complaint.NotThere listed) (complaint.NotThere listed) old new (as_absent listed none) refl refl (record { files = files; source = source; output = unput })
   stopped_linked link_stop.Outside (breaks, rose) unput = broken breaks
     where
       broken : BreaksOff Comes link.output old.shelf.told new.shelf.told → Does (Err stop.Outside)
-      broken (inl files) = inl (record { failed = tt; files = stays_part [] old.shelf.told new.shelf.told files; source = source; output = unput; outside = λ failed. inl rose })
+      broken (inl files) = inl (record { failed = tt; files = stays_part [] old.shelf.told new.shelf.told files; source = source; output = unput; outside = λ failed. (refl, rose) })
       broken (inr (image, comes, part)) = inr (
         linked link image,
         as_due (Ok image) comes,
@@ -89,6 +89,7 @@ module _ (link : Link) (Comes : Result LinkedImage Refusal → Type 0) (Absent :
           answers = tt;
           output = front_of_nothing (linked link image).output old.out new.out unput;
           files = part_alone old.shelf.told new.shelf.told link.output image.bytes part;
+          files_first = inr unput;
           source = source;
           outside = λ failed. inl rose;
         },
@@ -104,6 +105,7 @@ module _ (link : Link) (Comes : Result LinkedImage Refusal → Type 0) (Absent :
           answers = tt;
           output = front_of_nothing (linked link image).output old.out new.out unput;
           files = part_alone old.shelf.told new.shelf.told link.output image.bytes part;
+          files_first = inr unput;
           source = source;
           outside = λ failed. cc;
         },
@@ -118,10 +120,10 @@ module _ (link : Link) (old new : World) (source : new.input.told ≡ old.input.
   path_absent : (listed : List ℕ) → TellsNothing old.shelf.told → PathLinkComesTo old.shelf.told link (not_there listed)
   path_absent listed none = inr (listed, none, refl)
 
-  pub link_put : (summary : Summary) (answer : Result (Unit {0}) Stop) → Links link.directories link.asked link.output (Ok summary) old.shelf.told new.shelf.told old.shelf.faults new.shelf.faults → PutDoes (done (link.text summary)) answer old.out new.out → StepComesTo (PathLinkComesTo old.shelf.told link) [] answer old new
+  pub link_put : (summary : Summary) (answer : Result (Unit {0}) Stop) → Links link.directories link.asked link.output (Ok summary) old.shelf.told new.shelf.told old.shelf.faults new.shelf.faults → PutDoes (done (link.text summary)) answer old.out new.out → StepComesTo (PathLinkComesTo old.shelf.told link) reading answer old new
   link_put = put_linked link (ComesTo old.shelf.told link.directories link.asked) (TellsNothing old.shelf.told) (PathLinkComesTo old.shelf.told link) old new source path_due path_absent
 
-  pub link_stopped : (given : LinkStop) → Links link.directories link.asked link.output (Err given) old.shelf.told new.shelf.told old.shelf.faults new.shelf.faults → new.out.told ≡ old.out.told → StepComesTo (PathLinkComesTo old.shelf.told link) [] (Err (stop_of_link given)) old new
+  pub link_stopped : (given : LinkStop) → Links link.directories link.asked link.output (Err given) old.shelf.told new.shelf.told old.shelf.faults new.shelf.faults → new.out.told ≡ old.out.told → StepComesTo (PathLinkComesTo old.shelf.told link) reading (Err (stop_of_link given)) old new
   link_stopped = stopped_linked link (ComesTo old.shelf.told link.directories link.asked) (TellsNothing old.shelf.told) (PathLinkComesTo old.shelf.told link) old new source path_due path_absent
 
 -- From an image
@@ -130,13 +132,13 @@ module _ (link : Link) (b : List ℕ) (old new : World) (source : new.input.told
   image_due : (result : Result LinkedImage Refusal) → ImageComesTo b link.asked result → ImageLinkComesTo link b (link_outcome link result)
   image_due result comes = (result, comes, linked_shown link.asked.order result comes.1, refl)
 
-  pub image_put : (summary : Summary) (answer : Result (Unit {0}) Stop) → ImageLinks b link.asked link.output (Ok summary) old.shelf.told new.shelf.told old.shelf.faults new.shelf.faults → PutDoes (done (link.text summary)) answer old.out new.out → StepComesTo (ImageLinkComesTo link b) [] answer old new
+  pub image_put : (summary : Summary) (answer : Result (Unit {0}) Stop) → ImageLinks b link.asked link.output (Ok summary) old.shelf.told new.shelf.told old.shelf.faults new.shelf.faults → PutDoes (done (link.text summary)) answer old.out new.out → StepComesTo (ImageLinkComesTo link b) reading answer old new
   image_put = put_linked link (ImageComesTo b link.asked) ⊥ (ImageLinkComesTo link b) old new source image_due (λ listed never. absurd never)
 
-  pub image_stopped : (given : LinkStop) → ImageLinks b link.asked link.output (Err given) old.shelf.told new.shelf.told old.shelf.faults new.shelf.faults → new.out.told ≡ old.out.told → StepComesTo (ImageLinkComesTo link b) [] (Err (stop_of_link given)) old new
+  pub image_stopped : (given : LinkStop) → ImageLinks b link.asked link.output (Err given) old.shelf.told new.shelf.told old.shelf.faults new.shelf.faults → new.out.told ≡ old.out.told → StepComesTo (ImageLinkComesTo link b) reading (Err (stop_of_link given)) old new
   image_stopped = stopped_linked link (ImageComesTo b link.asked) ⊥ (ImageLinkComesTo link b) old new source image_due (λ listed never. absurd never)
 
 -- by where the modules are
-pub link_comes : (told : Option Files) (link : Link) (image : Option (List ℕ)) (answer : Result (Unit {0}) Stop) (old new : World) → link.image ≡ image → StepComesTo (LinkComesFrom told link image) [] answer old new → StepComesTo (LinkComesTo told link) [] answer old new
+pub link_comes : (told : Option Files) (link : Link) (image : Option (List ℕ)) (answer : Result (Unit {0}) Stop) (old new : World) → link.image ≡ image → StepComesTo (LinkComesFrom told link image) reading answer old new → StepComesTo (LinkComesTo told link) reading answer old new
 link_comes told link image answer old new is step =
-    subst (λ (o : Option (List ℕ)). StepComesTo (LinkComesFrom told link o) [] answer old new) (sym is) step
+    subst (λ (o : Option (List ℕ)). StepComesTo (LinkComesFrom told link o) reading answer old new) (sym is) step

@@ -25,7 +25,7 @@ use Rattle.jm_commands.specs.declared.complaint.Complaint.{Complaint}
 use Rattle.jm_commands.specs.declared.image_file.ImageTask.{ImageTask}
 use Rattle.jm_commands.specs.declared.image_file.ImageTask.TheVariants as image_task
 use Rattle.jm_commands.specs.Run.{CommandComesTo, OpenedComesTo, TaskComesTo, TextComesTo}
-use Rattle.jm_commands.specs.Outcome.{Outcome, early_writes, first_writes, gen_of, link_of, cat_outcome, class_outcome, describe_outcome, descriptor_outcome, ls_outcome, session_fault, session_with, image_outcome, task_of}
+use Rattle.jm_commands.specs.Outcome.{Outcome, early_of, gen_of, link_of, cat_outcome, class_outcome, describe_outcome, descriptor_outcome, ls_outcome, session_fault, session_with, image_outcome, task_of}
 use Rattle.jm_commands.specs.Outcome.{Task, Puts, Describes, OnImage, Links, Makes}
 
 -- Whether a session is due
@@ -135,8 +135,8 @@ module _ (n : ℕ) where
   task-with_jobs (command.Help jobs) = refl
   task-with_jobs _ = refl
 
-  pub early-with_jobs : (given : Command) → early_writes (with_jobs n given) ≡ early_writes given
-  early-with_jobs given = ap first_writes (task-with_jobs given)
+  pub early-with_jobs : (given : Command) → early_of (task_of (with_jobs n given)) ≡ early_of (task_of given)
+  early-with_jobs given = ap early_of (task-with_jobs given)
 
   pub comes-with_jobs : (told : Option Files) (rest : Option (List ℕ)) (given : Command) (due : Outcome) → CommandComesTo told rest (with_jobs n given) due → CommandComesTo told rest given due
   comes-with_jobs told rest given due = subst (λ (task : Task). TaskComesTo told rest task due) (task-with_jobs given)

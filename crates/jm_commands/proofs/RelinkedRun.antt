@@ -1,6 +1,6 @@
 -- A run that relinks an image gives it back.
 use Rattle.std.proofs.Common.{◌≡◌, inl, inr, ℕ, List, [], ◌∷◌, Option, Some, None, Result, Ok, Err, sym, ap, subst, ◌∙◌}
-use Rattle.jm_outside.specs.Made.{MadeAll, Writes}
+use Rattle.jm_outside.specs.Made.{MadeAll}
 use Rattle.jm_form.specs.Damages.{first_damage}
 use Rattle.jm_form.specs.Validity.{Valid}
 use Rattle.jm_form.proofs.Validity.{valid_sound}
@@ -14,7 +14,7 @@ use Rattle.jm_words.specs.declared.commands.Command.{Command}
 use Rattle.jm_words.specs.declared.errors.WordsError.{WordsError}
 use Rattle.jm_commands.specs.declared.status.Status.{Status}
 use Rattle.jm_commands.specs.declared.status.Status.TheVariants as status
-use Rattle.jm_commands.specs.Outcome.{Link, Outcome, Task, Links, link_of, link_outcome, task_of}
+use Rattle.jm_commands.specs.Outcome.{Early, Link, Outcome, Task, Links, link_of, link_outcome, task_of}
 use Rattle.jm_commands.specs.RelinkedRun.{IsRelinked, RelinksFile, RelinksRun, link_in}
 use Rattle.jm_commands.specs.Run.{EndsWith, FoundComesTo, HasFile, ImageComes, ImageLinkComesTo, IsFailed, LinkComesFrom, LinkComesTo, OpenedComesTo, RunComesTo, RunDoes, TaskComesTo, WordsComeTo}
 use Rattle.jm_commands.specs.Sinks.{Seen}
@@ -91,7 +91,7 @@ module _ (due : Outcome) (is : Status) (old new : World) (err new_err : Seen (Li
   by_words (Ok given) comes = by_task (task_of given) comes
   by_words (Err fault) comes = tt
 
-pub run_relinks : (asked : Result Command WordsError) (early : Writes) (is : Status) (old new : World) (err new_err : Seen (List ℕ)) → RunComesTo (WordsComeTo old.shelf.told old.input.told asked) early is old new err new_err → RelinksRun (link_in asked) is old.shelf.told new.shelf.told
+pub run_relinks : (asked : Result Command WordsError) (early : Early) (is : Status) (old new : World) (err new_err : Seen (List ℕ)) → RunComesTo (WordsComeTo old.shelf.told old.input.told asked) early is old new err new_err → RelinksRun (link_in asked) is old.shelf.told new.shelf.told
 run_relinks asked early is old new err new_err (inl stops) = go (link_in asked)
   where
     go : (link : Option Link) → RelinksRun link is old.shelf.told new.shelf.told

@@ -1,6 +1,5 @@
 -- What a run does, from what its step did.
 use Rattle.std.proofs.Common.{◌≡◌, inl, inr, ℕ, List, Option, Some, None, Result, Ok, Err, refl, sym, ap, ◌∙◌, subst}
-use Rattle.jm_outside.specs.Made.{Writes}
 use Rattle.jm_outside.proofs.MadeLaws.{part_of_all}
 use Rattle.jm_jrt.specs.declared.serve_error.ServeError.{ServeError}
 use Rattle.jm_jrt.specs.declared.serve_error.ServeError.TheVariants as serve_error
@@ -10,10 +9,11 @@ use Rattle.jm_commands.specs.declared.status.Status.{Status}
 use Rattle.jm_commands.specs.declared.status.Status.TheVariants as status
 use Rattle.jm_commands.specs.declared.stop.Stop.{Stop}
 use Rattle.jm_commands.specs.declared.stop.Stop.TheVariants as stop
-use Rattle.jm_commands.specs.Outcome.{Outcome}
-use Rattle.jm_commands.specs.Run.{DoesAll, DoesFront, EndsStep, EndsWith, IsFailed, IsFailure, ReportDoes, RunComesTo, RunDoes, StepComesTo, StepDoes, status_of}
+use Rattle.jm_commands.specs.FailedBefore.{LineFailed}
+use Rattle.jm_commands.specs.Outcome.{Early, Outcome}
+use Rattle.jm_commands.specs.Run.{DoesAll, DoesFront, EndsStep, EndsWith, ReportDoes, RunComesTo, RunDoes, StepComesTo, StepDoes, status_of}
 use Rattle.jm_commands.specs.SessionHeld.{EndsAs, EndsBroken, SourceRead, StopsAs}
-use Rattle.jm_commands.specs.Sinks.{Gets, GetsFront, Seen}
+use Rattle.jm_commands.specs.Sinks.{Failed, Gets, GetsFront, Seen}
 use Rattle.jm_commands.specs.Texts.{line_of}
 use Rattle.jm_commands.specs.World.{World}
 use Rattle.jm_commands.proofs.Gotten.{front_of_all, front_of_nothing, gets_nothing}
@@ -32,36 +32,48 @@ reported given is err new_err same put = subst (λ (s : Status). ReportDoes give
     go (complaint.LongLine k) put = (refl, put)
     go complaint.TooManyLines put = (refl, put)
 
+-- a complaint has a line, so the error sink may fail
+line_failed : (given : Complaint) (err new_err : Seen (List ℕ)) → Failed err new_err → LineFailed (status_of given) err new_err
+line_failed (complaint.Words fault) err new_err failed = failed
+line_failed (complaint.Damaged damage) err new_err failed = failed
+line_failed (complaint.NotThere text) err new_err failed = failed
+line_failed (complaint.Refused refusal) err new_err failed = failed
+line_failed (complaint.BadNode at) err new_err failed = failed
+line_failed complaint.NotFolder err new_err failed = failed
+line_failed (complaint.LongLine k) err new_err failed = failed
+line_failed complaint.TooManyLines err new_err failed = failed
+
 -- What was read from the source
 
-source_map : (session : Option (List ℕ)) (failed also : Type 0) (Ends Also : Result ℕ ServeError → Type 0) (old new : World) → (failed → also) → ((answered : Result ℕ ServeError) → Ends answered → Also answered) → SourceRead session failed Ends old new → SourceRead session also Also old new
-source_map None failed also Ends Also old new f g read = read
-source_map (Some b) failed also Ends Also old new f g (inl (fails, unbegun)) = inl (f fails, unbegun)
-source_map (Some b) failed also Ends Also old new f g (inr held) = inr (record { answered = held.answered; ends = g held.answered held.ends; reads = held.reads; new_reads = held.new_reads; serves = held.serves })
+source_map : (session : Option (List ℕ)) (Ends Also : Result ℕ ServeError → Type 0) (old new : World) → ((answered : Result ℕ ServeError) → Ends answered → Also answered) → SourceRead session Ends old new → SourceRead session Also old new
+source_map None Ends Also old new f read = read
+source_map (Some b) Ends Also old new f held = record { answered = held.answered; ends = f held.answered held.ends; ended_by = held.ended_by; reads = held.reads; new_reads = held.new_reads; serves = held.serves }
 
-ends_done : (answered : Result ℕ ServeError) → StopsAs (Ok tt) answered → EndsAs status.Done answered
-ends_done (Ok n) stops = refl
-ends_done (Err serve_error.ReadFault) stops = cc
-ends_done (Err serve_error.WriteFault) stops = cc
-ends_done (Err (serve_error.LongLine k)) stops = cc
-ends_done (Err serve_error.TooManyLines) stops = cc
-ends_done (Err serve_error.Memory) stops = cc
+-- nothing was put to the error sink
+module _ (err : Seen (List ℕ)) where
+  ends_done : (answered : Result ℕ ServeError) → StopsAs (Ok tt) answered → EndsAs status.Done err err answered
+  ends_done (Ok n) stops = refl
+  ends_done (Err serve_error.ReadFault) stops = cc
+  ends_done (Err serve_error.WriteFault) stops = cc
+  ends_done (Err (serve_error.LongLine k)) stops = cc
+  ends_done (Err serve_error.TooManyLines) stops = cc
+  ends_done (Err serve_error.Memory) stops = cc
 
-ends_outside : (answered : Result ℕ ServeError) → StopsAs (Err stop.Outside) answered → EndsAs status.Outside answered
-ends_outside (Ok n) stops = cc
-ends_outside (Err serve_error.ReadFault) stops = refl
-ends_outside (Err serve_error.WriteFault) stops = refl
-ends_outside (Err (serve_error.LongLine k)) stops = cc
-ends_outside (Err serve_error.TooManyLines) stops = cc
-ends_outside (Err serve_error.Memory) stops = cc
+  ends_outside : (answered : Result ℕ ServeError) → StopsAs (Err stop.Outside) answered → EndsAs status.Outside err err answered
+  ends_outside (Ok n) stops = cc
+  ends_outside (Err serve_error.ReadFault) stops = refl
+  ends_outside (Err serve_error.WriteFault) stops = refl
+  ends_outside (Err (serve_error.LongLine k)) stops = cc
+  ends_outside (Err serve_error.TooManyLines) stops = cc
+  ends_outside (Err serve_error.Memory) stops = cc
 
-ends_memory : (answered : Result ℕ ServeError) → StopsAs (Err stop.Memory) answered → EndsAs status.Memory answered
-ends_memory (Ok n) stops = cc
-ends_memory (Err serve_error.ReadFault) stops = cc
-ends_memory (Err serve_error.WriteFault) stops = cc
-ends_memory (Err (serve_error.LongLine k)) stops = cc
-ends_memory (Err serve_error.TooManyLines) stops = cc
-ends_memory (Err serve_error.Memory) stops = refl
+  ends_memory : (answered : Result ℕ ServeError) → StopsAs (Err stop.Memory) answered → EndsAs status.Memory err err answered
+  ends_memory (Ok n) stops = cc
+  ends_memory (Err serve_error.ReadFault) stops = cc
+  ends_memory (Err serve_error.WriteFault) stops = cc
+  ends_memory (Err (serve_error.LongLine k)) stops = cc
+  ends_memory (Err serve_error.TooManyLines) stops = cc
+  ends_memory (Err serve_error.Memory) stops = refl
 
 -- the status of a complaint
 abbrev status_in : Result (Unit {0}) Stop → Status
@@ -69,8 +81,8 @@ status_in (Err (stop.Complaint given)) = status_of given
 status_in _ = status.Done
 
 module _ (given : Complaint) (err new_err : Seen (List ℕ)) where
-  broken : (is : Status) → ReportDoes given is err new_err → status_of given ≡ status.Session → EndsBroken is
-  broken status.Outside report same = inr (inl refl)
+  broken : (is : Status) → ReportDoes given is err new_err → status_of given ≡ status.Session → EndsBroken is err new_err
+  broken status.Outside report same = inr (inl (refl, report.1))
   broken status.Memory report same = inr (inr refl)
   broken status.Done report same = inl (report.0 ∙ same)
   broken status.Words report same = inl (report.0 ∙ same)
@@ -79,7 +91,7 @@ module _ (given : Complaint) (err new_err : Seen (List ℕ)) where
   broken status.NotThere report same = inl (report.0 ∙ same)
   broken status.Session report same = inl refl
 
-  ends_complaint : (is : Status) → ReportDoes given is err new_err → (answered : Result ℕ ServeError) → StopsAs (Err (stop.Complaint given)) answered → EndsAs is answered
+  ends_complaint : (is : Status) → ReportDoes given is err new_err → (answered : Result ℕ ServeError) → StopsAs (Err (stop.Complaint given)) answered → EndsAs is err new_err answered
   ends_complaint is report (Ok n) stops = cc
   ends_complaint is report (Err serve_error.ReadFault) stops = cc
   ends_complaint is report (Err serve_error.WriteFault) stops = cc
@@ -101,28 +113,28 @@ module _ (due : Outcome) (old new : World) where
         files = step.files;
       },
     );
-    source = source_map due.session (IsFailure (Ok tt)) (IsFailed status.Done) (StopsAs (Ok tt)) (EndsAs status.Done) old new (λ failed. absurd failed) ends_done step.source;
+    source = source_map due.session (StopsAs (Ok tt)) (EndsAs status.Done err err) old new (ends_done err) step.source;
   }
 
   -- the outside failed
   pub ran_outside : (err : Seen (List ℕ)) → StepDoes due (Err stop.Outside) old new → RunDoes due status.Outside old new err err
   ran_outside err step = record {
-    ends = (record { output = step.output; line = front_of_nothing due.line err err refl; files = step.files }, inl (step.outside refl));
-    source = source_map due.session (IsFailure (Err stop.Outside)) (IsFailed status.Outside) (StopsAs (Err stop.Outside)) (EndsAs status.Outside) old new (λ failed. inl refl) ends_outside step.source;
+    ends = (record { output = step.output; line = front_of_nothing due.line err err refl; files = step.files; files_first = step.files_first }, inl (step.outside refl));
+    source = source_map due.session (StopsAs (Err stop.Outside)) (EndsAs status.Outside err err) old new (ends_outside err) step.source;
   }
 
   -- no memory was found
   pub ran_memory : (err : Seen (List ℕ)) → StepDoes due (Err stop.Memory) old new → RunDoes due status.Memory old new err err
   ran_memory err step = record {
-    ends = record { output = step.output; line = front_of_nothing due.line err err refl; files = step.files };
-    source = source_map due.session (IsFailure (Err stop.Memory)) (IsFailed status.Memory) (StopsAs (Err stop.Memory)) (EndsAs status.Memory) old new (λ failed. inr refl) ends_memory step.source;
+    ends = record { output = step.output; line = front_of_nothing due.line err err refl; files = step.files; files_first = step.files_first };
+    source = source_map due.session (StopsAs (Err stop.Memory)) (EndsAs status.Memory err err) old new (ends_memory err) step.source;
   }
 
   -- a complaint was reported
   pub ran_complaint : (given : Complaint) (is : Status) (err new_err : Seen (List ℕ)) → StepDoes due (Err (stop.Complaint given)) old new → ReportDoes given is err new_err → RunDoes due is old new err new_err
   ran_complaint given is err new_err step report = record {
     ends = go is report;
-    source = source_map due.session (IsFailure (Err (stop.Complaint given))) (IsFailed is) (StopsAs (Err (stop.Complaint given))) (EndsAs is) old new (λ failed. absurd failed) (ends_complaint given err new_err is report) step.source;
+    source = source_map due.session (StopsAs (Err (stop.Complaint given))) (EndsAs is err new_err) old new (ends_complaint given err new_err is report) step.source;
   }
     where
       all : Gets (line_of given) err new_err → DoesAll due old new err new_err
@@ -133,10 +145,11 @@ module _ (due : Outcome) (old new : World) where
         output = front_of_all due.output old.out new.out step.output;
         line = subst (λ (text : List ℕ). GetsFront text err new_err) (sym step.answers.1) put;
         files = part_of_all due.writes old.shelf.told new.shelf.told step.files;
+        files_first = inl step.files;
       }
 
       go : (s : Status) → ReportDoes given s err new_err → EndsWith due s old new err new_err
-      go status.Outside report = (front report.0, inr report.1)
+      go status.Outside report = (front report.0, inr (subst (λ (s : Status). LineFailed s err new_err) (sym step.answers.0) (line_failed given err new_err report.1)))
       go status.Memory report = front report
       go status.Done report = (report.0 ∙ sym step.answers.0, all report.1)
       go status.Words report = (report.0 ∙ sym step.answers.0, all report.1)
@@ -146,7 +159,7 @@ module _ (due : Outcome) (old new : World) where
       go status.Session report = (report.0 ∙ sym step.answers.0, all report.1)
 
 -- from what a step comes to, whatever is due
-module _ (Due : Outcome → Type 0) (early : Writes) (old new : World) where
+module _ (Due : Outcome → Type 0) (early : Early) (old new : World) where
   comes_done : (err : Seen (List ℕ)) → StepComesTo Due early (Ok tt) old new → RunComesTo Due early status.Done old new err err
   comes_done err (inl fails) = absurd fails.failed
   comes_done err (inr (due, is, step)) = inr (due, is, ran_done due old new err step)
@@ -158,7 +171,7 @@ module _ (Due : Outcome → Type 0) (early : Writes) (old new : World) where
     source = fails.source;
     output = fails.output;
     line = refl;
-    outside = λ failed. inl (fails.outside refl);
+    outside = λ failed. fails.outside refl;
   })
   comes_outside err (inr (due, is, step)) = inr (due, is, ran_outside due old new err step)
 

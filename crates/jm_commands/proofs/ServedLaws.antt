@@ -2,7 +2,7 @@
 use Rattle.std.proofs.Common.{◌≡◌, ℕ, zero, suc, List, [], ◌++◌, take, Option, Some, None, option_map, Result, Ok, Err, inl, inr, refl, ap, ◌∙◌, subst, append-nil}
 use Rattle.jm_bytes.proofs.Choice.{same_some}
 use Rattle.jm_extract.specs.Extracted.{extracted}
-use Rattle.jm_outside.specs.Made.{Writes, written}
+use Rattle.jm_outside.specs.Made.{written}
 use Rattle.jm_form.specs.declared.damage.Damage.{Damage}
 use Rattle.jm_form.specs.Damages.{first_damage}
 use Rattle.jm_form.specs.Validity.{look}
@@ -21,9 +21,9 @@ use Rattle.jm_commands.specs.declared.image_file.ImageTask.TheVariants as image_
 use Rattle.jm_commands.specs.declared.status.Status.{Status}
 use Rattle.jm_commands.specs.declared.status.Status.TheVariants as status
 use Rattle.jm_commands.specs.Gen.{made_first}
-use Rattle.jm_commands.specs.Outcome.{Link, Outcome, gen_link, image_outcome, link_outcome, session_outcome, session_with, task_of}
+use Rattle.jm_commands.specs.Outcome.{Early, Link, Outcome, gen_link, image_outcome, link_outcome, session_outcome, session_with, task_of}
 use Rattle.jm_commands.specs.Outcome.{Task, Puts, Describes, OnImage, Links, Makes}
-use Rattle.jm_commands.specs.Run.{EndsWith, HasFile, ImageLinkComesTo, IsFailed, LinkComesFrom, LinkComesTo, OpenedComesTo, RunComesTo, RunDoes, TaskComesTo, TextComesTo, WordsComeTo}
+use Rattle.jm_commands.specs.Run.{EndsWith, HasFile, ImageLinkComesTo, LinkComesFrom, LinkComesTo, OpenedComesTo, RunComesTo, RunDoes, TaskComesTo, TextComesTo, WordsComeTo}
 use Rattle.jm_commands.specs.Served.{ServesRun, served, served_in}
 use Rattle.jm_commands.specs.SessionHeld.{EndsAs, NotBegun, SourceRead}
 use Rattle.jm_commands.specs.Sinks.{Gets, GetsFront, Seen}
@@ -117,36 +117,32 @@ session_is b output (Some given) = refl
 
 module _ (due : Outcome) (is : Status) (old new : World) (err new_err : Seen (List ℕ)) (does : RunDoes due is old new err new_err) where
   unread : due.session ≡ None → new.input.told ≡ old.input.told
-  unread none = subst (λ (o : Option (List ℕ)). SourceRead o (IsFailed is) (EndsAs is) old new) none does.source
+  unread none = subst (λ (o : Option (List ℕ)). SourceRead o (EndsAs is err new_err) old new) none does.source
 
   unbegun : due.session ≡ None → due.output ≡ [] → NotBegun old new
   unbegun none nothing = record { source = unread none; output = ends_unput due old new err new_err nothing is does.ends }
 
-  by_damage : (image b : List ℕ) → HasFile old.shelf.told image (Some b) → (damage : Option Damage) → first_damage b ≡ damage → OpenedComesTo (TextComesTo old.input.told (session_outcome b)) damage due → ServesRun (Some image) is old new
+  by_damage : (image b : List ℕ) → HasFile old.shelf.told image (Some b) → (damage : Option Damage) → first_damage b ≡ damage → OpenedComesTo (TextComesTo old.input.told (session_outcome b)) damage due → ServesRun (Some image) is old new err new_err
   by_damage image b has (Some damage) found same = inl (unbegun (ap (λ o. o.session) same) (ap (λ o. o.output) same))
-  by_damage image b has None sound (text, told_text, same) = go (subst (λ (o : Option (List ℕ)). SourceRead o (IsFailed is) (EndsAs is) old new) (ap (λ o. o.session) same ∙ session_is b (replies b (answered_in text)) _) does.source)
-    where
-      go : SourceRead (Some b) (IsFailed is) (EndsAs is) old new → ServesRun (Some image) is old new
-      go (inl (failed, begun)) = inl begun
-      go (inr held) = inr (b, has, sound, held)
+  by_damage image b has None sound (text, told_text, same) = inr (b, has, sound, subst (λ (o : Option (List ℕ)). SourceRead o (EndsAs is err new_err) old new) (ap (λ o. o.session) same ∙ session_is b (replies b (answered_in text)) _) does.source)
 
-  by_image : (image : List ℕ) → TaskComesTo old.shelf.told old.input.told (OnImage image image_task.Serve) due → ServesRun (Some image) is old new
+  by_image : (image : List ℕ) → TaskComesTo old.shelf.told old.input.told (OnImage image image_task.Serve) due → ServesRun (Some image) is old new err new_err
   by_image image (None, has, same) = inl (unbegun (ap (λ o. o.session) same) (ap (λ o. o.output) same))
   by_image image (Some b, has, comes) = by_damage image b has (first_damage b) refl comes
 
-  by_task : (task : Task) (session : Option (List ℕ)) → served task ≡ session → TaskComesTo old.shelf.told old.input.told task due → ServesRun session is old new
+  by_task : (task : Task) (session : Option (List ℕ)) → served task ≡ session → TaskComesTo old.shelf.told old.input.told task due → ServesRun session is old new err new_err
   by_task task None none comes = unread (due_session old.shelf.told old.input.told task due none comes)
   by_task task (Some image) serves comes =
       by_image image (subst (λ (t : Task). TaskComesTo old.shelf.told old.input.told t due) (serve_of task image serves) comes)
 
-  by_words : (asked : Result Command WordsError) → WordsComeTo old.shelf.told old.input.told asked due → ServesRun (served_in asked) is old new
+  by_words : (asked : Result Command WordsError) → WordsComeTo old.shelf.told old.input.told asked due → ServesRun (served_in asked) is old new err new_err
   by_words (Ok given) comes = by_task (task_of given) (served (task_of given)) refl comes
   by_words (Err fault) comes = unread (ap (λ o. o.session) comes)
 
-pub run_serves : (asked : Result Command WordsError) (early : Writes) (is : Status) (old new : World) (err new_err : Seen (List ℕ)) → RunComesTo (WordsComeTo old.shelf.told old.input.told asked) early is old new err new_err → ServesRun (served_in asked) is old new
+pub run_serves : (asked : Result Command WordsError) (early : Early) (is : Status) (old new : World) (err new_err : Seen (List ℕ)) → RunComesTo (WordsComeTo old.shelf.told old.input.told asked) early is old new err new_err → ServesRun (served_in asked) is old new err new_err
 run_serves asked early is old new err new_err (inl stops) = go (served_in asked)
   where
-    go : (session : Option (List ℕ)) → ServesRun session is old new
+    go : (session : Option (List ℕ)) → ServesRun session is old new err new_err
     go None = stops.source
     go (Some image) = inl (not_begun old new stops.source stops.output)
 run_serves asked early is old new err new_err (inr (due, comes, does)) = by_words due is old new err new_err does asked comes

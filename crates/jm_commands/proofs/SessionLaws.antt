@@ -1,10 +1,11 @@
 -- What a session's step and its run do, from what `serve` answered.
-use Rattle.std.proofs.Common.{◌≡◌, ◌≤◌, ℕ, zero, suc, List, [], ◌∷◌, ◌++◌, length, take, drop, Option, Some, None, option_map, Result, Ok, Err, inl, inr, refl, sym, ap, ◌∙◌, subst, arith}
+use Rattle.std.proofs.Common.{◌≡◌, ◌≤◌, ℕ, zero, suc, List, [], ◌∷◌, ◌++◌, length, take, drop, Option, Some, None, option_map, Result, Ok, Err, ◌⊎◌, inl, inr, refl, sym, ap, ◌∙◌, subst, arith}
 use Rattle.std.proofs.lemmas.Bool.{le-ltb, lt-ltb}
 use Rattle.std.proofs.lemmas.List.{length-append, take-append-drop}
 use Rattle.std.proofs.Math.Seq.{take-append_seam}
 use Rattle.jm_bytes.proofs.Choice.{same_some}
 use Rattle.jm_bytes.specs.Metered.{Metered}
+use Rattle.jm_outside.specs.Made.{MadeAll}
 use Rattle.jm_outside.specs.Outcome.{CountsFaults, PutsFront, Shows, Told}
 use Rattle.jm_jrt.specs.declared.serve_error.ServeError.{ServeError}
 use Rattle.jm_jrt.specs.declared.serve_error.ServeError.TheVariants as serve_error
@@ -17,10 +18,10 @@ use Rattle.jm_commands.specs.declared.stop.Stop.{Stop}
 use Rattle.jm_commands.specs.declared.stop.Stop.TheVariants as stop
 use Rattle.jm_commands.specs.Outcome.{session_fault, session_outcome, session_with}
 use Rattle.jm_commands.specs.Run.{StepDoes, StepOnText}
-use Rattle.jm_commands.specs.SessionHeld.{Held, StopsAs}
-use Rattle.jm_commands.specs.Sinks.{Gets, GetsFront}
+use Rattle.jm_commands.specs.SessionHeld.{EndedBy, Held, StopsAs}
+use Rattle.jm_commands.specs.Sinks.{Failed, Gets, GetsFront}
 use Rattle.jm_commands.specs.Stops.{stop_of_session}
-use Rattle.jm_commands.specs.World.{AnyRose, World}
+use Rattle.jm_commands.specs.World.{World}
 use Rattle.jm_commands.proofs.Made.{stays_all, stays_part}
 
 -- Which line ends it
@@ -75,6 +76,15 @@ front_told (Some old) (Some new) text (more, is, (n, front)) = puts_front old ne
 
 -- The step
 
+-- a fault of the source or of the output comes only where its count rose
+ended_by : (answered : Result ℕ ServeError) (old new : World) → CountsFaults old.input.faults new.input.faults (answered ≡ Err serve_error.ReadFault) → CountsFaults old.out.faults new.out.faults (answered ≡ Err serve_error.WriteFault) → EndedBy answered old new
+ended_by (Ok n) old new input out = tt
+ended_by (Err serve_error.ReadFault) old new input out = input.rose refl
+ended_by (Err serve_error.WriteFault) old new input out = out.rose refl
+ended_by (Err (serve_error.LongLine k)) old new input out = tt
+ended_by (Err serve_error.TooManyLines) old new input out = tt
+ended_by (Err serve_error.Memory) old new input out = tt
+
 shows_text : (rest new_rest : Option (List ℕ)) (text left : List ℕ) → Told rest new_rest (λ old new. (old ≡ text) × (new ≡ left)) → Shows rest (λ told. text ≡ told)
 shows_text None new_rest text left told = tt
 shows_text (Some old) None text left told = absurd told
@@ -90,22 +100,25 @@ module _ (b text : List ℕ) (old new : World) (files : new.shelf.told ≡ old.s
   got : (more : List ℕ) → new.out.told ≡ option_map (λ put. put ++ more) old.out.told → more ≡ output → Gets output old.out new.out
   got more is all = subst (λ (t : List ℕ). Gets t old.out new.out) all is
 
+  unmade : MadeAll [] old.shelf.told new.shelf.told
+  unmade = stays_all old.shelf.told new.shelf.told files
+
   step_ended : HeldAs (Ok tt) → Gets output old.out new.out → StepDoes (session_with b output None) (Ok tt) old new
-  step_ended held gets = record { answers = (refl, refl); output = gets; files = stays_all old.shelf.told new.shelf.told files; source = inr held; outside = λ failed. cc }
+  step_ended held gets = record { answers = (refl, refl); output = gets; files = unmade; files_first = inl unmade; source = held; outside = λ failed. cc }
 
   step_long : (k : ℕ) → HeldAs (Err (stop.Complaint (complaint.LongLine k))) → Gets output old.out new.out → StepDoes (session_with b output (Some (complaint.LongLine k))) (Err (stop.Complaint (complaint.LongLine k))) old new
-  step_long k held gets = record { answers = (refl, refl); output = gets; files = stays_all old.shelf.told new.shelf.told files; source = inr held; outside = λ failed. cc }
+  step_long k held gets = record { answers = (refl, refl); output = gets; files = unmade; files_first = inl unmade; source = held; outside = λ failed. cc }
 
   step_many : HeldAs (Err (stop.Complaint complaint.TooManyLines)) → Gets output old.out new.out → StepDoes (session_with b output (Some complaint.TooManyLines)) (Err (stop.Complaint complaint.TooManyLines)) old new
-  step_many held gets = record { answers = (refl, refl); output = gets; files = stays_all old.shelf.told new.shelf.told files; source = inr held; outside = λ failed. cc }
+  step_many held gets = record { answers = (refl, refl); output = gets; files = unmade; files_first = inl unmade; source = held; outside = λ failed. cc }
 
-  step_outside : (fault : Option Complaint) → HeldAs (Err stop.Outside) → GetsFront output old.out new.out → AnyRose old new → StepDoes (session_with b output fault) (Err stop.Outside) old new
-  step_outside None held gets rose = record { answers = tt; output = gets; files = stays_part [] old.shelf.told new.shelf.told files; source = inr held; outside = λ failed. rose }
-  step_outside (Some given) held gets rose = record { answers = tt; output = gets; files = stays_part [] old.shelf.told new.shelf.told files; source = inr held; outside = λ failed. rose }
+  step_outside : (fault : Option Complaint) → HeldAs (Err stop.Outside) → GetsFront output old.out new.out → Failed old.input new.input ⊎ Failed old.out new.out → StepDoes (session_with b output fault) (Err stop.Outside) old new
+  step_outside None held gets failed = record { answers = tt; output = gets; files = stays_part [] old.shelf.told new.shelf.told files; files_first = inl unmade; source = held; outside = λ is. failed }
+  step_outside (Some given) held gets failed = record { answers = tt; output = gets; files = stays_part [] old.shelf.told new.shelf.told files; files_first = inl unmade; source = held; outside = λ is. failed }
 
   step_memory : (fault : Option Complaint) → HeldAs (Err stop.Memory) → GetsFront output old.out new.out → StepDoes (session_with b output fault) (Err stop.Memory) old new
-  step_memory None held gets = record { answers = tt; output = gets; files = stays_part [] old.shelf.told new.shelf.told files; source = inr held; outside = λ failed. cc }
-  step_memory (Some given) held gets = record { answers = tt; output = gets; files = stays_part [] old.shelf.told new.shelf.told files; source = inr held; outside = λ failed. cc }
+  step_memory None held gets = record { answers = tt; output = gets; files = stays_part [] old.shelf.told new.shelf.told files; files_first = inl unmade; source = held; outside = λ failed. cc }
+  step_memory (Some given) held gets = record { answers = tt; output = gets; files = stays_part [] old.shelf.told new.shelf.told files; files_first = inl unmade; source = held; outside = λ failed. cc }
 
   by_fault : (fault : Option Complaint) (answer : Result (Unit {0}) Stop) → session_fault (length (lines_of text)) (length (answered_in text)) ≡ fault → StepDoes (session_with b output fault) answer old new → StepDoes (session_outcome b text) answer old new
   by_fault fault answer is = subst (λ (o : Option Complaint). StepDoes (session_with b output o) answer old new) (sym is)
@@ -120,9 +133,9 @@ module _ (b text : List ℕ) (old new : World) (files : new.shelf.told ≡ old.s
   by_answer (Err serve_error.ReadFault) left ended (more, is, (given, from, put, (n, among))) held input out =
       step_outside (session_fault (length (lines_of text)) (length (answered_in text))) held
       (front_put old.out.told new.out.told more output (length (replies b (take n (answered_in text)))) is (put ∙ ap (replies b) among ∙ replies_front b n (answered_in text)))
-      (inr (inl (input.rose refl)))
+      (inl (input.rose refl))
   by_answer (Err serve_error.WriteFault) left ended told held input out =
-      step_outside (session_fault (length (lines_of text)) (length (answered_in text))) held (front_told old.out.told new.out.told output told) (inr (inr (out.rose refl)))
+      step_outside (session_fault (length (lines_of text)) (length (answered_in text))) held (front_told old.out.told new.out.told output told) (inr (out.rose refl))
   by_answer (Err serve_error.Memory) left ended (more, is, (n, put)) held input out =
       step_memory (session_fault (length (lines_of text)) (length (answered_in text))) held
       (front_put old.out.told new.out.told more output (length (replies b (take n (answered_in text)))) is (put ∙ replies_front b n (answered_in text)))
@@ -132,5 +145,5 @@ session_step b answered old new reads new_reads files serves input out = inr (
   session_outcome b serves.text,
   (serves.text, shows_text old.input.told new.input.told serves.text serves.left serves.told, refl),
   by_answer b serves.text old new files answered serves.left serves.ended serves.put
-      (record { answered = answered; ends = refl; reads = reads; new_reads = new_reads; serves = serves }) input out,
+      (record { answered = answered; ends = refl; ended_by = ended_by answered old new input out; reads = reads; new_reads = new_reads; serves = serves }) input out,
 )

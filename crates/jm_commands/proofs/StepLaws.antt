@@ -4,24 +4,30 @@ use Rattle.jm_outside.specs.Made.{MadeAll, MadePart, Writes}
 use Rattle.jm_form.specs.declared.rows.Row.{Row}
 use Rattle.jm_form.specs.Damages.{first_damage}
 use Rattle.jm_jrt.specs.declared.serve_error.ServeError.{ServeError}
+use Rattle.jm_jrt.specs.declared.serve_error.ServeError.TheVariants as serve_error
 use Rattle.jm_names.specs.UtfForms.{utf}
 use Rattle.jm_outside.specs.Files.{Files}
-use Rattle.jm_outside.specs.Outcome.{Rose, Shows, Told}
+use Rattle.jm_outside.specs.Outcome.{Shows, Told}
 use Rattle.jm_words.specs.declared.commands.Command.{Command}
 use Rattle.jm_words.specs.declared.errors.WordsError.{WordsError}
 use Rattle.jm_words.specs.declared.errors.WordsError.TheVariants as error
 use Rattle.jm_bytes.specs.Results.{UnlessMemory}
 use Rattle.jm_commands.specs.declared.complaint.Complaint.{Complaint}
 use Rattle.jm_commands.specs.declared.complaint.Complaint.TheVariants as complaint
+use Rattle.jm_commands.specs.declared.status.Status.{Status}
+use Rattle.jm_commands.specs.declared.status.Status.TheVariants as status
 use Rattle.jm_commands.specs.declared.stop.Stop.{Stop}
 use Rattle.jm_commands.specs.declared.stop.Stop.TheVariants as stop
+use Rattle.jm_outside.specs.declared.streams.SinkError.{SinkError}
+use Rattle.jm_outside.specs.declared.streams.SinkError.TheVariants as sink_error
 use Rattle.jm_commands.specs.Cat.{content_of}
-use Rattle.jm_commands.specs.Outcome.{Outcome, cat_outcome, damaged, early_of, early_writes, faulty, not_there}
-use Rattle.jm_commands.specs.Run.{CommandComesTo, FileComesTo, FilesMade, IsFailure, OpenedComesTo, Opens, PutDoes, ReadsFile, StepComesTo, StepDoes, StepOnText, WordsComeTo, outcome_of}
-use Rattle.jm_commands.specs.SessionHeld.{NotBegun, SourceRead}
-use Rattle.jm_commands.specs.Sinks.{Gets, Seen}
-use Rattle.jm_commands.specs.Stops.{stop_of_words}
-use Rattle.jm_commands.specs.World.{AnyRose, World}
+use Rattle.jm_commands.specs.FailedBefore.{FailedEarly, WorkFailed}
+use Rattle.jm_commands.specs.Outcome.{Early, Outcome, cat_outcome, damaged, done, early_in, early_of, faulty, not_there, reading, task_of, without_files}
+use Rattle.jm_commands.specs.Run.{CommandComesTo, FileComesTo, FilesFirst, FilesMade, IsFailure, OpenedComesTo, Opens, PutDoes, ReadsFile, StepComesTo, StepDoes, StepOnText, WordsComeTo, outcome_of}
+use Rattle.jm_commands.specs.SessionHeld.{EndedBy, NotBegun, SourceRead}
+use Rattle.jm_commands.specs.Sinks.{Failed, Gets, GetsFront, Seen}
+use Rattle.jm_commands.specs.Stops.{stop_of_sink, stop_of_words}
+use Rattle.jm_commands.specs.World.{World}
 use Rattle.jm_commands.proofs.Gotten.{front_of_nothing, gets_nothing}
 use Rattle.jm_commands.proofs.Made.{stays_all, stays_part}
 use Rattle.jm_outside.proofs.CountLaws.{rose_sooner}
@@ -35,7 +41,7 @@ from_stop (Err stop) is gives = ap (λ s. Err s) gives
 
 -- nothing was put for want of memory
 pub no_memory : (due : Outcome) (out new_out : Seen (List ℕ)) → new_out.told ≡ out.told → PutDoes due (Err stop.Memory) out new_out
-no_memory due out new_out unput = record { answers = tt; output = front_of_nothing due.output out new_out unput; outside = λ failed. cc }
+no_memory due out new_out unput = record { answers = tt; output = front_of_nothing due.output out new_out unput; outside = λ failed. cc; memory = λ failed. inr unput }
 
 -- nothing was put, and a complaint is all
 pub complained : (due : Outcome) (given : Complaint) (out new_out : Seen (List ℕ)) → due ≡ outcome_of given → new_out.told ≡ out.told → PutDoes due (Err (stop.Complaint given)) out new_out
@@ -43,6 +49,7 @@ complained due given out new_out is unput = record {
   answers = is;
   output = subst (λ (text : List ℕ). Gets text out new_out) (sym (ap (λ o. o.output) is)) (gets_nothing out new_out unput);
   outside = λ failed. cc;
+  memory = λ failed. cc;
 }
 
 -- `cat`
@@ -50,7 +57,13 @@ complained due given out new_out is unput = record {
 -- the content was put
 pub content_put : (found : Option (Row × List ℕ)) (name : List ℕ) (out new_out : Seen (List ℕ)) → true ≡ is_some found → Gets (content_of found) out new_out → PutDoes (cat_outcome name found) (Ok tt) out new_out
 content_put None name out new_out there put = cc
-content_put (Some found) name out new_out there put = record { answers = refl; output = put; outside = λ failed. cc }
+content_put (Some found) name out new_out there put = record { answers = refl; output = put; outside = λ failed. cc; memory = λ failed. cc }
+
+-- the put of the content failed
+pub content_unput : (found : Option (Row × List ℕ)) (name : List ℕ) (error : SinkError) (out new_out : Seen (List ℕ)) → is_some found ≡ true → GetsFront (content_of found) out new_out → (error ≡ sink_error.Failed → Failed out new_out) → (error ≡ sink_error.Memory → new_out.told ≡ out.told) → PutDoes (cat_outcome name found) (Err (stop_of_sink error)) out new_out
+content_unput None name error out new_out there front failed unput = cc
+content_unput (Some found) name sink_error.Failed out new_out there front failed unput = record { answers = refl; output = front; outside = λ same. failed refl; memory = λ same. cc }
+content_unput (Some found) name sink_error.Memory out new_out there front failed unput = record { answers = tt; output = front; outside = λ same. cc; memory = λ same. inr (unput refl) }
 
 -- there is no content to put
 pub nothing_found : (found : Option (Row × List ℕ)) (name : List ℕ) → false ≡ is_some found → cat_outcome name found ≡ not_there (utf name)
@@ -87,53 +100,73 @@ not_begun old new source output = record {
     go (Some put) = refl
 
 -- whatever was due
-pub fails_at_once : (Due : Outcome → Type 0) (early : Writes) (answer : Result (Unit {0}) Stop) (old new : World) → IsFailure answer → Unmoved old new → (answer ≡ Err stop.Outside → AnyRose old new) → StepComesTo Due early answer old new
-fails_at_once Due early answer old new fails unmoved rose = inl (record {
+pub fails_at_once : (Due : Outcome → Type 0) (early : Early) (answer : Result (Unit {0}) Stop) (old new : World) → IsFailure answer → Unmoved old new → (answer ≡ Err stop.Outside → FailedEarly early old new) → StepComesTo Due early answer old new
+fails_at_once Due early answer old new fails unmoved failed = inl (record {
   failed = fails;
-  files = stays_part early old.shelf.told new.shelf.told unmoved.files;
+  files = stays_part early.writes old.shelf.told new.shelf.told unmoved.files;
   source = unmoved.source;
   output = unmoved.output;
-  outside = rose;
+  outside = failed;
 })
 
 -- no memory was found
-pub out_of_memory : (Due : Outcome → Type 0) (early : Writes) (now : World) → StepComesTo Due early (Err stop.Memory) now now
+pub out_of_memory : (Due : Outcome → Type 0) (early : Early) (now : World) → StepComesTo Due early (Err stop.Memory) now now
 out_of_memory Due early now = fails_at_once Due early (Err stop.Memory) now now tt (record { files = refl; source = refl; output = refl }) (λ failed. cc)
 
 -- A put
+
+-- where a put failed, an output was due
+output_failed : (due : Outcome) (old new : World) → due ≡ done due.output → Failed old.out new.out → WorkFailed due.session due.status old new
+output_failed due old new is failed = subst (λ (o : Outcome). WorkFailed o.session o.status old new) (sym is) (inr failed)
 
 -- a put, behind calls that changed no file and read nothing from the source
 module _ (due : Outcome) (old new : World) (files : new.shelf.told ≡ old.shelf.told) (source : new.input.told ≡ old.input.told) (alone : due.session ≡ None) where
   unmade : due.writes ≡ [] → MadeAll due.writes old.shelf.told new.shelf.told
   unmade none = subst (λ (writes : Writes). MadeAll writes old.shelf.told new.shelf.told) (sym none) (stays_all old.shelf.told new.shelf.told files)
 
-  unread : (failed : Type 0) (Ends : Result ℕ ServeError → Type 0) → SourceRead due.session failed Ends old new
-  unread failed Ends = subst (λ (session : Option (List ℕ)). SourceRead session failed Ends old new) (sym alone) source
+  unread : (Ends : Result ℕ ServeError → Type 0) → SourceRead due.session Ends old new
+  unread Ends = subst (λ (session : Option (List ℕ)). SourceRead session Ends old new) (sym alone) source
 
   pub put_step : (answer : Result (Unit {0}) Stop) → PutDoes due answer old.out new.out → StepDoes due answer old new
   put_step (Ok _) put = record {
     answers = (ap (λ o. o.status) put.answers, ap (λ o. o.line) put.answers);
     output = put.output;
     files = unmade (ap (λ o. o.writes) put.answers);
-    source = unread _ _;
+    files_first = inl (unmade (ap (λ o. o.writes) put.answers));
+    source = unread _;
     outside = λ failed. cc;
   }
   put_step (Err (stop.Complaint given)) put = record {
     answers = (ap (λ o. o.status) put.answers, ap (λ o. o.line) put.answers);
     output = put.output;
     files = unmade (ap (λ o. o.writes) put.answers);
-    source = unread _ _;
+    files_first = inl (unmade (ap (λ o. o.writes) put.answers));
+    source = unread _;
     outside = λ failed. cc;
   }
-  put_step (Err stop.Outside) put = record { answers = tt; output = put.output; files = stays_part due.writes old.shelf.told new.shelf.told files; source = unread _ _; outside = λ failed. inr (inr (put.outside failed)) }
-  put_step (Err stop.Memory) put = record { answers = tt; output = put.output; files = stays_part due.writes old.shelf.told new.shelf.told files; source = unread _ _; outside = λ failed. cc }
+  put_step (Err stop.Outside) put = record {
+    answers = tt;
+    output = put.output;
+    files = stays_part due.writes old.shelf.told new.shelf.told files;
+    files_first = inl (unmade (ap (λ o. o.writes) put.answers));
+    source = unread _;
+    outside = λ failed. output_failed due old new put.answers (put.outside failed);
+  }
+  put_step (Err stop.Memory) put = record {
+    answers = tt;
+    output = put.output;
+    files = stays_part due.writes old.shelf.told new.shelf.told files;
+    files_first = elim (put.memory refl) [ | inl is ↦ inl (unmade (ap (λ o. o.writes) is)) | inr unput ↦ inr unput ];
+    source = unread _;
+    outside = λ failed. cc;
+  }
 
 -- a put, which is due
-pub put_comes : (Due : Outcome → Type 0) (early : Writes) (due : Outcome) (answer : Result (Unit {0}) Stop) (old new : World) → Due due → PutDoes due answer old.out new.out → new.shelf.told ≡ old.shelf.told → new.input.told ≡ old.input.told → due.session ≡ None → StepComesTo Due early answer old new
+pub put_comes : (Due : Outcome → Type 0) (early : Early) (due : Outcome) (answer : Result (Unit {0}) Stop) (old new : World) → Due due → PutDoes due answer old.out new.out → new.shelf.told ≡ old.shelf.told → new.input.told ≡ old.input.told → due.session ≡ None → StepComesTo Due early answer old new
 put_comes Due early due answer old new comes put files source alone = inr (due, comes, put_step due old new files source alone answer put)
 
 -- nothing was done, and a complaint is due
-pub complains : (Due : Outcome → Type 0) (early : Writes) (due : Outcome) (given same : Complaint) (old new : World) → Due due → due ≡ outcome_of same → given ≡ same → Unmoved old new → StepComesTo Due early (Err (stop.Complaint given)) old new
+pub complains : (Due : Outcome → Type 0) (early : Early) (due : Outcome) (given same : Complaint) (old new : World) → Due due → due ≡ outcome_of same → given ≡ same → Unmoved old new → StepComesTo Due early (Err (stop.Complaint given)) old new
 complains Due early due given same old new comes is as_given unmoved =
     subst (λ (c : Complaint). StepComesTo Due early (Err (stop.Complaint c)) old new) (sym as_given)
     (put_comes Due early due (Err (stop.Complaint same)) old new comes (complained due same old.out new.out is unmoved.output) unmoved.files unmoved.source (ap (λ o. o.session) is))
@@ -149,11 +182,11 @@ pub put_on_text : (of_text : List ℕ → Outcome) (same : Outcome) (answer : Re
 put_on_text of_text same answer old new put files source alone is = on_any_text of_text same answer old new is (put_step same old new files source alone answer put)
 
 -- the bytes are no image
-pub image_unopened : (Sound : Outcome → Type 0) (b : List ℕ) (given : Stop) (now : World) → Opens {A = List ℕ} b (Err given) → StepComesTo (OpenedComesTo Sound (first_damage b)) [] (Err given) now now
+pub image_unopened : (Sound : Outcome → Type 0) (b : List ℕ) (given : Stop) (now : World) → Opens {A = List ℕ} b (Err given) → StepComesTo (OpenedComesTo Sound (first_damage b)) reading (Err given) now now
 image_unopened Sound b (stop.Complaint given) now (damage, found, is) =
-    complains (OpenedComesTo Sound (first_damage b)) [] (damaged damage) given (complaint.Damaged damage) now now (rw found refl) refl is (record { files = refl; source = refl; output = refl })
+    complains (OpenedComesTo Sound (first_damage b)) reading (damaged damage) given (complaint.Damaged damage) now now (rw found refl) refl is (record { files = refl; source = refl; output = refl })
 image_unopened Sound b stop.Outside now never = absurd never
-image_unopened Sound b stop.Memory now none = out_of_memory (OpenedComesTo Sound (first_damage b)) [] now
+image_unopened Sound b stop.Memory now none = out_of_memory (OpenedComesTo Sound (first_damage b)) reading now
 
 -- A step behind a call of the shelf that changed no file
 
@@ -161,60 +194,87 @@ module _ (shelf : Seen Files) (now new : World) where
   abbrev old : World
   old = record { shelf = shelf; input = now.input; out = now.out }
 
-  pub source_behind : (session : Option (List ℕ)) (failed : Type 0) (Ends : Result ℕ ServeError → Type 0) → SourceRead session failed Ends now new → SourceRead session failed Ends old new
-  source_behind None failed Ends read = read
-  source_behind (Some b) failed Ends (inl (fails, unbegun)) = inl (fails, record { source = unbegun.source; output = unbegun.output })
-  source_behind (Some b) failed Ends (inr held) = inr (record { answered = held.answered; ends = held.ends; reads = held.reads; new_reads = held.new_reads; serves = held.serves })
+  ended_behind : (answered : Result ℕ ServeError) → EndedBy answered now new → EndedBy answered old new
+  ended_behind (Ok n) ended = tt
+  ended_behind (Err serve_error.ReadFault) ended = ended
+  ended_behind (Err serve_error.WriteFault) ended = ended
+  ended_behind (Err (serve_error.LongLine k)) ended = tt
+  ended_behind (Err serve_error.TooManyLines) ended = tt
+  ended_behind (Err serve_error.Memory) ended = tt
 
-  pub rises : shelf.faults ≤ now.shelf.faults → AnyRose now new → AnyRose old new
-  rises up (inl rose) = inl (rose_sooner shelf.faults now.shelf.faults new.shelf.faults up rose)
-  rises up (inr rose) = inr rose
+  pub source_behind : (session : Option (List ℕ)) (Ends : Result ℕ ServeError → Type 0) → SourceRead session Ends now new → SourceRead session Ends old new
+  source_behind None Ends read = read
+  source_behind (Some b) Ends held = record { answered = held.answered; ends = held.ends; ended_by = ended_behind held.answered held.ended_by; reads = held.reads; new_reads = held.new_reads; serves = held.serves }
+
+  module _ (up : shelf.faults ≤ now.shelf.faults) where
+    sooner : Failed now.shelf new.shelf → Failed shelf new.shelf
+    sooner = rose_sooner shelf.faults now.shelf.faults new.shelf.faults up
+
+    pub early_sooner : (early : Early) → FailedEarly early now new → FailedEarly early old new
+    early_sooner early (reads, failed) = (reads, sooner failed)
+
+    pub work_sooner : (session : Option (List ℕ)) (is : Status) → WorkFailed session is now new → WorkFailed session is old new
+    work_sooner (Some b) is failed = failed
+    work_sooner None status.Done (inl failed) = inl (sooner failed)
+    work_sooner None status.Done (inr failed) = inr failed
+    work_sooner None status.Refused failed = sooner failed
+    work_sooner None status.Damaged failed = sooner failed
+    work_sooner None status.NotThere failed = sooner failed
+    work_sooner None status.Words failed = absurd failed
+    work_sooner None status.Session failed = absurd failed
+    work_sooner None status.Outside failed = absurd failed
+    work_sooner None status.Memory failed = absurd failed
+
+  pub first_behind : (writes : Writes) → now.shelf.told ≡ shelf.told → FilesFirst writes now new → FilesFirst writes old new
+  first_behind writes same (inl made) = inl (subst (λ (told : Option Files). MadeAll writes told new.shelf.told) same made)
+  first_behind writes same (inr unput) = inr unput
 
   pub step_behind : (due : Outcome) (answer : Result (Unit {0}) Stop) → now.shelf.told ≡ shelf.told → shelf.faults ≤ now.shelf.faults → StepDoes due answer now new → StepDoes due answer old new
   step_behind due answer same up step = record {
     answers = step.answers;
     output = step.output;
     files = subst (λ (told : Option Files). FilesMade answer due.writes told new.shelf.told) same step.files;
-    source = source_behind due.session _ _ step.source;
-    outside = λ failed. rises up (step.outside failed);
+    files_first = first_behind due.writes same step.files_first;
+    source = source_behind due.session _ step.source;
+    outside = λ failed. work_sooner up due.session due.status (step.outside failed);
   }
 
 -- A step on the file of a path
 
 -- behind the read of the file
-pub file_read : (Bytes : List ℕ → Outcome → Type 0) (path b : List ℕ) (shelf : Seen Files) (now new : World) (answer : Result (Unit {0}) Stop) → ReadsFile shelf.told path (Ok b) → now.shelf.told ≡ shelf.told → shelf.faults ≤ now.shelf.faults → StepComesTo (Bytes b) [] answer now new → StepComesTo (FileComesTo shelf.told path Bytes) [] answer (record { shelf = shelf; input = now.input; out = now.out }) new
+pub file_read : (Bytes : List ℕ → Outcome → Type 0) (path b : List ℕ) (shelf : Seen Files) (now new : World) (answer : Result (Unit {0}) Stop) → ReadsFile shelf.told path (Ok b) → now.shelf.told ≡ shelf.told → shelf.faults ≤ now.shelf.faults → StepComesTo (Bytes b) reading answer now new → StepComesTo (FileComesTo shelf.told path Bytes) reading answer (record { shelf = shelf; input = now.input; out = now.out }) new
 file_read Bytes path b shelf now new answer has same up (inl fails) = inl (record {
   failed = fails.failed;
   files = subst (λ (told : Option Files). MadePart [] told new.shelf.told) same fails.files;
   source = fails.source;
   output = fails.output;
-  outside = λ failed. rises shelf now new up (fails.outside failed);
+  outside = λ failed. early_sooner shelf now new up reading (fails.outside failed);
 })
 file_read Bytes path b shelf now new answer has same up (inr (due, is, step)) =
     inr (due, (Some b, has, is), step_behind shelf now new due answer same up step)
 
 -- the file isn't there, or its read failed
-pub file_unread : (Bytes : List ℕ → Outcome → Type 0) (path : List ℕ) (given : Stop) (old new : World) → ReadsFile old.shelf.told path (Err given) → Unmoved old new → (given ≡ stop.Outside → Rose old.shelf.faults new.shelf.faults) → StepComesTo (FileComesTo old.shelf.told path Bytes) [] (Err given) old new
+pub file_unread : (Bytes : List ℕ → Outcome → Type 0) (path : List ℕ) (given : Stop) (old new : World) → ReadsFile old.shelf.told path (Err given) → Unmoved old new → (given ≡ stop.Outside → Failed old.shelf new.shelf) → StepComesTo (FileComesTo old.shelf.told path Bytes) reading (Err given) old new
 file_unread Bytes path (stop.Complaint given) old new (none, is) unmoved rose =
-    complains (FileComesTo old.shelf.told path Bytes) [] (not_there path) given (complaint.NotThere path) old new (None, none, refl) refl is unmoved
-file_unread Bytes path stop.Outside old new read unmoved rose = fails_at_once (FileComesTo old.shelf.told path Bytes) [] (Err stop.Outside) old new tt unmoved (λ failed. inl (rose refl))
-file_unread Bytes path stop.Memory old new read unmoved rose = fails_at_once (FileComesTo old.shelf.told path Bytes) [] (Err stop.Memory) old new tt unmoved (λ failed. cc)
+    complains (FileComesTo old.shelf.told path Bytes) reading (not_there path) given (complaint.NotThere path) old new (None, none, refl) refl is unmoved
+file_unread Bytes path stop.Outside old new read unmoved rose = fails_at_once (FileComesTo old.shelf.told path Bytes) reading (Err stop.Outside) old new tt unmoved (λ failed. (refl, rose refl))
+file_unread Bytes path stop.Memory old new read unmoved rose = fails_at_once (FileComesTo old.shelf.told path Bytes) reading (Err stop.Memory) old new tt unmoved (λ failed. cc)
 
 -- All words
 
 -- words that were read to a command
-pub words_read : (asked : Result Command WordsError) (given : Command) (answer : Result (Unit {0}) Stop) (old new : World) → UnlessMemory error.Memory (Ok given) asked → StepComesTo (CommandComesTo old.shelf.told old.input.told given) (early_writes given) answer old new → StepComesTo (WordsComeTo old.shelf.told old.input.told asked) (early_of asked) answer old new
+pub words_read : (asked : Result Command WordsError) (given : Command) (answer : Result (Unit {0}) Stop) (old new : World) → UnlessMemory error.Memory (Ok given) asked → StepComesTo (CommandComesTo old.shelf.told old.input.told given) (early_of (task_of given)) answer old new → StepComesTo (WordsComeTo old.shelf.told old.input.told asked) (early_in asked) answer old new
 words_read asked given answer old new (inl memory) step = cc
 words_read asked given answer old new (inr read) step =
-    subst (λ (a : Result Command WordsError). StepComesTo (WordsComeTo old.shelf.told old.input.told a) (early_of a) answer old new) read step
+    subst (λ (a : Result Command WordsError). StepComesTo (WordsComeTo old.shelf.told old.input.told a) (early_in a) answer old new) read step
 
 -- words that weren't read to a command
-pub words_unread : (asked : Result Command WordsError) (fault : WordsError) (now : World) → UnlessMemory error.Memory (Err fault) asked → StepComesTo (WordsComeTo now.shelf.told now.input.told asked) (early_of asked) (Err (stop_of_words fault)) now now
-words_unread asked error.Memory now read = out_of_memory (WordsComeTo now.shelf.told now.input.told asked) (early_of asked) now
+pub words_unread : (asked : Result Command WordsError) (fault : WordsError) (now : World) → UnlessMemory error.Memory (Err fault) asked → StepComesTo (WordsComeTo now.shelf.told now.input.told asked) (early_in asked) (Err (stop_of_words fault)) now now
+words_unread asked error.Memory now read = out_of_memory (WordsComeTo now.shelf.told now.input.told asked) (early_in asked) now
 words_unread asked (error.Fault at kind) now (inl memory) = cc
 words_unread asked (error.Fault at kind) now (inr read) =
-    subst (λ (a : Result Command WordsError). StepComesTo (WordsComeTo now.shelf.told now.input.told a) (early_of a) (Err (stop.Complaint given)) now now) read
-    (complains (λ due. due ≡ faulty (error.Fault at kind)) [] (faulty (error.Fault at kind)) given given now now refl refl refl (record { files = refl; source = refl; output = refl }))
+    subst (λ (a : Result Command WordsError). StepComesTo (WordsComeTo now.shelf.told now.input.told a) (early_in a) (Err (stop.Complaint given)) now now) read
+    (complains (λ due. due ≡ faulty (error.Fault at kind)) without_files (faulty (error.Fault at kind)) given given now now refl refl refl (record { files = refl; source = refl; output = refl }))
   where
     given : Complaint
     given = complaint.Words (error.Fault at kind)

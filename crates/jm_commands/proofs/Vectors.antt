@@ -1,16 +1,23 @@
 -- What commands come to on small images, computed from the definitions.
-use Rattle.std.proofs.Common.{◌≡◌, ℕ, List, [], ◌∷◌, ◌++◌, take, map, Option, Some, None, option_map, refl}
+use Rattle.std.proofs.Common.{◌≡◌, ◌⊎◌, inl, inr, ℕ, List, [], ◌∷◌, ◌++◌, take, map, Option, Some, None, option_map, Result, Ok, Err, refl}
 use Rattle.std.specs.Prelude.{codes}
 use Rattle.std.specs.Fmt.{digits}
 use Rattle.jm_form.proofs.Vectors.{no_entries, overlapping, tiny}
 use Rattle.jm_jrt.proofs.Vectors.{bad_node}
+use Rattle.jm_jrt.specs.declared.serve_error.ServeError.{ServeError}
+use Rattle.jm_jrt.specs.declared.serve_error.ServeError.TheVariants as serve_error
 use Rattle.jm_words.specs.declared.commands.Command.TheVariants as command
+use Rattle.jm_commands.specs.declared.complaint.Complaint.TheVariants as complaint
 use Rattle.jm_commands.specs.declared.status.Status.TheVariants as status
 use Rattle.jm_commands.specs.declared.image_file.ImageTask.TheVariants as image_task
+use Rattle.jm_commands.specs.FailedBefore.{FailedBefore, FailedEarly}
 use Rattle.jm_commands.specs.Gen.{gen_request}
 use Rattle.jm_commands.specs.HelpText.{version_text}
-use Rattle.jm_commands.specs.Outcome.{done, early_writes, gen_of, image_outcome, refused, task_of}
+use Rattle.jm_commands.specs.Outcome.{done, early_in, early_of, gen_of, image_outcome, refused, session_with, task_of}
 use Rattle.jm_commands.specs.Run.{CommandComesTo}
+use Rattle.jm_commands.specs.SessionHeld.{EndedBy, EndsAs, EndsBroken, Held}
+use Rattle.jm_commands.specs.Sinks.{Failed, Seen}
+use Rattle.jm_commands.specs.World.{World}
 use Rattle.jm_outside.specs.Files.{Files}
 use Rattle.jm_outside.specs.Made.{written}
 
@@ -88,11 +95,52 @@ version = refl
 same_path_twice : written ((codes "a", codes "1") ∷ []) ((codes "b", codes "2") ∷ (codes "a", codes "3") ∷ []) ≡ (codes "a", codes "3") ∷ (codes "b", codes "2") ∷ []
 same_path_twice = refl
 
-first_paths : map (λ write. write.0) (early_writes (command.Gen (codes "d") 1 1 0 2)) ≡ codes "d/mods/m000/module-info.class" ∷ codes "d/mods/m000/m000/p0/C0000.class" ∷ []
+first_paths : map (λ write. write.0) (early_of (task_of (command.Gen (codes "d") 1 1 0 2))).writes ≡ codes "d/mods/m000/module-info.class" ∷ codes "d/mods/m000/m000/p0/C0000.class" ∷ []
 first_paths = refl
 
-no_first_paths : early_writes (command.Verify (codes "img") 2) ≡ []
+no_first_paths : (early_of (task_of (command.Verify (codes "img") 2))).writes ≡ []
 no_first_paths = refl
 
 all_roots : option_map (λ gen. (gen_request gen).roots) (gen_of (task_of (command.Gen (codes "d") 3 1 0 2))) ≡ Some (codes "m000" ∷ codes "m001" ∷ codes "m002" ∷ [])
 all_roots = refl
+
+-- What failed in place of what was due
+
+module _ (old new : World) (err new_err : Seen (List ℕ)) where
+  for_words : FailedBefore (refused status.Words (codes "words: NoCommand at 0")) old new err new_err → Failed err new_err
+  for_words (inl never) = absurd never
+  for_words (inr line) = line
+
+  for_damage : FailedBefore (refused status.Damaged (codes "damaged: BadNode 0")) old new err new_err → Failed old.shelf new.shelf ⊎ Failed err new_err
+  for_damage failed = failed
+
+  for_output : FailedBefore (done (codes "hi")) old new err new_err → Failed old.shelf new.shelf ⊎ Failed old.out new.out
+  for_output (inl work) = work
+  for_output (inr never) = absurd never
+
+  for_session : (b output : List ℕ) → FailedBefore (session_with b output None) old new err new_err → Failed old.input new.input ⊎ Failed old.out new.out
+  for_session b output (inl work) = work
+  for_session b output (inr never) = absurd never
+
+  for_broken_session : (b output : List ℕ) → FailedBefore (session_with b output (Some complaint.TooManyLines)) old new err new_err → (Failed old.input new.input ⊎ Failed old.out new.out) ⊎ Failed err new_err
+  for_broken_session b output failed = failed
+
+  no_file_read : FailedEarly (early_in (Ok (command.Help 1))) old new → ⊥
+  no_file_read (reads, failed) = cc
+
+  -- a session that a run ends with 6 ended by the object whose count rose
+  session_failed : (b : List ℕ) → Held b (EndsAs status.Outside err new_err) old new → Failed old.input new.input ⊎ (Failed old.out new.out ⊎ Failed err new_err)
+  session_failed b held = go held.answered held.ends held.ended_by
+    where
+      broken : EndsBroken status.Outside err new_err → Failed err new_err
+      broken (inl same) = cc
+      broken (inr (inl (same, failed))) = failed
+      broken (inr (inr same)) = cc
+
+      go : (answered : Result ℕ ServeError) → EndsAs status.Outside err new_err answered → EndedBy answered old new → Failed old.input new.input ⊎ (Failed old.out new.out ⊎ Failed err new_err)
+      go (Ok n) ends ended_by = cc
+      go (Err serve_error.ReadFault) ends ended_by = inl ended_by
+      go (Err serve_error.WriteFault) ends ended_by = inr (inl ended_by)
+      go (Err (serve_error.LongLine k)) ends ended_by = inr (inr (broken ends))
+      go (Err serve_error.TooManyLines) ends ended_by = inr (inr (broken ends))
+      go (Err serve_error.Memory) ends ended_by = cc

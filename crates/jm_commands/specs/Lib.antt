@@ -1,5 +1,6 @@
 pub mod Cat
 pub mod ExtractText
+pub mod FailedBefore
 pub mod Gen
 pub mod HelpText
 pub mod LinkText

@@ -1,6 +1,8 @@
--- What a command comes to: plain data, a function of its task, of the file that it names and of the
--- text of the source (this project's rule).
+-- What words come to: plain data. Of a command on one file it is a function of its task, of that
+-- file's bytes and of the text of the source; of a link, which reads many files, one of its image or
+-- its refusal (this project's rule).
 use Rattle.std.specs.Prelude.{ℕ, ◌+◌, nat_lt, List, [], ◌∷◌, ◌++◌, length, codes}
+use Rattle.std.specs.Prelude.{Bool, true, false}
 use Rattle.std.specs.Prelude.{Option, Some, None, Result, Ok, Err, if◌then◌else◌, IsUtf8}
 use Rattle.std.specs.Fmt.{decimal}
 use Rattle.jm_form.specs.declared.damage.Damage.{Damage}
@@ -306,16 +308,30 @@ abbrev pub gen_of : Task → Option Gen
 gen_of (Makes gen) = Some gen
 gen_of _ = None
 
--- the files that a task makes before it is known what it comes to; all but a `gen` make none
-abbrev pub first_writes : Task → Writes
-first_writes (Makes gen) = made_first gen
-first_writes _ = []
+-- What is done with files before it is known what is due
 
--- the files that a command makes before it is known what it comes to
-abbrev pub early_writes : Command → Writes
-early_writes command = first_writes (task_of command)
+-- what is done with files before it is known what is due: which are made, and whether any are read
+pub record Early : Type 0 where
+  pub writes : Writes
+  pub reads : Bool
 
--- the files that all words make before it is known what they come to
-abbrev pub early_of : Result Command WordsError → Writes
-early_of (Ok command) = early_writes command
-early_of (Err fault) = []
+-- files are read, and none is made
+abbrev pub reading : Early
+reading = record { writes = []; reads = true }
+
+-- no file is read, and none is made
+abbrev pub without_files : Early
+without_files = record { writes = []; reads = false }
+
+-- what a task does with files before it is known what it comes to
+abbrev pub early_of : Task → Early
+early_of (Puts text) = without_files
+early_of (Describes path) = reading
+early_of (OnImage path task) = reading
+early_of (Links link) = reading
+early_of (Makes gen) = record { writes = made_first gen; reads = true }
+
+-- what is done of all words with files before it is known what they come to
+abbrev pub early_in : Result Command WordsError → Early
+early_in (Ok command) = early_of (task_of command)
+early_in (Err fault) = without_files

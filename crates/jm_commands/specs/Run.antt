@@ -10,7 +10,7 @@ use Rattle.jm_link.specs.Linked.{LinkedImage}
 use Rattle.jm_link.specs.ImageLinked.{ImageComesTo}
 use Rattle.jm_link.specs.Links.{ComesTo}
 use Rattle.jm_outside.specs.Files.{Files, file}
-use Rattle.jm_outside.specs.Outcome.{Rose, Shows}
+use Rattle.jm_outside.specs.Outcome.{Shows}
 use Rattle.jm_words.specs.declared.commands.Command.{Command}
 use Rattle.jm_words.specs.declared.errors.WordsError.{WordsError}
 use Rattle.jm_commands.specs.declared.complaint.Complaint.{Complaint}
@@ -19,15 +19,16 @@ use Rattle.jm_commands.specs.declared.status.Status.{Status}
 use Rattle.jm_commands.specs.declared.status.Status.TheVariants as status
 use Rattle.jm_commands.specs.declared.stop.Stop.{Stop}
 use Rattle.jm_commands.specs.declared.stop.Stop.TheVariants as stop
+use Rattle.jm_commands.specs.FailedBefore.{FailedBefore, FailedEarly, WorkFailed}
 use Rattle.jm_commands.specs.Gen.{Gen, made_first}
-use Rattle.jm_commands.specs.Outcome.{Link, Outcome, behind, damaged, describe_outcome, done}
-use Rattle.jm_commands.specs.Outcome.{faulty, gen_link, image_outcome, link_outcome, not_there}
-use Rattle.jm_commands.specs.Outcome.{refused, task_of}
+use Rattle.jm_commands.specs.Outcome.{Early, Link, Outcome, behind, damaged, describe_outcome}
+use Rattle.jm_commands.specs.Outcome.{done, faulty, gen_link, image_outcome, link_outcome}
+use Rattle.jm_commands.specs.Outcome.{not_there, reading, refused, task_of}
 use Rattle.jm_commands.specs.Outcome.{Task, Puts, Describes, OnImage, Links, Makes}
 use Rattle.jm_commands.specs.SessionHeld.{EndsAs, SourceRead, StopsAs}
-use Rattle.jm_commands.specs.Sinks.{Seen, Gets, GetsFront}
+use Rattle.jm_commands.specs.Sinks.{Seen, Failed, Gets, GetsFront}
 use Rattle.jm_commands.specs.Texts.{complaint_text, line_of}
-use Rattle.jm_commands.specs.World.{AnyRose, World}
+use Rattle.jm_commands.specs.World.{World}
 
 -- What the words come to
 
@@ -179,27 +180,33 @@ IsFailure (Err (stop.Complaint complaint)) = ⊥
 IsFailure (Err stop.Outside) = Unit {0}
 IsFailure (Err stop.Memory) = Unit {0}
 
+-- the output is put behind all files: they stand whole, or nothing was put
+abbrev pub FilesFirst : Writes → World → World → Type 0
+FilesFirst writes old new =
+    MadeAll writes old.shelf.told new.shelf.told ⊎ (new.out.told ≡ old.out.told)
+
 -- what any step does, where this is what the command comes to
 pub record StepDoes (due : Outcome) (answer : Result (Unit {0}) Stop) (old new : World)
     : Type 0 where
   pub answers : Answers due answer
   pub output : Outputs answer due.output old.out new.out
   pub files : FilesMade answer due.writes old.shelf.told new.shelf.told
-  pub source : SourceRead due.session (IsFailure answer) (StopsAs answer) old new
-  pub outside : answer ≡ Err stop.Outside → AnyRose old new
+  pub files_first : FilesFirst due.writes old new
+  pub source : SourceRead due.session (StopsAs answer) old new
+  pub outside : answer ≡ Err stop.Outside → WorkFailed due.session due.status old new
 
 -- a step failed before it was known what the command comes to: with nothing put and nothing read
 -- from the source, and of these files some made
-pub record FailsAtOnce (early : Writes) (answer : Result (Unit {0}) Stop) (old new : World)
+pub record FailsAtOnce (early : Early) (answer : Result (Unit {0}) Stop) (old new : World)
     : Type 0 where
   pub failed : IsFailure answer
-  pub files : MadePart early old.shelf.told new.shelf.told
+  pub files : MadePart early.writes old.shelf.told new.shelf.told
   pub source : new.input.told ≡ old.input.told
   pub output : new.out.told ≡ old.out.told
-  pub outside : answer ≡ Err stop.Outside → AnyRose old new
+  pub outside : answer ≡ Err stop.Outside → FailedEarly early old new
 
 -- a step does what is due, or fails at once, whatever would have been due
-abbrev pub StepComesTo : (Outcome → Type 0) → Writes → Result (Unit {0}) Stop → World → World
+abbrev pub StepComesTo : (Outcome → Type 0) → Early → Result (Unit {0}) Stop → World → World
     → Type 0
 StepComesTo Due early answer old new =
     FailsAtOnce early answer old new ⊎ ((due : Outcome) × Due due × StepDoes due answer old new)
@@ -207,32 +214,35 @@ StepComesTo Due early answer old new =
 -- a step does what is due for the text of the source
 abbrev pub StepOnText : (List ℕ → Outcome) → Result (Unit {0}) Stop → World → World → Type 0
 StepOnText of_text answer old new =
-    StepComesTo (TextComesTo old.input.told of_text) [] answer old new
+    StepComesTo (TextComesTo old.input.told of_text) reading answer old new
 
 -- what a complaint comes to by itself
 abbrev pub outcome_of : Complaint → Outcome
 outcome_of complaint = refused (status_of complaint) (complaint_text complaint)
 
--- the answer of a command that makes no file is the whole outcome
+-- the answer of a command that makes no file is the whole outcome; the outside fails only where an
+-- output is due
 abbrev pub AnswersAll : Outcome → Result (Unit {0}) Stop → Type 0
 AnswersAll due (Ok _) = due ≡ done due.output
 AnswersAll due (Err (stop.Complaint complaint)) = due ≡ outcome_of complaint
-AnswersAll due (Err stop.Outside) = Unit {0}
+AnswersAll due (Err stop.Outside) = due ≡ done due.output
 AnswersAll due (Err stop.Memory) = Unit {0}
 
--- what a step does that only puts to the output
+-- what a step does that only puts to the output; memory may run out behind a part of an output that
+-- is due
 pub record PutDoes (due : Outcome) (answer : Result (Unit {0}) Stop)
     (out new_out : Seen (List ℕ)) : Type 0 where
   pub answers : AnswersAll due answer
   pub output : Outputs answer due.output out new_out
-  pub outside : answer ≡ Err stop.Outside → Rose out.faults new_out.faults
+  pub outside : answer ≡ Err stop.Outside → Failed out new_out
+  pub memory : answer ≡ Err stop.Memory → (due ≡ done due.output) ⊎ (new_out.told ≡ out.told)
 
 -- A run
 
 -- the report of a complaint: its line with its status, and else a front of it
 abbrev pub ReportDoes : Complaint → Status → Seen (List ℕ) → Seen (List ℕ) → Type 0
 ReportDoes complaint status.Outside err new_err =
-    GetsFront (line_of complaint) err new_err × Rose err.faults new_err.faults
+    GetsFront (line_of complaint) err new_err × Failed err new_err
 ReportDoes complaint status.Memory err new_err = GetsFront (line_of complaint) err new_err
 ReportDoes complaint is err new_err =
     (is ≡ status_of complaint) × Gets (line_of complaint) err new_err
@@ -251,21 +261,18 @@ pub record DoesAll (due : Outcome) (old new : World) (err new_err : Seen (List �
   pub line : Gets due.line err new_err
   pub files : MadeAll due.writes old.shelf.told new.shelf.told
 
--- a front of all was done
+-- a front of all was done: some files, or all of them and a front of the output
 pub record DoesFront (due : Outcome) (old new : World) (err new_err : Seen (List ℕ)) : Type 0 where
   pub output : GetsFront due.output old.out new.out
   pub line : GetsFront due.line err new_err
   pub files : MadePart due.writes old.shelf.told new.shelf.told
+  pub files_first : FilesFirst due.writes old new
 
--- a count rose, that of the error sink too
-abbrev pub RunRose : World → World → Seen (List ℕ) → Seen (List ℕ) → Type 0
-RunRose old new err new_err = AnyRose old new ⊎ Rose err.faults new_err.faults
-
--- with the outcome's status all was done; else the status is `Outside`, and a count rose, or
--- `Memory`, and a front was done
+-- with the outcome's status all was done; else a front was done, and the status is `Outside`, where
+-- an object failed that the work reaches no later, or `Memory`
 abbrev pub EndsWith : Outcome → Status → World → World → Seen (List ℕ) → Seen (List ℕ) → Type 0
 EndsWith due status.Outside old new err new_err =
-    DoesFront due old new err new_err × RunRose old new err new_err
+    DoesFront due old new err new_err × FailedBefore due old new err new_err
 EndsWith due status.Memory old new err new_err = DoesFront due old new err new_err
 EndsWith due is old new err new_err = (is ≡ due.status) × DoesAll due old new err new_err
 
@@ -277,21 +284,21 @@ IsFailed is = (is ≡ status.Outside) ⊎ (is ≡ status.Memory)
 pub record RunDoes (due : Outcome) (is : Status) (old new : World) (err new_err : Seen (List ℕ))
     : Type 0 where
   pub ends : EndsWith due is old new err new_err
-  pub source : SourceRead due.session (IsFailed is) (EndsAs is) old new
+  pub source : SourceRead due.session (EndsAs is err new_err) old new
 
 -- a run failed before it was known what the words come to: with nothing put and nothing read from
 -- the source, and of these files some made
-pub record RunStops (early : Writes) (is : Status) (old new : World) (err new_err : Seen (List ℕ))
+pub record RunStops (early : Early) (is : Status) (old new : World) (err new_err : Seen (List ℕ))
     : Type 0 where
   pub failed : IsFailed is
-  pub files : MadePart early old.shelf.told new.shelf.told
+  pub files : MadePart early.writes old.shelf.told new.shelf.told
   pub source : new.input.told ≡ old.input.told
   pub output : new.out.told ≡ old.out.told
   pub line : new_err.told ≡ err.told
-  pub outside : is ≡ status.Outside → RunRose old new err new_err
+  pub outside : is ≡ status.Outside → FailedEarly early old new
 
 -- a run does what is due, or fails at once, whatever would have been due
-abbrev pub RunComesTo : (Outcome → Type 0) → Writes → Status → World → World
+abbrev pub RunComesTo : (Outcome → Type 0) → Early → Status → World → World
     → Seen (List ℕ) → Seen (List ℕ) → Type 0
 RunComesTo Due early is old new err new_err =
     RunStops early is old new err new_err

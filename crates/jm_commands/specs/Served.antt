@@ -8,6 +8,7 @@ use Rattle.jm_commands.specs.declared.status.Status.{Status}
 use Rattle.jm_commands.specs.Outcome.{Task, OnImage, task_of}
 use Rattle.jm_commands.specs.Run.{HasFile}
 use Rattle.jm_commands.specs.SessionHeld.{EndsAs, Held, NotBegun}
+use Rattle.jm_commands.specs.Sinks.{Seen}
 use Rattle.jm_commands.specs.World.{World}
 
 -- the image of a `serve`, if a task is one
@@ -22,9 +23,10 @@ served_in (Err fault) = None
 
 -- a `serve` of an image: no session began, or its file has no damage, and a session over its bytes
 -- was held that ended with this status; all else leaves the source alone
-abbrev pub ServesRun : Option (List ℕ) → Status → World → World → Type 0
-ServesRun None is old new = new.input.told ≡ old.input.told
-ServesRun (Some image) is old new =
+abbrev pub ServesRun : Option (List ℕ) → Status → World → World → Seen (List ℕ) → Seen (List ℕ)
+    → Type 0
+ServesRun None is old new err new_err = new.input.told ≡ old.input.told
+ServesRun (Some image) is old new err new_err =
     NotBegun old new
     ⊎ ((b : List ℕ) × HasFile old.shelf.told image (Some b)
-    × (first_damage b ≡ None) × Held b (EndsAs is) old new)
+    × (first_damage b ≡ None) × Held b (EndsAs is err new_err) old new)

@@ -11,6 +11,7 @@ use Rattle.jm_outside.specs.Outcome.{Told}
 use Rattle.jm_commands.specs.declared.status.Status.{Status}
 use Rattle.jm_commands.specs.declared.status.Status.TheVariants as status
 use Rattle.jm_commands.specs.declared.stop.Stop.{Stop}
+use Rattle.jm_commands.specs.Sinks.{Failed, Seen}
 use Rattle.jm_commands.specs.Stops.{stop_of_session}
 use Rattle.jm_commands.specs.World.{World}
 
@@ -18,18 +19,30 @@ use Rattle.jm_commands.specs.World.{World}
 abbrev pub StopsAs : Result (Unit {0}) Stop → Result ℕ ServeError → Type 0
 StopsAs answer answered = answer ≡ stop_of_session answered
 
--- the status of a session that broke its limits; its line may fail to be put
-abbrev pub EndsBroken : Status → Type 0
-EndsBroken is = (is ≡ status.Session) ⊎ ((is ≡ status.Outside) ⊎ (is ≡ status.Memory))
+-- the status of a session that broke its limits; its line may fail to be put, by the error sink or
+-- for want of memory
+abbrev pub EndsBroken : Status → Seen (List ℕ) → Seen (List ℕ) → Type 0
+EndsBroken is err new_err =
+    (is ≡ status.Session)
+    ⊎ (((is ≡ status.Outside) × Failed err new_err) ⊎ (is ≡ status.Memory))
 
 -- the status of the run of a session
-abbrev pub EndsAs : Status → Result ℕ ServeError → Type 0
-EndsAs is (Ok n) = is ≡ status.Done
-EndsAs is (Err ReadFault) = is ≡ status.Outside
-EndsAs is (Err WriteFault) = is ≡ status.Outside
-EndsAs is (Err (LongLine k)) = EndsBroken is
-EndsAs is (Err TooManyLines) = EndsBroken is
-EndsAs is (Err Memory) = is ≡ status.Memory
+abbrev pub EndsAs : Status → Seen (List ℕ) → Seen (List ℕ) → Result ℕ ServeError → Type 0
+EndsAs is err new_err (Ok n) = is ≡ status.Done
+EndsAs is err new_err (Err ReadFault) = is ≡ status.Outside
+EndsAs is err new_err (Err WriteFault) = is ≡ status.Outside
+EndsAs is err new_err (Err (LongLine k)) = EndsBroken is err new_err
+EndsAs is err new_err (Err TooManyLines) = EndsBroken is err new_err
+EndsAs is err new_err (Err Memory) = is ≡ status.Memory
+
+-- a session that ended by a fault of the source or of the output did so because that one failed
+abbrev pub EndedBy : Result ℕ ServeError → World → World → Type 0
+EndedBy (Err ReadFault) old new = Failed old.input new.input
+EndedBy (Err WriteFault) old new = Failed old.out new.out
+EndedBy (Ok n) old new = Unit {0}
+EndedBy (Err (LongLine k)) old new = Unit {0}
+EndedBy (Err TooManyLines) old new = Unit {0}
+EndedBy (Err Memory) old new = Unit {0}
 
 -- no session began: nothing was read from the source, and nothing was put
 pub record NotBegun (old new : World) : Type 0 where
@@ -41,14 +54,13 @@ pub record Held (b : List ℕ) (Ends : Result ℕ ServeError → Type 0) (old ne
     : Type 0 where
   pub answered : Result ℕ ServeError
   pub ends : Ends answered
+  pub ended_by : EndedBy answered old new
   pub reads : Metered
   pub new_reads : Metered
   pub serves : Serves b answered old.input.told new.input.told old.out.told new.out.told
       reads new_reads
 
--- what was read from the source: nothing, but by a session over these bytes, if one is due; it may
--- fail to begin
-abbrev pub SourceRead : Option (List ℕ) → Type 0 → (Result ℕ ServeError → Type 0) → World → World
-    → Type 0
-SourceRead None failed Ends old new = new.input.told ≡ old.input.told
-SourceRead (Some b) failed Ends old new = (failed × NotBegun old new) ⊎ Held b Ends old new
+-- what was read from the source: nothing, but by a session over these bytes, if one is due
+abbrev pub SourceRead : Option (List ℕ) → (Result ℕ ServeError → Type 0) → World → World → Type 0
+SourceRead None Ends old new = new.input.told ≡ old.input.told
+SourceRead (Some b) Ends old new = Held b Ends old new

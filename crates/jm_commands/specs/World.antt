@@ -1,7 +1,6 @@
 -- The shelf, the source and the output as the proofs see them (this project's rule).
-use Rattle.std.specs.Prelude.{ℕ, ◌⊎◌, List}
+use Rattle.std.specs.Prelude.{ℕ, List}
 use Rattle.jm_outside.specs.Files.{Files}
-use Rattle.jm_outside.specs.Outcome.{Rose}
 use Rattle.jm_outside.specs.declared.shelf.Shelf.{Ghosts as ShelfGhosts}
 use Rattle.jm_outside.specs.declared.streams.Sink.{Ghosts as SinkGhosts}
 use Rattle.jm_outside.specs.declared.streams.Source.{Ghosts as SourceGhosts}
@@ -34,9 +33,3 @@ abbrev pub world_of : {S I O : Type 0} → ShelfGhosts S → SourceGhosts I → 
     → World
 world_of as_shelf as_source as_sink shelf input out =
     world (shelf_at as_shelf shelf) (source_at as_source input) (sink_at as_sink out)
-
--- a count of one of them rose
-abbrev pub AnyRose : World → World → Type 0
-AnyRose old new =
-    (Rose old.shelf.faults new.shelf.faults)
-    ⊎ ((Rose old.input.faults new.input.faults) ⊎ (Rose old.out.faults new.out.faults))

@@ -1,8 +1,8 @@
-ghost use Rattle.std.specs.Prelude.{◌≡◌, [], IsUtf8, List, ℕ};
+ghost use Rattle.std.specs.Prelude.{◌≡◌, IsUtf8, List, ℕ};
 ghost use Rattle.jm_class.specs.Views.{plain};
 ghost use Rattle.jm_class.specs.Classes.{IsClass};
 ghost use Rattle.jm_modinfo.specs.ComputedInfo.{info_of};
-ghost use Rattle.jm_commands.specs.Outcome.{describe_outcome, descriptor_outcome};
+ghost use Rattle.jm_commands.specs.Outcome.{describe_outcome, descriptor_outcome, reading};
 ghost use Rattle.jm_commands.specs.Run.{FileComesTo, PutDoes, StepComesTo};
 ghost use Rattle.jm_commands.specs.Sinks.{Seen};
 ghost use Rattle.jm_commands.specs.Stops.{Refuses};
@@ -78,7 +78,7 @@ pub fn describe_command<S: Shelf, O: Sink>(
     requires { IsUtf8 path.now }
     ensures { (source : Seen (List ℕ)) →
         StepComesTo (FileComesTo (S.files shelf.old) path.now
-        (λ b due. due ≡ describe_outcome path.now b)) [] result
+        (λ b due. due ≡ describe_outcome path.now b)) reading result
         (world (shelf_at S.Shelf shelf.old) source (sink_at O.Sink out.old))
         (world (shelf_at S.Shelf shelf.new) source (sink_at O.Sink out.new)) }
 {

@@ -5,7 +5,7 @@ ghost use Rattle.jm_link.specs.Links.{Links};
 ghost use Rattle.jm_words.specs.Paths.{FilePathsAreText, NumbersFit};
 ghost use Rattle.jm_commands.specs.Gen.{generated_request};
 ghost use Rattle.jm_commands.specs.LinkText.{gen_text};
-ghost use Rattle.jm_commands.specs.Outcome.{done, early_writes, gen_of, task_of};
+ghost use Rattle.jm_commands.specs.Outcome.{done, early_of, gen_of, task_of};
 ghost use Rattle.jm_commands.specs.Run.{CommandComesTo, PutDoes, StepComesTo};
 ghost use Rattle.jm_commands.specs.Sinks.{Seen};
 ghost use Rattle.jm_commands.specs.World.{shelf_at, sink_at, world};
@@ -109,7 +109,7 @@ pub fn gen_command<T: Threads + Sync, S: Shelf, O: Sink, G: Gate + Sync>(
     requires numbers { NumbersFit command }
     ensures { (source : Seen (List ℕ)) →
         StepComesTo (CommandComesTo (S.files shelf.old) source.told command)
-        (early_writes command) result
+        (early_of (task_of command)) result
         (world (shelf_at S.Shelf shelf.old) source (sink_at O.Sink out.old))
         (world (shelf_at S.Shelf shelf.new) source (sink_at O.Sink out.new)) }
 {

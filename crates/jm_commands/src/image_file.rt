@@ -1,8 +1,8 @@
-ghost use Rattle.std.specs.Prelude.{◌≡◌, ◌<◌, [], IfOk, IsErrOf, IsUtf8};
+ghost use Rattle.std.specs.Prelude.{◌≡◌, ◌<◌, IfOk, IsErrOf, IsUtf8};
 ghost use Rattle.jm_form.specs.Validity.{look};
 ghost use Rattle.jm_outside.specs.Outcome.{CountsFaults};
 ghost use Rattle.jm_commands.specs.Cat.{CatDoes};
-ghost use Rattle.jm_commands.specs.Outcome.{FolderIsText, cat_outcome, image_outcome};
+ghost use Rattle.jm_commands.specs.Outcome.{FolderIsText, cat_outcome, image_outcome, reading};
 ghost use Rattle.jm_commands.specs.Run.{ImageComes, Opens, PutDoes, ReadsFile, StepComesTo};
 ghost use Rattle.jm_commands.specs.Run.{StepOnText, TextComesTo};
 ghost use Rattle.jm_commands.specs.World.{sink_at, world_of};
@@ -172,7 +172,7 @@ pub fn on_image<T: Threads + Sync, S: Shelf, I: Source, O: Sink, G: Gate + Sync>
     requires path { IsUtf8 path.now }
     requires text { FolderIsText task.now }
     ensures { StepComesTo (ImageComes (S.files shelf.old) path.now
-        (λ b. TextComesTo (I.rest input.old) (image_outcome task.now b))) [] result
+        (λ b. TextComesTo (I.rest input.old) (image_outcome task.now b))) reading result
         (world_of S.Shelf I.Source O.Sink shelf.old input.old out.old)
         (world_of S.Shelf I.Source O.Sink shelf.new input.new out.new) }
 {

@@ -1,11 +1,12 @@
 //! The command `link`.
-ghost use Rattle.std.specs.Prelude.{◌≡◌, ◌<◌, ℕ, [], All, IfOk, IsSome, IsUtf8, List};
+ghost use Rattle.std.specs.Prelude.{◌≡◌, ◌<◌, ℕ, All, IfOk, IsSome, IsUtf8, List};
 ghost use Rattle.std.specs.Prelude.{string_bytes};
 ghost use Rattle.jm_link.specs.ImageLinked.{ImageLinks};
 ghost use Rattle.jm_link.specs.Links.{request_of};
 ghost use Rattle.jm_words.specs.Paths.{FilePathsAreText};
 ghost use Rattle.jm_commands.specs.LinkText.{link_text};
-ghost use Rattle.jm_commands.specs.Outcome.{done, early_writes, link_from, link_of, task_of};
+ghost use Rattle.jm_commands.specs.Outcome.{done, early_of, link_from, link_of, reading};
+ghost use Rattle.jm_commands.specs.Outcome.{task_of};
 ghost use Rattle.jm_commands.specs.Run.{CommandComesTo, ImageComes, ImageLinkComesTo};
 ghost use Rattle.jm_commands.specs.Run.{PathLinkComesTo, PutDoes, StepComesTo};
 ghost use Rattle.jm_commands.specs.Sinks.{Seen};
@@ -69,7 +70,7 @@ fn link_from_path<T: Threads + Sync, S: Shelf, O: Sink, G: Gate + Sync>(
     requires directories { All IsUtf8 words.now.directories.now }
     requires output { IsUtf8 words.now.asked.output.now }
     ensures { (source : Seen (List ℕ)) →
-        StepComesTo (PathLinkComesTo (S.files shelf.old) (link_from words.now)) [] result
+        StepComesTo (PathLinkComesTo (S.files shelf.old) (link_from words.now)) reading result
         (world (shelf_at S.Shelf shelf.old) source (sink_at O.Sink out.old))
         (world (shelf_at S.Shelf shelf.new) source (sink_at O.Sink out.new)) }
 {
@@ -129,7 +130,7 @@ fn link_opened<T: Threads + Sync, S: Shelf, O: Sink, G: Gate + Sync>(
     requires bytes { image.now ≡ bytes.now }
     requires output { IsUtf8 words.now.asked.output.now }
     ensures { (source : Seen (List ℕ)) →
-        StepComesTo (ImageLinkComesTo (link_from words.now) bytes.now) [] result
+        StepComesTo (ImageLinkComesTo (link_from words.now) bytes.now) reading result
         (world (shelf_at S.Shelf shelf.old) source (sink_at O.Sink out.old))
         (world (shelf_at S.Shelf shelf.new) source (sink_at O.Sink out.new)) }
 {
@@ -159,7 +160,7 @@ fn link_from_image<T: Threads + Sync, S: Shelf, O: Sink, G: Gate + Sync>(
     requires output { IsUtf8 words.now.asked.output.now }
     ensures { (source : Seen (List ℕ)) →
         StepComesTo (ImageComes (S.files shelf.old) path.now
-        (ImageLinkComesTo (link_from words.now))) [] result
+        (ImageLinkComesTo (link_from words.now))) reading result
         (world (shelf_at S.Shelf shelf.old) source (sink_at O.Sink out.old))
         (world (shelf_at S.Shelf shelf.new) source (sink_at O.Sink out.new)) }
 {
@@ -188,7 +189,7 @@ pub fn link_command<T: Threads + Sync, S: Shelf, O: Sink, G: Gate + Sync>(
     requires paths { FilePathsAreText command }
     ensures { (source : Seen (List ℕ)) →
         StepComesTo (CommandComesTo (S.files shelf.old) source.told command)
-        (early_writes command) result
+        (early_of (task_of command)) result
         (world (shelf_at S.Shelf shelf.old) source (sink_at O.Sink out.old))
         (world (shelf_at S.Shelf shelf.new) source (sink_at O.Sink out.new)) }
 {

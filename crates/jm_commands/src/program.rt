@@ -2,7 +2,7 @@ ghost use Rattle.std.specs.Prelude.{◌≡◌, ◌<◌, List};
 ghost use Rattle.std.specs.Prelude.{map, string_bytes};
 ghost use Rattle.jm_words.specs.Commands.{command_in};
 ghost use Rattle.jm_words.specs.Paths.{FilePathsAreText, NumbersFit};
-ghost use Rattle.jm_commands.specs.Outcome.{early_of, early_writes};
+ghost use Rattle.jm_commands.specs.Outcome.{early_in, early_of, task_of};
 ghost use Rattle.jm_commands.specs.Run.{CommandComesTo, EndsStep, ReportDoes, RunComesTo};
 ghost use Rattle.jm_commands.specs.Run.{StepComesTo, WordsComeTo};
 ghost use Rattle.jm_commands.specs.RelinkedRun.{RelinksRun, link_in};
@@ -65,7 +65,7 @@ fn do_command<T: Threads + Sync, S: Shelf, I: Source, O: Sink, G: Gate + Sync>(
     requires paths { FilePathsAreText command }
     requires numbers { NumbersFit command }
     ensures { StepComesTo (CommandComesTo (S.files shelf.old) (I.rest input.old) command)
-        (early_writes command) result
+        (early_of (task_of command)) result
         (world_of S.Shelf I.Source O.Sink shelf.old input.old out.old)
         (world_of S.Shelf I.Source O.Sink shelf.new input.new out.new) }
 {
@@ -123,13 +123,14 @@ pub fn run<T: Threads + Sync, S: Shelf, I: Source, O: Sink, E: Sink, G: Gate + S
     ensures comes { RunComesTo
         (WordsComeTo (S.files shelf.old) (I.rest input.old)
         (command_in (map string_bytes words.now)))
-        (early_of (command_in (map string_bytes words.now))) result
+        (early_in (command_in (map string_bytes words.now))) result
         (world_of S.Shelf I.Source O.Sink shelf.old input.old out.old)
         (world_of S.Shelf I.Source O.Sink shelf.new input.new out.new)
         (sink_at E.Sink err.old) (sink_at E.Sink err.new) }
     ensures session { ServesRun (served_in (command_in (map string_bytes words.now))) result
         (world_of S.Shelf I.Source O.Sink shelf.old input.old out.old)
-        (world_of S.Shelf I.Source O.Sink shelf.new input.new out.new) }
+        (world_of S.Shelf I.Source O.Sink shelf.new input.new out.new)
+        (sink_at E.Sink err.old) (sink_at E.Sink err.new) }
     ensures relinks { RelinksRun (link_in (command_in (map string_bytes words.now))) result
         (S.files shelf.old) (S.files shelf.new) }
 {

@@ -1,5 +1,5 @@
-use Rattle.std.proofs.Common.{◌≡◌, [], refl}
-use Rattle.jm_commands.specs.Outcome.{describe_outcome}
+use Rattle.std.proofs.Common.{◌≡◌, refl}
+use Rattle.jm_commands.specs.Outcome.{describe_outcome, reading}
 use Rattle.jm_commands.specs.World.{shelf_at, sink_at, world}
 use Rattle.jm_commands.proofs.OutcomeLaws.{describe_session}
 use Rattle.jm_commands.proofs.StepLaws.{file_read, file_unread, put_comes}
@@ -14,7 +14,7 @@ returns-in-Ok g c source =
     file_read (λ bytes due. due ≡ describe_outcome path bytes) path b (shelf_at g.S.Shelf c.args.shelf.now)
     (world (shelf_at g.S.Shelf c.file_bytes.new.shelf) source (sink_at g.O.Sink c.args.out.now))
     _ _ read.reads read.files read.faults.count
-    (put_comes (λ due. due ≡ describe_outcome path b) [] (describe_outcome path b) _ _ _ refl put refl refl (describe_session path b))
+    (put_comes (λ due. due ≡ describe_outcome path b) reading (describe_outcome path b) _ _ _ refl put refl refl (describe_session path b))
 
 pub returns-in-Err : goal.returns-in-Err
 returns-in-Err g c source =

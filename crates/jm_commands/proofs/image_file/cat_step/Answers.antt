@@ -4,8 +4,16 @@ use Rattle.jm_names.specs.UtfForms.{utf}
 use Rattle.jm_commands.specs.Outcome.{not_there}
 use Rattle.jm_commands.specs.declared.stop.Stop.TheVariants as stop
 use Rattle.jm_commands.specs.declared.complaint.Complaint.TheVariants as complaint
-use Rattle.jm_commands.proofs.StepLaws.{complained, content_put, from_stop, no_memory, nothing_found}
+use Rattle.jm_commands.proofs.StepLaws.{complained, content_put, content_unput, from_stop, no_memory, nothing_found}
 use Rattle.jm_commands.proofs.image_file.cat_step.Goals as goal
+
+pub returns-in_err-there : goal.returns-in_err-there
+returns-in_err-there g c =
+    let put = c.in_err-there.ensures in
+    let error = c.in_err-there.field-0.0 in
+    let is = from_stop c.from_residual.result _ c.from_residual.ensures.1 in
+    rw is (content_unput (look c.args.bytes.now c.args.name.now) c.args.name.now error _ _ put.an_entry put.front
+    (λ failed. put.faults.rose (rw failed refl)) (λ failed. put.memory (rw failed refl)))
 
 pub returns-then-there : goal.returns-then-there
 returns-then-there g c =

@@ -1,15 +1,15 @@
-use Rattle.std.proofs.Common.{[], ◌≡◌, refl}
+use Rattle.std.proofs.Common.{◌≡◌, refl}
 use Rattle.jm_commands.specs.HelpText.{help_text, version_text}
-use Rattle.jm_commands.specs.Outcome.{done}
+use Rattle.jm_commands.specs.Outcome.{done, without_files}
 use Rattle.jm_commands.specs.World.{source_at}
 use Rattle.jm_commands.proofs.StepLaws.{put_comes}
 use Rattle.jm_commands.proofs.program.do_command.Goals as goal
 
 pub returns-in-Help : goal.returns-in-Help
-returns-in-Help g c = rw c.in-Help.is (put_comes (λ due. due ≡ done help_text) [] (done help_text) _ _ _ refl c.help_command.ensures refl refl refl)
+returns-in-Help g c = rw c.in-Help.is (put_comes (λ due. due ≡ done help_text) without_files (done help_text) _ _ _ refl c.help_command.ensures refl refl refl)
 
 pub returns-in-Version : goal.returns-in-Version
-returns-in-Version g c = rw c.in-Version.is (put_comes (λ due. due ≡ done version_text) [] (done version_text) _ _ _ refl c.version_command.ensures refl refl refl)
+returns-in-Version g c = rw c.in-Version.is (put_comes (λ due. due ≡ done version_text) without_files (done version_text) _ _ _ refl c.version_command.ensures refl refl refl)
 
 pub returns-in-Describe : goal.returns-in-Describe
 returns-in-Describe g c = rw c.in-Describe.is (c.describe_command.ensures _)

@@ -1,6 +1,6 @@
 use Rattle.std.proofs.Common.{Global, map, string_bytes}
 use Rattle.jm_words.specs.Commands.{command_in}
-use Rattle.jm_commands.specs.Outcome.{early_of}
+use Rattle.jm_commands.specs.Outcome.{early_in}
 use Rattle.jm_commands.specs.Run.{WordsComeTo}
 use Rattle.jm_commands.proofs.RelinkedRun.{run_relinks}
 use Rattle.jm_commands.proofs.RunLaws.{comes_ended}
@@ -11,7 +11,7 @@ use Rattle.jm_commands.proofs.program.run.Goals as goal
 pub returns-in-Ok-clause-comes : goal.returns-in-Ok-clause-comes
 returns-in-Ok-clause-comes g c =
     let asked = command_in (map (string_bytes {Z = Global}) c.args.words.now) in
-    comes_ended (WordsComeTo (g.S.Shelf.files c.args.shelf.now) (g.I.Source.rest c.args.input.now) asked) (early_of asked) _ _ _ _ _ _
+    comes_ended (WordsComeTo (g.S.Shelf.files c.args.shelf.now) (g.I.Source.rest c.args.input.now) asked) (early_in asked) _ _ _ _ _ _
     (words_read asked c.in-Ok.command _ _ _ c.in-Ok.ensures.command c.do_command.ensures) c.end.ensures
 
 pub returns-in-Ok-clause-session : goal.returns-in-Ok-clause-session
@@ -24,7 +24,7 @@ pub returns-in-Err-clause-comes : goal.returns-in-Err-clause-comes
 returns-in-Err-clause-comes g c =
     let asked = command_in (map (string_bytes {Z = Global}) c.args.words.now) in
     let ends = rw c.from.ensures at c.end-in-Err.ensures in
-    comes_ended (WordsComeTo (g.S.Shelf.files c.args.shelf.now) (g.I.Source.rest c.args.input.now) asked) (early_of asked) _ _ _ _ _ _
+    comes_ended (WordsComeTo (g.S.Shelf.files c.args.shelf.now) (g.I.Source.rest c.args.input.now) asked) (early_in asked) _ _ _ _ _ _
     (words_unread asked c.in-Err.error _ c.in-Err.ensures.command) ends
 
 pub returns-in-Err-clause-session : goal.returns-in-Err-clause-session
