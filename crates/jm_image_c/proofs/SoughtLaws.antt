@@ -1,45 +1,33 @@
--- What a look-up in a valid image says of the place of a content.
-use Rattle.std.proofs.Common.{◌≡◌, ℕ, ◌+◌, ◌≤◌, List, length, length-drop, drop, Some, ap, arith, subst, sym, ◌∙◌}
-use Rattle.std.proofs.lemmas.List.{length-take-le}
+-- What a row that a look-up in a valid image answers says of the place of its content.
+use Rattle.std.proofs.Common.{◌≡◌, ℕ, ◌+◌, ◌≤◌, List, length, length-drop, Option, Some, refl, arith, option_map, sym}
 use Rattle.std.specs.Prelude.{slice_range}
 use Rattle.jm_form.specs.declared.container.Header.{Header}
 use Rattle.jm_form.specs.declared.rows.Row.{Row}
-use Rattle.jm_form.specs.Entries.{Entry, content_of}
+use Rattle.jm_form.specs.Entries.{content_of}
 use Rattle.jm_form.specs.Head.{index_length}
 use Rattle.jm_form.specs.Places.{contents}
-use Rattle.jm_form.specs.Validity.{SoundRow, ValidAs, look}
-use Rattle.jm_form.proofs.EntryLaws.{entry_from}
+use Rattle.jm_form.specs.Validity.{ValidAs, look}
 use Rattle.jm_form.proofs.HeadLaws.{header_fits}
-use Rattle.jm_form.proofs.LookLaws.{look_entry}
+use Rattle.jm_form.proofs.LookLaws.{look_row}
 use Rattle.jm_form.proofs.SectionLaws.{content_placed}
-use Rattle.jm_form.proofs.SlotLaws.{sound_row}
+use Rattle.jm_image_c.specs.Told.{content_told, row_content}
 
--- the content of what was found is that part of the image that its row says
-pub record Placed (b : List ℕ) (h : Header) (found : Row × List ℕ) : Type 0 where
-  pub within : index_length h + found.0.offset + found.0.size ≤ length b
-  pub part : slice_range b (index_length h + found.0.offset) (index_length h + found.0.offset + found.0.size) ≡ found.1
-  pub size : length found.1 ≡ found.0.size
+-- the content of the row is that part of the image that the row says, and is what the look-up answers
+pub record Placed (b : List ℕ) (h : Header) (name : List ℕ) (row : Row) : Type 0 where
+  pub within : index_length h + row.offset + row.size ≤ length b
+  pub sought : ◌≡◌ {A = Option (Row × List ℕ)} (look b name) (Some (row, content_of (contents b h) row))
+  pub part : slice_range b (index_length h + row.offset) (index_length h + row.offset + row.size) ≡ content_of (contents b h) row
+  pub told : content_told b (look b name) ≡ row_content h row
 
--- the content of a sound row
-row_placed : (b : List ℕ) (h : Header) (row : Row) → ValidAs b h → SoundRow b h row → Placed b h (row, content_of (contents b h) row)
-row_placed b h row valid sound =
+pub row_placed : (b : List ℕ) (h : Header) (name : List ℕ) (row : Row) → ValidAs b h → option_map (λ found. found.0) (look b name) ≡ Some row → Placed b h name row
+row_placed b h name row valid answer =
+    let (sound, sought) = look_row b h name row valid answer in
     let fits = header_fits b h valid.header in
     let all = length-drop (index_length h) b in
-    let within = sound.within in
-    let rest = length-drop row.offset (contents b h) in
-    let room : row.size ≤ length (drop row.offset (contents b h)) = omega arith in
+    let inside = sound.within in
     record {
       within = omega arith;
+      sought = sought;
       part = sym (content_placed b h row);
-      size = length-take-le row.size (drop row.offset (contents b h)) room;
+      told = rw (sought, valid.header) refl;
     }
-
-pub sought_placed : (b : List ℕ) (h : Header) (name : List ℕ) (found : Row × List ℕ) → ValidAs b h → look b name ≡ Some found → Placed b h found
-sought_placed b h name found valid answer =
-    let entry = look_entry b h name found valid.header answer in
-    let e = entry.0 in
-    let is = entry_from b h e entry.1 in
-    let sound = sound_row b h e.slot e.row (valid.slots e.slot is.below) is.row in
-    let content : e.content ≡ content_of (contents b h) e.row = ap (λ (f : Entry). f.content) is.is in
-    let same = ap (λ (xs : List ℕ). (e.row, xs)) (sym content) ∙ entry.3 in
-    subst (Placed b h) same (row_placed b h e.row valid sound)

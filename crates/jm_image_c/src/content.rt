@@ -5,12 +5,12 @@ ghost use Rattle.jm_image_c.specs.Told.{content_told};
 
 use crate::numbers::Content;
 use jm_bytes::{Meter, Steps};
-use jm_reader::find;
+use jm_reader::find_row;
 use jm_valid::Image;
 use std::sync::ledger::{Blank, Ledger};
 
-/// Where the content of the entry of a name stands. It costs at most two hashes, and of the index
-/// at most the name's bytes and 76 more; the content is handed out, which costs its size.
+/// Where the content of the entry of a name stands. It costs at most two hashes, and at most the
+/// name's bytes and 76 more of the index; no byte of the content.
 fn content_named<H: Ledger, R: Ledger>(
     image: &Image,
     name: &[u8],
@@ -23,14 +23,14 @@ fn content_named<H: Ledger, R: Ledger>(
         slice_range image.now result.place (result.place + result.size) ≡ found.1) }
     ensures within { result.place + result.size ≤ length image.now }
     ensures hashes { RisesAtMost hashes.old hashes.new 2 }
-    ensures reads { CostsAtMost reads.old reads.new (length name.now + 76 + result.size) }
+    ensures reads { CostsAtMost reads.old reads.new (length name.now + 76) }
 {
     let header = image.header();
     let _size = image.buf().len();
-    match find(image, name, hashes, reads) {
-        Some(found) => Content {
-            place: header.contents_place() as u64 + found.row.offset,
-            size: found.row.size,
+    match find_row(image, name, hashes, reads) {
+        Some(row) => Content {
+            place: header.contents_place() as u64 + row.offset,
+            size: row.size,
             found: true,
         },
         None => Content {
