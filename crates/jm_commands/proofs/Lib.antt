@@ -6,6 +6,7 @@ pub mod LinkLaws
 mod ListingVectors
 pub mod Made
 pub mod OutcomeLaws
+pub mod PieceLaws
 pub mod RelinkedRun
 pub mod RunLaws
 pub mod ServedLaws

@@ -6,6 +6,7 @@ pub mod HelpText
 pub mod LinkText
 pub mod ListText
 pub mod Outcome
+pub mod Pieces
 pub mod RelinkedRun
 pub mod Run
 pub mod Served

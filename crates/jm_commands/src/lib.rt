@@ -13,6 +13,7 @@ mod link;
 mod listing;
 mod ls;
 mod output;
+mod pieces;
 mod program;
 mod serve;
 mod status;

@@ -1,66 +1,85 @@
-ghost use Rattle.std.specs.Prelude.{◌≡◌, ◌<◌, ◌++◌, IfOk, OnOk, map, flat_map};
+ghost use Rattle.std.specs.Prelude.{◌≡◌, ◌<◌, ◌++◌, OnOk, map, flat_map};
 ghost use Rattle.jm_commands.specs.ListText.{list_line, list_text};
 ghost use Rattle.jm_commands.specs.Outcome.{done};
+ghost use Rattle.jm_commands.specs.Pieces.{PassesText, PutsText};
 ghost use Rattle.jm_commands.specs.Run.{PutDoes};
 ghost use Rattle.jm_extract.specs.Taken.{taken_as};
 ghost use Rattle.jm_commands.specs.World.{sink_at};
 
-use crate::output::put_output;
+use crate::pieces::put_full;
 use crate::stop::Stop;
 use itoa::Buffer;
-use jm_bytes::{List, Meter, NoMemory, Text, extend};
+use jm_bytes::{List, Meter, NoMemory, extend};
 use jm_extract::{TakenEntry, taken};
-use jm_names::to_utf8;
-use jm_outside::Sink;
+use jm_names::extend_utf8;
+use jm_outside::{Sink, SinkError};
 use jm_pattern::Pattern;
 use jm_valid::Image;
 use std::alloc::Global;
 use std::marker::Brand;
 use std::sync::ledger::{Blank, Ledger};
 
-/// Puts the line of an entry at the end: its size in bytes, a space, its name in UTF-8.
-fn put_line(alloc: Global, text: &mut Vec<u8>, entry: &TakenEntry) -> Result<(), NoMemory>
+/// Adds the line of an entry at the end: its size in bytes, a space, its name in UTF-8.
+fn extend_line(alloc: Global, text: &mut Vec<u8>, entry: &TakenEntry) -> Result<(), NoMemory>
     ensures { OnOk result (text.new.items ≡ text.old.items ++ list_line (taken_as entry.now)) }
 {
-    let name = to_utf8(alloc, entry.name.as_slice())?;
+    let name = entry.name.view().to_text(alloc)?;
     let mut size = Buffer::new();
     extend(text, size.format(entry.bytes.len()).as_bytes())?;
     extend(text, b" ")?;
-    extend(text, name.as_slice())?;
+    extend_utf8(alloc, text, name.as_slice())?;
     extend(text, b"\n")
 }
 
-/// The lines of some entries.
-fn lines(alloc: Global, entries: &[TakenEntry]) -> Result<Text, NoMemory>
-    ensures { IfOk result (λ text. text ≡ flat_map list_line (map taken_as entries.now)) }
+/// Adds the line of an entry to a text that is held back, and puts and empties the text if it has
+/// the bytes of a piece then.
+fn pass_line<O: Sink>(
+    alloc: Global,
+    text: &mut Vec<u8>,
+    entry: &TakenEntry,
+    out: &mut O,
+) -> Result<(), SinkError>
+    ensures { PassesText (list_line (taken_as entry.now)) text.old.items text.new.items result
+        (sink_at O.Sink out.old) (sink_at O.Sink out.new) }
+{
+    extend_line(alloc, text, entry)?;
+    put_full(alloc, text, out)
+}
+
+/// Puts the lines of some entries, piece by piece; the last piece may be empty.
+fn put_lines<O: Sink>(alloc: Global, entries: &[TakenEntry], out: &mut O) -> Result<(), SinkError>
+    ensures { PutsText (flat_map list_line (map taken_as entries.now)) result
+        (sink_at O.Sink out.old) (sink_at O.Sink out.new) }
 {
     let mut text = Vec::new(alloc);
     for entry in entries {
-        put_line(alloc, &mut text, entry)?;
+        pass_line(alloc, &mut text, entry, out)?;
     }
-    Ok(Text::from_vec(text))
+    out.put(alloc, text.as_slice())
 }
 
-/// The text of `list`, with a meter of its own.
-fn list_text<R: Ledger>(
+/// Puts the text of `list`, with a meter of its own.
+fn put_list<O: Sink, R: Ledger>(
     alloc: Global,
     image: &Image,
     bytes: &[u8],
     include: &Option<List<Pattern>>,
+    out: &mut O,
     reads: Blank,
-) -> Result<Text, NoMemory>
+) -> Result<(), SinkError>
     requires bytes { image.now ≡ bytes.now }
     requires reads_name { reads.name ≡ R.name }
     requires reads_parts { reads.parts ≡ R.parts }
     requires reads_some { 0 < reads.parts }
-    ensures { IfOk result (λ text. text ≡ list_text bytes.now include.now) }
+    ensures { PutsText (list_text bytes.now include.now) result
+        (sink_at O.Sink out.old) (sink_at O.Sink out.new) }
 {
     let mut reads = Meter::<R>::new(bytes, reads);
     let entries = taken(alloc, image, include, &mut reads)?;
-    lines(alloc, entries.as_slice())
+    put_lines(alloc, entries.as_slice(), out)
 }
 
-/// Puts the lines of the taken entries of the image that these bytes are, by one `put`.
+/// Puts the lines of the taken entries of the image that these bytes are, piece by piece.
 pub fn list_command<O: Sink>(
     alloc: Global,
     image: &Image,
@@ -72,6 +91,6 @@ pub fn list_command<O: Sink>(
     ensures { PutDoes (done (list_text bytes.now include.now)) result
         (sink_at O.Sink out.old) (sink_at O.Sink out.new) }
 {
-    let text = list_text::<Brand>(alloc, image, bytes, include, Blank::new(1))?;
-    put_output(alloc, text.as_slice(), out)
+    put_list::<O, Brand>(alloc, image, bytes, include, out, Blank::new(1))?;
+    Ok(())
 }

@@ -3,16 +3,17 @@ ghost use Rattle.std.specs.Prelude.{◌≡◌, ◌<◌, Err, IfOk};
 ghost use Rattle.jm_jrt.specs.Reply.{held_lines};
 ghost use Rattle.jm_jrt.specs.Stat.{held, stat};
 ghost use Rattle.jm_commands.specs.Outcome.{done, ls_outcome};
+ghost use Rattle.jm_commands.specs.Pieces.{PutsText};
 ghost use Rattle.jm_commands.specs.Run.{PutDoes, outcome_of};
 ghost use Rattle.jm_commands.specs.World.{sink_at};
 
 use crate::complaint::Complaint;
-use crate::output::put_output;
+use crate::pieces::{PIECE, put_piece};
 use crate::stop::Stop;
 use jm_bytes::{Meter, NoMemory, Steps};
-use jm_jrt::{ChildList, JrtError, children, extend_children};
+use jm_jrt::{ChildList, JrtError, children, extend_next_children};
 use jm_names::to_utf8;
-use jm_outside::Sink;
+use jm_outside::{Sink, SinkError};
 use jm_valid::Image;
 use std::alloc::Global;
 use std::marker::Brand;
@@ -29,8 +30,28 @@ fn ls_complaint(alloc: Global, path: &[u8], error: JrtError) -> Result<Complaint
     }
 }
 
-/// Puts the lines of the children of the folder at a path.
+/// Puts the lines of the children of the folder at a path, piece by piece; the last piece may be
+/// empty.
 fn put_children<O: Sink, R: Ledger>(
+    alloc: Global,
+    path: &[u8],
+    list: &mut ChildList,
+    out: &mut O,
+    reads: &mut Meter<R>,
+) -> Result<(), SinkError>
+    requires { reads.old.bytes ≡ list.old.bytes }
+    ensures { PutsText (held_lines path.now list.old.rest) result
+        (sink_at O.Sink out.old) (sink_at O.Sink out.new) }
+{
+    let mut text = Vec::new(alloc);
+    while extend_next_children(alloc, &mut text, path, list, PIECE, reads)? {
+        put_piece(alloc, &mut text, out)?;
+    }
+    out.put(alloc, text.as_slice())
+}
+
+/// Puts the whole output of `ls`, the lines of these children.
+fn put_listing<O: Sink, R: Ledger>(
     alloc: Global,
     path: &[u8],
     list: &mut ChildList,
@@ -41,9 +62,8 @@ fn put_children<O: Sink, R: Ledger>(
     ensures { PutDoes (done (held_lines path.now list.old.rest)) result
         (sink_at O.Sink out.old) (sink_at O.Sink out.new) }
 {
-    let mut text = Vec::new(alloc);
-    extend_children(alloc, &mut text, path, list, reads)?;
-    put_output(alloc, text.as_slice(), out)
+    put_children(alloc, path, list, out, reads)?;
+    Ok(())
 }
 
 /// Does what `ls_command` does, with counters of its own.
@@ -69,7 +89,7 @@ fn ls_counted<O: Sink, H: Ledger, R: Ledger>(
     let mut hashes = Steps::<H>::new(hashes);
     let mut reads = Meter::<R>::new(bytes, reads);
     match children(image, path, &mut hashes, &mut reads) {
-        Ok(mut list) => put_children(alloc, path, &mut list, out, &mut reads),
+        Ok(mut list) => put_listing(alloc, path, &mut list, out, &mut reads),
         Err(error) => Err(Stop::Complaint(ls_complaint(alloc, path, error)?)),
     }
 }

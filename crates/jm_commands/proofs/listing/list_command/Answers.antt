@@ -1,9 +1,12 @@
-use Rattle.std.proofs.Common.{refl}
-use Rattle.jm_commands.specs.declared.stop.Stop.TheVariants as stop
-use Rattle.jm_commands.proofs.StepLaws.{from_stop, no_memory}
+use Rattle.jm_commands.specs.Stops.{stop_of_sink}
+use Rattle.jm_commands.proofs.PieceLaws.{text_put, text_unput}
+use Rattle.jm_commands.proofs.StepLaws.{from_stop}
 use Rattle.jm_commands.proofs.listing.list_command.Goals as goal
 
-pub returns-in_err-text : goal.returns-in_err-text
-returns-in_err-text g c =
-    let is = from_stop c.from_residual.result stop.Memory c.from_residual.ensures.1 in
-    rw is (no_memory _ _ _ refl)
+pub returns-in_err-put_list : goal.returns-in_err-put_list
+returns-in_err-put_list g c =
+    rw (from_stop c.from_residual.result (stop_of_sink c.in_err-put_list.field-0.0) c.from_residual.ensures.1)
+    (text_unput _ c.in_err-put_list.field-0.0 _ _ c.in_err-put_list.ensures)
+
+pub returns : goal.returns
+returns g c = text_put _ _ _ c.in_ok-put_list.ensures
