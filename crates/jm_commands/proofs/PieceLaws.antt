@@ -1,5 +1,5 @@
 -- Texts that a sink gets piece by piece.
-use Rattle.std.proofs.Common.{◌≡◌, ℕ, ◌+◌, ◌<◌, ◌≤◌, List, [], ◌∷◌, ◌++◌, drop, flat_map, get_or, length, map, take, Option, Some, None, option_map, Result, Ok, Err, OnOk, IsErrOf, refl, sym, ap, subst, ◌∙◌, arith, append-nil}
+use Rattle.std.proofs.Common.{◌≡◌, ℕ, ◌+◌, ◌<◌, ◌≤◌, List, [], ◌∷◌, ◌++◌, drop, flat_map, get_or, length, map, take, Option, Some, None, option_map, Result, Ok, Err, OnOk, IsErrOf, inl, refl, sym, ap, subst, ◌∙◌, arith, append-nil}
 use Rattle.std.proofs.Math.Seq.{take-append-add}
 use Rattle.std.proofs.lemmas.List.{append_assoc, drop_all, drop_more, length-append, take-append-le}
 use Rattle.jm_form.specs.declared.trees.Holds.{Holds}
@@ -158,8 +158,8 @@ no_child path (Owners (owner ∷ owners)) none = cc
 -- The step of a run
 
 pub text_put : (text : List ℕ) (out new_out : Seen (List ℕ)) → PutsText text (Ok tt) out new_out → PutDoes (done text) (Ok tt) out new_out
-text_put text out new_out put = record { answers = refl; output = put.all; outside = λ failed. cc }
+text_put text out new_out put = record { answers = refl; output = put.all; outside = λ failed. cc; memory = λ failed. cc }
 
 pub text_unput : (text : List ℕ) (error : SinkError) (out new_out : Seen (List ℕ)) → PutsText text (Err error) out new_out → PutDoes (done text) (Err (stop_of_sink error)) out new_out
-text_unput text sink_error.Failed out new_out put = record { answers = tt; output = put.front; outside = λ failed. put.faults.rose refl }
-text_unput text sink_error.Memory out new_out put = record { answers = tt; output = put.front; outside = λ failed. cc }
+text_unput text sink_error.Failed out new_out put = record { answers = refl; output = put.front; outside = λ failed. put.faults.rose refl; memory = λ failed. cc }
+text_unput text sink_error.Memory out new_out put = record { answers = tt; output = put.front; outside = λ failed. cc; memory = λ same. inl refl }
