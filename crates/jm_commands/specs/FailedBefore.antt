@@ -6,9 +6,9 @@ use Rattle.jm_commands.specs.Outcome.{Early, Outcome}
 use Rattle.jm_commands.specs.Sinks.{Failed, Seen}
 use Rattle.jm_commands.specs.World.{World}
 
--- one of these failed, which the work reaches no later than the status that is due: of a session the
--- source or the output; without one, of `Done` the shelf or the output, of `Refused`, `Damaged` and
--- `NotThere` the shelf, and of all others none
+-- one of these failed, which the work reaches no later than the status that is due: of a session
+-- the source or the output; without one, of `Done` the shelf or the output, of `Refused`, `Damaged`
+-- and `NotThere` the shelf, and of all others none
 abbrev pub WorkFailed : Option (List ℕ) → Status → World → World → Type 0
 WorkFailed (Some b) is old new = Failed old.input new.input ⊎ Failed old.out new.out
 WorkFailed None status.Done old new = Failed old.shelf new.shelf ⊎ Failed old.out new.out

@@ -1,6 +1,6 @@
 -- What words come to: plain data. Of a command on one file it is a function of its task, of that
--- file's bytes and of the text of the source; of a link, which reads many files, one of its image or
--- its refusal (this project's rule).
+-- file's bytes and of the text of the source; of a link, which reads many files, one of its image
+-- or its refusal (this project's rule).
 use Rattle.std.specs.Prelude.{ℕ, ◌+◌, nat_lt, List, [], ◌∷◌, ◌++◌, length, codes}
 use Rattle.std.specs.Prelude.{Bool, true, false}
 use Rattle.std.specs.Prelude.{Option, Some, None, Result, Ok, Err, if◌then◌else◌, IsUtf8}

@@ -5,16 +5,16 @@ use Rattle.jm_outside.specs.declared.streams.SinkError.{SinkError}
 use Rattle.jm_outside.specs.declared.streams.SinkError.TheVariants as sink_error
 use Rattle.jm_commands.specs.Sinks.{Seen, Gets, GetsFront}
 
--- the sink got the whole text; a front of it where that failed, and its count rose where the outside
--- failed
+-- the sink got the whole text; a front of it where that failed, and its count rose where the
+-- outside failed
 pub record PutsText (text : List ℕ) (answer : Result (Unit {0}) SinkError)
     (out new_out : Seen (List ℕ)) : Type 0 where
   pub all : OnOk answer (Gets text out new_out)
   pub front : OnErr answer (GetsFront text out new_out)
   pub faults : CountsFaults out.faults new_out.faults (IsErrOf answer sink_error.Failed)
 
--- more came behind a text that was held back: the sink got the first of both, and the others are held
--- back now
+-- more came behind a text that was held back: the sink got the first of both, and the others are
+-- held back now
 abbrev pub Passes : (more held holds : List ℕ) → Seen (List ℕ) → Seen (List ℕ) → Type 0
 Passes more held holds out new_out =
     (got : List ℕ) × Gets got out new_out × (held ++ more ≡ got ++ holds)
