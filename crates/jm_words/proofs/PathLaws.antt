@@ -1,47 +1,191 @@
--- Words that are text make a command whose paths are text.
-use Rattle.std.proofs.Common.{◌≡◌, ℕ, ◌+◌, ◌<◌, ◌≤◌, ◌&&◌, not, nat_le, Bool, true, false, cond, List, [], ◌∷◌, ◌++◌, length, get_or, map, string_bytes, String, inl, inr, Option, Some, None, Result, Ok, Err, IfOk, IfSome, All, IsUtf8, refl, sym, subst, arith}
-use Rattle.std.specs.Prelude.{codes, option_map, unwrap_or}
-use Rattle.std.specs.List.{after_first, before_first, find, list_any}
-use Rattle.std.specs.Str.{bytes_eq}
+-- Words that are text make a command whose paths are text and whose numbers are within limits.
+use Rattle.std.proofs.Common.{◌≡◌, ℕ, ◌+◌, ◌<◌, ◌≤◌, ◌==◌, ◌&&◌, nat_le, Bool, true, false, cond, List, [], ◌∷◌, length, get_or, map, string_bytes, String, inl, inr, Option, Some, None, Result, Ok, Err, IfOk, IfSome, All, IsUtf8, refl, sym, subst, arith}
+use Rattle.std.specs.Prelude.{option_map, unwrap_or}
+use Rattle.std.specs.List.{after_first, before_first, list_any}
 use Rattle.std.proofs.lemmas.Bool.{and_parts, leb-true}
-use Rattle.std.proofs.lemmas.List.Elements.{All-head, All-map, All-nil, All-push, All-tail}
-use Rattle.std.proofs.lemmas.Str.{IsUtf8-nil, IsUtf8-string_bytes}
+use Rattle.std.proofs.lemmas.List.Elements.{All-head, All-map, All-nil, All-tail}
+use Rattle.std.proofs.lemmas.Str.{IsUtf8-string_bytes}
+use Rattle.jm_bytes.specs.Results.{UnlessMemory}
+use Rattle.jm_names.specs.Names.{is_empty}
+use Rattle.jm_plugins.specs.declared.Plugin.TheVariants as plugin
 use Rattle.jm_words.specs.declared.errors.WordsError.{WordsError}
 use Rattle.jm_words.specs.declared.errors.WordsError.TheVariants.{Memory}
-use Rattle.jm_words.specs.declared.errors.WordsError.TheVariants as error
-use Rattle.jm_words.specs.declared.errors.WordsKind.TheVariants as kind
+use Rattle.jm_words.specs.declared.errors.WordsKind.{WordsKind}
 use Rattle.jm_words.specs.declared.commands.Command.{Command}
-use Rattle.jm_words.specs.declared.forms.Form.{Form}
+use Rattle.jm_words.specs.declared.drafts.Draft.{Draft}
+use Rattle.jm_words.specs.declared.given.Given.{Given}
+use Rattle.jm_words.specs.declared.given.Given.TheVariants as given
+use Rattle.jm_words.specs.declared.given.Source.{Source}
+use Rattle.jm_words.specs.declared.given.Source.TheVariants as source
 use Rattle.jm_words.specs.declared.tables.Argument.{Argument}
+use Rattle.jm_words.specs.declared.tables.Argument.TheVariants as argument
 use Rattle.jm_words.specs.declared.tables.Choice.{Choice}
+use Rattle.jm_words.specs.declared.tables.Choice.TheVariants as choice
 use Rattle.jm_words.specs.declared.tables.Verb.{Verb}
 use Rattle.jm_words.specs.declared.tables.Verb.TheVariants as verb_is
-use Rattle.jm_words.specs.Commands.{command_after, command_in, command_of, command_unless_fault, jobs_of, look, module_path, number_or_low, text_of, verb_named}
+use Rattle.jm_words.specs.Commands.{command_after, command_in, command_of, command_or_missing, command_unless_fault, folders_in, image_in, jobs_of, needing, verb_named}
+use Rattle.jm_words.specs.Drafts.{with_given}
+use Rattle.jm_words.specs.Givens.{argument_of, flag_of, value_of}
 use Rattle.jm_words.specs.Paths.{FilePathsAreText, NumbersFit, jobs_in}
-use Rattle.jm_bytes.specs.Results.{UnlessMemory}
-use Rattle.jm_words.specs.Reading.{GivenText, Standing, after_argument, after_choice, after_option, after_plain_word, after_word, after_words, before_words, given_texts, is_chosen, is_equals, is_flag, is_missing, is_option, option_named, texts_at_end, texts_unless_fault, value_behind, with_checked_text}
-use Rattle.jm_words.specs.Tables.{argument_row, option_row, options}
-use Rattle.jm_words.specs.Values.{decimal_from, is_numeral, is_of_form}
+use Rattle.jm_words.specs.Reading.{Standing, after_role, after_sound, after_words, before_words, draft_or_fault, reading_of, unless_kind, with_word}
+use Rattle.jm_words.specs.Roles.{Role, Unknown, Flag, Waits, WithValue, ValueFor, AsArgument, bare_role, first_argument, first_kind, given_by, has_hyphens, is_equals, option_named, option_role, plain_role, role_of, value_behind}
+use Rattle.jm_words.specs.Tables.{options}
+use Rattle.jm_words.specs.Values.{decimal_from, folder_of, folders_of, is_numeral, number_of, parts_at, path_of, patterns_of, unless_empty, without_slashes}
 use Rattle.jm_words.proofs.TextLaws.{behind_is_text, folders_are_text, without_slashes_is_text}
 
--- all that was given is text
-abbrev AreText : List GivenText → Type 0
-AreText given = All (λ g. IsUtf8 g.text) given
+-- a number is within limits
+abbrev IsWithin : ℕ → ℕ → ℕ → Type 0
+IsWithin low high n = (low ≤ n) × (n ≤ high)
 
-abbrev IsText : Result Standing WordsError → Type 0
-IsText read = IfOk read (λ standing. AreText standing.given)
+-- the paths of a source are text
+abbrev IsTextSource : Source → Type 0
+IsTextSource (source.Folders dirs) = All IsUtf8 dirs
+IsTextSource (source.Image image) = IsUtf8 image
 
-one_more : (given : List GivenText) (name text : List ℕ) → AreText given → IsUtf8 text → AreText (given ++ record { name = name; text = text } ∷ [])
-one_more given name text are is = All-push (λ g. IsUtf8 g.text) given (record { name = name; text = text }) are is
+-- what is given is fit: a path is text, and a number within its limits
+abbrev IsFit : Given → Type 0
+IsFit (given.File file) = IsUtf8 file
+IsFit (given.Folder folder) = IsUtf8 folder
+IsFit (given.Source source) = IsTextSource source
+IsFit (given.Output output) = IsUtf8 output
+IsFit (given.Modules modules) = IsWithin 1 256 modules
+IsFit (given.Classes classes) = IsWithin 1 1024 classes
+IsFit (given.Jobs jobs) = IsWithin 1 64 jobs
+IsFit _ = Unit {0}
+
+-- all that was given is fit: file, folder, source, output, modules, classes, jobs
+abbrev AreFit : Draft → Type 0
+AreFit draft =
+    IfSome draft.file IsUtf8 × IfSome draft.folder IsUtf8 × IfSome draft.source IsTextSource
+    × IfSome draft.output IsUtf8 × IfSome draft.modules (IsWithin 1 256)
+    × IfSome draft.classes (IsWithin 1 1024) × IfSome draft.jobs (IsWithin 1 64)
+
+one_more : (draft : Draft) (g : Given) → AreFit draft → IsFit g → AreFit (with_given draft g)
+one_more draft (given.File file) (a, b, c, d, e, f, g) fit = (fit, b, c, d, e, f, g)
+one_more draft (given.Name name) are fit = are
+one_more draft (given.Folder folder) (a, b, c, d, e, f, g) fit = (a, fit, c, d, e, f, g)
+one_more draft (given.Source source) (a, b, c, d, e, f, g) fit = (a, b, fit, d, e, f, g)
+one_more draft (given.Roots roots) are fit = are
+one_more draft (given.Output output) (a, b, c, d, e, f, g) fit = (a, b, c, fit, e, f, g)
+one_more draft (given.Order order) are fit = are
+one_more draft given.Bind are fit = are
+one_more draft (given.Plugin plugin) are fit = are
+one_more draft (given.Include include) are fit = are
+one_more draft (given.Modules modules) (a, b, c, d, e, f, g) fit = (a, b, c, d, fit, f, g)
+one_more draft (given.Classes classes) (a, b, c, d, e, f, g) fit = (a, b, c, d, e, fit, g)
+one_more draft (given.Seed seed) are fit = are
+one_more draft (given.Jobs jobs) (a, b, c, d, e, f, g) fit = (a, b, c, d, e, f, fit)
+
+with_more : (draft : Draft) (g : Option Given) → AreFit draft → IfSome g IsFit → AreFit (with_word draft g)
+with_more draft None are fit = are
+with_more draft (Some g) are fit = one_more draft g are fit
+
+-- Options
+
+always : {A : Type 0} (o : Option A) → IfSome o (λ _. Unit {0})
+always None = tt
+always (Some x) = tt
+
+mapped : {A B : Type 0} (P : A → Type 0) (Q : B → Type 0) (f : A → B) (o : Option A) → ((x : A) → P x → Q (f x)) → IfSome o P → IfSome (option_map f o) Q
+mapped P Q f None carried holds = tt
+mapped P Q f (Some x) carried holds = carried x holds
+
+free : {A : Type 0} (f : A → Given) (o : Option A) → ((x : A) → IsFit (f x)) → IfSome (option_map f o) IsFit
+free f o fit = mapped (λ _. Unit {0}) IsFit f o (λ x _. fit x) (always o)
+
+needed : {A B : Type 0} (P : A → Type 0) (Q : B → Type 0) (o : Option A) (make : A → Option B) → IfSome o P → ((x : A) → P x → IfSome (make x) Q) → IfSome (needing o make) Q
+needed P Q None make holds carried = tt
+needed P Q (Some x) make holds carried = carried x holds
+
+-- Values
+
+path_is_text : (text : List ℕ) → IsUtf8 text → IfSome (path_of text) IsUtf8
+path_is_text [] is = tt
+path_is_text (b ∷ text) is = is
+
+folder_is_text : (text : List ℕ) → IsUtf8 text → IfSome (folder_of text) IsUtf8
+folder_is_text text is = path_is_text (without_slashes text) (without_slashes_is_text text is)
+
+unless_empty_are : (texts : List (List ℕ)) → All IsUtf8 texts → IfSome (unless_empty texts) (All IsUtf8)
+unless_empty_are texts are = go (list_any is_empty texts)
+  where
+    go : (some : Bool) → IfSome (cond some None (Some texts)) (All IsUtf8)
+    go true = tt
+    go false = are
+
+number_is_within : (low high : ℕ) (text : List ℕ) → IfSome (number_of low high text) (IsWithin low high)
+number_is_within low high text = go (is_numeral text && (nat_le low (decimal_from 0 text) && nat_le (decimal_from 0 text) high)) refl
+  where
+    go : (fits : Bool) → (is_numeral text && (nat_le low (decimal_from 0 text) && nat_le (decimal_from 0 text) high)) ≡ fits → IfSome (cond fits (Some (decimal_from 0 text)) None) (IsWithin low high)
+    go true fits =
+        let within = (and_parts (is_numeral text) (nat_le low (decimal_from 0 text) && nat_le (decimal_from 0 text) high) fits).1 in
+        let both = and_parts (nat_le low (decimal_from 0 text)) (nat_le (decimal_from 0 text) high) within in
+        (leb-true low (decimal_from 0 text) both.0, leb-true (decimal_from 0 text) high both.1)
+    go false fails = tt
+
+value_is_fit : (c : Choice) (text : List ℕ) → IsUtf8 text → IfSome (value_of c text) IsFit
+value_is_fit choice.Jobs text is = mapped (IsWithin 1 64) IsFit given.Jobs (number_of 1 64 text) (λ n fit. fit) (number_is_within 1 64 text)
+value_is_fit choice.ModulePath text is =
+    mapped (All IsUtf8) IsFit (λ dirs. given.Source (source.Folders dirs)) (folders_of text) (λ dirs fit. fit) (unless_empty_are (map without_slashes (parts_at 58 text)) (folders_are_text text is))
+value_is_fit choice.FromImage text is =
+    mapped IsUtf8 IsFit (λ image. given.Source (source.Image image)) (path_of text) (λ image fit. fit) (path_is_text text is)
+value_is_fit choice.AddModules text is = free given.Roots _ (λ _. tt)
+value_is_fit choice.Output text is = mapped IsUtf8 IsFit given.Output (path_of text) (λ output fit. fit) (path_is_text text is)
+value_is_fit choice.Endian text is = free given.Order _ (λ _. tt)
+value_is_fit choice.BindServices text is = tt
+value_is_fit choice.ExcludeResources text is = free (λ patterns. given.Plugin (plugin.Exclude patterns)) (patterns_of text) (λ _. tt)
+value_is_fit choice.OrderResources text is = free (λ patterns. given.Plugin (plugin.Order patterns)) (patterns_of text) (λ _. tt)
+value_is_fit choice.StripDebug text is = tt
+value_is_fit choice.CompactPool text is = tt
+value_is_fit choice.Include text is = free given.Include _ (λ _. tt)
+value_is_fit choice.Dir text is = mapped IsUtf8 IsFit given.Folder (folder_of text) (λ folder fit. fit) (folder_is_text text is)
+value_is_fit choice.Modules text is = mapped (IsWithin 1 256) IsFit given.Modules (number_of 1 256 text) (λ n fit. fit) (number_is_within 1 256 text)
+value_is_fit choice.Classes text is = mapped (IsWithin 1 1024) IsFit given.Classes (number_of 1 1024 text) (λ n fit. fit) (number_is_within 1 1024 text)
+value_is_fit choice.Seed text is = free given.Seed _ (λ _. tt)
+
+flag_is_fit : (c : Choice) → IfSome (flag_of c) IsFit
+flag_is_fit choice.BindServices = tt
+flag_is_fit choice.StripDebug = tt
+flag_is_fit choice.CompactPool = tt
+flag_is_fit choice.Jobs = tt
+flag_is_fit choice.ModulePath = tt
+flag_is_fit choice.FromImage = tt
+flag_is_fit choice.AddModules = tt
+flag_is_fit choice.Output = tt
+flag_is_fit choice.Endian = tt
+flag_is_fit choice.ExcludeResources = tt
+flag_is_fit choice.OrderResources = tt
+flag_is_fit choice.Include = tt
+flag_is_fit choice.Dir = tt
+flag_is_fit choice.Modules = tt
+flag_is_fit choice.Classes = tt
+flag_is_fit choice.Seed = tt
+
+argument_is_fit : (a : Argument) (text : List ℕ) → IsUtf8 text → IfSome (argument_of a text) IsFit
+argument_is_fit argument.Image text is = mapped IsUtf8 IsFit given.File (path_of text) (λ file fit. fit) (path_is_text text is)
+argument_is_fit argument.Name text is = tt
+argument_is_fit argument.Path text is = free given.Name _ (λ _. tt)
+argument_is_fit argument.Folder text is = mapped IsUtf8 IsFit given.Folder (folder_of text) (λ folder fit. fit) (folder_is_text text is)
+argument_is_fit argument.File text is = mapped IsUtf8 IsFit given.File (path_of text) (λ file fit. fit) (path_is_text text is)
 
 -- One word
 
-checked_is_text : (at : ℕ) (name : List ℕ) (form : Form) (text : List ℕ) (given : List GivenText) (left : List Argument) → AreText given → IsUtf8 text → IsText (with_checked_text at name form text given left)
-checked_is_text at name form text given left are is = go (is_of_form form text)
-  where
-    go : (fits : Bool) → IsText (cond fits (Ok (record { given = given ++ record { name = name; text = text } ∷ []; left = left; pending = None })) (Err (error.Fault at kind.BadValue)))
-    go true = one_more given name text are is
-    go false = tt
+-- what a word in its role holds is fit
+abbrev IsFitRole : Role → Type 0
+IsFitRole (Flag c g) = IsFit g
+IsFitRole (WithValue c text) = IsUtf8 text
+IsFitRole (ValueFor c text) = IsUtf8 text
+IsFitRole (AsArgument text) = IsUtf8 text
+IsFitRole _ = Unit {0}
+
+bare_is_fit : (c : Choice) (flag : Option Given) → IfSome flag IsFit → IsFitRole (bare_role c flag)
+bare_is_fit c None fit = tt
+bare_is_fit c (Some g) fit = fit
+
+option_is_fit : (c : Option Choice) (value : Option (List ℕ)) → IfSome value IsUtf8 → IsFitRole (option_role c value)
+option_is_fit None value is = tt
+option_is_fit (Some c) (Some text) is = is
+option_is_fit (Some c) None is = bare_is_fit c (flag_of c) (flag_is_fit c)
 
 value_is_text : (word : List ℕ) → IsUtf8 word → IfSome (value_behind word) IsUtf8
 value_is_text word is = go (list_any is_equals word) refl
@@ -50,178 +194,121 @@ value_is_text word is = go (list_any is_equals word) refl
     go true some = behind_is_text 61 (omega arith) word is some
     go false none = tt
 
-choice_is_text : (at : ℕ) (choice : Choice) (value : Option (List ℕ)) (given : List GivenText) (left : List Argument) → AreText given → IfSome value IsUtf8 → IsText (after_choice at choice value given left)
-choice_is_text at choice (Some text) given left are is = checked_is_text at (option_row choice).name (option_row choice).form text given left are is
-choice_is_text at choice None given left are is = go (is_flag (option_row choice).form)
+plain_is_fit : (choices : List Choice) (word : List ℕ) → IsUtf8 word → IsFitRole (plain_role choices word)
+plain_is_fit choices word is = go (has_hyphens word)
   where
-    go : (flag : Bool) → IsText (cond flag (Ok (record { given = given ++ record { name = (option_row choice).name; text = [] } ∷ []; left = left; pending = None })) (Ok (record { given = given; left = left; pending = Some choice })))
-    go true = one_more given (option_row choice).name [] are IsUtf8-nil
-    go false = are
+    go : (option : Bool) → IsFitRole (cond option (option_role (option_named (before_first is_equals word) choices) (value_behind word)) (AsArgument word))
+    go true = option_is_fit (option_named (before_first is_equals word) choices) (value_behind word) (value_is_text word is)
+    go false = is
 
-option_is_text : (at : ℕ) (word : List ℕ) (given : List GivenText) (left : List Argument) (choice : Option Choice) → AreText given → IsUtf8 word → IsText (after_option at word given left choice)
-option_is_text at word given left None are is = tt
-option_is_text at word given left (Some choice) are is = go (not (option_row choice).repeats && is_chosen (option_row choice) given)
+role_is_fit : (choices : List Choice) (pending : Option Choice) (word : List ℕ) → IsUtf8 word → IsFitRole (role_of choices pending word)
+role_is_fit choices None word is = plain_is_fit choices word is
+role_is_fit choices (Some c) word is = is
+
+first_is_fit : (left : List Argument) (text : List ℕ) → IsUtf8 text → IfSome (first_argument left text) IsFit
+first_is_fit [] text is = tt
+first_is_fit (a ∷ left) text is = argument_is_fit a text is
+
+given_is_fit : (left : List Argument) (role : Role) → IsFitRole role → IfSome (given_by left role) IsFit
+given_is_fit left Unknown is = tt
+given_is_fit left (Flag c g) is = is
+given_is_fit left (Waits c) is = tt
+given_is_fit left (WithValue c text) is = value_is_fit c text is
+given_is_fit left (ValueFor c text) is = value_is_fit c text is
+given_is_fit left (AsArgument text) is = first_is_fit left text is
+
+after_is_fit : (at all : ℕ) (standing : Standing) (role : Role) → AreFit standing.draft → IsFitRole role → IfOk (after_role at all standing role) (λ next. AreFit next.draft)
+after_is_fit at all standing role are is = go (first_kind standing.before standing.left (at == all) role)
   where
-    go : (again : Bool) → IsText (cond again (Err (error.Fault at kind.Repeated)) (after_choice at choice (value_behind word) given left))
-    go true = tt
-    go false = choice_is_text at choice (value_behind word) given left are (value_is_text word is)
-
-argument_is_text : (at : ℕ) (word : List ℕ) (given : List GivenText) (left : List Argument) → AreText given → IsUtf8 word → IsText (after_argument at word given left)
-argument_is_text at word given [] are is = tt
-argument_is_text at word given (argument ∷ left) are is = checked_is_text at (argument_row argument).name (argument_row argument).form word given left are is
-
-plain_word_is_text : (choices : List Choice) (at : ℕ) (word : List ℕ) (given : List GivenText) (left : List Argument) → AreText given → IsUtf8 word → IsText (after_plain_word choices at word given left)
-plain_word_is_text choices at word given left are is = go (is_option word)
-  where
-    go : (option : Bool) → IsText (cond option (after_option at word given left (option_named (before_first is_equals word) choices)) (after_argument at word given left))
-    go true = option_is_text at word given left (option_named (before_first is_equals word) choices) are is
-    go false = argument_is_text at word given left are is
-
-word_is_text : (choices : List Choice) (at : ℕ) (word : List ℕ) (standing : Standing) (pending : Option Choice) → AreText standing.given → IsUtf8 word → IsText (after_word choices at word standing pending)
-word_is_text choices at word standing None are is = plain_word_is_text choices at word standing.given standing.left are is
-word_is_text choices at word standing (Some choice) are is = checked_is_text at (option_row choice).name (option_row choice).form word standing.given standing.left are is
+    go : (kind : Option WordsKind) → IfOk (unless_kind at kind (after_sound standing role)) (λ next. AreFit next.draft)
+    go None = with_more standing.draft (given_by standing.left role) are (given_is_fit standing.left role is)
+    go (Some kind) = tt
 
 -- All words
 
-words_are_text : (choices : List Choice) (at : ℕ) (words : List (List ℕ)) (read : Result Standing WordsError) → All IsUtf8 words → IsText read → IsText (after_words choices at words read)
-words_are_text choices at [] read are is = is
-words_are_text choices at (word ∷ words) (Ok standing) are is =
-    words_are_text choices (at + 1) words (after_word choices at word standing standing.pending) (All-tail IsUtf8 word words are) (word_is_text choices at word standing standing.pending is (All-head IsUtf8 word words are))
-words_are_text choices at (word ∷ words) (Err fault) are is = tt
+words_are_fit : (choices : List Choice) (at all : ℕ) (words : List (List ℕ)) (read : Result Standing WordsError) → All IsUtf8 words → IfOk read (λ standing. AreFit standing.draft) → IfOk (after_words choices at all words read) (λ standing. AreFit standing.draft)
+words_are_fit choices at all [] read are fit = fit
+words_are_fit choices at all (word ∷ words) (Ok standing) are fit =
+    words_are_fit choices (at + 1) all words (after_role at all standing (role_of choices standing.pending word)) (All-tail IsUtf8 word words are) (after_is_fit at all standing (role_of choices standing.pending word) fit (role_is_fit choices standing.pending word (All-head IsUtf8 word words are)))
+words_are_fit choices at all (word ∷ words) (Err fault) are fit = tt
 
-end_is_text : (choices : List Choice) (all : ℕ) (standing : Standing) (pending : Option Choice) → AreText standing.given → IfOk (texts_at_end choices all standing pending) AreText
-end_is_text choices all standing (Some choice) are = tt
-end_is_text choices all standing None are = go (is_missing choices standing.given standing.left)
+reading_is_fit : (verb : Verb) (words : List (List ℕ)) → All IsUtf8 words → IfOk (draft_or_fault (reading_of verb words)) AreFit
+reading_is_fit verb words are = go (reading_of verb words) (words_are_fit (options verb) 2 (length words + 1) words (Ok (before_words verb)) are (tt, tt, tt, tt, tt, tt, tt))
   where
-    ended : Bool → Result (List GivenText) WordsError
-    ended missing = cond missing (Err (error.Fault all kind.Missing)) (Ok standing.given)
-
-    go : (missing : Bool) → IfOk (ended missing) AreText
-    go true = tt
-    go false = are
-
-given_are_text : (verb : Verb) (words : List (List ℕ)) → All IsUtf8 words → IfOk (given_texts verb words) AreText
-given_are_text verb words are = go (after_words (options verb) 2 words (Ok (before_words verb))) (words_are_text (options verb) 2 words (Ok (before_words verb)) are (All-nil (λ g. IsUtf8 g.text)))
-  where
-    go : (read : Result Standing WordsError) → IsText read → IfOk (texts_unless_fault (options verb) (length words + 1) read) AreText
-    go (Ok standing) is = end_is_text (options verb) (length words + 1) standing standing.pending is
-    go (Err fault) is = tt
+    go : (read : Result Standing WordsError) → IfOk read (λ standing. AreFit standing.draft) → IfOk (draft_or_fault read) AreFit
+    go (Ok standing) fit = fit
+    go (Err fault) fit = tt
 
 -- The command
 
-look_is_text : (name : List ℕ) (given : List GivenText) → AreText given → IfSome (look name given) IsUtf8
-look_is_text name [] are = tt
-look_is_text name (g ∷ given) are = go (bytes_eq g.name name) (look_is_text name given (All-tail (λ g. IsUtf8 g.text) g given are))
+-- what is known of a command
+abbrev IsKnown : Command → Type 0
+IsKnown command = FilePathsAreText command × (0 < jobs_in command) × NumbersFit command
+
+some_job : (jobs : Option ℕ) → IfSome jobs (IsWithin 1 64) → 0 < unwrap_or jobs 1
+some_job None fit = omega arith
+some_job (Some jobs) fit = omega (arith, fit.0)
+
+source_is_text : (s : Source) → IsTextSource s → All IsUtf8 (folders_in s) × IfSome (image_in s) IsUtf8
+source_is_text (source.Folders dirs) are = (are, tt)
+source_is_text (source.Image image) is = (All-nil IsUtf8, is)
+
+command_is_known : (verb : Verb) (draft : Draft) → AreFit draft → IfSome (command_of verb draft) IsKnown
+command_is_known verb draft (file, folder, source, output, modules, classes, jobs) = go verb
   where
-    go : (same : Bool) → IfSome (look name given) IsUtf8 → IfSome (option_map (λ g. g.text) (cond same (Some g) (find (λ g. bytes_eq g.name name) given))) IsUtf8
-    go true rest = All-head (λ g. IsUtf8 g.text) g given are
-    go false rest = rest
+    job : 0 < jobs_of draft
+    job = some_job draft.jobs jobs
 
-or_empty_is_text : (text : Option (List ℕ)) → IfSome text IsUtf8 → IsUtf8 (unwrap_or text [])
-or_empty_is_text None is = IsUtf8-nil
-or_empty_is_text (Some text) is = is
+    on_file : (make : List ℕ → Option Command) → ((text : List ℕ) → IsUtf8 text → IfSome (make text) IsKnown) → IfSome (needing draft.file make) IsKnown
+    on_file make known = needed IsUtf8 IsKnown draft.file make file known
 
-module_path_is_text : (text : Option (List ℕ)) → IfSome text IsUtf8 → All IsUtf8 (module_path text)
-module_path_is_text None is = All-nil IsUtf8
-module_path_is_text (Some text) is = folders_are_text text is
+    any : {A : Type 0} (o : Option A) (make : A → Option Command) → ((x : A) → IfSome (make x) IsKnown) → IfSome (needing o make) IsKnown
+    any o make known = needed (λ _. Unit {0}) IsKnown o make (always o) (λ x _. known x)
 
-command_is_text : (verb : Verb) (given : List GivenText) → AreText given → FilePathsAreText (command_of verb given)
-command_is_text verb given are = go verb
+    go : (v : Verb) → IfSome (command_of v draft) IsKnown
+    go verb_is.Link =
+        needed IsTextSource IsKnown draft.source _ source (λ s is. any draft.roots _ (λ roots. needed IsUtf8 IsKnown draft.output _ output (λ text fit. let both = source_is_text s is in ((both.0, fit, both.1), job, tt))))
+    go verb_is.Cat = on_file _ (λ image is. any draft.name _ (λ name. (is, job, tt)))
+    go verb_is.List = on_file _ (λ image is. (is, job, tt))
+    go verb_is.Ls = on_file _ (λ image is. any draft.name _ (λ path. (is, job, tt)))
+    go verb_is.Info = on_file _ (λ image is. (is, job, tt))
+    go verb_is.Extract = on_file _ (λ image is. needed IsUtf8 IsKnown draft.folder _ folder (λ dir fit. ((is, fit), job, tt)))
+    go verb_is.Verify = on_file _ (λ image is. (is, job, tt))
+    go verb_is.Serve = on_file _ (λ image is. (is, job, tt))
+    go verb_is.Gen =
+        needed IsUtf8 IsKnown draft.folder _ folder (λ dir is. needed (IsWithin 1 256) IsKnown draft.modules _ modules (λ m few. needed (IsWithin 1 1024) IsKnown draft.classes _ classes (λ n less. any draft.seed _ (λ seed. (is, job, (few, less))))))
+    go verb_is.Describe = on_file _ (λ file is. (is, job, tt))
+    go verb_is.Help = (tt, job, tt)
+    go verb_is.Version = (tt, job, tt)
+
+words_are_known : (words : List (List ℕ)) → All IsUtf8 words → IfOk (command_in words) IsKnown
+words_are_known [] are = tt
+words_are_known (name ∷ words) are = go (verb_named name)
   where
-    is : (name : List ℕ) → IsUtf8 (text_of name given)
-    is name = or_empty_is_text (look name given) (look_is_text name given are)
+    made : (command : Option Command) → IfSome command IsKnown → IfOk (command_or_missing (length words + 1) command) IsKnown
+    made None known = tt
+    made (Some command) known = known
 
-    go : (v : Verb) → FilePathsAreText (command_of v given)
-    go verb_is.Link = (module_path_is_text (look (codes "--module-path") given) (look_is_text (codes "--module-path") given are), is (codes "--output"), look_is_text (codes "--from-image") given are)
-    go verb_is.Cat = is (codes "IMAGE")
-    go verb_is.List = is (codes "IMAGE")
-    go verb_is.Ls = is (codes "IMAGE")
-    go verb_is.Info = is (codes "IMAGE")
-    go verb_is.Extract = (is (codes "IMAGE"), without_slashes_is_text (text_of (codes "--dir") given) (is (codes "--dir")))
-    go verb_is.Verify = is (codes "IMAGE")
-    go verb_is.Serve = is (codes "IMAGE")
-    go verb_is.Gen = without_slashes_is_text (text_of (codes "DIR") given) (is (codes "DIR"))
-    go verb_is.Describe = is (codes "FILE")
-    go verb_is.Help = tt
-    go verb_is.Version = tt
+    read : (verb : Verb) (draft : Result Draft WordsError) → IfOk draft AreFit → IfOk (command_unless_fault verb (length words + 1) draft) IsKnown
+    read verb (Ok draft) fit = made (command_of verb draft) (command_is_known verb draft fit)
+    read verb (Err fault) fit = tt
 
--- a number within its limits, or the lower one
-number_is_within : (low high : ℕ) (text : List ℕ) → low ≤ high → (low ≤ number_or_low low high text) × (number_or_low low high text ≤ high)
-number_is_within low high text rises = go (is_numeral text && (nat_le low (decimal_from 0 text) && nat_le (decimal_from 0 text) high)) refl
-  where
-    go : (fits : Bool) → (is_numeral text && (nat_le low (decimal_from 0 text) && nat_le (decimal_from 0 text) high)) ≡ fits → (low ≤ unwrap_or (cond fits (Some (decimal_from 0 text)) None) low) × (unwrap_or (cond fits (Some (decimal_from 0 text)) None) low ≤ high)
-    go true fits =
-        let within = (and_parts (is_numeral text) (nat_le low (decimal_from 0 text) && nat_le (decimal_from 0 text) high) fits).1 in
-        let both = and_parts (nat_le low (decimal_from 0 text)) (nat_le (decimal_from 0 text) high) within in
-        (leb-true low (decimal_from 0 text) both.0, leb-true (decimal_from 0 text) high both.1)
-    go false fails = (omega arith, rises)
+    go : (verb : Option Verb) → IfOk (command_after verb words) IsKnown
+    go None = tt
+    go (Some verb) = read verb (draft_or_fault (reading_of verb words)) (reading_is_fit verb words (All-tail IsUtf8 name words are))
 
-some_job_of : (verb : Verb) (given : List GivenText) → 0 < jobs_in (command_of verb given)
-some_job_of verb given = go verb (let within = number_is_within 1 64 (text_of (codes "--jobs") given) (omega arith) in omega (arith, within.0))
-  where
-    go : (v : Verb) → 0 < jobs_of given → 0 < jobs_in (command_of v given)
-    go verb_is.Link some = some
-    go verb_is.Cat some = some
-    go verb_is.List some = some
-    go verb_is.Ls some = some
-    go verb_is.Info some = some
-    go verb_is.Extract some = some
-    go verb_is.Verify some = some
-    go verb_is.Serve some = some
-    go verb_is.Gen some = some
-    go verb_is.Describe some = some
-    go verb_is.Help some = some
-    go verb_is.Version some = some
-
-numbers_fit_of : (verb : Verb) (given : List GivenText) → NumbersFit (command_of verb given)
-numbers_fit_of verb_is.Link given = tt
-numbers_fit_of verb_is.Cat given = tt
-numbers_fit_of verb_is.List given = tt
-numbers_fit_of verb_is.Ls given = tt
-numbers_fit_of verb_is.Info given = tt
-numbers_fit_of verb_is.Extract given = tt
-numbers_fit_of verb_is.Verify given = tt
-numbers_fit_of verb_is.Serve given = tt
-numbers_fit_of verb_is.Gen given = (
-  number_is_within 1 256 (text_of (codes "--modules") given) (omega arith),
-  number_is_within 1 1024 (text_of (codes "--classes") given) (omega arith),
-)
-numbers_fit_of verb_is.Describe given = tt
-numbers_fit_of verb_is.Help given = tt
-numbers_fit_of verb_is.Version given = tt
-
--- All words of the command line
+part_of : (P Q : Command → Type 0) (result : Result Command WordsError) → ((command : Command) → P command → Q command) → IfOk result P → IfOk result Q
+part_of P Q (Ok command) part holds = part command holds
+part_of P Q (Err fault) part holds = tt
 
 pub paths_are_text : (words : List (List ℕ)) → All IsUtf8 words → IfOk (command_in words) FilePathsAreText
-paths_are_text [] are = tt
-paths_are_text (name ∷ words) are = go (verb_named name)
-  where
-    read : (verb : Verb) (given : Result (List GivenText) WordsError) → IfOk given AreText → IfOk (command_unless_fault verb given) FilePathsAreText
-    read verb (Ok given) is = command_is_text verb given is
-    read verb (Err fault) is = tt
+paths_are_text words are = part_of IsKnown FilePathsAreText (command_in words) (λ command known. known.0) (words_are_known words are)
 
-    go : (verb : Option Verb) → IfOk (command_after verb words) FilePathsAreText
-    go None = tt
-    go (Some verb) = read verb (given_texts verb words) (given_are_text verb words (All-tail IsUtf8 name words are))
+pub jobs_are_some : (words : List (List ℕ)) → All IsUtf8 words → IfOk (command_in words) (λ command. 0 < jobs_in command)
+jobs_are_some words are = part_of IsKnown (λ command. 0 < jobs_in command) (command_in words) (λ command known. known.1) (words_are_known words are)
 
-module _ (P : Command → Type 0) (holds : (verb : Verb) (given : List GivenText) → P (command_of verb given)) where
-  any_command : (words : List (List ℕ)) → IfOk (command_in words) P
-  any_command [] = tt
-  any_command (name ∷ words) = go (verb_named name)
-    where
-      read : (verb : Verb) (given : Result (List GivenText) WordsError) → IfOk (command_unless_fault verb given) P
-      read verb (Ok given) = holds verb given
-      read verb (Err fault) = tt
-
-      go : (verb : Option Verb) → IfOk (command_after verb words) P
-      go None = tt
-      go (Some verb) = read verb (given_texts verb words)
-
-pub some_job : (words : List (List ℕ)) → IfOk (command_in words) (λ command. 0 < jobs_in command)
-some_job = any_command (λ command. 0 < jobs_in command) some_job_of
-
-pub numbers_fit : (words : List (List ℕ)) → IfOk (command_in words) NumbersFit
-numbers_fit = any_command NumbersFit numbers_fit_of
+pub numbers_fit : (words : List (List ℕ)) → All IsUtf8 words → IfOk (command_in words) NumbersFit
+numbers_fit words are = part_of IsKnown NumbersFit (command_in words) (λ command known. known.2) (words_are_known words are)
 
 -- what holds of the command that the words make holds of the one that was read
 pub read_unless_memory : (P : Command → Type 0) (result given : Result Command WordsError) → UnlessMemory Memory result given → IfOk given P → IfOk result P

@@ -1,5 +1,5 @@
 -- How the words are read, step by step.
-use Rattle.std.proofs.Common.{◌≡◌, ℕ, ◌+◌, ◌<◌, Bool, false, List, [], ◌∷◌, length, take, get_or, map, drop, Result, Ok, Err, refl, sym, ap, ◌∙◌, inl, inr, arith}
+use Rattle.std.proofs.Common.{◌≡◌, ℕ, ◌+◌, ◌<◌, ◌==◌, Bool, true, false, List, [], ◌∷◌, ◌++◌, length, take, get_or, map, drop, Option, Some, None, Result, Ok, Err, refl, sym, ap, ◌∙◌, inl, inr, arith}
 use Rattle.std.specs.List.{list_any, before_first, position_or_len}
 use Rattle.std.proofs.Math.Seq.{take-length}
 use Rattle.std.proofs.lemmas.Bool.{false≢true, false_from_ne_true}
@@ -9,11 +9,17 @@ use Rattle.jm_bytes.proofs.Choice.{same_err}
 use Rattle.std.proofs.lemmas.List.{drop_more}
 use Rattle.jm_words.specs.declared.errors.WordsError.{WordsError}
 use Rattle.jm_words.specs.declared.errors.WordsError.TheVariants.{Memory}
+use Rattle.jm_words.specs.declared.errors.WordsKind.TheVariants as kind
+use Rattle.jm_words.specs.declared.given.Given.{Given}
+use Rattle.jm_words.specs.declared.tables.Argument.{Argument}
 use Rattle.jm_words.specs.declared.tables.Choice.{Choice}
 use Rattle.jm_words.specs.declared.tables.Verb.{Verb}
 use Rattle.jm_words.specs.Tables.{options}
 use Rattle.jm_bytes.specs.Results.{UnlessMemory}
-use Rattle.jm_words.specs.Reading.{Standing, after_word, after_words, texts_unless_fault, before_words, given_texts}
+use Rattle.jm_words.specs.Givens.{argument_of, flag_of, value_of}
+use Rattle.jm_words.specs.Reading.{Standing, after_role, after_words, draft_or_fault, fault_at, reading_of}
+use Rattle.jm_words.specs.ReadingSteps.{after_argument, after_bare, after_text}
+use Rattle.jm_words.specs.Roles.{AsArgument, ValueFor, WithValue, option_role, role_of, stands_again}
 
 -- all stands before the first byte that passes, where none passes
 pub before_first_none : (p : ℕ → Bool) (xs : List ℕ) → list_any p xs ≡ false → before_first p xs ≡ xs
@@ -22,36 +28,87 @@ before_first_none p xs none =
     position_or_len_is p xs (length xs) 0 (omega arith) (λ j below. false_from_ne_true (p (get_or xs j 0)) (λ is. false≢true (sym none ∙ list_any_at p xs j 0 below is))) (λ below. absurd (omega (arith, below))) in
     ap (λ n. take n xs) place ∙ take-length xs
 
--- a fault ends the reading
-pub after_words_err : (choices : List Choice) (at : ℕ) (words : List (List ℕ)) (e : WordsError) → after_words choices at words (Err e) ≡ Err e
-after_words_err choices at [] e = refl
-after_words_err choices at (word ∷ words) e = refl
+-- One word in its role
 
-module _ {S : Type 0} (text : S → List ℕ) (verb : Verb) (words : List S) (i : ℕ) (r : S) (word : List ℕ) (standing : Standing) (choices : List Choice)
+-- the value that an option waits for
+pub value_read : (at all : ℕ) (standing : Standing) (choice : Choice) (text : List ℕ) → after_role at all standing (ValueFor choice text) ≡ after_text at (value_of choice text) standing
+value_read at all standing choice text = go (value_of choice text) refl
+  where
+    go : (given : Option Given) → value_of choice text ≡ given → after_role at all standing (ValueFor choice text) ≡ after_text at given standing
+    go None e = rw e refl
+    go (Some given) e = rw e refl
+
+module _ (at all : ℕ) (standing : Standing) (choice : Choice) where
+  -- an option that stands again
+  pub again_read : (value : Option (List ℕ)) → stands_again standing.before (Some choice) ≡ true → after_role at all standing (option_role (Some choice) value) ≡ fault_at at kind.Repeated
+  again_read (Some text) again = rw again refl
+  again_read None again = go (flag_of choice) refl
+    where
+      go : (flag : Option Given) → flag_of choice ≡ flag → after_role at all standing (option_role (Some choice) None) ≡ fault_at at kind.Repeated
+      go None e = rw (e, again) refl
+      go (Some given) e = rw (e, again) refl
+
+  -- an option with its value behind `=`
+  pub option_read : (text : List ℕ) → stands_again standing.before (Some choice) ≡ false → after_role at all standing (WithValue choice text) ≡ after_text at (value_of choice text) (record standing { before = standing.before ++ choice ∷ [] })
+  option_read text once = go (value_of choice text) refl
+    where
+      go : (given : Option Given) → value_of choice text ≡ given → after_role at all standing (WithValue choice text) ≡ after_text at given (record standing { before = standing.before ++ choice ∷ [] })
+      go None e = rw (once, e) refl
+      go (Some given) e = rw (once, e) refl
+
+  -- an option without `=`
+  pub bare_read : stands_again standing.before (Some choice) ≡ false → after_role at all standing (option_role (Some choice) None) ≡ after_bare at all choice (flag_of choice) (record standing { before = standing.before ++ choice ∷ [] })
+  bare_read once = go (flag_of choice) refl
+    where
+      last : (is : Bool) → (at == all) ≡ is → flag_of choice ≡ None → after_role at all standing (option_role (Some choice) None) ≡ after_bare at all choice None (record standing { before = standing.before ++ choice ∷ [] })
+      last true is e = rw (e, once, is) refl
+      last false is e = rw (e, once, is) refl
+
+      go : (flag : Option Given) → flag_of choice ≡ flag → after_role at all standing (option_role (Some choice) None) ≡ after_bare at all choice flag (record standing { before = standing.before ++ choice ∷ [] })
+      go None e = last (at == all) refl e
+      go (Some given) e = rw (e, once) refl
+
+-- a word that is an argument
+pub argument_read : (at all : ℕ) (word : List ℕ) (standing : Standing) (left : List Argument) → standing.left ≡ left → after_role at all standing (AsArgument word) ≡ after_argument at word left standing
+argument_read at all word standing [] is = rw is refl
+argument_read at all word standing (argument ∷ left) is = go (argument_of argument word) refl
+  where
+    go : (given : Option Given) → argument_of argument word ≡ given → after_role at all standing (AsArgument word) ≡ after_text at given (record standing { left = left; pending = None })
+    go None e = rw (is, e) refl
+    go (Some given) e = rw (is, e) refl
+
+-- All words
+
+-- a fault ends the reading
+pub after_words_err : (choices : List Choice) (at all : ℕ) (words : List (List ℕ)) (e : WordsError) → after_words choices at all words (Err e) ≡ Err e
+after_words_err choices at all [] e = refl
+after_words_err choices at all (word ∷ words) e = refl
+
+module _ {S : Type 0} (text : S → List ℕ) (verb : Verb) (words : List S) (i : ℕ) (r : S) (word : List ℕ) (standing : Standing) (choices : List Choice) (all : ℕ)
     (below : i < length words) (there : r ≡ get_or words i r) (is : word ≡ text r) (same : choices ≡ options verb)
-    (whole : after_words (options verb) 2 (map text words) (Ok (before_words verb)) ≡ after_words (options verb) (i + 2) (map text (drop i words)) (Ok standing)) where
+    (whole : reading_of verb (map text words) ≡ after_words (options verb) (i + 2) all (map text (drop i words)) (Ok standing)) where
   -- the word that is read next
-  after_next : after_words (options verb) 2 (map text words) (Ok (before_words verb)) ≡ after_words (options verb) (i + 2 + 1) (map text (drop (i + 1) words)) (after_word choices (i + 2) word standing standing.pending)
+  after_next : reading_of verb (map text words) ≡ after_words (options verb) (i + 2 + 1) all (map text (drop (i + 1) words)) (after_role (i + 2) all standing (role_of choices standing.pending word))
   after_next =
       whole
-      ∙ ap (λ xs. after_words (options verb) (i + 2) (map text xs) (Ok standing)) (drop_more words i r below)
-      ∙ ap (λ w. after_words (options verb) (i + 2 + 1) (map text (drop (i + 1) words)) (after_word (options verb) (i + 2) w standing standing.pending)) (ap text (sym there) ∙ sym is)
-      ∙ ap (λ cs. after_words (options verb) (i + 2 + 1) (map text (drop (i + 1) words)) (after_word cs (i + 2) word standing standing.pending)) (sym same)
+      ∙ ap (λ xs. after_words (options verb) (i + 2) all (map text xs) (Ok standing)) (drop_more words i r below)
+      ∙ ap (λ w. after_words (options verb) (i + 2 + 1) all (map text (drop (i + 1) words)) (after_role (i + 2) all standing (role_of (options verb) standing.pending w))) (ap text (sym there) ∙ sym is)
+      ∙ ap (λ cs. after_words (options verb) (i + 2 + 1) all (map text (drop (i + 1) words)) (after_role (i + 2) all standing (role_of cs standing.pending word))) (sym same)
 
   -- the fault of a word is that of all words
-  pub reading_stops : (e : WordsError) → UnlessMemory Memory (Err e) (after_word choices (i + 2) word standing standing.pending) → UnlessMemory Memory (Err e) (given_texts verb (map text words))
+  pub reading_stops : (e : WordsError) → UnlessMemory Memory (Err e) (after_role (i + 2) all standing (role_of choices standing.pending word)) → UnlessMemory Memory (Err e) (draft_or_fault (reading_of verb (map text words)))
   reading_stops e given = elim given [
     | inl memory ↦ inl (ap Err (same_err e Memory memory))
-    | inr read ↦ inr (sym (ap (texts_unless_fault (options verb) (length (map text words) + 1)) (after_next ∙ ap (after_words (options verb) (i + 2 + 1) (map text (drop (i + 1) words))) (sym read) ∙ after_words_err (options verb) (i + 2 + 1) (map text (drop (i + 1) words)) e)))
+    | inr read ↦ inr (sym (ap draft_or_fault (after_next ∙ ap (after_words (options verb) (i + 2 + 1) all (map text (drop (i + 1) words))) (sym read) ∙ after_words_err (options verb) (i + 2 + 1) all (map text (drop (i + 1) words)) e)))
   ]
 
   -- what stands behind a word is read on
-  pub reading_goes : (next : Standing) → UnlessMemory Memory (Ok next) (after_word choices (i + 2) word standing standing.pending) → after_words (options verb) 2 (map text words) (Ok (before_words verb)) ≡ after_words (options verb) (i + 1 + 2) (map text (drop (i + 1) words)) (Ok next)
+  pub reading_goes : (next : Standing) → UnlessMemory Memory (Ok next) (after_role (i + 2) all standing (role_of choices standing.pending word)) → reading_of verb (map text words) ≡ after_words (options verb) (i + 1 + 2) all (map text (drop (i + 1) words)) (Ok next)
   reading_goes next given = elim given [
     | inl memory ↦ absurd (ok_not_err memory)
     | inr read ↦
         let number : i + 2 + 1 ≡ i + 1 + 2 = omega arith in
-        after_next ∙ ap (after_words (options verb) (i + 2 + 1) (map text (drop (i + 1) words))) (sym read) ∙ ap (λ n. after_words (options verb) n (map text (drop (i + 1) words)) (Ok next)) number
+        after_next ∙ ap (after_words (options verb) (i + 2 + 1) all (map text (drop (i + 1) words))) (sym read) ∙ ap (λ n. after_words (options verb) n all (map text (drop (i + 1) words)) (Ok next)) number
   ]
     where
       ok_not_err : ◌≡◌ {A = Result Standing WordsError} (Ok next) (Err Memory) → ⊥

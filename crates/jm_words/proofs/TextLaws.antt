@@ -1,5 +1,5 @@
 -- What is cut out of a text at ASCII bytes is text.
-use Rattle.std.proofs.Common.{◌≡◌, ℕ, zero, suc, ◌+◌, ◌<◌, ◌≤◌, ◌==◌, Bool, true, false, List, [], ◌∷◌, take, length, get_or, cond, All, IsUtf8, refl, ap, arith, length-drop}
+use Rattle.std.proofs.Common.{◌≡◌, ℕ, zero, suc, ◌+◌, ◌<◌, ◌≤◌, ◌==◌, Bool, true, false, List, [], ◌∷◌, take, length, get_or, map, cond, All, IsUtf8, refl, ap, arith, length-drop}
 use Rattle.std.specs.List.{list_any, before_first, after_first, position_or_len}
 use Rattle.std.proofs.lemmas.Bool.{eqb-true}
 use Rattle.std.proofs.lemmas.List.Elements.{All-cons, All-map, All-nil, All-weaker}
@@ -7,7 +7,7 @@ use Rattle.std.proofs.lemmas.List.Sums.{passes_at_first}
 use Rattle.std.proofs.lemmas.Str.{IsCharBoundary-after_ascii, IsCharBoundary-before_ascii, IsUtf8-drop, IsUtf8-take}
 use Rattle.jm_bytes.proofs.Firsts.{position_below}
 use Rattle.jm_names.specs.Names.{is_slash}
-use Rattle.jm_words.specs.Values.{before_text, folders_of, parts_at, without_slashes}
+use Rattle.jm_words.specs.Values.{before_text, parts_at, without_slashes}
 use Rattle.jm_words.proofs.ValueLaws.{parts_first, parts_none}
 
 module _ (byte : ℕ) (ascii : byte < 128) where
@@ -67,5 +67,5 @@ without_slashes_is_text text is =
     let ends = ends_at_slash text in
     rw ends.1 (IsUtf8-take text ends.0 is (ends.2, λ below high. let slash = ends.3 below in absurd (omega arith)))
 
-pub folders_are_text : (text : List ℕ) → IsUtf8 text → All IsUtf8 (folders_of text)
+pub folders_are_text : (text : List ℕ) → IsUtf8 text → All IsUtf8 (map without_slashes (parts_at 58 text))
 folders_are_text text is = All-map IsUtf8 without_slashes (parts_at 58 text) (All-weaker IsUtf8 (λ part. IsUtf8 (without_slashes part)) without_slashes_is_text (parts_at 58 text) (parts_are_text 58 (omega arith) text is))

@@ -47,3 +47,19 @@ cat_with_jobs = refl
 link_from_folders : command_in (codes "link" ∷ codes "--module-path=x/:y" ∷ codes "--output" ∷ codes "o" ∷ codes "--compact-pool" ∷ codes "--add-modules=a,b" ∷ [])
     ≡ Ok (command.Link (codes "x" ∷ codes "y" ∷ []) (codes "a" ∷ codes "b" ∷ []) (codes "o") (plugin.Compact ∷ []) Little false None 1)
 link_from_folders = refl
+
+option_again_without_value : command_in (codes "cat" ∷ codes "--jobs=2" ∷ codes "--jobs" ∷ []) ≡ fault_at 3 kind.Repeated
+option_again_without_value = refl
+
+flag_with_value : command_in (codes "link" ∷ codes "--bind-services=1" ∷ []) ≡ fault_at 2 kind.BadValue
+flag_with_value = refl
+
+number_with_zero : command_in (codes "gen" ∷ codes "--modules=01" ∷ codes "d" ∷ []) ≡ fault_at 2 kind.BadValue
+number_with_zero = refl
+
+value_like_option : command_in (codes "extract" ∷ codes "img" ∷ codes "--dir" ∷ codes "--dir/" ∷ [])
+    ≡ Ok (command.Extract (codes "img") (codes "--dir") None 1)
+value_like_option = refl
+
+no_source : command_in (codes "link" ∷ codes "--add-modules=a" ∷ codes "--output=o" ∷ []) ≡ fault_at 3 kind.Missing
+no_source = refl

@@ -1,103 +1,90 @@
 -- The command that words make (this project's rule).
-use Rattle.std.specs.Prelude.{ℕ, ◌-◌, ◌^◌, List, [], ◌∷◌, Option, Some, None, Result, Ok, Err}
-use Rattle.std.specs.Prelude.{option_map, unwrap_or, if◌then◌else◌, codes}
-use Rattle.std.specs.List.{find, filter_map}
+use Rattle.std.specs.Prelude.{ℕ, ◌+◌, List, [], ◌∷◌, length, Option, Some, None, unwrap_or}
+use Rattle.std.specs.Prelude.{Result, Ok, Err}
+use Rattle.std.specs.List.{find}
 use Rattle.std.specs.Str.{bytes_eq}
-use Rattle.jm_names.specs.UtfForms.{modified}
-use Rattle.jm_pattern.specs.declared.signs.Sign.{Sign}
-use Rattle.jm_plugins.specs.declared.Plugin.{Plugin}
-use Rattle.jm_plugins.specs.declared.Plugin.TheVariants as plugin
+use Rattle.jm_bytes.specs.declared.words.Order.TheVariants.{Little}
 use Rattle.jm_words.specs.declared.commands.Command.{Command}
 use Rattle.jm_words.specs.declared.commands.Command.TheVariants as command
+use Rattle.jm_words.specs.declared.drafts.Draft.{Draft}
 use Rattle.jm_words.specs.declared.errors.WordsError.{WordsError}
 use Rattle.jm_words.specs.declared.errors.WordsKind.TheVariants as kind
+use Rattle.jm_words.specs.declared.given.Source.{Source}
+use Rattle.jm_words.specs.declared.given.Source.TheVariants as source
 use Rattle.jm_words.specs.declared.tables.Verb.{Verb}
 use Rattle.jm_words.specs.declared.tables.Verb.TheVariants as verb
 use Rattle.jm_words.specs.Tables.{verbs, verb_name}
-use Rattle.jm_words.specs.Values.{folders_of, names_of, number_of, order_of, patterns_of}
-use Rattle.jm_words.specs.Values.{without_slashes}
-use Rattle.jm_words.specs.Reading.{GivenText, fault_at, given_texts, stands}
+use Rattle.jm_words.specs.Reading.{draft_or_fault, fault_at, reading_of}
 
--- the text that was given first by a name, or none
-abbrev pub look : List ℕ → List GivenText → Option (List ℕ)
-look name given = option_map (λ g. g.text) (find (λ g. bytes_eq g.name name) given)
-
--- the text that was given first by a name, or no byte
-abbrev pub text_of : List ℕ → List GivenText → List ℕ
-text_of name given = unwrap_or (look name given) []
-
--- the number of a text, or the least where it is none
-abbrev pub number_or_low : ℕ → ℕ → List ℕ → ℕ
-number_or_low low high text = unwrap_or (number_of low high text) low
+-- what is made of a value that must be there, if it is
+abbrev pub needing : {A B : Type 0} → Option A → (A → Option B) → Option B
+needing None make = None
+needing (Some value) make = make value
 
 -- the number of jobs, 1 where none was given
-abbrev pub jobs_of : List GivenText → ℕ
-jobs_of given = number_or_low 1 64 (text_of (codes "--jobs") given)
+abbrev pub jobs_of : Draft → ℕ
+jobs_of draft = unwrap_or draft.jobs 1
 
--- the folders of `--module-path`, none where it doesn't stand
-abbrev pub module_path : Option (List ℕ) → List (List ℕ)
-module_path None = []
-module_path (Some text) = folders_of text
+-- the folders of `--module-path`, none where an image stands in their place
+abbrev pub folders_in : Source → List (List ℕ)
+folders_in (source.Folders dirs) = dirs
+folders_in (source.Image image) = []
 
--- the plug-in that a text gives, if it gives one
-abbrev pub plugin_of : GivenText → Option Plugin
-plugin_of g =
-    if bytes_eq g.name (codes "--exclude-resources") then Some (plugin.Exclude (patterns_of g.text))
-    else if bytes_eq g.name (codes "--order-resources")
-    then Some (plugin.Order (patterns_of g.text))
-    else if bytes_eq g.name (codes "--strip-java-debug-attributes") then Some plugin.Strip
-    else if bytes_eq g.name (codes "--compact-pool") then Some plugin.Compact
-    else None
+-- the image of `--from-image`, if it stands
+abbrev pub image_in : Source → Option (List ℕ)
+image_in (source.Folders dirs) = None
+image_in (source.Image image) = Some image
 
--- the patterns of `--include`, if it stands
-abbrev pub include_of : List GivenText → Option (List (List Sign))
-include_of given = option_map patterns_of (look (codes "--include") given)
-
--- the command of what was given
-abbrev pub command_of : Verb → List GivenText → Command
-command_of verb.Link given =
-    command.Link (module_path (look (codes "--module-path") given))
-    (names_of (text_of (codes "--add-modules") given)) (text_of (codes "--output") given)
-    (filter_map plugin_of given) (order_of (text_of (codes "--endian") given))
-    (stands (codes "--bind-services") given) (look (codes "--from-image") given)
-    (jobs_of given)
-command_of verb.Cat given =
-    command.Cat (text_of (codes "IMAGE") given) (modified (text_of (codes "NAME") given))
-    (jobs_of given)
-command_of verb.List given =
-    command.List (text_of (codes "IMAGE") given) (include_of given) (jobs_of given)
-command_of verb.Ls given =
-    command.Ls (text_of (codes "IMAGE") given) (modified (text_of (codes "PATH") given))
-    (jobs_of given)
-command_of verb.Info given = command.Info (text_of (codes "IMAGE") given) (jobs_of given)
-command_of verb.Extract given =
-    command.Extract (text_of (codes "IMAGE") given)
-    (without_slashes (text_of (codes "--dir") given)) (include_of given) (jobs_of given)
-command_of verb.Verify given = command.Verify (text_of (codes "IMAGE") given) (jobs_of given)
-command_of verb.Serve given = command.Serve (text_of (codes "IMAGE") given) (jobs_of given)
-command_of verb.Gen given =
-    command.Gen (without_slashes (text_of (codes "DIR") given))
-    (number_or_low 1 256 (text_of (codes "--modules") given))
-    (number_or_low 1 1024 (text_of (codes "--classes") given))
-    (number_or_low 0 (2 ^ 64 - 1) (text_of (codes "--seed") given)) (jobs_of given)
-command_of verb.Describe given = command.Describe (text_of (codes "FILE") given) (jobs_of given)
-command_of verb.Help given = command.Help (jobs_of given)
-command_of verb.Version given = command.Version (jobs_of given)
+-- the command of what was given, or none where an argument or an option isn't there that must be
+abbrev pub command_of : Verb → Draft → Option Command
+command_of verb.Link draft =
+    needing draft.source (λ source. needing draft.roots (λ roots.
+    needing draft.output (λ output. Some (command.Link (folders_in source) roots output
+    draft.plugins (unwrap_or draft.order Little) draft.bind (image_in source) (jobs_of draft)))))
+command_of verb.Cat draft =
+    needing draft.file (λ image. needing draft.name (λ name.
+    Some (command.Cat image name (jobs_of draft))))
+command_of verb.List draft =
+    needing draft.file (λ image. Some (command.List image draft.include (jobs_of draft)))
+command_of verb.Ls draft =
+    needing draft.file (λ image. needing draft.name (λ path.
+    Some (command.Ls image path (jobs_of draft))))
+command_of verb.Info draft = needing draft.file (λ image. Some (command.Info image (jobs_of draft)))
+command_of verb.Extract draft =
+    needing draft.file (λ image. needing draft.folder (λ dir.
+    Some (command.Extract image dir draft.include (jobs_of draft))))
+command_of verb.Verify draft =
+    needing draft.file (λ image. Some (command.Verify image (jobs_of draft)))
+command_of verb.Serve draft =
+    needing draft.file (λ image. Some (command.Serve image (jobs_of draft)))
+command_of verb.Gen draft =
+    needing draft.folder (λ dir. needing draft.modules (λ modules.
+    needing draft.classes (λ classes. needing draft.seed (λ seed.
+    Some (command.Gen dir modules classes seed (jobs_of draft))))))
+command_of verb.Describe draft =
+    needing draft.file (λ file. Some (command.Describe file (jobs_of draft)))
+command_of verb.Help draft = Some (command.Help (jobs_of draft))
+command_of verb.Version draft = Some (command.Version (jobs_of draft))
 
 -- the command of a name
 abbrev pub verb_named : List ℕ → Option Verb
 verb_named name = find (λ verb. bytes_eq (verb_name verb) name) verbs
 
+-- the command that is made, or `Missing` with the number of all words
+abbrev pub command_or_missing : ℕ → Option Command → Result Command WordsError
+command_or_missing all None = fault_at all kind.Missing
+command_or_missing all (Some command) = Ok command
+
 -- the command of what the words give, or their fault
-abbrev pub command_unless_fault : Verb → Result (List GivenText) WordsError
-    → Result Command WordsError
-command_unless_fault verb (Ok given) = Ok (command_of verb given)
-command_unless_fault verb (Err fault) = Err fault
+abbrev pub command_unless_fault : Verb → ℕ → Result Draft WordsError → Result Command WordsError
+command_unless_fault verb all (Ok draft) = command_or_missing all (command_of verb draft)
+command_unless_fault verb all (Err fault) = Err fault
 
 -- the command of a name that was looked up, with the words behind it, or their first fault
 abbrev pub command_after : Option Verb → List (List ℕ) → Result Command WordsError
 command_after None words = fault_at 1 kind.UnknownCommand
-command_after (Some verb) words = command_unless_fault verb (given_texts verb words)
+command_after (Some verb) words =
+    command_unless_fault verb (length words + 1) (draft_or_fault (reading_of verb words))
 
 -- the command that the words make, or their first fault with its word's number
 abbrev pub command_in : List (List ℕ) → Result Command WordsError

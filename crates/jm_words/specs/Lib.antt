@@ -1,7 +1,10 @@
 pub mod Commands
+pub mod Drafts
 pub mod FaultText
+pub mod Givens
 pub mod Paths
 pub mod Reading
-pub mod Rows
+pub mod ReadingSteps
+pub mod Roles
 pub mod Tables
 pub mod Values

@@ -1,13 +1,11 @@
 -- The commands, their arguments in order and their options (this project's rule).
-use Rattle.std.specs.Prelude.{ℕ, ◌-◌, ◌^◌, List, [], ◌∷◌, codes}
-use Rattle.jm_words.specs.declared.forms.Form.TheVariants as form
+use Rattle.std.specs.Prelude.{ℕ, Bool, true, false, List, [], ◌∷◌, codes}
 use Rattle.jm_words.specs.declared.tables.Verb.{Verb}
 use Rattle.jm_words.specs.declared.tables.Verb.TheVariants as verb
 use Rattle.jm_words.specs.declared.tables.Argument.{Argument}
 use Rattle.jm_words.specs.declared.tables.Argument.TheVariants as argument
 use Rattle.jm_words.specs.declared.tables.Choice.{Choice}
 use Rattle.jm_words.specs.declared.tables.Choice.TheVariants as choice
-use Rattle.jm_words.specs.Rows.{ArgumentForm, OptionForm, once, needed, either, again}
 
 -- the name of a command
 abbrev pub verb_name : Verb → List ℕ
@@ -54,29 +52,35 @@ options verb.Extract = choice.Jobs ∷ choice.Dir ∷ choice.Include ∷ []
 options verb.Gen = choice.Jobs ∷ choice.Modules ∷ choice.Classes ∷ choice.Seed ∷ []
 options _ = choice.Jobs ∷ []
 
--- an argument's name and form
-abbrev pub argument_row : Argument → ArgumentForm
-argument_row argument.Image = record { name = codes "IMAGE"; form = form.Path }
-argument_row argument.Name = record { name = codes "NAME"; form = form.Name }
-argument_row argument.Path = record { name = codes "PATH"; form = form.Path }
-argument_row argument.Folder = record { name = codes "DIR"; form = form.Folder }
-argument_row argument.File = record { name = codes "FILE"; form = form.Path }
+-- the name of an option
+abbrev pub option_name : Choice → List ℕ
+option_name choice.Jobs = codes "--jobs"
+option_name choice.ModulePath = codes "--module-path"
+option_name choice.FromImage = codes "--from-image"
+option_name choice.AddModules = codes "--add-modules"
+option_name choice.Output = codes "--output"
+option_name choice.Endian = codes "--endian"
+option_name choice.BindServices = codes "--bind-services"
+option_name choice.ExcludeResources = codes "--exclude-resources"
+option_name choice.OrderResources = codes "--order-resources"
+option_name choice.StripDebug = codes "--strip-java-debug-attributes"
+option_name choice.CompactPool = codes "--compact-pool"
+option_name choice.Include = codes "--include"
+option_name choice.Dir = codes "--dir"
+option_name choice.Modules = codes "--modules"
+option_name choice.Classes = codes "--classes"
+option_name choice.Seed = codes "--seed"
 
--- an option's name and form, and how often it stands
-abbrev pub option_row : Choice → OptionForm
-option_row choice.Jobs = once (codes "--jobs") (form.Number 1 64)
-option_row choice.ModulePath = either (codes "--module-path") form.Folders (codes "--from-image")
-option_row choice.FromImage = either (codes "--from-image") form.Path (codes "--module-path")
-option_row choice.AddModules = needed (codes "--add-modules") form.Names
-option_row choice.Output = needed (codes "--output") form.Path
-option_row choice.Endian = once (codes "--endian") form.Order
-option_row choice.BindServices = once (codes "--bind-services") form.Flag
-option_row choice.ExcludeResources = again (codes "--exclude-resources") form.Patterns
-option_row choice.OrderResources = again (codes "--order-resources") form.Patterns
-option_row choice.StripDebug = again (codes "--strip-java-debug-attributes") form.Flag
-option_row choice.CompactPool = again (codes "--compact-pool") form.Flag
-option_row choice.Include = once (codes "--include") form.Patterns
-option_row choice.Dir = needed (codes "--dir") form.Folder
-option_row choice.Modules = needed (codes "--modules") (form.Number 1 256)
-option_row choice.Classes = needed (codes "--classes") (form.Number 1 1024)
-option_row choice.Seed = needed (codes "--seed") (form.Number 0 (2 ^ 64 - 1))
+-- an option is a plug-in, which may stand again and again
+abbrev pub is_plugin : Choice → Bool
+is_plugin choice.ExcludeResources = true
+is_plugin choice.OrderResources = true
+is_plugin choice.StripDebug = true
+is_plugin choice.CompactPool = true
+is_plugin _ = false
+
+-- the option in whose place an option stands, or the option itself
+abbrev pub instead_of : Choice → Choice
+instead_of choice.ModulePath = choice.FromImage
+instead_of choice.FromImage = choice.ModulePath
+instead_of other = other

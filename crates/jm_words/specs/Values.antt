@@ -1,9 +1,8 @@
--- What the text of an argument, or of an option's value, must be, and what it is read as (this
+-- What the text of an argument, or of an option's value, means, if it is of its form (this
 -- project's rule).
-use Rattle.std.specs.Prelude.{ℕ, ◌+◌, ◌*◌, ◌-◌, Bool, true, false, not, nat_le, ◌==◌, ◌&&◌, ◌||◌}
-use Rattle.std.specs.Prelude.{List, [], ◌∷◌, Option, Some, None, is_some, Result, Ok, Err, map}
-use Rattle.std.specs.Prelude.{if◌then◌else◌, codes}
-use Rattle.std.specs.List.{list_all, slice_split}
+use Rattle.std.specs.Prelude.{ℕ, ◌+◌, ◌*◌, ◌-◌, Bool, false, nat_le, ◌==◌, ◌&&◌, List, [], ◌∷◌}
+use Rattle.std.specs.Prelude.{map, Option, Some, None, option_map, Result, Ok, Err, if◌then◌else◌, codes}
+use Rattle.std.specs.List.{list_all, list_any, slice_split}
 use Rattle.std.specs.Str.{bytes_eq}
 use Rattle.jm_bytes.specs.declared.words.Order.{Order}
 use Rattle.jm_bytes.specs.declared.words.Order.TheVariants.{Little, Big}
@@ -12,8 +11,6 @@ use Rattle.jm_names.specs.UtfForms.{modified}
 use Rattle.jm_pattern.specs.declared.signs.Sign.{Sign}
 use Rattle.jm_pattern.specs.declared.signs.PatternError.{PatternError}
 use Rattle.jm_pattern.specs.Items.{list_of}
-use Rattle.jm_words.specs.declared.forms.Form.{Form}
-use Rattle.jm_words.specs.declared.forms.Form.TheVariants as form
 
 -- a byte in front of a text without slashes at its end; a slash in front of no byte is left out
 abbrev pub before_text : ℕ → List ℕ → List ℕ
@@ -29,35 +26,45 @@ without_slashes (b ∷ text) = before_text b (without_slashes text)
 abbrev pub parts_at : ℕ → List ℕ → List (List ℕ)
 parts_at byte text = slice_split (λ b. b == byte) text
 
--- the folders of a text, cut at `:`, without the slashes at their ends
-abbrev pub folders_of : List ℕ → List (List ℕ)
-folders_of text = map without_slashes (parts_at 58 text)
+-- a text that has a byte
+abbrev pub path_of : List ℕ → Option (List ℕ)
+path_of text = if is_empty text then None else Some text
 
--- the names of modules in a text, cut at `,`
-abbrev pub names_of : List ℕ → List (List ℕ)
-names_of text = map modified (parts_at 44 text)
+-- a path in an image, which has a byte, in Modified UTF-8
+abbrev pub inner_path_of : List ℕ → Option (List ℕ)
+inner_path_of text = option_map modified (path_of text)
 
--- the patterns of a list that reads as some, and none of one that doesn't
-abbrev pub patterns_in : Result (List (List Sign)) PatternError → List (List Sign)
-patterns_in (Ok patterns) = patterns
-patterns_in (Err fault) = []
+-- a folder: what is left of a text without the slashes at its end, if anything is
+abbrev pub folder_of : List ℕ → Option (List ℕ)
+folder_of text = path_of (without_slashes text)
 
--- the patterns of a list
-abbrev pub patterns_of : List ℕ → List (List Sign)
+-- some texts, if each of them has a byte
+abbrev pub unless_empty : List (List ℕ) → Option (List (List ℕ))
+unless_empty texts = if list_any is_empty texts then None else Some texts
+
+-- the folders of a text, cut at `:`, if something is left of each without the slashes at its end
+abbrev pub folders_of : List ℕ → Option (List (List ℕ))
+folders_of text = unless_empty (map without_slashes (parts_at 58 text))
+
+-- the names of modules in a text, cut at `,`, in Modified UTF-8, if each has a byte
+abbrev pub names_of : List ℕ → Option (List (List ℕ))
+names_of text = unless_empty (map modified (parts_at 44 text))
+
+-- the patterns of a list that reads as some
+abbrev pub patterns_in : Result (List (List Sign)) PatternError → Option (List (List Sign))
+patterns_in (Ok patterns) = Some patterns
+patterns_in (Err fault) = None
+
+-- the patterns of a text in Modified UTF-8, if it is a comma list of patterns
+abbrev pub patterns_of : List ℕ → Option (List (List Sign))
 patterns_of text = patterns_in (list_of (modified text))
 
--- a list of patterns reads
-abbrev pub reads : {A : Type 0} → Result A PatternError → Bool
-reads (Ok patterns) = true
-reads (Err fault) = false
-
--- an order of bytes: big, or else little
-abbrev pub order_of : List ℕ → Order
-order_of text = if bytes_eq text (codes "big") then Big else Little
-
--- the text is `little` or `big`
-abbrev pub is_order : List ℕ → Bool
-is_order text = bytes_eq text (codes "little") || bytes_eq text (codes "big")
+-- the order of bytes that a text names: `little` or `big`
+abbrev pub order_of : List ℕ → Option Order
+order_of text =
+    if bytes_eq text (codes "little") then Some Little
+    else if bytes_eq text (codes "big") then Some Big
+    else None
 
 -- a byte is a digit
 abbrev pub is_digit : ℕ → Bool
@@ -79,19 +86,6 @@ number_of low high text =
     if is_numeral text && (nat_le low (decimal_from 0 text) && nat_le (decimal_from 0 text) high)
     then Some (decimal_from 0 text)
     else None
-
--- the text is of the form; no text is of the form of a flag
-abbrev pub is_of_form : Form → List ℕ → Bool
-is_of_form form.Flag text = false
-is_of_form form.Folder text = not (is_empty (without_slashes text))
-is_of_form form.Folders text =
-    list_all (λ part. not (is_empty (without_slashes part))) (parts_at 58 text)
-is_of_form form.Path text = not (is_empty text)
-is_of_form form.Name text = true
-is_of_form form.Names text = list_all (λ part. not (is_empty part)) (parts_at 44 text)
-is_of_form form.Patterns text = reads (list_of (modified text))
-is_of_form form.Order text = is_order text
-is_of_form (form.Number low high) text = is_some (number_of low high text)
 
 -- the parts of what is left of a text, if anything is: a word of the proof
 abbrev pub parts_of : ℕ → Option (List ℕ) → List (List ℕ)

@@ -1,22 +1,17 @@
-ghost use Rattle.std.specs.Prelude.{◌≡◌, ◌<◌, ◌≤◌, ◌-◌, ◌^◌, codes, map, option_map, string_bytes};
-ghost use Rattle.std.specs.Prelude.{IfOk};
-ghost use Rattle.std.specs.List.{filter_map, find};
+ghost use Rattle.std.specs.Prelude.{◌≡◌, ◌<◌, map, string_bytes, IfOk};
+ghost use Rattle.std.specs.List.{find};
 ghost use Rattle.std.specs.Str.{bytes_eq};
-ghost use Rattle.jm_words.specs.Tables.{verb_name};
-ghost use Rattle.jm_words.specs.Values.{without_slashes};
-ghost use Rattle.jm_names.specs.UtfForms.{modified};
-ghost use Rattle.jm_words.specs.Commands.{command_in, command_of, include_of, jobs_of, look};
-ghost use Rattle.jm_words.specs.Commands.{module_path, number_or_low, plugin_of, text_of};
-ghost use Rattle.jm_words.specs.Commands.{verb_named};
-ghost use Rattle.jm_words.specs.Paths.{FilePathsAreText, NumbersFit, jobs_in};
 ghost use Rattle.jm_bytes.specs.Results.{UnlessMemory};
+ghost use Rattle.jm_words.specs.Commands.{command_in, command_of, verb_named};
+ghost use Rattle.jm_words.specs.Paths.{FilePathsAreText, NumbersFit, jobs_in};
+ghost use Rattle.jm_words.specs.Tables.{verb_name};
 
+use crate::drafts::Draft;
 use crate::errors::{WordsError, WordsKind};
-use crate::reading::{Given, given_texts, stands};
+use crate::given::Source;
+use crate::reading::draft_of;
 use crate::tables::{Verb, verb_name};
-use crate::values::{folders_of, names_of, number_of, order_of, patterns_of, without_slashes};
-use jm_bytes::{List, NoMemory, Order, Text};
-use jm_names::to_modified;
+use jm_bytes::{List, Order, Text};
 use jm_pattern::Pattern;
 use jm_plugins::Plugin;
 use std::alloc::Global;
@@ -111,8 +106,14 @@ pub fn read_words(alloc: Global, words: &[String]) -> Result<Command, WordsError
             kind: WordsKind::UnknownCommand,
         }),
     };
-    let given = given_texts(alloc, verb, behind)?;
-    Ok(command_of(alloc, verb, given.as_slice())?)
+    let draft = draft_of(alloc, verb, behind)?;
+    match command_of(alloc, verb, draft) {
+        Some(command) => Ok(command),
+        None => Err(WordsError::Fault {
+            at: words.len(),
+            kind: WordsKind::Missing,
+        }),
+    }
 }
 
 /// The command of a name.
@@ -148,208 +149,106 @@ fn first_named(verbs: &[Verb], name: &[u8]) -> Option<Verb>
     None
 }
 
-/// The command of what was given.
-fn command_of(alloc: Global, verb: Verb, given: &[Given<'_>]) -> Result<Command, NoMemory>
-    ensures { IfOk result (λ command. command ≡ command_of verb given.now) }
+/// The command of what was given, if all is there that must be.
+fn command_of(alloc: Global, verb: Verb, draft: Draft) -> Option<Command>
+    ensures { result ≡ command_of verb draft }
 {
-    let jobs = jobs_of(given);
+    let jobs = draft.jobs.unwrap_or(1);
     match verb {
-        Verb::Link => link(alloc, given),
-        Verb::Cat => Ok(Command::Cat {
-            image: text_of(alloc, b"IMAGE", given)?,
-            name: modified_of(alloc, b"NAME", given)?,
+        Verb::Link => link(alloc, draft),
+        Verb::Cat => cat(draft),
+        Verb::List => Some(Command::List {
+            image: draft.file?,
+            include: draft.include,
             jobs,
         }),
-        Verb::List => Ok(Command::List {
-            image: text_of(alloc, b"IMAGE", given)?,
-            include: include_of(alloc, given)?,
+        Verb::Ls => ls(draft),
+        Verb::Info => Some(Command::Info {
+            image: draft.file?,
             jobs,
         }),
-        Verb::Ls => Ok(Command::Ls {
-            image: text_of(alloc, b"IMAGE", given)?,
-            path: modified_of(alloc, b"PATH", given)?,
+        Verb::Extract => extract(draft),
+        Verb::Verify => Some(Command::Verify {
+            image: draft.file?,
             jobs,
         }),
-        Verb::Info => Ok(Command::Info {
-            image: text_of(alloc, b"IMAGE", given)?,
+        Verb::Serve => Some(Command::Serve {
+            image: draft.file?,
             jobs,
         }),
-        Verb::Extract => Ok(Command::Extract {
-            image: text_of(alloc, b"IMAGE", given)?,
-            dir: folder_of(alloc, b"--dir", given)?,
-            include: include_of(alloc, given)?,
+        Verb::Gen => generator(draft),
+        Verb::Describe => Some(Command::Describe {
+            file: draft.file?,
             jobs,
         }),
-        Verb::Verify => Ok(Command::Verify {
-            image: text_of(alloc, b"IMAGE", given)?,
-            jobs,
-        }),
-        Verb::Serve => Ok(Command::Serve {
-            image: text_of(alloc, b"IMAGE", given)?,
-            jobs,
-        }),
-        Verb::Gen => generator(alloc, given),
-        Verb::Describe => Ok(Command::Describe {
-            file: text_of(alloc, b"FILE", given)?,
-            jobs,
-        }),
-        Verb::Help => Ok(Command::Help { jobs }),
-        Verb::Version => Ok(Command::Version { jobs }),
+        Verb::Help => Some(Command::Help { jobs }),
+        Verb::Version => Some(Command::Version { jobs }),
     }
 }
 
-/// The command `link` of what was given.
-fn link(alloc: Global, given: &[Given<'_>]) -> Result<Command, NoMemory>
-    ensures { IfOk result (λ command. command ≡ command_of Verb.Link given.now) }
+/// The command `cat` of what was given, if all is there that must be.
+fn cat(draft: Draft) -> Option<Command>
+    ensures { result ≡ command_of Verb.Cat draft }
 {
-    Ok(Command::Link {
-        dirs: module_path(alloc, look(b"--module-path", given))?,
-        roots: names_of(alloc, text_in(b"--add-modules", given))?,
-        output: text_of(alloc, b"--output", given)?,
-        plugins: plugins_of(alloc, given)?,
-        order: order_of(text_in(b"--endian", given)),
-        bind: stands(b"--bind-services", given),
-        from_image: copy_of(alloc, look(b"--from-image", given))?,
-        jobs: jobs_of(given),
+    Some(Command::Cat {
+        image: draft.file?,
+        name: draft.name?,
+        jobs: draft.jobs.unwrap_or(1),
     })
 }
 
-/// The command `gen` of what was given.
-fn generator(alloc: Global, given: &[Given<'_>]) -> Result<Command, NoMemory>
-    ensures { IfOk result (λ command. command ≡ command_of Verb.Gen given.now) }
+/// The command `ls`.
+fn ls(draft: Draft) -> Option<Command>
+    ensures { result ≡ command_of Verb.Ls draft }
 {
-    let modules = number_or_low(1, 256, text_in(b"--modules", given));
-    let classes = number_or_low(1, 1024, text_in(b"--classes", given));
-    Ok(Command::Gen {
-        dir: folder_of(alloc, b"DIR", given)?,
-        modules: modules as u32,
-        classes: classes as u32,
-        seed: number_or_low(0, u64::MAX, text_in(b"--seed", given)),
-        jobs: jobs_of(given),
+    Some(Command::Ls {
+        image: draft.file?,
+        path: draft.name?,
+        jobs: draft.jobs.unwrap_or(1),
     })
 }
 
-/// The number of jobs, 1 where none was given.
-fn jobs_of(given: &[Given<'_>]) -> u32
-    ensures { result ≡ jobs_of given.now }
+/// The command `extract`.
+fn extract(draft: Draft) -> Option<Command>
+    ensures { result ≡ command_of Verb.Extract draft }
 {
-    number_or_low(1, 64, text_in(b"--jobs", given)) as u32
+    Some(Command::Extract {
+        image: draft.file?,
+        dir: draft.folder?,
+        include: draft.include,
+        jobs: draft.jobs.unwrap_or(1),
+    })
 }
 
-/// The number of a text, or the least where it is none.
-fn number_or_low(low: u64, high: u64, text: &[u8]) -> u64
-    requires { low ≤ high }
-    ensures number { result ≡ number_or_low low high text.now }
-    ensures within { result ≤ high }
+/// The command `gen`.
+fn generator(draft: Draft) -> Option<Command>
+    ensures { result ≡ command_of Verb.Gen draft }
 {
-    match number_of(low, high, text) {
-        Some(number) => number,
-        None => low,
-    }
+    Some(Command::Gen {
+        dir: draft.folder?,
+        modules: draft.modules?,
+        classes: draft.classes?,
+        seed: draft.seed?,
+        jobs: draft.jobs.unwrap_or(1),
+    })
 }
 
-/// The text that was given first by a name.
-fn look<'a>(name: &[u8], given: &[Given<'a>]) -> Option<&'a [u8]>
-    ensures { option_map (λ text. text.now) result ≡ look name.now given.now }
+/// The command `link`.
+fn link(alloc: Global, draft: Draft) -> Option<Command>
+    ensures { result ≡ command_of Verb.Link draft }
 {
-    for g in given {
-        if g.name == name {
-            return Some(g.text);
-        }
-    }
-    None
-}
-
-/// The same, or no byte.
-fn text_in<'a>(name: &[u8], given: &[Given<'a>]) -> &'a [u8]
-    ensures { result.now ≡ text_of name.now given.now }
-{
-    match look(name, given) {
-        Some(text) => text,
-        None => &[],
-    }
-}
-
-/// A copy of the text that was given by a name.
-fn text_of(alloc: Global, name: &[u8], given: &[Given<'_>]) -> Result<Text, NoMemory>
-    ensures { IfOk result (λ text. text ≡ text_of name.now given.now) }
-{
-    Text::copy_of(alloc, text_in(name, given))
-}
-
-/// The text that was given by a name, in Modified UTF-8.
-fn modified_of(alloc: Global, name: &[u8], given: &[Given<'_>]) -> Result<Text, NoMemory>
-    ensures { IfOk result (λ text. text ≡ modified (text_of name.now given.now)) }
-{
-    to_modified(alloc, text_in(name, given))
-}
-
-/// The folder that was given by a name.
-fn folder_of(alloc: Global, name: &[u8], given: &[Given<'_>]) -> Result<Text, NoMemory>
-    ensures { IfOk result (λ text. text ≡ without_slashes (text_of name.now given.now)) }
-{
-    Text::copy_of(alloc, without_slashes(text_in(name, given)))
-}
-
-/// A copy of a text, if there is one.
-fn copy_of(alloc: Global, text: Option<&[u8]>) -> Result<Option<Text>, NoMemory>
-    ensures { IfOk result (λ copy. copy ≡ option_map (λ bytes. bytes.now) text.entry) }
-{
-    match text {
-        Some(bytes) => Ok(Some(Text::copy_of(alloc, bytes)?)),
-        None => Ok(None),
-    }
-}
-
-/// The folders of `--module-path`, none where it doesn't stand.
-fn module_path(alloc: Global, text: Option<&[u8]>) -> Result<List<Text>, NoMemory>
-    ensures { IfOk result
-        (λ folders. folders ≡ module_path (option_map (λ bytes. bytes.now) text.entry)) }
-{
-    match text {
-        Some(bytes) => folders_of(alloc, bytes),
-        None => Ok(List::new(alloc)),
-    }
-}
-
-/// The patterns of `--include`, if it stands.
-fn include_of(alloc: Global, given: &[Given<'_>]) -> Result<Option<List<Pattern>>, NoMemory>
-    ensures { IfOk result (λ include. include ≡ include_of given.now) }
-{
-    match look(b"--include", given) {
-        Some(text) => Ok(Some(patterns_of(alloc, text)?)),
-        None => Ok(None),
-    }
-}
-
-/// The plug-ins, in the order in which they were given.
-fn plugins_of(alloc: Global, given: &[Given<'_>]) -> Result<List<Plugin>, NoMemory>
-    ensures { IfOk result (λ plugins. plugins ≡ filter_map plugin_of given.now) }
-{
-    let mut plugins = List::new(alloc);
-    for g in given {
-        if let Some(plugin) = plugin_of(alloc, g)? {
-            plugins.push(plugin)?;
-        }
-    }
-    Ok(plugins)
-}
-
-/// The plug-in that a text gives, if it gives one.
-fn plugin_of(alloc: Global, g: &Given<'_>) -> Result<Option<Plugin>, NoMemory>
-    ensures { IfOk result (λ plugin. plugin ≡ plugin_of g.now) }
-{
-    if g.name == b"--exclude-resources".as_slice() {
-        return Ok(Some(Plugin::Exclude(patterns_of(alloc, g.text)?)));
-    }
-    if g.name == b"--order-resources".as_slice() {
-        return Ok(Some(Plugin::Order(patterns_of(alloc, g.text)?)));
-    }
-    if g.name == b"--strip-java-debug-attributes".as_slice() {
-        return Ok(Some(Plugin::Strip));
-    }
-    if g.name == b"--compact-pool".as_slice() {
-        return Ok(Some(Plugin::Compact));
-    }
-    Ok(None)
+    let (dirs, from_image) = match draft.source? {
+        Source::Folders(dirs) => (dirs, None),
+        Source::Image(image) => (List::new(alloc), Some(image)),
+    };
+    Some(Command::Link {
+        dirs,
+        roots: draft.roots?,
+        output: draft.output?,
+        plugins: draft.plugins,
+        order: draft.order.unwrap_or(Order::Little),
+        bind: draft.bind,
+        from_image,
+        jobs: draft.jobs.unwrap_or(1),
+    })
 }

@@ -3,8 +3,9 @@
 #![tactic(auto)]
 
 mod commands;
+mod drafts;
 mod errors;
-mod forms;
+mod given;
 mod reading;
 mod tables;
 mod values;

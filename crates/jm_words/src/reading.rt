@@ -1,217 +1,189 @@
-ghost use Rattle.std.specs.Prelude.{◌≡◌, ◌+◌, ◌==◌, ◌∷◌, [], None, map, length, option_map};
+ghost use Rattle.std.specs.Prelude.{◌≡◌, ◌+◌, ◌==◌, ◌∷◌, [], None, Some, map, option_map};
 ghost use Rattle.std.specs.Prelude.{string_bytes, IfOk, Ok};
 ghost use Rattle.std.specs.List.{list_any, before_first, after_first, find};
 ghost use Rattle.jm_bytes.specs.Results.{UnlessMemory};
-ghost use Rattle.jm_words.specs.Reading.{after_argument, texts_at_end, fault_at};
-ghost use Rattle.jm_words.specs.Reading.{with_checked_text, given_texts, is_chosen, is_flag};
-ghost use Rattle.jm_words.specs.Reading.{is_missing, is_option, lacks, before_words, is_equals};
-ghost use Rattle.jm_words.specs.Reading.{value_behind, after_choice, option_named, after_option};
-ghost use Rattle.jm_words.specs.Reading.{stands, with_text, after_plain_word, after_word};
-ghost use Rattle.jm_words.specs.Reading.{after_words};
+ghost use Rattle.jm_words.specs.Givens.{flag_of};
+ghost use Rattle.jm_words.specs.Reading.{after_role, draft_or_fault, fault_at, reading_of};
+ghost use Rattle.jm_words.specs.ReadingSteps.{after_bare, after_text};
+ghost use Rattle.jm_words.specs.Roles.{AsArgument, is_among, is_equals, option_named, option_role};
+ghost use Rattle.jm_words.specs.Roles.{plain_role, role_of, stands_again, value_behind};
 
+use crate::drafts::Draft;
 use crate::errors::{WordsError, WordsKind};
-use crate::forms::Form;
+use crate::given::{Given, argument_of, flag_of, value_of};
 use crate::tables::{
-    Argument, Choice, OptionRow, Verb, argument_row, arguments, option_row, options,
+    Argument, Choice, Verb, arguments, instead_of, is_plugin, option_name, options,
 };
-use crate::values::is_of_form;
-use jm_bytes::{List, NoMemory};
+use jm_bytes::List;
 use jm_names::cut_at_first;
 use std::alloc::Global;
 use std::marker::Model;
 
-/// What was given: the name of an argument or of an option, with its text. A flag's text is empty.
-#[derive(Drop)]
-pub struct Given<'a> {
-    pub name: &'a [u8],
-    pub text: &'a [u8],
-}
-
-impl<'a> Model for Given<'a> {
-    ghost use Rattle.jm_words.specs.Reading.{GivenText};
-
-    ghost Value = { GivenText };
-
-    ghost view = { λ a. record { name = a.name.now; text = a.text.now } };
-}
-
 /// What stands after some words.
 #[derive(Drop)]
-pub struct Progress<'a> {
-    given: List<Given<'a>>,
+struct Progress {
+    draft: Draft,
+    /// The options so far.
+    before: List<Choice>,
     /// The arguments still to come.
     left: &'static [Argument],
     /// The option whose value is the next word.
     pending: Option<Choice>,
 }
 
-impl<'a> Model for Progress<'a> {
+impl Model for Progress {
     ghost use Rattle.jm_words.specs.Reading.{Standing};
 
     ghost Value = { Standing };
 
-    ghost view = { λ a. record { given = a.given; left = a.left.now; pending = a.pending } };
+    ghost view = { λ a. record {
+      draft = a.draft;
+      before = a.before;
+      left = a.left.now;
+      pending = a.pending;
+    } };
 }
 
 /// What the words behind a command give, or their first fault.
-pub fn given_texts<'a>(
-    alloc: Global,
-    verb: Verb,
-    words: &'a [String],
-) -> Result<List<Given<'a>>, WordsError>
+pub fn draft_of(alloc: Global, verb: Verb, words: &[String]) -> Result<Draft, WordsError>
     ensures { UnlessMemory WordsError.Memory result
-        (given_texts verb (map string_bytes words.now)) }
+        (draft_or_fault (reading_of verb (map string_bytes words.now))) }
 {
     let choices = options(verb);
     let mut progress = Progress {
-        given: List::new(alloc),
+        draft: Draft::new(alloc),
+        before: List::new(alloc),
         left: arguments(verb),
         pending: None,
     };
     for i in 0..words.len() {
-        progress = after_word(alloc, choices, i + 2, words[i].as_bytes(), progress)?;
+        let word = words[i].as_bytes();
+        progress = after_word(alloc, choices, i + 2, words.len() + 1, word, progress)?;
     }
-    texts_at_end(choices, words.len() + 1, progress)
+    Ok(progress.draft)
 }
 
-/// One word: the value that an option waits for, or a word by itself.
-fn after_word<'a>(
+/// One word: the value that an option waits for, or a word by itself. `all` is the last's number.
+fn after_word(
     alloc: Global,
     choices: &[Choice],
     at: usize,
-    word: &'a [u8],
-    progress: Progress<'a>,
-) -> Result<Progress<'a>, WordsError>
+    all: usize,
+    word: &[u8],
+    progress: Progress,
+) -> Result<Progress, WordsError>
     ensures { UnlessMemory WordsError.Memory result
-        (after_word choices.now at word.now progress.entry progress.entry.pending) }
+        (after_role at all progress (role_of choices.now progress.pending word.now)) }
 {
-    let Progress {
-        given,
-        left,
-        pending,
-    } = progress;
-    match pending {
-        Some(choice) => {
-            let row = option_row(choice);
-            with_checked_text(alloc, at, row.name, row.form, word, given, left)
-        }
-        None => after_plain_word(alloc, choices, at, word, given, left),
+    match progress.pending {
+        Some(choice) => after_text(at, value_of(alloc, choice, word)?, progress),
+        None => after_plain_word(alloc, choices, at, all, word, progress),
     }
 }
 
 /// A word by itself.
-fn after_plain_word<'a>(
+fn after_plain_word(
     alloc: Global,
     choices: &[Choice],
     at: usize,
-    word: &'a [u8],
-    given: List<Given<'a>>,
-    left: &'static [Argument],
-) -> Result<Progress<'a>, WordsError>
+    all: usize,
+    word: &[u8],
+    progress: Progress,
+) -> Result<Progress, WordsError>
     ensures { UnlessMemory WordsError.Memory result
-        (after_plain_word choices.now at word.now given.entry left.now) }
+        (after_role at all progress (plain_role choices.now word.now)) }
 {
     if !word.starts_with(b"--") {
-        return after_argument(alloc, at, word, given, left);
+        return after_argument(alloc, at, all, word, progress);
     }
     let (name, value) = option_parts(word);
-    let choice = match option_named(name, choices) {
-        Some(choice) => choice,
-        None => return fault_at(at, WordsKind::UnknownOption),
-    };
-    let row = option_row(choice);
-    if !row.repeats && is_chosen(&row, given.as_slice()) {
-        return fault_at(at, WordsKind::Repeated);
+    match option_named(name, choices) {
+        Some(choice) => after_option(alloc, at, all, choice, value, progress),
+        None => fault_at(at, WordsKind::UnknownOption),
     }
-    after_choice(alloc, at, choice, value, given, left)
 }
 
-/// An option that may stand here.
-fn after_choice<'a>(
+/// An option that the command has, with what stands behind its `=`.
+fn after_option(
     alloc: Global,
     at: usize,
+    all: usize,
     choice: Choice,
-    value: Option<&'a [u8]>,
-    given: List<Given<'a>>,
-    left: &'static [Argument],
-) -> Result<Progress<'a>, WordsError>
+    value: Option<&[u8]>,
+    progress: Progress,
+) -> Result<Progress, WordsError>
     ensures { UnlessMemory WordsError.Memory result
-        (after_choice at choice (option_map (λ text. text.now) value.entry) given.entry left.now) }
+        (after_role at all progress
+        (option_role (Some choice) (option_map (λ text. text.now) value.entry))) }
 {
-    let row = option_row(choice);
+    let mut progress = progress;
+    if stands_again(progress.before.as_slice(), choice) {
+        return fault_at(at, WordsKind::Repeated);
+    }
+    progress.before.push(choice)?;
     match value {
-        Some(text) => with_checked_text(alloc, at, row.name, row.form, text, given, left),
+        Some(text) => after_text(at, value_of(alloc, choice, text)?, progress),
+        None => after_bare_option(at, all, choice, progress),
+    }
+}
+
+/// An option without `=`: it is a flag, or the next word is its value.
+fn after_bare_option(
+    at: usize,
+    all: usize,
+    choice: Choice,
+    progress: Progress,
+) -> Result<Progress, WordsError>
+    ensures { UnlessMemory WordsError.Memory result
+        (after_bare at all choice (flag_of choice) progress) }
+{
+    let mut progress = progress;
+    match flag_of(choice) {
+        Some(given) => after_text(at, Some(given), progress),
         None => {
-            if is_flag(row.form) {
-                Ok(with_text(row.name, &[], given, left)?)
-            } else {
-                Ok(Progress {
-                    given,
-                    left,
-                    pending: Some(choice),
-                })
+            if at == all {
+                return fault_at(at, WordsKind::NoValue);
             }
+            progress.pending = Some(choice);
+            Ok(progress)
         }
     }
 }
 
 /// A word that is an argument.
-fn after_argument<'a>(
+fn after_argument(
     alloc: Global,
     at: usize,
-    word: &'a [u8],
-    given: List<Given<'a>>,
-    left: &'static [Argument],
-) -> Result<Progress<'a>, WordsError>
+    all: usize,
+    word: &[u8],
+    progress: Progress,
+) -> Result<Progress, WordsError>
     ensures { UnlessMemory WordsError.Memory result
-        (after_argument at word.now given.entry left.now) }
+        (after_role at all progress (AsArgument word.now)) }
 {
-    match left.split_first() {
+    let mut progress = progress;
+    match progress.left.split_first() {
         Some((argument, left)) => {
-            let row = argument_row(*argument);
-            with_checked_text(alloc, at, row.name, row.form, word, given, left)
+            progress.left = left;
+            after_text(at, argument_of(alloc, *argument, word)?, progress)
         }
         None => fault_at(at, WordsKind::TooManyArguments),
     }
 }
 
-/// One more text, if it is of its form.
-fn with_checked_text<'a>(
-    alloc: Global,
-    at: usize,
-    name: &'static [u8],
-    form: Form,
-    text: &'a [u8],
-    given: List<Given<'a>>,
-    left: &'static [Argument],
-) -> Result<Progress<'a>, WordsError>
-    ensures { UnlessMemory WordsError.Memory result
-        (with_checked_text at name.now form text.now given.entry left.now) }
+/// What a word's text gives is put, if the text is of its form.
+fn after_text(at: usize, given: Option<Given>, progress: Progress) -> Result<Progress, WordsError>
+    ensures { UnlessMemory WordsError.Memory result (after_text at given progress) }
 {
-    if is_of_form(alloc, form, text)? {
-        Ok(with_text(name, text, given, left)?)
-    } else {
-        fault_at(at, WordsKind::BadValue)
+    let mut progress = progress;
+    match given {
+        Some(given) => {
+            progress.draft.put(given)?;
+            progress.pending = None;
+            Ok(progress)
+        }
+        None => fault_at(at, WordsKind::BadValue),
     }
-}
-
-/// One more text.
-fn with_text<'a>(
-    name: &'static [u8],
-    text: &'a [u8],
-    given: List<Given<'a>>,
-    left: &'static [Argument],
-) -> Result<Progress<'a>, NoMemory>
-    ensures { IfOk result
-        (λ progress. progress ≡ with_text given.entry left.now name.now text.now) }
-{
-    let mut given = given;
-    given.push(Given { name, text })?;
-    Ok(Progress {
-        given,
-        left,
-        pending: None,
-    })
 }
 
 /// The name of an option, and what stands behind its `=`.
@@ -231,89 +203,30 @@ fn option_named(name: &[u8], choices: &[Choice]) -> Option<Choice>
     ensures { result ≡ option_named name.now choices.now }
 {
     for choice in choices {
-        if option_row(*choice).name == name {
+        if option_name(*choice) == name {
             return Some(*choice);
         }
     }
     None
 }
 
-/// Whether an option stands, or the one in whose place it stands.
-fn is_chosen(row: &OptionRow, given: &[Given<'_>]) -> bool
-    ensures { result ≡ is_chosen row.now given.now }
+/// Whether an option stands behind these, or behind the one in whose place it stands, and may not.
+fn stands_again(before: &[Choice], choice: Choice) -> bool
+    ensures { result ≡ stands_again before.now (Some choice) }
 {
-    stands(row.name, given) || stands(row.instead, given)
+    !is_plugin(choice) && (is_among(before, choice) || is_among(before, instead_of(choice)))
 }
 
-/// Whether a name was given.
-pub fn stands(name: &[u8], given: &[Given<'_>]) -> bool
-    ensures { result ≡ stands name.now given.now }
+/// Whether an option is among some.
+fn is_among(choices: &[Choice], choice: Choice) -> bool
+    ensures { result ≡ is_among choices.now choice }
 {
-    given.iter().any(|g| g.name == name)
+    choices
+        .iter()
+        .any(|one| option_name(*one) == option_name(choice))
 }
 
-/// Whether the form is that of a flag.
-fn is_flag(form: Form) -> bool
-    ensures { result ≡ is_flag form }
-{
-    matches!(form, Form::Flag)
-}
-
-/// What stands behind the last word, with the number of all words.
-fn texts_at_end<'a>(
-    choices: &[Choice],
-    all: usize,
-    progress: Progress<'a>,
-) -> Result<List<Given<'a>>, WordsError>
-    ensures { UnlessMemory WordsError.Memory result
-        (texts_at_end choices.now all progress.entry progress.entry.pending) }
-{
-    let Progress {
-        given,
-        left,
-        pending,
-    } = progress;
-    if pending.is_some() {
-        return Err(WordsError::Fault {
-            at: all,
-            kind: WordsKind::NoValue,
-        });
-    }
-    if is_missing(choices, given.as_slice(), left) {
-        return Err(WordsError::Fault {
-            at: all,
-            kind: WordsKind::Missing,
-        });
-    }
-    Ok(given)
-}
-
-/// Whether an argument or an option isn't there.
-fn is_missing(choices: &[Choice], given: &[Given<'_>], left: &[Argument]) -> bool
-    ensures { result ≡ is_missing choices.now given.now left.now }
-{
-    match left.split_first() {
-        Some(_) => true,
-        None => are_lacking(choices, given),
-    }
-}
-
-/// Whether one of the options must be there and isn't.
-fn are_lacking(choices: &[Choice], given: &[Given<'_>]) -> bool
-    ensures { result ≡ list_any (lacks given.now) choices.now }
-{
-    choices.iter().any(|choice| lacks(given, *choice))
-}
-
-/// Whether this option must be there and isn't.
-fn lacks(given: &[Given<'_>], choice: Choice) -> bool
-    ensures { result ≡ lacks given.now choice }
-{
-    let row = option_row(choice);
-    row.required && !is_chosen(&row, given)
-}
-
-fn fault_at<'a>(at: usize, kind: WordsKind) -> Result<Progress<'a>, WordsError>
+fn fault_at(at: usize, kind: WordsKind) -> Result<Progress, WordsError>
     ensures { result ≡ fault_at at kind }
 {
     Err(WordsError::Fault { at, kind })

@@ -1,9 +1,6 @@
 ghost use Rattle.std.specs.Prelude.{◌≡◌};
-ghost use Rattle.jm_words.specs.Tables.{argument_row, arguments, option_row, options, verb_name};
-ghost use Rattle.jm_words.specs.Rows.{once, needed, either, again};
-
-use crate::forms::Form;
-use std::marker::Model;
+ghost use Rattle.jm_words.specs.Tables.{arguments, instead_of, is_plugin, option_name, options};
+ghost use Rattle.jm_words.specs.Tables.{verb_name};
 
 /// The commands.
 #[derive(Clone, Copy)]
@@ -51,48 +48,6 @@ pub enum Choice {
     Modules,
     Classes,
     Seed,
-}
-
-/// An argument's name and form.
-#[derive(Drop)]
-pub struct ArgumentRow {
-    pub name: &'static [u8],
-    pub form: Form,
-}
-
-impl Model for ArgumentRow {
-    ghost use Rattle.jm_words.specs.Rows.{ArgumentForm};
-
-    ghost Value = { ArgumentForm };
-
-    ghost view = { λ a. record { name = a.name.now; form = a.form } };
-}
-
-/// An option's name and form, and how often it stands.
-#[derive(Drop)]
-pub struct OptionRow {
-    pub name: &'static [u8],
-    pub form: Form,
-    /// Whether it may stand again and again.
-    pub repeats: bool,
-    /// Whether it, or the one in whose place it stands, must be there.
-    pub required: bool,
-    /// The option in whose place it stands, or its own name.
-    pub instead: &'static [u8],
-}
-
-impl Model for OptionRow {
-    ghost use Rattle.jm_words.specs.Rows.{OptionForm};
-
-    ghost Value = { OptionForm };
-
-    ghost view = { λ a. record {
-      name = a.name.now;
-      form = a.form;
-      repeats = a.repeats;
-      required = a.required;
-      instead = a.instead.now;
-    } };
 }
 
 /// The name of a command.
@@ -154,98 +109,74 @@ pub fn options(verb: Verb) -> &'static [Choice]
     }
 }
 
-/// An argument of a command.
-pub fn argument_row(argument: Argument) -> ArgumentRow
-    ensures { result ≡ argument_row argument }
-{
-    let (name, form): (&'static [u8], Form) = match argument {
-        Argument::Image => (b"IMAGE", Form::Path),
-        Argument::Name => (b"NAME", Form::Name),
-        Argument::Path => (b"PATH", Form::Path),
-        Argument::Folder => (b"DIR", Form::Folder),
-        Argument::File => (b"FILE", Form::Path),
-    };
-    ArgumentRow { name, form }
-}
-
-/// An option of a command.
-pub fn option_row(choice: Choice) -> OptionRow
-    ensures { result ≡ option_row choice }
+/// The name of an option.
+pub fn option_name(choice: Choice) -> &'static [u8]
+    ensures { result.now ≡ option_name choice }
 {
     match choice {
-        Choice::Jobs => once(b"--jobs", Form::Number { low: 1, high: 64 }),
-        Choice::ModulePath => either(b"--module-path", Form::Folders, b"--from-image"),
-        Choice::FromImage => either(b"--from-image", Form::Path, b"--module-path"),
-        Choice::AddModules => needed(b"--add-modules", Form::Names),
-        Choice::Output => needed(b"--output", Form::Path),
-        Choice::Endian => once(b"--endian", Form::Order),
-        Choice::BindServices => once(b"--bind-services", Form::Flag),
-        Choice::ExcludeResources => again(b"--exclude-resources", Form::Patterns),
-        Choice::OrderResources => again(b"--order-resources", Form::Patterns),
-        Choice::StripDebug => again(b"--strip-java-debug-attributes", Form::Flag),
-        Choice::CompactPool => again(b"--compact-pool", Form::Flag),
-        Choice::Include => once(b"--include", Form::Patterns),
-        Choice::Dir => needed(b"--dir", Form::Folder),
-        Choice::Modules => needed(b"--modules", Form::Number { low: 1, high: 256 }),
-        Choice::Classes => needed(b"--classes", Form::Number { low: 1, high: 1024 }),
-        Choice::Seed => needed(
-            b"--seed",
-            Form::Number {
-                low: 0,
-                high: u64::MAX,
-            },
-        ),
+        Choice::Jobs => b"--jobs",
+        Choice::ModulePath => b"--module-path",
+        Choice::FromImage => b"--from-image",
+        Choice::AddModules => b"--add-modules",
+        Choice::Output => b"--output",
+        Choice::Endian => b"--endian",
+        Choice::BindServices => b"--bind-services",
+        Choice::ExcludeResources => b"--exclude-resources",
+        Choice::OrderResources => b"--order-resources",
+        Choice::StripDebug => b"--strip-java-debug-attributes",
+        Choice::CompactPool => b"--compact-pool",
+        Choice::Include => b"--include",
+        Choice::Dir => b"--dir",
+        Choice::Modules => b"--modules",
+        Choice::Classes => b"--classes",
+        Choice::Seed => b"--seed",
     }
 }
 
-/// An option that may be left out.
-fn once(name: &'static [u8], form: Form) -> OptionRow
-    ensures { result ≡ once name.now form }
+/// Whether an option is a plug-in, which may stand again and again.
+pub fn is_plugin(choice: Choice) -> bool
+    ensures { result ≡ is_plugin choice }
 {
-    OptionRow {
-        name,
-        form,
-        repeats: false,
-        required: false,
-        instead: name,
+    match choice {
+        Choice::ExcludeResources
+        | Choice::OrderResources
+        | Choice::StripDebug
+        | Choice::CompactPool => true,
+        Choice::Jobs
+        | Choice::ModulePath
+        | Choice::FromImage
+        | Choice::AddModules
+        | Choice::Output
+        | Choice::Endian
+        | Choice::BindServices
+        | Choice::Include
+        | Choice::Dir
+        | Choice::Modules
+        | Choice::Classes
+        | Choice::Seed => false,
     }
 }
 
-/// An option that must be there.
-fn needed(name: &'static [u8], form: Form) -> OptionRow
-    ensures { result ≡ needed name.now form }
+/// The option in whose place an option stands, or the option itself.
+pub fn instead_of(choice: Choice) -> Choice
+    ensures { result ≡ instead_of choice }
 {
-    OptionRow {
-        name,
-        form,
-        repeats: false,
-        required: true,
-        instead: name,
-    }
-}
-
-/// One of two options of which one must be there.
-fn either(name: &'static [u8], form: Form, instead: &'static [u8]) -> OptionRow
-    ensures { result ≡ either name.now form instead.now }
-{
-    OptionRow {
-        name,
-        form,
-        repeats: false,
-        required: true,
-        instead,
-    }
-}
-
-/// An option that may stand again and again.
-fn again(name: &'static [u8], form: Form) -> OptionRow
-    ensures { result ≡ again name.now form }
-{
-    OptionRow {
-        name,
-        form,
-        repeats: true,
-        required: false,
-        instead: name,
+    match choice {
+        Choice::ModulePath => Choice::FromImage,
+        Choice::FromImage => Choice::ModulePath,
+        Choice::Jobs
+        | Choice::AddModules
+        | Choice::Output
+        | Choice::Endian
+        | Choice::BindServices
+        | Choice::ExcludeResources
+        | Choice::OrderResources
+        | Choice::StripDebug
+        | Choice::CompactPool
+        | Choice::Include
+        | Choice::Dir
+        | Choice::Modules
+        | Choice::Classes
+        | Choice::Seed => choice,
     }
 }

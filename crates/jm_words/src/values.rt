@@ -1,55 +1,44 @@
-ghost use Rattle.std.specs.Prelude.{◌≡◌, ◌≤◌, ◌<◌, ◌^◌, ◌*◌, ◌+◌, ◌-◌, ◌==◌, ◌∷◌, true, false};
-ghost use Rattle.std.specs.Prelude.{length, option_map, IfOk, IfSome, IfNone};
-ghost use Rattle.jm_words.specs.Values.{decimal_from, folders_of, is_digit, is_numeral, is_of_form};
-ghost use Rattle.jm_words.specs.Values.{is_order, names_of, number_of, order_of, patterns_of};
+ghost use Rattle.std.specs.Prelude.{◌≡◌, ◌≤◌, ◌<◌, ◌^◌, ◌*◌, ◌+◌, ◌-◌, ◌∷◌, length, option_map};
+ghost use Rattle.std.specs.Prelude.{IfOk, IfSome, IfNone};
+ghost use Rattle.std.specs.List.{list_all, list_any};
+ghost use Rattle.jm_names.specs.Names.{is_empty};
+ghost use Rattle.jm_words.specs.Values.{decimal_from, folder_of, folders_of, inner_path_of};
+ghost use Rattle.jm_words.specs.Values.{is_digit, is_numeral, names_of, number_of, order_of};
+ghost use Rattle.jm_words.specs.Values.{parts_at, parts_of, path_of, patterns_of, unless_empty};
 ghost use Rattle.jm_words.specs.Values.{without_slashes};
-ghost use Rattle.std.specs.List.{list_all};
-ghost use Rattle.jm_words.specs.Values.{reads, parts_at, parts_of};
-ghost use Rattle.jm_pattern.specs.Items.{list_of};
-ghost use Rattle.jm_names.specs.UtfForms.{modified};
 
-use crate::forms::Form;
 use jm_bytes::{List, NoMemory, Order, Text};
 use jm_names::{cut_at_first, to_modified};
 use jm_pattern::{Pattern, PatternError, read_list};
 use std::alloc::Global;
 
-/// Whether a text is of a form.
-pub fn is_of_form(alloc: Global, form: Form, text: &[u8]) -> Result<bool, NoMemory>
-    ensures { IfOk result (λ is. is ≡ is_of_form form text.now) }
+/// A text, if it has a byte.
+pub fn path_of(alloc: Global, text: &[u8]) -> Result<Option<Text>, NoMemory>
+    ensures { IfOk result (λ path. path ≡ path_of text.now) }
 {
-    match form {
-        Form::Flag => Ok(false),
-        Form::Folder => Ok(is_folder(text)),
-        Form::Folders => Ok(are_folders(text)),
-        Form::Path => Ok(!text.is_empty()),
-        Form::Name => Ok(true),
-        Form::Names => Ok(are_names(text)),
-        Form::Patterns => are_patterns(alloc, text),
-        Form::Order => Ok(is_order(text)),
-        Form::Number { low, high } => Ok(number_of(low, high, text).is_some()),
+    if text.is_empty() {
+        Ok(None)
+    } else {
+        Ok(Some(Text::copy_of(alloc, text)?))
     }
 }
 
-/// Whether something is left without the slashes at the end.
-fn is_folder(text: &[u8]) -> bool
-    ensures { result ≡ is_of_form Form.Folder text.now }
+/// A path in an image, in Modified UTF-8, if it has a byte.
+pub fn inner_path_of(alloc: Global, text: &[u8]) -> Result<Option<Text>, NoMemory>
+    ensures { IfOk result (λ path. path ≡ inner_path_of text.now) }
 {
-    !without_slashes(text).is_empty()
+    if text.is_empty() {
+        Ok(None)
+    } else {
+        Ok(Some(to_modified(alloc, text)?))
+    }
 }
 
-/// Whether each part between colons is a folder.
-fn are_folders(text: &[u8]) -> bool
-    ensures { result ≡ is_of_form Form.Folders text.now }
+/// A folder without the slashes at its end, if something is left.
+pub fn folder_of(alloc: Global, text: &[u8]) -> Result<Option<Text>, NoMemory>
+    ensures { IfOk result (λ folder. folder ≡ folder_of text.now) }
 {
-    text.split(|b| *b == b':').all(|part| is_folder(part))
-}
-
-/// Whether no part between commas is empty.
-fn are_names(text: &[u8]) -> bool
-    ensures { result ≡ is_of_form Form.Names text.now }
-{
-    text.split(|b| *b == b',').all(|part| !part.is_empty())
+    path_of(alloc, without_slashes(text))
 }
 
 /// A text without the slashes at its end.
@@ -67,32 +56,20 @@ pub fn without_slashes(text: &[u8]) -> &[u8]
     rest
 }
 
-/// Whether a text is a comma list of patterns.
-fn are_patterns(alloc: Global, text: &[u8]) -> Result<bool, NoMemory>
-    ensures { IfOk result (λ are. are ≡ reads (list_of (modified text.now))) }
-{
-    let name = to_modified(alloc, text)?;
-    match read_list(alloc, name.as_slice()) {
-        Ok(_) => Ok(true),
-        Err(PatternError::Memory) => Err(NoMemory),
-        Err(_) => Ok(false),
-    }
-}
-
-/// The patterns of a comma list, none where it isn't one.
-pub fn patterns_of(alloc: Global, text: &[u8]) -> Result<List<Pattern>, NoMemory>
+/// The patterns of a comma list, if it is one.
+pub fn patterns_of(alloc: Global, text: &[u8]) -> Result<Option<List<Pattern>>, NoMemory>
     ensures { IfOk result (λ patterns. patterns ≡ patterns_of text.now) }
 {
     let name = to_modified(alloc, text)?;
     match read_list(alloc, name.as_slice()) {
-        Ok(patterns) => Ok(patterns),
+        Ok(patterns) => Ok(Some(patterns)),
         Err(PatternError::Memory) => Err(NoMemory),
-        Err(_) => Ok(List::new(alloc)),
+        Err(_) => Ok(None),
     }
 }
 
-/// The folders between colons, without the slashes at their ends.
-pub fn folders_of(alloc: Global, text: &[u8]) -> Result<List<Text>, NoMemory>
+/// The folders between colons, without the slashes at their ends, if something is left of each.
+pub fn folders_of(alloc: Global, text: &[u8]) -> Result<Option<List<Text>>, NoMemory>
     ensures { IfOk result (λ folders. folders ≡ folders_of text.now) }
 {
     let mut folders = List::new(alloc);
@@ -102,11 +79,11 @@ pub fn folders_of(alloc: Global, text: &[u8]) -> Result<List<Text>, NoMemory>
         folders.push(Text::copy_of(alloc, without_slashes(part))?)?;
         left = behind;
     }
-    Ok(folders)
+    Ok(unless_empty(folders))
 }
 
-/// The names between commas.
-pub fn names_of(alloc: Global, text: &[u8]) -> Result<List<Text>, NoMemory>
+/// The names between commas, in Modified UTF-8, if each has a byte.
+pub fn names_of(alloc: Global, text: &[u8]) -> Result<Option<List<Text>>, NoMemory>
     ensures { IfOk result (λ names. names ≡ names_of text.now) }
 {
     let mut names = List::new(alloc);
@@ -116,7 +93,25 @@ pub fn names_of(alloc: Global, text: &[u8]) -> Result<List<Text>, NoMemory>
         names.push(to_modified(alloc, part)?)?;
         left = behind;
     }
-    Ok(names)
+    Ok(unless_empty(names))
+}
+
+/// Some texts, if each of them has a byte.
+fn unless_empty(texts: List<Text>) -> Option<List<Text>>
+    ensures { result ≡ unless_empty texts }
+{
+    if are_some_empty(texts.as_slice()) {
+        None
+    } else {
+        Some(texts)
+    }
+}
+
+/// Whether one of the texts has no byte.
+fn are_some_empty(texts: &[Text]) -> bool
+    ensures { result ≡ list_any is_empty texts.now }
+{
+    texts.iter().any(|text| text.as_slice().is_empty())
 }
 
 /// The first of the parts that a byte cuts, and what follows the byte where it stands.
@@ -132,27 +127,33 @@ fn first_part(byte: u8, text: &[u8]) -> (&[u8], Option<&[u8]>)
     }
 }
 
-/// Whether a text is `little` or `big`.
-fn is_order(text: &[u8]) -> bool
-    ensures { result ≡ is_order text.now }
-{
-    text == b"little".as_slice() || text == b"big".as_slice()
-}
-
-/// The order that a text says, little where it says none.
-pub fn order_of(text: &[u8]) -> Order
+/// The order that a text names: `little` or `big`.
+pub fn order_of(text: &[u8]) -> Option<Order>
     ensures { result ≡ order_of text.now }
 {
-    if text == b"big".as_slice() {
-        Order::Big
+    if text == b"little".as_slice() {
+        Some(Order::Little)
+    } else if text == b"big".as_slice() {
+        Some(Order::Big)
     } else {
-        Order::Little
+        None
+    }
+}
+
+/// The number of a text, if it is one from 1 to `high`.
+pub fn count_of(high: u32, text: &[u8]) -> Option<u32>
+    ensures { result ≡ number_of 1 high text.now }
+{
+    match number_of(1, u64::from(high), text) {
+        Some(number) => Some(number as u32),
+        None => None,
     }
 }
 
 /// The number of a text, if it is one within the limits.
 pub fn number_of(low: u64, high: u64, text: &[u8]) -> Option<u64>
-    ensures { result ≡ number_of low high text.now }
+    ensures number { result ≡ number_of low high text.now }
+    ensures within { IfSome result (λ number. number ≤ high) }
 {
     if !is_numeral(text) {
         return None;

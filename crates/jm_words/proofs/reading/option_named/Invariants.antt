@@ -1,5 +1,5 @@
 use Rattle.std.proofs.Common.{◌≡◌, drop}
-use Rattle.jm_words.specs.Reading.{option_named}
+use Rattle.jm_words.specs.Roles.{option_named}
 use Rattle.jm_words.proofs.reading.option_named.Given as goal
 
 -- the choices so far have another name

@@ -1,11 +1,11 @@
 use Rattle.std.proofs.Common.{◌≡◌, ◌+◌, ◌++◌, length, map, option_map, unwrap_or}
-use Rattle.jm_words.specs.Values.{folders_of, parts_of, without_slashes}
+use Rattle.jm_words.specs.Values.{parts_at, parts_of, without_slashes}
 use Rattle.jm_words.proofs.values.folders_of.Given as goal
 
 -- what is left goes behind what was put
 abbrev pub invariant-loop-left : goal.invariant-loop-left
 invariant-loop-left l =
-    folders_of l.fn.text ≡ l.folders ++ map without_slashes (parts_of 58 (option_map (λ rest. rest.now) l.left))
+    map without_slashes (parts_at 58 l.fn.text) ≡ l.folders ++ map without_slashes (parts_of 58 (option_map (λ rest. rest.now) l.left))
 
 abbrev pub decreases-loop-left : goal.decreases-loop-left
 decreases-loop-left l = unwrap_or (option_map (λ rest. length rest.now + 1) l.left) 0
