@@ -1,5 +1,6 @@
 pub mod PathLaws
 pub mod ReadingLaws
+pub mod RuleLaws
 pub mod TextLaws
 pub mod ValueLaws
 pub mod Vectors

@@ -9,17 +9,15 @@ use Rattle.jm_bytes.proofs.Choice.{same_err}
 use Rattle.std.proofs.lemmas.List.{drop_more}
 use Rattle.jm_words.specs.declared.errors.WordsError.{WordsError}
 use Rattle.jm_words.specs.declared.errors.WordsError.TheVariants.{Memory}
-use Rattle.jm_words.specs.declared.errors.WordsKind.TheVariants as kind
 use Rattle.jm_words.specs.declared.given.Given.{Given}
-use Rattle.jm_words.specs.declared.tables.Argument.{Argument}
 use Rattle.jm_words.specs.declared.tables.Choice.{Choice}
 use Rattle.jm_words.specs.declared.tables.Verb.{Verb}
 use Rattle.jm_words.specs.Tables.{options}
 use Rattle.jm_bytes.specs.Results.{UnlessMemory}
-use Rattle.jm_words.specs.Givens.{argument_of, flag_of, value_of}
-use Rattle.jm_words.specs.Reading.{Standing, after_role, after_words, draft_or_fault, fault_at, reading_of}
-use Rattle.jm_words.specs.ReadingSteps.{after_argument, after_bare, after_text}
-use Rattle.jm_words.specs.Roles.{AsArgument, ValueFor, WithValue, option_role, role_of, stands_again}
+use Rattle.jm_words.specs.Givens.{flag_of}
+use Rattle.jm_words.specs.Reading.{Standing, after_role, after_words, draft_or_fault, reading_of}
+use Rattle.jm_words.specs.ReadingSteps.{after_bare}
+use Rattle.jm_words.specs.Roles.{option_role, role_of, stands_again}
 
 -- all stands before the first byte that passes, where none passes
 pub before_first_none : (p : ℕ → Bool) (xs : List ℕ) → list_any p xs ≡ false → before_first p xs ≡ xs
@@ -28,54 +26,17 @@ before_first_none p xs none =
     position_or_len_is p xs (length xs) 0 (omega arith) (λ j below. false_from_ne_true (p (get_or xs j 0)) (λ is. false≢true (sym none ∙ list_any_at p xs j 0 below is))) (λ below. absurd (omega (arith, below))) in
     ap (λ n. take n xs) place ∙ take-length xs
 
--- One word in its role
-
--- the value that an option waits for
-pub value_read : (at all : ℕ) (standing : Standing) (choice : Choice) (text : List ℕ) → after_role at all standing (ValueFor choice text) ≡ after_text at (value_of choice text) standing
-value_read at all standing choice text = go (value_of choice text) refl
+-- an option that stands for the first time, without `=`
+pub bare_read : (at all : ℕ) (standing : Standing) (choice : Choice) → stands_again standing.before (Some choice) ≡ false → after_role at all standing (option_role (Some choice) None) ≡ after_bare at all choice (flag_of choice) (record standing { before = standing.before ++ choice ∷ [] })
+bare_read at all standing choice once = go (flag_of choice) refl
   where
-    go : (given : Option Given) → value_of choice text ≡ given → after_role at all standing (ValueFor choice text) ≡ after_text at given standing
-    go None e = rw e refl
-    go (Some given) e = rw e refl
+    last : (is : Bool) → (at == all) ≡ is → flag_of choice ≡ None → after_role at all standing (option_role (Some choice) None) ≡ after_bare at all choice None (record standing { before = standing.before ++ choice ∷ [] })
+    last true is e = rw (e, once, is) refl
+    last false is e = rw (e, once, is) refl
 
-module _ (at all : ℕ) (standing : Standing) (choice : Choice) where
-  -- an option that stands again
-  pub again_read : (value : Option (List ℕ)) → stands_again standing.before (Some choice) ≡ true → after_role at all standing (option_role (Some choice) value) ≡ fault_at at kind.Repeated
-  again_read (Some text) again = rw again refl
-  again_read None again = go (flag_of choice) refl
-    where
-      go : (flag : Option Given) → flag_of choice ≡ flag → after_role at all standing (option_role (Some choice) None) ≡ fault_at at kind.Repeated
-      go None e = rw (e, again) refl
-      go (Some given) e = rw (e, again) refl
-
-  -- an option with its value behind `=`
-  pub option_read : (text : List ℕ) → stands_again standing.before (Some choice) ≡ false → after_role at all standing (WithValue choice text) ≡ after_text at (value_of choice text) (record standing { before = standing.before ++ choice ∷ [] })
-  option_read text once = go (value_of choice text) refl
-    where
-      go : (given : Option Given) → value_of choice text ≡ given → after_role at all standing (WithValue choice text) ≡ after_text at given (record standing { before = standing.before ++ choice ∷ [] })
-      go None e = rw (once, e) refl
-      go (Some given) e = rw (once, e) refl
-
-  -- an option without `=`
-  pub bare_read : stands_again standing.before (Some choice) ≡ false → after_role at all standing (option_role (Some choice) None) ≡ after_bare at all choice (flag_of choice) (record standing { before = standing.before ++ choice ∷ [] })
-  bare_read once = go (flag_of choice) refl
-    where
-      last : (is : Bool) → (at == all) ≡ is → flag_of choice ≡ None → after_role at all standing (option_role (Some choice) None) ≡ after_bare at all choice None (record standing { before = standing.before ++ choice ∷ [] })
-      last true is e = rw (e, once, is) refl
-      last false is e = rw (e, once, is) refl
-
-      go : (flag : Option Given) → flag_of choice ≡ flag → after_role at all standing (option_role (Some choice) None) ≡ after_bare at all choice flag (record standing { before = standing.before ++ choice ∷ [] })
-      go None e = last (at == all) refl e
-      go (Some given) e = rw (e, once) refl
-
--- a word that is an argument
-pub argument_read : (at all : ℕ) (word : List ℕ) (standing : Standing) (left : List Argument) → standing.left ≡ left → after_role at all standing (AsArgument word) ≡ after_argument at word left standing
-argument_read at all word standing [] is = rw is refl
-argument_read at all word standing (argument ∷ left) is = go (argument_of argument word) refl
-  where
-    go : (given : Option Given) → argument_of argument word ≡ given → after_role at all standing (AsArgument word) ≡ after_text at given (record standing { left = left; pending = None })
-    go None e = rw (is, e) refl
-    go (Some given) e = rw (is, e) refl
+    go : (flag : Option Given) → flag_of choice ≡ flag → after_role at all standing (option_role (Some choice) None) ≡ after_bare at all choice flag (record standing { before = standing.before ++ choice ∷ [] })
+    go None e = last (at == all) refl e
+    go (Some given) e = rw (e, once) refl
 
 -- All words
 

@@ -1,11 +1,16 @@
 -- Worked cases of words, computed from the definitions.
-use Rattle.std.proofs.Common.{◌≡◌, false, [], ◌∷◌, Ok, None, refl}
+use Rattle.std.proofs.Common.{◌≡◌, false, [], ◌∷◌, Ok, None, Some, refl}
 use Rattle.std.specs.Prelude.{codes}
 use Rattle.jm_bytes.specs.declared.words.Order.TheVariants.{Little}
 use Rattle.jm_plugins.specs.declared.Plugin.TheVariants as plugin
 use Rattle.jm_words.specs.declared.commands.Command.TheVariants as command
 use Rattle.jm_words.specs.declared.errors.WordsKind.TheVariants as kind
+use Rattle.jm_words.specs.declared.tables.Argument.TheVariants as argument
+use Rattle.jm_words.specs.declared.tables.Choice.TheVariants as choice
+use Rattle.jm_words.specs.declared.tables.Verb.TheVariants as verb
 use Rattle.jm_words.specs.Reading.{fault_at}
+use Rattle.jm_words.specs.Roles.{AsArgument, Unknown, ValueFor, Waits}
+use Rattle.jm_words.specs.Rule.{kind_at, left_at, role_at}
 use Rattle.jm_words.specs.Commands.{command_in}
 
 no_word : command_in [] ≡ fault_at 0 kind.NoCommand
@@ -63,3 +68,32 @@ value_like_option = refl
 
 no_source : command_in (codes "link" ∷ codes "--add-modules=a" ∷ codes "--output=o" ∷ []) ≡ fault_at 3 kind.Missing
 no_source = refl
+
+-- The rule of one word
+
+waiting_option : role_at verb.Cat (codes "--jobs" ∷ codes "--zap" ∷ []) 0 ≡ Waits choice.Jobs
+waiting_option = refl
+
+value_of_option : role_at verb.Cat (codes "--jobs" ∷ codes "--zap" ∷ []) 1 ≡ ValueFor choice.Jobs (codes "--zap")
+value_of_option = refl
+
+option_behind_value : role_at verb.Cat (codes "--jobs" ∷ codes "--jobs" ∷ codes "--zap" ∷ []) 2 ≡ Unknown
+option_behind_value = refl
+
+second_argument : role_at verb.Cat (codes "img" ∷ codes "--jobs=2" ∷ codes "-" ∷ []) 2 ≡ AsArgument (codes "-")
+second_argument = refl
+
+left_for_second : left_at verb.Cat (codes "img" ∷ codes "--jobs=2" ∷ codes "-" ∷ []) 2 ≡ argument.Name ∷ []
+left_for_second = refl
+
+again_before_bad : kind_at verb.Cat (codes "--jobs=2" ∷ codes "--jobs=0" ∷ []) 1 ≡ Some kind.Repeated
+again_before_bad = refl
+
+bad_value : kind_at verb.Cat (codes "--jobs=0" ∷ codes "--zap" ∷ []) 0 ≡ Some kind.BadValue
+bad_value = refl
+
+value_at_end : kind_at verb.Cat (codes "img" ∷ codes "--jobs" ∷ []) 1 ≡ Some kind.NoValue
+value_at_end = refl
+
+sound_word : kind_at verb.Cat (codes "img" ∷ codes "--jobs" ∷ codes "1" ∷ []) 1 ≡ None
+sound_word = refl

@@ -6,5 +6,6 @@ pub mod Paths
 pub mod Reading
 pub mod ReadingSteps
 pub mod Roles
+pub mod Rule
 pub mod Tables
 pub mod Values

@@ -1,9 +1,10 @@
-ghost use Rattle.std.specs.Prelude.{◌≡◌, ◌<◌, map, string_bytes, IfOk};
+ghost use Rattle.std.specs.Prelude.{◌≡◌, ◌⊎◌, ◌<◌, map, string_bytes, Err, IfOk};
 ghost use Rattle.std.specs.List.{find};
 ghost use Rattle.std.specs.Str.{bytes_eq};
 ghost use Rattle.jm_bytes.specs.Results.{UnlessMemory};
 ghost use Rattle.jm_words.specs.Commands.{command_in, command_of, verb_named};
 ghost use Rattle.jm_words.specs.Paths.{FilePathsAreText, NumbersFit, jobs_in};
+ghost use Rattle.jm_words.specs.Rule.{SaysCommand};
 ghost use Rattle.jm_words.specs.Tables.{verb_name};
 
 use crate::drafts::Draft;
@@ -85,9 +86,12 @@ pub enum Command {
 
 /// Reads the words behind the program's name: the command that they make, or their first fault. A
 /// fault has the number of its word, from 1; a missing argument or option has that of all words.
+#[tactic(auto, using(crate::proofs::RuleLaws::says_unless_memory))]
 pub fn read_words(alloc: Global, words: &[String]) -> Result<Command, WordsError>
     ensures command { UnlessMemory WordsError.Memory result
         (command_in (map string_bytes words.now)) }
+    ensures says { (result ≡ Err WordsError.Memory)
+        ⊎ SaysCommand (map string_bytes words.now) result }
     ensures paths { IfOk result FilePathsAreText }
     ensures jobs { IfOk result (λ command. 0 < jobs_in command) }
     ensures numbers { IfOk result NumbersFit }

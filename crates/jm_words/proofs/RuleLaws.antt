@@ -1,0 +1,234 @@
+-- The command that is computed is what the words say, and they say one thing.
+use Rattle.std.proofs.Common.{◌≡◌, ◌⊎◌, ℕ, zero, suc, ◌+◌, ◌<◌, Bool, cond, List, [], ◌∷◌, ◌++◌, length, drop, map, inl, inr, Option, Some, None, Result, Ok, Err, refl, sym, ap, ◌∙◌, subst, append-nil, arith}
+use Rattle.std.specs.Prelude.{fold, count_by, slice_get, unwrap_or}
+use Rattle.std.specs.List.{filter_map, cons_option, range_with_len}
+use Rattle.std.proofs.lemmas.Bool.{cases_lt}
+use Rattle.std.proofs.lemmas.List.{drop-drop}
+use Rattle.std.proofs.lemmas.List.Elements.{filter_map-append}
+use Rattle.std.proofs.lemmas.List.FromFn.{map-range_with_len_more}
+use Rattle.std.proofs.lemmas.List.Sums.{fold-append}
+use Rattle.jm_bytes.proofs.Choice.{same_some}
+use Rattle.jm_bytes.specs.Results.{UnlessMemory}
+use Rattle.jm_words.specs.declared.commands.Command.{Command}
+use Rattle.jm_words.specs.declared.drafts.Draft.{Draft}
+use Rattle.jm_words.specs.declared.errors.WordsError.{WordsError}
+use Rattle.jm_words.specs.declared.errors.WordsError.TheVariants.{Fault, Memory}
+use Rattle.jm_words.specs.declared.errors.WordsKind.{WordsKind}
+use Rattle.jm_words.specs.declared.tables.Verb.{Verb}
+use Rattle.jm_words.specs.declared.tables.Argument.{Argument}
+use Rattle.jm_words.specs.declared.tables.Choice.{Choice}
+use Rattle.jm_words.specs.Commands.{command_after, command_in, command_of, command_or_missing, command_unless_fault, verb_named}
+use Rattle.jm_words.specs.Drafts.{nothing}
+use Rattle.jm_words.specs.Reading.{Standing, after_role, after_sound, after_words, draft_or_fault, left_behind, reading_of, unless_kind, with_option, with_word}
+use Rattle.jm_words.specs.Roles.{Role, Unknown, Flag, Waits, WithValue, ValueFor, AsArgument, is_argument, named_by, role_of, waiting}
+use Rattle.jm_words.specs.Rule.{AreSound, IsFirstFault, SaysAfter, SaysBehind, SaysCommand, draft_at, given_at, kind_at, left_at, options_before, role_at, roles_before, word_at}
+use Rattle.jm_words.specs.Tables.{arguments, options}
+use Rattle.jm_words.proofs.ReadingLaws.{after_words_err}
+
+-- Lists
+
+counted : {X : Type 0} (p : X → Bool) (xs : List X) (x : X) → count_by p (xs ++ x ∷ []) ≡ count_by p xs + cond (p x) 1 0
+counted p xs x = fold-append (λ a y. a + cond (p y) 1 0) 0 xs (x ∷ [])
+
+ranged : {X : Type 0} (f : ℕ → X) (i : ℕ) → map f (range_with_len 0 (suc i)) ≡ map f (range_with_len 0 i) ++ f i ∷ []
+ranged f i =
+    let one : i + 1 ≡ suc i = omega arith in
+    subst (λ n. map f (range_with_len 0 n) ≡ map f (range_with_len 0 i) ++ f i ∷ []) one (map-range_with_len_more f 0 i i (omega arith))
+
+-- the first element of what is left, and what is left behind it
+there : {X : Type 0} (xs : List X) (i : ℕ) (x : X) (rest : List X) → drop i xs ≡ x ∷ rest → (slice_get xs i ≡ Some x) × (drop (suc i) xs ≡ rest)
+there [] zero x rest is = cc
+there [] (suc i) x rest is = cc
+there (y ∷ xs) zero x rest is = (cc, cc)
+there (y ∷ xs) (suc i) x rest is = there xs i x rest is
+
+module _ (verb : Verb) (words : List (List ℕ)) where
+  -- the option that waits for the word at a place
+  abbrev pending_at : ℕ → Option Choice
+  pending_at zero = None
+  pending_at (suc i) = waiting (role_at verb words i)
+
+  -- what stands at a place
+  abbrev standing_at : ℕ → Standing
+  standing_at i = record {
+    draft = draft_at verb words i;
+    before = options_before verb words i;
+    left = left_at verb words i;
+    pending = pending_at i;
+  }
+
+  role_here : (i : ℕ) → role_of (options verb) (pending_at i) (word_at words i) ≡ role_at verb words i
+  role_here zero = refl
+  role_here (suc i) = refl
+
+  -- one place further
+
+  roles_more : (i : ℕ) → roles_before verb words (suc i) ≡ roles_before verb words i ++ role_at verb words i ∷ []
+  roles_more i = ranged (role_at verb words) i
+
+  draft_more : (i : ℕ) → draft_at verb words (suc i) ≡ with_word (draft_at verb words i) (given_at verb words i)
+  draft_more i =
+      ap (fold with_word nothing) (ranged (given_at verb words) i)
+      ∙ fold-append with_word nothing (map (given_at verb words) (range_with_len 0 i)) (given_at verb words i ∷ [])
+
+  options_more : (i : ℕ) → options_before verb words (suc i) ≡ with_option (options_before verb words i) (named_by (role_at verb words i))
+  options_more i =
+      ap (filter_map named_by) (roles_more i)
+      ∙ filter_map-append named_by (roles_before verb words i) (role_at verb words i ∷ [])
+      ∙ go (named_by (role_at verb words i))
+    where
+      go : (o : Option Choice) → options_before verb words i ++ cons_option o [] ≡ with_option (options_before verb words i) o
+      go None = append-nil (options_before verb words i)
+      go (Some choice) = refl
+
+  left_more : (i : ℕ) → left_at verb words (suc i) ≡ left_behind (left_at verb words i) (role_at verb words i)
+  left_more i =
+      ap (λ roles. drop (count_by is_argument roles) (arguments verb)) (roles_more i)
+      ∙ ap (λ n. drop n (arguments verb)) (counted is_argument (roles_before verb words i) (role_at verb words i))
+      ∙ go (role_at verb words i)
+    where
+      taken : ℕ
+      taken = count_by is_argument (roles_before verb words i)
+
+      none : drop (taken + 0) (arguments verb) ≡ drop taken (arguments verb)
+      none = let same : taken + 0 ≡ taken = omega arith in ap (λ n. drop n (arguments verb)) same
+
+      go : (role : Role) → drop (taken + cond (is_argument role) 1 0) (arguments verb) ≡ left_behind (drop taken (arguments verb)) role
+      go Unknown = none
+      go (Flag choice given) = none
+      go (Waits choice) = none
+      go (WithValue choice text) = none
+      go (ValueFor choice text) = none
+      go (AsArgument text) = sym (drop-drop 1 taken (arguments verb))
+
+  same_standing : (a b : Draft) (c d : List Choice) (e f : List Argument) (p : Option Choice) → a ≡ b → c ≡ d → e ≡ f → ◌≡◌ {A = Standing} (record { draft = a; before = c; left = e; pending = p }) (record { draft = b; before = d; left = f; pending = p })
+  same_standing a b c d e f p first second third = rw (first, second, third) refl
+
+  standing_more : (i : ℕ) → after_sound (standing_at i) (role_at verb words i) ≡ standing_at (suc i)
+  standing_more i = sym (same_standing _ _ _ _ _ _ _ (draft_more i) (options_more i) (left_more i))
+
+  -- all words
+
+  -- what was read is what stands at the end, or the first fault
+  abbrev Reads : Result Standing WordsError → Type 0
+  Reads (Ok standing) = AreSound verb words × (standing ≡ standing_at (length words))
+  Reads (Err (Fault at kind)) = IsFirstFault verb words at kind
+  Reads (Err Memory) = ⊥
+
+  one_read : (i : ℕ) (word : List ℕ) → word ≡ word_at words i → after_role (i + 2) (length words + 1) (standing_at i) (role_of (options verb) (pending_at i) word) ≡ unless_kind (i + 2) (kind_at verb words i) (standing_at (suc i))
+  one_read i word is =
+      ap (λ w. after_role (i + 2) (length words + 1) (standing_at i) (role_of (options verb) (pending_at i) w)) is
+      ∙ ap (after_role (i + 2) (length words + 1) (standing_at i)) (role_here i)
+      ∙ ap (unless_kind (i + 2) (kind_at verb words i)) (standing_more i)
+
+  words_read : (i : ℕ) (rest : List (List ℕ)) → drop i words ≡ rest → i + length rest ≡ length words → ((j : ℕ) → j < i → kind_at verb words j ≡ None) → Reads (after_words (options verb) (i + 2) (length words + 1) rest (Ok (standing_at i)))
+  words_read i [] is all sound =
+      let end : i ≡ length words = omega arith in
+      (λ j below. sound j (omega arith), ap standing_at end)
+  words_read i (word ∷ rest) is all sound = go (kind_at verb words i) refl (words_read (suc i) rest)
+    where
+      head : (slice_get words i ≡ Some word) × (drop (suc i) words ≡ rest)
+      head = there words i word rest is
+
+      same : word ≡ word_at words i
+      same = sym (ap (λ o. unwrap_or o []) head.0)
+
+      next : (found : Option WordsKind) → kind_at verb words i ≡ found → Reads (after_words (options verb) (i + 2 + 1) (length words + 1) rest (unless_kind (i + 2) found (standing_at (suc i)))) → Reads (after_words (options verb) (i + 2) (length words + 1) (word ∷ rest) (Ok (standing_at i)))
+      next found e reads =
+          subst (λ (r : Result Standing WordsError). Reads (after_words (options verb) (i + 2 + 1) (length words + 1) rest r)) (sym (one_read i word same ∙ ap (λ k. unless_kind (i + 2) k (standing_at (suc i))) e)) reads
+
+      go : (found : Option WordsKind) → kind_at verb words i ≡ found → (drop (suc i) words ≡ rest → suc i + length rest ≡ length words → ((j : ℕ) → j < suc i → kind_at verb words j ≡ None) → Reads (after_words (options verb) (suc i + 2) (length words + 1) rest (Ok (standing_at (suc i))))) → Reads (after_words (options verb) (i + 2) (length words + 1) (word ∷ rest) (Ok (standing_at i)))
+      go None e more =
+          let number : suc i + 2 ≡ i + 2 + 1 = omega arith in
+          let sound_too : (j : ℕ) → j < suc i → kind_at verb words j ≡ None = λ j below. elim (cases_lt j i) [
+            | inl earlier ↦ sound j earlier
+            | inr later ↦ let here : j ≡ i = omega arith in ap (kind_at verb words) here ∙ e
+          ] in
+          next None e (subst (λ n. Reads (after_words (options verb) n (length words + 1) rest (Ok (standing_at (suc i))))) number (more head.1 (omega arith) sound_too))
+      go (Some kind) e more =
+          let first : IsFirstFault verb words (i + 2) kind = record { place = i; below = omega arith; number = refl; before = sound; first = e } in
+          next (Some kind) e (subst Reads (sym (after_words_err (options verb) (i + 2 + 1) (length words + 1) rest (Fault (i + 2) kind))) first)
+
+  all_read : Reads (reading_of verb words)
+  all_read = words_read 0 words refl (omega arith) (λ j below. absurd (omega arith))
+
+  -- the command, or the fault, is what the words say
+
+  pub behind_says : SaysBehind verb words (command_unless_fault verb (length words + 1) (draft_or_fault (reading_of verb words)))
+  behind_says = go (reading_of verb words) all_read
+    where
+      made : AreSound verb words → (command : Option Command) → command_of verb (draft_at verb words (length words)) ≡ command → SaysBehind verb words (command_or_missing (length words + 1) command)
+      made sound None e = inr (sound, e, refl, refl)
+      made sound (Some command) e = (sound, e)
+
+      go : (read : Result Standing WordsError) → Reads read → SaysBehind verb words (command_unless_fault verb (length words + 1) (draft_or_fault read))
+      go (Ok standing) (sound, same) = rw same (made sound (command_of verb (draft_at verb words (length words))) refl)
+      go (Err (Fault at kind)) first = inl first
+      go (Err Memory) none = absurd none
+
+  -- the words say one thing
+
+  not_sound : (at : ℕ) (kind : WordsKind) → AreSound verb words → IsFirstFault verb words at kind → ⊥
+  not_sound at kind sound fault =
+      let none = sound fault.place fault.below in
+      let some = fault.first in
+      cc
+
+  one_first : (at by : ℕ) (kind other : WordsKind) → IsFirstFault verb words at kind → IsFirstFault verb words by other → (at ≡ by) × (kind ≡ other)
+  one_first at by kind other f g =
+      elim (cases_lt f.place g.place) [
+        | inl earlier ↦ let none = g.before f.place earlier in let some = f.first in absurd (cc)
+        | inr later ↦ elim (cases_lt g.place f.place) [
+          | inl earlier ↦ let none = f.before g.place earlier in let some = g.first in absurd (cc)
+          | inr late ↦
+              let same : f.place ≡ g.place = omega arith in
+              (f.number ∙ ap (λ n. n + 2) same ∙ sym g.number, same_some kind other (sym f.first ∙ ap (kind_at verb words) same ∙ g.first))
+        ]
+      ]
+
+  same_fault : (at by : ℕ) (kind other : WordsKind) → at ≡ by → kind ≡ other → ◌≡◌ {A = Result Command WordsError} (Err (Fault at kind)) (Err (Fault by other))
+  same_fault at by kind other number name = rw (number, name) refl
+
+  pub one_behind : (a b : Result Command WordsError) → SaysBehind verb words a → SaysBehind verb words b → a ≡ b
+  one_behind (Ok a) (Ok b) (sound, e) (also, f) = ap (λ (command : Command). Ok command) (same_some a b (sym e ∙ f))
+  one_behind (Ok a) (Err (Fault by other)) (sound, e) (inl g) = absurd (not_sound by other sound g)
+  one_behind (Ok a) (Err (Fault by other)) (sound, e) (inr (also, none, number, name)) = absurd (cc)
+  one_behind (Ok a) (Err Memory) says none = absurd none
+  one_behind (Err (Fault at kind)) (Ok b) (inl f) (sound, e) = absurd (not_sound at kind sound f)
+  one_behind (Err (Fault at kind)) (Ok b) (inr (also, none, number, name)) (sound, e) = absurd (cc)
+  one_behind (Err (Fault at kind)) (Err (Fault by other)) (inl f) (inl g) =
+      let same = one_first at by kind other f g in same_fault at by kind other same.0 same.1
+  one_behind (Err (Fault at kind)) (Err (Fault by other)) (inl f) (inr (sound, none, number, name)) = absurd (not_sound at kind sound f)
+  one_behind (Err (Fault at kind)) (Err (Fault by other)) (inr (sound, none, number, name)) (inl g) = absurd (not_sound by other sound g)
+  one_behind (Err (Fault at kind)) (Err (Fault by other)) (inr (sound, none, number, name)) (inr (also, lacking, count, called)) =
+      same_fault at by kind other (number ∙ sym count) (name ∙ sym called)
+  one_behind (Err (Fault at kind)) (Err Memory) says none = absurd none
+  one_behind (Err Memory) b none says = absurd none
+
+-- All words of the command line
+
+pub command_says : (words : List (List ℕ)) → SaysCommand words (command_in words)
+command_says [] = refl
+command_says (name ∷ words) = go (verb_named name)
+  where
+    go : (verb : Option Verb) → SaysAfter verb words (command_after verb words)
+    go None = refl
+    go (Some verb) = behind_says verb words
+
+-- words say one thing
+pub says_one : (words : List (List ℕ)) (a b : Result Command WordsError) → SaysCommand words a → SaysCommand words b → a ≡ b
+says_one [] a b first second = first ∙ sym second
+says_one (name ∷ words) a b first second = go (verb_named name) first second
+  where
+    go : (verb : Option Verb) → SaysAfter verb words a → SaysAfter verb words b → a ≡ b
+    go None first second = first ∙ sym second
+    go (Some verb) first second = one_behind verb words a b first second
+
+-- what words say is what is computed
+pub says_computed : (words : List (List ℕ)) (result : Result Command WordsError) → SaysCommand words result → result ≡ command_in words
+says_computed words result says = says_one words result (command_in words) says (command_says words)
+
+-- what was read is what the words say, unless memory was wanting
+pub says_unless_memory : (words : List (List ℕ)) (result : Result Command WordsError) → UnlessMemory Memory result (command_in words) → (result ≡ Err Memory) ⊎ SaysCommand words result
+says_unless_memory words result (inl memory) = inl memory
+says_unless_memory words result (inr same) = inr (subst (SaysCommand words) (sym same) (command_says words))
