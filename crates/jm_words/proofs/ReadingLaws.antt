@@ -10,14 +10,15 @@ use Rattle.std.proofs.lemmas.List.{drop_more}
 use Rattle.jm_words.specs.declared.errors.WordsError.{WordsError}
 use Rattle.jm_words.specs.declared.errors.WordsError.TheVariants.{Memory}
 use Rattle.jm_words.specs.declared.given.Given.{Given}
+use Rattle.jm_words.specs.declared.tables.Argument.{Argument}
 use Rattle.jm_words.specs.declared.tables.Choice.{Choice}
 use Rattle.jm_words.specs.declared.tables.Verb.{Verb}
 use Rattle.jm_words.specs.Tables.{options}
 use Rattle.jm_bytes.specs.Results.{UnlessMemory}
-use Rattle.jm_words.specs.Givens.{flag_of}
+use Rattle.jm_words.specs.Givens.{argument_of, flag_of}
 use Rattle.jm_words.specs.Reading.{Standing, after_role, after_words, draft_or_fault, reading_of}
-use Rattle.jm_words.specs.ReadingSteps.{after_bare}
-use Rattle.jm_words.specs.Roles.{option_role, role_of, stands_again}
+use Rattle.jm_words.specs.ReadingSteps.{after_argument, after_bare, after_text}
+use Rattle.jm_words.specs.Roles.{AsArgument, option_role, role_of, stands_again}
 
 -- all stands before the first byte that passes, where none passes
 pub before_first_none : (p : ℕ → Bool) (xs : List ℕ) → list_any p xs ≡ false → before_first p xs ≡ xs
@@ -37,6 +38,18 @@ bare_read at all standing choice once = go (flag_of choice) refl
     go : (flag : Option Given) → flag_of choice ≡ flag → after_role at all standing (option_role (Some choice) None) ≡ after_bare at all choice flag (record standing { before = standing.before ++ choice ∷ [] })
     go None e = last (at == all) refl e
     go (Some given) e = rw (e, once) refl
+
+-- an argument
+pub argument_read : (at all : ℕ) (word : List ℕ) (standing : Standing) → after_role at all standing (AsArgument word) ≡ after_argument at word standing.left standing
+argument_read at all word standing = go standing.left refl
+  where
+    first : (argument : Argument) (left : List Argument) (given : Option Given) → standing.left ≡ argument ∷ left → argument_of argument word ≡ given → after_role at all standing (AsArgument word) ≡ after_text at given (record standing { left = left; pending = None })
+    first argument left None is e = rw (is, e) refl
+    first argument left (Some given) is e = rw (is, e) refl
+
+    go : (left : List Argument) → standing.left ≡ left → after_role at all standing (AsArgument word) ≡ after_argument at word left standing
+    go [] is = rw is refl
+    go (argument ∷ left) is = first argument left (argument_of argument word) is refl
 
 -- All words
 

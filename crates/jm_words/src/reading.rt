@@ -4,8 +4,8 @@ ghost use Rattle.std.specs.List.{list_any, before_first, after_first, find};
 ghost use Rattle.jm_bytes.specs.Results.{UnlessMemory};
 ghost use Rattle.jm_words.specs.Givens.{flag_of};
 ghost use Rattle.jm_words.specs.Reading.{after_role, draft_or_fault, fault_at, reading_of};
-ghost use Rattle.jm_words.specs.ReadingSteps.{after_bare, after_text};
-ghost use Rattle.jm_words.specs.Roles.{AsArgument, is_among, is_equals, option_named, option_role};
+ghost use Rattle.jm_words.specs.ReadingSteps.{after_argument, after_bare, after_text};
+ghost use Rattle.jm_words.specs.Roles.{is_among, is_equals, option_named, option_role};
 ghost use Rattle.jm_words.specs.Roles.{plain_role, role_of, stands_again, value_behind};
 
 use crate::drafts::Draft;
@@ -82,6 +82,7 @@ fn after_word(
 }
 
 /// A word by itself.
+#[tactic(auto, using(crate::proofs::ReadingLaws::argument_read))]
 fn after_plain_word(
     alloc: Global,
     choices: &[Choice],
@@ -94,7 +95,7 @@ fn after_plain_word(
         (after_role at all progress (plain_role choices.now word.now)) }
 {
     if !word.starts_with(b"--") {
-        return after_argument(alloc, at, all, word, progress);
+        return after_argument(alloc, at, word, progress);
     }
     let (name, value) = option_parts(word);
     match option_named(name, choices) {
@@ -154,12 +155,11 @@ fn after_bare_option(
 fn after_argument(
     alloc: Global,
     at: usize,
-    all: usize,
     word: &[u8],
     progress: Progress,
 ) -> Result<Progress, WordsError>
     ensures { UnlessMemory WordsError.Memory result
-        (after_role at all progress (AsArgument word.now)) }
+        (after_argument at word.now progress.left progress) }
 {
     let mut progress = progress;
     match progress.left.split_first() {
