@@ -1,7 +1,8 @@
 -- What the text of an argument, or of an option's value, means, if it is of its form (this
 -- project's rule).
 use Rattle.std.specs.Prelude.{ℕ, ◌+◌, ◌*◌, ◌-◌, Bool, false, nat_le, ◌==◌, ◌&&◌, List, [], ◌∷◌}
-use Rattle.std.specs.Prelude.{map, Option, Some, None, option_map, Result, Ok, Err, if◌then◌else◌, codes}
+use Rattle.std.specs.Prelude.{map, Option, Some, None, option_map, Result, Ok, Err}
+use Rattle.std.specs.Prelude.{if◌then◌else◌, codes}
 use Rattle.std.specs.List.{list_all, list_any, slice_split}
 use Rattle.std.specs.Str.{bytes_eq}
 use Rattle.jm_bytes.specs.declared.words.Order.{Order}

@@ -1,6 +1,5 @@
-ghost use Rattle.std.specs.Prelude.{◌≡◌, ◌+◌, ◌==◌, ◌∷◌, [], None, Some, map, option_map};
-ghost use Rattle.std.specs.Prelude.{string_bytes, IfOk, Ok};
-ghost use Rattle.std.specs.List.{list_any, before_first, after_first, find};
+ghost use Rattle.std.specs.Prelude.{◌≡◌, Some, map, option_map, string_bytes};
+ghost use Rattle.std.specs.List.{before_first};
 ghost use Rattle.jm_bytes.specs.Results.{UnlessMemory};
 ghost use Rattle.jm_words.specs.Givens.{flag_of};
 ghost use Rattle.jm_words.specs.Reading.{after_role, draft_or_fault, fault_at, reading_of};
