@@ -2,7 +2,8 @@
  *
  * Puts the nanoseconds of opening, and of a look-up in one process that is warm: all resources in
  * random order, and as many names that are not there. Each thread looks up all of them. The times
- * are of a processor, the least of some rounds, so that other work on the machine shows least. */
+ * are of a processor, the least of some rounds, so that other work on the machine shows least. The
+ * names lie in pages of their own, so that no library's use of the heap moves them apart. */
 #include <dlfcn.h>
 #include <pthread.h>
 #include <stdbool.h>
@@ -10,9 +11,10 @@
 #include <stdio.h>
 #include <stdlib.h>
 #include <string.h>
+#include <sys/mman.h>
 #include <time.h>
 
-enum { ROUNDS = 9, MOST_THREADS = 64 };
+enum { ROUNDS = 9, MOST_THREADS = 64, PAGES = 1 << 20 };
 
 struct asked { char *module, *there, *absent; };
 static struct asked *names;
@@ -26,6 +28,19 @@ static double now(void) {
   return 1e9 * (double)time.tv_sec + (double)time.tv_nsec;
 }
 
+static char *kept(const char *text) {
+  static char *page, *end;
+  size_t size = strlen(text) + 1;
+  if (page == NULL || (size_t)(end - page) < size) {
+    page = mmap(NULL, PAGES, PROT_READ | PROT_WRITE, MAP_PRIVATE | MAP_ANONYMOUS, -1, 0);
+    if (page == MAP_FAILED) exit(7);
+    end = page + PAGES;
+  }
+  char *place = page;
+  page += size;
+  return memcpy(place, text, size);
+}
+
 static bool take(void *from, const char *module, const char *version, const char *package,
                  const char *name, const char *extension, void *more) {
   (void)from, (void)version, (void)more;
@@ -34,10 +49,10 @@ static bool take(void *from, const char *module, const char *version, const char
   const char *slash = *package ? "/" : "", *dot = *extension ? "." : "";
   snprintf(text, sizeof text, "%s%s%s%s%s", package, slash, name, dot, extension);
   struct asked *asked = &names[count++];
-  asked->module = strdup(module);
-  asked->there = strdup(text);
+  asked->module = kept(module);
+  asked->there = kept(text);
   snprintf(text, sizeof text, "%s%s%s-%s%s", package, slash, name, dot, extension);
-  asked->absent = strdup(text);
+  asked->absent = kept(text);
   return true;
 }
 
