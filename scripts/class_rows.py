@@ -10,6 +10,10 @@ SMALLEST = bytes.fromhex(
 LONG = bytes.fromhex(
     "CAFEBABE0000003400030501020304050607080000000000000000000000000000"
 )
+# One text, of one byte.
+TEXT = bytes.fromhex(
+    "CAFEBABE000000340002010001610000000000000000000000000000"
+)
 # A class of one method with a Code, which has a line number table, and with a source file.
 GENERATED = bytes.fromhex(
     "CAFEBABE0000003D000D01000D6D3030302F70302F43303030300700010100106A6176612F6C616E672F4F626A656374"
@@ -77,19 +81,28 @@ def changed(text, *stretches):
 CLASS_FAULTS = [
     ("another first byte", SMALLEST, (0, 1, [0]), "Magic"),
     ("three bytes", SMALLEST, (3, 24, []), "Short 0"),
+    ("the last byte missing", SMALLEST, (23, 24, []), "Short 22"),
+    ("a byte behind the class", SMALLEST, (24, 24, [0]), "Rest 24"),
     ("major 44", SMALLEST, (7, 8, [44]), "Version 44"),
     ("major 66", SMALLEST, (7, 8, [66]), "Version 66"),
     ("an end behind the count of constants", SMALLEST, (8, 24, [255, 255]), "Short 10"),
     ("a count of constants of 0", SMALLEST, (9, 10, [0]), "Index 8"),
+    ("an end behind a count of constants of 0", SMALLEST, (8, 24, [0, 0]), "Index 8"),
     ("a constant of the tag 0", SMALLEST, (9, 10, [2]), "Tag 10"),
+    *[(f"a constant of the tag {tag}", LONG, (10, 11, [tag]), "Tag 10") for tag in (2, 13, 14, 21, 255)],
+    ("a Long where there is one number", LONG, (9, 10, [2]), "Index 10"),
     ("an interface in place of a count", SMALLEST, (17, 18, [1]), "Short 24"),
     ("a field that ends in its name", SMALLEST, (19, 20, [1]), "Short 24"),
+    ("more fields than there are bytes", SMALLEST, (18, 20, [255, 255]), "Short 24"),
     ("an attribute that isn't there", SMALLEST, (23, 24, [1]), "Short 24"),
+    ("an attribute of no name, longer than any file", SMALLEST, (23, 24, [1, 0, 1, 255, 255, 255, 255]), "Index 24"),
+    ("an attribute longer than any file", TEXT, (26, 28, [0, 1, 0, 1, 255, 255, 255, 255]), "Short 34"),
     ("a generated class, another first byte", GENERATED, (0, 1, [0]), "Magic"),
     ("a generated class, major 44", GENERATED, (7, 8, [44]), "Version 44"),
     ("a Long without its second number", GENERATED, (9, 10, [12]), "Index 112"),
     ("an attribute of a method named past the pool", GENERATED, (142, 143, [13]), "Index 141"),
     ("a Code that is longer than the file", GENERATED, (143, 144, [1]), "Short 147"),
+    ("a Code longer than any file", GENERATED, (143, 147, [255, 255, 255, 255]), "Short 147"),
     ("a Code whose length is too small by 1", GENERATED, (146, 147, [27]), "CodeLength 143"),
     ("a Code whose length is too great by 1", GENERATED, (146, 147, [29]), "CodeLength 143"),
     ("instructions whose length is too great by 1", GENERATED, (154, 155, [5]), "Index 164"),

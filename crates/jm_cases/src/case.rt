@@ -1,6 +1,7 @@
 //! A case: a shelf, the input of a session, and the calls that fail.
 
 use crate::escapes::put_bytes;
+use crate::known::Known;
 use crate::words::words_of;
 use jm_bytes::{List, Text};
 use jm_commands::run;
@@ -57,13 +58,21 @@ impl Case {
     }
 }
 
-/// The list of one number, or of none.
-pub fn numbers(alloc: Global, number: Option<u64>) -> Result<List<u64>, AllocError> {
+/// So many numbers from a first one on.
+pub fn numbers_from(alloc: Global, first: u64, count: u64) -> Result<List<u64>, AllocError> {
     let mut numbers = Vec::new(alloc);
-    if let Some(number) = number {
-        numbers.push(number)?;
+    for step in 0..count {
+        numbers.push(first.saturating_add(step))?;
     }
     Ok(List::from_vec(numbers))
+}
+
+/// The list of one number, or of none.
+fn numbers(alloc: Global, number: Option<u64>) -> Result<List<u64>, AllocError> {
+    match number {
+        Some(number) => numbers_from(alloc, number, 1),
+        None => Ok(List::new(alloc)),
+    }
 }
 
 fn sink_of(alloc: Global, fails: Option<u64>) -> Result<MemSink, AllocError> {
@@ -84,10 +93,20 @@ fn source_of(alloc: Global, case: &Case) -> Result<MemSource, AllocError> {
     Ok(source)
 }
 
-/// The line on a run: the status, the output and the text of the error sink, with a bar between.
-fn line_of(alloc: Global, status: u8, out: &[u8], err: &[u8]) -> Result<String, AllocError> {
+/// The line on a run: the status, the output, or a name of its bytes, and the text of the error
+/// sink, with a bar between.
+fn line_of(
+    alloc: Global,
+    known: &Known,
+    status: u8,
+    out: &[u8],
+    err: &[u8],
+) -> Result<String, AllocError> {
     let mut told = format!(in alloc; "{status}|")?;
-    put_bytes(&mut told, out)?;
+    match known.name_of(out) {
+        Some(name) => write!(told, "@{name}")?,
+        None => put_bytes(&mut told, out)?,
+    }
     told.push('|')?;
     put_bytes(&mut told, err)?;
     told.push('\n')?;
@@ -98,6 +117,7 @@ fn line_of(alloc: Global, status: u8, out: &[u8], err: &[u8]) -> Result<String, 
 pub fn run_line<T: Threads + Sync>(
     rt: &T,
     alloc: Global,
+    known: &Known,
     case: &mut Case,
     words: &str,
 ) -> Result<String, AllocError> {
@@ -111,5 +131,5 @@ pub fn run_line<T: Threads + Sync>(
         rt, alloc, words, shelf, &mut input, &mut out, &mut err, &NoGate,
     );
     let (front, _) = out.bytes().split_at(case.front.min(out.bytes().len()));
-    line_of(alloc, status.value(), front, err.bytes())
+    line_of(alloc, known, status.value(), front, err.bytes())
 }

@@ -89,6 +89,16 @@ impl Known {
         None
     }
 
+    /// The first name of bytes of which some bytes, at least one, are a front.
+    pub fn name_of_whole(&self, front: &[u8]) -> Option<&str> {
+        for named in self.named.as_slice() {
+            if !front.is_empty() && named.bytes.as_slice().starts_with(front) {
+                return Some(named.name.as_str());
+            }
+        }
+        None
+    }
+
     /// The bytes that a value stands for, `@` and a name or a text with escapes.
     pub fn value(&self, alloc: Global, value: &str) -> Result<Option<Vec<u8>>, AllocError> {
         let Some(name) = value.strip_prefix('@') else {

@@ -4,9 +4,12 @@ use crate::case::Case;
 use crate::escapes::put_bytes;
 use crate::known::Known;
 use crate::words::first_word;
+use jm_bytes::List;
+use jm_outside::Shelf;
 use std::alloc::{AllocError, Global};
 
-/// Puts a path and what is there: a name of the bytes, else the bytes, or `none`.
+/// Puts a path and what is there: a name of the bytes, or one of bytes of which they are a front,
+/// with their length, else the bytes, or `none`.
 fn put_file(
     told: &mut String,
     known: &Known,
@@ -18,6 +21,10 @@ fn put_file(
     };
     if let Some(name) = known.name_of(bytes) {
         return write!(told, "{path} @{name}");
+    }
+    if let Some(name) = known.name_of_whole(bytes) {
+        let length = bytes.len();
+        return write!(told, "{path} @{name} to {length}");
     }
     write!(told, "{path} \"")?;
     put_bytes(told, bytes)?;
@@ -32,6 +39,44 @@ pub fn show(alloc: Global, known: &Known, case: &Case, paths: &str) -> Result<St
         told.push('\n')?;
     }
     Ok(told)
+}
+
+/// The paths of the files below a folder. It takes a call of the shelf, and from then on none fails.
+fn paths_below(
+    alloc: Global,
+    case: &mut Case,
+    folder: &str,
+) -> Result<Option<Vec<String>>, AllocError> {
+    case.shelf.fail_on(List::new(alloc));
+    let Ok(names) = case.shelf.names(alloc, folder.as_bytes()) else {
+        return Ok(None);
+    };
+    let mut paths = Vec::new(alloc);
+    for name in names.as_slice() {
+        let Ok(name) = str::from_utf8(name.as_slice()) else {
+            return Ok(None);
+        };
+        paths.push(format!(in alloc; "{folder}/{name}")?)?;
+    }
+    Ok(Some(paths))
+}
+
+/// `files FOLDER`: each file below a folder, and what it holds.
+pub fn files(
+    alloc: Global,
+    known: &Known,
+    case: &mut Case,
+    folder: &str,
+) -> Result<Option<String>, AllocError> {
+    let Some(paths) = paths_below(alloc, case, folder)? else {
+        return Ok(None);
+    };
+    let mut told = String::new(alloc);
+    for path in paths.as_slice() {
+        put_file(&mut told, known, path.as_str(), case.file(path.as_str()))?;
+        told.push('\n')?;
+    }
+    Ok(Some(told))
 }
 
 /// `size PATH..`: how many bytes stand at each path.

@@ -1,6 +1,6 @@
 //! The steps that print nothing. Each says whether its line was one.
 
-use crate::case::{Case, numbers};
+use crate::case::{Case, numbers_from};
 use crate::known::Known;
 use crate::words::first_word;
 use std::alloc::{AllocError, Global};
@@ -26,18 +26,22 @@ fn group_file(alloc: Global, known: &mut Known, rest: &str) -> Result<bool, Allo
     Ok(true)
 }
 
-/// `with NAME`: puts the files of a group on the shelf.
+/// `with NAME FOLDER`: puts the files of a group on the shelf, below a folder if there is one.
 fn put_group(
     alloc: Global,
     known: &Known,
     case: &mut Case,
-    group: &str,
+    rest: &str,
 ) -> Result<bool, AllocError> {
+    let (group, folder) = first_word(rest);
+    let slash = if folder.is_empty() { "" } else { "/" };
     let mut found = false;
     for member in known.members() {
         if member.group.as_str() == group {
             let bytes = Vec::from_slice(alloc, member.bytes.as_slice())?;
-            case.put_file(alloc, member.path.as_str(), bytes)?;
+            let name = member.path.as_str();
+            let path = format!(in alloc; "{folder}{slash}{name}")?;
+            case.put_file(alloc, path.as_str(), bytes)?;
             found = true;
         }
     }
@@ -106,15 +110,33 @@ fn change_file(
     Ok(true)
 }
 
+/// How many calls of the shelf fail where all do from one on; no case makes more.
+const LATER: u64 = 100;
+
+/// Makes a call of the shelf fail, or behind its number and `..` this call and all later ones.
+fn fail_shelf(alloc: Global, case: &mut Case, number: &str) -> Result<bool, AllocError> {
+    let (first, count) = match number.split_once("..") {
+        Some((first, "")) => (first, LATER),
+        _ => (number, 1),
+    };
+    let Ok(first) = first.parse::<u64>() else {
+        return Ok(false);
+    };
+    case.shelf.fail_on(numbers_from(alloc, first, count)?);
+    Ok(true)
+}
+
 /// `fail WHERE NUMBER`: which call fails of the shelf, of the input, or of the output or the error
 /// sink of each run.
 fn fail_call(alloc: Global, case: &mut Case, rest: &str) -> Result<bool, AllocError> {
     let (place, number) = first_word(rest);
+    if place == "shelf" {
+        return fail_shelf(alloc, case, number);
+    }
     let Ok(number) = number.parse::<u64>() else {
         return Ok(false);
     };
     match place {
-        "shelf" => case.shelf.fail_on(numbers(alloc, Some(number))?),
         "input" => case.input_fails = Some(number),
         "output" => case.out_fails = Some(number),
         "error" => case.err_fails = Some(number),

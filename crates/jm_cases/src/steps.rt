@@ -2,7 +2,7 @@
 
 use crate::case::{Case, run_line};
 use crate::known::Known;
-use crate::look::{part, show, size};
+use crate::look::{files, part, show, size};
 use crate::prepare::prepare;
 use crate::words::first_word;
 use std::alloc::{AllocError, Global};
@@ -22,8 +22,9 @@ fn told_by<T: Threads + Sync>(
             *case = Case::new(alloc);
             Ok(Some(format!(in alloc; "case {rest}\n")?))
         }
-        "run" => Ok(Some(run_line(rt, alloc, case, rest)?)),
+        "run" => Ok(Some(run_line(rt, alloc, known, case, rest)?)),
         "show" => Ok(Some(show(alloc, known, case, rest)?)),
+        "files" => files(alloc, known, case, rest),
         "size" => Ok(Some(size(alloc, case, rest)?)),
         "part" => part(alloc, known, case, rest),
         _ => Ok(prepare(alloc, known, case, word, rest)?.then_some(String::new(alloc))),
