@@ -32,6 +32,4 @@ mod tables;
 #[cfg(test)]
 mod texts;
 #[cfg(test)]
-mod trees;
-#[cfg(test)]
 mod words_and_texts;

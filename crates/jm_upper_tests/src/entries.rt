@@ -9,6 +9,7 @@ use jm_valid::{Image, OpenError, open_image};
 use std::alloc::Global;
 use std::marker::Brand;
 use std::sync::ledger::{Blank, Ledger};
+use std::test::Fail;
 use std::thread::Threads;
 
 /// How many bytes stand under a name.
@@ -49,76 +50,78 @@ fn walked<R: Ledger>(image: &Image, bytes: &[u8], reads: Blank) -> usize
     count
 }
 
-/// The first name under which not so many bytes stand as its row tells.
-fn unlike_name(
-    image: &Image,
-    bytes: &[u8],
-    rows: &'static [(&'static [u8], Option<usize>)],
-) -> Option<&'static [u8]>
-    requires { image.now ≡ bytes.now }
-{
-    for (name, length) in rows {
-        let (hashes, reads) = (Blank::new(1), Blank::new(1));
-        if length_of::<Brand, Brand>(image, bytes, name, hashes, reads) != *length {
-            return Some(name);
-        }
-    }
-    None
-}
-
-/// Whether there are so many entries.
-fn has_entries(image: &Image, bytes: &[u8], count: usize) -> bool
-    requires { image.now ≡ bytes.now }
-{
-    walked::<Brand>(image, bytes, Blank::new(1)) == count
-}
-
-/// The first name in some bytes, which are an image of so many entries, that is unlike its row.
-pub fn unlike<T: Threads + Sync>(
+/// How many bytes stand under a name in an image, which these bytes are.
+pub fn length_under<T: Threads + Sync>(
     rt: &T,
     alloc: Global,
-    jobs: u32,
     bytes: &[u8],
-    rows: &'static [(&'static [u8], Option<usize>)],
-    count: usize,
-) -> Option<&'static [u8]>
-    requires { 0 < jobs }
-{
-    match opened(rt, alloc, jobs, bytes) {
-        Some(image) if has_entries(&image, bytes, count) => unlike_name(&image, bytes, rows),
-        Some(_) => Some(b"another number of entries"),
-        None => Some(b"no image"),
-    }
+    name: &[u8],
+) -> Result<Option<usize>, OpenError> {
+    let image = opened(rt, alloc, bytes)?;
+    let (hashes, reads) = (Blank::new(1), Blank::new(1));
+    Ok(length_of::<Brand, Brand>(&image, bytes, name, hashes, reads))
 }
 
-/// The resources and the nodes of the six resources, each with the number of its bytes; and names
-/// of none.
-const NAMES: &[(&[u8], Option<usize>)] = &[
-    (b"/a/module-info.class", Some(113)),
-    (b"/a/p/A.class", Some(2)),
-    (b"/b/module-info.class", Some(100)),
-    (b"/b/q/r/B.class", Some(3)),
-    (b"/java.base/java/lang/Object.class", Some(6)),
-    (b"/java.base/module-info.class", Some(87)),
-    (b"/modules", Some(12)),
-    (b"/modules/a", Some(8)),
-    (b"/modules/a/p", Some(4)),
-    (b"/modules/b", Some(8)),
-    (b"/modules/b/q", Some(4)),
-    (b"/modules/b/q/r", Some(4)),
-    (b"/modules/java.base", Some(8)),
-    (b"/modules/java.base/java", Some(4)),
-    (b"/modules/java.base/java/lang", Some(4)),
-    (b"/packages", Some(20)),
-    (b"/packages/java", Some(8)),
-    (b"/packages/java.lang", Some(8)),
-    (b"/packages/p", Some(8)),
-    (b"/packages/q", Some(8)),
-    (b"/packages/q.r", Some(8)),
-    (b"/a/p/B.class", None),
-    (b"/modules/a/p/A.class", None),
-    (b"", None),
+/// How many entries an image has, which these bytes are.
+pub fn count_of<T: Threads + Sync>(
+    rt: &T,
+    alloc: Global,
+    bytes: &[u8],
+) -> Result<usize, OpenError> {
+    let image = opened(rt, alloc, bytes)?;
+    Ok(walked::<Brand>(&image, bytes, Blank::new(1)))
+}
+
+/// The resources of the six resources, each with the number of its bytes.
+const RESOURCES: &[(&str, Option<usize>)] = &[
+    ("/a/module-info.class", Some(113)),
+    ("/a/p/A.class", Some(2)),
+    ("/b/module-info.class", Some(100)),
+    ("/b/q/r/B.class", Some(3)),
+    ("/java.base/java/lang/Object.class", Some(6)),
+    ("/java.base/module-info.class", Some(87)),
 ];
+
+/// Their nodes.
+const NODES: &[(&str, Option<usize>)] = &[
+    ("/modules", Some(12)),
+    ("/modules/a", Some(8)),
+    ("/modules/a/p", Some(4)),
+    ("/modules/b", Some(8)),
+    ("/modules/b/q", Some(4)),
+    ("/modules/b/q/r", Some(4)),
+    ("/modules/java.base", Some(8)),
+    ("/modules/java.base/java", Some(4)),
+    ("/modules/java.base/java/lang", Some(4)),
+    ("/packages", Some(20)),
+    ("/packages/java", Some(8)),
+    ("/packages/java.lang", Some(8)),
+    ("/packages/p", Some(8)),
+    ("/packages/q", Some(8)),
+    ("/packages/q.r", Some(8)),
+];
+
+/// Names of none of them: of another file, of a file in the tree, and the empty one.
+const NO_NAMES: &[(&str, Option<usize>)] = &[
+    ("/a/p/B.class", None),
+    ("/modules/a/p/A.class", None),
+    ("", None),
+];
+
+#[test]
+fn names_lead_to_their_contents(rt: HostRuntime) -> Result<(), Fail> {
+    for (order, bytes) in [("little", SIX_IMAGE), ("big", SIX_BIG)] {
+        for rows in [RESOURCES, NODES, NO_NAMES] {
+            for (name, length) in rows {
+                let found = length_under(&rt, rt.alloc(), bytes, name.as_bytes())?;
+                assert_eq!(rt; found, *length, "the bytes under {name}, {order} order");
+            }
+        }
+        let count = count_of(&rt, rt.alloc(), bytes)?;
+        assert_eq!(rt; count, 21, "the entries, {order} order");
+    }
+    Ok(())
+}
 
 /// Whether some bytes have a damage.
 fn is_damaged<T: Threads + Sync>(rt: &T, alloc: Global, bytes: &[u8]) -> bool {
@@ -140,9 +143,13 @@ fn whole_front<T: Threads + Sync>(rt: &T, alloc: Global, bytes: &[u8]) -> usize 
 }
 
 #[test]
-fn an_image_is_whole_or_refused(rt: HostRuntime) {
-    for bytes in [SIX_IMAGE, SIX_BIG] {
-        assert_eq!(rt; unlike(&rt, rt.alloc(), 2, bytes, NAMES, 21), None);
-        assert_eq!(rt; whole_front(&rt, rt.alloc(), bytes), 1006);
+fn an_image_is_whole_or_damaged(rt: HostRuntime) {
+    for (order, bytes) in [("little", SIX_IMAGE), ("big", SIX_BIG)] {
+        let length = whole_front(&rt, rt.alloc(), bytes);
+        assert_eq!(rt;
+            length,
+            1006,
+            "the shortest front without damage, {order} order"
+        );
     }
 }

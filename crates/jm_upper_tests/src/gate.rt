@@ -2,14 +2,12 @@
 
 use crate::calls::shelf_of;
 use crate::images::SIX_IMAGE;
-use crate::runs::run_words;
-use crate::wanted::Wanted;
+use crate::runs::told_by;
 use jm_halves::Gate;
-use std::alloc::Global;
+use jm_valid::open_image;
 use std::hint::spin_loop;
 use std::sync::atomic::{AtomicBool, Ordering};
 use std::test::Fail;
-use std::thread::Threads;
 
 /// How often a flag is looked for.
 const LOOKS: u32 = 200_000_000;
@@ -47,48 +45,49 @@ impl Gate for Meeting {
     }
 }
 
-/// Whether each piece raised its flag and saw the other's.
-fn met(gate: &Meeting) -> bool {
-    let [first, second] = &gate.flags;
-    let raised = first.load(Ordering::SeqCst) && second.load(Ordering::SeqCst);
-    raised && !gate.missed.load(Ordering::SeqCst)
+impl Meeting {
+    /// A meeting to which no piece has come.
+    fn new() -> Meeting {
+        Meeting {
+            flags: [AtomicBool::new(false), AtomicBool::new(false)],
+            missed: AtomicBool::new(false),
+        }
+    }
+
+    /// Whether each piece raised its flag and saw the other's.
+    fn is_met(&self) -> bool {
+        let [first, second] = &self.flags;
+        let raised = first.load(Ordering::SeqCst) && second.load(Ordering::SeqCst);
+        raised && !self.missed.load(Ordering::SeqCst)
+    }
 }
 
-/// Whether words give a text with this front on a shelf with an image, and two pieces meet.
-fn meet<T: Threads + Sync>(
-    rt: &T,
-    alloc: Global,
-    words: &[&str],
-    front: &[u8],
-) -> Result<bool, Fail> {
-    let gate = Meeting {
-        flags: [AtomicBool::new(false), AtomicBool::new(false)],
-        missed: AtomicBool::new(false),
-    };
-    let mut shelf = shelf_of(alloc, &[("img", SIX_IMAGE)], &[])?;
-    let mut wanted = Wanted::new(front);
-    run_words(rt, alloc, words, &mut shelf, &gate, &mut wanted)?;
-    Ok(wanted.is_front() && met(&gate))
-}
-
-const VERIFY: &[&str] = &["verify", "img", "--jobs", "2"];
-
-const GENERATE: &[&str] = &[
-    "gen",
-    "d",
-    "--modules",
-    "1",
-    "--classes",
-    "2",
-    "--seed",
-    "0",
-    "--jobs",
-    "2",
+/// Command lines of two jobs on a shelf with an image, and the front of what each gives.
+const LINES: &[(&str, &str)] = &[
+    ("verify img --jobs 2", "0|valid 21\n|"),
+    (
+        "gen d --modules 1 --classes 2 --seed 0 --jobs 2",
+        "0|modules 1\nresources 3\n",
+    ),
 ];
 
 #[test]
-fn both_pieces_meet(rt: HostRuntime) -> Result<(), Fail> {
-    assert!(rt; meet(&rt, rt.alloc(), VERIFY, b"0|valid 21\n|")?);
-    assert!(rt; meet(&rt, rt.alloc(), GENERATE, b"0|modules 1\nresources 3\n")?);
+fn both_pieces_of_a_run_meet(rt: HostRuntime) -> Result<(), Fail> {
+    for (line, front) in LINES {
+        let gate = Meeting::new();
+        let mut shelf = shelf_of(rt.alloc(), &[("img", SIX_IMAGE)], &[])?;
+        let told = told_by(&rt, rt.alloc(), line, &mut shelf, &gate)?;
+        assert!(rt; told.starts_with(front), "{line}: {told}");
+        assert!(rt; gate.is_met(), "the pieces of {line} met at the gate");
+    }
+    Ok(())
+}
+
+#[test]
+fn both_pieces_of_an_opening_meet(rt: HostRuntime) -> Result<(), Fail> {
+    let gate = Meeting::new();
+    let image = open_image(&rt, rt.alloc(), 2, SIX_IMAGE, &gate)?;
+    assert_eq!(rt; image.header().count, 21, "the image that was opened");
+    assert!(rt; gate.is_met(), "the pieces met at the gate");
     Ok(())
 }

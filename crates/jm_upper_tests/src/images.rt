@@ -1,8 +1,8 @@
 //! Images and classes, byte for byte.
-ghost use Rattle.std.specs.Prelude.{◌≡◌, ◌<◌, IfSome};
+ghost use Rattle.std.specs.Prelude.{◌≡◌, IfOk};
 
 use jm_halves::NoGate;
-use jm_valid::{Image, open_image};
+use jm_valid::{Image, OpenError, open_image};
 use std::alloc::Global;
 use std::thread::Threads;
 
@@ -10,13 +10,11 @@ use std::thread::Threads;
 pub fn opened<'a, T: Threads + Sync>(
     rt: &T,
     alloc: Global,
-    jobs: u32,
     bytes: &'a [u8],
-) -> Option<Image<'a>>
-    requires { 0 < jobs }
-    ensures { IfSome result (λ image. image ≡ bytes.now) }
+) -> Result<Image<'a>, OpenError>
+    ensures { IfOk result (λ image. image ≡ bytes.now) }
 {
-    open_image(rt, alloc, jobs, bytes, &NoGate).ok()
+    open_image(rt, alloc, 2, bytes, &NoGate)
 }
 
 /// The image of no resource.

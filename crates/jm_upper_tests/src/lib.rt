@@ -15,6 +15,10 @@ mod linked;
 #[cfg(test)]
 mod made_files;
 #[cfg(test)]
+mod nodes;
+#[cfg(test)]
+mod pools;
+#[cfg(test)]
 mod runs;
 #[cfg(test)]
 mod sessions;
@@ -25,8 +29,8 @@ mod streams;
 #[cfg(test)]
 mod system;
 #[cfg(test)]
-mod tree_paths;
+mod told;
 #[cfg(test)]
-mod wanted;
+mod tree_paths;
 #[cfg(test)]
 mod written;

@@ -1,66 +1,36 @@
 //! Images that a link writes.
 
 use crate::calls::shelf_of;
-use crate::entries::unlike;
+use crate::entries::{count_of, length_under};
 use crate::images::{INFO_ALONE, SIX, SIX_BIG, SIX_IMAGE};
-use crate::runs::run_words;
-use crate::wanted::Wanted;
+use crate::runs::told_by;
 use jm_bytes::Text;
 use jm_halves::NoGate;
 use std::alloc::Global;
 use std::test::Fail;
 use std::thread::Threads;
 
-/// The image that a link of the module `a` of these files writes.
+/// The image that a link of the module `a` of these files writes, in an order of bytes.
 fn image_of<T: Threads + Sync>(
     rt: &T,
     alloc: Global,
     files: &[(&str, &[u8])],
-    words: &[&str],
+    order: &str,
 ) -> Result<Text, Fail> {
     let mut shelf = shelf_of(alloc, files, &[])?;
-    run_words(rt, alloc, words, &mut shelf, &NoGate, &mut Wanted::new(b""))?;
+    let line = format!(in alloc;
+        "link --module-path mods --add-modules a --output img --endian {order}"
+    )?;
+    let _told = told_by(rt, alloc, line.as_str(), &mut shelf, &NoGate)?;
     Ok(Text::copy_of(alloc, shelf.file(b"img").unwrap_or(&[]))?)
-}
-
-const LITTLE: &[&str] = &[
-    "link",
-    "--module-path",
-    "mods",
-    "--add-modules",
-    "a",
-    "--output",
-    "img",
-    "--endian",
-    "little",
-];
-
-const BIG: &[&str] = &[
-    "link",
-    "--module-path",
-    "mods",
-    "--add-modules",
-    "a",
-    "--output",
-    "img",
-    "--endian",
-    "big",
-];
-
-/// Whether a link writes this image.
-fn writes<T: Threads + Sync>(
-    rt: &T,
-    alloc: Global,
-    words: &[&str],
-    want: &[u8],
-) -> Result<bool, Fail> {
-    Ok(image_of(rt, alloc, SIX, words)?.as_slice() == want)
 }
 
 #[test]
 fn links_write_the_images_of_their_resources(rt: HostRuntime) -> Result<(), Fail> {
-    assert!(rt; writes(&rt, rt.alloc(), LITTLE, SIX_IMAGE)?);
-    assert!(rt; writes(&rt, rt.alloc(), BIG, SIX_BIG)?);
+    for (order, want) in [("little", SIX_IMAGE), ("big", SIX_BIG)] {
+        let image = image_of(&rt, rt.alloc(), SIX, order)?;
+        assert_eq!(rt; image.as_slice(), want, "the image of {order} order");
+    }
     Ok(())
 }
 
@@ -71,19 +41,33 @@ const WIDE: &[(&str, &[u8])] = &[
     ("mods/a/\u{FFFD}", b"yy"),
 ];
 
-/// A name above U+FFFF is two surrogates.
-const WIDE_NAMES: &[(&[u8], Option<usize>)] = &[
-    (b"/a/\xED\xA0\xBD\xED\xB8\x80", Some(1)),
-    (b"/a/\xEF\xBF\xBD", Some(2)),
-    (b"/a/\xF0\x9F\x98\x80", None),
+/// What a name shows, the name, and how many bytes stand under it.
+const WIDE_NAMES: &[(&str, &[u8], Option<usize>)] = &[
+    (
+        "a name above U+FFFF is two surrogates",
+        b"/a/\xED\xA0\xBD\xED\xB8\x80",
+        Some(1),
+    ),
+    (
+        "a name above U+FFFF is no character of four bytes",
+        b"/a/\xF0\x9F\x98\x80",
+        None,
+    ),
+    (
+        "a name below U+FFFF is as it was",
+        b"/a/\xEF\xBF\xBD",
+        Some(2),
+    ),
 ];
 
 #[test]
-fn a_name_above_ffff_is_two_surrogates(rt: HostRuntime) -> Result<(), Fail> {
-    let image = image_of(&rt, rt.alloc(), WIDE, LITTLE)?;
-    assert_eq!(rt;
-        unlike(&rt, rt.alloc(), 1, image.as_slice(), WIDE_NAMES, 6),
-        None
-    );
+fn names_are_linked_in_modified_utf_8(rt: HostRuntime) -> Result<(), Fail> {
+    let image = image_of(&rt, rt.alloc(), WIDE, "little")?;
+    for (shows, name, length) in WIDE_NAMES {
+        let found = length_under(&rt, rt.alloc(), image.as_slice(), name)?;
+        assert_eq!(rt; found, *length, "{shows}");
+    }
+    let count = count_of(&rt, rt.alloc(), image.as_slice())?;
+    assert_eq!(rt; count, 6, "the resources and the nodes");
     Ok(())
 }

@@ -8,23 +8,23 @@ use jm_outside::{MemShelf, Shelf, make_file};
 use std::alloc::Global;
 use std::test::Fail;
 
-/// Whether a file is made so where a call fails, and what then stands.
-fn makes(alloc: Global, failing: u64, is_made: bool, stands: &[u8]) -> bool {
-    match shelf_of(alloc, &[("a/b", b"old")], &[failing]) {
-        Ok(mut shelf) => {
-            let path = "a/b".as_bytes();
-            make_file(alloc, &mut shelf, path, b"bytes").is_ok() == is_made
-                && shelf.file(path) == Some(stands)
-        }
-        Err(_) => false,
-    }
-}
+/// The call that fails while a file is made anew, whether it is made, and what then stands.
+const MADE: &[(&str, u64, bool, &[u8])] = &[
+    ("no call fails", 9, true, b"bytes"),
+    ("the create fails", 0, false, b"old"),
+    ("the append fails", 1, false, b"by"),
+];
 
 #[test]
-fn a_file_stands_whole_or_a_front_of_it(rt: HostRuntime) {
-    assert!(rt; makes(rt.alloc(), 9, true, b"bytes"));
-    assert!(rt; makes(rt.alloc(), 0, false, b"old"));
-    assert!(rt; makes(rt.alloc(), 1, false, b"by"));
+fn a_file_stands_whole_or_a_front_of_it(rt: HostRuntime) -> Result<(), Fail> {
+    let path = "a/b".as_bytes();
+    for (shows, failing, is_made, stands) in MADE {
+        let mut shelf = shelf_of(rt.alloc(), &[("a/b", b"old")], &[*failing])?;
+        let made = make_file(rt.alloc(), &mut shelf, path, b"bytes").is_ok();
+        assert_eq!(rt; made, *is_made, "{shows}");
+        assert_eq!(rt; shelf.file(path), Some(*stands), "{shows}");
+    }
+    Ok(())
 }
 
 /// A sum over some bytes that differs where their order does.
@@ -67,51 +67,56 @@ fn generated(alloc: Global, modules: u32, classes: u32, seed: u64) -> Result<(us
 #[test]
 fn files_from_a_number(rt: HostRuntime) -> Result<(), Fail> {
     // the sums are of another program's files
-    for (modules, classes, seed, count, sum) in [
-        (1, 1, 0, 2, 1_931_872_847_541_223_504),
-        (5, 11, 7, 60, 11_343_750_690_118_840_002),
-        (5, 11, u64::MAX, 60, 4_920_882_120_622_718_647),
-        (12, 2, 4_294_967_303, 36, 10_684_205_457_717_576_956),
+    for (shows, modules, classes, seed, sum) in [
+        ("one class", 1, 1, 0, (2, 1_931_872_847_541_223_504)),
+        (
+            "modules that require others",
+            5,
+            11,
+            7,
+            (60, 11_343_750_690_118_840_002),
+        ),
+        (
+            "the greatest seed",
+            5,
+            11,
+            u64::MAX,
+            (60, 4_920_882_120_622_718_647),
+        ),
+        (
+            "a seed of more than 32 bits",
+            12,
+            2,
+            4_294_967_303,
+            (36, 10_684_205_457_717_576_956),
+        ),
     ] {
         let made = generated(rt.alloc(), modules, classes, seed)?;
-        assert!(rt; made == (count, sum), "{modules} {classes} {seed}");
+        assert_eq!(rt; made, sum, "{shows}");
     }
     Ok(())
 }
 
-/// Whether a file has so many bytes, or isn't there.
-fn has_length(shelf: &MemShelf, path: &[u8], length: Option<usize>) -> bool {
-    shelf.file(path).map(|bytes| bytes.len()) == length
-}
-
-/// Whether one module with one class is made so where a call fails, and how long its two files are.
-fn leaves(
-    alloc: Global,
-    failing: u64,
-    is_made: bool,
-    info: Option<usize>,
-    class: Option<usize>,
-) -> bool {
-    match shelf_of(alloc, &[], &[failing]) {
-        Ok(mut shelf) => {
-            generate(alloc, &mut shelf, "x".as_bytes(), 1, 1, 0).is_ok() == is_made
-                && has_length(&shelf, b"x/m000/module-info.class", info)
-                && has_length(&shelf, b"x/m000/m000/p0/C0000.class", class)
-        }
-        Err(_) => false,
-    }
-}
+/// The call that fails while one module with one class is made, whether all is made, and how long
+/// its two files then are.
+const LEFT: &[(&str, u64, bool, Option<usize>, Option<usize>)] = &[
+    ("the first create fails", 0, false, None, None),
+    ("the first append fails", 1, false, Some(41), None),
+    ("the second create fails", 2, false, Some(82), None),
+    ("the second append fails", 3, false, Some(82), Some(92)),
+    ("no call fails", 9, true, Some(82), Some(185)),
+];
 
 #[test]
-fn a_failing_call_leaves_a_front(rt: HostRuntime) {
-    for (failing, is_made, info, class) in [
-        (0, false, None, None),
-        (1, false, Some(41), None),
-        (2, false, Some(82), None),
-        (3, false, Some(82), Some(92)),
-        (9, true, Some(82), Some(185)),
-    ] {
-        let holds = leaves(rt.alloc(), failing, is_made, info, class);
-        assert!(rt; holds, "call {failing}");
+fn a_failing_call_leaves_a_front(rt: HostRuntime) -> Result<(), Fail> {
+    for (shows, failing, is_made, info, class) in LEFT {
+        let mut shelf = shelf_of(rt.alloc(), &[], &[*failing])?;
+        let made = generate(rt.alloc(), &mut shelf, "x".as_bytes(), 1, 1, 0).is_ok();
+        assert_eq!(rt; made, *is_made, "{shows}");
+        let stands = shelf.file(b"x/m000/module-info.class");
+        assert_eq!(rt; stands.map(|bytes| bytes.len()), *info, "{shows}");
+        let stands = shelf.file(b"x/m000/m000/p0/C0000.class");
+        assert_eq!(rt; stands.map(|bytes| bytes.len()), *class, "{shows}");
     }
+    Ok(())
 }

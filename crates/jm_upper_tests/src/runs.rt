@@ -1,6 +1,6 @@
 //! Runs of the program's top call.
 
-use crate::wanted::Wanted;
+use crate::told::text_of;
 use jm_bytes::{List, Text};
 use jm_commands::run;
 use jm_halves::Gate;
@@ -9,26 +9,25 @@ use std::alloc::Global;
 use std::test::Fail;
 use std::thread::Threads;
 
-/// The words of a command line.
-fn words_of(alloc: Global, words: &[&str]) -> Result<Vec<String>, Fail> {
-    let mut all = Vec::new(alloc);
-    for word in words {
-        all.push(String::from_str(alloc, word)?)?;
+/// The words of a command line, which spaces part.
+fn words_of(alloc: Global, line: &str) -> Result<Vec<String>, Fail> {
+    let mut words = Vec::new(alloc);
+    for word in line.split(' ') {
+        words.push(String::from_str(alloc, word)?)?;
     }
-    Ok(all)
+    Ok(words)
 }
 
-/// Meets what words give on a shelf: the digit of the status, the output and
-/// the error sink's text, with a bar behind each of the first two.
-pub fn run_words<T: Threads + Sync, G: Gate + Sync>(
+/// What a command line gives on a shelf: the status, the output and the error sink's text, with a
+/// bar behind each of the first two.
+pub fn told_by<T: Threads + Sync, G: Gate + Sync>(
     rt: &T,
     alloc: Global,
-    words: &[&str],
+    line: &str,
     shelf: &mut MemShelf,
     gate: &G,
-    wanted: &mut Wanted,
-) -> Result<(), Fail> {
-    let words = words_of(alloc, words)?;
+) -> Result<String, Fail> {
+    let words = words_of(alloc, line)?;
     let mut input = MemSource::new(Text::new(alloc), List::new(alloc));
     let mut out = MemSink::new(alloc);
     let mut err = MemSink::new(alloc);
@@ -36,10 +35,7 @@ pub fn run_words<T: Threads + Sync, G: Gate + Sync>(
     let status = run(
         rt, alloc, words, shelf, &mut input, &mut out, &mut err, gate,
     );
-    wanted.meet(&[b'0'.wrapping_add(status.value())]);
-    wanted.meet(b"|");
-    wanted.meet(out.bytes());
-    wanted.meet(b"|");
-    wanted.meet(err.bytes());
-    Ok(())
+    let (status, out) = (status.value(), text_of(alloc, out.bytes())?);
+    let err = text_of(alloc, err.bytes())?;
+    Ok(format!(in alloc; "{status}|{out}|{err}")?)
 }

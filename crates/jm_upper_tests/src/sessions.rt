@@ -3,6 +3,7 @@ ghost use Rattle.std.specs.Prelude.{◌≡◌, ◌<◌};
 
 use crate::calls::{sink_of, source_of};
 use crate::images::{ONE, opened};
+use crate::told::text_of;
 use jm_bytes::{Meter, NoMemory, Steps, Text, copy_of, extend};
 use jm_jrt::{ServeError, serve};
 use jm_outside::{MemSink, MemSource};
@@ -21,7 +22,7 @@ struct Session<'a> {
     cuts: &'a [usize],
     takes: &'a [u64],
     puts: &'a [u64],
-    replies: &'a [u8],
+    replies: &'a str,
     end: Result<u64, ServeError>,
 }
 
@@ -48,43 +49,25 @@ fn counted<H: Ledger, R: Ledger>(
     serve(alloc, image, input, out, &mut hashes, &mut reads)
 }
 
-/// Whether a session over the image that these bytes are puts and ends as it should.
-fn ends_so(
+/// How a session over a small image ends, and what it puts.
+fn held<T: Threads + Sync>(
+    rt: &T,
     alloc: Global,
-    image: &Image,
-    bytes: &[u8],
-    input: &mut MemSource,
     session: &Session,
-) -> Result<bool, NoMemory>
-    requires { image.now ≡ bytes.now }
-{
+) -> Result<(Result<u64, ServeError>, String), Fail> {
+    let image = opened(rt, alloc, ONE)?;
+    let mut input = source_of(alloc, session.input, session.cuts, session.takes)?;
     let mut out = sink_of(alloc, session.puts)?;
     let (hashes, reads) = (Blank::new(1), Blank::new(1));
-    let streams = (input, &mut out);
-    let end = counted::<Brand, Brand>(alloc, image, bytes, streams, hashes, reads);
-    Ok(end == session.end && out.bytes() == session.replies)
-}
-
-/// The same with its input.
-fn comes_so(alloc: Global, image: &Image, bytes: &[u8], session: &Session) -> Result<bool, NoMemory>
-    requires { image.now ≡ bytes.now }
-{
-    let mut input = source_of(alloc, session.input, session.cuts, session.takes)?;
-    ends_so(alloc, image, bytes, &mut input, session)
-}
-
-/// The same over a small image.
-fn holds<T: Threads + Sync>(rt: &T, alloc: Global, session: &Session) -> bool {
-    match opened(rt, alloc, 1, ONE) {
-        Some(image) => comes_so(alloc, &image, ONE, session).unwrap_or(false),
-        None => false,
-    }
+    let streams = (&mut input, &mut out);
+    let end = counted::<Brand, Brand>(alloc, &image, ONE, streams, hashes, reads);
+    Ok((end, text_of(alloc, out.bytes())?))
 }
 
 const LINES: &[u8] = b"ls /packages/p\nstat /packages/p/a\nowner p\nowner q\n\
                        stat /modules/a/p/A\nfind /a/p/A\nfind /a/p/B\nwhat";
 
-const REPLIES: &[u8] = b"folder 1\n/packages/p/a\nlink /modules/a\nowner a\nerror NotThere\n\
+const REPLIES: &str = "folder 1\n/packages/p/a\nlink /modules/a\nowner a\nerror NotThere\n\
                          file 2\nfound 2\nhi\nnone\nerror Request\n";
 
 const SESSIONS: &[(&str, Session)] = &[
@@ -128,7 +111,7 @@ const SESSIONS: &[(&str, Session)] = &[
             cuts: &[],
             takes: &[],
             puts: &[],
-            replies: b"",
+            replies: "",
             end: Ok(0),
         },
     ),
@@ -139,7 +122,7 @@ const SESSIONS: &[(&str, Session)] = &[
             cuts: &[],
             takes: &[],
             puts: &[],
-            replies: b"error Request\n",
+            replies: "error Request\n",
             end: Ok(1),
         },
     ),
@@ -150,7 +133,7 @@ const SESSIONS: &[(&str, Session)] = &[
             cuts: &[],
             takes: &[],
             puts: &[],
-            replies: b"found 2\nhi\n",
+            replies: "found 2\nhi\n",
             end: Ok(1),
         },
     ),
@@ -161,7 +144,7 @@ const SESSIONS: &[(&str, Session)] = &[
             cuts: &[],
             takes: &[],
             puts: &[],
-            replies: b"error NotThere\n",
+            replies: "error NotThere\n",
             end: Ok(1),
         },
     ),
@@ -172,7 +155,7 @@ const SESSIONS: &[(&str, Session)] = &[
             cuts: &[40; 98],
             takes: &[1],
             puts: &[],
-            replies: b"folder 1\n/packages/p/a\nlink /modules/a\n",
+            replies: "folder 1\n/packages/p/a\nlink /modules/a\n",
             end: Err(ServeError::ReadFault),
         },
     ),
@@ -183,7 +166,7 @@ const SESSIONS: &[(&str, Session)] = &[
             cuts: &[40; 98],
             takes: &[0],
             puts: &[],
-            replies: b"",
+            replies: "",
             end: Err(ServeError::ReadFault),
         },
     ),
@@ -194,17 +177,20 @@ const SESSIONS: &[(&str, Session)] = &[
             cuts: &[],
             takes: &[],
             puts: &[1],
-            replies: b"folder 1\n/packages/p/a\nlink /mo",
+            replies: "folder 1\n/packages/p/a\nlink /mo",
             end: Err(ServeError::WriteFault),
         },
     ),
 ];
 
 #[test]
-fn lines_are_answered_however_they_are_cut(rt: HostRuntime) {
+fn lines_are_answered_however_they_are_cut(rt: HostRuntime) -> Result<(), Fail> {
     for (shows, session) in SESSIONS {
-        assert!(rt; holds(&rt, rt.alloc(), session), "{shows}");
+        let (end, put) = held(&rt, rt.alloc(), session)?;
+        assert_eq!(rt; end, session.end, "{shows}");
+        assert_eq!(rt; put.as_str(), session.replies, "{shows}");
     }
+    Ok(())
 }
 
 /// A text so many times behind a front.
@@ -219,6 +205,7 @@ fn repeated(alloc: Global, front: &str, text: &str, count: usize) -> Result<Text
 /// A text that stands so often behind a front is served. So many bad lines are answered, and the
 /// session ends so.
 struct Long {
+    shows: &'static str,
     front: &'static str,
     text: &'static str,
     count: usize,
@@ -226,23 +213,9 @@ struct Long {
     end: Result<u64, ServeError>,
 }
 
-/// Whether a long session comes to what it should.
-fn ends<T: Threads + Sync>(rt: &T, alloc: Global, long: &Long) -> Result<bool, NoMemory> {
-    let input = repeated(alloc, long.front, long.text, long.count)?;
-    let replies = repeated(alloc, "", "error Request\n", long.bad)?;
-    let session = Session {
-        input: input.as_slice(),
-        cuts: &[],
-        takes: &[],
-        puts: &[],
-        replies: replies.as_slice(),
-        end: long.end,
-    };
-    Ok(holds(rt, alloc, &session))
-}
-
 const LONG: &[Long] = &[
     Long {
+        shows: "a line as long as one may be",
         front: "",
         text: "x",
         count: 8192,
@@ -250,6 +223,7 @@ const LONG: &[Long] = &[
         end: Ok(1),
     },
     Long {
+        shows: "a line that is too long by 1",
         front: "",
         text: "x",
         count: 8193,
@@ -257,6 +231,7 @@ const LONG: &[Long] = &[
         end: Err(ServeError::LongLine(1)),
     },
     Long {
+        shows: "a second line that is too long by 1",
         front: "what\n",
         text: "x",
         count: 8193,
@@ -264,6 +239,7 @@ const LONG: &[Long] = &[
         end: Err(ServeError::LongLine(2)),
     },
     Long {
+        shows: "a second line that is longer than a piece",
         front: "what\n",
         text: "x",
         count: 70_000,
@@ -271,6 +247,7 @@ const LONG: &[Long] = &[
         end: Err(ServeError::LongLine(2)),
     },
     Long {
+        shows: "as many lines as there may be",
         front: "",
         text: "\n",
         count: 1_000_000,
@@ -278,6 +255,7 @@ const LONG: &[Long] = &[
         end: Ok(1_000_000),
     },
     Long {
+        shows: "one line too many",
         front: "",
         text: "\n",
         count: 1_000_001,
@@ -290,8 +268,24 @@ const LONG: &[Long] = &[
 #[test]
 fn long_lines_and_many_lines_end_a_session(rt: HostRuntime) -> Result<(), Fail> {
     for long in LONG {
-        let holds = ends(&rt, rt.alloc(), long)?;
-        assert!(rt; holds, "{} times behind {}", long.count, long.front);
+        let shows = long.shows;
+        let input = repeated(rt.alloc(), long.front, long.text, long.count)?;
+        let replies = repeated(rt.alloc(), "", "error Request\n", long.bad)?;
+        let session = Session {
+            input: input.as_slice(),
+            cuts: &[],
+            takes: &[],
+            puts: &[],
+            replies: "",
+            end: long.end,
+        };
+        let (end, put) = held(&rt, rt.alloc(), &session)?;
+        assert_eq!(rt; end, long.end, "{shows}");
+        assert_eq!(rt; put.len(), replies.len(), "the bytes put for {shows}");
+        assert!(rt;
+            put.as_bytes() == replies.as_slice(),
+            "the replies to {shows}"
+        );
     }
     Ok(())
 }

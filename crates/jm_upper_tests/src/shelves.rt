@@ -1,170 +1,133 @@
 //! Shelves in memory and of the system, by scripts.
 //!
-//! A line of a script is a call, a path and the bytes that are added, a bar behind each of them,
-//! and the answer. The answer of `names` has a comma behind each name, that of `read` is the bytes,
-//! or `-` where there is no file, that of a write is empty, and a failure is `!`.
+//! A line of a script is what it shows, a call, a path and the bytes that are added, a bar behind
+//! each of them, and the answer. The answer of `names` has a comma behind each name, that of `read`
+//! is the bytes, or `-` where there is no file, that of a write is empty, and a failure is `!`.
 
 use crate::calls::shelf_of;
-use crate::wanted::Wanted;
-use jm_bytes::Text;
+use jm_bytes::{NoMemory, Text, extend};
 use jm_outside::{Shelf, ShelfError};
 use std::alloc::Global;
+use std::test::Fail;
 
-fn meet_names(wanted: &mut Wanted, names: &[Text]) {
+fn tell_names(out: &mut Vec<u8>, names: &[Text]) -> Result<(), NoMemory> {
     for name in names {
-        wanted.meet(name.as_slice());
-        wanted.meet(b",");
-    }
-}
-
-fn meet_error(wanted: &mut Wanted, error: ShelfError) {
-    match error {
-        ShelfError::Failed => wanted.meet(b"!"),
-        ShelfError::Memory => wanted.meet(b"?"),
-    }
-}
-
-fn meet_listed<S: Shelf>(
-    alloc: Global,
-    shelf: &mut S,
-    folder: &str,
-    wanted: &mut Wanted,
-) -> Result<(), ShelfError> {
-    let names = shelf.names(alloc, folder.as_bytes())?;
-    meet_names(wanted, names.as_slice());
-    Ok(())
-}
-
-fn meet_read<S: Shelf>(
-    alloc: Global,
-    shelf: &mut S,
-    path: &str,
-    wanted: &mut Wanted,
-) -> Result<(), ShelfError> {
-    match shelf.read(alloc, path.as_bytes())? {
-        Some(text) => wanted.meet(text.as_slice()),
-        None => wanted.meet(b"-"),
+        extend(out, name.as_slice())?;
+        extend(out, b",")?;
     }
     Ok(())
 }
 
-fn meet_answer<S: Shelf>(
+fn tell_answer<S: Shelf>(
     alloc: Global,
     shelf: &mut S,
     call: &str,
     path: &str,
     bytes: &str,
-    wanted: &mut Wanted,
+    out: &mut Vec<u8>,
 ) -> Result<(), ShelfError> {
     match call {
-        "names" => meet_listed(alloc, shelf, path, wanted),
-        "read" => meet_read(alloc, shelf, path, wanted),
-        "create" => shelf.create(alloc, path.as_bytes()),
-        _ => shelf.append(alloc, path.as_bytes(), bytes.as_bytes()),
+        "names" => tell_names(out, shelf.names(alloc, path.as_bytes())?.as_slice())?,
+        "read" => match shelf.read(alloc, path.as_bytes())? {
+            Some(text) => extend(out, text.as_slice())?,
+            None => extend(out, b"-")?,
+        },
+        "create" => shelf.create(alloc, path.as_bytes())?,
+        _ => shelf.append(alloc, path.as_bytes(), bytes.as_bytes())?,
     }
+    Ok(())
 }
 
-/// Whether a shelf answers the call of a line so.
-fn answers<S: Shelf>(alloc: Global, shelf: &mut S, line: &str) -> bool {
+/// What a shelf answers to the call of a line, if it isn't the answer that stands there.
+fn other_answer<S: Shelf>(
+    alloc: Global,
+    shelf: &mut S,
+    line: &str,
+) -> Result<Option<String>, Fail> {
     let mut parts = line.split('|');
+    let _shows = parts.next();
     let call = parts.next().unwrap_or("");
     let path = parts.next().unwrap_or("");
     let bytes = parts.next().unwrap_or("");
-    let mut wanted = Wanted::new(parts.next().unwrap_or("").as_bytes());
-    match meet_answer(alloc, shelf, call, path, bytes, &mut wanted) {
+    let mut out = Vec::new(alloc);
+    match tell_answer(alloc, shelf, call, path, bytes, &mut out) {
         Ok(()) => {}
-        Err(error) => meet_error(&mut wanted, error),
+        Err(ShelfError::Failed) => extend(&mut out, b"!")?,
+        Err(ShelfError::Memory) => extend(&mut out, b"no memory")?,
     }
-    wanted.is_all()
+    let answer = String::from_utf8(out)?;
+    Ok(if Some(answer.as_str()) == parts.next() {
+        None
+    } else {
+        Some(answer)
+    })
 }
 
-/// The first line of a script that a shelf answers otherwise.
-pub fn unlike<'a, S: Shelf>(alloc: Global, shelf: &mut S, script: &[&'a str]) -> Option<&'a str> {
+/// The first line of a script that a shelf answers otherwise, with its answer.
+pub fn unlike<'a, S: Shelf>(
+    alloc: Global,
+    shelf: &mut S,
+    script: &[&'a str],
+) -> Result<Option<(&'a str, String)>, Fail> {
     for line in script {
-        if !answers(alloc, shelf, line) {
-            return Some(line);
+        if let Some(answer) = other_answer(alloc, shelf, line)? {
+            return Ok(Some((line, answer)));
         }
     }
-    None
+    Ok(None)
 }
 
 /// Files below a folder, to one of which more is added once another was made.
 pub const TREE: &[&str] = &[
-    "names|d||",
-    "create|d/a/b/two words.txt||",
-    "append|d/a/b/two words.txt||",
-    "append|d/a/b/two words.txt|4444|",
-    "create|d/a b||",
-    "append|d/a b|33|",
-    "append|d/a b|3|",
-    "create|d/a b||",
-    "append|d/a b|2|",
-    "append|d/a b||",
-    "create|d/a/b.txt||",
-    "append|d/a/b.txt||",
-    "append|d/a/b.txt||",
-    "append|d/a b|2|",
-    "names|d||a b,a/b.txt,a/b/two words.txt,",
-    "read|d/a b||22",
-    "read|d/a/b.txt||",
-    "read|d/a/b/two words.txt||4444",
-    "read|d/a/c||-",
+    "no folder|names|d||",
+    "a file in folders that aren't there|create|d/a/b/two words.txt||",
+    "nothing is added|append|d/a/b/two words.txt||",
+    "bytes are added|append|d/a/b/two words.txt|4444|",
+    "a second file|create|d/a b||",
+    "bytes are added to it|append|d/a b|33|",
+    "and more|append|d/a b|3|",
+    "it is made anew|create|d/a b||",
+    "a byte is added to it|append|d/a b|2|",
+    "nothing is added to it|append|d/a b||",
+    "a third file|create|d/a/b.txt||",
+    "nothing is added to the third|append|d/a/b.txt||",
+    "nor a second time|append|d/a/b.txt||",
+    "once more to the second|append|d/a b|2|",
+    "all rise by their bytes|names|d||a b,a/b.txt,a/b/two words.txt,",
+    "what was added since it was made anew|read|d/a b||22",
+    "an empty file|read|d/a/b.txt||",
+    "what was added|read|d/a/b/two words.txt||4444",
+    "no file|read|d/a/c||-",
 ];
-
-const LAST_OF_TREE: (&[u8], &[u8]) = (b"d/a b", b"22");
-
-const ONE_FILE: &[(&str, &[u8])] = &[("d/a", b"one")];
 
 /// The first four calls fail, the last of them with half its bytes added.
 const FAILING: &[&str] = &[
-    "names|d||!",
-    "read|d/a||!",
-    "create|d/a||!",
-    "append|d/a|12345|!",
-    "names|d||a,",
-    "read|d/a||one12",
-    "names|d||a,",
-    "read|d/a||one12",
-    "create|d/a||",
-    "append|d/a|12345|",
-    "names|d||a,",
-    "read|d/a||12345",
+    "a list fails|names|d||!",
+    "a read fails|read|d/a||!",
+    "a create fails|create|d/a||!",
+    "an append fails|append|d/a|12345|!",
+    "a list|names|d||a,",
+    "half was added|read|d/a||one12",
+    "the same list|names|d||a,",
+    "the same read|read|d/a||one12",
+    "a create|create|d/a||",
+    "an append|append|d/a|12345|",
+    "the list is as before|names|d||a,",
+    "the file has what was added|read|d/a||12345",
 ];
 
-const LAST_OF_FAILING: (&[u8], &[u8]) = (b"d/a", b"12345");
-
-/// The first line that a shelf in memory of these files answers otherwise; the last file is a path
-/// and the bytes that then stand there.
-fn unlike_in_memory(
-    alloc: Global,
-    files: &[(&str, &[u8])],
-    failing: &[u64],
-    script: &[&'static str],
-    last: (&[u8], &[u8]),
-) -> Option<&'static str> {
-    match shelf_of(alloc, files, failing) {
-        Ok(mut shelf) => {
-            let line = unlike(alloc, &mut shelf, script);
-            if shelf.file(last.0) == Some(last.1) {
-                line
-            } else {
-                Some("another file")
-            }
-        }
-        Err(_) => Some("no memory"),
-    }
+#[test]
+fn a_shelf_in_memory_keeps_files(rt: HostRuntime) -> Result<(), Fail> {
+    let mut shelf = shelf_of(rt.alloc(), &[], &[])?;
+    assert_eq!(rt; unlike(rt.alloc(), &mut shelf, TREE)?, None);
+    assert_eq!(rt; shelf.file(b"d/a b"), Some(b"22".as_slice()));
+    Ok(())
 }
 
 #[test]
-fn shelves_in_memory_keep_files_and_fail_the_listed_calls(rt: HostRuntime) {
-    let tree = unlike_in_memory(rt.alloc(), &[], &[], TREE, LAST_OF_TREE);
-    assert_eq!(rt; tree, None);
-    let failing = unlike_in_memory(
-        rt.alloc(),
-        ONE_FILE,
-        &[0, 1, 2, 3],
-        FAILING,
-        LAST_OF_FAILING,
-    );
-    assert_eq!(rt; failing, None);
+fn a_shelf_in_memory_fails_the_listed_calls(rt: HostRuntime) -> Result<(), Fail> {
+    let mut shelf = shelf_of(rt.alloc(), &[("d/a", b"one")], &[0, 1, 2, 3])?;
+    assert_eq!(rt; unlike(rt.alloc(), &mut shelf, FAILING)?, None);
+    assert_eq!(rt; shelf.file(b"d/a"), Some(b"12345".as_slice()));
+    Ok(())
 }

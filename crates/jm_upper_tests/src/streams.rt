@@ -1,69 +1,53 @@
 //! Sources and sinks in memory, and streams that halt.
 
 use crate::calls::{sink_of, source_of};
-use crate::wanted::Wanted;
+use crate::told::text_of;
+use jm_bytes::extend;
 use jm_outside::{Sink, SinkError, Source, StdSink, StdSource};
-use std::alloc::Global;
+use std::alloc::{AllocError, Global};
 use std::io;
 use std::io::{ErrorKind, Read, Write};
+use std::test::Fail;
 
-fn meet_given<I: Source>(source: &mut I, wanted: &mut Wanted) {
-    let mut into = [b'_'; 2];
-    match source.take(&mut into) {
-        Ok(count) => wanted.meet(&into[..count]),
-        Err(_) => wanted.meet(b"!"),
-    }
-}
-
-/// Whether so many calls of a source, each with room for two bytes, give this text, which has a bar
-/// behind the bytes of each call; `!` is a fault.
-pub fn gives<I: Source>(source: &mut I, calls: u32, text: &[u8]) -> bool {
-    let mut wanted = Wanted::new(text);
+/// What so many calls of a source give, each with room for two bytes, with a bar behind the bytes of
+/// each call; `!` is a fault.
+pub fn given_by<I: Source>(alloc: Global, source: &mut I, calls: u32) -> Result<String, Fail> {
+    let mut out = Vec::new(alloc);
     for _ in 0..calls {
-        meet_given(source, &mut wanted);
-        wanted.meet(b"|");
+        let mut into = [b'_'; 2];
+        match source.take(&mut into) {
+            Ok(count) => extend(&mut out, &into[..count])?,
+            Err(_) => extend(&mut out, b"!")?,
+        }
+        extend(&mut out, b"|")?;
     }
-    wanted.is_all()
-}
-
-fn put_mark<O: Sink>(alloc: Global, sink: &mut O, bytes: &[u8]) -> u8 {
-    match sink.put(alloc, bytes) {
-        Ok(()) => b'.',
-        Err(SinkError::Failed) => b'!',
-        Err(SinkError::Memory) => b'?',
-    }
+    Ok(String::from_utf8(out)?)
 }
 
 /// What a sink answers to three texts: a point, or `!` for a fault.
-pub fn put_marks<O: Sink>(alloc: Global, sink: &mut O) -> [u8; 3] {
-    let first = put_mark(alloc, sink, b"abc");
-    let second = put_mark(alloc, sink, b"12345");
-    let third = put_mark(alloc, sink, b"z");
-    [first, second, third]
-}
-
-/// Whether a source in memory gives its bytes in its cuts, and fails the listed call.
-fn is_cut(alloc: Global) -> bool {
-    match source_of(alloc, b"hello", &[0, 3], &[1]) {
-        Ok(mut source) => gives(&mut source, 5, b"h|!|el|lo||"),
-        Err(_) => false,
+pub fn put_marks<O: Sink>(alloc: Global, sink: &mut O) -> Result<String, AllocError> {
+    let mut marks = String::new(alloc);
+    for text in [b"abc".as_slice(), b"12345", b"z"] {
+        marks.push(match sink.put(alloc, text) {
+            Ok(()) => '.',
+            Err(SinkError::Failed) => '!',
+            Err(SinkError::Memory) => '?',
+        })?;
     }
-}
-
-/// Whether a sink in memory fails the listed call with half the bytes put.
-fn is_half_put(alloc: Global) -> bool {
-    match sink_of(alloc, &[1]) {
-        Ok(mut sink) => {
-            put_marks(alloc, &mut sink) == *b".!." && sink.bytes() == b"abc12z".as_slice()
-        }
-        Err(_) => false,
-    }
+    Ok(marks)
 }
 
 #[test]
-fn streams_in_memory_fail_the_listed_calls(rt: HostRuntime) {
-    assert!(rt; is_cut(rt.alloc()));
-    assert!(rt; is_half_put(rt.alloc()));
+fn streams_in_memory_fail_the_listed_calls(rt: HostRuntime) -> Result<(), Fail> {
+    let mut source = source_of(rt.alloc(), b"hello", &[0, 3], &[1])?;
+    let given = given_by(rt.alloc(), &mut source, 5)?;
+    assert_eq!(rt; given.as_str(), "h|!|el|lo||", "the second take fails");
+    let mut sink = sink_of(rt.alloc(), &[1])?;
+    let marks = put_marks(rt.alloc(), &mut sink)?;
+    assert_eq!(rt; marks.as_str(), ".!.", "the second put fails");
+    let put = text_of(rt.alloc(), sink.bytes())?;
+    assert_eq!(rt; put.as_str(), "abc12z", "half of the second put");
+    Ok(())
 }
 
 /// A stream that a signal interrupts at first, then takes or gives one byte, and soon halts.
@@ -108,11 +92,22 @@ impl Write for Halting {
 }
 
 #[test]
-fn streams_that_halt_are_faults(rt: HostRuntime) {
+fn streams_that_halt_are_faults(rt: HostRuntime) -> Result<(), Fail> {
     let mut source = StdSource::new(Halting { turn: 0 });
-    assert!(rt; gives(&mut source, 2, b"x|!|"));
+    let given = given_by(rt.alloc(), &mut source, 2)?;
+    assert_eq!(rt;
+        given.as_str(),
+        "x|!|",
+        "an interrupted take goes on, and then fails"
+    );
     let mut sink = StdSink::new(Halting { turn: 0 });
-    assert!(rt; put_marks(rt.alloc(), &mut sink) == *b".!!");
-    assert!(rt; source.last_failure() == Some(ErrorKind::PermissionDenied));
-    assert!(rt; sink.last_failure() == Some(ErrorKind::WriteZero));
+    let marks = put_marks(rt.alloc(), &mut sink)?;
+    assert_eq!(rt;
+        marks.as_str(),
+        ".!!",
+        "an interrupted put goes on, and the next take nothing"
+    );
+    assert_eq!(rt; source.last_failure(), Some(ErrorKind::PermissionDenied));
+    assert_eq!(rt; sink.last_failure(), Some(ErrorKind::WriteZero));
+    Ok(())
 }

@@ -1,7 +1,7 @@
 //! Files, folders, links and streams of the system.
 
 use crate::shelves::{TREE, unlike};
-use crate::streams::{gives, put_marks};
+use crate::streams::{given_by, put_marks};
 use jm_outside::{FileShelf, StdSink, StdSource};
 use std::os::unix::fs::symlink;
 use std::rt::{Env, Files};
@@ -39,63 +39,51 @@ fn make_links<R: Files>(rt: &R) -> io::Result<()> {
 /// fault, but a folder in the place of a file is one. For a write both are, and so is a folder that
 /// isn't there.
 const LINKED: &[&str] = &[
-    "names|d||a b,a/b.txt,a/b/two words.txt,link,",
-    "read|d/a b||22",
-    "read|d/a/b.txt||",
-    "read|d/a/b/two words.txt||4444",
-    "read|d/link||22",
-    "names|d/empty||",
-    "read|d/a/b.txt/c||-",
-    "read|d/empty||!",
-    "create|d/a/b.txt/c||!",
-    "create|d/empty||!",
-    "append|e/a|1|!",
+    "a link to a file is listed, no other|names|d||a b,a/b.txt,a/b/two words.txt,link,",
+    "what was put anew|read|d/a b||22",
+    "an empty file|read|d/a/b.txt||",
+    "a file in two folders|read|d/a/b/two words.txt||4444",
+    "a link to a file is read|read|d/link||22",
+    "an empty folder has no names|names|d/empty||",
+    "a file in place of a folder is no fault of a read|read|d/a/b.txt/c||-",
+    "a folder in place of a file is a fault of a read|read|d/empty||!",
+    "a file in place of a folder is a fault of a create|create|d/a/b.txt/c||!",
+    "a folder in place of a file is a fault of a create|create|d/empty||!",
+    "a folder that isn't there is a fault of an append|append|e/a|1|!",
 ];
 
-const FOLDERS: &[&str] = &["names|d/a b||", "read|d/empty||!"];
+const FOLDERS: &[&str] = &[
+    "a file has no names|names|d/a b||",
+    "a folder isn't read|read|d/empty||!",
+];
 
-/// The first line that a shelf of the system answers otherwise, and what its last failure was.
-fn unlike_here<R: Files + AllocGlobal>(
-    rt: &R,
-    script: &[&'static str],
-    failure: Option<&str>,
-) -> Option<&'static str> {
-    let mut shelf = FileShelf::new(rt);
-    let line = unlike(rt.alloc(), &mut shelf, script);
-    if shelf.last_failure() == failure {
-        line
-    } else {
-        Some("another failure")
-    }
-}
-
-/// What is answered where three texts are put to a file.
-fn put_here<R: Files + AllocGlobal>(rt: &R) -> io::Result<[u8; 3]> {
-    let mut sink = StdSink::new(fs::create(rt, "stream")?);
-    Ok(put_marks(rt.alloc(), &mut sink))
-}
-
-/// Whether they come back from it.
-fn come_back<R: Files + AllocGlobal>(rt: &R) -> io::Result<bool> {
-    let mut source = StdSource::new(fs::open(rt, "stream")?);
-    Ok(gives(&mut source, 6, b"ab|c1|23|45|z||"))
-}
+/// Scripts, and the last failure of a shelf that runs each.
+const SCRIPTS: &[(&str, &[&str], Option<&str>)] = &[
+    ("links and folders", LINKED, Some("e/a: entity not found")),
+    (
+        "no file where one is wanted",
+        FOLDERS,
+        Some("d/empty: is a directory"),
+    ),
+];
 
 #[test]
 fn the_system_keeps_files(rt: HostRuntime) -> Result<(), Fail> {
     let id = process::id(rt.process());
     enter(&rt, id)?;
-    assert_eq!(rt; unlike_here(&rt, TREE, None), None);
+    let mut shelf = FileShelf::new(&rt);
+    assert_eq!(rt; unlike(rt.alloc(), &mut shelf, TREE)?, None);
+    assert_eq!(rt; shelf.last_failure(), None);
     make_links(&rt)?;
-    assert_eq!(rt;
-        unlike_here(&rt, LINKED, Some("e/a: entity not found")),
-        None
-    );
-    assert_eq!(rt;
-        unlike_here(&rt, FOLDERS, Some("d/empty: is a directory")),
-        None
-    );
-    assert!(rt; put_here(&rt)? == *b"...");
-    assert!(rt; come_back(&rt)?);
+    for (shows, script, failure) in SCRIPTS {
+        let mut shelf = FileShelf::new(&rt);
+        assert_eq!(rt; unlike(rt.alloc(), &mut shelf, script)?, None, "{shows}");
+        assert_eq!(rt; shelf.last_failure(), *failure, "{shows}");
+    }
+    let mut sink = StdSink::new(fs::create(&rt, "stream")?);
+    assert_eq!(rt; put_marks(rt.alloc(), &mut sink)?.as_str(), "...");
+    let mut source = StdSource::new(fs::open(&rt, "stream")?);
+    let given = given_by(rt.alloc(), &mut source, 6)?;
+    assert_eq!(rt; given.as_str(), "ab|c1|23|45|z||");
     remove(&rt, id)
 }

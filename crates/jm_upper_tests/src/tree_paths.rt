@@ -3,134 +3,137 @@ ghost use Rattle.std.specs.Prelude.{◌≡◌, ◌<◌, IfOk};
 ghost use Rattle.jm_jrt.specs.Nodes.{IsOf};
 
 use crate::images::{BAD_NODE, ONE, opened};
-use crate::wanted::Wanted;
-use jm_bytes::{Meter, Steps};
+use jm_bytes::{Meter, NoMemory, Steps, extend};
 use jm_jrt::{Child, ChildList, JrtError, Node, children, owner, stat};
 use jm_valid::Image;
 use std::alloc::Global;
 use std::marker::Brand;
 use std::sync::ledger::{Blank, Ledger};
+use std::test::Fail;
 use std::thread::Threads;
 
-/// Meets a child behind a space: a name, or a module behind a 1 where the package is empty there
-/// and behind a 0 where it isn't.
-fn meet_child(alloc: Global, child: Child, wanted: &mut Wanted) {
-    wanted.meet(b" ");
+/// Tells a child behind a space: a name, or a module behind a 1 where the package is empty there and
+/// behind a 0 where it isn't.
+fn tell_child(alloc: Global, child: Child, out: &mut Vec<u8>) -> Result<(), NoMemory> {
+    extend(out, b" ")?;
     match child {
-        Child::Entry(name) => match name.to_text(alloc) {
-            Ok(text) => wanted.meet(text.as_slice()),
-            Err(_) => wanted.meet(b"?"),
-        },
+        Child::Entry(name) => extend(out, name.to_text(alloc)?.as_slice()),
         Child::Owner { empty, module } => {
-            wanted.meet(if empty { b"1" } else { b"0" });
-            wanted.meet(module);
+            extend(out, if empty { b"1" } else { b"0" })?;
+            extend(out, module)
         }
     }
 }
 
-/// Meets the children of a folder.
-fn meet_list<R: Ledger>(alloc: Global, list: ChildList, reads: &mut Meter<R>, wanted: &mut Wanted)
+/// Tells the children of a folder.
+fn tell_list<R: Ledger>(
+    alloc: Global,
+    list: ChildList,
+    reads: &mut Meter<R>,
+    out: &mut Vec<u8>,
+) -> Result<(), NoMemory>
     requires { reads.old.bytes ≡ list.bytes }
     ensures { reads.new.bytes ≡ reads.old.bytes }
 {
     let mut list = list;
-    wanted.meet(b"folder");
+    extend(out, b"folder")?;
     for _place in 0..list.len() {
         match list.step(reads) {
-            Some(child) => meet_child(alloc, child, wanted),
-            None => return,
+            Some(child) => tell_child(alloc, child, out)?,
+            None => return Ok(()),
         }
     }
+    Ok(())
 }
 
-fn meet_error(error: JrtError, wanted: &mut Wanted) {
+fn tell_error(error: JrtError, out: &mut Vec<u8>) -> Result<(), NoMemory> {
     match error {
-        JrtError::NotThere => wanted.meet(b"NotThere"),
-        JrtError::BadNode(0) => wanted.meet(b"BadNode 0"),
-        JrtError::BadNode(_) => wanted.meet(b"BadNode"),
-        JrtError::NotFolder => wanted.meet(b"NotFolder"),
+        JrtError::NotThere => extend(out, b"NotThere"),
+        JrtError::BadNode(0) => extend(out, b"BadNode 0"),
+        JrtError::BadNode(_) => extend(out, b"BadNode"),
+        JrtError::NotFolder => extend(out, b"NotFolder"),
     }
 }
 
-/// Meets what stands at a path.
-fn meet_node<R: Ledger>(
+/// Tells what stands at a path.
+fn tell_node<R: Ledger>(
     alloc: Global,
     node: Result<Node, JrtError>,
     reads: &mut Meter<R>,
-    wanted: &mut Wanted,
-)
+    out: &mut Vec<u8>,
+) -> Result<(), NoMemory>
     requires { IfOk node (λ node. IsOf reads.old.bytes node) }
     ensures { reads.new.bytes ≡ reads.old.bytes }
 {
     match node {
-        Err(error) => meet_error(error, wanted),
-        Ok(Node::Folder(list)) => meet_list(alloc, list, reads, wanted),
+        Err(error) => tell_error(error, out),
+        Ok(Node::Folder(list)) => tell_list(alloc, list, reads, out),
         Ok(Node::File(bytes)) => {
-            wanted.meet(b"file ");
-            wanted.meet(bytes);
+            extend(out, b"file ")?;
+            extend(out, bytes)
         }
         Ok(Node::Link(module)) => {
-            wanted.meet(b"link ");
-            wanted.meet(module);
+            extend(out, b"link ")?;
+            extend(out, module)
         }
     }
 }
 
-/// Meets the children of a folder.
-fn meet_children<R: Ledger>(
+/// Tells the children of a folder, if it is one.
+fn tell_children<R: Ledger>(
     alloc: Global,
     list: Result<ChildList, JrtError>,
     reads: &mut Meter<R>,
-    wanted: &mut Wanted,
-)
+    out: &mut Vec<u8>,
+) -> Result<(), NoMemory>
     requires { IfOk list (λ list. list.bytes ≡ reads.old.bytes) }
     ensures { reads.new.bytes ≡ reads.old.bytes }
 {
     match list {
-        Err(error) => meet_error(error, wanted),
-        Ok(list) => meet_list(alloc, list, reads, wanted),
+        Err(error) => tell_error(error, out),
+        Ok(list) => tell_list(alloc, list, reads, out),
     }
 }
 
-/// Meets the first owner of a package that isn't empty there.
-fn meet_owner(owner: Result<Option<&[u8]>, JrtError>, wanted: &mut Wanted) {
+/// Tells the first owner of a package that isn't empty there.
+fn tell_owner(owner: Result<Option<&[u8]>, JrtError>, out: &mut Vec<u8>) -> Result<(), NoMemory> {
     match owner {
-        Err(error) => meet_error(error, wanted),
-        Ok(None) => wanted.meet(b"none"),
-        Ok(Some(module)) => wanted.meet(module),
+        Err(error) => tell_error(error, out),
+        Ok(None) => extend(out, b"none"),
+        Ok(Some(module)) => extend(out, module),
     }
 }
 
-/// Meets what stands at a path, its children and the owner of the package there, with a bar between
+/// Tells what stands at a path, its children and the owner of the package there, with a bar between
 /// them.
-fn meet_path<H: Ledger, R: Ledger>(
+fn tell_path<H: Ledger, R: Ledger>(
     alloc: Global,
     image: &Image,
     path: &[u8],
     hashes: &mut Steps<H>,
     reads: &mut Meter<R>,
-    wanted: &mut Wanted,
-)
+    out: &mut Vec<u8>,
+) -> Result<(), NoMemory>
     requires { reads.old.bytes ≡ image.now }
 {
     let node = stat(image, path, hashes, reads);
-    meet_node(alloc, node, reads, wanted);
-    wanted.meet(b"|");
+    tell_node(alloc, node, reads, out)?;
+    extend(out, b"|")?;
     let list = children(image, path, hashes, reads);
-    meet_children(alloc, list, reads, wanted);
-    wanted.meet(b"|");
-    meet_owner(owner(image, path, hashes, reads), wanted);
+    tell_children(alloc, list, reads, out)?;
+    extend(out, b"|")?;
+    tell_owner(owner(image, path, hashes, reads), out)
 }
 
-/// Whether an image, which these bytes are, answers a path as told.
-fn answers<H: Ledger, R: Ledger>(
+/// The same with counters of its own, of an image, which these bytes are.
+fn counted<H: Ledger, R: Ledger>(
     alloc: Global,
     image: &Image,
     bytes: &[u8],
-    row: (&[u8], &[u8]),
+    path: &[u8],
     hashes: Blank,
     reads: Blank,
-) -> bool
+) -> Result<Vec<u8>, NoMemory>
     requires same { image.now ≡ bytes.now }
     requires hash_name { hashes.name ≡ H.name }
     requires hash_parts { hashes.parts ≡ H.parts }
@@ -139,78 +142,106 @@ fn answers<H: Ledger, R: Ledger>(
     requires read_parts { reads.parts ≡ R.parts }
     requires some_reads { 0 < reads.parts }
 {
-    let (path, told) = row;
     let mut hashes = Steps::<H>::new(hashes);
     let mut reads = Meter::<R>::new(bytes, reads);
-    let mut wanted = Wanted::new(told);
-    meet_path(alloc, image, path, &mut hashes, &mut reads, &mut wanted);
-    wanted.is_all()
+    let mut out = Vec::new(alloc);
+    tell_path(alloc, image, path, &mut hashes, &mut reads, &mut out)?;
+    Ok(out)
 }
 
-/// The first path that isn't answered as its row tells.
-fn unlike_path(
+/// What is told of a path of the image that some bytes are.
+fn told<T: Threads + Sync>(
+    rt: &T,
     alloc: Global,
-    image: &Image,
     bytes: &[u8],
-    rows: &'static [(&'static str, &'static str)],
-) -> Option<&'static str>
-    requires { image.now ≡ bytes.now }
-{
-    for (path, told) in rows {
-        let row = (path.as_bytes(), told.as_bytes());
-        let (hashes, reads) = (Blank::new(1), Blank::new(1));
-        if !answers::<Brand, Brand>(alloc, image, bytes, row, hashes, reads) {
-            return Some(path);
-        }
-    }
-    None
+    path: &str,
+) -> Result<String, Fail> {
+    let image = opened(rt, alloc, bytes)?;
+    let (hashes, reads) = (Blank::new(1), Blank::new(1));
+    let path = path.as_bytes();
+    let told = counted::<Brand, Brand>(alloc, &image, bytes, path, hashes, reads)?;
+    Ok(String::from_utf8(told)?)
 }
 
-const PATHS: &[(&str, &str)] = &[
+/// What a path shows, the path, and what is told of it in an image of one file.
+const PATHS: &[(&str, &str, &str)] = &[
     (
+        "the root",
         "/",
         "folder /modules /packages|folder /modules /packages|NotThere",
     ),
-    ("/modules", "folder /modules/a|folder /modules/a|NotThere"),
     (
+        "the modules",
+        "/modules",
+        "folder /modules/a|folder /modules/a|NotThere",
+    ),
+    (
+        "the packages",
         "/packages",
         "folder /packages/p|folder /packages/p|NotThere",
     ),
     (
+        "a module",
         "/modules/a",
         "folder /modules/a/p|folder /modules/a/p|NotThere",
     ),
-    ("/modules/a/p", "folder /a/p/A|folder /a/p/A|NotThere"),
-    ("/modules/a/p/A", "file hi|NotFolder|NotThere"),
-    ("/packages/p", "folder 0a|folder 0a|a"),
-    ("/packages/p/a", "link a|NotFolder|NotThere"),
-    ("/packages/p/b", "NotThere|NotThere|NotThere"),
-    ("/packages/p/a/x", "NotThere|NotThere|NotThere"),
-    ("/modules/modules/a", "NotThere|NotThere|NotThere"),
-    ("/a/p/A", "NotThere|NotThere|NotThere"),
-    ("", "NotThere|NotThere|NotThere"),
+    (
+        "a folder of a module",
+        "/modules/a/p",
+        "folder /a/p/A|folder /a/p/A|NotThere",
+    ),
+    (
+        "a file of a module",
+        "/modules/a/p/A",
+        "file hi|NotFolder|NotThere",
+    ),
+    ("a package", "/packages/p", "folder 0a|folder 0a|a"),
+    (
+        "an owner of a package",
+        "/packages/p/a",
+        "link a|NotFolder|NotThere",
+    ),
 ];
 
-const BAD_PATHS: &[(&str, &str)] = &[
-    ("/packages", "BadNode 0|BadNode 0|NotThere"),
-    ("/", "folder /packages|folder /packages|NotThere"),
+/// Paths at which nothing stands.
+const NO_PATHS: &[(&str, &str)] = &[
+    ("a module that isn't an owner", "/packages/p/b"),
+    ("a path behind an owner", "/packages/p/a/x"),
+    ("a node below the modules", "/modules/modules/a"),
+    ("the name of an entry", "/a/p/A"),
+    ("the empty path", ""),
 ];
 
-/// The first path that some bytes, which are an image, answer otherwise.
-fn unlike<T: Threads + Sync>(
-    rt: &T,
-    alloc: Global,
-    bytes: &[u8],
-    rows: &'static [(&'static str, &'static str)],
-) -> Option<&'static str> {
-    match opened(rt, alloc, 1, bytes) {
-        Some(image) => unlike_path(alloc, &image, bytes, rows),
-        None => Some("no image"),
+/// Paths of an image of one bad node.
+const BAD_PATHS: &[(&str, &str, &str)] = &[
+    ("a bad node", "/packages", "BadNode 0|BadNode 0|NotThere"),
+    (
+        "the root above a bad node",
+        "/",
+        "folder /packages|folder /packages|NotThere",
+    ),
+];
+
+#[test]
+fn paths_are_answered(rt: HostRuntime) -> Result<(), Fail> {
+    for (image, rows) in [(ONE, PATHS), (BAD_NODE, BAD_PATHS)] {
+        for (shows, path, want) in rows {
+            let told = told(&rt, rt.alloc(), image, path)?;
+            assert_eq!(rt; told.as_str(), *want, "{shows}, {path}");
+        }
     }
+    Ok(())
 }
 
 #[test]
-fn paths_are_answered(rt: HostRuntime) {
-    assert_eq!(rt; unlike(&rt, rt.alloc(), ONE, PATHS), None);
-    assert_eq!(rt; unlike(&rt, rt.alloc(), BAD_NODE, BAD_PATHS), None);
+fn nothing_stands_at_other_paths(rt: HostRuntime) -> Result<(), Fail> {
+    for (shows, path) in NO_PATHS {
+        let told = told(&rt, rt.alloc(), ONE, path)?;
+        assert_eq!(rt;
+            told.as_str(),
+            "NotThere|NotThere|NotThere",
+            "{shows}, {path}"
+        );
+    }
+    Ok(())
 }

@@ -1,57 +1,17 @@
 //! The images of pools: planned, and written to a file.
 
-ghost use Rattle.std.specs.Prelude.{◌≡◌, All, IsTrue, IsUtf8, false};
-ghost use Rattle.jm_names.specs.NameFaults.{IsSound};
-ghost use Rattle.jm_names.specs.Names.{is_node};
-ghost use Rattle.jm_form.specs.Layout.{names_of};
+ghost use Rattle.std.specs.Prelude.{◌≡◌, IsUtf8};
 ghost use Rattle.jm_writer.specs.Drafts.{IsDraft};
 
 use crate::calls::shelf_of;
 use crate::images::{EMPTY, EMPTY_BIG, SIX, SIX_BIG, SIX_IMAGE};
+use crate::pools::{are_fit, pool_of};
+use crate::told::text_of;
 use jm_bytes::{NoMemory, Order, Text};
-use jm_names::{check_name, is_node};
 use jm_pool::Pool;
 use jm_writer::{Draft, PlanError, plan, write};
 use std::alloc::Global;
 use std::test::Fail;
-
-/// The name passes the check of names, and is no node's.
-fn is_fit(name: &[u8]) -> bool
-    ensures sound { IsTrue result → IsSound name.now }
-    ensures resource { IsTrue result → is_node name.now ≡ false }
-{
-    check_name(name).is_ok() && !is_node(name)
-}
-
-/// Each name passes the check of names, and none is a node's.
-fn are_fit(pool: &Pool) -> bool
-    ensures sound { IsTrue result → All IsSound (names_of pool.now) }
-    ensures resources { IsTrue result → All (λ name. is_node name ≡ false) (names_of pool.now) }
-{
-    for place in 0..pool.len() {
-        if !is_fit(pool.at(place).0) {
-            return false;
-        }
-    }
-    true
-}
-
-/// Puts a resource into a pool; the name of a file of a module is its path below `mods`.
-fn push(alloc: Global, pool: &mut Pool, path: &str, bytes: &[u8]) -> Result<(), Fail> {
-    let name = path.strip_prefix("mods").unwrap_or(path);
-    let name = Text::copy_of(alloc, name.as_bytes())?;
-    pool.push(name, Text::copy_of(alloc, bytes)?)?;
-    Ok(())
-}
-
-/// A pool of these files, each a path and its bytes.
-fn pool_of(alloc: Global, files: &[(&str, &[u8])]) -> Result<Pool, Fail> {
-    let mut pool = Pool::new(alloc);
-    for (path, bytes) in files {
-        push(alloc, &mut pool, path, bytes)?;
-    }
-    Ok(pool)
-}
 
 /// How many bytes stand in the file that a draft is written to where a call fails, if they are the
 /// image's front and the draft's length is the image's.
@@ -89,9 +49,10 @@ fn written(
     Ok(stands(alloc, &draft, pool, image, failing)?)
 }
 
-/// The image of files in an order of bytes, the call that fails while it is written, and how many
-/// of its bytes then stand.
+/// What is shown; the image of files in an order of bytes, the call that fails while it is written,
+/// and how many of its bytes then stand.
 struct Write {
+    shows: &'static str,
     files: &'static [(&'static str, &'static [u8])],
     order: Order,
     image: &'static [u8],
@@ -99,16 +60,12 @@ struct Write {
     left: Option<usize>,
 }
 
-fn leaves(alloc: Global, row: &Write) -> Result<Option<usize>, Fail> {
-    let pool = pool_of(alloc, row.files)?;
-    written(alloc, row.order, &pool, row.image, row.failing)
-}
-
 /// The number of a call that isn't made.
 const NEVER: u64 = 1000;
 
-const WRITES: &[Write] = &[
+const WHOLE: &[Write] = &[
     Write {
+        shows: "no resource, little",
         files: &[],
         order: Order::Little,
         image: EMPTY,
@@ -116,6 +73,7 @@ const WRITES: &[Write] = &[
         left: Some(85),
     },
     Write {
+        shows: "no resource, big",
         files: &[],
         order: Order::Big,
         image: EMPTY_BIG,
@@ -123,6 +81,7 @@ const WRITES: &[Write] = &[
         left: Some(85),
     },
     Write {
+        shows: "six resources, little",
         files: SIX,
         order: Order::Little,
         image: SIX_IMAGE,
@@ -130,14 +89,18 @@ const WRITES: &[Write] = &[
         left: Some(1006),
     },
     Write {
+        shows: "six resources, big",
         files: SIX,
         order: Order::Big,
         image: SIX_BIG,
         failing: NEVER,
         left: Some(1006),
     },
-    // the create, the index, the second resource and the tail
+];
+
+const FAILING: &[Write] = &[
     Write {
+        shows: "the create fails",
         files: SIX,
         order: Order::Little,
         image: SIX_IMAGE,
@@ -145,6 +108,7 @@ const WRITES: &[Write] = &[
         left: None,
     },
     Write {
+        shows: "the append of the index fails",
         files: SIX,
         order: Order::Little,
         image: SIX_IMAGE,
@@ -152,6 +116,7 @@ const WRITES: &[Write] = &[
         left: Some(289),
     },
     Write {
+        shows: "the append of the second resource fails",
         files: SIX,
         order: Order::Little,
         image: SIX_IMAGE,
@@ -159,6 +124,7 @@ const WRITES: &[Write] = &[
         left: Some(693),
     },
     Write {
+        shows: "the append of the tail fails",
         files: SIX,
         order: Order::Little,
         image: SIX_IMAGE,
@@ -168,20 +134,30 @@ const WRITES: &[Write] = &[
 ];
 
 #[test]
-fn images_in_memory(rt: HostRuntime) -> Result<(), Fail> {
-    for row in WRITES {
-        let left = leaves(rt.alloc(), row)?;
-        assert!(rt; left == row.left, "{:?}, call {}", row.left, row.failing);
+fn images_are_written_whole_or_a_front(rt: HostRuntime) -> Result<(), Fail> {
+    for rows in [WHOLE, FAILING] {
+        for row in rows {
+            let pool = pool_of(rt.alloc(), row.files)?;
+            let left = written(rt.alloc(), row.order, &pool, row.image, row.failing)?;
+            assert_eq!(rt; left, row.left, "{}", row.shows);
+        }
     }
     Ok(())
 }
 
 /// Why the image of a pool isn't planned.
-fn refusal(alloc: Global, order: Order, pool: &Pool) -> Option<PlanError> {
+fn refusal(alloc: Global, order: Order, pool: &Pool) -> Result<String, Fail> {
     if !are_fit(pool) {
-        return None;
+        return Ok(String::from_str(alloc, "names that aren't fit")?);
     }
-    plan(alloc, order, pool).err()
+    match plan(alloc, order, pool) {
+        Ok(_) => Ok(String::from_str(alloc, "a draft")?),
+        Err(PlanError::Clash(name)) => {
+            let name = text_of(alloc, name.as_slice())?;
+            Ok(format!(in alloc; "Clash {name}")?)
+        }
+        Err(error) => Ok(format!(in alloc; "{error:?}")?),
+    }
 }
 
 /// A pool of so many resources of no bytes, all in one folder.
@@ -202,49 +178,30 @@ fn giant(alloc: Global, length: usize) -> Result<Pool, Fail> {
     Ok(pool)
 }
 
-fn clashes(alloc: Global) -> Result<bool, Fail> {
-    let pool = pool_of(alloc, &[("/m/a/b", b"1"), ("/m/a", b"2")])?;
-    match refusal(alloc, Order::Little, &pool) {
-        Some(PlanError::Clash(name)) => Ok(name.as_slice() == b"/m/a".as_slice()),
-        _ => Ok(false),
-    }
-}
-
-fn is_too_many(alloc: Global, order: Order, pool: &Pool, count: u64) -> bool {
-    match refusal(alloc, order, pool) {
-        Some(PlanError::TooMany(found)) => found == count,
-        _ => false,
-    }
-}
-
-fn is_too_large(alloc: Global, order: Order, pool: &Pool, length: u64) -> bool {
-    match refusal(alloc, order, pool) {
-        Some(PlanError::TooLarge(found)) => found == length,
-        _ => false,
-    }
-}
-
-fn is_crowded(alloc: Global) -> Result<bool, Fail> {
-    let pool = crowd(alloc, 1_048_577)?;
-    Ok(
-        is_too_many(alloc, Order::Little, &pool, 1_048_582)
-            && is_too_many(alloc, Order::Big, &pool, 1_048_582),
-    )
-}
-
-fn is_overfull(alloc: Global) -> Result<bool, Fail> {
-    let pool = giant(alloc, 1_073_741_824)?;
-    Ok(
-        is_too_large(alloc, Order::Little, &pool, 1_073_741_979)
-            && is_too_large(alloc, Order::Big, &pool, 1_073_741_979),
-    )
-}
-
 /// Takes 1.3 GB of memory and two seconds, but `rt try` doesn't come to its end.
 #[test]
 fn pools_are_refused(rt: HostRuntime) -> Result<(), Fail> {
-    assert!(rt; clashes(rt.alloc())?);
-    assert!(rt; is_crowded(rt.alloc())?);
-    assert!(rt; is_overfull(rt.alloc())?);
+    for (shows, pool, want) in [
+        (
+            "a file beside a folder of its name",
+            pool_of(rt.alloc(), &[("/m/a/b", b"1"), ("/m/a", b"2")])?,
+            "Clash /m/a",
+        ),
+        (
+            "one resource too many",
+            crowd(rt.alloc(), 1_048_577)?,
+            "TooMany(1048582)",
+        ),
+        (
+            "a resource too large",
+            giant(rt.alloc(), 1_073_741_824)?,
+            "TooLarge(1073741979)",
+        ),
+    ] {
+        for order in [Order::Little, Order::Big] {
+            let refusal = refusal(rt.alloc(), order, &pool)?;
+            assert_eq!(rt; refusal.as_str(), want, "{shows}");
+        }
+    }
     Ok(())
 }

@@ -1,4 +1,4 @@
-use Rattle.jm_upper_tests.proofs.entries.unlike_name.Given as goal
+use Rattle.jm_upper_tests.proofs.entries.length_under.Given as goal
 
 abbrev pub ghosts-length_of-H-Ledger : goal.ghosts-length_of-H-Ledger
 ghosts-length_of-H-Ledger a = record { name = a.hashes.name; parts = a.hashes.parts }

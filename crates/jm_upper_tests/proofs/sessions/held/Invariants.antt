@@ -1,4 +1,4 @@
-use Rattle.jm_upper_tests.proofs.sessions.ends_so.Given as goal
+use Rattle.jm_upper_tests.proofs.sessions.held.Given as goal
 
 abbrev pub ghosts-counted-H-Ledger : goal.ghosts-counted-H-Ledger
 ghosts-counted-H-Ledger a = record { name = a.hashes.name; parts = a.hashes.parts }

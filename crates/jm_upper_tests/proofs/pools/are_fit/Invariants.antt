@@ -2,7 +2,7 @@ use Rattle.std.proofs.Common.{◌≡◌, All, false, take}
 use Rattle.jm_names.specs.NameFaults.{IsSound}
 use Rattle.jm_names.specs.Names.{is_node}
 use Rattle.jm_form.specs.Layout.{names_of}
-use Rattle.jm_upper_tests.proofs.written.are_fit.Given as goal
+use Rattle.jm_upper_tests.proofs.pools.are_fit.Given as goal
 
 abbrev pub invariant-loop-place : goal.invariant-loop-place
 invariant-loop-place l = record {

@@ -4,7 +4,7 @@ use Rattle.jm_names.specs.NameFaults.{IsSound}
 use Rattle.jm_names.specs.Names.{is_node}
 use Rattle.jm_form.specs.Layout.{names_of}
 use Rattle.jm_writer.proofs.ItemLaws.{all_mapped}
-use Rattle.jm_upper_tests.proofs.written.are_fit.Goals as goal
+use Rattle.jm_upper_tests.proofs.pools.are_fit.Goals as goal
 
 pub loop-place-preserved : goal.loop-place-preserved
 loop-place-preserved c =

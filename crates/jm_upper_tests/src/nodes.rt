@@ -1,43 +1,18 @@
-ghost use Rattle.std.specs.Prelude.{◌≡◌, All, IsTrue, false};
-ghost use Rattle.jm_names.specs.NameFaults.{IsSound};
-ghost use Rattle.jm_names.specs.Names.{is_node};
-ghost use Rattle.jm_pool.specs.Pairs.{names_of};
+//! The nodes of the two trees of a pool.
 
-use crate::pools::push;
+use crate::pools::{are_fit, push};
 use jm_bytes::{NoMemory, Text, extend};
-use jm_names::{check_name, is_node};
 use jm_nodes::{Holds, NodesError, Owner, TreeNode, nodes};
 use jm_pool::Pool;
 use std::alloc::Global;
 use std::test::Fail;
 
-/// The name passes the check of names, and is no node's.
-fn is_fit(name: &[u8]) -> bool
-    ensures sound { IsTrue result → IsSound name.now }
-    ensures resource { IsTrue result → is_node name.now ≡ false }
-{
-    check_name(name).is_ok() && !is_node(name)
-}
-
-/// Each name passes the check of names, and none is a node's.
-fn are_fit(pool: &Pool) -> bool
-    ensures sound { IsTrue result → All IsSound (names_of pool.now) }
-    ensures resources { IsTrue result → All (λ name. is_node name ≡ false) (names_of pool.now) }
-{
-    for place in 0..pool.len() {
-        if !is_fit(pool.at(place).0) {
-            return false;
-        }
-    }
-    true
-}
-
 /// A pool of these names, without a byte behind them.
-fn pool_named(alloc: Global, names: &str) -> Result<Pool, NoMemory> {
+fn pool_named(alloc: Global, names: &str) -> Result<Pool, Fail> {
     let mut pool = Pool::new(alloc);
     for name in names.split(' ') {
-        if !name.is_empty() && push(alloc, &mut pool, name, b"").is_err() {
-            return Err(NoMemory);
+        if !name.is_empty() {
+            push(alloc, &mut pool, name, b"")?;
         }
     }
     Ok(pool)
@@ -92,21 +67,23 @@ fn tell(alloc: Global, out: &mut Vec<u8>, pool: &Pool) -> Result<(), NoMemory> {
 }
 
 /// What is said of resources of these names.
-fn told(alloc: Global, names: &str) -> Result<Vec<u8>, NoMemory> {
+fn told(alloc: Global, names: &str) -> Result<String, Fail> {
     let pool = pool_named(alloc, names)?;
     let mut out = Vec::new(alloc);
     tell(alloc, &mut out, &pool)?;
-    Ok(out)
+    Ok(String::from_utf8(out)?)
 }
 
-/// Names of resources, and what is said of their nodes.
-const TREES: &[(&str, &str)] = &[
+/// What is shown; names of resources, and what is said of their nodes.
+const TREES: &[(&str, &str, &str)] = &[
     (
+        "no resource",
         "",
         "/packages:\n\
          /modules:\n",
     ),
     (
+        "one resource in a package",
         "/m/p/A",
         "/packages/p: 0m\n\
          /packages: /packages/p\n\
@@ -115,6 +92,7 @@ const TREES: &[(&str, &str)] = &[
          /modules: /modules/m\n",
     ),
     (
+        "a folder META-INF, which is no package",
         "/m/META-INF/x",
         "/packages:\n\
          /modules/m/META-INF: /m/META-INF/x\n\
@@ -122,6 +100,7 @@ const TREES: &[(&str, &str)] = &[
          /modules: /modules/m\n",
     ),
     (
+        "a package of two modules, of which one is empty; a file beside a longer name",
         "/b/p/s/Z /a/p/A /a/p-q",
         "/packages/p.s: 0b\n\
          /packages/p: 0a 1b\n\
@@ -134,6 +113,7 @@ const TREES: &[(&str, &str)] = &[
          /modules: /modules/a /modules/b\n",
     ),
     (
+        "three modules",
         "/a/module-info.class /a/p/A.class \
         /b/module-info.class /b/q/r/B.class \
         /java.base/module-info.class /java.base/java/lang/Object.class",
@@ -153,15 +133,29 @@ const TREES: &[(&str, &str)] = &[
          /modules/a: /a/module-info.class /modules/a/p\n\
          /modules: /modules/a /modules/b /modules/java.base\n",
     ),
-    ("/m/a /m/a/b", "Clash /m/a"),
-    ("/m/c /m/c/d /m/b /m/a /m/b/c/x /m/b/c", "Clash /m/b"),
+];
+
+/// The same of names that clash.
+const CLASHES: &[(&str, &str, &str)] = &[
+    (
+        "a file beside a folder of its name",
+        "/m/a /m/a/b",
+        "Clash /m/a",
+    ),
+    (
+        "the least of three such names",
+        "/m/c /m/c/d /m/b /m/a /m/b/c/x /m/b/c",
+        "Clash /m/b",
+    ),
 ];
 
 #[test]
 fn nodes_are_told(rt: HostRuntime) -> Result<(), Fail> {
-    for (names, expected) in TREES {
-        let told = told(rt.alloc(), names)?;
-        assert_eq!(rt; told.as_slice(), expected.as_bytes(), "{names}");
+    for rows in [TREES, CLASHES] {
+        for (shows, names, want) in rows {
+            let told = told(rt.alloc(), names)?;
+            assert_eq!(rt; told.as_str(), *want, "{shows}");
+        }
     }
     Ok(())
 }

@@ -1,5 +1,5 @@
 use Rattle.std.proofs.Common.{◌≡◌}
-use Rattle.jm_upper_tests.proofs.tree_paths.meet_list.Given as goal
+use Rattle.jm_upper_tests.proofs.tree_paths.tell_list.Given as goal
 
 abbrev pub invariant-loop-place : goal.invariant-loop-place
 invariant-loop-place g l = record {

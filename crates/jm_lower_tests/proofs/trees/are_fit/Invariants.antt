@@ -1,8 +1,0 @@
-use Rattle.std.proofs.Common.{◌≡◌, All, false, take}
-use Rattle.jm_names.specs.NameFaults.{IsSound}
-use Rattle.jm_names.specs.Names.{is_node}
-use Rattle.jm_pool.specs.Pairs.{names_of}
-use Rattle.jm_lower_tests.proofs.trees.are_fit.Given as goal
-
-abbrev pub invariant-loop-place : goal.invariant-loop-place
-invariant-loop-place l = All IsSound (take l.place (names_of l.pool)) × All (λ name. is_node name ≡ false) (take l.place (names_of l.pool))
