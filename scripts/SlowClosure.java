@@ -11,7 +11,7 @@ import java.util.regex.Matcher;
 import java.util.regex.Pattern;
 
 /**
- * Computes the answers of the table of small graphs in the tests of jm_lower_tests, plainly and slowly:
+ * Computes the answers of the tables of small graphs in the tests of jm_lower_tests, plainly and slowly:
  * `java scripts/SlowClosure.java crates/jm_lower_tests/src/closures.rt`.
  *
  * A module is reached where a list of modules leads to it from a root, each requiring the next without `static`: all
@@ -32,19 +32,19 @@ public class SlowClosure {
 
   private static boolean judge(String file) throws IOException {
     String text = Files.readString(Path.of(file));
-    text = text.substring(text.indexOf("const GRAPHS"));
-    text = text.substring(0, text.indexOf("];"));
-    Matcher row = Pattern.compile("\\(\\s*\"([^\"]*)\",\\s*\"([^\"]*)\",\\s*\"([^\"]*)\",?\\s*\\)").matcher(text);
+    String string = "\"([^\"]*)\"";
+    String strings = String.join(",\\s*", string, string, string, string);
+    Matcher row = Pattern.compile("\\(\\s*" + strings + ",?\\s*\\)").matcher(text);
     int rows = 0;
     int good = 0;
     while (row.find()) {
       rows++;
-      boolean binds = row.group(3).contains("|");
-      String answer = answer(row.group(1), row.group(2), binds);
-      if (answer.equals(row.group(3))) {
+      boolean binds = row.group(4).contains("|");
+      String answer = answer(row.group(2), row.group(3), binds);
+      if (answer.equals(row.group(4))) {
         good++;
       } else {
-        System.out.println(row.group(1) + " from " + row.group(2) + ": " + answer);
+        System.out.println(row.group(1) + ": " + row.group(2) + " from " + row.group(3) + ": " + answer);
       }
     }
     System.out.println(file + ": " + good + " of " + rows + " graphs");

@@ -7,16 +7,36 @@ const HEADER: [u8; 28] = [
     0xDA, 0xDA, 0xFE, 0xCA, 0, 0, 1, 0, 7, 0, 0, 0, 1, 0, 0, 0, 0, 0, 0, 0, 0, 0, 0, 0, 0, 0, 0, 0,
 ];
 
-/// A place of the header, the byte that is put there, and the fault that comes of it.
-const FAULTS: &[(usize, u8, HeaderFault)] = &[
-    (0, 0, HeaderFault::Magic),
-    (3, 0xDA, HeaderFault::Magic),
-    (4, 1, HeaderFault::Version(0x0001_0001)),
-    (6, 2, HeaderFault::Version(0x0002_0000)),
-    (16, 1, HeaderFault::Sizes),
-    (20, 1, HeaderFault::Sizes),
-    (24, 1, HeaderFault::Sizes),
-    (27, 0xFF, HeaderFault::Sizes),
+/// What is shown; a place of the header, the byte that is put there, and the fault that comes of it.
+const FAULTS: &[(&str, usize, u8, HeaderFault)] = &[
+    ("another first byte", 0, 0, HeaderFault::Magic),
+    (
+        "another last byte of the magic",
+        3,
+        0xDA,
+        HeaderFault::Magic,
+    ),
+    (
+        "another minor version",
+        4,
+        1,
+        HeaderFault::Version(0x0001_0001),
+    ),
+    (
+        "another major version",
+        6,
+        2,
+        HeaderFault::Version(0x0002_0000),
+    ),
+    ("a slot that isn't there", 16, 1, HeaderFault::Sizes),
+    ("locations that aren't there", 20, 1, HeaderFault::Sizes),
+    ("strings that aren't there", 24, 1, HeaderFault::Sizes),
+    (
+        "more strings than any file has",
+        27,
+        0xFF,
+        HeaderFault::Sizes,
+    ),
 ];
 
 #[test]
@@ -29,15 +49,19 @@ fn headers_are_read(rt: HostRuntime) {
         locations: 0,
         strings: 0,
     };
-    assert_eq!(rt; read_header(&HEADER), Ok(header));
-    assert_eq!(rt; read_header(&HEADER[..27]), Err(HeaderFault::Short));
-    assert_eq!(rt; read_header(&[]), Err(HeaderFault::Short));
-    for (place, byte, fault) in FAULTS {
+    assert_eq!(rt; read_header(&HEADER), Ok(header), "as it is");
+    assert_eq!(rt;
+        read_header(&HEADER[..27]),
+        Err(HeaderFault::Short),
+        "cut by a byte"
+    );
+    assert_eq!(rt; read_header(&[]), Err(HeaderFault::Short), "no byte");
+    for (shows, place, byte, fault) in FAULTS {
         let mut bytes = HEADER;
         if let Some(place) = bytes.get_mut(*place) {
             *place = *byte;
         }
-        assert_eq!(rt; read_header(&bytes), Err(*fault), "{byte} at {place}");
+        assert_eq!(rt; read_header(&bytes), Err(*fault), "{shows}");
     }
 }
 
@@ -55,10 +79,14 @@ fn the_big_order_is_read(rt: HostRuntime) {
         locations: 1,
         strings: 2,
     };
-    assert_eq!(rt; read_header(&bytes), Ok(header));
-    assert_eq!(rt; read_header(&bytes[..30]), Err(HeaderFault::Sizes));
-    assert_eq!(rt; header.strings_place(), 29);
-    assert_eq!(rt; header.contents_place(), 31);
+    assert_eq!(rt; read_header(&bytes), Ok(header), "as it is");
+    assert_eq!(rt;
+        read_header(&bytes[..30]),
+        Err(HeaderFault::Sizes),
+        "cut by a byte"
+    );
+    assert_eq!(rt; header.strings_place(), 29, "the strings begin");
+    assert_eq!(rt; header.contents_place(), 31, "the contents begin");
 }
 
 const BLANK: Row = Row {
@@ -91,51 +119,74 @@ const LARGEST: Row = Row {
     ..BLANK
 };
 
-/// Rows, and the bytes that are written for them.
-const WRITTEN: &[(Row, &[u8])] = &[
-    (BLANK, &[0]),
-    (USUAL, &[8, 7, 0x18, 9, 0x29, 1, 0x2C, 0x38, 2, 0]),
-    (PACKED, &[0x11, 1, 0, 0x20, 255, 0x32, 255, 255, 255, 0]),
-    (LARGEST, &[0x3F, 255, 255, 255, 255, 255, 255, 255, 255, 0]),
+/// What is shown; rows, and the bytes that are written for them.
+const WRITTEN: &[(&str, Row, &[u8])] = &[
+    ("a blank row", BLANK, &[0]),
+    (
+        "numbers of one and two bytes",
+        USUAL,
+        &[8, 7, 0x18, 9, 0x29, 1, 0x2C, 0x38, 2, 0],
+    ),
+    (
+        "numbers of up to three bytes",
+        PACKED,
+        &[0x11, 1, 0, 0x20, 255, 0x32, 255, 255, 255, 0],
+    ),
+    (
+        "a number of eight bytes",
+        LARGEST,
+        &[0x3F, 255, 255, 255, 255, 255, 255, 255, 255, 0],
+    ),
 ];
 
 #[test]
 fn rows_are_written(rt: HostRuntime) -> Result<(), Fail> {
-    for (row, bytes) in WRITTEN {
+    for (shows, row, bytes) in WRITTEN {
         let text = write_row(rt.alloc(), row)?;
-        assert_eq!(rt; text.as_slice(), *bytes, "{row:?}");
-        assert_eq!(rt; read_row(bytes), Some((*row, bytes.len())), "{row:?}");
+        assert_eq!(rt; text.as_slice(), *bytes, "{shows}");
+        assert_eq!(rt;
+            read_row(bytes),
+            Some((*row, bytes.len())),
+            "{shows}, read back"
+        );
     }
     Ok(())
 }
 
-/// Bytes, and the row that stands at their front with its length.
-const READ: &[(&[u8], Option<(Row, usize)>)] = &[
+/// What is shown; bytes, and the row that stands at their front with its length.
+const READ: &[(&str, &[u8], Option<(Row, usize)>)] = &[
     (
+        "leading zeros of a number, and bytes behind the row",
         &[8, 7, 24, 9, 0x2A, 0, 1, 0x2C, 56, 2, 7, 8],
         Some((USUAL, 11)),
     ),
-    (&[7, 8], Some((BLANK, 1))),
-    (&[8, 0, 0], Some((BLANK, 3))),
-    (&[8, 1, 8, 2, 0], None),
-    (&[24, 1, 8, 2, 0], None),
-    (&[64, 1, 0], None),
-    // Fronts of a row.
-    (&[], None),
-    (&[8], None),
-    (&[8, 7], None),
-    (&[8, 7, 24], None),
-    (&[8, 7, 24, 9], None),
-    (&[8, 7, 24, 9, 0x29], None),
-    (&[8, 7, 24, 9, 0x29, 1], None),
-    (&[8, 7, 24, 9, 0x29, 1, 0x2C], None),
-    (&[8, 7, 24, 9, 0x29, 1, 0x2C, 56], None),
-    (&[8, 7, 24, 9, 0x29, 1, 0x2C, 56, 2], None),
+    ("another end of a blank row", &[7, 8], Some((BLANK, 1))),
+    ("a number that is 0", &[8, 0, 0], Some((BLANK, 3))),
+    ("a kind twice", &[8, 1, 8, 2, 0], None),
+    ("kinds that fall", &[24, 1, 8, 2, 0], None),
+    ("a kind that isn't there", &[64, 1, 0], None),
+];
+
+/// Fronts of a row, which are no rows.
+const FRONTS: &[(&str, &[u8])] = &[
+    ("no byte", &[]),
+    ("the first kind", &[8]),
+    ("the first number", &[8, 7]),
+    ("the second kind", &[8, 7, 24]),
+    ("the second number", &[8, 7, 24, 9]),
+    ("the third kind", &[8, 7, 24, 9, 0x29]),
+    ("half of the third number", &[8, 7, 24, 9, 0x29, 1]),
+    ("the third number", &[8, 7, 24, 9, 0x29, 1, 0x2C]),
+    ("the fourth kind", &[8, 7, 24, 9, 0x29, 1, 0x2C, 56]),
+    ("all but the end", &[8, 7, 24, 9, 0x29, 1, 0x2C, 56, 2]),
 ];
 
 #[test]
 fn rows_are_read(rt: HostRuntime) {
-    for (bytes, read) in READ {
-        assert_eq!(rt; read_row(bytes), *read, "{bytes:?}");
+    for (shows, bytes, read) in READ {
+        assert_eq!(rt; read_row(bytes), *read, "{shows}");
+    }
+    for (shows, bytes) in FRONTS {
+        assert_eq!(rt; read_row(bytes), None, "a row cut behind {shows}");
     }
 }

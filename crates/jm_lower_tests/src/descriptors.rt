@@ -43,8 +43,16 @@ fn two_needs(alloc: Global) -> Result<Text, NoMemory> {
 #[test]
 fn modules_are_written(rt: HostRuntime) -> Result<(), Fail> {
     let alone = write_info(rt.alloc(), b"a", &[])?;
-    assert_eq!(rt; alone.as_slice(), ALONE.as_slice());
+    assert_eq!(rt;
+        alone.as_slice(),
+        ALONE.as_slice(),
+        "a module that requires none"
+    );
     let two = two_needs(rt.alloc())?;
-    assert_eq!(rt; two.as_slice(), TWO.as_slice());
+    assert_eq!(rt;
+        two.as_slice(),
+        TWO.as_slice(),
+        "a module that requires two"
+    );
     Ok(())
 }

@@ -1,15 +1,12 @@
-use crate::class_bytes::{COMPACTED, GENERATED, STRIPPED, WITH_SOURCE, WITHOUT_SOURCE};
 use crate::meeting::Meeting;
-use crate::pools::{holds, pool_of};
+use crate::pools::{pool_of, told};
 use jm_bytes::List;
-use jm_class::ClassFault;
 use jm_halves::NoGate;
 use jm_pattern::{PatternError, read_list};
 use jm_plugins::{ApplyError, Plugin, apply};
-use jm_pool::{Pool, PushError};
+use jm_pool::Pool;
 use std::alloc::Global;
 use std::test::Fail;
-use std::thread::Threads;
 
 /// A plug-in, as its name and, behind a `=`, its patterns.
 fn plug_in(alloc: Global, word: &str) -> Result<Plugin, PatternError> {
@@ -36,155 +33,122 @@ fn plug_ins(alloc: Global, words: &str) -> Result<List<Plugin>, PatternError> {
     Ok(list)
 }
 
-/// Names with their bytes.
-type Pairs = &'static [(&'static str, &'static [u8])];
+const GIVEN: &str = "/a/B.class=sourced /a/x=1 /b/B.class=sourced /b/y=sourced";
 
-const GIVEN: Pairs = &[
-    ("/a/B.class", &WITH_SOURCE),
-    ("/a/x", &[1]),
-    ("/b/B.class", &WITH_SOURCE),
-    ("/b/y", &WITH_SOURCE),
-];
+const BAD: &str = "/a/A.class=sourced /a/B.class=no /a/C.class=none";
 
-const BAD: Pairs = &[
-    ("/a/A.class", &WITH_SOURCE),
-    ("/a/B.class", b"no"),
-    ("/a/C.class", b"none"),
-];
+const TWO: &str = "/a/A.class=generated /a/B.class=stripped";
 
-/// Plug-ins, a pool, and what they leave of it or the class that is refused with its fault.
-const TURNS: &[(&str, Pairs, Result<Pairs, (&str, ClassFault)>)] = &[
-    ("", GIVEN, Ok(GIVEN)),
+/// What is shown; plug-ins, a pool, and what they leave of it.
+const TURNS: &[(&str, &str, &str, &str)] = &[
+    ("no plug-in", "", GIVEN, GIVEN),
     (
+        "an order",
         "order=**/B.class,/a/**",
         GIVEN,
-        Ok(&[
-            ("/a/B.class", &WITH_SOURCE),
-            ("/b/B.class", &WITH_SOURCE),
-            ("/a/x", &[1]),
-            ("/b/y", &WITH_SOURCE),
-        ]),
+        "/a/B.class=sourced /b/B.class=sourced /a/x=1 /b/y=sourced",
     ),
     (
+        "an order, then strip: classes by their names alone",
         "order=**/B.class,/a/** strip",
         GIVEN,
-        Ok(&[
-            ("/a/B.class", &WITHOUT_SOURCE),
-            ("/b/B.class", &WITHOUT_SOURCE),
-            ("/a/x", &[1]),
-            ("/b/y", &WITH_SOURCE),
-        ]),
+        "/a/B.class=bare /b/B.class=bare /a/x=1 /b/y=sourced",
     ),
     (
+        "an exclusion behind these",
         "order=**/B.class,/a/** strip exclude=/b/?,/c/**",
         GIVEN,
-        Ok(&[
-            ("/a/B.class", &WITHOUT_SOURCE),
-            ("/b/B.class", &WITHOUT_SOURCE),
-            ("/a/x", &[1]),
-        ]),
+        "/a/B.class=bare /b/B.class=bare /a/x=1",
     ),
     (
+        "a second order behind these",
         "order=**/B.class,/a/** strip exclude=/b/?,/c/** order=/?/?,**",
         GIVEN,
-        Ok(&[
-            ("/a/x", &[1]),
-            ("/a/B.class", &WITHOUT_SOURCE),
-            ("/b/B.class", &WITHOUT_SOURCE),
-        ]),
+        "/a/x=1 /a/B.class=bare /b/B.class=bare",
     ),
-    // All constants are named before the debug information goes.
     (
+        "compact: all constants are named before the debug information goes",
         "compact",
-        &[("/a/A.class", &GENERATED), ("/a/x", &STRIPPED)],
-        Ok(&[("/a/A.class", &GENERATED), ("/a/x", &STRIPPED)]),
+        "/a/A.class=generated /a/x=stripped",
+        "/a/A.class=generated /a/x=stripped",
     ),
     (
+        "strip, then compact",
         "strip compact",
-        &[("/a/A.class", &GENERATED), ("/a/B.class", &STRIPPED)],
-        Ok(&[("/a/A.class", &COMPACTED), ("/a/B.class", &COMPACTED)]),
+        TWO,
+        "/a/A.class=compacted /a/B.class=compacted",
     ),
     (
+        "compact, then strip",
         "compact strip",
-        &[("/a/A.class", &GENERATED), ("/a/B.class", &STRIPPED)],
-        Ok(&[("/a/A.class", &STRIPPED), ("/a/B.class", &COMPACTED)]),
-    ),
-    // The first plug-in that meets a bad class decides, by the least place.
-    (
-        "strip order=/a/C.class strip",
-        BAD,
-        Err(("/a/B.class", ClassFault::Short(0))),
-    ),
-    (
-        "order=/a/C.class strip",
-        BAD,
-        Err(("/a/C.class", ClassFault::Magic)),
-    ),
-    (
-        "compact order=/a/C.class strip",
-        BAD,
-        Err(("/a/B.class", ClassFault::Short(0))),
-    ),
-    (
-        "order=/a/C.class compact strip",
-        BAD,
-        Err(("/a/C.class", ClassFault::Magic)),
+        TWO,
+        "/a/A.class=stripped /a/B.class=compacted",
     ),
 ];
 
-/// Whether plug-ins left what is due.
-fn is_due(left: &Result<Pool, ApplyError>, due: &Result<Pairs, (&str, ClassFault)>) -> bool {
-    match (left, due) {
-        (Ok(pool), Ok(pairs)) => holds(pool, pairs),
-        (Err(ApplyError::BadClass { name, fault }), Err((bad, why))) => {
-            name.as_slice() == bad.as_bytes() && fault == why
-        }
-        _ => false,
-    }
-}
+/// The same of classes that are refused, with their fault.
+const REFUSED: &[(&str, &str, &str, &str)] = &[
+    (
+        "the least place of the first plug-in that meets one",
+        "strip order=/a/C.class strip",
+        BAD,
+        "BadClass /a/B.class Short 0",
+    ),
+    (
+        "the least place behind an order",
+        "order=/a/C.class strip",
+        BAD,
+        "BadClass /a/C.class Magic",
+    ),
+    (
+        "compact before an order and strip",
+        "compact order=/a/C.class strip",
+        BAD,
+        "BadClass /a/B.class Short 0",
+    ),
+    (
+        "compact behind an order, before strip",
+        "order=/a/C.class compact strip",
+        BAD,
+        "BadClass /a/C.class Magic",
+    ),
+];
 
-/// The first number of jobs with which something else is left than what is due.
-fn wrong_jobs<R: Threads + Sync>(
-    rt: &R,
-    alloc: Global,
-    list: &[Plugin],
-    given: Pairs,
-    due: &Result<Pairs, (&str, ClassFault)>,
-) -> Result<Option<u32>, PushError> {
-    for jobs in [1, 2, 64] {
-        let pool = pool_of(alloc, given)?;
-        if !is_due(&apply(rt, alloc, jobs, pool, list, &NoGate), due) {
-            return Ok(Some(jobs));
+/// What plug-ins left, as words.
+fn left(alloc: Global, left: &Result<Pool, ApplyError>) -> Result<String, Fail> {
+    match left {
+        Ok(pool) => told(alloc, pool),
+        Err(ApplyError::BadClass { name, fault }) => {
+            let name = str::from_utf8(name.as_slice())?;
+            Ok(format!(in alloc; "BadClass {name} {fault}")?)
         }
+        Err(ApplyError::Memory) => Ok(String::from_str(alloc, "no memory")?),
     }
-    Ok(None)
 }
 
 #[test]
 fn plug_ins_act_in_turn(rt: HostRuntime) -> Result<(), Fail> {
-    for (words, given, due) in TURNS {
-        let list = plug_ins(rt.alloc(), words)?;
-        let wrong = wrong_jobs(&rt, rt.alloc(), list.as_slice(), given, due)?;
-        assert_eq!(rt; wrong, None, "{words}");
+    for rows in [TURNS, REFUSED] {
+        for (shows, words, given, want) in rows {
+            let list = plug_ins(rt.alloc(), words)?;
+            for jobs in [1, 2, 64] {
+                let pool = pool_of(rt.alloc(), given)?;
+                let answer = apply(&rt, rt.alloc(), jobs, pool, list.as_slice(), &NoGate);
+                let left = left(rt.alloc(), &answer)?;
+                assert_eq!(rt; left.as_str(), *want, "{shows}, with {jobs} jobs");
+            }
+        }
     }
     Ok(())
 }
-
-const TWO: Pairs = &[("/a/B.class", &WITH_SOURCE), ("/b/B.class", &WITH_SOURCE)];
 
 #[test]
 fn both_pieces_meet(rt: HostRuntime) -> Result<(), Fail> {
     for words in ["strip", "compact", "exclude=/c/**", "order=/c/**"] {
         let list = plug_ins(rt.alloc(), words)?;
         let gate = Meeting::new();
-        let left = apply(
-            &rt,
-            rt.alloc(),
-            2,
-            pool_of(rt.alloc(), TWO)?,
-            list.as_slice(),
-            &gate,
-        )?;
+        let pool = pool_of(rt.alloc(), TWO)?;
+        let left = apply(&rt, rt.alloc(), 2, pool, list.as_slice(), &gate)?;
         assert_eq!(rt; left.len(), 2, "{words}");
         assert!(rt; gate.is_met(), "the pieces met at the gate of {words}");
     }

@@ -1,19 +1,40 @@
 use jm_strings::{Strings, StringsError};
 use std::test::Fail;
 
+/// What is shown; texts that are taken one after the other, and their places.
+const TAKEN: &[(&str, &str, u32)] = &[
+    ("a new text", "m", 7),
+    ("a second new text", "a", 9),
+    ("the first one again", "m", 7),
+    ("a text that was there", "class", 1),
+    ("the empty text", "", 0),
+];
+
+/// What is shown; texts that are not held then.
+const NOT_HELD: &[(&str, &str)] = &[
+    ("another text", "b"),
+    ("a front of a text", "clas"),
+    ("a longer text", "classm"),
+    ("a text that was refused", "b\0"),
+];
+
 #[test]
 fn a_text_keeps_its_place(rt: HostRuntime) -> Result<(), Fail> {
     let mut strings = Strings::new(rt.alloc())?;
-    for (text, place) in [("m", 7), ("a", 9), ("m", 7), ("class", 1), ("", 0)] {
-        assert_eq!(rt; strings.intern(text.as_bytes()), Ok(place), "{text}");
-        assert_eq!(rt; strings.place(text.as_bytes()), Some(place), "{text}");
+    for (shows, text, place) in TAKEN {
+        let taken = strings.intern(text.as_bytes());
+        assert_eq!(rt; taken, Ok(*place), "{shows} is taken");
+        let found = strings.place(text.as_bytes());
+        assert_eq!(rt; found, Some(*place), "{shows} is found");
     }
-    assert_eq!(rt; strings.bytes(), b"\0class\0m\0a\0".as_slice());
+    let held = b"\0class\0m\0a\0".as_slice();
+    assert_eq!(rt; strings.bytes(), held, "each text once");
 
-    assert_eq!(rt; strings.intern(b"b\0"), Err(StringsError::Zero));
-    for text in ["b", "clas", "classm", "b\0"] {
-        assert_eq!(rt; strings.place(text.as_bytes()), None, "{text}");
+    let refused = strings.intern(b"b\0");
+    assert_eq!(rt; refused, Err(StringsError::Zero), "a text with a zero byte");
+    for (shows, text) in NOT_HELD {
+        assert_eq!(rt; strings.place(text.as_bytes()), None, "{shows}");
     }
-    assert_eq!(rt; strings.bytes().len(), 11);
+    assert_eq!(rt; strings.bytes(), held, "as before");
     Ok(())
 }

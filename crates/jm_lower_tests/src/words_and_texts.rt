@@ -6,29 +6,46 @@ use std::marker::Brand;
 use std::sync::ledger::{Blank, Ledger};
 use std::test::Fail;
 
-/// Words, and their bytes with the lowest first and with the highest first.
-const WORDS: &[(u32, [u8; 4], [u8; 4])] = &[
-    (0, [0, 0, 0, 0], [0, 0, 0, 0]),
-    (1, [1, 0, 0, 0], [0, 0, 0, 1]),
+/// What is shown; words, and their bytes with the lowest first and with the highest first.
+const WORDS: &[(&str, u32, [u8; 4], [u8; 4])] = &[
+    ("zero", 0, [0, 0, 0, 0], [0, 0, 0, 0]),
+    ("one", 1, [1, 0, 0, 0], [0, 0, 0, 1]),
     (
+        "the magic",
         0xCAFE_DADA,
         [0xDA, 0xDA, 0xFE, 0xCA],
         [0xCA, 0xFE, 0xDA, 0xDA],
     ),
-    (u32::MAX, [0xFF; 4], [0xFF; 4]),
+    ("the greatest", u32::MAX, [0xFF; 4], [0xFF; 4]),
 ];
 
 #[test]
 fn words_in_both_orders(rt: HostRuntime) {
-    for (word, little, big) in WORDS {
-        assert_eq!(rt; put_word(Order::Little, *word), *little);
-        assert_eq!(rt; put_word(Order::Big, *word), *big);
-        assert_eq!(rt; word_at(Order::Little, little, 0), *word);
-        assert_eq!(rt; word_at(Order::Big, big, 0), *word);
+    for (shows, word, little, big) in WORDS {
+        assert_eq!(rt;
+            put_word(Order::Little, *word),
+            *little,
+            "{shows}, put little"
+        );
+        assert_eq!(rt; put_word(Order::Big, *word), *big, "{shows}, put big");
+        assert_eq!(rt;
+            word_at(Order::Little, little, 0),
+            *word,
+            "{shows}, read little"
+        );
+        assert_eq!(rt; word_at(Order::Big, big, 0), *word, "{shows}, read big");
     }
     let bytes = [9, 1, 2, 3, 4, 9];
-    assert_eq!(rt; word_at(Order::Little, &bytes, 1), 0x0403_0201);
-    assert_eq!(rt; word_at(Order::Big, &bytes, 1), 0x0102_0304);
+    assert_eq!(rt;
+        word_at(Order::Little, &bytes, 1),
+        0x0403_0201,
+        "in the middle"
+    );
+    assert_eq!(rt;
+        word_at(Order::Big, &bytes, 1),
+        0x0102_0304,
+        "in the middle"
+    );
 }
 
 /// A text of two bytes, and a third one at its end.
@@ -57,10 +74,14 @@ fn grown_list(alloc: Global) -> Result<List<u32>, NoMemory> {
 fn texts_grow(rt: HostRuntime) -> Result<(), Fail> {
     let text = grown_text(rt.alloc())?;
     assert_eq!(rt; text.len(), 3);
-    assert_eq!(rt; text.as_slice(), b"abc".as_slice());
+    assert_eq!(rt; text.as_slice(), b"abc".as_slice(), "a grown text");
     let text = Text::from_vec(text.into_vec());
-    assert_eq!(rt; text.as_slice(), b"abc".as_slice());
-    assert_eq!(rt; Text::new(rt.alloc()).len(), 0);
+    assert_eq!(rt;
+        text.as_slice(),
+        b"abc".as_slice(),
+        "the same from its bytes"
+    );
+    assert_eq!(rt; Text::new(rt.alloc()).len(), 0, "a new text");
     Ok(())
 }
 
@@ -70,8 +91,12 @@ fn lists_grow(rt: HostRuntime) -> Result<(), Fail> {
     let numbers = grown_list(rt.alloc())?;
     assert_eq!(rt; numbers.len(), 2);
     let numbers = List::from_vec(numbers.into_vec());
-    assert_eq!(rt; numbers.as_slice(), [7, 8].as_slice());
-    assert_eq!(rt; List::<u32>::new(rt.alloc()).len(), 0);
+    assert_eq!(rt;
+        numbers.as_slice(),
+        [7, 8].as_slice(),
+        "the same from its items"
+    );
+    assert_eq!(rt; List::<u32>::new(rt.alloc()).len(), 0, "a new list");
     Ok(())
 }
 
@@ -92,8 +117,8 @@ fn parts_of<L: Ledger>(bytes: &[u8; 7], blank: Blank) -> (u8, u32, &[u8])
 #[test]
 fn a_buffer_gives_its_parts(rt: HostRuntime) {
     let (first, word, last) = parts_of::<Brand>(&[1, 2, 3, 4, 5, 6, 7], Blank::new(1));
-    assert_eq!(rt; first, 1);
-    assert_eq!(rt; word, 0x0203_0405);
-    assert_eq!(rt; last, [6, 7].as_slice());
-    assert_eq!(rt; Buf::new(b"abc").len(), 3);
+    assert_eq!(rt; first, 1, "the first byte");
+    assert_eq!(rt; word, 0x0203_0405, "the word behind it");
+    assert_eq!(rt; last, [6, 7].as_slice(), "the last two bytes");
+    assert_eq!(rt; Buf::new(b"abc").len(), 3, "the length");
 }
