@@ -1,7 +1,10 @@
+//! The commands that words make, told as a line: the command, what it names, and its jobs.
+
 use jm_bytes::{List, Order, Text};
+use jm_pattern::Pattern;
 use jm_plugins::Plugin;
 use jm_words::{Command, WordsError, read_words};
-use std::alloc::Global;
+use std::alloc::{AllocError, Global};
 use std::test::Fail;
 
 /// The command of a text's words, of which `""` is the empty one.
@@ -14,21 +17,92 @@ fn read(alloc: Global, text: &str) -> Result<Result<Command, WordsError>, Fail> 
     Ok(read_words(alloc, words.as_slice()))
 }
 
-fn is_text(text: &Text, want: &str) -> bool {
-    text.as_slice() == want.as_bytes()
+/// Tells a text between bars, with two digits for a byte that isn't printable.
+fn tell(line: &mut String, text: &Text) -> Result<(), AllocError> {
+    line.push_str(" |")?;
+    for byte in text.as_slice() {
+        match *byte {
+            b' '..=b'~' => line.push(char::from(*byte))?,
+            other => write!(line, "\\x{other:02X}")?,
+        }
+    }
+    line.push('|')
 }
 
-fn are_texts(texts: &List<Text>, want: &[&str]) -> bool {
-    texts.len() == want.len()
-        && texts
-            .as_slice()
-            .iter()
-            .zip(want.iter())
-            .all(|(text, word)| is_text(text, word))
+fn tell_all(line: &mut String, texts: &List<Text>) -> Result<(), AllocError> {
+    for text in texts.as_slice() {
+        tell(line, text)?;
+    }
+    Ok(())
 }
 
-/// Whether the command is the `link` of all options.
-fn is_full_link(command: &Command) -> bool {
+/// Tells a list of patterns by their number.
+fn tell_patterns(line: &mut String, list: &Option<List<Pattern>>) -> Result<(), AllocError> {
+    match list {
+        Some(patterns) => {
+            let count = patterns.len();
+            write!(line, " include {count}")
+        }
+        None => Ok(()),
+    }
+}
+
+fn tell_plugin(line: &mut String, plugin: &Plugin) -> Result<(), AllocError> {
+    match plugin {
+        Plugin::Exclude(patterns) => {
+            let count = patterns.len();
+            write!(line, " exclude {count}")
+        }
+        Plugin::Order(patterns) => {
+            let count = patterns.len();
+            write!(line, " order {count}")
+        }
+        Plugin::Strip => line.push_str(" strip"),
+        Plugin::Compact => line.push_str(" compact"),
+    }
+}
+
+fn tell_plugins(line: &mut String, plugins: &List<Plugin>) -> Result<(), AllocError> {
+    for plugin in plugins.as_slice() {
+        tell_plugin(line, plugin)?;
+    }
+    Ok(())
+}
+
+/// Tells a command on a file: what it names there, and its jobs.
+fn tell_file(
+    line: &mut String,
+    word: &str,
+    file: &Text,
+    place: Option<&Text>,
+    jobs: u32,
+) -> Result<(), AllocError> {
+    line.push_str(word)?;
+    tell(line, file)?;
+    if let Some(place) = place {
+        tell(line, place)?;
+    }
+    write!(line, " jobs {jobs}")
+}
+
+/// Tells where a `link` reads: the folders, or the image.
+fn tell_source(
+    line: &mut String,
+    dirs: &List<Text>,
+    image: &Option<Text>,
+) -> Result<(), AllocError> {
+    tell_all(line, dirs)?;
+    match image {
+        Some(image) => {
+            line.push_str(" from")?;
+            tell(line, image)
+        }
+        None => Ok(()),
+    }
+}
+
+/// Tells a command, if it is a `link`.
+fn tell_link(line: &mut String, command: &Command) -> Result<(), AllocError> {
     match command {
         Command::Link {
             dirs,
@@ -40,239 +114,153 @@ fn is_full_link(command: &Command) -> bool {
             from_image,
             jobs,
         } => {
-            are_texts(dirs, &["mods", "/x"])
-                && are_texts(roots, &["a", "b", "a"])
-                && is_text(output, "--o/")
-                && are_plugins(plugins.as_slice())
-                && *order == Order::Big
-                && *bind
-                && from_image.is_none()
-                && *jobs == 64
+            line.push_str("link")?;
+            tell_source(line, dirs, from_image)?;
+            line.push_str(" add")?;
+            tell_all(line, roots)?;
+            line.push_str(" to")?;
+            tell(line, output)?;
+            write!(line, " jobs {jobs}")?;
+            tell_plugins(line, plugins)?;
+            line.push_str(if *order == Order::Big {
+                " big"
+            } else {
+                " little"
+            })?;
+            line.push_str(if *bind { " bound" } else { "" })
         }
-        _ => false,
+        _ => Ok(()),
     }
 }
 
-/// Whether the plug-ins are those of that `link`, in its order.
-fn are_plugins(plugins: &[Plugin]) -> bool {
-    match plugins {
-        [
-            Plugin::Order(first),
-            Plugin::Strip,
-            Plugin::Exclude(second),
-            Plugin::Compact,
-            Plugin::Compact,
-        ] => first.len() == 2 && second.len() == 1,
-        _ => false,
-    }
-}
-
-/// Whether the command is the `link` from an image.
-fn is_link_from_image(command: &Command) -> bool {
+/// Tells a command that has more than a file, a place there and its jobs.
+fn tell_more(line: &mut String, command: &Command) -> Result<(), AllocError> {
     match command {
-        Command::Link {
-            dirs,
-            plugins,
-            order,
-            bind,
-            from_image: Some(image),
-            jobs,
-            ..
-        } => {
-            dirs.len() == 0
-                && plugins.len() == 0
-                && *order == Order::Little
-                && !*bind
-                && is_text(image, "i/")
-                && *jobs == 1
+        Command::List { include, .. } | Command::Extract { include, .. } => {
+            tell_patterns(line, include)
         }
-        _ => false,
-    }
-}
-
-/// Whether the command is the `gen` of all options.
-fn is_full_gen(command: &Command) -> bool {
-    match command {
         Command::Gen {
-            dir,
             modules,
             classes,
             seed,
-            jobs,
-        } => {
-            is_text(dir, "/d")
-                && *modules == 256
-                && *classes == 1
-                && *seed == 18446744073709551615
-                && *jobs == 10
-        }
-        _ => false,
+            ..
+        } => write!(line, " modules {modules} classes {classes} seed {seed}"),
+        _ => Ok(()),
     }
 }
 
-#[test]
-fn all_options(rt: HostRuntime) -> Result<(), Fail> {
-    let alloc = rt.alloc();
-    let full = read(
-        alloc,
+/// Tells a command, but for what `tell_more` tells.
+fn tell_command(line: &mut String, command: &Command) -> Result<(), AllocError> {
+    match command {
+        Command::Link { .. } => tell_link(line, command),
+        Command::Cat { image, name, jobs } => tell_file(line, "cat", image, Some(name), *jobs),
+        Command::List { image, jobs, .. } => tell_file(line, "list", image, None, *jobs),
+        Command::Ls { image, path, jobs } => tell_file(line, "ls", image, Some(path), *jobs),
+        Command::Info { image, jobs } => tell_file(line, "info", image, None, *jobs),
+        Command::Extract {
+            image,
+            dir,
+            jobs,
+            ..
+        } => tell_file(line, "extract", image, Some(dir), *jobs),
+        Command::Verify { image, jobs } => tell_file(line, "verify", image, None, *jobs),
+        Command::Serve { image, jobs } => tell_file(line, "serve", image, None, *jobs),
+        Command::Gen { dir, jobs, .. } => tell_file(line, "gen", dir, None, *jobs),
+        Command::Describe { file, jobs } => tell_file(line, "describe", file, None, *jobs),
+        Command::Help { jobs } => write!(line, "--help jobs {jobs}"),
+        Command::Version { jobs } => write!(line, "--version jobs {jobs}"),
+    }
+}
+
+/// What words come to: the line of their command, or their fault.
+fn told(alloc: Global, words: &str) -> Result<String, Fail> {
+    match read(alloc, words)? {
+        Ok(command) => {
+            let mut line = String::new(alloc);
+            tell_command(&mut line, &command)?;
+            tell_more(&mut line, &command)?;
+            Ok(line)
+        }
+        Err(error) => Ok(format!(in alloc; "{error}")?),
+    }
+}
+
+/// What is shown; words of commands on a file, and the line of the command that they make.
+const ON_FILES: &[(&str, &str, &str)] = &[
+    ("cat: an empty name", "cat img \"\"", "cat |img| || jobs 1"),
+    (
+        "cat: an option in front, and a name above U+FFFF",
+        "cat --jobs=3 - /a/\u{1F600}",
+        "cat |-| |/a/\\xED\\xA0\\xBD\\xED\\xB8\\x80| jobs 3",
+    ),
+    (
+        "list: a slash at the end stays",
+        "list img/",
+        "list |img/| jobs 1",
+    ),
+    (
+        "list: patterns, of which one has an escaped comma",
+        "list --include *,a\\,b img",
+        "list |img| jobs 1 include 2",
+    ),
+    (
+        "ls: a slash at the end stays",
+        "ls img /modules/",
+        "ls |img| |/modules/| jobs 1",
+    ),
+    ("info", "info img", "info |img| jobs 1"),
+    (
+        "extract: slashes at the end of the folder go",
+        "extract --include=** img --dir=out///",
+        "extract |img| |out| jobs 1 include 1",
+    ),
+    ("verify", "verify img", "verify |img| jobs 1"),
+    ("serve", "serve img", "serve |img| jobs 1"),
+    (
+        "describe: a slash at the end stays",
+        "describe f/",
+        "describe |f/| jobs 1",
+    ),
+];
+
+/// The same of words that name no file.
+const ALONE: &[(&str, &str, &str)] = &[
+    (
+        "--help: an option behind it",
+        "--help --jobs 2",
+        "--help jobs 2",
+    ),
+    ("--version", "--version", "--version jobs 1"),
+];
+
+/// The same of words that make files.
+const MAKING: &[(&str, &str, &str)] = &[
+    (
+        "link: all options of a module path, the plug-ins in turn",
         "link --order-resources=/a/**,glob:/b/? --module-path mods//:/x/ \
          --strip-java-debug-attributes --add-modules=a,b,a --exclude-resources **\\, --endian=big \
          --output --o/ --bind-services --compact-pool --compact-pool --jobs=64",
-    )?;
-    assert!(rt; full.is_ok_and(|command| is_full_link(&command)), "link");
-    let linked = read(alloc, "link --from-image i/ --output=o --add-modules m")?;
-    assert!(rt;
-        linked.is_ok_and(|command| is_link_from_image(&command)),
-        "link from an image"
-    );
-    let made = read(
-        alloc,
+        "link |mods| |/x| add |a| |b| |a| to |--o/| jobs 64 \
+         order 2 strip exclude 1 compact compact big bound",
+    ),
+    (
+        "link: from an image, and no other option",
+        "link --from-image i/ --output=o --add-modules m",
+        "link from |i/| add |m| to |o| jobs 1 little",
+    ),
+    (
+        "gen: all options, with the greatest numbers",
         "gen --seed=18446744073709551615 /d/ --modules 256 --jobs=10 --classes=1",
-    )?;
-    assert!(rt; made.is_ok_and(|command| is_full_gen(&command)), "gen");
-    Ok(())
-}
-
-/// The word of a command.
-fn word_of(command: &Command) -> &'static str {
-    match command {
-        Command::Link { .. } => "link",
-        Command::Cat { .. } => "cat",
-        Command::List { .. } => "list",
-        Command::Ls { .. } => "ls",
-        Command::Info { .. } => "info",
-        Command::Extract { .. } => "extract",
-        Command::Verify { .. } => "verify",
-        Command::Serve { .. } => "serve",
-        Command::Gen { .. } => "gen",
-        Command::Describe { .. } => "describe",
-        Command::Help { .. } => "--help",
-        Command::Version { .. } => "--version",
-    }
-}
-
-/// The file or folder that a command names first, or no byte.
-fn file_of<'a>(command: &'a Command) -> &'a [u8] {
-    match command {
-        Command::Cat { image, .. }
-        | Command::List { image, .. }
-        | Command::Ls { image, .. }
-        | Command::Info { image, .. }
-        | Command::Extract { image, .. }
-        | Command::Verify { image, .. }
-        | Command::Serve { image, .. } => image.as_slice(),
-        Command::Describe { file, .. } => file.as_slice(),
-        Command::Gen { dir, .. } => dir.as_slice(),
-        Command::Link { output, .. } => output.as_slice(),
-        Command::Help { .. } | Command::Version { .. } => &[],
-    }
-}
-
-/// What a command names besides: a resource, a path in an image or a folder, or no byte.
-fn place_of<'a>(command: &'a Command) -> &'a [u8] {
-    match command {
-        Command::Cat { name, .. } => name.as_slice(),
-        Command::Ls { path, .. } => path.as_slice(),
-        Command::Extract { dir, .. } => dir.as_slice(),
-        _ => &[],
-    }
-}
-
-/// How many jobs a command takes.
-fn jobs_of(command: &Command) -> u32 {
-    match command {
-        Command::Link { jobs, .. }
-        | Command::Cat { jobs, .. }
-        | Command::List { jobs, .. }
-        | Command::Ls { jobs, .. }
-        | Command::Info { jobs, .. }
-        | Command::Extract { jobs, .. }
-        | Command::Verify { jobs, .. }
-        | Command::Serve { jobs, .. }
-        | Command::Gen { jobs, .. }
-        | Command::Describe { jobs, .. }
-        | Command::Help { jobs }
-        | Command::Version { jobs } => *jobs,
-    }
-}
-
-/// How many patterns a command includes, if it has such.
-fn included(command: &Command) -> Option<usize> {
-    match command {
-        Command::List {
-            include: Some(patterns),
-            ..
-        }
-        | Command::Extract {
-            include: Some(patterns),
-            ..
-        } => Some(patterns.len()),
-        _ => None,
-    }
-}
-
-/// Whether a command is this one.
-fn is_made(
-    command: &Command,
-    word: &str,
-    file: &[u8],
-    place: &[u8],
-    jobs: u32,
-    patterns: Option<usize>,
-) -> bool {
-    word_of(command) == word
-        && file_of(command) == file
-        && place_of(command) == place
-        && jobs_of(command) == jobs
-        && included(command) == patterns
-}
-
-/// Words, and the command that they make: its word, what it names, its jobs and its patterns.
-const MADE: &[(&str, &str, &[u8], &[u8], u32, Option<usize>)] = &[
-    ("cat img \"\"", "cat", b"img", b"", 1, None),
-    (
-        "cat --jobs=3 - /a/\u{1F600}",
-        "cat",
-        b"-",
-        b"/a/\xED\xA0\xBD\xED\xB8\x80",
-        3,
-        None,
+        "gen |/d| jobs 10 modules 256 classes 1 seed 18446744073709551615",
     ),
-    ("list img/", "list", b"img/", b"", 1, None),
-    (
-        "list --include *,a\\,b img",
-        "list",
-        b"img",
-        b"",
-        1,
-        Some(2),
-    ),
-    ("ls img /modules/", "ls", b"img", b"/modules/", 1, None),
-    ("info img", "info", b"img", b"", 1, None),
-    (
-        "extract --include=** img --dir=out///",
-        "extract",
-        b"img",
-        b"out",
-        1,
-        Some(1),
-    ),
-    ("verify img", "verify", b"img", b"", 1, None),
-    ("serve img", "serve", b"img", b"", 1, None),
-    ("describe f/", "describe", b"f/", b"", 1, None),
-    ("--help --jobs 2", "--help", b"", b"", 2, None),
-    ("--version", "--version", b"", b"", 1, None),
 ];
 
 #[test]
-fn all_commands(rt: HostRuntime) -> Result<(), Fail> {
-    for (words, word, file, place, jobs, patterns) in MADE {
-        match read(rt.alloc(), words)? {
-            Ok(command) => assert!(rt;
-                is_made(&command, word, file, place, *jobs, *patterns),
-                "{words}"
-            ),
-            Err(error) => assert!(rt; false, "{words}: {error}"),
+fn words_make_commands(rt: HostRuntime) -> Result<(), Fail> {
+    for rows in [ON_FILES, ALONE, MAKING] {
+        for (shows, words, want) in rows {
+            let told = told(rt.alloc(), words)?;
+            assert_eq!(rt; told.as_str(), *want, "{shows}");
         }
     }
     Ok(())
