@@ -41,7 +41,7 @@ pub fn show(alloc: Global, known: &Known, case: &Case, paths: &str) -> Result<St
     Ok(told)
 }
 
-/// The paths of the files below a folder. It takes a call of the shelf, and from then on none fails.
+/// The paths of the files below a folder. It takes a call of the shelf; from then on none fails.
 fn paths_below(
     alloc: Global,
     case: &mut Case,

@@ -7,7 +7,7 @@ const HEADER: [u8; 28] = [
     0xDA, 0xDA, 0xFE, 0xCA, 0, 0, 1, 0, 7, 0, 0, 0, 1, 0, 0, 0, 0, 0, 0, 0, 0, 0, 0, 0, 0, 0, 0, 0,
 ];
 
-/// What is shown; a place of the header, the byte that is put there, and the fault that comes of it.
+/// What is shown; a place of the header, the byte that is put there, and the fault that it makes.
 const FAULTS: &[(&str, usize, u8, HeaderFault)] = &[
     ("another first byte", 0, 0, HeaderFault::Magic),
     (

@@ -9,8 +9,8 @@ use std::io;
 use std::io::{ErrorKind, Read, Write};
 use std::test::Fail;
 
-/// What so many calls of a source give, each with room for two bytes, with a bar behind the bytes of
-/// each call; `!` is a fault.
+/// What so many calls of a source give, each with room for two bytes, with a bar behind the bytes
+/// of each call; `!` is a fault.
 pub fn given_by<I: Source>(alloc: Global, source: &mut I, calls: u32) -> Result<String, Fail> {
     let mut out = Vec::new(alloc);
     for _ in 0..calls {

@@ -12,8 +12,8 @@ use std::sync::ledger::{Blank, Ledger};
 use std::test::Fail;
 use std::thread::Threads;
 
-/// Tells a child behind a space: a name, or a module behind a 1 where the package is empty there and
-/// behind a 0 where it isn't.
+/// Tells a child behind a space: a name, or a module behind a 1 where the package is empty there
+/// and behind a 0 where it isn't.
 fn tell_child(alloc: Global, child: Child, out: &mut Vec<u8>) -> Result<(), NoMemory> {
     extend(out, b" ")?;
     match child {
