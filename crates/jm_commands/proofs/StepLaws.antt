@@ -156,7 +156,7 @@ module _ (due : Outcome) (old new : World) (files : new.shelf.told ≡ old.shelf
     answers = tt;
     output = put.output;
     files = stays_part due.writes old.shelf.told new.shelf.told files;
-    files_first = elim (put.memory refl) [ | inl is ↦ inl (unmade (ap (λ o. o.writes) is)) | inr unput ↦ inr unput ];
+    files_first = elim (put.memory refl) [ inl is ↦ inl (unmade (ap (λ o. o.writes) is)) | inr unput ↦ inr unput ];
     source = unread _;
     outside = λ failed. cc;
   }
