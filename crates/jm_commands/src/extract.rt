@@ -8,6 +8,7 @@ ghost use Rattle.jm_commands.specs.Run.{PutDoes, StepDoes};
 ghost use Rattle.jm_commands.specs.Sinks.{Seen};
 ghost use Rattle.jm_commands.specs.World.{shelf_at, sink_at, world};
 
+use crate::opened::Opened;
 use crate::output::put_output;
 use crate::stop::Stop;
 use itoa::Buffer;
@@ -15,7 +16,6 @@ use jm_bytes::{List, Meter, NoMemory, Text, extend};
 use jm_extract::{ExtractStop, extract};
 use jm_outside::{Shelf, Sink};
 use jm_pattern::Pattern;
-use jm_valid::Image;
 use std::alloc::Global;
 use std::marker::Brand;
 use std::sync::ledger::{Blank, Ledger};
@@ -44,46 +44,42 @@ fn put_count<O: Sink>(alloc: Global, count: usize, out: &mut O) -> Result<(), St
 /// Does what `extract` of jm_extract does, with a meter of its own.
 fn extract_counted<S: Shelf, R: Ledger>(
     alloc: Global,
-    image: &Image,
-    bytes: &[u8],
+    image: &Opened,
     include: &Option<List<Pattern>>,
     dir: &[u8],
     shelf: &mut S,
     reads: Blank,
 ) -> Result<usize, ExtractStop>
-    requires bytes { image.now ≡ bytes.now }
     requires text { IsUtf8 dir.now }
     requires reads_name { reads.name ≡ R.name }
     requires reads_parts { reads.parts ≡ R.parts }
     requires reads_some { 0 < reads.parts }
-    ensures extracts { Extracts (extracted bytes.now include.now) dir.now result
+    ensures extracts { Extracts (extracted image.now include.now) dir.now result
         (S.files shelf.old) (S.files shelf.new) }
     ensures faults { CountsFaults (S.faults shelf.old) (S.faults shelf.new)
         (IsErrOf result ExtractStop.Outside) }
 {
-    let mut reads = Meter::<R>::new(bytes, reads);
-    extract(alloc, image, include, dir, shelf, &mut reads)
+    let mut reads = Meter::<R>::new(image.bytes(), reads);
+    extract(alloc, image.as_image(), include, dir, shelf, &mut reads)
 }
 
-/// Makes, below the directory, a file of each taken entry of the image that these bytes are, and
-/// then puts how many they are. A refusal changes no file; if the put fails, all files stand.
+/// Makes, below the directory, a file of each taken entry of the image, and then puts how many they
+/// are. A refusal changes no file; if the put fails, all files stand.
 pub fn extract_command<S: Shelf, O: Sink>(
     alloc: Global,
-    image: &Image,
-    bytes: &[u8],
+    image: &Opened,
     include: &Option<List<Pattern>>,
     dir: &[u8],
     shelf: &mut S,
     out: &mut O,
 ) -> Result<(), Stop>
-    requires bytes { image.now ≡ bytes.now }
     requires text { IsUtf8 dir.now }
     ensures { (source : Seen (List ℕ)) →
-        StepDoes (extract_outcome dir.now (extracted bytes.now include.now)) result
+        StepDoes (extract_outcome dir.now (extracted image.now include.now)) result
         (world (shelf_at S.Shelf shelf.old) source (sink_at O.Sink out.old))
         (world (shelf_at S.Shelf shelf.new) source (sink_at O.Sink out.new)) }
 {
     let reads = Blank::new(1);
-    let count = extract_counted::<S, Brand>(alloc, image, bytes, include, dir, shelf, reads)?;
+    let count = extract_counted::<S, Brand>(alloc, image, include, dir, shelf, reads)?;
     put_count(alloc, count, out)
 }

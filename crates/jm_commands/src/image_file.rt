@@ -1,9 +1,9 @@
-ghost use Rattle.std.specs.Prelude.{◌≡◌, ◌<◌, IfOk, IsErrOf, IsUtf8};
+ghost use Rattle.std.specs.Prelude.{◌≡◌, ◌<◌, IsErrOf, IsUtf8};
 ghost use Rattle.jm_form.specs.Validity.{look};
 ghost use Rattle.jm_outside.specs.Outcome.{CountsFaults};
 ghost use Rattle.jm_commands.specs.Cat.{CatDoes};
 ghost use Rattle.jm_commands.specs.Outcome.{FolderIsText, cat_outcome, image_outcome, reading};
-ghost use Rattle.jm_commands.specs.Run.{ImageComes, Opens, PutDoes, ReadsFile, StepComesTo};
+ghost use Rattle.jm_commands.specs.Run.{ImageComes, PutDoes, ReadsFile, StepComesTo};
 ghost use Rattle.jm_commands.specs.Run.{StepOnText, TextComesTo};
 ghost use Rattle.jm_commands.specs.World.{sink_at, world_of};
 
@@ -13,6 +13,7 @@ use crate::extract::extract_command;
 use crate::info::info_command;
 use crate::listing::list_command;
 use crate::ls::ls_command;
+use crate::opened::Opened;
 use crate::serve::serve_command;
 use crate::stop::Stop;
 use crate::verify::verify_command;
@@ -22,7 +23,6 @@ use jm_halves::Gate;
 use jm_names::to_utf8;
 use jm_outside::{Shelf, Sink, SinkError, Source};
 use jm_pattern::Pattern;
-use jm_valid::{Image, OpenError, open_image};
 use std::alloc::Global;
 use std::marker::Brand;
 use std::sync::ledger::{Blank, Ledger};
@@ -68,61 +68,36 @@ pub fn file_bytes<S: Shelf>(alloc: Global, path: &Text, shelf: &mut S) -> Result
     }
 }
 
-/// Opens the image that these bytes are, on all jobs.
-pub fn opened<'a, T: Threads + Sync, G: Gate + Sync>(
-    workers: &Workers<T, G>,
-    bytes: &'a [u8],
-) -> Result<Image<'a>, Stop>
-    requires { 0 < workers.now.jobs }
-    ensures same { IfOk result (λ image. image ≡ bytes.now) }
-    ensures opens { Opens bytes.now result }
-{
-    match open_image(workers.rt, workers.alloc, workers.jobs, bytes, workers.gate) {
-        Ok(image) => Ok(image),
-        Err(OpenError::Damaged(damage)) => Err(Stop::Complaint(Complaint::Damaged(damage))),
-        Err(OpenError::Memory) => Err(Stop::Memory),
-    }
-}
-
 /// Does what `cat_command` does, with counters of its own.
 fn cat_counted<O: Sink, H: Ledger, R: Ledger>(
     alloc: Global,
-    image: &Image,
-    bytes: &[u8],
+    image: &Opened,
     name: &[u8],
     out: &mut O,
     hashes: Blank,
     reads: Blank,
 ) -> Result<bool, SinkError>
-    requires bytes { image.now ≡ bytes.now }
     requires hashes_name { hashes.name ≡ H.name }
     requires hashes_parts { hashes.parts ≡ H.parts }
     requires hashes_some { 0 < hashes.parts }
     requires reads_name { reads.name ≡ R.name }
     requires reads_parts { reads.parts ≡ R.parts }
     requires reads_some { 0 < reads.parts }
-    ensures { CatDoes (look bytes.now name.now) result
+    ensures { CatDoes (look image.now name.now) result
         (sink_at O.Sink out.old) (sink_at O.Sink out.new) }
 {
     let mut hashes = Steps::<H>::new(hashes);
-    let mut reads = Meter::<R>::new(bytes, reads);
-    cat_command(alloc, image, name, out, &mut hashes, &mut reads)
+    let mut reads = Meter::<R>::new(image.bytes(), reads);
+    cat_command(alloc, image.as_image(), name, out, &mut hashes, &mut reads)
 }
 
-/// `cat`: the content of the entry of a name of the image that these bytes are.
-fn cat_step<O: Sink>(
-    alloc: Global,
-    image: &Image,
-    bytes: &[u8],
-    name: &[u8],
-    out: &mut O,
-) -> Result<(), Stop>
-    requires { image.now ≡ bytes.now }
-    ensures { PutDoes (cat_outcome name.now (look bytes.now name.now)) result
+/// `cat`: the content of the entry of a name of the image.
+fn cat_step<O: Sink>(alloc: Global, image: &Opened, name: &[u8], out: &mut O) -> Result<(), Stop>
+    ensures { PutDoes (cat_outcome name.now (look image.now name.now)) result
         (sink_at O.Sink out.old) (sink_at O.Sink out.new) }
 {
     let (hashes, reads) = (Blank::new(1), Blank::new(1));
-    let there = cat_counted::<O, Brand, Brand>(alloc, image, bytes, name, out, hashes, reads)?;
+    let there = cat_counted::<O, Brand, Brand>(alloc, image, name, out, hashes, reads)?;
     if there {
         return Ok(());
     }
@@ -130,32 +105,30 @@ fn cat_step<O: Sink>(
     Err(Stop::Complaint(Complaint::NotThere(text)))
 }
 
-/// Does a task on an image, which these bytes are.
+/// Does a task on an image.
 fn do_task<S: Shelf, I: Source, O: Sink>(
     alloc: Global,
     task: &ImageTask,
-    image: &Image,
-    bytes: &[u8],
+    image: &Opened,
     shelf: &mut S,
     input: &mut I,
     out: &mut O,
 ) -> Result<(), Stop>
-    requires bytes { image.now ≡ bytes.now }
     requires text { FolderIsText task.now }
-    ensures { StepOnText (image_outcome task.now bytes.now) result
+    ensures { StepOnText (image_outcome task.now image.now) result
         (world_of S.Shelf I.Source O.Sink shelf.old input.old out.old)
         (world_of S.Shelf I.Source O.Sink shelf.new input.new out.new) }
 {
     match task {
-        ImageTask::Cat { name } => cat_step(alloc, image, bytes, name.as_slice(), out),
-        ImageTask::List { include } => list_command(alloc, image, bytes, include, out),
-        ImageTask::Ls { path } => ls_command(alloc, image, bytes, path.as_slice(), out),
+        ImageTask::Cat { name } => cat_step(alloc, image, name.as_slice(), out),
+        ImageTask::List { include } => list_command(alloc, image, include, out),
+        ImageTask::Ls { path } => ls_command(alloc, image, path.as_slice(), out),
         ImageTask::Info => info_command(alloc, image, out),
         ImageTask::Extract { dir, include } => {
-            extract_command(alloc, image, bytes, include, dir.as_slice(), shelf, out)
+            extract_command(alloc, image, include, dir.as_slice(), shelf, out)
         }
         ImageTask::Verify => verify_command(alloc, image, out),
-        ImageTask::Serve => serve_command(alloc, image, bytes, input, out),
+        ImageTask::Serve => serve_command(alloc, image, input, out),
     }
 }
 
@@ -179,8 +152,8 @@ pub fn on_image<T: Threads + Sync, S: Shelf, I: Source, O: Sink, G: Gate + Sync>
     match file_bytes(workers.alloc, path, shelf) {
         Ok(bytes) => {
             let bytes = bytes.as_slice();
-            match opened(workers, bytes) {
-                Ok(image) => do_task(workers.alloc, task, &image, bytes, shelf, input, out),
+            match Opened::of(workers, bytes) {
+                Ok(image) => do_task(workers.alloc, task, &image, shelf, input, out),
                 Err(stop) => Err(stop),
             }
         }

@@ -12,6 +12,7 @@ mod info;
 mod link;
 mod listing;
 mod ls;
+mod opened;
 mod output;
 mod pieces;
 mod program;

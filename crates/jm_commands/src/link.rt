@@ -12,7 +12,8 @@ ghost use Rattle.jm_commands.specs.Run.{PathLinkComesTo, PutDoes, StepComesTo};
 ghost use Rattle.jm_commands.specs.Sinks.{Seen};
 ghost use Rattle.jm_commands.specs.World.{shelf_at, sink_at, world};
 
-use crate::image_file::{file_bytes, opened};
+use crate::image_file::file_bytes;
+use crate::opened::Opened;
 use crate::output::put_output;
 use crate::stop::Stop;
 use crate::workers::Workers;
@@ -20,7 +21,6 @@ use jm_bytes::{Meter, Text};
 use jm_halves::Gate;
 use jm_link::{Asked, LinkStop, Summary, link, link_image};
 use jm_outside::{Shelf, Sink};
-use jm_valid::Image;
 use jm_words::Command;
 use std::alloc::{AllocError, Global};
 use std::marker::Brand;
@@ -90,59 +90,48 @@ fn link_from_path<T: Threads + Sync, S: Shelf, O: Sink, G: Gate + Sync>(
 fn link_counted<T: Threads + Sync, S: Shelf, G: Gate + Sync, R: Ledger>(
     workers: &Workers<T, G>,
     asked: &Asked,
-    image: &Image,
-    bytes: &[u8],
+    image: &Opened,
     shelf: &mut S,
     reads: Blank,
 ) -> Result<Summary, LinkStop>
     requires jobs { 0 < workers.now.jobs }
-    requires bytes { image.now ≡ bytes.now }
     requires output { IsUtf8 asked.now.output.now }
     requires reads_name { reads.name ≡ R.name }
     requires reads_parts { reads.parts ≡ R.parts }
     requires reads_some { 0 < reads.parts }
-    ensures { ImageLinks bytes.now (request_of asked.now) asked.now.output.now result
+    ensures { ImageLinks image.now (request_of asked.now) asked.now.output.now result
         (S.files shelf.old) (S.files shelf.new) (S.faults shelf.old) (S.faults shelf.new) }
 {
-    let mut reads = Meter::<R>::new(bytes, reads);
+    let mut reads = Meter::<R>::new(image.bytes(), reads);
     link_image(
         workers.rt,
         workers.alloc,
         workers.jobs,
         asked,
-        image,
+        image.as_image(),
         &mut reads,
         shelf,
         workers.gate,
     )
 }
 
-/// Links the modules of an image, which these bytes are, and puts what the new image has.
+/// Links the modules of an image, and puts what the new image has.
 fn link_opened<T: Threads + Sync, S: Shelf, O: Sink, G: Gate + Sync>(
     workers: &Workers<T, G>,
     words: &LinkWords,
-    image: &Image,
-    bytes: &[u8],
+    image: &Opened,
     shelf: &mut S,
     out: &mut O,
 ) -> Result<(), Stop>
     requires jobs { 0 < workers.now.jobs }
-    requires bytes { image.now ≡ bytes.now }
     requires output { IsUtf8 words.now.asked.output.now }
     ensures { (source : Seen (List ℕ)) →
-        StepComesTo (ImageLinkComesTo (link_from words.now) bytes.now) reading result
+        StepComesTo (ImageLinkComesTo (link_from words.now) image.now) reading result
         (world (shelf_at S.Shelf shelf.old) source (sink_at O.Sink out.old))
         (world (shelf_at S.Shelf shelf.new) source (sink_at O.Sink out.new)) }
 {
     let reads = Blank::new(1);
-    let summary = link_counted::<T, S, G, Brand>(
-        workers,
-        &words.asked,
-        image,
-        bytes,
-        shelf,
-        reads,
-    )?;
+    let summary = link_counted::<T, S, G, Brand>(workers, &words.asked, image, shelf, reads)?;
     put_summary(workers.alloc, &summary, out)
 }
 
@@ -167,8 +156,8 @@ fn link_from_image<T: Threads + Sync, S: Shelf, O: Sink, G: Gate + Sync>(
     match file_bytes(workers.alloc, path, shelf) {
         Ok(bytes) => {
             let bytes = bytes.as_slice();
-            match opened(workers, bytes) {
-                Ok(image) => link_opened(workers, words, &image, bytes, shelf, out),
+            match Opened::of(workers, bytes) {
+                Ok(image) => link_opened(workers, words, &image, shelf, out),
                 Err(stop) => Err(stop),
             }
         }

@@ -6,6 +6,7 @@ ghost use Rattle.jm_commands.specs.Run.{PutDoes};
 ghost use Rattle.jm_extract.specs.Taken.{taken_as};
 ghost use Rattle.jm_commands.specs.World.{sink_at};
 
+use crate::opened::Opened;
 use crate::pieces::put_full;
 use crate::stop::Stop;
 use itoa::Buffer;
@@ -14,7 +15,6 @@ use jm_extract::{TakenEntry, taken};
 use jm_names::extend_utf8;
 use jm_outside::{Sink, SinkError};
 use jm_pattern::Pattern;
-use jm_valid::Image;
 use std::alloc::Global;
 use std::marker::Brand;
 use std::sync::ledger::{Blank, Ledger};
@@ -61,36 +61,32 @@ fn put_lines<O: Sink>(alloc: Global, entries: &[TakenEntry], out: &mut O) -> Res
 /// Puts the text of `list`, with a meter of its own.
 fn put_list<O: Sink, R: Ledger>(
     alloc: Global,
-    image: &Image,
-    bytes: &[u8],
+    image: &Opened,
     include: &Option<List<Pattern>>,
     out: &mut O,
     reads: Blank,
 ) -> Result<(), SinkError>
-    requires bytes { image.now ≡ bytes.now }
     requires reads_name { reads.name ≡ R.name }
     requires reads_parts { reads.parts ≡ R.parts }
     requires reads_some { 0 < reads.parts }
-    ensures { PutsText (list_text bytes.now include.now) result
+    ensures { PutsText (list_text image.now include.now) result
         (sink_at O.Sink out.old) (sink_at O.Sink out.new) }
 {
-    let mut reads = Meter::<R>::new(bytes, reads);
-    let entries = taken(alloc, image, include, &mut reads)?;
+    let mut reads = Meter::<R>::new(image.bytes(), reads);
+    let entries = taken(alloc, image.as_image(), include, &mut reads)?;
     put_lines(alloc, entries.as_slice(), out)
 }
 
-/// Puts the lines of the taken entries of the image that these bytes are, piece by piece.
+/// Puts the lines of the taken entries of the image, piece by piece.
 pub fn list_command<O: Sink>(
     alloc: Global,
-    image: &Image,
-    bytes: &[u8],
+    image: &Opened,
     include: &Option<List<Pattern>>,
     out: &mut O,
 ) -> Result<(), Stop>
-    requires { image.now ≡ bytes.now }
-    ensures { PutDoes (done (list_text bytes.now include.now)) result
+    ensures { PutDoes (done (list_text image.now include.now)) result
         (sink_at O.Sink out.old) (sink_at O.Sink out.new) }
 {
-    put_list::<O, Brand>(alloc, image, bytes, include, out, Blank::new(1))?;
+    put_list::<O, Brand>(alloc, image, include, out, Blank::new(1))?;
     Ok(())
 }

@@ -8,13 +8,13 @@ ghost use Rattle.jm_commands.specs.Run.{PutDoes, outcome_of};
 ghost use Rattle.jm_commands.specs.World.{sink_at};
 
 use crate::complaint::Complaint;
+use crate::opened::Opened;
 use crate::pieces::{PIECE, put_piece};
 use crate::stop::Stop;
 use jm_bytes::{Meter, NoMemory, Steps};
 use jm_jrt::{ChildList, JrtError, children, extend_next_children};
 use jm_names::to_utf8;
 use jm_outside::{Sink, SinkError};
-use jm_valid::Image;
 use std::alloc::Global;
 use std::marker::Brand;
 use std::sync::ledger::{Blank, Ledger};
@@ -69,44 +69,39 @@ fn put_listing<O: Sink, R: Ledger>(
 /// Does what `ls_command` does, with counters of its own.
 fn ls_counted<O: Sink, H: Ledger, R: Ledger>(
     alloc: Global,
-    image: &Image,
-    bytes: &[u8],
+    image: &Opened,
     path: &[u8],
     out: &mut O,
     hashes: Blank,
     reads: Blank,
 ) -> Result<(), Stop>
-    requires bytes { image.now ≡ bytes.now }
     requires hashes_name { hashes.name ≡ H.name }
     requires hashes_parts { hashes.parts ≡ H.parts }
     requires hashes_some { 0 < hashes.parts }
     requires reads_name { reads.name ≡ R.name }
     requires reads_parts { reads.parts ≡ R.parts }
     requires reads_some { 0 < reads.parts }
-    ensures { PutDoes (ls_outcome path.now (held (stat bytes.now path.now))) result
+    ensures { PutDoes (ls_outcome path.now (held (stat image.now path.now))) result
         (sink_at O.Sink out.old) (sink_at O.Sink out.new) }
 {
     let mut hashes = Steps::<H>::new(hashes);
-    let mut reads = Meter::<R>::new(bytes, reads);
-    match children(image, path, &mut hashes, &mut reads) {
+    let mut reads = Meter::<R>::new(image.bytes(), reads);
+    match children(image.as_image(), path, &mut hashes, &mut reads) {
         Ok(mut list) => put_listing(alloc, path, &mut list, out, &mut reads),
         Err(error) => Err(Stop::Complaint(ls_complaint(alloc, path, error)?)),
     }
 }
 
-/// `ls`: the children of the folder at a path of the image that these bytes are, in the image's
-/// order.
+/// `ls`: the children of the folder at a path of the image, in the image's order.
 pub fn ls_command<O: Sink>(
     alloc: Global,
-    image: &Image,
-    bytes: &[u8],
+    image: &Opened,
     path: &[u8],
     out: &mut O,
 ) -> Result<(), Stop>
-    requires { image.now ≡ bytes.now }
-    ensures { PutDoes (ls_outcome path.now (held (stat bytes.now path.now))) result
+    ensures { PutDoes (ls_outcome path.now (held (stat image.now path.now))) result
         (sink_at O.Sink out.old) (sink_at O.Sink out.new) }
 {
     let (hashes, reads) = (Blank::new(1), Blank::new(1));
-    ls_counted::<O, Brand, Brand>(alloc, image, bytes, path, out, hashes, reads)
+    ls_counted::<O, Brand, Brand>(alloc, image, path, out, hashes, reads)
 }

@@ -11,11 +11,11 @@ ghost use Rattle.jm_commands.specs.Stops.{stop_of_session};
 ghost use Rattle.jm_commands.specs.World.{sink_at, source_at, world};
 
 use crate::complaint::Complaint;
+use crate::opened::Opened;
 use crate::stop::Stop;
 use jm_bytes::{Meter, Steps};
 use jm_jrt::{ServeError, serve};
 use jm_outside::{Sink, Source};
-use jm_valid::Image;
 use std::alloc::Global;
 use std::marker::Brand;
 use std::sync::ledger::{Blank, Ledger};
@@ -23,21 +23,19 @@ use std::sync::ledger::{Blank, Ledger};
 /// Does what `serve` of jm_jrt does, with counters of its own.
 fn serve_counted<I: Source, O: Sink, H: Ledger, R: Ledger>(
     alloc: Global,
-    image: &Image,
-    bytes: &[u8],
+    image: &Opened,
     input: &mut I,
     out: &mut O,
     hashes: Blank,
     reads: Blank,
 ) -> Result<u64, ServeError>
-    requires bytes { image.now ≡ bytes.now }
     requires hashes_name { hashes.name ≡ H.name }
     requires hashes_parts { hashes.parts ≡ H.parts }
     requires hashes_some { 0 < hashes.parts }
     requires reads_name { reads.name ≡ R.name }
     requires reads_parts { reads.parts ≡ R.parts }
     requires reads_some { 0 < reads.parts }
-    ensures serves { (before : Metered) × (after : Metered) × Serves bytes.now result
+    ensures serves { (before : Metered) × (after : Metered) × Serves image.now result
         (I.rest input.old) (I.rest input.new) (O.content out.old) (O.content out.new)
         before after }
     ensures input_faults { CountsFaults (I.faults input.old) (I.faults input.new)
@@ -46,8 +44,8 @@ fn serve_counted<I: Source, O: Sink, H: Ledger, R: Ledger>(
         (IsErrOf result ServeError.WriteFault) }
 {
     let mut hashes = Steps::<H>::new(hashes);
-    let mut reads = Meter::<R>::new(bytes, reads);
-    serve(alloc, image, input, out, &mut hashes, &mut reads)
+    let mut reads = Meter::<R>::new(image.bytes(), reads);
+    serve(alloc, image.as_image(), input, out, &mut hashes, &mut reads)
 }
 
 /// How the step of a session ends.
@@ -68,20 +66,16 @@ fn stop_of_session(answered: Result<u64, ServeError>) -> Result<(), Stop>
 /// or the session breaks its limits. The shelf of the run isn't lent to it.
 pub fn serve_command<I: Source, O: Sink>(
     alloc: Global,
-    image: &Image,
-    bytes: &[u8],
+    image: &Opened,
     input: &mut I,
     out: &mut O,
 ) -> Result<(), Stop>
-    requires { image.now ≡ bytes.now }
     ensures { (shelf : Seen Files) →
-        StepOnText (session_outcome bytes.now) result
+        StepOnText (session_outcome image.now) result
         (world shelf (source_at I.Source input.old) (sink_at O.Sink out.old))
         (world shelf (source_at I.Source input.new) (sink_at O.Sink out.new)) }
 {
     let (hashes, reads) = (Blank::new(1), Blank::new(1));
-    let answered = serve_counted::<I, O, Brand, Brand>(
-        alloc, image, bytes, input, out, hashes, reads,
-    );
+    let answered = serve_counted::<I, O, Brand, Brand>(alloc, image, input, out, hashes, reads);
     stop_of_session(answered)
 }

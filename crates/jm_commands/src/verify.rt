@@ -5,10 +5,10 @@ ghost use Rattle.jm_commands.specs.Run.{PutDoes};
 ghost use Rattle.jm_commands.specs.VerifyText.{verify_text};
 ghost use Rattle.jm_commands.specs.World.{sink_at};
 
+use crate::opened::Opened;
 use crate::output::put_output;
 use crate::stop::Stop;
 use jm_outside::Sink;
-use jm_valid::Image;
 use std::alloc::{AllocError, Global};
 
 /// The line on a number of entries.
@@ -20,10 +20,10 @@ fn valid_line(alloc: Global, count: u32) -> Result<String, AllocError>
 }
 
 /// `verify`: the number of entries of an image, which has no damage.
-pub fn verify_command<O: Sink>(alloc: Global, image: &Image, out: &mut O) -> Result<(), Stop>
+pub fn verify_command<O: Sink>(alloc: Global, image: &Opened, out: &mut O) -> Result<(), Stop>
     ensures { PutDoes (done (verify_text image.now)) result
         (sink_at O.Sink out.old) (sink_at O.Sink out.new) }
 {
-    let line = valid_line(alloc, image.header().count)?;
+    let line = valid_line(alloc, image.as_image().header().count)?;
     put_output(alloc, line.as_bytes(), out)
 }

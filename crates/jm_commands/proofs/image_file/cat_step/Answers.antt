@@ -12,13 +12,13 @@ returns-in_err-there g c =
     let put = c.in_err-there.ensures in
     let error = c.in_err-there.field-0.0 in
     let is = from_stop c.from_residual.result _ c.from_residual.ensures.1 in
-    rw is (content_unput (look c.args.bytes.now c.args.name.now) c.args.name.now error _ _ put.an_entry put.front
+    rw is (content_unput (look c.args.image.now c.args.name.now) c.args.name.now error _ _ put.an_entry put.front
     (λ failed. put.faults.rose (rw failed refl)) (λ failed. put.memory (rw failed refl)))
 
 pub returns-then-there : goal.returns-then-there
 returns-then-there g c =
     let put = c.in_ok-there.ensures in
-    content_put (look c.args.bytes.now c.args.name.now) c.args.name.now _ _ (sym c.if-there.true ∙ put.there) put.put
+    content_put (look c.args.image.now c.args.name.now) c.args.name.now _ _ (sym c.if-there.true ∙ put.there) put.put
 
 pub returns-in_err-text : goal.returns-in_err-text
 returns-in_err-text g c =
@@ -29,5 +29,5 @@ returns-in_err-text g c =
 pub returns : goal.returns
 returns g c =
     let put = c.in_ok-there.ensures in
-    let found = nothing_found (look c.args.bytes.now c.args.name.now) c.args.name.now (sym c.if-there.false ∙ put.there) in
+    let found = nothing_found (look c.args.image.now c.args.name.now) c.args.name.now (sym c.if-there.false ∙ put.there) in
     rw (found, c.in_ok-text.ensures.utf) (complained (not_there (utf c.args.name.now)) (complaint.NotThere (utf c.args.name.now)) _ _ refl (put.nothing (ap (λ there. Ok there) c.if-there.false)))

@@ -10,7 +10,7 @@ use Rattle.jm_commands.proofs.image_file.do_task.Goals as goal
 pub returns-in-Cat : goal.returns-in-Cat
 returns-in-Cat g c =
     let name = c.as_slice.result.now in
-    let found = look c.args.bytes.now name in
+    let found = look c.args.image.now name in
     rw c.in-Cat.is (put_on_text _ (cat_outcome name found) _ _ _ c.cat_step.ensures refl refl (cat_session name found) (λ text. rw c.as_slice.ensures refl))
 
 pub returns-in-List : goal.returns-in-List
@@ -19,24 +19,22 @@ returns-in-List g c =
 
 pub returns-in-Info : goal.returns-in-Info
 returns-in-Info g c =
-    let put = rw c.requires.bytes at c.info_command.ensures in
-    rw c.in-Info.is (put_on_text _ _ _ _ _ put refl refl refl (λ text. refl))
+    rw c.in-Info.is (put_on_text _ _ _ _ _ c.info_command.ensures refl refl refl (λ text. refl))
 
 pub returns-in-Extract : goal.returns-in-Extract
 returns-in-Extract g c =
     let dir = c.as_slice-in-Extract.result.now in
-    let due = extracted c.args.bytes.now c.in-Extract.include in
+    let due = extracted c.args.image.now c.in-Extract.include in
     rw c.in-Extract.is (on_any_text _ (extract_outcome dir due) _ _ _ (λ text. rw c.as_slice-in-Extract.ensures refl) (c.extract_command.ensures _))
 
 pub returns-in-Verify : goal.returns-in-Verify
 returns-in-Verify g c =
-    let put = rw c.requires.bytes at c.verify_command.ensures in
-    rw c.in-Verify.is (put_on_text _ _ _ _ _ put refl refl refl (λ text. refl))
+    rw c.in-Verify.is (put_on_text _ _ _ _ _ c.verify_command.ensures refl refl refl (λ text. refl))
 
 pub returns-in-Ls : goal.returns-in-Ls
 returns-in-Ls g c =
     let path = c.as_slice-in-Ls.result.now in
-    let holds = held (stat c.args.bytes.now path) in
+    let holds = held (stat c.args.image.now path) in
     rw c.in-Ls.is (put_on_text _ (ls_outcome path holds) _ _ _ c.ls_command.ensures refl refl (ls_session path holds) (λ text. rw c.as_slice-in-Ls.ensures refl))
 
 pub returns-in-Serve : goal.returns-in-Serve

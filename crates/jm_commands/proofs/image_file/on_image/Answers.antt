@@ -5,13 +5,14 @@ use Rattle.jm_commands.specs.Run.{OpenedComesTo, TextComesTo}
 use Rattle.jm_commands.proofs.StepLaws.{file_read, file_unread, image_unopened}
 use Rattle.jm_commands.proofs.image_file.on_image.Goals as goal
 
-pub returns-in-Ok-opened : goal.returns-in-Ok-opened
-returns-in-Ok-opened g c =
+pub returns-in-Ok-of : goal.returns-in-Ok-of
+returns-in-Ok-of g c =
     let read = c.in-Ok.ensures in
     let b = c.as_slice-bytes.result.now in
     let due : List ℕ → Outcome → Type 0 = λ bytes. TextComesTo (g.I.Source.rest c.args.input.now) (image_outcome c.args.task.now bytes) in
+    let does = rw c.in-Ok-of.ensures.same at c.do_task.ensures in
     file_read (λ bytes. OpenedComesTo (due bytes) (first_damage bytes)) c.args.path.now b _ _ _ _
-    (rw c.as_slice-bytes.ensures read.reads) read.files read.faults.count (rw c.in-Ok-opened.ensures.opens c.do_task.ensures)
+    (rw c.as_slice-bytes.ensures read.reads) read.files read.faults.count (rw c.in-Ok-of.ensures.opens does)
 
 pub returns-in-Ok : goal.returns-in-Ok
 returns-in-Ok g c =
@@ -19,7 +20,7 @@ returns-in-Ok g c =
     let b = c.as_slice-bytes.result.now in
     let due : List ℕ → Outcome → Type 0 = λ bytes. TextComesTo (g.I.Source.rest c.args.input.now) (image_outcome c.args.task.now bytes) in
     file_read (λ bytes. OpenedComesTo (due bytes) (first_damage bytes)) c.args.path.now b _ _ _ _
-    (rw c.as_slice-bytes.ensures read.reads) read.files read.faults.count (image_unopened (due b) b c.in-Err-opened.stop _ c.in-Err-opened.ensures.opens)
+    (rw c.as_slice-bytes.ensures read.reads) read.files read.faults.count (image_unopened (due b) b c.in-Err-of.stop _ c.in-Err-of.ensures.opens)
 
 pub returns : goal.returns
 returns g c =

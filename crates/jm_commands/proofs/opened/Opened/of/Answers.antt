@@ -1,6 +1,6 @@
 use Rattle.std.proofs.Common.{refl}
 use Rattle.jm_form.proofs.Validity.{valid_sound}
-use Rattle.jm_commands.proofs.image_file.opened.Goals as goal
+use Rattle.jm_commands.proofs.opened.Opened.of.Goals as goal
 
 pub returns-in-Ok-clause-opens : goal.returns-in-Ok-clause-opens
 returns-in-Ok-clause-opens g c = valid_sound c.args.bytes.now c.in-Ok.ensures.valid
