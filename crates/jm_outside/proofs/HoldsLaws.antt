@@ -1,5 +1,5 @@
 -- Bytes that are added to a file, one piece after another.
-use Rattle.std.proofs.Common.{◌≡◌, inl, inr, ℕ, ◌+◌, ◌≤◌, true, cond, List, [], ◌∷◌, ◌++◌, length, take, Option, Some, None, option_map, unwrap_or, refl, sym, ap, ◌∙◌, subst, arith, length-append}
+use Rattle.std.proofs.Common.{◌≡◌, inl, inr, ℕ, ◌+◌, true, cond, List, [], ◌∷◌, ◌++◌, length, take, Option, Some, None, option_map, unwrap_or, refl, sym, ap, ◌∙◌, subst, arith, length-append}
 use Rattle.std.specs.Ordering.{is_eq, nat_cmp, match_ordering}
 use Rattle.std.specs.declared.cmp.Ordering.{Ordering}
 use Rattle.std.specs.declared.cmp.Ordering.TheVariants.{Less, Equal, Greater}
@@ -9,7 +9,7 @@ use Rattle.std.proofs.lemmas.List.{take-append-le}
 use Rattle.std.proofs.Math.Seq.{take-append-add, take-append_seam}
 use Rattle.std.proofs.lemmas.Map.Text.{is_eq-slice_cmp}
 use Rattle.jm_outside.specs.Files.{Files, file, put, add}
-use Rattle.jm_outside.specs.Outcome.{AddsFront, AsBeforeOrEmpty, CountsFaults, Rose, Told}
+use Rattle.jm_outside.specs.Outcome.{AddsFront, AsBeforeOrEmpty, Told}
 use Rattle.jm_outside.proofs.Laws.{file-put}
 use Rattle.jm_outside.specs.Holds.{Holds, HoldsPart}
 
@@ -83,14 +83,3 @@ part_made None new path bytes told = tt
 part_made (Some old) None path bytes told = told
 part_made (Some old) (Some new) path bytes (inl same) = inl same
 part_made (Some old) (Some new) path bytes (inr empty) = inr (0, omega arith, empty)
-
--- a call that didn't fail, and then another one
-pub counts_further : (old now new : ℕ) (failed : Type 0) → old ≤ now → CountsFaults now new failed → CountsFaults old new failed
-counts_further old now new failed up counts = record {
-  count = let more = counts.count in omega arith;
-  rose = λ is. rises (counts.rose is);
-}
-  where
-    rises : Rose now new → Rose old new
-    rises (inl less) = inl (omega arith)
-    rises (inr last) = inr last

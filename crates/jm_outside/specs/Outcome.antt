@@ -32,7 +32,9 @@ PutsFront old new bytes = (n : ℕ) × (n ≤ length bytes) × (new ≡ old ++ t
 abbrev pub Rose : ℕ → ℕ → Type 0
 Rose old new = (old < new) ⊎ (new ≡ 2 ^ 64 - 1)
 
--- a count of faults over a call: it never falls, and it rose where the call failed
-pub record CountsFaults (old new : ℕ) (failed : Type 0) : Type 0 where
+-- a count of faults over a call: it never falls, it stays where the call answers Ok, and it rose
+-- where the call failed
+pub record CountsFaults (old new : ℕ) (ok failed : Type 0) : Type 0 where
   pub count : old ≤ new
+  pub kept : ok → new ≡ old
   pub rose : failed → Rose old new

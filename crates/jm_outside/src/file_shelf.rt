@@ -1,4 +1,4 @@
-ghost use Rattle.std.specs.Prelude.{◌≡◌, None, Ok, IfOk, IsErrOf};
+ghost use Rattle.std.specs.Prelude.{◌≡◌, None, Ok, is_none, IsOk, IfOk, IsErrOf};
 ghost use Rattle.jm_outside.specs.Outcome.{CountsFaults};
 
 use crate::contents::{KeptFile, append_at, create_at, read_at};
@@ -61,7 +61,7 @@ impl<'a, R: Files + AllocGlobal> FileShelf<'a, R> {
         answer: Result<T, FileError>,
     ) -> Result<T, ShelfError>
         ensures answer { IfOk result (λ value. answer ≡ Ok value) }
-        ensures faults { CountsFaults self.old.faults self.new.faults
+        ensures faults { CountsFaults self.old.faults self.new.faults (IsOk result)
             (IsErrOf result ShelfError.Failed) }
     {
         match answer {
@@ -80,6 +80,8 @@ impl<'a, R: Files + AllocGlobal> Shelf for FileShelf<'a, R> {
     ghost files = { λ _. None };
 
     ghost faults = { λ shelf. shelf.faults };
+
+    ghost whole = { λ shelf. is_none shelf.made_last };
 
     /// Goes through the folder to any depth. A symbolic link below it that leads to a file counts
     /// as a file. Any other link is left out, and none is entered, so that no link leads out of the
@@ -115,6 +117,11 @@ impl<'a, R: Files + AllocGlobal> Shelf for FileShelf<'a, R> {
             _ => append_at(self.rt, path, bytes),
         };
         self.judge(alloc, path, answer)
+    }
+
+    fn finish(&mut self, _alloc: Global) -> Result<(), ShelfError> {
+        self.made_last = None;
+        Ok(())
     }
 
     ghost sound = { λ _. tt };

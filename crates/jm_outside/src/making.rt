@@ -1,4 +1,4 @@
-ghost use Rattle.std.specs.Prelude.{◌∷◌, [], IsUtf8, OnOk, OnErr, IsErrOf};
+ghost use Rattle.std.specs.Prelude.{◌∷◌, [], IsUtf8, IsOk, OnOk, OnErr, IsErrOf};
 ghost use Rattle.jm_outside.specs.Outcome.{CountsFaults};
 ghost use Rattle.jm_outside.specs.Made.{MadeAll, MadePart};
 
@@ -20,7 +20,7 @@ pub fn make_file<S: Shelf>(
         (MadeAll ((path.now, bytes.now) ∷ []) (S.files shelf.old) (S.files shelf.new)) }
     ensures err { OnErr result
         (MadePart ((path.now, bytes.now) ∷ []) (S.files shelf.old) (S.files shelf.new)) }
-    ensures faults { CountsFaults (S.faults shelf.old) (S.faults shelf.new)
+    ensures faults { CountsFaults (S.faults shelf.old) (S.faults shelf.new) (IsOk result)
         (IsErrOf result ShelfError.Failed) }
 {
     shelf.create(alloc, path)?;

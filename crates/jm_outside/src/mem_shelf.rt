@@ -1,5 +1,5 @@
-ghost use Rattle.std.specs.Prelude.{◌≡◌, ◌/◌, ◌↔◌, [], Some, All, IsUtf8, IfOk, OnOk, OnErr};
-ghost use Rattle.std.specs.Prelude.{IsErrOf, option_map};
+ghost use Rattle.std.specs.Prelude.{◌≡◌, ◌/◌, ◌↔◌, [], Some, true, All, IsUtf8, IsOk, IfOk, OnOk};
+ghost use Rattle.std.specs.Prelude.{OnErr, IsErrOf, option_map};
 ghost use Rattle.std.specs.List.Sorted.{IsStrictlySortedBy-prop};
 ghost use Rattle.std.proofs.lemmas.Str.{IsUtf8-had};
 ghost use Rattle.jm_outside.specs.Files.{Rising, paths, file, put, add, names_below};
@@ -73,6 +73,9 @@ impl Shelf for MemShelf {
 
     ghost faults = { λ shelf. (calls_of shelf).faults };
 
+    // A file in memory has its own name from the start.
+    ghost whole = { λ _. true };
+
     /// A listed call answers `Failed`.
     fn names(&mut self, alloc: Global, dir: &[u8]) -> Result<List<Text>, ShelfError>
         requires text { IsUtf8 dir.now }
@@ -85,7 +88,7 @@ impl Shelf for MemShelf {
 
         // Follows from `calls`.
         ensures faults { CountsFaults (calls_of self.old).faults (calls_of self.new).faults
-            (IsErrOf result ShelfError.Failed) }
+            (IsOk result) (IsErrOf result ShelfError.Failed) }
     {
         if self.calls.number() {
             self.calls.fault();
@@ -104,7 +107,7 @@ impl Shelf for MemShelf {
 
         // Follows from `calls`.
         ensures faults { CountsFaults (calls_of self.old).faults (calls_of self.new).faults
-            (IsErrOf result ShelfError.Failed) }
+            (IsOk result) (IsErrOf result ShelfError.Failed) }
     {
         if self.calls.number() {
             self.calls.fault();
@@ -126,7 +129,7 @@ impl Shelf for MemShelf {
 
         // Follows from `calls`.
         ensures faults { CountsFaults (calls_of self.old).faults (calls_of self.new).faults
-            (IsErrOf result ShelfError.Failed) }
+            (IsOk result) (IsErrOf result ShelfError.Failed) }
     {
         if self.calls.number() {
             self.calls.fault();
@@ -150,7 +153,7 @@ impl Shelf for MemShelf {
 
         // Follows from `calls`.
         ensures faults { CountsFaults (calls_of self.old).faults (calls_of self.new).faults
-            (IsErrOf result ShelfError.Failed) }
+            (IsOk result) (IsErrOf result ShelfError.Failed) }
     {
         if self.calls.number() {
             let (half, _) = bytes.split_at(bytes.len() / 2);
@@ -159,6 +162,24 @@ impl Shelf for MemShelf {
             return Err(ShelfError::Failed);
         }
         self.files.add(alloc, path, bytes)?;
+        Ok(())
+    }
+
+    /// A listed call answers `Failed`.
+    fn finish(&mut self, _alloc: Global) -> Result<(), ShelfError>
+        ensures files { files_on self.new ≡ files_on self.old }
+        ensures listed { IsErrOf result ShelfError.Failed ↔ IsListed (calls_of self.old) }
+        ensures memory { ¬ IsErrOf result ShelfError.Memory }
+        ensures calls { calls_of self.new ≡ after_call (calls_of self.old) (shelf_failed result) }
+
+        // Follows from `calls`.
+        ensures faults { CountsFaults (calls_of self.old).faults (calls_of self.new).faults
+            (IsOk result) (IsErrOf result ShelfError.Failed) }
+    {
+        if self.calls.number() {
+            self.calls.fault();
+            return Err(ShelfError::Failed);
+        }
         Ok(())
     }
 

@@ -1,5 +1,5 @@
 ghost use Rattle.std.specs.Prelude.{◌≡◌, ◌≤◌, ◌<◌, ◌/◌, ◌↔◌, ◌++◌, [], Some, IfOk, OnOk, OnErr};
-ghost use Rattle.std.specs.Prelude.{IsErr, IsErrOf, is_err, take, drop, length, min};
+ghost use Rattle.std.specs.Prelude.{IsOk, IsErr, IsErrOf, is_err, take, drop, length, min};
 ghost use Rattle.jm_outside.specs.ComputedCalls.{no_calls, IsListed, after_call};
 ghost use Rattle.jm_outside.specs.ComputedCuts.{given_count, first_half};
 ghost use Rattle.jm_outside.specs.Outcome.{CountsFaults};
@@ -116,7 +116,7 @@ impl Source for MemSource {
         ensures within { IfOk result (λ n. n ≤ length into.old) }
         ensures end { IfOk result (λ n. n ≡ 0 → 0 < length into.old → rest_of self.old ≡ []) }
         ensures faults { CountsFaults (source_calls self.old).faults (source_calls self.new).faults
-            (IsErr result) }
+            (IsOk result) (IsErr result) }
     {
         if self.calls.number() {
             self.calls.fault();
@@ -198,7 +198,7 @@ impl Sink for MemSink {
 
         // Follows from `calls`.
         ensures faults { CountsFaults (sink_calls self.old).faults (sink_calls self.new).faults
-            (IsErrOf result SinkError.Failed) }
+            (IsOk result) (IsErrOf result SinkError.Failed) }
     {
         if self.calls.number() {
             let (half, _) = bytes.split_at(bytes.len() / 2);

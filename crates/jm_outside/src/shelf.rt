@@ -1,5 +1,5 @@
-ghost use Rattle.std.specs.Prelude.{◌≡◌, ℕ, [], Option, All, IsUtf8, IfOk, OnOk, OnErr, IsErrOf};
-ghost use Rattle.std.specs.Prelude.{option_map};
+ghost use Rattle.std.specs.Prelude.{◌≡◌, ℕ, [], Bool, Option, All, IsUtf8, IsOk, IsTrue, IfOk, OnOk};
+ghost use Rattle.std.specs.Prelude.{OnErr, IsErrOf, option_map};
 ghost use Rattle.jm_outside.specs.Files.{Files, IsSound, Rising, file, put, add, names_below};
 ghost use Rattle.jm_outside.specs.Outcome.{Shows, Told, AsBeforeOrEmpty, AddsFront, CountsFaults};
 
@@ -60,6 +60,9 @@ pub trait Shelf {
     // How many calls the outside failed, as far as the counter goes.
     ghost faults: { Self → ℕ };
 
+    // Whether each file that was made stands whole under its own name.
+    ghost whole: { Self → Bool };
+
     /// The names of the files below a folder, to any depth, rising in byte order: what follows
     /// `dir` and a slash in their paths. A folder that isn't there has none.
     fn names(&mut self, alloc: Global, dir: &[u8]) -> Result<List<Text>, ShelfError>
@@ -72,7 +75,7 @@ pub trait Shelf {
 
         ensures told { IfOk result (λ names. Shows (files self.old)
             (λ files. names ≡ names_below dir.now files)) }
-        ensures faults { CountsFaults (faults self.old) (faults self.new)
+        ensures faults { CountsFaults (faults self.old) (faults self.new) (IsOk result)
             (IsErrOf result ShelfError.Failed) };
 
     /// The bytes of the file at a path. None exactly where no file has it.
@@ -81,7 +84,7 @@ pub trait Shelf {
         ensures files { files self.new ≡ files self.old }
         ensures told { IfOk result (λ found. Shows (files self.old)
             (λ files. found ≡ file files path.now)) }
-        ensures faults { CountsFaults (faults self.old) (faults self.new)
+        ensures faults { CountsFaults (faults self.old) (faults self.new) (IsOk result)
             (IsErrOf result ShelfError.Failed) };
 
     /// Makes an empty file at a path, or empties the one that is there. Other files stay.
@@ -92,7 +95,7 @@ pub trait Shelf {
         ensures err { OnErr result (Told (files self.old) (files self.new)
             (λ old new. AsBeforeOrEmpty old new path.now)) }
         ensures memory { IsErrOf result ShelfError.Memory → files self.new ≡ files self.old }
-        ensures faults { CountsFaults (faults self.old) (faults self.new)
+        ensures faults { CountsFaults (faults self.old) (faults self.new) (IsOk result)
             (IsErrOf result ShelfError.Failed) };
 
     /// Adds bytes to the end of the file at a path, to an empty file where none is there. After
@@ -104,7 +107,14 @@ pub trait Shelf {
         ensures err { OnErr result (Told (files self.old) (files self.new)
             (λ old new. AddsFront old new path.now bytes.now)) }
         ensures memory { IsErrOf result ShelfError.Memory → files self.new ≡ files self.old }
-        ensures faults { CountsFaults (faults self.old) (faults self.new)
+        ensures faults { CountsFaults (faults self.old) (faults self.new) (IsOk result)
+            (IsErrOf result ShelfError.Failed) };
+
+    /// Ends the making of files: what was made stands under its own name. All files stay.
+    fn finish(&mut self, alloc: Global) -> Result<(), ShelfError>
+        ensures files { files self.new ≡ files self.old }
+        ensures whole { OnOk result (IsTrue (whole self.new)) }
+        ensures faults { CountsFaults (faults self.old) (faults self.new) (IsOk result)
             (IsErrOf result ShelfError.Failed) };
 
     // Told files rise by path, and each path is UTF-8.

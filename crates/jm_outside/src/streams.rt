@@ -1,5 +1,5 @@
 ghost use Rattle.std.specs.Prelude.{◌≡◌, ◌≤◌, ◌<◌, ◌++◌, ℕ, List, [], Option, IfOk, OnOk, OnErr};
-ghost use Rattle.std.specs.Prelude.{IsErr, IsErrOf, length, take, drop, option_map};
+ghost use Rattle.std.specs.Prelude.{IsOk, IsErr, IsErrOf, length, take, drop, option_map};
 ghost use Rattle.jm_outside.specs.Outcome.{Shows, Told, PutsFront, CountsFaults};
 
 use jm_bytes::NoMemory;
@@ -54,7 +54,8 @@ pub trait Source {
         ensures end { IfOk result (λ n. n ≡ 0 → 0 < length into.old →
             Shows (rest self.old) (λ rest. rest ≡ [])) }
         ensures err { OnErr result (rest self.new ≡ rest self.old) }
-        ensures faults { CountsFaults (faults self.old) (faults self.new) (IsErr result) };
+        ensures faults { CountsFaults (faults self.old) (faults self.new) (IsOk result)
+            (IsErr result) };
 }
 
 /// A sink of bytes. It may tell what was put into it, and counts its faults.
@@ -72,6 +73,6 @@ pub trait Sink {
         ensures err { OnErr result (Told (content self.old) (content self.new)
             (λ old new. PutsFront old new bytes.now)) }
         ensures memory { IsErrOf result SinkError.Memory → content self.new ≡ content self.old }
-        ensures faults { CountsFaults (faults self.old) (faults self.new)
+        ensures faults { CountsFaults (faults self.old) (faults self.new) (IsOk result)
             (IsErrOf result SinkError.Failed) };
 }
