@@ -1,6 +1,5 @@
 pub mod CountLaws
 pub mod HoldsLaws
-pub mod Last
 pub mod Laws
 pub mod MadeLaws
 pub mod Map

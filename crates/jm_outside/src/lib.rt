@@ -1,14 +1,10 @@
 //! The outside of the tool: a shelf of files, a source of bytes and a sink of bytes, as traits; the
-//! same in memory, with calls that fail where a test says so; and the adapters to the file system
-//! and the standard streams.
+//! same in memory, with calls that fail where a test says so; and the adapters to the standard
+//! streams.
 #![tactic(auto)]
 
 mod calls;
-mod contents;
-mod file_error;
 mod file_map;
-mod file_shelf;
-mod folders;
 mod making;
 mod mem_shelf;
 mod mem_streams;
@@ -16,7 +12,6 @@ mod shelf;
 mod std_streams;
 mod streams;
 
-pub use file_shelf::FileShelf;
 pub use making::make_file;
 pub use mem_shelf::MemShelf;
 pub use mem_streams::{MemSink, MemSource};

@@ -2,7 +2,8 @@
 
 use crate::shelves::{TREE, unlike};
 use crate::streams::{given_by, put_marks};
-use jm_outside::{FileShelf, StdSink, StdSource};
+use jm_disk::FileShelf;
+use jm_outside::{StdSink, StdSource};
 use std::os::unix::fs::symlink;
 use std::rt::{Env, Files};
 use std::test::Fail;

@@ -2,14 +2,13 @@
 ghost use Rattle.std.specs.Prelude.{◌∷◌, ◌++◌, [], All, IsUtf8, IfOk, IsTrue};
 ghost use Rattle.jm_outside.specs.Files.{Rising};
 
-use crate::contents::{is_absence, text_of};
-use crate::file_error::FileError;
+use crate::file_error::{FileError, Reason};
+use crate::paths::{Kind, is_absence, kind_at, text_of};
 use jm_bytes::{List, NoMemory, Text};
 use std::alloc::Global;
-use std::io::ErrorKind;
-use std::path::Path;
+use std::fs;
+use std::fs::ReadDir;
 use std::rt::Files;
-use std::{fs, io};
 
 /// The most files and folders that may stand below a folder.
 const MOST_ENTRIES: u32 = 16_777_216;
@@ -47,7 +46,9 @@ pub fn names_in<R: Files + AllocGlobal>(
             break;
         };
         if !list(rt, alloc, folder, inner.as_str(), &mut tree)? {
-            return Err(FileError::Vanished);
+            let place = format!(in alloc; "{folder}/{inner}")?;
+            let place = place.as_str().trim_end_matches('/');
+            return Err(FileError::from(Reason::Vanished).at(alloc, place));
         }
     }
     in_order(alloc, tree.names)
@@ -62,17 +63,41 @@ fn list<R: Files + AllocGlobal>(
     tree: &mut Tree,
 ) -> Result<bool, FileError> {
     let path = format!(in alloc; "{root}/{inner}")?;
-    let entries = match fs::read_dir(&rt, path.as_str()) {
-        Ok(entries) => entries,
+    let answer = match fs::read_dir(&rt, path.as_str()) {
+        Ok(entries) => add_entries(rt, alloc, entries, inner, tree),
         Err(e) if is_absence(e.kind()) => return Ok(false),
-        Err(e) => return Err(FileError::from(e)),
+        Err(e) => Err(FileError::from(e)),
     };
-    for entry in entries {
+    match answer {
+        Ok(()) => Ok(true),
+        Err(e) => Err(e.at(alloc, path.as_str().trim_end_matches('/'))),
+    }
+}
+
+/// Adds what stands in an open folder to its tree.
+fn add_entries<'a, R: Files + AllocGlobal>(
+    rt: &'a R,
+    alloc: Global,
+    entries: ReadDir<&'a R, Global>,
+    inner: &str,
+    tree: &mut Tree,
+) -> Result<(), FileError> {
+    let mut entries = entries;
+    for _ in 0..=MOST_ENTRIES {
+        let Some(entry) = entries.next() else {
+            break;
+        };
         let entry = entry?;
-        let kind = kind_at(rt, entry.path())?;
+        let kind = match kind_at(rt, entry.path()) {
+            Ok(kind) => kind,
+            Err(e) => return Err(e.at(alloc, entry.path().to_string_lossy())),
+        };
         add_entry(alloc, inner, entry.file_name(), kind, tree)?;
     }
-    Ok(true)
+    if os::errno() != 0 {
+        return Err(FileError::from(Reason::Vanished));
+    }
+    Ok(())
 }
 
 /// Adds what stands in a folder to its tree.
@@ -84,44 +109,14 @@ fn add_entry(
     tree: &mut Tree,
 ) -> Result<(), FileError> {
     if tree.entry_count >= MOST_ENTRIES {
-        return Err(FileError::TooMany);
+        return Err(FileError::from(Reason::TooMany));
     }
     tree.entry_count += 1;
     match kind {
         Kind::File => tree.names.push(format!(in alloc; "{inner}{name}")?)?,
         Kind::Folder => tree.folders.push(format!(in alloc; "{inner}{name}/")?)?,
-        Kind::Other => {}
     }
     Ok(())
-}
-
-/// What stands at a path.
-#[derive(Clone, Copy)]
-enum Kind {
-    File,
-    Folder,
-    Other,
-}
-
-/// What stands at a path. A link to a file is a file; any other link is left out.
-fn kind_at<R: Files>(rt: &R, path: Path<'_>) -> io::Result<Kind> {
-    let found = fs::symlink_metadata(rt, path)?.file_type();
-    if found.is_dir() {
-        return Ok(Kind::Folder);
-    }
-    if found.is_file() || found.is_symlink() && leads_to_file(rt, path)? {
-        return Ok(Kind::File);
-    }
-    Ok(Kind::Other)
-}
-
-/// Whether a link leads to a file.
-fn leads_to_file<R: Files>(rt: &R, path: Path<'_>) -> io::Result<bool> {
-    match fs::metadata(rt, path) {
-        Ok(target) => Ok(target.is_file()),
-        Err(e) if e.kind() == ErrorKind::FilesystemLoop || is_absence(e.kind()) => Ok(false),
-        Err(e) => Err(e),
-    }
 }
 
 /// The names in byte order, each once.

@@ -1,6 +1,6 @@
 use Rattle.std.proofs.Common.{All, IsUtf8}
 use Rattle.jm_outside.specs.Files.{Rising}
-use Rattle.jm_outside.proofs.folders.in_order.Given as goal
+use Rattle.jm_disk.proofs.folders.in_order.Given as goal
 
 abbrev pub invariant-loop-name : goal.invariant-loop-name
 invariant-loop-name l = record {

@@ -1,0 +1,115 @@
+//! What a call of the file system ended with in place of its answer.
+use jm_bytes::NoMemory;
+use std::alloc::{AllocError, AllocFailed, Global};
+use std::io::ErrorKind;
+use std::{fmt, io};
+
+/// Why a call on a file or a folder of the system gave up. Its text says it to a user.
+#[derive(Debug, Drop)]
+pub enum Reason {
+    /// What the system answered.
+    System(io::Error),
+    /// The file has more bytes than may be read.
+    TooLarge,
+    /// The folder has more files and folders than may be listed.
+    TooMany,
+    /// The path isn't UTF-8.
+    NotText,
+    /// A file or a folder went away while its folder was listed.
+    Vanished,
+    /// The file gave more or fewer bytes than it had when it was opened.
+    Changed,
+    /// What is to be replaced is neither a file nor a link to one.
+    NotFile,
+    /// What stands in a folder is neither a file nor a folder.
+    NotListed,
+    /// A link leads nowhere.
+    LeadsNowhere,
+    /// More links than the system follows on one way, as in a ring of them.
+    ManyLinks,
+    /// All names for a new file beside another one are taken.
+    NoName,
+    /// No memory was found.
+    Memory,
+}
+
+impl fmt::Display for Reason {
+    fn fmt<W: fmt::Write>(&self, f: &mut fmt::Formatter<W>) -> fmt::Result {
+        let text = match self {
+            Reason::System(error) => return error.kind().fmt(f),
+            Reason::TooLarge => "more than 4294967296 bytes",
+            Reason::TooMany => "more than 16777216 files and folders",
+            Reason::NotText => "not UTF-8",
+            Reason::Vanished => "went away while it was listed",
+            Reason::Changed => "changed while it was read",
+            Reason::NotFile => "neither a file nor a link to one",
+            Reason::NotListed => "neither a file nor a folder",
+            Reason::LeadsNowhere => "a link that leads nowhere",
+            Reason::ManyLinks => "more than 40 links on one way, or links in a ring",
+            Reason::NoName => "1000 unfinished files stand beside it",
+            Reason::Memory => "out of memory",
+        };
+        f.write_str(text)
+    }
+}
+
+/// Why a call gave up, and where, if that isn't the path that the call was given.
+#[derive(Debug, Drop)]
+pub struct FileError {
+    pub reason: Reason,
+    pub place: Option<String>,
+}
+
+impl FileError {
+    /// The same at a place of its own, unless it has one. Where no memory is found for the place it
+    /// stays without.
+    pub fn at(self, alloc: Global, place: &str) -> FileError {
+        let FileError {
+            reason,
+            place: found,
+        } = self;
+        let place = match found {
+            Some(found) => Some(found),
+            None => String::from_str(alloc, place).ok(),
+        };
+        FileError { reason, place }
+    }
+}
+
+impl From<Reason> for FileError {
+    fn from(reason: Reason) -> FileError {
+        FileError {
+            reason,
+            place: None,
+        }
+    }
+}
+
+/// `Memory` where the system found none, and else `System`.
+impl From<io::Error> for FileError {
+    fn from(error: io::Error) -> FileError {
+        if error.kind() == ErrorKind::OutOfMemory {
+            FileError::from(Reason::Memory)
+        } else {
+            FileError::from(Reason::System(error))
+        }
+    }
+}
+
+impl From<NoMemory> for FileError {
+    fn from(_: NoMemory) -> FileError {
+        FileError::from(Reason::Memory)
+    }
+}
+
+impl From<AllocError> for FileError {
+    fn from(_: AllocError) -> FileError {
+        FileError::from(Reason::Memory)
+    }
+}
+
+impl<T: Drop> From<AllocFailed<T>> for FileError {
+    fn from(_: AllocFailed<T>) -> FileError {
+        FileError::from(Reason::Memory)
+    }
+}

@@ -1,0 +1,175 @@
+ghost use Rattle.std.specs.Prelude.{◌≡◌, None, Ok, is_none, IsOk, IsTrue, IfOk, IsErrOf};
+ghost use Rattle.jm_outside.specs.Outcome.{CountsFaults};
+
+use crate::file_error::{FileError, Reason};
+use crate::folders::names_in;
+use crate::new_file::{NewFile, append_at, make};
+use crate::reading::read_at;
+use jm_bytes::{List, Text};
+use jm_outside::{Shelf, ShelfError};
+use std::alloc::Global;
+use std::rt::Files;
+use std::str;
+
+/// The shelf of the file system, which tells no files. A path is the system's: one that begins with
+/// no slash goes from the folder in which the program runs.
+///
+/// The file that was made last is open and unfinished until the next one is made, or until a call
+/// looks at files or ends their making. Bytes go to the system at once, and to the end of the file.
+///
+/// Each error of the system counts as one fault.
+#[derive(Drop)]
+pub struct FileShelf<'a, R: Files + AllocGlobal> {
+    rt: &'a R,
+    made_last: Option<NewFile<R::File>>,
+    faults: u64,
+    last_failure: Option<String>,
+}
+
+/// What went wrong and where, at this path if at none of its own; None where no memory was found
+/// for it.
+fn told(alloc: Global, path: &[u8], error: FileError) -> Option<String> {
+    let FileError { reason, place } = error;
+    match place {
+        Some(place) => format!(in alloc; "{place}: {reason}").ok(),
+        None => {
+            let path = str::from_utf8(path).ok()?;
+            format!(in alloc; "{path}: {reason}").ok()
+        }
+    }
+}
+
+impl<'a, R: Files + AllocGlobal> FileShelf<'a, R> {
+    /// The shelf of a runtime's file system, which has no fault yet.
+    pub fn new(rt: &'a R) -> FileShelf<'a, R>
+        ensures { ⟦<FileShelf<'a, R> as Shelf>⟧.faults result ≡ 0 }
+    {
+        FileShelf {
+            rt,
+            made_last: None,
+            faults: 0,
+            last_failure: None,
+        }
+    }
+
+    /// For a user: the path at which the last call that answered `Failed` did, a colon, and what the
+    /// system said. None where none did, and where no memory was found for it.
+    pub fn last_failure(&self) -> Option<&str> {
+        match &self.last_failure {
+            Some(text) => Some(text.as_str()),
+            None => None,
+        }
+    }
+
+    /// Removes the file that isn't finished, if there is one.
+    pub fn give_up(&mut self)
+        ensures whole { IsTrue (is_none self.new.made_last) }
+        ensures faults { self.new.faults ≡ self.old.faults }
+    {
+        if let Some(file) = self.made_last.take() {
+            file.remove(self.rt);
+        }
+    }
+
+    /// Finishes the file that isn't finished, if there is one.
+    fn settle(&mut self, alloc: Global) -> Result<(), ShelfError>
+        ensures whole { IsTrue (is_none self.new.made_last) }
+        ensures faults { CountsFaults self.old.faults self.new.faults (IsOk result)
+            (IsErrOf result ShelfError.Failed) }
+    {
+        match self.made_last.take() {
+            Some(file) => {
+                let answer = file.finish(self.rt);
+                self.judge(alloc, b"", answer)
+            }
+            None => Ok(()),
+        }
+    }
+
+    /// Hands on what a call answered. Where it failed, it counts a fault and keeps what failed.
+    fn judge<T: Drop>(
+        &mut self,
+        alloc: Global,
+        path: &[u8],
+        answer: Result<T, FileError>,
+    ) -> Result<T, ShelfError>
+        ensures answer { IfOk result (λ value. answer ≡ Ok value) }
+        ensures made { self.new.made_last ≡ self.old.made_last }
+        ensures faults { CountsFaults self.old.faults self.new.faults (IsOk result)
+            (IsErrOf result ShelfError.Failed) }
+    {
+        match answer {
+            Ok(value) => Ok(value),
+            Err(
+                FileError {
+                    reason: Reason::Memory,
+                    ..
+                },
+            ) => Err(ShelfError::Memory),
+            Err(error) => {
+                self.faults = self.faults.saturating_add(1);
+                self.last_failure = told(alloc, path, error);
+                Err(ShelfError::Failed)
+            }
+        }
+    }
+}
+
+impl<'a, R: Files + AllocGlobal> Shelf for FileShelf<'a, R> {
+    ghost files = { λ _. None };
+
+    ghost faults = { λ shelf. shelf.faults };
+
+    ghost whole = { λ shelf. is_none shelf.made_last };
+
+    /// Goes through the folder to any depth, and through links to files and folders as if these
+    /// stood there. A link that leads nowhere is a fault, and so are a ring of links, what is neither
+    /// a file nor a folder, a folder that can't be listed, a name that isn't UTF-8, and more than
+    /// 16,777,216 files and folders. A folder that isn't there has no names.
+    fn names(&mut self, alloc: Global, dir: &[u8]) -> Result<List<Text>, ShelfError> {
+        self.settle(alloc)?;
+        let answer = names_in(self.rt, alloc, dir);
+        self.judge(alloc, dir, answer)
+    }
+
+    /// None where the path, or a folder of it, isn't there, or a folder of it is a file. A folder
+    /// in the place of the file is a fault, and so are more than 4,294,967,296 bytes, and another
+    /// number of bytes than the file had when it was opened. What isn't a file on a disk, as a pipe,
+    /// has no such number, and is read to its end.
+    fn read(&mut self, alloc: Global, path: &[u8]) -> Result<Option<Text>, ShelfError> {
+        self.settle(alloc)?;
+        let answer = read_at(self.rt, alloc, path);
+        self.judge(alloc, path, answer)
+    }
+
+    /// Makes the folders of the path that are missing. Where a file is there, or a link to one, it
+    /// stays until the new one is finished; where anything else is there, that is a fault.
+    fn create(&mut self, alloc: Global, path: &[u8]) -> Result<(), ShelfError> {
+        self.settle(alloc)?;
+        let answer = make(self.rt, path);
+        self.made_last = Some(self.judge(alloc, path, answer)?);
+        Ok(())
+    }
+
+    /// Makes no folder: one that is missing is a fault. Where bytes can't be added to the file that
+    /// was made last, it is removed.
+    fn append(&mut self, alloc: Global, path: &[u8], bytes: &[u8]) -> Result<(), ShelfError> {
+        let answer = match &mut self.made_last {
+            Some(file) if file.is_for(path) => file.append(bytes),
+            _ => {
+                self.settle(alloc)?;
+                append_at(self.rt, path, bytes)
+            }
+        };
+        if answer.is_err() {
+            self.give_up();
+        }
+        self.judge(alloc, path, answer)
+    }
+
+    fn finish(&mut self, alloc: Global) -> Result<(), ShelfError> {
+        self.settle(alloc)
+    }
+
+    ghost sound = { λ _. tt };
+}
