@@ -1,18 +1,25 @@
 //! The program: the real objects, and one call.
 #![tactic(auto)]
 
+mod descriptors;
 mod failures;
 mod given_words;
 
+use descriptors::hold_streams;
 use failures::{put, put_line, shelf_line, stream_line};
 use given_words::given_words;
 use jm_commands::{Status, run};
+use jm_disk::FileShelf;
 use jm_halves::NoGate;
-use jm_outside::{FileShelf, StdSink, StdSource};
+use jm_outside::{StdSink, StdSource};
 use std::io;
 use std::process::ExitCode;
 
 fn main(rt: HostRuntime) -> ExitCode {
+    if !hold_streams(&rt) {
+        put(&rt, b"failed: /dev/null: can't be opened\n");
+        return ExitCode::from(Status::Outside.value());
+    }
     let words = match given_words(&rt) {
         Ok(words) => words,
         Err(status) => return ExitCode::from(status.value()),
@@ -26,6 +33,9 @@ fn main(rt: HostRuntime) -> ExitCode {
     let status = run(
         &rt, alloc, words, &mut shelf, &mut input, &mut out, &mut err, &NoGate,
     );
+    if status != Status::Done {
+        shelf.give_up();
+    }
     match status {
         Status::Outside => {
             put_line(&rt, shelf_line(alloc, shelf.last_failure()));
