@@ -1,15 +1,19 @@
 -- What an extraction came to, from what its steps did.
-use Rattle.std.proofs.Common.{◌≡◌, ℕ, ◌+◌, ◌<◌, List, [], ◌∷◌, ◌++◌, drop, length, map, take, get_or, Option, Result, Ok, Err, IsErrAnd, refl, sym, ap, subst, ◌∙◌}
+use Rattle.std.proofs.Common.{◌≡◌, ℕ, ◌+◌, ◌<◌, List, [], ◌∷◌, ◌++◌, drop, length, map, take, get_or, Option, None, Result, Ok, Err, IsErrAnd, refl, sym, ap, subst, ◌∙◌}
 use Rattle.std.proofs.lemmas.List.{map-append, take-append-drop, take_more}
+use Rattle.jm_bytes.specs.Checks.{unless_fault}
+use Rattle.jm_outside.specs.declared.shelf.ShelfError.{ShelfError}
+use Rattle.jm_outside.specs.declared.shelf.ShelfError.TheVariants as outside
 use Rattle.jm_outside.specs.Files.{Files}
 use Rattle.jm_outside.specs.Made.{MadeAll, MadePart, Writes}
-use Rattle.jm_outside.proofs.MadeLaws.{made_append, part_append, part_longer, part_of_none}
+use Rattle.jm_outside.proofs.MadeLaws.{made_append, part_append, part_longer, part_of_all, part_of_none}
 use Rattle.jm_names.specs.ByName.{Named}
 use Rattle.jm_texts.specs.declared.refusal.Refusal.{Refusal}
 use Rattle.jm_extract.specs.declared.extracting.ExtractStop.{ExtractStop}
 use Rattle.jm_extract.specs.declared.extracting.ExtractStop.TheVariants as stop
 use Rattle.jm_extract.specs.declared.taking.TakenEntry.{TakenEntry}
-use Rattle.jm_extract.specs.Extracted.{BreaksOff, Extracts, write_of, writes_of}
+use Rattle.jm_extract.specs.Extracted.{BreaksOff, Extracts, refusal_of, unless_refused, write_of, writes_of}
+use Rattle.jm_extract.specs.Stops.{stop_of}
 use Rattle.jm_extract.specs.Taken.{taken_as}
 
 -- One file more
@@ -50,3 +54,17 @@ pub out_of_memory : (due : Result (List Named) Refusal) (dir : List ℕ) (answer
 out_of_memory due dir (Ok count) told gives = absurd gives
 out_of_memory due dir (Err is) told gives =
     subst (λ (s : ExtractStop). Extracts due dir (Err s) told told) (sym gives) (breaks_off due dir told)
+
+-- nothing is refused and all files were made, but ending that failed
+pub not_ended : (entries : List Named) (dir : List ℕ) (answer : Result ℕ ExtractStop) (error : ShelfError) (old now new : Option Files) → ◌≡◌ {A = Option Refusal} None (refusal_of entries) → IsErrAnd answer (λ is. is ≡ stop_of error) → MadeAll (writes_of dir entries) old now → new ≡ now → Extracts (unless_refused entries) dir answer old new
+not_ended entries dir (Ok count) error old now new free gives made same = absurd gives
+not_ended entries dir (Err is) error old now new free gives made same =
+    subst (λ (s : ExtractStop). Extracts (unless_refused entries) dir (Err s) old new) (sym gives)
+    (subst (λ (o : Option Refusal). Extracts (unless_fault o entries) dir (Err (stop_of error)) old new) free (stopped error))
+  where
+    part : MadePart (writes_of dir entries) old new
+    part = part_of_all (writes_of dir entries) old new (same ∙ made)
+
+    stopped : (error : ShelfError) → Extracts (Ok entries) dir (Err (stop_of error)) old new
+    stopped outside.Failed = part
+    stopped outside.Memory = part

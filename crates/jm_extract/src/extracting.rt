@@ -1,6 +1,6 @@
 //! The taken entries as files below a directory.
-ghost use Rattle.std.specs.Prelude.{◌≡◌, ◌∷◌, ◌++◌, [], All, IsUtf8, IfOk, OnOk, OnErr, IsErrOf};
-ghost use Rattle.std.specs.Prelude.{map};
+ghost use Rattle.std.specs.Prelude.{◌≡◌, ◌∷◌, ◌++◌, [], All, IsUtf8, IsOk, IsTrue, IfOk, OnOk, OnErr};
+ghost use Rattle.std.specs.Prelude.{IsErrOf, map};
 ghost use Rattle.jm_names.specs.NameFaults.{IsSound};
 ghost use Rattle.jm_names.specs.UtfForms.{utf};
 ghost use Rattle.jm_outside.specs.Outcome.{CountsFaults};
@@ -79,7 +79,7 @@ fn make_entry<S: Shelf>(
         (S.files shelf.old) (S.files shelf.new)) }
     ensures err { OnErr result (MadePart (write_of dir.now (taken_as entry.now) ∷ [])
         (S.files shelf.old) (S.files shelf.new)) }
-    ensures faults { CountsFaults (S.faults shelf.old) (S.faults shelf.new)
+    ensures faults { CountsFaults (S.faults shelf.old) (S.faults shelf.new) (IsOk result)
         (IsErrOf result ShelfError.Failed) }
 {
     let name = entry.name.view().to_text(alloc)?;
@@ -100,7 +100,7 @@ fn make_entries<S: Shelf>(
         (S.files shelf.old) (S.files shelf.new)) }
     ensures err { OnErr result (MadePart (writes_of dir.now (map taken_as entries.now))
         (S.files shelf.old) (S.files shelf.new)) }
-    ensures faults { CountsFaults (S.faults shelf.old) (S.faults shelf.new)
+    ensures faults { CountsFaults (S.faults shelf.old) (S.faults shelf.new) (IsOk result)
         (IsErrOf result ShelfError.Failed) }
 {
     for entry in entries {
@@ -109,7 +109,8 @@ fn make_entries<S: Shelf>(
     Ok(())
 }
 
-/// Makes the files of some entries, which rise by name, unless they are refused.
+/// Makes the files of some entries, which rise by name, unless they are refused. They stand under
+/// their own names then.
 fn extract_entries<S: Shelf>(
     alloc: Global,
     shelf: &mut S,
@@ -120,18 +121,20 @@ fn extract_entries<S: Shelf>(
     requires rises { RisesByName (map taken_as entries.now) }
     ensures extracts { Extracts (unless_refused (map taken_as entries.now)) dir.now result
         (S.files shelf.old) (S.files shelf.new) }
-    ensures faults { CountsFaults (S.faults shelf.old) (S.faults shelf.new)
+    ensures whole { OnOk result (IsTrue (S.whole shelf.new)) }
+    ensures faults { CountsFaults (S.faults shelf.old) (S.faults shelf.new) (IsOk result)
         (IsErrOf result ExtractStop.Outside) }
 {
     if let Some(refusal) = refusal_of(alloc, entries)? {
         return Err(ExtractStop::Refused(refusal));
     }
     make_entries(alloc, shelf, dir, entries)?;
+    shelf.finish(alloc)?;
     Ok(entries.len())
 }
 
-/// Makes, below the directory, a file of each entry that is taken, by rising name, and gives how
-/// many they are. Its path is the directory and the name in UTF-8.
+/// Makes, below the directory, a file of each entry that is taken, by rising name, ends the making
+/// of files, and gives how many they are. A file's path is the directory and the name in UTF-8.
 ///
 /// It refuses a name that may not stand in an image, so none leads out of the directory, and then
 /// a name that is another one's folder, before the first file is made. After a failure of the shelf
@@ -149,7 +152,8 @@ pub fn extract<S: Shelf, R: Ledger>(
     requires text { IsUtf8 dir.now }
     ensures extracts { Extracts (extracted image.now include.now) dir.now result
         (S.files shelf.old) (S.files shelf.new) }
-    ensures faults { CountsFaults (S.faults shelf.old) (S.faults shelf.new)
+    ensures whole { OnOk result (IsTrue (S.whole shelf.new)) }
+    ensures faults { CountsFaults (S.faults shelf.old) (S.faults shelf.new) (IsOk result)
         (IsErrOf result ExtractStop.Outside) }
     ensures reads { IsLater reads.old reads.new }
 {

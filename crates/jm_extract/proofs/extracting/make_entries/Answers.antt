@@ -1,4 +1,4 @@
-use Rattle.std.proofs.Common.{sym, arith}
+use Rattle.std.proofs.Common.{◌∙◌, refl, sym}
 use Rattle.jm_bytes.proofs.ResultLaws.{on_err}
 use Rattle.jm_extract.proofs.ExtractLaws.{made_next, part_next}
 use Rattle.jm_extract.proofs.extracting.make_entries.Goals as goal
@@ -18,5 +18,5 @@ loop-entry-preserved g c =
     let new = g.S.Shelf.files c.make_entry.new.shelf in
     record {
       files = made_next c.args.dir.now c.args.entries.now c.loop-entry.entry-index c.entry-item.result old now new c.loop-entry-test.true (sym c.entry-item.is) c.loop-entry.invariant.files c.in_ok-make_entry.ensures.ok;
-      count = let before = c.loop-entry.invariant.count in let call = c.in_ok-make_entry.ensures.faults.count in omega (arith, before, call);
+      count = c.in_ok-make_entry.ensures.faults.kept refl ∙ c.loop-entry.invariant.count;
     }
