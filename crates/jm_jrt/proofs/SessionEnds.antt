@@ -9,7 +9,7 @@ use Rattle.jm_jrt.specs.declared.serve_error.ServeError.{ServeError}
 use Rattle.jm_jrt.specs.declared.serve_error.ServeError.TheVariants.{ReadFault, WriteFault, LongLine, TooManyLines, Memory}
 use Rattle.jm_jrt.specs.Lines.{answered, ended_lines, last_line, lines_bytes, lines_of, replies}
 use Rattle.jm_jrt.specs.Reply.{IsWithin, line_bytes, reply}
-use Rattle.jm_jrt.specs.Sessions.{Breaks, Ended, IsFree, IsLine, IsOpen, IsTooLong, IsTooMany, Moment, Passes, Put, PutBehind, PutFails, Serves, answered_in, joined}
+use Rattle.jm_jrt.specs.Sessions.{Bounded, Breaks, Ended, IsFree, IsLine, IsOpen, IsTooLong, IsTooMany, Moment, Passes, Put, PutBehind, PutFails, Serves, answered_in, joined}
 use Rattle.jm_jrt.proofs.LineLaws.{Begins, answered_all, answered_long, answered_nothing, ended_joined, line_begins, lines_joined, lines_next, lines_part, some_lines}
 use Rattle.jm_jrt.proofs.SessionSteps.{breaks_at_once, breaks_more, put_then, replies_append}
 use Rattle.jm_jrt.proofs.WithinLaws.{within_append, within_one}
@@ -88,8 +88,11 @@ serves_given b rest new_rest given part old new reads new_reads told passes furt
     let count = passes.lines in
     record {
       text = given ++ left_of new_rest;
+      given = given;
       left = left_of new_rest;
       told = told_left rest new_rest given told;
+      parted = refl;
+      bounded = tt;
       ended = tt;
       put = (
         replies b passes.done,
@@ -159,6 +162,13 @@ module _ (b text : List ℕ) (old : Moment) (none : old.lines ≡ 0) (new_put : 
   ends_so (LongLine k) breaks left = (long_line k breaks).0
   ends_so TooManyLines breaks left = (many_lines breaks).0
 
+  bounded_so : (error : ServeError) (breaks : Breaks error b text old new_put) (given : List ℕ) → length given ≤ length (joined breaks.done) + (8192 + 65536) → Bounded (Err error) text given
+  bounded_so ReadFault breaks given within = tt
+  bounded_so WriteFault breaks given within = tt
+  bounded_so Memory breaks given within = tt
+  bounded_so (LongLine k) breaks given within = subst (λ (done : List (List ℕ)). length given ≤ length (joined done) + (8192 + 65536)) (sym (long_line k breaks).1) within
+  bounded_so TooManyLines breaks given within = subst (λ (done : List (List ℕ)). length given ≤ length (joined done) + (8192 + 65536)) (sym (many_lines breaks).1) within
+
   puts_so : (error : ServeError) → Breaks error b text old new_put → (left : List ℕ) → PutBehind b (Err error) text left old.put new_put
   puts_so ReadFault breaks left = absurd breaks.fails
   puts_so WriteFault breaks left =
@@ -180,14 +190,20 @@ module _ (b text : List ℕ) (old : Moment) (none : old.lines ≡ 0) (new_put : 
   puts_so TooManyLines breaks left =
       (replies b breaks.done, breaks.fails.2, ap (replies b) (sym (many_lines breaks).1))
 
-pub serves_broken : (error : ServeError) (b : List ℕ) (rest new_rest : Option (List ℕ)) (given : List ℕ) (old : Moment) (new_put : Option (List ℕ)) (reads new_reads : Metered) → old.lines ≡ 0 → Told rest new_rest (λ o n. o ≡ given ++ n) → Breaks error b given old new_put → Serves b (Err error) rest new_rest old.put new_put reads new_reads
-serves_broken error b rest new_rest given old new_put reads new_reads none told breaks =
+pub serves_broken : (error : ServeError) (b : List ℕ) (rest new_rest : Option (List ℕ)) (given : List ℕ) (old : Moment) (new_put : Option (List ℕ)) (reads new_reads : Metered) → old.lines ≡ 0 → Told rest new_rest (λ o n. o ≡ given ++ n) → (breaks : Breaks error b given old new_put) → length breaks.behind ≤ 8192 + 65536 → Serves b (Err error) rest new_rest old.put new_put reads new_reads
+serves_broken error b rest new_rest given old new_put reads new_reads none told breaks short =
     let left = left_of new_rest in
     let longer = breaks_more error b given old new_put left breaks in
+    let parts : length given ≡ length (joined breaks.done ++ breaks.behind) = ap length breaks.is in
+    let sum = length-append (joined breaks.done) breaks.behind in
+    let most : length given ≤ length (joined breaks.done) + (8192 + 65536) = omega arith in
     record {
       text = given ++ left;
+      given = given;
       left = left;
       told = told_left rest new_rest given told;
+      parted = refl;
+      bounded = bounded_so b (given ++ left) old none new_put error longer given most;
       ended = ends_so b (given ++ left) old none new_put error longer left;
       put = puts_so b (given ++ left) old none new_put error longer left;
       reads = tt;
@@ -199,7 +215,9 @@ told_start (Some rest) = refl
 
 -- no memory was found at once
 pub serves_nothing : (b : List ℕ) (rest : Option (List ℕ)) (old : Moment) (reads new_reads : Metered) → old.lines ≡ 0 → Serves b (Err Memory) rest rest old.put old.put reads new_reads
-serves_nothing b rest old reads new_reads none = serves_broken Memory b rest rest [] old old.put reads new_reads none (told_start rest) (breaks_at_once Memory b [] old old.put (omega arith) refl)
+serves_nothing b rest old reads new_reads none =
+    let most : length {A = ℕ} [] ≤ 8192 + 65536 = omega arith in
+    serves_broken Memory b rest rest [] old old.put reads new_reads none (told_start rest) (breaks_at_once Memory b [] old old.put (omega arith) refl) most
 
 -- After the last line
 
@@ -211,8 +229,11 @@ serves_whole b rest new_rest given lines n put new_put reads new_reads told ends
     in
     record {
       text = given;
+      given = given;
       left = [];
       told = told_end rest new_rest given told ends;
+      parted = sym (append-nil given);
+      bounded = tt;
       ended = record { count = count ∙ ap length (sym are); answered = all ∙ sym are; nothing = refl };
       put = (replies b lines, is, ap (replies b) (sym all));
       reads = subst (λ (l : List (List ℕ)). IsWithin (lines_bytes b l) reads new_reads) (sym are) cost;
@@ -252,13 +273,23 @@ pub serves_not_last : (error : ServeError) (b : List ℕ) (rest new_rest : Optio
 serves_not_last error b rest new_rest given part old new last_put reads new_reads none told ends passes further_on some fails =
     record {
       text = given;
+      given = given;
       left = [];
       told = told_end rest new_rest given told ends;
+      parted = sym (append-nil given);
+      bounded = bounded error fails;
       ended = ended error fails;
       put = puts error fails;
       reads = tt;
     }
   where
+    bounded : (error : ServeError) → PutFails error (reply b part) new.put last_put → Bounded (Err error) given given
+    bounded ReadFault fails = tt
+    bounded WriteFault fails = tt
+    bounded Memory fails = tt
+    bounded (LongLine k) fails = absurd fails
+    bounded TooManyLines fails = absurd fails
+
     ended : (error : ServeError) → PutFails error (reply b part) new.put last_put → Ended (Err error) given []
     ended ReadFault fails = tt
     ended WriteFault fails = tt

@@ -31,7 +31,7 @@ put_then b front lines old now put =
 
 -- Texts
 
-joined_append : (front lines : List (List ℕ)) (text : List ℕ) → joined (front ++ lines) ++ text ≡ joined front ++ (joined lines ++ text)
+pub joined_append : (front lines : List (List ℕ)) (text : List ℕ) → joined (front ++ lines) ++ text ≡ joined front ++ (joined lines ++ text)
 joined_append front lines text = ap (λ (t : List ℕ). t ++ text) (flat_map-append line front lines) ∙ append_assoc (joined front) (joined lines) text
 
 joined_one : (first text : List ℕ) → joined (first ∷ []) ++ text ≡ first ++ 10 ∷ text
@@ -108,14 +108,14 @@ line_more first text more begins = record {
   good = begins.good;
 }
 
-fails_more : (error : ServeError) (b : List ℕ) (lines : ℕ) (text more : List ℕ) (put new_put : Option (List ℕ)) → Fails error b lines text put new_put → Fails error b lines (text ++ more) put new_put
+pub fails_more : (error : ServeError) (b : List ℕ) (lines : ℕ) (text more : List ℕ) (put new_put : Option (List ℕ)) → Fails error b lines text put new_put → Fails error b lines (text ++ more) put new_put
 fails_more WriteFault b lines text more put new_put fails = (fails.0, line_more fails.0 text more fails.1, fails.2, fails.3)
 fails_more Memory b lines text more put new_put fails = fails
 fails_more (LongLine k) b lines text more put new_put fails = (long_more text more fails.0, fails.1, fails.2, fails.3)
 fails_more TooManyLines b lines text more put new_put fails = let some = fails.0 in (omega (arith, length-append text more), fails.1, fails.2)
 fails_more ReadFault b lines text more put new_put none = absurd none
 
-pub breaks_more : (error : ServeError) (b text : List ℕ) (old : Moment) (new_put : Option (List ℕ)) (more : List ℕ) → Breaks error b text old new_put → Breaks error b (text ++ more) old new_put
+abbrev pub breaks_more : (error : ServeError) (b text : List ℕ) (old : Moment) (new_put : Option (List ℕ)) (more : List ℕ) → Breaks error b text old new_put → Breaks error b (text ++ more) old new_put
 breaks_more error b text old new_put more breaks = record {
   done = breaks.done;
   behind = breaks.behind ++ more;
@@ -125,7 +125,7 @@ breaks_more error b text old new_put more breaks = record {
   fails = fails_more error b (old.lines + length breaks.done) breaks.behind more (option_map (λ put. put ++ replies b breaks.done) old.put) new_put breaks.fails;
 }
 
-pub breaks_then : (error : ServeError) (b text : List ℕ) (old : Moment) (behind : List ℕ) (now : Moment) (new_put : Option (List ℕ)) → Passes b text old behind now → Breaks error b behind now new_put → Breaks error b text old new_put
+abbrev pub breaks_then : (error : ServeError) (b text : List ℕ) (old : Moment) (behind : List ℕ) (now : Moment) (new_put : Option (List ℕ)) → Passes b text old behind now → Breaks error b behind now new_put → Breaks error b text old new_put
 breaks_then error b text old behind now new_put passes breaks =
     let done : List (List ℕ) = passes.done ++ breaks.done in
     let a = passes.lines in
@@ -142,7 +142,7 @@ breaks_then error b text old behind now new_put passes breaks =
           (subst (λ (put : Option (List ℕ)). Fails error b (now.lines + length breaks.done) breaks.behind put new_put) (put_then b passes.done breaks.done old.put now.put passes.put) breaks.fails);
     }
 
-pub breaks_at_once : (error : ServeError) (b text : List ℕ) (old : Moment) (new_put : Option (List ℕ)) → old.lines ≤ 1000000 → Fails error b old.lines text old.put new_put → Breaks error b text old new_put
+abbrev pub breaks_at_once : (error : ServeError) (b text : List ℕ) (old : Moment) (new_put : Option (List ℕ)) → old.lines ≤ 1000000 → Fails error b old.lines text old.put new_put → Breaks error b text old new_put
 breaks_at_once error b text old new_put within fails = record {
   done = [];
   behind = text;

@@ -17,6 +17,10 @@ use Rattle.jm_jrt.specs.Reply.{IsWithin, line, reply}
 abbrev pub answered_in : List ℕ → List (List ℕ)
 answered_in text = answered 1000000 (lines_of text)
 
+-- lines one behind another, each with its newline
+abbrev pub joined : List (List ℕ) → List ℕ
+joined lines = flat_map line lines
+
 -- line k is the first of more than 8,192 bytes, and no later one than the 1,000,000th
 pub record IsTooLong (k : ℕ) (text : List ℕ) : Type 0 where
   pub line : List ℕ
@@ -69,13 +73,34 @@ PutBehind b answer text left out new_out =
     (more : List ℕ) × (new_out ≡ option_map (λ old. old ++ more) out)
     × Put b answer text left more
 
+-- the text is what the source gave and then what is left
+abbrev pub IsParted : List ℕ → List ℕ → List ℕ → Type 0
+IsParted text given left = text ≡ given ++ left
+
+-- the source gave no more than the lines that are answered, and behind them the longest line and
+-- one piece of 65,536 bytes
+abbrev pub GivesAtMost : List ℕ → List ℕ → Type 0
+GivesAtMost text given = length given ≤ length (joined (answered_in text)) + (8192 + 65536)
+
+-- what the source gave is bounded where the session ended by one of its limits
+abbrev pub Bounded : Result ℕ ServeError → List ℕ → List ℕ → Type 0
+Bounded (Ok n) text given = Unit {0}
+Bounded (Err (LongLine k)) text given = GivesAtMost text given
+Bounded (Err TooManyLines) text given = GivesAtMost text given
+Bounded (Err ReadFault) text given = Unit {0}
+Bounded (Err WriteFault) text given = Unit {0}
+Bounded (Err Memory) text given = Unit {0}
+
 -- a session over the image's bytes: some text was served; it is what the source had, where that
 -- tells its rest
 pub record Serves (b : List ℕ) (answer : Result ℕ ServeError)
     (rest new_rest out new_out : Option (List ℕ)) (old new : Metered) : Type 0 where
   pub text : List ℕ
+  pub given : List ℕ
   pub left : List ℕ
   pub told : Told rest new_rest (λ old new. (old ≡ text) × (new ≡ left))
+  pub parted : IsParted text given left
+  pub bounded : Bounded answer text given
   pub ended : Ended answer text left
   pub put : PutBehind b answer text left out new_out
   pub reads : OnOk answer (IsWithin (lines_bytes b (lines_of text)) old new)
@@ -90,10 +115,6 @@ IsFree text = All (λ b. is_newline b ≡ false) text
 pub record IsLine (text : List ℕ) : Type 0 where
   pub free : IsFree text
   pub short : length text ≤ 8192
-
--- lines one behind another, each with its newline
-abbrev pub joined : List (List ℕ) → List ℕ
-joined lines = flat_map line lines
 
 -- what the sink tells, how many lines were answered, and the counters
 pub record Moment : Type 0 where

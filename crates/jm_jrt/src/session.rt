@@ -1,7 +1,7 @@
 //! A session: lines come from a source, in whatever pieces, and their replies go to a sink.
 ghost use Rattle.std.specs.Prelude.{◌≡◌, ◌+◌, ◌*◌, ◌<◌, ◌≤◌, ◌∷◌, ◌++◌, [], length, take};
 ghost use Rattle.std.specs.Prelude.{option_map};
-ghost use Rattle.std.specs.Prelude.{Err, IfErr, IfNone, IfOk, IfSome, IsErrOf, IsFalse, IsTrue};
+ghost use Rattle.std.specs.Prelude.{Err, IfErr, IfNone, IfOk, IfSome, IsErrOf, IsFalse, IsOk, IsTrue};
 ghost use Rattle.std.specs.Prelude.{OnErr, OnOk};
 ghost use Rattle.jm_bytes.specs.Metered.{RisesAtMost};
 ghost use Rattle.jm_outside.specs.Outcome.{CountsFaults, Shows, Told};
@@ -66,7 +66,7 @@ fn put_reply<O: Sink, H: Ledger, R: Ledger>(
         ≡ option_map (λ old. old ++ reply image.now line.now) (O.content out.old)) }
     ensures err { IfErr result (λ error. PutFails error (reply image.now line.now)
         (O.content out.old) (O.content out.new)) }
-    ensures faults { CountsFaults (O.faults out.old) (O.faults out.new)
+    ensures faults { CountsFaults (O.faults out.old) (O.faults out.new) (IsOk result)
         (IsErrOf result ServeError.WriteFault) }
     ensures hashes { RisesAtMost hashes.old hashes.new 4 }
     ensures reads { IsWithin (line_bytes image.now line.now) reads.old reads.new }
@@ -96,7 +96,7 @@ fn put_joined<O: Sink, H: Ledger, R: Ledger>(
     ensures part { OnOk result (part.new.items ≡ []) }
     ensures err { IfErr result (λ error. PutFails error
         (reply image.now (part.old.items ++ bytes.now)) (O.content out.old) (O.content out.new)) }
-    ensures faults { CountsFaults (O.faults out.old) (O.faults out.new)
+    ensures faults { CountsFaults (O.faults out.old) (O.faults out.new) (IsOk result)
         (IsErrOf result ServeError.WriteFault) }
     ensures hashes { RisesAtMost hashes.old hashes.new 4 }
     ensures reads { IsWithin (line_bytes image.now (part.old.items ++ bytes.now))
@@ -130,7 +130,7 @@ fn end_line<O: Sink, H: Ledger, R: Ledger>(
         (progress.old.part.items ++ bytes.now) progress.new.part.items) }
     ensures err { IfErr result (λ error. LineFails error image.now progress.old.lines
         (progress.old.part.items ++ bytes.now) (O.content out.old) (O.content out.new)) }
-    ensures faults { CountsFaults (O.faults out.old) (O.faults out.new)
+    ensures faults { CountsFaults (O.faults out.old) (O.faults out.new) (IsOk result)
         (IsErrOf result ServeError.WriteFault) }
     ensures hashes { RisesAtMost hashes.old hashes.new 4 }
     ensures reads { IsWithin (line_bytes image.now (progress.old.part.items ++ bytes.now))
@@ -194,7 +194,7 @@ fn take_piece<O: Sink, H: Ledger, R: Ledger>(
         (progress.old.part.items ++ piece.now)
         (moment (O.content out.old) progress.old.lines hashes.old reads.old)
         (O.content out.new)) }
-    ensures faults { CountsFaults (O.faults out.old) (O.faults out.new)
+    ensures faults { CountsFaults (O.faults out.old) (O.faults out.new) (IsOk result)
         (IsErrOf result ServeError.WriteFault) }
     ensures hashes { hashes.old ≤ hashes.new }
     ensures reads { IsLater reads.old reads.new }
@@ -217,7 +217,7 @@ fn take<I: Source>(input: &mut I, into: &mut [u8]) -> Result<usize, ServeError>
     ensures end { IfOk result (λ n. n ≡ 0 → Shows (I.rest input.old) (λ rest. rest ≡ [])) }
     ensures err { OnErr result (I.rest input.new ≡ I.rest input.old) }
     ensures fault { IfErr result (λ error. error ≡ ServeError.ReadFault) }
-    ensures faults { CountsFaults (I.faults input.old) (I.faults input.new)
+    ensures faults { CountsFaults (I.faults input.old) (I.faults input.new) (IsOk result)
         (IsErrOf result ServeError.ReadFault) }
 {
     match input.take(into) {
@@ -251,9 +251,9 @@ fn serve_ended<I: Source, O: Sink, H: Ledger, R: Ledger>(
     ensures err { IfErr result (λ error. Serves image.now (Err error)
         (I.rest input.old) (I.rest input.new) (O.content out.old) (O.content out.new)
         reads.old reads.new) }
-    ensures input_faults { CountsFaults (I.faults input.old) (I.faults input.new)
+    ensures input_faults { CountsFaults (I.faults input.old) (I.faults input.new) (IsOk result)
         (IsErrOf result ServeError.ReadFault) }
-    ensures out_faults { CountsFaults (O.faults out.old) (O.faults out.new)
+    ensures out_faults { CountsFaults (O.faults out.old) (O.faults out.new) (IsOk result)
         (IsErrOf result ServeError.WriteFault) }
     ensures hashes { hashes.old ≤ hashes.new }
     ensures reads { IsLater reads.old reads.new }
@@ -299,9 +299,9 @@ pub fn serve<I: Source, O: Sink, H: Ledger, R: Ledger>(
     requires { reads.old.bytes ≡ image.now }
     ensures serves { Serves image.now result (I.rest input.old) (I.rest input.new)
         (O.content out.old) (O.content out.new) reads.old reads.new }
-    ensures input_faults { CountsFaults (I.faults input.old) (I.faults input.new)
+    ensures input_faults { CountsFaults (I.faults input.old) (I.faults input.new) (IsOk result)
         (IsErrOf result ServeError.ReadFault) }
-    ensures out_faults { CountsFaults (O.faults out.old) (O.faults out.new)
+    ensures out_faults { CountsFaults (O.faults out.old) (O.faults out.new) (IsOk result)
         (IsErrOf result ServeError.WriteFault) }
     ensures hashes { IfOk result (λ n. RisesAtMost hashes.old hashes.new (4 * n)) }
     ensures later { hashes.old ≤ hashes.new }

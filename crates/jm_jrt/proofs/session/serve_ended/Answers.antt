@@ -1,10 +1,10 @@
-use Rattle.std.proofs.Common.{◌≡◌, ◌≢◌, ◌++◌, ℕ, List, [], length, take, refl, sym, ap, ◌∙◌, subst, arith, Err, false}
-use Rattle.std.proofs.lemmas.List.{length-take}
+use Rattle.std.proofs.Common.{◌≡◌, ◌≢◌, ◌+◌, ◌≤◌, ◌++◌, ℕ, List, [], length, take, refl, sym, ap, ◌∙◌, subst, arith, Err, false}
+use Rattle.std.proofs.lemmas.List.{length-append, length-take}
 use Rattle.std.proofs.lemmas.List.Elements.{All-nil}
 use Rattle.jm_outside.specs.Outcome.{Told}
 use Rattle.jm_jrt.specs.declared.serve_error.ServeError.TheVariants.{Memory}
 use Rattle.jm_jrt.specs.Lines.{is_newline}
-use Rattle.jm_jrt.specs.Sessions.{IsFree, Moment, Passes, Serves, moment}
+use Rattle.jm_jrt.specs.Sessions.{IsFree, Moment, Passes, Serves, joined, moment}
 use Rattle.jm_jrt.proofs.ServeErrors.{err_with}
 use Rattle.jm_jrt.proofs.SessionEnds.{comes_further, serves_broken, serves_given, serves_nothing, told_none, told_same, told_start, told_then, written, written_length}
 use Rattle.jm_jrt.proofs.SessionSteps.{breaks_then, passes_more, passes_nothing, passes_then}
@@ -40,8 +40,8 @@ loop-progress-init g c =
           numbered = λ some. omega arith;
         };
       };
-      input_faults = omega arith;
-      out_faults = omega arith;
+      input_faults = refl;
+      out_faults = refl;
       hashes = omega arith;
       reads = record { bytes = refl; count = omega arith };
     }
@@ -108,12 +108,6 @@ loop-progress-preserved g c =
     let bytes = c.split_at.result.0.now in
     let new_part = c.take_piece.new.progress.part.items in
     let moved : Told (rest c.loop-progress.input) (rest c.take.new.input) (λ o n. o ≡ bytes ++ n) = subst (λ (t : List ℕ). Told (rest c.loop-progress.input) (rest c.take.new.input) (λ o n. o ≡ t ++ n)) (sym (c.split_at.ensures.front ∙ ap (take c.in_ok-count.count) (written c.as_slice.result.now c.take.new.into _ c.loop-progress.piece.len (c.take.ensures.length ∙ c.as_mut_slice.ensures.len) c.as_slice.ensures.value))) c.in_ok-count.ensures.moved in
-    let input = c.take.ensures.faults in
-    let input_count = input.count in
-    let input_before = before.input_faults in
-    let out = c.take_piece.ensures.faults in
-    let out_count = out.count in
-    let out_before = before.out_faults in
     let hashes = c.take_piece.ensures.hashes in
     let hashes_before = before.hashes in
     record {
@@ -125,8 +119,8 @@ loop-progress-preserved g c =
         passes = passes_then b (given ++ bytes) old (part ++ bytes) now new_part new (passes_more b given old part now bytes before.arrives.passes) c.in_ok-take_piece.ensures.passes;
         goes_on = c.in_ok-take_piece.ensures.open_new;
       };
-      input_faults = omega arith;
-      out_faults = omega arith;
+      input_faults = c.in_ok-count.ensures.faults.kept refl ∙ before.input_faults;
+      out_faults = c.in_ok-take_piece.ensures.faults.kept refl ∙ before.out_faults;
       hashes = omega arith;
       reads = later_then c.args.reads.now c.loop-progress.reads c.take_piece.new.reads before.reads c.take_piece.ensures.reads;
     }
@@ -146,6 +140,18 @@ returns-in_err-take_piece-clause-err g c =
     let moved : Told (rest c.loop-progress.input) (rest c.take.new.input) (λ o n. o ≡ bytes ++ n) = subst (λ (t : List ℕ). Told (rest c.loop-progress.input) (rest c.take.new.input) (λ o n. o ≡ t ++ n)) (sym (c.split_at.ensures.front ∙ ap (take c.in_ok-count.count) (written c.as_slice.result.now c.take.new.into _ c.loop-progress.piece.len (c.take.ensures.length ∙ c.as_mut_slice.ensures.len) c.as_slice.ensures.value))) c.in_ok-count.ensures.moved in
     let told = told_then (rest c.args.input.now) (rest c.loop-progress.input) (rest c.take.new.input) given bytes before.arrives.told moved in
     let error = c.in_err-take_piece.field-0.0 in
+    let breaks = c.in_err-take_piece.ensures.err in
+    let parts : length (part ++ bytes) ≡ length (joined breaks.done ++ breaks.behind) = ap length breaks.is in
+    let sum = length-append (joined breaks.done) breaks.behind in
+    let both = length-append part bytes in
+    let open_part = before.arrives.goes_on in
+    let short_part = open_part.short in
+    let room = before.piece in
+    let within = c.in_ok-count.ensures.within in
+    let into : length c.take.new.into ≡ 65536 = c.take.ensures.length ∙ ap length c.as_mut_slice.ensures.value ∙ before.piece in
+    let front : length bytes ≡ length (take c.in_ok-count.count c.take.new.into) = ap length (c.split_at.ensures.front ∙ ap (take c.in_ok-count.count) (written c.as_slice.result.now c.take.new.into _ c.loop-progress.piece.len (c.take.ensures.length ∙ c.as_mut_slice.ensures.len) c.as_slice.ensures.value)) in
+    let len = length-take c.in_ok-count.count c.take.new.into in
+    let most : length breaks.behind ≤ 8192 + 65536 = omega arith in
     err_with (λ e. Serves b (Err e) (rest c.args.input.now) (rest c.take.new.input) (content c.args.out.now) put c.args.reads.now c.take_piece.new.reads) c.from_residual-in_err-take_piece.result error c.from_residual-in_err-take_piece.ensures.1
     (serves_broken error b (rest c.args.input.now) (rest c.take.new.input) (given ++ bytes) old put c.args.reads.now c.take_piece.new.reads refl told
-    (breaks_then error b (given ++ bytes) old (part ++ bytes) now put (passes_more b given old part now bytes before.arrives.passes) c.in_err-take_piece.ensures.err))
+    (breaks_then error b (given ++ bytes) old (part ++ bytes) now put (passes_more b given old part now bytes before.arrives.passes) breaks) most)

@@ -14,7 +14,7 @@ loop-bytes-init g c = record {
   metered = c.requires.metered;
   goes_on = c.requires.open;
   passes = passes_nothing c.args.image.now (c.args.progress.now.part.items ++ c.args.piece.now) (moment (g.O.Sink.content c.args.out.now) c.args.progress.now.lines c.args.hashes.now c.args.reads.now);
-  faults = omega arith;
+  faults = refl;
   hashes = omega arith;
   reads = record { bytes = refl; count = omega arith };
 }
@@ -63,9 +63,6 @@ loop-bytes-preserved g c =
     let more = c.end_line.ensures.hashes in
     let rises = more.least in
     let hashes = before.hashes in
-    let faults = c.end_line.ensures.faults in
-    let count = faults.count in
-    let counted = before.faults in
     record {
       metered = later.bytes ∙ before.metered;
       goes_on = record {
@@ -75,7 +72,7 @@ loop-bytes-preserved g c =
         numbered = λ some. absurd (omega arith);
       };
       passes = subst (λ (t : List ℕ). Passes b text old (t ++ behind) new) (sym empty) (passes_then b text old ((part ++ bytes) ++ 10 ∷ behind) now behind new passes step);
-      faults = omega arith;
+      faults = c.in_ok-end_line.ensures.faults.kept refl ∙ before.faults;
       hashes = omega arith;
       reads = later_then c.args.reads.now c.loop-bytes.reads c.end_line.new.reads before.reads later;
     }
