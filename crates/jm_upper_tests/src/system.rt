@@ -3,7 +3,7 @@
 use crate::shelves::{TREE, unlike};
 use crate::streams::{given_by, put_marks};
 use jm_disk::FileShelf;
-use jm_outside::{StdSink, StdSource};
+use jm_outside::{Shelf, StdSink, StdSource};
 use std::os::unix::fs::symlink;
 use std::rt::{Env, Files};
 use std::test::Fail;
@@ -27,24 +27,32 @@ fn remove<R: Env + Files + AllocGlobal>(rt: &R, id: u32) -> Result<(), Fail> {
     Ok(fs::remove_dir_all(rt, own.as_str())?)
 }
 
-/// Links to a file, to a folder, to nothing and to itself, and an empty folder.
+/// Links to a file, to folders, to nothing, to a device and to the folder in which the link stands.
 fn make_links<R: Files>(rt: &R) -> io::Result<()> {
-    fs::create_dir(rt, "d/empty")?;
+    for folder in ["d/empty", "gone", "ring", "device"] {
+        fs::create_dir(rt, folder)?;
+    }
     symlink(rt, "a b", "d/link")?;
-    symlink(rt, "..", "d/round")?;
-    symlink(rt, "nowhere", "d/gone")?;
-    symlink(rt, "self", "d/self")
+    symlink(rt, "a/b", "d/way")?;
+    symlink(rt, "d", "f")?;
+    symlink(rt, "nowhere", "gone/x")?;
+    symlink(rt, ".", "ring/r")?;
+    symlink(rt, "/dev/null", "device/x")
 }
 
-/// Of the links only the one to a file is listed. For a read a file in the place of a folder is no
-/// fault, but a folder in the place of a file is one. For a write both are, and so is a folder that
-/// isn't there.
+/// Links are followed. For a read a file in the place of a folder is no fault, but a folder in the
+/// place of a file is one. For a write both are, and so is a folder that isn't there.
 const LINKED: &[&str] = &[
-    "a link to a file is listed, no other|names|d||a b,a/b.txt,a/b/two words.txt,link,",
+    "links are gone through|names|f||a b,a/b.txt,a/b/two words.txt,link,way/two words.txt,",
     "what was put anew|read|d/a b||22",
     "an empty file|read|d/a/b.txt||",
     "a file in two folders|read|d/a/b/two words.txt||4444",
     "a link to a file is read|read|d/link||22",
+    "a link to a file is made anew|create|d/link||",
+    "bytes are added|append|d/link|333|",
+    "what the link leads to was replaced|read|d/a b||333",
+    "no other file was left|names|d||a b,a/b.txt,a/b/two words.txt,link,way/two words.txt,",
+    "a link to nothing is no file|read|gone/x||-",
     "an empty folder has no names|names|d/empty||",
     "a file in place of a folder is no fault of a read|read|d/a/b.txt/c||-",
     "a folder in place of a file is a fault of a read|read|d/empty||!",
@@ -66,7 +74,58 @@ const SCRIPTS: &[(&str, &[&str], Option<&str>)] = &[
         FOLDERS,
         Some("d/empty: is a directory"),
     ),
+    (
+        "a link to nothing is a fault with its own path",
+        &["the folder is no list|names|gone||!"],
+        Some("gone/x: a link that leads nowhere"),
+    ),
+    (
+        "the 41st link on one way is a fault",
+        &["the folder is no list|names|ring||!"],
+        Some(concat!(
+            "ring/r/r/r/r/r/r/r/r/r/r/r/r/r/r/r/r/r/r/r/r",
+            "/r/r/r/r/r/r/r/r/r/r/r/r/r/r/r/r/r/r/r/r/r",
+            ": more than 40 links on one way, or links in a ring"
+        )),
+    ),
+    (
+        "a device is a fault of a list",
+        &["the folder is no list|names|device||!"],
+        Some("device/x: neither a file nor a folder"),
+    ),
+    (
+        "a link to nothing isn't replaced",
+        &["the link is no file|create|gone/x||!"],
+        Some("gone/x: a link that leads nowhere"),
+    ),
+    (
+        "a device isn't replaced",
+        &["the device is no file|create|device/x||!"],
+        Some("device/x: neither a file nor a link to one"),
+    ),
+    (
+        "a file that gives more than its length",
+        &["the system tells 0|read|/proc/version||!"],
+        Some("/proc/version: changed while it was read"),
+    ),
 ];
+
+/// The bytes of a file while it is made over another one; then, when it was given up, whether it is
+/// there and the bytes of the other one; and whether one is there that was given up where none was.
+fn given_up<R: Files + AllocGlobal>(rt: &R) -> Result<String, Fail> {
+    let alloc = rt.alloc();
+    let mut shelf = FileShelf::new(rt);
+    shelf.create(alloc, b"d/a b")?;
+    shelf.append(alloc, b"d/a b", b"55555")?;
+    let made = fs::read_to_string(rt, "d/a b.jm_tool-0")?;
+    shelf.give_up();
+    let is_left = fs::exists(rt, "d/a b.jm_tool-0")?;
+    let old = fs::read_to_string(rt, "d/a b")?;
+    shelf.create(alloc, b"new")?;
+    shelf.give_up();
+    let is_new = fs::exists(rt, "new")?;
+    Ok(format!(in alloc; "{made} {is_left} {old} {is_new}")?)
+}
 
 #[test]
 fn the_system_keeps_files(rt: HostRuntime) -> Result<(), Fail> {
@@ -81,6 +140,7 @@ fn the_system_keeps_files(rt: HostRuntime) -> Result<(), Fail> {
         assert_eq!(rt; unlike(rt.alloc(), &mut shelf, script)?, None, "{shows}");
         assert_eq!(rt; shelf.last_failure(), *failure, "{shows}");
     }
+    assert_eq!(rt; given_up(&rt)?.as_str(), "55555 false 333 false");
     let mut sink = StdSink::new(fs::create(&rt, "stream")?);
     assert_eq!(rt; put_marks(rt.alloc(), &mut sink)?.as_str(), "...");
     let mut source = StdSource::new(fs::open(&rt, "stream")?);
