@@ -3,7 +3,7 @@ ghost use Rattle.std.specs.Prelude.{◌∷◌, ◌++◌, [], All, IsUtf8, IfOk, 
 ghost use Rattle.jm_outside.specs.Files.{Rising};
 
 use crate::file_error::{FileError, Reason};
-use crate::paths::{Kind, is_absence, kind_at, text_of};
+use crate::paths::{Kind, is_absence, kind_at, node_at, text_of};
 use jm_bytes::{List, NoMemory, Text};
 use std::alloc::Global;
 use std::fs;
@@ -63,14 +63,34 @@ fn list<R: Files + AllocGlobal>(
     tree: &mut Tree,
 ) -> Result<bool, FileError> {
     let path = format!(in alloc; "{root}/{inner}")?;
-    let answer = match fs::read_dir(&rt, path.as_str()) {
-        Ok(entries) => add_entries(rt, alloc, entries, inner, tree),
-        Err(e) if is_absence(e.kind()) => return Ok(false),
-        Err(e) => Err(FileError::from(e)),
-    };
-    match answer {
-        Ok(()) => Ok(true),
+    match list_at(rt, alloc, path.as_str(), inner, tree) {
+        Ok(is_there) => Ok(is_there),
         Err(e) => Err(e.at(alloc, path.as_str().trim_end_matches('/'))),
+    }
+}
+
+/// Lists the folder at a path. One that is removed meanwhile gives no more names and no error, so
+/// what stands at the path is looked at before and behind.
+fn list_at<R: Files + AllocGlobal>(
+    rt: &R,
+    alloc: Global,
+    path: &str,
+    inner: &str,
+    tree: &mut Tree,
+) -> Result<bool, FileError> {
+    let Some(before) = node_at(rt, path)? else {
+        return Ok(false);
+    };
+    let entries = match fs::read_dir(&rt, path) {
+        Ok(entries) => entries,
+        Err(e) if is_absence(e.kind()) => return Ok(false),
+        Err(e) => return Err(FileError::from(e)),
+    };
+    add_entries(rt, alloc, entries, inner, tree)?;
+    if node_at(rt, path)? == Some(before) {
+        Ok(true)
+    } else {
+        Err(FileError::from(Reason::Vanished))
     }
 }
 
@@ -93,9 +113,6 @@ fn add_entries<'a, R: Files + AllocGlobal>(
             Err(e) => return Err(e.at(alloc, entry.path().to_string_lossy())),
         };
         add_entry(alloc, inner, entry.file_name(), kind, tree)?;
-    }
-    if os::errno() != 0 {
-        return Err(FileError::from(Reason::Vanished));
     }
     Ok(())
 }

@@ -19,6 +19,15 @@ pub fn text_of(path: &[u8]) -> Result<&str, FileError> {
     }
 }
 
+/// The numbers by which the system knows what stands at a path, or None where nothing does.
+pub fn node_at<R: Files>(rt: &R, path: &str) -> Result<Option<(u64, u64)>, FileError> {
+    match fs::metadata(rt, path) {
+        Ok(found) => Ok(Some((found.dev(), found.ino()))),
+        Err(e) if is_absence(e.kind()) => Ok(None),
+        Err(e) => Err(behind_link(e)),
+    }
+}
+
 /// What a way that ends in a link comes to.
 fn behind_link(error: io::Error) -> FileError {
     match error.kind() {
