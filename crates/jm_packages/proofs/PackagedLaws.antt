@@ -13,7 +13,7 @@ use Rattle.jm_modinfo.specs.ComputedInfo.{info_of}
 use Rattle.jm_modinfo.specs.Descriptors.{bodies, bytes_named, is_named, module_bodies, main_bodies, plain_bytes}
 use Rattle.jm_modinfo.specs.Flags.{is_module}
 use Rattle.jm_modinfo.specs.Written.{utf8, numbers_text}
-use Rattle.jm_packages.specs.Packages.{attribute_name, package_slots, added_slots, packages_attribute, with_packages, has_packages, has_room, takes_packages, packaged}
+use Rattle.jm_packages.specs.Packages.{attribute_name, package_slots, added_slots, packages_attribute, with_packages, has_packages, has_room, takes_none, takes_packages, packaged}
 use Rattle.jm_packages.proofs.MorePool.{pool_longer, attribute_stays, members_stay, text_stays}
 use Rattle.jm_packages.proofs.MoreInfo.{info_by, info_stays}
 
@@ -136,6 +136,15 @@ listed_stays packages c has = ap (λ b. cond b (with_packages packages c) c) (no
     none false true fits there = refl
     none true false fits there = absurd (false≢true there)
     none false false fits there = absurd (false≢true there)
+
+-- one that is no module's takes none either
+pub none_stays : (packages : List (List ℕ)) (c : ClassData) → takes_none c ≡ true → packaged packages c ≡ c
+none_stays packages c none = ap (λ b. cond b (with_packages packages c) c) (go (is_module c.access) (has_packages c) (has_room packages c) none)
+  where
+    go : (flagged named fits : Bool) → (not flagged || named) ≡ true → ((flagged && not named) && fits) ≡ false
+    go true true fits none = refl
+    go false named fits none = refl
+    go true false fits none = absurd (false≢true none)
 
 -- a second time nothing changes
 pub packaged_once : (packages : List (List ℕ)) (c : ClassData) → packaged packages (packaged packages c) ≡ packaged packages c

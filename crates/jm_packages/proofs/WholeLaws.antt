@@ -1,11 +1,14 @@
 -- What the call's answer says of the class that its bytes read as.
-use Rattle.std.proofs.Common.{◌≡◌, ℕ, List, Ok, sym, ap, subst, ◌∙◌}
+use Rattle.std.proofs.Common.{◌≡◌, ℕ, List, true, Some, None, Ok, sym, ap, subst, ◌∙◌}
+use Rattle.jm_bytes.proofs.Choice.{same_ok}
+use Rattle.jm_class.specs.declared.class.ClassFault.{ClassFault}
 use Rattle.jm_class.specs.Classes.{ClassData, class_text, ReadsAs}
-use Rattle.jm_class.proofs.ComputedClassLaws.{reads_once}
+use Rattle.jm_class.specs.ComputedClass.{class_fault, fault_of}
+use Rattle.jm_class.proofs.ComputedClassLaws.{reads-class_of, reads_once}
 use Rattle.jm_modinfo.specs.declared.descriptor.Descriptor.{Descriptor}
 use Rattle.jm_modinfo.specs.ComputedInfo.{info_of}
-use Rattle.jm_packages.specs.Packages.{packaged, packages_text, PackagesTo}
-use Rattle.jm_packages.proofs.PackagedLaws.{packaged-class, packaged-info, packaged_once}
+use Rattle.jm_packages.specs.Packages.{packaged, packages_text, takes_none, PackagesTo, Stays}
+use Rattle.jm_packages.proofs.PackagedLaws.{none_stays, packaged-class, packaged-info, packaged_once}
 
 module _ (packages : List (List ℕ)) (bytes text : List ℕ) (class : ClassData) (reads : ReadsAs bytes class) (is : text ≡ packages_text packages class) where
   pub packages_to : PackagesTo packages bytes text
@@ -27,3 +30,15 @@ module _ (packages : List (List ℕ)) (bytes text : List ℕ) (class : ClassData
   packages_again made back =
       ap (packages_text packages) (sym (made_is class made reads back))
       ∙ ap class_text (packaged_once packages class) ∙ sym is
+
+-- Bytes that stay
+
+pub class_stays : (bytes : List ℕ) (class : ClassData) → ReadsAs bytes class → takes_none class ≡ true → Stays bytes
+class_stays bytes class reads none c packages is =
+    let same : class ≡ c = same_ok {E = ClassFault} class c (sym (reads-class_of bytes class reads) ∙ is) in
+    none_stays packages c (subst (λ k. takes_none k ≡ true) same none)
+
+pub fault_stays : (bytes : List ℕ) (fault : ClassFault) → class_fault bytes ≡ Some fault → Stays bytes
+fault_stays bytes fault found c packages is =
+    let none : class_fault bytes ≡ None = ap fault_of is in
+    cc

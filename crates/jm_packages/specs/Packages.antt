@@ -2,11 +2,12 @@
 -- count, and a Package constant for each package; JVMS 4.4.12: such a constant holds the number of
 -- the Utf8 of its name). Where the constants stand that it needs, and which classes stay as they
 -- are, is this project's rule.
-use Rattle.std.specs.Prelude.{◌≡◌, ℕ, ◌+◌, ◌*◌, nat_le, nat_lt, Bool, not, ◌&&◌, List, [], ◌∷◌}
-use Rattle.std.specs.Prelude.{◌++◌, length, codes, if◌then◌else◌}
+use Rattle.std.specs.Prelude.{◌≡◌, ℕ, ◌+◌, ◌*◌, nat_le, nat_lt, Bool, not, ◌&&◌, ◌||◌, List, [], ◌∷◌}
+use Rattle.std.specs.Prelude.{◌++◌, length, Ok, codes, if◌then◌else◌}
 use Rattle.std.specs.List.{list_all, list_any}
 use Rattle.jm_class.specs.Classes.{SlotData, Constant, Opaque, AttributeData, ClassData, u2}
 use Rattle.jm_class.specs.Classes.{utf8_at, class_text, ReadsAs}
+use Rattle.jm_class.specs.ComputedClass.{class_of}
 use Rattle.jm_modinfo.specs.Descriptors.{is_named}
 use Rattle.jm_modinfo.specs.Flags.{is_module}
 use Rattle.jm_modinfo.specs.Written.{utf8, numbers_text}
@@ -50,6 +51,10 @@ with_packages packages c = record c {
 abbrev pub has_packages : ClassData → Bool
 has_packages c = list_any (λ a. is_named attribute_name (utf8_at c.pool a.name)) c.attributes
 
+-- the class takes no list, whatever the packages are: it is no module's, or it has one
+abbrev pub takes_none : ClassData → Bool
+takes_none c = not (is_module c.access) || has_packages c
+
 -- there is room: for the constants among 65,534, for one attribute more among 65,535, and for each
 -- package in a Utf8, which has at most 65,535 bytes
 abbrev pub has_room : List (List ℕ) → ClassData → Bool
@@ -75,3 +80,8 @@ pub record PackagesTo (packages : List (List ℕ)) (bytes text : List ℕ) : Typ
   pub class : ClassData
   pub reads : ReadsAs bytes class
   pub is : text ≡ packages_text packages class
+
+-- the bytes are no class, or one that stays as it is, whatever the packages are
+abbrev pub Stays : List ℕ → Type 0
+Stays bytes =
+    (c : ClassData) (packages : List (List ℕ)) → class_of bytes ≡ Ok c → packaged packages c ≡ c

@@ -7,10 +7,10 @@ ghost use Rattle.jm_modinfo.specs.declared.descriptor.Descriptor.{Descriptor};
 ghost use Rattle.jm_modinfo.specs.ComputedInfo.{info_of};
 ghost use Rattle.jm_modinfo.specs.Written.{numbers_text};
 ghost use Rattle.jm_packages.specs.Packages.{packages_body, with_packages, takes_packages};
-ghost use Rattle.jm_packages.specs.Packages.{packaged, packages_text, PackagesTo};
+ghost use Rattle.jm_packages.specs.Packages.{packaged, packages_text, PackagesTo, Stays};
 
 use crate::constants::{packages_body, push_packages, text_numbers};
-use crate::room::takes_packages;
+use crate::room::{takes_none, takes_packages};
 use jm_bytes::{NoMemory, Text};
 use jm_class::{Attribute, Body, Class, ReadError, Slot, read};
 use jm_classout::write;
@@ -104,4 +104,16 @@ pub fn add_packages(alloc: Global, bytes: &[u8], packages: &[Text]) -> Result<Te
     let class = read(alloc, bytes)?;
     let text = text_of(alloc, bytes, class, packages)?;
     Ok(text)
+}
+
+/// Whether some bytes are no class, or one that stays as it is, whatever the packages are: one that
+/// is no module's or has a list.
+pub fn stays(alloc: Global, bytes: &[u8]) -> Result<bool, NoMemory>
+    ensures { IfOk result (λ stays. stays ≡ true → Stays bytes.now) }
+{
+    match read(alloc, bytes) {
+        Ok(class) => Ok(takes_none(&class)),
+        Err(ReadError::Fault(_)) => Ok(true),
+        Err(ReadError::Memory) => Err(NoMemory),
+    }
 }

@@ -5,7 +5,7 @@ ghost use Rattle.jm_class.specs.Classes.{IsClass, utf8_at};
 ghost use Rattle.jm_class.specs.Views.{plain};
 ghost use Rattle.jm_modinfo.specs.Descriptors.{is_named};
 ghost use Rattle.jm_packages.specs.Packages.{attribute_name, has_packages, has_room};
-ghost use Rattle.jm_packages.specs.Packages.{takes_packages};
+ghost use Rattle.jm_packages.specs.Packages.{takes_none, takes_packages};
 
 use jm_bytes::Text;
 use jm_class::{Attribute, Class, utf8};
@@ -36,6 +36,13 @@ fn has_packages(class: &Class) -> bool
     ensures { result ≡ has_packages (plain class.now) }
 {
     one_lists(class, class.attributes.as_slice())
+}
+
+/// Whether a class takes no list, whatever the packages are.
+pub fn takes_none(class: &Class) -> bool
+    ensures { result ≡ takes_none (plain class.now) }
+{
+    class.access & 0x8000 == 0 || has_packages(class)
 }
 
 /// Whether a text fits in a Utf8.
