@@ -1,14 +1,18 @@
--- Numbers and constants, one after another.
+-- Attributes, numbers and constants, one after another.
 use Rattle.std.proofs.Common.{◌≡◌, ℕ, suc, ◌+◌, ◌-◌, ◌*◌, ◌<◌, Bool, ◌||◌, List, [], ◌∷◌, ◌++◌, length, take, drop, map, get_or, refl, sym, ap, ◌∙◌, arith, append_assoc}
 use Rattle.std.proofs.lemmas.List.{length_push, at_drop_more}
 use Rattle.std.specs.List.{list_any}
-use Rattle.jm_class.specs.Classes.{SlotData, Constant, u2}
+use Rattle.jm_class.specs.declared.class.Attribute.{Attribute}
+use Rattle.jm_class.specs.Classes.{SlotData, Constant, u2, utf8_at}
+use Rattle.jm_class.specs.Views.{attribute_of}
+use Rattle.jm_modinfo.specs.Descriptors.{is_named}
 use Rattle.jm_modinfo.specs.Written.{utf8, numbers_text}
 use Rattle.jm_packages.specs.Packages.{package_slots, added_slots, attribute_name}
 
-pub any-map : {X Y : Type 0} (p : Y → Bool) (f : X → Y) (xs : List X) → list_any p (map f xs) ≡ list_any (λ x. p (f x)) xs
-any-map p f [] = refl
-any-map p f (x ∷ xs) = ap (λ b. p (f x) || b) (any-map p f xs)
+-- the attributes as plain data have a name where they have it
+pub one_listed : (pool : List SlotData) (attributes : List Attribute) → list_any (λ a. is_named attribute_name (utf8_at pool a.name)) (map attribute_of attributes) ≡ list_any (λ a. is_named attribute_name (utf8_at pool a.name)) attributes
+one_listed pool [] = refl
+one_listed pool (a ∷ attributes) = ap (λ b. is_named attribute_name (utf8_at pool a.name) || b) (one_listed pool attributes)
 
 -- Numbers from a first one on, each two above the one before
 

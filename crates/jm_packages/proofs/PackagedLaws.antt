@@ -5,6 +5,8 @@ use Rattle.std.proofs.lemmas.Bool.{and_parts, ltb-true, leb-true, false≢true, 
 use Rattle.std.proofs.lemmas.List.{append-nil}
 use Rattle.std.proofs.lemmas.List.Elements.{All-append, All-cons, All-head, All-nil, All-tail, All-weaker, filter_map-append}
 use Rattle.std.proofs.lemmas.List.Folds.{list_any-append}
+use Rattle.std.proofs.lemmas.Option.{slice_get-get_or}
+use Rattle.std.proofs.Math.Seq.{get_or-append_seam}
 use Rattle.std.specs.List.{cons_option, list_all, list_any}
 use Rattle.std.specs.Prelude.{All, is_some, nat_eq, nat_le, nat_lt, slice_get, option_and_then}
 use Rattle.jm_class.specs.Classes.{SlotData, AttributeData, ClassData, utf8_of, utf8_at, IsPoolFrom, IsAttribute, IsClass}
@@ -52,19 +54,18 @@ length-numbers : (number count : ℕ) → length (numbers_text number count) ≡
 length-numbers number zero = refl
 length-numbers number (suc count) = let rest = length-numbers (number + 2) count in omega (arith, rest)
 
-at_seam : {A : Type 0} (front rest : List A) (x : A) → slice_get (front ++ x ∷ rest) (length front) ≡ Some x
-at_seam [] rest x = refl
-at_seam (y ∷ front) rest x = at_seam front rest x
-
 -- the name of the attribute stands behind the pool
 pub name_there : (pool : List SlotData) (packages : List (List ℕ)) → utf8_at (pool ++ added_slots (length pool + 1) packages) (length pool + 1) ≡ Some attribute_name
 name_there pool packages =
+    let name = utf8 attribute_name in
+    let rest = package_slots (length pool + 1 + 1) packages in
     let all = pool ++ added_slots (length pool + 1) packages in
+    let long = length-append pool (name ∷ rest) in
     let test : nat_eq (length pool + 1) 0 ≡ false = ne_eqb (length pool + 1) 0 (λ e. absurd (omega (arith, e))) in
     let place : length pool + 1 - 1 ≡ length pool = omega arith in
     ap (λ b. option_and_then utf8_of (cond b None (slice_get all (length pool + 1 - 1)))) test
     ∙ ap (λ k. option_and_then utf8_of (slice_get all k)) place
-    ∙ ap (option_and_then utf8_of) (at_seam pool (package_slots (length pool + 1 + 1) packages) (utf8 attribute_name))
+    ∙ ap (option_and_then utf8_of) (slice_get-get_or all (length pool) name (omega (arith, long)) ∙ ap (λ s. Some s) (get_or-append_seam pool name rest name))
 
 attribute_fits : (pool : List SlotData) (packages : List (List ℕ)) → length pool + 1 + 2 * length packages ≤ 65534 → IsAttribute (pool ++ added_slots (length pool + 1) packages) false (packages_attribute (length pool + 1) packages)
 attribute_fits pool packages fits =
