@@ -1,9 +1,9 @@
 -- Classes made anew, put at their places one after another, are the pairs with these texts.
-use Rattle.std.proofs.Common.{◌≡◌, ℕ, zero, suc, ◌+◌, ◌<◌, inl, inr, List, [], ◌∷◌, ◌++◌, Bool, true, false, cond, Result, Ok, Err, IfOk, Some, All, length, drop, ◌≤◌, get_or, slice_get, nat_eq, refl, sym, ap, subst, ◌∙◌, arith, append_assoc, append-nil, codes}
+use Rattle.std.proofs.Common.{◌≡◌, ℕ, zero, suc, ◌+◌, ◌<◌, inl, inr, List, [], ◌∷◌, ◌++◌, Bool, true, false, cond, Result, Ok, Err, IfOk, Some, All, length, drop, ◌≤◌, get_or, slice_get, refl, sym, ap, subst, ◌∙◌, arith, append_assoc, append-nil}
 use Rattle.std.proofs.lemmas.List.{length_push, drop_more, drop_all}
 use Rattle.std.proofs.lemmas.Option.{get_or_from_slice_get}
-use Rattle.std.proofs.lemmas.List.Elements.{All-nil, All-cons, All-tail, All-weaker}
-use Rattle.std.specs.List.{AllZip, ends_with}
+use Rattle.std.proofs.lemmas.List.Elements.{All-nil, All-cons, All-head, All-tail, All-weaker}
+use Rattle.std.specs.List.{AllZip}
 use Rattle.jm_bytes.proofs.Choice.{same_ok}
 use Rattle.jm_class.specs.Classes.{ClassData}
 use Rattle.jm_class.specs.ComputedClass.{class_of, class_fault, fault_of}
@@ -12,6 +12,7 @@ use Rattle.jm_class.specs.declared.class.ReadError.{ReadError}
 use Rattle.jm_class.specs.declared.class.ReadError.TheVariants as read_error
 use Rattle.jm_class.proofs.ComputedClassLaws.{reads-class_of}
 use Rattle.jm_compact.specs.Compact.{compact_text, with_text, Compacts}
+use Rattle.jm_packages.specs.Packages.{packages_text, PackagesTo}
 use Rattle.jm_pool.specs.Pairs.{names_of, with_bytes_at}
 use Rattle.jm_strip.specs.Strip.{StripsTo}
 use Rattle.jm_plugins.specs.declared.chain.ApplyError.{ApplyError}
@@ -19,7 +20,7 @@ use Rattle.jm_plugins.specs.declared.chain.ApplyError.TheVariants.{BadClass, Mem
 use Rattle.jm_plugins.specs.declared.classes.Remade.{Remade}
 use Rattle.jm_bytes.specs.Results.{followed, UnlessMemory}
 use Rattle.jm_pool.proofs.PairLaws.{zipped}
-use Rattle.jm_plugins.specs.Plugins.{remade_pair, remade_pairs, stripped_text}
+use Rattle.jm_plugins.specs.Plugins.{remade, remade_pair, remade_pairs, stripped_text}
 use Rattle.jm_plugins.specs.Steps.{class_places, put_remade, put_one, IsRemade, Refuses, RemadeAs}
 use Rattle.jm_plugins.proofs.Beside.{at_front}
 
@@ -40,40 +41,40 @@ as_many (p ∷ pairs) (suc place) text = ap suc (as_many pairs place text)
 
 -- Places of classes
 
-places_within : (at : ℕ) (pairs : List (List ℕ × List ℕ)) → All (λ place. place < at + length pairs) (class_places at pairs)
-places_within at [] = All-nil (λ place. place < at + 0)
-places_within at (pair ∷ pairs) = go (ends_with nat_eq pair.0 (codes ".class")) (All-weaker (λ place. place < at + 1 + length pairs) (λ place. place < at + length (pair ∷ pairs)) (λ place below. omega arith) (class_places (at + 1) pairs) (places_within (at + 1) pairs))
+places_within : (takes : List ℕ → Bool) (at : ℕ) (pairs : List (List ℕ × List ℕ)) → All (λ place. place < at + length pairs) (class_places takes at pairs)
+places_within takes at [] = All-nil (λ place. place < at + 0)
+places_within takes at (pair ∷ pairs) = go (takes pair.0) (All-weaker (λ place. place < at + 1 + length pairs) (λ place. place < at + length (pair ∷ pairs)) (λ place below. omega arith) (class_places takes (at + 1) pairs) (places_within takes (at + 1) pairs))
   where
-    go : (b : Bool) → All (λ place. place < at + length (pair ∷ pairs)) (class_places (at + 1) pairs) → All (λ place. place < at + length (pair ∷ pairs)) (cond b (at ∷ class_places (at + 1) pairs) (class_places (at + 1) pairs))
-    go true rest = All-cons (λ place. place < at + length (pair ∷ pairs)) at (class_places (at + 1) pairs) (omega arith) rest
+    go : (b : Bool) → All (λ place. place < at + length (pair ∷ pairs)) (class_places takes (at + 1) pairs) → All (λ place. place < at + length (pair ∷ pairs)) (cond b (at ∷ class_places takes (at + 1) pairs) (class_places takes (at + 1) pairs))
+    go true rest = All-cons (λ place. place < at + length (pair ∷ pairs)) at (class_places takes (at + 1) pairs) (omega arith) rest
     go false rest = rest
 
-pub classes_within : (pairs : List (List ℕ × List ℕ)) → All (λ place. place < length pairs) (class_places 0 pairs)
-classes_within pairs =
+pub classes_within : (takes : List ℕ → Bool) (pairs : List (List ℕ × List ℕ)) → All (λ place. place < length pairs) (class_places takes 0 pairs)
+classes_within takes pairs =
     let none : 0 + length pairs ≡ length pairs = omega arith in
-    subst (λ n. All (λ place. place < n) (class_places 0 pairs)) none (places_within 0 pairs)
+    subst (λ n. All (λ place. place < n) (class_places takes 0 pairs)) none (places_within takes 0 pairs)
 
 -- the classes behind a place, with one place more at the front
-module _ (pairs : List (List ℕ × List ℕ)) (place : ℕ) (pair : List ℕ × List ℕ) (there : slice_get pairs place ≡ Some pair) (below : place < length pairs) where
-  one_more : class_places place (drop place pairs) ≡ class_places place (pair ∷ drop (place + 1) pairs)
-  one_more = ap (class_places place) (drop_more pairs place pair below ∙ ap (λ p. p ∷ drop (place + 1) pairs) (get_or_from_slice_get pairs place pair pair there))
+module _ (takes : List ℕ → Bool) (pairs : List (List ℕ × List ℕ)) (place : ℕ) (pair : List ℕ × List ℕ) (there : slice_get pairs place ≡ Some pair) (below : place < length pairs) where
+  one_more : class_places takes place (drop place pairs) ≡ class_places takes place (pair ∷ drop (place + 1) pairs)
+  one_more = ap (class_places takes place) (drop_more pairs place pair below ∙ ap (λ p. p ∷ drop (place + 1) pairs) (get_or_from_slice_get pairs place pair pair there))
 
-  pub class_next : (found all : List ℕ) → ends_with nat_eq pair.0 (codes ".class") ≡ true → found ++ class_places place (drop place pairs) ≡ all → (found ++ place ∷ []) ++ class_places (place + 1) (drop (place + 1) pairs) ≡ all
+  pub class_next : (found all : List ℕ) → takes pair.0 ≡ true → found ++ class_places takes place (drop place pairs) ≡ all → (found ++ place ∷ []) ++ class_places takes (place + 1) (drop (place + 1) pairs) ≡ all
   class_next found all named so_far =
-      let here = one_more ∙ ap (λ b. cond b (place ∷ class_places (place + 1) (drop (place + 1) pairs)) (class_places (place + 1) (drop (place + 1) pairs))) named in
-      append_assoc found (place ∷ []) (class_places (place + 1) (drop (place + 1) pairs)) ∙ ap (λ l. found ++ l) (sym here) ∙ so_far
+      let here = one_more ∙ ap (λ b. cond b (place ∷ class_places takes (place + 1) (drop (place + 1) pairs)) (class_places takes (place + 1) (drop (place + 1) pairs))) named in
+      append_assoc found (place ∷ []) (class_places takes (place + 1) (drop (place + 1) pairs)) ∙ ap (λ l. found ++ l) (sym here) ∙ so_far
 
-  pub other_next : (found all : List ℕ) → ends_with nat_eq pair.0 (codes ".class") ≡ false → found ++ class_places place (drop place pairs) ≡ all → found ++ class_places (place + 1) (drop (place + 1) pairs) ≡ all
+  pub other_next : (found all : List ℕ) → takes pair.0 ≡ false → found ++ class_places takes place (drop place pairs) ≡ all → found ++ class_places takes (place + 1) (drop (place + 1) pairs) ≡ all
   other_next found all named so_far =
-      let here = one_more ∙ ap (λ b. cond b (place ∷ class_places (place + 1) (drop (place + 1) pairs)) (class_places (place + 1) (drop (place + 1) pairs))) named in
+      let here = one_more ∙ ap (λ b. cond b (place ∷ class_places takes (place + 1) (drop (place + 1) pairs)) (class_places takes (place + 1) (drop (place + 1) pairs))) named in
       ap (λ l. found ++ l) (sym here) ∙ so_far
 
 -- no place is behind the last
-pub classes_all : (pairs : List (List ℕ × List ℕ)) (place : ℕ) (found all : List ℕ) → length pairs ≤ place → found ++ class_places place (drop place pairs) ≡ all → found ≡ all
-classes_all pairs place found all past so_far = sym (append-nil found) ∙ ap (λ l. found ++ class_places place l) (sym (drop_all place pairs past)) ∙ so_far
+pub classes_all : (takes : List ℕ → Bool) (pairs : List (List ℕ × List ℕ)) (place : ℕ) (found all : List ℕ) → length pairs ≤ place → found ++ class_places takes place (drop place pairs) ≡ all → found ≡ all
+classes_all takes pairs place found all past so_far = sym (append-nil found) ∙ ap (λ l. found ++ class_places takes place l) (sym (drop_all place pairs past)) ∙ so_far
 
 -- classes made anew are at places of the pool
-pub remade_within : (text : ClassData → List ℕ) (n : ℕ) (all : List (List ℕ × List ℕ)) (places : List ℕ) (outs : List Remade) → AllZip (IsRemade text all) places outs → All (λ place. place < n) places → All (λ one. one.place < n) outs
+pub remade_within : (text : List ℕ → ClassData → List ℕ) (n : ℕ) (all : List (List ℕ × List ℕ)) (places : List ℕ) (outs : List Remade) → AllZip (IsRemade text all) places outs → All (λ place. place < n) places → All (λ one. one.place < n) outs
 remade_within text n all [] [] zipped within = All-nil (λ one. one.place < n)
 remade_within text n all [] (one ∷ outs) zipped within = absurd zipped
 remade_within text n all (place ∷ places) [] zipped within = absurd zipped
@@ -95,6 +96,18 @@ strips_as bytes (Err (read_error.Fault fault)) given fails = go (class_of bytes)
     go (Err found) is same = let found_is : found ≡ fault = cc in cc
 strips_as bytes (Err read_error.Memory) given fails = tt
 
+pub packages_as : (packages : List (List ℕ)) (bytes : List ℕ) (result : Result (List ℕ) ReadError)
+    → IfOk result (λ text. PackagesTo packages bytes text)
+    → ((fault : ClassFault) → result ≡ Err (read_error.Fault fault) → class_fault bytes ≡ Some fault) → RemadeAs (packages_text packages) bytes result
+packages_as packages bytes (Ok text) given fails =
+    (given.class, reads-class_of bytes given.class given.reads, given.is)
+packages_as packages bytes (Err (read_error.Fault fault)) given fails = go (class_of bytes) refl (fails fault refl)
+  where
+    go : (r : Result ClassData ClassFault) → class_of bytes ≡ r → fault_of r ≡ Some fault → class_of bytes ≡ Err fault
+    go (Ok c) is none = cc
+    go (Err found) is same = let found_is : found ≡ fault = cc in cc
+packages_as packages bytes (Err read_error.Memory) given fails = tt
+
 pub compacts_as : (bytes : List ℕ) (result : Result (List ℕ) ReadError) → Compacts bytes result → RemadeAs compact_text bytes result
 compacts_as bytes (Ok text) given = go (class_of bytes) refl given
   where
@@ -114,52 +127,74 @@ joined : (done : List (List ℕ × List ℕ)) (first : List ℕ × List ℕ) (o 
 joined done first (Ok xs) = ap (λ l. Ok l) (append_assoc done (first ∷ []) xs)
 joined done first (Err refusal) = refl
 
-module _ (text : ClassData → List ℕ) where
+module _ (takes : List ℕ → Bool) (text : List ℕ → ClassData → List ℕ) where
   -- a first pair that is given, and then what the rest comes to
-  onward : (done rest : List (List ℕ × List ℕ)) (pair first : List ℕ × List ℕ) (outs : List Remade) → remade_pair text pair ≡ Ok first → UnlessMemory Memory (put_remade outs ((done ++ first ∷ []) ++ rest)) (followed (remade_pairs text rest) (λ xs. Ok ((done ++ first ∷ []) ++ xs))) → UnlessMemory Memory (put_remade outs (done ++ first ∷ rest)) (followed (remade_pairs text (pair ∷ rest)) (λ ys. Ok (done ++ ys)))
+  onward : (done rest : List (List ℕ × List ℕ)) (pair first : List ℕ × List ℕ) (outs : List Remade) → remade_pair takes text pair ≡ Ok first → UnlessMemory Memory (put_remade outs ((done ++ first ∷ []) ++ rest)) (followed (remade_pairs takes text rest) (λ xs. Ok ((done ++ first ∷ []) ++ xs))) → UnlessMemory Memory (put_remade outs (done ++ first ∷ rest)) (followed (remade_pairs takes text (pair ∷ rest)) (λ ys. Ok (done ++ ys)))
   onward done rest pair first outs is so_far =
       let place : (done ++ first ∷ []) ++ rest ≡ done ++ first ∷ rest = append_assoc done (first ∷ []) rest in
-      let whole : followed (remade_pairs text (pair ∷ rest)) (λ ys. Ok (done ++ ys)) ≡ followed (followed (remade_pairs text rest) (λ xs. Ok (first ∷ xs))) (λ ys. Ok (done ++ ys)) = ap (λ o. followed (followed o (λ one. followed (remade_pairs text rest) (λ xs. Ok (one ∷ xs)))) (λ ys. Ok (done ++ ys))) is in
-      rw (whole, sym (joined done first (remade_pairs text rest)), sym place) so_far
+      let whole : followed (remade_pairs takes text (pair ∷ rest)) (λ ys. Ok (done ++ ys)) ≡ followed (followed (remade_pairs takes text rest) (λ xs. Ok (first ∷ xs))) (λ ys. Ok (done ++ ys)) = ap (λ o. followed (followed o (λ one. followed (remade_pairs takes text rest) (λ xs. Ok (one ∷ xs)))) (λ ys. Ok (done ++ ys))) is in
+      rw (whole, sym (joined done first (remade_pairs takes text rest)), sym place) so_far
 
-  put_is : (all front done rest : List (List ℕ × List ℕ)) (outs : List Remade) → all ≡ front ++ rest → length done ≡ length front → AllZip (IsRemade text all) (class_places (length front) rest) outs → UnlessMemory Memory (put_remade outs (done ++ rest)) (followed (remade_pairs text rest) (λ ys. Ok (done ++ ys)))
+  put_is : (all front done rest : List (List ℕ × List ℕ)) (outs : List Remade) → all ≡ front ++ rest → length done ≡ length front → AllZip (IsRemade text all) (class_places takes (length front) rest) outs → UnlessMemory Memory (put_remade outs (done ++ rest)) (followed (remade_pairs takes text rest) (λ ys. Ok (done ++ ys)))
   put_is all front done [] [] is level zipped = inr refl
   put_is all front done [] (one ∷ outs) is level zipped = absurd zipped
-  put_is all front done (pair ∷ rest) outs is level zipped = go (ends_with nat_eq pair.0 (codes ".class")) refl outs zipped (λ first later beside. put_is all (front ++ pair ∷ []) (done ++ first ∷ []) rest later (is ∙ sym (append_assoc front (pair ∷ []) rest)) (length_push done first ∙ ap (λ n. n + 1) level ∙ sym (length_push front pair)) (subst (λ n. AllZip (IsRemade text all) (class_places n rest) later) (sym (length_push front pair)) beside))
+  put_is all front done (pair ∷ rest) outs is level zipped = go (takes pair.0) refl outs zipped (λ first later beside. put_is all (front ++ pair ∷ []) (done ++ first ∷ []) rest later (is ∙ sym (append_assoc front (pair ∷ []) rest)) (length_push done first ∙ ap (λ n. n + 1) level ∙ sym (length_push front pair)) (subst (λ n. AllZip (IsRemade text all) (class_places takes n rest) later) (sym (length_push front pair)) beside))
     where
       there : slice_get all (length front) ≡ Some pair
       there = ap (λ l. slice_get l (length front)) is ∙ at_front front rest pair
 
       Onward : Type 0
-      Onward = (first : List ℕ × List ℕ) (later : List Remade) → AllZip (IsRemade text all) (class_places (length front + 1) rest) later → UnlessMemory Memory (put_remade later ((done ++ first ∷ []) ++ rest)) (followed (remade_pairs text rest) (λ xs. Ok ((done ++ first ∷ []) ++ xs)))
+      Onward = (first : List ℕ × List ℕ) (later : List Remade) → AllZip (IsRemade text all) (class_places takes (length front + 1) rest) later → UnlessMemory Memory (put_remade later ((done ++ first ∷ []) ++ rest)) (followed (remade_pairs takes text rest) (λ xs. Ok ((done ++ first ∷ []) ++ xs)))
 
-      one_class : (one : Remade) (later : List Remade) (o : Result (List ℕ) ReadError) → ends_with nat_eq pair.0 (codes ".class") ≡ true → RemadeAs text pair.1 o → AllZip (IsRemade text all) (class_places (length front + 1) rest) later → Onward → UnlessMemory Memory (put_one (length done) o (put_remade later) (done ++ pair ∷ rest)) (followed (remade_pairs text (pair ∷ rest)) (λ ys. Ok (done ++ ys)))
+      one_class : (one : Remade) (later : List Remade) (o : Result (List ℕ) ReadError) → takes pair.0 ≡ true → RemadeAs (text pair.0) pair.1 o → AllZip (IsRemade text all) (class_places takes (length front + 1) rest) later → Onward → UnlessMemory Memory (put_one (length done) o (put_remade later) (done ++ pair ∷ rest)) (followed (remade_pairs takes text (pair ∷ rest)) (λ ys. Ok (done ++ ys)))
       one_class one later (Ok made) named own_text beside on =
-          let own : remade_pair text pair ≡ Ok (pair.0, made) = rw (named, own_text.1, own_text.2) refl in
+          let own : remade_pair takes text pair ≡ Ok (pair.0, made) = rw (named, own_text.1, own_text.2) refl in
           rw (replaced done rest pair made) (onward done rest pair (pair.0, made) later own (on (pair.0, made) later beside))
       one_class one later (Err (read_error.Fault fault)) named own_text beside on =
-          let own : remade_pair text pair ≡ Err (BadClass pair.0 fault) = rw (named, own_text) refl in
-          inr (ap (λ name. Err (BadClass name fault)) (name_there done rest pair) ∙ sym (ap (λ o. followed (followed o (λ first. followed (remade_pairs text rest) (λ xs. Ok (first ∷ xs)))) (λ ys. Ok (done ++ ys))) own))
+          let own : remade_pair takes text pair ≡ Err (BadClass pair.0 fault) = rw (named, own_text) refl in
+          inr (ap (λ name. Err (BadClass name fault)) (name_there done rest pair) ∙ sym (ap (λ o. followed (followed o (λ first. followed (remade_pairs takes text rest) (λ xs. Ok (first ∷ xs)))) (λ ys. Ok (done ++ ys))) own))
       one_class one later (Err read_error.Memory) named own_text beside on = inl refl
 
-      go : (b : Bool) → ends_with nat_eq pair.0 (codes ".class") ≡ b → (outs : List Remade) → AllZip (IsRemade text all) (class_places (length front) (pair ∷ rest)) outs → Onward → UnlessMemory Memory (put_remade outs (done ++ pair ∷ rest)) (followed (remade_pairs text (pair ∷ rest)) (λ ys. Ok (done ++ ys)))
+      go : (b : Bool) → takes pair.0 ≡ b → (outs : List Remade) → AllZip (IsRemade text all) (class_places takes (length front) (pair ∷ rest)) outs → Onward → UnlessMemory Memory (put_remade outs (done ++ pair ∷ rest)) (followed (remade_pairs takes text (pair ∷ rest)) (λ ys. Ok (done ++ ys)))
       go false named outs zipped on =
-          let own : remade_pair text pair ≡ Ok pair = rw named refl in
+          let own : remade_pair takes text pair ≡ Ok pair = rw named refl in
           onward done rest pair pair outs own (on pair outs (rw named at zipped))
       go true named [] zipped on = let none = rw named at zipped in absurd none
       go true named (one ∷ later) zipped on =
-          let beside : AllZip (IsRemade text all) (length front ∷ class_places (length front + 1) rest) (one ∷ later) = rw named at zipped in
+          let beside : AllZip (IsRemade text all) (length front ∷ class_places takes (length front + 1) rest) (one ∷ later) = rw named at zipped in
           let own_text = beside.0.1 pair there in
           let place : one.place ≡ length done = beside.0.0 ∙ sym level in
           rw place (one_class one later one.outcome named own_text beside.1 on)
 
   -- put at their places, they are the pairs with these texts
-  pub put_all : (pairs : List (List ℕ × List ℕ)) (outs : List Remade) → AllZip (IsRemade text pairs) (class_places 0 pairs) outs → UnlessMemory Memory (put_remade outs pairs) (remade_pairs text pairs)
-  put_all pairs outs zipped = subst (λ o. UnlessMemory Memory (put_remade outs pairs) o) (plain (remade_pairs text pairs)) (put_is pairs [] [] pairs outs refl refl zipped)
+  pub put_all : (pairs : List (List ℕ × List ℕ)) (outs : List Remade) → AllZip (IsRemade text pairs) (class_places takes 0 pairs) outs → UnlessMemory Memory (put_remade outs pairs) (remade_pairs takes text pairs)
+  put_all pairs outs zipped = subst (λ o. UnlessMemory Memory (put_remade outs pairs) o) (plain (remade_pairs takes text pairs)) (put_is pairs [] [] pairs outs refl refl zipped)
     where
       plain : (o : Result (List (List ℕ × List ℕ)) ApplyError) → followed o (λ ys. Ok ys) ≡ o
       plain (Ok ys) = refl
       plain (Err refusal) = refl
+
+-- Texts that are the same
+
+-- other texts that are the same of each class that is taken make the same pairs
+module _ (takes : List ℕ → Bool) (text other : List ℕ → ClassData → List ℕ) where
+  -- of one pair
+  abbrev Same : List ℕ × List ℕ → Type 0
+  Same pair = takes pair.0 ≡ true → (c : ClassData) → class_of pair.1 ≡ Ok c → text pair.0 c ≡ other pair.0 c
+
+  same_pair : (pair : List ℕ × List ℕ) → Same pair → remade_pair takes text pair ≡ remade_pair takes other pair
+  same_pair pair same = go (takes pair.0) refl (class_of pair.1) refl
+    where
+      go : (b : Bool) → takes pair.0 ≡ b → (r : Result ClassData ClassFault) → class_of pair.1 ≡ r → cond b (remade (text pair.0) pair.0 r) (Ok pair) ≡ cond b (remade (other pair.0) pair.0 r) (Ok pair)
+      go false is r reads = refl
+      go true is (Ok c) reads = ap (λ t. Ok (pair.0, t)) (same is c reads)
+      go true is (Err fault) reads = refl
+
+  pub same_texts : (pairs : List (List ℕ × List ℕ)) → All Same pairs → remade_pairs takes text pairs ≡ remade_pairs takes other pairs
+  same_texts [] same = refl
+  same_texts (pair ∷ pairs) same =
+      ap (λ o. followed o (λ first. followed (remade_pairs takes text pairs) (λ rest. Ok (first ∷ rest)))) (same_pair pair (All-head Same pair pairs same))
+      ∙ ap (λ o. followed (remade_pair takes other pair) (λ first. followed o (λ rest. Ok (first ∷ rest)))) (same_texts pairs (All-tail Same pair pairs same))
 
 -- One after another
 

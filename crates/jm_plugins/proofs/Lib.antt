@@ -1,6 +1,7 @@
 pub mod Beside
 pub mod ClassLaws
 pub mod NameLaws
+pub mod PackagingLaws
 pub mod OrderLaws
 pub mod TurnLaws
 pub mod Vectors

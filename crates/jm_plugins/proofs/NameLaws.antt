@@ -1,11 +1,11 @@
 -- Plug-ins give no resource a new name: what holds of each name still does, and names that differ
 -- still differ.
-use Rattle.std.proofs.Common.{◌≡◌, ◌≢◌, ℕ, List, [], ◌∷◌, Bool, true, false, cond, not, All, AllPairs, Result, Ok, Err, nat_eq, codes, refl, sym, ap, subst, ◌∙◌}
+use Rattle.std.proofs.Common.{◌≡◌, ◌≢◌, ℕ, List, [], ◌∷◌, Bool, true, false, cond, not, All, AllPairs, Result, Ok, Err, refl, sym, ap, subst, ◌∙◌}
 use Rattle.std.proofs.lemmas.Bool.{false≢true}
 use Rattle.std.proofs.lemmas.List.{map-append}
 use Rattle.std.proofs.lemmas.List.Elements.{All-append, All-contains, All-filter, filter_passes}
 use Rattle.std.proofs.lemmas.List.Kept.{AllPairs-filter}
-use Rattle.std.specs.List.{ends_with, filter}
+use Rattle.std.specs.List.{filter}
 use Rattle.jm_bytes.proofs.Choice.{same_ok}
 use Rattle.jm_bytes.proofs.Pairs.{pairs_append}
 use Rattle.jm_class.specs.Classes.{ClassData}
@@ -21,7 +21,8 @@ use Rattle.jm_plugins.specs.declared.chain.ApplyError.{ApplyError}
 use Rattle.jm_pattern.specs.ComputedMatching.{matches_any}
 use Rattle.jm_plugins.specs.Matching.{excluded, ordered}
 use Rattle.jm_bytes.specs.Results.{followed}
-use Rattle.jm_plugins.specs.Plugins.{act, apply, remade, remade_pair, remade_pairs, stripped_text}
+use Rattle.jm_plugins.specs.Packaging.{is_descriptor, listing_text}
+use Rattle.jm_plugins.specs.Plugins.{act, apply, is_class, remade, remade_pair, remade_pairs, stripped_text}
 
 -- Names of what a plug-in leaves
 
@@ -33,21 +34,21 @@ names_filter test (pair ∷ pairs) = go (test pair.0) (names_filter test pairs)
     go true rest = ap (λ l. pair.0 ∷ l) rest
     go false rest = rest
 
-name_remade : (text : ClassData → List ℕ) (pair first : List ℕ × List ℕ) → remade_pair text pair ≡ Ok first → first.0 ≡ pair.0
-name_remade text pair first is = go (ends_with nat_eq pair.0 (codes ".class")) (class_of pair.1) is
+name_remade : (takes : List ℕ → Bool) (text : List ℕ → ClassData → List ℕ) (pair first : List ℕ × List ℕ) → remade_pair takes text pair ≡ Ok first → first.0 ≡ pair.0
+name_remade takes text pair first is = go (takes pair.0) (class_of pair.1) is
   where
-    go : (b : Bool) (r : Result ClassData ClassFault) → cond b (remade text pair.0 r) (Ok pair) ≡ Ok first → first.0 ≡ pair.0
+    go : (b : Bool) (r : Result ClassData ClassFault) → cond b (remade (text pair.0) pair.0 r) (Ok pair) ≡ Ok first → first.0 ≡ pair.0
     go false r same = ap (λ (p : List ℕ × List ℕ). p.0) (sym (same_ok pair first same))
-    go true (Ok c) same = ap (λ (p : List ℕ × List ℕ). p.0) (sym (same_ok (pair.0, text c) first same))
+    go true (Ok c) same = ap (λ (p : List ℕ × List ℕ). p.0) (sym (same_ok (pair.0, text pair.0 c) first same))
     go true (Err fault) same = cc
 
-names_remade : (text : ClassData → List ℕ) (pairs left : List (List ℕ × List ℕ)) → remade_pairs text pairs ≡ Ok left → names_of left ≡ names_of pairs
-names_remade text [] left is = ap names_of (sym (same_ok [] left is))
-names_remade text (pair ∷ pairs) left is = go (remade_pair text pair) (remade_pairs text pairs) refl refl is (λ rest gives. names_remade text pairs rest gives)
+names_remade : (takes : List ℕ → Bool) (text : List ℕ → ClassData → List ℕ) (pairs left : List (List ℕ × List ℕ)) → remade_pairs takes text pairs ≡ Ok left → names_of left ≡ names_of pairs
+names_remade takes text [] left is = ap names_of (sym (same_ok [] left is))
+names_remade takes text (pair ∷ pairs) left is = go (remade_pair takes text pair) (remade_pairs takes text pairs) refl refl is (λ rest gives. names_remade takes text pairs rest gives)
   where
-    go : (o : Result (List ℕ × List ℕ) ApplyError) (r : Result (List (List ℕ × List ℕ)) ApplyError) → remade_pair text pair ≡ o → remade_pairs text pairs ≡ r → followed o (λ first. followed r (λ rest. Ok (first ∷ rest))) ≡ Ok left → ((rest : List (List ℕ × List ℕ)) → remade_pairs text pairs ≡ Ok rest → names_of rest ≡ names_of pairs) → names_of left ≡ pair.0 ∷ names_of pairs
+    go : (o : Result (List ℕ × List ℕ) ApplyError) (r : Result (List (List ℕ × List ℕ)) ApplyError) → remade_pair takes text pair ≡ o → remade_pairs takes text pairs ≡ r → followed o (λ first. followed r (λ rest. Ok (first ∷ rest))) ≡ Ok left → ((rest : List (List ℕ × List ℕ)) → remade_pairs takes text pairs ≡ Ok rest → names_of rest ≡ names_of pairs) → names_of left ≡ pair.0 ∷ names_of pairs
     go (Ok first) (Ok rest) one others same later =
-        ap names_of (sym (same_ok (first ∷ rest) left same)) ∙ ap (λ name. name ∷ names_of rest) (name_remade text pair first one) ∙ ap (λ l. pair.0 ∷ l) (later rest others)
+        ap names_of (sym (same_ok (first ∷ rest) left same)) ∙ ap (λ name. name ∷ names_of rest) (name_remade takes text pair first one) ∙ ap (λ l. pair.0 ∷ l) (later rest others)
     go (Ok first) (Err refusal) one others same later = cc
     go (Err refusal) r one others same later = cc
 
@@ -61,8 +62,9 @@ module _ (Says : List (List ℕ) → Type 0) (fewer : (test : List ℕ → Bool)
       subst (λ l. Says (names_of l)) (same_ok (excluded patterns pairs) left is) (subst Says (sym names) (fewer test (names_of pairs) says))
   acted_on (plugin.Order patterns) pairs left is says =
       subst (λ l. Says (names_of l)) (same_ok (ordered patterns pairs) left is) (turned patterns pairs says)
-  acted_on plugin.Strip pairs left is says = subst Says (sym (names_remade stripped_text pairs left is)) says
-  acted_on plugin.Compact pairs left is says = subst Says (sym (names_remade compact_text pairs left is)) says
+  acted_on plugin.Strip pairs left is says = subst Says (sym (names_remade is_class (λ name. stripped_text) pairs left is)) says
+  acted_on plugin.Compact pairs left is says = subst Says (sym (names_remade is_class (λ name. compact_text) pairs left is)) says
+  acted_on plugin.Packages pairs left is says = subst Says (sym (names_remade is_descriptor (listing_text (names_of pairs)) pairs left is)) says
 
   applied_to : (plugins : List Plugin) (before after : List (List ℕ × List ℕ)) → apply plugins before ≡ Ok after → Says (names_of before) → Says (names_of after)
   applied_to [] before after is says = subst (λ l. Says (names_of l)) (same_ok before after is) says

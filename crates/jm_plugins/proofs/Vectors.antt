@@ -71,3 +71,20 @@ bad_class = refl
 
 uncompacted_class : apply (plugin.Order (named_b ∷ []) ∷ plugin.Compact ∷ []) (pool (codes "no")) ≡ Err (BadClass (codes "/a/B.class") (Short 0))
 uncompacted_class = refl
+
+-- a module's class with no constant, and the same with one package; the attribute's name is constant 1
+abbrev descriptor : List ℕ
+descriptor = 202 ∷ 254 ∷ 186 ∷ 190 ∷ 0 ∷ 0 ∷ 0 ∷ 53 ∷ 0 ∷ 1 ∷ 128 ∷ 0 ∷ 0 ∷ 0 ∷ 0 ∷ 0 ∷ 0 ∷ 0 ∷ 0 ∷ 0 ∷ 0 ∷ 0 ∷ 0 ∷ 0 ∷ []
+
+abbrev listing : List ℕ
+listing =
+    202 ∷ 254 ∷ 186 ∷ 190 ∷ 0 ∷ 0 ∷ 0 ∷ 53 ∷ 0 ∷ 4 ∷ 1 ∷ 0 ∷ 14 ∷ codes "ModulePackages"
+    ++ (1 ∷ 0 ∷ 3 ∷ codes "p/q" ++ (20 ∷ 0 ∷ 2 ∷ 128 ∷ 0 ∷ 0 ∷ 0 ∷ 0 ∷ 0 ∷ 0 ∷ 0 ∷ 0 ∷ 0 ∷ 0 ∷ 0 ∷ 0 ∷ 1 ∷ 0 ∷ 1 ∷ 0 ∷ 0 ∷ 0 ∷ 4 ∷ 0 ∷ 1 ∷ 0 ∷ 3 ∷ []))
+
+-- of the module's own classes and of no other files
+listed_in_pool : apply (plugin.Packages ∷ []) ((codes "/b/r/C.class", []) ∷ (codes "/a/module-info.class", descriptor) ∷ (codes "/a/p.q/C.class", []) ∷ (codes "/a/p/q/D.class", []) ∷ (codes "/a/s/x", []) ∷ [])
+    ≡ Ok ((codes "/b/r/C.class", []) ∷ (codes "/a/module-info.class", listing) ∷ (codes "/a/p.q/C.class", []) ∷ (codes "/a/p/q/D.class", []) ∷ (codes "/a/s/x", []) ∷ [])
+listed_in_pool = refl
+
+unlisted_descriptor : apply (plugin.Packages ∷ []) ((codes "/a/x.class", []) ∷ (codes "/b/module-info.class", codes "no") ∷ []) ≡ Err (BadClass (codes "/b/module-info.class") (Short 0))
+unlisted_descriptor = refl

@@ -1,4 +1,5 @@
 pub mod Matching
+pub mod Packaging
 pub mod Plugins
 pub mod Steps
 pub mod Turns

@@ -1,6 +1,6 @@
 -- What plug-ins make of the resources before they are written (JEP 282; what each plug-in does is
 -- this project's rule).
-use Rattle.std.specs.Prelude.{ℕ, List, [], ◌∷◌, Result, Ok, Err, nat_eq, codes}
+use Rattle.std.specs.Prelude.{ℕ, Bool, List, [], ◌∷◌, Result, Ok, Err, nat_eq, codes}
 use Rattle.std.specs.Prelude.{if◌then◌else◌}
 use Rattle.std.specs.List.{ends_with}
 use Rattle.jm_bytes.specs.Results.{followed}
@@ -8,12 +8,14 @@ use Rattle.jm_class.specs.Classes.{ClassData, class_text}
 use Rattle.jm_class.specs.ComputedClass.{class_of}
 use Rattle.jm_class.specs.declared.class.ClassFault.{ClassFault}
 use Rattle.jm_compact.specs.Compact.{compact_text}
+use Rattle.jm_pool.specs.Pairs.{names_of}
 use Rattle.jm_strip.specs.Strip.{strip}
 use Rattle.jm_plugins.specs.declared.Plugin.{Plugin}
 use Rattle.jm_plugins.specs.declared.Plugin.TheVariants as plugin
 use Rattle.jm_plugins.specs.declared.chain.ApplyError.{ApplyError}
 use Rattle.jm_plugins.specs.declared.chain.ApplyError.TheVariants.{BadClass}
 use Rattle.jm_plugins.specs.Matching.{excluded, ordered}
+use Rattle.jm_plugins.specs.Packaging.{is_descriptor, listing_text}
 
 -- the pair of a class that was read, with another text of it, or the refusal by its fault
 abbrev pub remade : (ClassData → List ℕ) → List ℕ → Result ClassData ClassFault
@@ -21,20 +23,23 @@ abbrev pub remade : (ClassData → List ℕ) → List ℕ → Result ClassData C
 remade text name (Ok class) = Ok (name, text class)
 remade text name (Err fault) = Err (BadClass name fault)
 
--- a pair with the other text of its class, where its name ends in `.class`, or that class's refusal
-abbrev pub remade_pair : (ClassData → List ℕ) → List ℕ × List ℕ
+-- a pair with the other text of its class, where its name is taken, or that class's refusal
+abbrev pub remade_pair : (List ℕ → Bool) → (List ℕ → ClassData → List ℕ) → List ℕ × List ℕ
     → Result (List ℕ × List ℕ) ApplyError
-remade_pair text pair =
-    if ends_with nat_eq pair.0 (codes ".class") then remade text pair.0 (class_of pair.1)
-    else Ok pair
+remade_pair takes text pair =
+    if takes pair.0 then remade (text pair.0) pair.0 (class_of pair.1) else Ok pair
 
 -- all pairs so, or the first refusal
-abbrev pub remade_pairs : (ClassData → List ℕ) → List (List ℕ × List ℕ)
-    → Result (List (List ℕ × List ℕ)) ApplyError
-remade_pairs text [] = Ok []
-remade_pairs text (pair ∷ pairs) =
-    followed (remade_pair text pair)
-    (λ first. followed (remade_pairs text pairs) (λ rest. Ok (first ∷ rest)))
+abbrev pub remade_pairs : (List ℕ → Bool) → (List ℕ → ClassData → List ℕ)
+    → List (List ℕ × List ℕ) → Result (List (List ℕ × List ℕ)) ApplyError
+remade_pairs takes text [] = Ok []
+remade_pairs takes text (pair ∷ pairs) =
+    followed (remade_pair takes text pair)
+    (λ first. followed (remade_pairs takes text pairs) (λ rest. Ok (first ∷ rest)))
+
+-- the name ends in `.class`
+abbrev pub is_class : List ℕ → Bool
+is_class name = ends_with nat_eq name (codes ".class")
 
 -- the text of a class without its debug information: that of `Strip`, as `compact_text` is that of
 -- `Compact`
@@ -45,8 +50,9 @@ stripped_text class = class_text (strip class)
 abbrev pub act : Plugin → List (List ℕ × List ℕ) → Result (List (List ℕ × List ℕ)) ApplyError
 act (plugin.Exclude patterns) pairs = Ok (excluded patterns pairs)
 act (plugin.Order patterns) pairs = Ok (ordered patterns pairs)
-act plugin.Strip pairs = remade_pairs stripped_text pairs
-act plugin.Compact pairs = remade_pairs compact_text pairs
+act plugin.Strip pairs = remade_pairs is_class (λ name. stripped_text) pairs
+act plugin.Compact pairs = remade_pairs is_class (λ name. compact_text) pairs
+act plugin.Packages pairs = remade_pairs is_descriptor (listing_text (names_of pairs)) pairs
 
 -- what plug-ins make of the pairs, from the first plug-in to the last, or the first refusal
 abbrev pub apply : List Plugin → List (List ℕ × List ℕ)

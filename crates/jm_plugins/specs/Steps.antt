@@ -1,7 +1,7 @@
 -- How far the plug-ins have come (words of the proof).
-use Rattle.std.specs.Prelude.{ℕ, ◌≡◌, ◌+◌, ◌⊎◌, List, [], ◌∷◌, Some, Result, Ok, Err, nat_eq}
-use Rattle.std.specs.Prelude.{codes, slice_get, slice_index_or, if◌then◌else◌}
-use Rattle.std.specs.List.{ends_with, position_or_len}
+use Rattle.std.specs.Prelude.{ℕ, ◌≡◌, ◌+◌, ◌⊎◌, List, [], ◌∷◌, Some, Result, Ok, Err, Bool}
+use Rattle.std.specs.Prelude.{All, true, slice_get, slice_index_or, if◌then◌else◌}
+use Rattle.std.specs.List.{position_or_len}
 use Rattle.jm_class.specs.Classes.{ClassData}
 use Rattle.jm_class.specs.ComputedClass.{class_of}
 use Rattle.jm_class.specs.declared.class.ReadError.{ReadError}
@@ -9,29 +9,40 @@ use Rattle.jm_class.specs.declared.class.ReadError.TheVariants as read_error
 use Rattle.jm_pattern.specs.declared.signs.Sign.{Sign}
 use Rattle.jm_pattern.specs.ComputedMatching.{matches}
 use Rattle.jm_compact.specs.Compact.{compact_text}
+use Rattle.jm_form.specs.Trees.{module_of}
+use Rattle.jm_packages.specs.Packages.{packages_text}
 use Rattle.jm_pool.specs.Pairs.{names_of, with_bytes_at}
 use Rattle.jm_plugins.specs.declared.chain.ApplyError.{ApplyError}
 use Rattle.jm_plugins.specs.declared.chain.ApplyError.TheVariants.{BadClass, Memory}
 use Rattle.jm_plugins.specs.declared.classes.Remade.{Remade}
 use Rattle.jm_plugins.specs.declared.classes.Remaking.{Remaking}
 use Rattle.jm_plugins.specs.declared.classes.Remaking.TheVariants as remaking
-use Rattle.jm_plugins.specs.Plugins.{stripped_text}
+use Rattle.jm_plugins.specs.Packaging.{is_descriptor, listing_text, packages_by}
+use Rattle.jm_plugins.specs.Plugins.{is_class, stripped_text}
 
 -- the number of the first pattern that matches the name, or how many patterns there are
 abbrev pub rank : List (List Sign) → List ℕ → ℕ
 rank patterns name = position_or_len (λ pattern. matches pattern name) patterns
 
--- the places of the pairs whose name ends in `.class`, where the first pair has a given place
-abbrev pub class_places : ℕ → List (List ℕ × List ℕ) → List ℕ
-class_places at [] = []
-class_places at (pair ∷ pairs) =
-    if ends_with nat_eq pair.0 (codes ".class") then at ∷ class_places (at + 1) pairs
-    else class_places (at + 1) pairs
+-- the places of the pairs whose name is taken, where the first pair has a given place
+abbrev pub class_places : (List ℕ → Bool) → ℕ → List (List ℕ × List ℕ) → List ℕ
+class_places takes at [] = []
+class_places takes at (pair ∷ pairs) =
+    if takes pair.0 then at ∷ class_places takes (at + 1) pairs
+    else class_places takes (at + 1) pairs
 
--- the text that one of the two ways gives of a class
-abbrev pub text_of : Remaking → ClassData → List ℕ
-text_of remaking.Strip class = stripped_text class
-text_of remaking.Compact class = compact_text class
+-- which names one of the ways takes
+abbrev pub taken_by : Remaking → List ℕ → Bool
+taken_by remaking.Strip = is_class
+taken_by remaking.Compact = is_class
+taken_by (remaking.Packages keys) = is_descriptor
+
+-- the text that one of the ways gives of the class of a name
+abbrev pub text_of : Remaking → List ℕ → ClassData → List ℕ
+text_of remaking.Strip name class = stripped_text class
+text_of remaking.Compact name class = compact_text class
+text_of (remaking.Packages keys) name class =
+    packages_text (packages_by keys.now (module_of name)) class
 
 -- the other text of the class that some bytes are, or their fault, unless no memory was found
 abbrev pub RemadeAs : (ClassData → List ℕ) → List ℕ → Result (List ℕ) ReadError → Type 0
@@ -40,10 +51,11 @@ RemadeAs text bytes (Err (read_error.Fault fault)) = class_of bytes ≡ Err faul
 RemadeAs text bytes (Err read_error.Memory) = Unit {0}
 
 -- what making the class at a place anew gave
-abbrev pub IsRemade : (ClassData → List ℕ) → List (List ℕ × List ℕ) → ℕ → Remade → Type 0
+abbrev pub IsRemade : (List ℕ → ClassData → List ℕ) → List (List ℕ × List ℕ) → ℕ → Remade → Type 0
 IsRemade text pairs place one =
     (one.place ≡ place)
-    × ((pair : _) → slice_get pairs place ≡ Some pair → RemadeAs text pair.1 one.outcome)
+    × ((pair : _) → slice_get pairs place ≡ Some pair
+    → RemadeAs (text pair.0) pair.1 one.outcome)
 
 -- the refusal is by the fault of the class at a place, with its name, or want of memory
 abbrev pub Refuses : List (List ℕ × List ℕ) → ℕ → ReadError → ApplyError → Type 0
@@ -65,3 +77,10 @@ abbrev pub put_remade : List Remade → List (List ℕ × List ℕ)
     → Result (List (List ℕ × List ℕ)) ApplyError
 put_remade [] pairs = Ok pairs
 put_remade (one ∷ later) pairs = put_one one.place one.outcome (put_remade later) pairs
+
+-- by these keys each descriptor lists the packages of its module among the pairs
+abbrev pub Serves : List (List ℕ × List ℕ) → List (List ℕ) → Type 0
+Serves pairs keys =
+    All (λ pair. is_descriptor pair.0 ≡ true → (c : ClassData) → class_of pair.1 ≡ Ok c
+    → packages_text (packages_by keys (module_of pair.0)) c
+    ≡ listing_text (names_of pairs) pair.0 c) pairs

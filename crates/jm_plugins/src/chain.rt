@@ -6,6 +6,7 @@ use crate::Plugin;
 use crate::classes::{Remaking, remake_classes};
 use crate::exclusion::exclude;
 use crate::order::order;
+use crate::packages::list_packages;
 use jm_bytes::{NoMemory, Text};
 use jm_class::ClassFault;
 use jm_halves::Gate;
@@ -55,6 +56,7 @@ fn act<R: Threads + Sync, G: Gate + Sync>(
         Plugin::Order(patterns) => Ok(order(rt, alloc, jobs, pool, patterns.as_slice(), gate)?),
         Plugin::Strip => remake_classes(rt, alloc, jobs, pool, Remaking::Strip, gate),
         Plugin::Compact => remake_classes(rt, alloc, jobs, pool, Remaking::Compact, gate),
+        Plugin::Packages => list_packages(rt, alloc, jobs, pool, gate),
     }
 }
 

@@ -1,15 +1,20 @@
 ghost use Rattle.std.specs.Prelude.{◌≡◌, ◌<◌, All, length, IfOk};
 ghost use Rattle.std.specs.List.{AllZip};
 ghost use Rattle.jm_bytes.specs.Results.{UnlessMemory};
+ghost use Rattle.jm_form.specs.Trees.{module_of};
+ghost use Rattle.jm_packages.specs.Packages.{packages_text};
 ghost use Rattle.jm_plugins.specs.Plugins.{remade_pairs};
-ghost use Rattle.jm_plugins.specs.Steps.{class_places, put_remade, text_of, IsRemade, Refuses};
-ghost use Rattle.jm_plugins.specs.Steps.{RemadeAs};
+ghost use Rattle.jm_plugins.specs.Packaging.{packages_by};
+ghost use Rattle.jm_plugins.specs.Steps.{class_places, put_remade, taken_by, text_of, IsRemade};
+ghost use Rattle.jm_plugins.specs.Steps.{Refuses, RemadeAs};
 
 use crate::chain::ApplyError;
+use crate::packages::{is_descriptor, module_of, packages_by};
 use jm_bytes::{List, NoMemory, Text};
 use jm_class::ReadError;
 use jm_compact::compact;
 use jm_halves::{Gate, map_halves};
+use jm_packages::add_packages;
 use jm_pool::Pool;
 use jm_strip::strip;
 use std::alloc::Global;
@@ -17,11 +22,13 @@ use std::thread::Threads;
 
 /// How classes are made anew.
 #[derive(Clone, Copy)]
-pub enum Remaking {
+pub enum Remaking<'a> {
     /// Without their debug attributes.
     Strip,
     /// Without the constants that nothing names.
     Compact,
+    /// Those of modules with their packages, by the keys of all classes.
+    Packages(&'a [Text]),
 }
 
 /// What making the class at a place of the pool anew gave.
@@ -31,39 +38,59 @@ pub struct Remade {
     outcome: Result<Text, ReadError>,
 }
 
-/// The places of the classes in a pool.
-fn class_places(alloc: Global, pool: &Pool) -> Result<List<usize>, NoMemory>
-    ensures { IfOk result (λ places. places ≡ class_places 0 pool.now) }
+/// Whether a way takes the class of a name.
+fn takes(way: Remaking, name: &[u8]) -> bool
+    ensures { result ≡ taken_by way.entry name.now }
+{
+    match way {
+        Remaking::Strip | Remaking::Compact => name.ends_with(b".class"),
+        Remaking::Packages(_) => is_descriptor(name),
+    }
+}
+
+/// The places of the classes in a pool that a way takes.
+fn class_places(alloc: Global, pool: &Pool, way: Remaking) -> Result<List<usize>, NoMemory>
+    ensures { IfOk result (λ places. places ≡ class_places (taken_by way.entry) 0 pool.now) }
 {
     let mut places = List::new(alloc);
     for place in 0..pool.len() {
         let (name, _) = pool.at(place);
-        if name.ends_with(b".class") {
+        if takes(way, name) {
             places.push(place)?;
         }
     }
     Ok(places)
 }
 
-/// The other text of the class that some bytes are.
-fn remake(alloc: Global, bytes: &[u8], way: Remaking) -> Result<Text, ReadError>
-    ensures { RemadeAs (text_of way) bytes.now result }
+/// The class of a module with its packages, by the keys of all classes.
+fn with_packages(alloc: Global, name: &[u8], bytes: &[u8], keys: &[Text]) -> Result<Text, ReadError>
+    ensures { RemadeAs (packages_text (packages_by keys.now (module_of name.now)))
+        bytes.now result }
+{
+    let packages = packages_by(alloc, keys, module_of(name))?;
+    add_packages(alloc, bytes, packages.as_slice())
+}
+
+/// The other text of the class that the bytes of a name are.
+fn remake(alloc: Global, name: &[u8], bytes: &[u8], way: Remaking) -> Result<Text, ReadError>
+    ensures { RemadeAs (text_of way.entry name.now) bytes.now result }
 {
     match way {
         Remaking::Strip => strip(alloc, bytes),
         Remaking::Compact => compact(alloc, bytes),
+        Remaking::Packages(keys) => with_packages(alloc, name, bytes, keys),
     }
 }
 
 /// Makes the class at a place anew.
 fn remake_at(alloc: Global, pool: &Pool, place: usize, way: Remaking) -> Remade
     requires { place < length pool.now }
-    ensures { IsRemade (text_of way) pool.now place result }
+    ensures { IsRemade (text_of way.entry) pool.now place result }
 {
-    let (_, bytes) = pool.at(place);
+    let (name, bytes) = pool.at(place);
     Remade {
         place,
-        outcome: remake(alloc, bytes, way),
+        outcome: remake(alloc, name, bytes, way),
     }
 }
 
@@ -77,9 +104,10 @@ fn remake_each<R: Threads + Sync, G: Gate + Sync>(
     gate: &G,
 ) -> Result<List<Remade>, NoMemory>
     requires { 0 < jobs }
-    ensures { IfOk result (AllZip (IsRemade (text_of way) pool.now) (class_places 0 pool.now)) }
+    ensures { IfOk result (AllZip (IsRemade (text_of way.entry) pool.now)
+        (class_places (taken_by way.entry) 0 pool.now)) }
 {
-    let places = class_places(alloc, pool)?;
+    let places = class_places(alloc, pool, way)?;
     let work = |place: &usize| remake_at(alloc, pool, *place, way);
     map_halves(rt, alloc, jobs, places.as_slice(), &work, gate)
 }
@@ -114,7 +142,7 @@ fn put_remade(alloc: Global, pool: Pool, remade: List<Remade>) -> Result<Pool, A
     Ok(pool)
 }
 
-/// Puts for each class of a pool its text made anew.
+/// Puts for each class of a pool that a way takes its text made anew.
 pub fn remake_classes<R: Threads + Sync, G: Gate + Sync>(
     rt: &R,
     alloc: Global,
@@ -124,7 +152,8 @@ pub fn remake_classes<R: Threads + Sync, G: Gate + Sync>(
     gate: &G,
 ) -> Result<Pool, ApplyError>
     requires { 0 < jobs }
-    ensures { UnlessMemory ApplyError.Memory result (remade_pairs (text_of way) pool) }
+    ensures { UnlessMemory ApplyError.Memory result
+        (remade_pairs (taken_by way.entry) (text_of way.entry) pool) }
 {
     let remade = remake_each(rt, alloc, jobs, &pool, way, gate)?;
     put_remade(alloc, pool, remade)

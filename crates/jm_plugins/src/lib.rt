@@ -5,6 +5,7 @@ mod chain;
 mod classes;
 mod exclusion;
 mod order;
+mod packages;
 mod places;
 
 pub use chain::{ApplyError, apply};
@@ -22,4 +23,6 @@ pub enum Plugin {
     Strip,
     /// The constants that nothing names are left out of classes.
     Compact,
+    /// Each module's descriptor names its packages.
+    Packages,
 }

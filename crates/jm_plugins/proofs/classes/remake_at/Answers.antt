@@ -6,4 +6,4 @@ use Rattle.jm_plugins.proofs.classes.remake_at.Goals as goal
 pub returns : goal.returns
 returns c =
     let own : List ℕ × List ℕ = (c.at.result.0.now, c.at.result.1.now) in
-    (refl, λ pair there. subst (λ p. RemadeAs (text_of c.args.way) p.1 c.remake.result) (same_some own pair (sym c.at.ensures ∙ there)) c.remake.ensures)
+    (refl, λ pair there. subst (λ p. RemadeAs (text_of c.args.way p.0) p.1 c.remake.result) (same_some own pair (sym c.at.ensures ∙ there)) c.remake.ensures)

@@ -1,0 +1,119 @@
+ghost use Rattle.std.specs.Prelude.{◌≡◌, ◌<◌, ◌+◌, true, length, None, Some, Ok, Err, List, ℕ, IfOk, OnOk};
+ghost use Rattle.jm_class.specs.declared.class.ReadError.TheVariants.{Fault};
+ghost use Rattle.jm_class.specs.Classes.{ClassData, ReadsAs, IsClass};
+ghost use Rattle.jm_class.specs.ComputedClass.{class_fault};
+ghost use Rattle.jm_class.specs.Views.{plain};
+ghost use Rattle.jm_modinfo.specs.declared.descriptor.Descriptor.{Descriptor};
+ghost use Rattle.jm_modinfo.specs.ComputedInfo.{info_of};
+ghost use Rattle.jm_modinfo.specs.Written.{numbers_text};
+ghost use Rattle.jm_packages.specs.Packages.{packages_body, with_packages, takes_packages};
+ghost use Rattle.jm_packages.specs.Packages.{packaged, packages_text, PackagesTo, Stays};
+
+use crate::constants::{packages_body, push_packages, text_numbers};
+use crate::room::{takes_none, takes_packages};
+use jm_bytes::{NoMemory, Text};
+use jm_class::{Attribute, Body, Class, ReadError, Slot, read};
+use jm_classout::write;
+use std::alloc::Global;
+
+/// A class with the constants of packages and the attribute that lists them.
+fn with_packages<'a>(
+    class: Class<'a>,
+    packages: &'a [Text],
+    numbers: &'a [u8],
+    body: &'a [u8],
+) -> Result<Class<'a>, NoMemory>
+    requires room { length class.pool < 65534 }
+    requires numbers { numbers.now ≡ numbers_text (length class.pool + 2) (length packages.now) }
+    requires body { body.now ≡ packages_body (length class.pool + 1) (length packages.now) }
+    ensures { IfOk result (λ made. plain made ≡ with_packages packages.now (plain class.entry)) }
+{
+    let mut class = class;
+    let name = class.pool.len() as u16 + 1;
+    class.pool.push(Slot::Constant {
+        tag: 1,
+        body: b"ModulePackages",
+    })?;
+    push_packages(&mut class.pool, packages, numbers)?;
+    class.attributes.push(Attribute {
+        name,
+        body: Body::Plain(body),
+    })?;
+    Ok(class)
+}
+
+/// The text of a class with the constants of packages and the attribute that lists them.
+fn write_packages<'a>(
+    alloc: Global,
+    class: Class<'a>,
+    packages: &'a [Text],
+    numbers: &'a [u8],
+    body: &'a [u8],
+) -> Result<Text, NoMemory>
+    requires fits { IsClass (plain class) }
+    requires room { takes_packages packages.now (plain class) ≡ true }
+    requires numbers { numbers.now ≡ numbers_text (length class.pool + 2) (length packages.now) }
+    requires body { body.now ≡ packages_body (length class.pool + 1) (length packages.now) }
+    ensures { IfOk result (λ text. text ≡ packages_text packages.now (plain class.entry)) }
+{
+    let class = with_packages(class, packages, numbers, body)?;
+    write(alloc, &class)
+}
+
+/// The text of a class that takes a list of these packages.
+fn text_with(alloc: Global, class: Class, packages: &[Text]) -> Result<Text, NoMemory>
+    requires fits { IsClass (plain class) }
+    requires room { takes_packages packages.now (plain class) ≡ true }
+    ensures { IfOk result (λ text. text ≡ packages_text packages.now (plain class.entry)) }
+{
+    let slots = class.pool.len() as u16;
+    let count = packages.len() as u16;
+    let numbers = text_numbers(alloc, slots, count)?;
+    let body = packages_body(alloc, slots + 1, count)?;
+    write_packages(alloc, class, packages, numbers.as_slice(), body.as_slice())
+}
+
+/// The text of a class with a list of these packages, or as it is.
+fn text_of(alloc: Global, bytes: &[u8], class: Class, packages: &[Text]) -> Result<Text, NoMemory>
+    requires { ReadsAs bytes.now (plain class) }
+    ensures { IfOk result (λ text. text ≡ packages_text packages.now (plain class.entry)) }
+{
+    if takes_packages(&class, packages) {
+        text_with(alloc, class, packages)
+    } else {
+        Text::copy_of(alloc, bytes)
+    }
+}
+
+/// The class of a module with the attribute ModulePackages, which lists these packages, as the last
+/// of its own (JVMS 4.7.26). A class that is no module's, that has such an attribute, or that has
+/// no room for it, stays as it is. A fault is the one that `read` finds.
+pub fn add_packages(alloc: Global, bytes: &[u8], packages: &[Text]) -> Result<Text, ReadError>
+    ensures text { IfOk result (λ text. PackagesTo packages.now bytes.now text) }
+    ensures only { IfOk result (λ text. (c : ClassData) → ReadsAs bytes.now c
+        → text ≡ packages_text packages.now c) }
+    ensures reads { IfOk result (λ text. (c : ClassData) → ReadsAs bytes.now c
+        → ReadsAs text (packaged packages.now c)) }
+    ensures info { IfOk result (λ text. (c made : ClassData) (d : Descriptor) → ReadsAs bytes.now c
+        → ReadsAs text made → info_of c ≡ Ok d → info_of made ≡ Ok d) }
+    ensures again { IfOk result (λ text. (made : ClassData) → ReadsAs text made
+        → packages_text packages.now made ≡ text) }
+    ensures no_fault { OnOk result (class_fault bytes.now ≡ None) }
+    ensures fault { (fault : _) → result ≡ Err (Fault fault) → class_fault bytes.now ≡ Some fault }
+{
+    let class = read(alloc, bytes)?;
+    let text = text_of(alloc, bytes, class, packages)?;
+    Ok(text)
+}
+
+/// Whether some bytes are no class, or one that stays as it is, whatever the packages are: one that
+/// is no module's or has a list.
+pub fn stays(alloc: Global, bytes: &[u8]) -> Result<bool, NoMemory>
+    ensures { IfOk result (λ stays. stays ≡ true → Stays bytes.now) }
+{
+    match read(alloc, bytes) {
+        Ok(class) => Ok(takes_none(&class)),
+        Err(ReadError::Fault(_)) => Ok(true),
+        Err(ReadError::Memory) => Err(NoMemory),
+    }
+}

@@ -1,0 +1,193 @@
+-- The packages of a module, by the keys of all classes: the keys of one module are those with its
+-- name and a slash in front, and they rise as the packages do.
+use Rattle.std.proofs.Common.{◌≡◌, ℕ, zero, suc, ◌+◌, ◌<◌, inl, inr, Bool, true, false, cond, not, ◌||◌, List, [], ◌∷◌, ◌++◌, take, drop, length, get_or, map, filter, AllPairs, Contains, Option, Some, None, option_map, Ok, slice_get, nat_eq, refl, sym, ap, subst, ◌∙◌, arith, append_assoc}
+use Rattle.std.proofs.lemmas.Bool.{false≢true}
+use Rattle.std.proofs.lemmas.List.{map-append, take_more, append-nil}
+use Rattle.std.proofs.lemmas.List.Elements.{Contains-append_cases, Contains-append_left, Contains-append_right, filter_map-append}
+use Rattle.std.proofs.lemmas.Slice.Eq.{bytes_eq-Decides}
+use Rattle.std.specs.Cmp.{nat_cmp_is}
+use Rattle.std.specs.Cmp.Lexicographic.{slice_cmp}
+use Rattle.std.specs.List.{before_first, cons_option, filter_map, list_any, position_or_len}
+use Rattle.std.specs.Ordering.{nat_cmp, ordering_then}
+use Rattle.std.specs.declared.cmp.Ordering.TheVariants.{Equal}
+use Rattle.std.specs.Str.{bytes_eq}
+use Rattle.jm_bytes.proofs.Choice.{mapped_some, same_some}
+use Rattle.jm_bytes.proofs.Members.{all_from_contains, contains_cases, contains_here, contains_later, contains_none, contains_filter, contains_filter_map, from_filter, from_filter_map}
+use Rattle.jm_bytes.proofs.Pairs.{pairs_filter_map}
+use Rattle.jm_class.specs.Classes.{ClassData}
+use Rattle.jm_class.specs.ComputedClass.{class_of}
+use Rattle.jm_form.specs.Rising.{rising, with_placed}
+use Rattle.jm_form.specs.Trees.{module_of}
+use Rattle.jm_form.proofs.RisingLaws.{Before, contains_rising, from_rising, rising_only, rising_rises, rising_same}
+use Rattle.jm_modpath.specs.Finding.{named_package, names_within}
+use Rattle.jm_modpath.proofs.PackageLaws.{class_packages_are}
+use Rattle.jm_names.specs.Names.{is_slash}
+use Rattle.jm_outside.specs.Files.{after_front}
+use Rattle.jm_outside.proofs.Names.{after_front-is, front_of}
+use Rattle.jm_packages.specs.Packages.{packages_text}
+use Rattle.jm_pool.specs.Pairs.{names_of}
+use Rattle.jm_plugins.specs.Packaging.{slashed, packages_of, is_descriptor, listing_text, class_key, with_key, class_keys, packages_by}
+use Rattle.jm_plugins.specs.Steps.{Serves}
+
+-- Modules have no slash
+
+within_text : (xs : List ℕ) → list_any is_slash (take (position_or_len is_slash xs) xs) ≡ false
+within_text [] = refl
+within_text (x ∷ xs) = go (is_slash x) refl (within_text xs)
+  where
+    go : (b : Bool) → is_slash x ≡ b → list_any is_slash (take (position_or_len is_slash xs) xs) ≡ false → list_any is_slash (take (cond (not b) (1 + position_or_len is_slash xs) 0) (x ∷ xs)) ≡ false
+    go true is rest = refl
+    go false is rest =
+        let next : 1 + position_or_len is_slash xs ≡ suc (position_or_len is_slash xs) = omega arith in
+        ap (λ n. list_any is_slash (take n (x ∷ xs))) next ∙ ap (λ c. c || list_any is_slash (take (position_or_len is_slash xs) xs)) is ∙ rest
+
+-- a text without a slash stands in front of none
+pub before_none : (xs : List ℕ) → list_any is_slash xs ≡ false → before_first is_slash xs ≡ xs
+before_none [] none = refl
+before_none (x ∷ xs) none = go (is_slash x) none (before_none xs)
+  where
+    go : (b : Bool) → (b || list_any is_slash xs) ≡ false → (list_any is_slash xs ≡ false → take (position_or_len is_slash xs) xs ≡ xs) → take (cond (not b) (1 + position_or_len is_slash xs) 0) (x ∷ xs) ≡ x ∷ xs
+    go true some rest = absurd (false≢true (sym some))
+    go false none rest =
+        let next : 1 + position_or_len is_slash xs ≡ suc (position_or_len is_slash xs) = omega arith in
+        ap (λ n. take n (x ∷ xs)) next ∙ ap (λ l. x ∷ l) (rest none)
+
+module_whole : (name : List ℕ) → list_any is_slash (module_of name) ≡ false
+module_whole name = within_text (drop 1 name)
+
+-- a text in front of the first slash is told by the whole
+parts_told : (m k p q : List ℕ) → list_any is_slash m ≡ false → list_any is_slash k ≡ false → m ++ 47 ∷ p ≡ k ++ 47 ∷ q → (m ≡ k) × (p ≡ q)
+parts_told [] [] p q whole other same = (refl, cc)
+parts_told [] (c ∷ k) p q whole other same =
+    let head : c ≡ 47 = cc in
+    absurd (false≢true (sym other ∙ ap (λ b. nat_eq b 47 || list_any is_slash k) head))
+parts_told (b ∷ m) [] p q whole other same =
+    let head : b ≡ 47 = cc in
+    absurd (false≢true (sym whole ∙ ap (λ b. nat_eq b 47 || list_any is_slash m) head))
+parts_told (b ∷ m) (c ∷ k) p q whole other same =
+    let head : b ≡ c = cc in
+    let tail : m ++ 47 ∷ p ≡ k ++ 47 ∷ q = cc in
+    let rest = parts_told m k p q (later (is_slash b) (list_any is_slash m) whole) (later (is_slash c) (list_any is_slash k) other) tail in
+    let front : m ≡ k = rest.0 in
+    (cc, rest.1)
+  where
+    later : (x y : Bool) → (x || y) ≡ false → y ≡ false
+    later true y is = absurd (false≢true (sym is))
+    later false y is = is
+
+-- Texts with the same front
+
+number_same : (n : ℕ) → nat_cmp n n ≡ Equal
+number_same n = sym (nat_cmp_is n n Equal refl)
+
+front_same : (front text other : List ℕ) → slice_cmp nat_cmp (front ++ text) (front ++ other) ≡ slice_cmp nat_cmp text other
+front_same [] text other = refl
+front_same (b ∷ front) text other =
+    ap (λ o. ordering_then o (slice_cmp nat_cmp (front ++ text) (front ++ other))) (number_same b) ∙ front_same front text other
+
+-- The keys
+
+-- the keys of a module's classes are those of its packages
+module _ (names : List (List ℕ)) (m : List ℕ) (whole : list_any is_slash m ≡ false) where
+  abbrev own : List (List ℕ)
+  own = filter (λ name. bytes_eq (module_of name) m) names
+
+  abbrev packages : List (List ℕ)
+  packages = filter_map named_package own
+
+  abbrev found : List (List ℕ)
+  found = names_within m (class_keys names)
+
+  found_rise : AllPairs Before found
+  found_rise =
+      pairs_filter_map Before Before (after_front (m ++ 47 ∷ []))
+      (λ key later before one other is also.
+      let first = front_of (m ++ 47 ∷ []) key one is in
+      let second = front_of (m ++ 47 ∷ []) later other also in
+      sym (front_same (m ++ 47 ∷ []) one other) ∙ ap (λ k. slice_cmp nat_cmp k ((m ++ 47 ∷ []) ++ other)) (sym first) ∙ ap (slice_cmp nat_cmp key) (sym second) ∙ before)
+      (class_keys names) (rising_rises (filter_map class_key names))
+
+  also_found : (g : List ℕ) → Contains packages g → Contains found g
+  also_found g there =
+      let from = from_filter_map named_package own g there in
+      let name = from.0 in
+      let kept = from_filter (λ name. bytes_eq (module_of name) m) names name from.1 in
+      let same : module_of name ≡ m = (bytes_eq-Decides (module_of name) m).0 kept.1 in
+      let key : class_key name ≡ Some (m ++ 47 ∷ g) = ap (option_map (λ p. module_of name ++ 47 ∷ p)) from.2 ∙ ap (λ n. Some (n ++ 47 ∷ g)) same in
+      contains_filter_map (after_front (m ++ 47 ∷ [])) (class_keys names) (m ++ 47 ∷ g) g
+      (contains_rising (filter_map class_key names) (m ++ 47 ∷ g) (contains_filter_map class_key names name (m ++ 47 ∷ g) kept.0 key))
+      (after_front-is (m ++ 47 ∷ []) (m ++ 47 ∷ g) g (sym (append_assoc m (47 ∷ []) g)))
+
+  from_found : (g : List ℕ) → Contains found g → Contains packages g
+  from_found g there =
+      let from = from_filter_map (after_front (m ++ 47 ∷ [])) (class_keys names) g there in
+      let key = from.0 in
+      let is = front_of (m ++ 47 ∷ []) key g from.2 ∙ append_assoc m (47 ∷ []) g in
+      let made = from_filter_map class_key names key (from_rising (filter_map class_key names) key from.1) in
+      let name = made.0 in
+      let some = mapped_some (λ p. module_of name ++ 47 ∷ p) (named_package name) key made.2 in
+      let told = parts_told (module_of name) m some.0 g (module_whole name) whole (some.2 ∙ is) in
+      contains_filter_map named_package own name g
+      (contains_filter (λ name. bytes_eq (module_of name) m) names name made.1 ((bytes_eq-Decides (module_of name) m).1 told.0))
+      (some.1 ∙ ap Some told.1)
+
+  pub packages_found : packages_by (class_keys names) m ≡ packages_of names m
+  packages_found = ap (map slashed) (rising_only packages found found_rise also_found from_found ∙ class_packages_are own)
+
+-- the packages of a resource's module
+pub packages_known : (names : List (List ℕ)) (name : List ℕ) → packages_by (class_keys names) (module_of name) ≡ packages_of names (module_of name)
+packages_known names name = packages_found names (module_of name) (module_whole name)
+
+-- One name more
+
+keys_placed : (key : List ℕ) (keys : List (List ℕ)) → with_placed key (rising keys) ≡ rising (keys ++ key ∷ [])
+keys_placed key keys =
+    rising_same (key ∷ keys) (keys ++ key ∷ [])
+    (λ g there.
+    elim (contains_cases key keys g there) [
+      | inl same ↦ subst (Contains (keys ++ key ∷ [])) same (Contains-append_right keys (key ∷ []) key (contains_here key []))
+      | inr later ↦ Contains-append_left keys (key ∷ []) g later
+    ])
+    (λ g there.
+    elim (Contains-append_cases keys (key ∷ []) g there) [
+      | inl early ↦ contains_later key keys g early
+      | inr last ↦ elim (contains_cases key [] g last) [
+        | inl same ↦ subst (Contains (key ∷ keys)) same (contains_here key keys)
+        | inr none ↦ absurd (contains_none g none)
+      ]
+    ])
+
+with_last : (keys : List (List ℕ)) (o : Option (List ℕ)) → with_key o (rising keys) ≡ rising (keys ++ cons_option o [])
+with_last keys None = ap rising (sym (append-nil keys))
+with_last keys (Some key) = keys_placed key keys
+
+pub keys_more : (names : List (List ℕ)) (place : ℕ) (name : List ℕ) → place < length names → name ≡ get_or names place name → with_key (class_key name) (class_keys (take place names)) ≡ class_keys (take (place + 1) names)
+keys_more names place name below is =
+    let grown = take_more names place name below ∙ ap (λ n. take place names ++ n ∷ []) (sym is) in
+    with_last (filter_map class_key (take place names)) (class_key name)
+    ∙ ap rising (sym (filter_map-append class_key (take place names) (name ∷ [])))
+    ∙ ap class_keys (sym grown)
+
+pub name_at : (pairs : List (List ℕ × List ℕ)) (place : ℕ) (pair : List ℕ × List ℕ) → slice_get pairs place ≡ Some pair → pair.0 ≡ get_or (names_of pairs) place pair.0
+name_at [] place pair is = cc
+name_at (p ∷ pairs) zero pair is = sym (ap (λ (q : List ℕ × List ℕ). q.0) (same_some p pair is))
+name_at (p ∷ pairs) (suc place) pair is = name_at pairs place pair is
+
+-- One key more
+
+pub packages_more : (m : List ℕ) (keys : List (List ℕ)) (i : ℕ) (key : List ℕ) → i < length keys → key ≡ get_or keys i key → packages_by (take i keys) m ++ map slashed (filter_map (after_front (m ++ 47 ∷ [])) (key ∷ [])) ≡ packages_by (take (i + 1) keys) m
+packages_more m keys i key below is =
+    let f = after_front (m ++ 47 ∷ []) in
+    let grown = take_more keys i key below ∙ ap (λ k. take i keys ++ k ∷ []) (sym is) in
+    sym (map-append slashed (filter_map f (take i keys)) (filter_map f (key ∷ [])))
+    ∙ ap (map slashed) (sym (filter_map-append f (take i keys) (key ∷ [])))
+    ∙ ap (λ ks. map slashed (filter_map f ks)) (sym grown)
+
+-- Keys that serve
+
+pub keys_serve : (pairs : List (List ℕ × List ℕ)) → Serves pairs (class_keys (names_of pairs))
+keys_serve pairs =
+    let names = names_of pairs in
+    all_from_contains
+    (λ (pair : List ℕ × List ℕ). is_descriptor pair.0 ≡ true → (c : ClassData) → class_of pair.1 ≡ Ok c → packages_text (packages_by (class_keys names) (module_of pair.0)) c ≡ listing_text names pair.0 c)
+    pairs (λ pair there descriptor c reads. ap (λ (ps : List (List ℕ)). packages_text ps c) (packages_known names pair.0))

@@ -1,0 +1,14 @@
+use Rattle.std.proofs.Common.{◌≡◌, ap, subst, ◌∙◌}
+use Rattle.jm_form.specs.Trees.{module_of}
+use Rattle.jm_packages.specs.Packages.{packages_text}
+use Rattle.jm_plugins.specs.Packaging.{packages_by}
+use Rattle.jm_plugins.specs.Steps.{RemadeAs}
+use Rattle.jm_plugins.proofs.ClassLaws.{packages_as}
+use Rattle.jm_plugins.proofs.classes.with_packages.Goals as goal
+
+pub returns : goal.returns
+returns c =
+    let bytes = c.args.bytes.now in
+    let same : c.as_slice.result.now ≡ packages_by c.args.keys.now (module_of c.args.name.now) = c.as_slice.ensures ∙ c.in_ok-packages.ensures ∙ ap (packages_by c.args.keys.now) c.module_of.ensures in
+    subst (λ packages. RemadeAs (packages_text packages) bytes c.add_packages.result) same
+    (packages_as c.as_slice.result.now bytes c.add_packages.result c.add_packages.ensures.text c.add_packages.ensures.fault)

@@ -1,0 +1,16 @@
+use Rattle.std.proofs.Common.{◌++◌, ◌∷◌, [], map, ap, ◌∙◌, arith}
+use Rattle.std.proofs.lemmas.List.{take_all}
+use Rattle.std.specs.List.{filter_map}
+use Rattle.jm_outside.specs.Files.{after_front}
+use Rattle.jm_plugins.specs.Packaging.{packages_by, slashed}
+use Rattle.jm_plugins.proofs.PackagingLaws.{packages_more}
+use Rattle.jm_plugins.proofs.packages.packages_by.Goals as goal
+
+pub loop-key-preserved : goal.loop-key-preserved
+loop-key-preserved c =
+    let put = rw (c.as_slice-in-loop-key.ensures, c.as_slice.ensures, c.in_ok-push.ensures.ok, c.in_ok-front.ensures) at c.in_ok-put_package.ensures in
+    put ∙ ap (λ ps. ps ++ map slashed (filter_map (after_front (c.args.module.now ++ 47 ∷ [])) (c.key-item.result ∷ []))) c.loop-key.invariant
+    ∙ packages_more c.args.module.now c.args.keys.now c.loop-key.key-index c.key-item.result c.loop-key-test.true c.key-item.is
+
+pub returns : goal.returns
+returns c = c.loop-key.invariant ∙ ap (λ ks. packages_by ks c.args.module.now) (take_all c.loop-key.key-index c.args.keys.now (omega arith))

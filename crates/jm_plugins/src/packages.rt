@@ -1,0 +1,174 @@
+//! The packages of modules, from the names of a pool.
+ghost use Rattle.std.specs.Prelude.{◌≡◌, ◌<◌, ◌∷◌, ◌++◌, [], IfOk, OnOk, map, option_map};
+ghost use Rattle.std.specs.List.{filter_map};
+ghost use Rattle.jm_bytes.specs.Results.{UnlessMemory};
+ghost use Rattle.jm_form.specs.Rising.{with_placed};
+ghost use Rattle.jm_form.specs.Trees.{module_of, path_of};
+ghost use Rattle.jm_modpath.specs.Finding.{class_folder};
+ghost use Rattle.jm_modpath.specs.TextView.{items_of};
+ghost use Rattle.jm_names.specs.Names.{dotted};
+ghost use Rattle.jm_outside.specs.Files.{after_front};
+ghost use Rattle.jm_pool.specs.Pairs.{names_of};
+ghost use Rattle.jm_plugins.specs.Packaging.{class_key, class_keys, with_key, is_descriptor};
+ghost use Rattle.jm_plugins.specs.Packaging.{listing_text, packages_by, slashed};
+ghost use Rattle.jm_plugins.specs.Plugins.{remade_pairs};
+
+use crate::chain::ApplyError;
+use crate::classes::{Remaking, remake_classes};
+use jm_bytes::{List, NoMemory, Text, copy_of, extend};
+use jm_halves::Gate;
+use jm_modpath::class_folder;
+use jm_names::{cut_at_first, dotted};
+use jm_pool::Pool;
+use std::alloc::Global;
+use std::collections::BTreeSet;
+use std::thread::Threads;
+
+/// The module of a resource.
+pub fn module_of(name: &[u8]) -> &[u8]
+    ensures { result.now ≡ module_of name.now }
+{
+    let Some((_, rest)) = name.split_first() else {
+        return &[];
+    };
+    match cut_at_first(b'/', rest) {
+        Some((module, _)) => module,
+        None => rest,
+    }
+}
+
+/// The path of a resource within its module.
+fn path_of(name: &[u8]) -> &[u8]
+    ensures { result.now ≡ path_of name.now }
+{
+    let Some((_, rest)) = name.split_first() else {
+        return &[];
+    };
+    match cut_at_first(b'/', rest) {
+        Some((_, path)) => path,
+        None => &[],
+    }
+}
+
+/// Whether a name is that of a module's descriptor.
+pub fn is_descriptor(name: &[u8]) -> bool
+    ensures { result ≡ is_descriptor name.now }
+{
+    name.starts_with(b"/") && path_of(name) == b"module-info.class".as_slice()
+}
+
+/// The key of a class in a package: its module, a slash and its package.
+fn key(alloc: Global, module: &[u8], folder: &[u8]) -> Result<Vec<u8>, NoMemory>
+    ensures { IfOk result (λ key. key.items ≡ «module».now ++ 47 ∷ dotted folder.now) }
+{
+    let package = dotted(alloc, folder)?;
+    let mut key = copy_of(alloc, module)?;
+    extend(&mut key, b"/")?;
+    extend(&mut key, package.as_slice())?;
+    Ok(key)
+}
+
+/// Puts a key into a set, if it isn't there.
+fn put(set: &mut BTreeSet<Vec<u8>>, key: Vec<u8>) -> Result<(), NoMemory>
+    ensures { OnOk result (items_of set.new.keys ≡ with_placed key.items (items_of set.old.keys)) }
+{
+    set.insert(key)?;
+    Ok(())
+}
+
+/// Puts the key of a name into a set, if it is that of a class in a package.
+fn put_name(alloc: Global, set: &mut BTreeSet<Vec<u8>>, name: &[u8]) -> Result<(), NoMemory>
+    ensures { OnOk result (items_of set.new.keys
+        ≡ with_key (class_key name.now) (items_of set.old.keys)) }
+{
+    match class_folder(path_of(name)) {
+        Some(folder) => put(set, key(alloc, module_of(name), folder)?),
+        None => Ok(()),
+    }
+}
+
+/// The keys of all classes of a pool as a set. Time n log n.
+fn key_set(alloc: Global, pool: &Pool) -> Result<BTreeSet<Vec<u8>>, NoMemory>
+    ensures { IfOk result (λ set. items_of set.keys ≡ class_keys (names_of pool.now)) }
+{
+    let mut set = BTreeSet::new(alloc);
+    for place in 0..pool.len() {
+        let (name, _) = pool.at(place);
+        put_name(alloc, &mut set, name)?;
+    }
+    Ok(set)
+}
+
+/// The keys of all classes of a pool, rising.
+fn class_keys(alloc: Global, pool: &Pool) -> Result<List<Text>, NoMemory>
+    ensures { IfOk result (λ keys. keys ≡ class_keys (names_of pool.now)) }
+{
+    let mut keys = List::new(alloc);
+    for key in key_set(alloc, pool)? {
+        keys.push(Text::from_vec(key))?;
+    }
+    Ok(keys)
+}
+
+/// A package with a slash for each dot.
+fn slashed(alloc: Global, package_name: &[u8]) -> Result<Text, NoMemory>
+    ensures { IfOk result (λ text. text ≡ slashed package_name.now) }
+{
+    let mut text = Text::new(alloc);
+    for byte in package_name {
+        text.push(if *byte == b'.' { b'/' } else { *byte })?;
+    }
+    Ok(text)
+}
+
+/// Puts the package of a key at the end, if it begins as those of a module do.
+fn put_package(
+    alloc: Global,
+    packages: &mut List<Text>,
+    front: &[u8],
+    key: &[u8],
+) -> Result<(), NoMemory>
+    ensures { OnOk result (packages.new
+        ≡ packages.old ++ map slashed (filter_map (after_front front.now) (key.now ∷ []))) }
+{
+    if let Some(package_name) = key.strip_prefix(front) {
+        packages.push(slashed(alloc, package_name)?)?;
+    }
+    Ok(())
+}
+
+/// The packages of a module, by the keys of all classes.
+pub fn packages_by(alloc: Global, keys: &[Text], module: &[u8]) -> Result<List<Text>, NoMemory>
+    ensures { IfOk result (λ packages. packages ≡ packages_by keys.now «module».now) }
+{
+    let mut front = Text::copy_of(alloc, module)?;
+    front.push(b'/')?;
+    let mut packages = List::new(alloc);
+    for key in keys {
+        put_package(alloc, &mut packages, front.as_slice(), key.as_slice())?;
+    }
+    Ok(packages)
+}
+
+/// Puts for the descriptor of each module its class with the module's packages.
+pub fn list_packages<R: Threads + Sync, G: Gate + Sync>(
+    rt: &R,
+    alloc: Global,
+    jobs: u32,
+    pool: Pool,
+    gate: &G,
+) -> Result<Pool, ApplyError>
+    requires { 0 < jobs }
+    ensures { UnlessMemory ApplyError.Memory result
+        (remade_pairs is_descriptor (listing_text (names_of pool)) pool) }
+{
+    let keys = class_keys(alloc, &pool)?;
+    remake_classes(
+        rt,
+        alloc,
+        jobs,
+        pool,
+        Remaking::Packages(keys.as_slice()),
+        gate,
+    )
+}
