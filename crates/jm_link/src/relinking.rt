@@ -4,6 +4,7 @@ ghost use Rattle.jm_link.specs.ImageLinked.{ImageLinks};
 ghost use Rattle.jm_link.specs.Links.{request_of};
 ghost use Rattle.jm_link.specs.Relinked.{GivesBack};
 ghost use Rattle.jm_outside.specs.Shelves.{shelf_at};
+ghost use Rattle.jm_reader.specs.Walk.{IsLater};
 
 use crate::closing::closed;
 use crate::image::write_image;
@@ -40,6 +41,7 @@ pub fn link_image<T: Threads + Sync, S: Shelf, G: Gate + Sync, R: Ledger>(
         (shelf_at S.Shelf shelf.old) (shelf_at S.Shelf shelf.new) }
     ensures gives_back { GivesBack image.now (request_of asked.now) asked.now.output.now result
         (S.files shelf.old) (S.files shelf.new) }
+    ensures reads { IsLater reads.old reads.new }
 {
     let modules = modules_of(alloc, image, reads)?;
     let places = closed(alloc, modules.candidates.as_slice(), asked)?;
