@@ -137,6 +137,7 @@ value_is_fit choice.ExcludeResources text is = free (λ patterns. given.Plugin (
 value_is_fit choice.OrderResources text is = free (λ patterns. given.Plugin (plugin.Order patterns)) (patterns_of text) (λ _. tt)
 value_is_fit choice.StripDebug text is = tt
 value_is_fit choice.CompactPool text is = tt
+value_is_fit choice.ModulePackages text is = tt
 value_is_fit choice.Include text is = free given.Include _ (λ _. tt)
 value_is_fit choice.Dir text is = mapped IsUtf8 IsFit given.Folder (folder_of text) (λ folder fit. fit) (folder_is_text text is)
 value_is_fit choice.Modules text is = mapped (IsWithin 1 256) IsFit given.Modules (number_of 1 256 text) (λ n fit. fit) (number_is_within 1 256 text)
@@ -147,6 +148,7 @@ flag_is_fit : (c : Choice) → IfSome (flag_of c) IsFit
 flag_is_fit choice.BindServices = tt
 flag_is_fit choice.StripDebug = tt
 flag_is_fit choice.CompactPool = tt
+flag_is_fit choice.ModulePackages = tt
 flag_is_fit choice.Jobs = tt
 flag_is_fit choice.ModulePath = tt
 flag_is_fit choice.FromImage = tt

@@ -53,6 +53,10 @@ link_from_folders : command_in (codes "link" ∷ codes "--module-path=x/:y" ∷ 
     ≡ Ok (command.Link (codes "x" ∷ codes "y" ∷ []) (codes "a" ∷ codes "b" ∷ []) (codes "o") (plugin.Compact ∷ []) Little false None 1)
 link_from_folders = refl
 
+link_with_packages : command_in (codes "link" ∷ codes "--from-image=i" ∷ codes "--module-packages" ∷ codes "--output" ∷ codes "o" ∷ codes "--module-packages" ∷ codes "--add-modules=a" ∷ [])
+    ≡ Ok (command.Link [] (codes "a" ∷ []) (codes "o") (plugin.Packages ∷ plugin.Packages ∷ []) Little false (Some (codes "i")) 1)
+link_with_packages = refl
+
 option_again_without_value : command_in (codes "cat" ∷ codes "--jobs=2" ∷ codes "--jobs" ∷ []) ≡ fault_at 3 kind.Repeated
 option_again_without_value = refl
 

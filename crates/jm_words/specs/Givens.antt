@@ -30,6 +30,7 @@ value_of choice.OrderResources text =
     option_map (λ patterns. given.Plugin (plugin.Order patterns)) (patterns_of text)
 value_of choice.StripDebug text = None
 value_of choice.CompactPool text = None
+value_of choice.ModulePackages text = None
 value_of choice.Include text = option_map given.Include (patterns_of text)
 value_of choice.Dir text = option_map given.Folder (folder_of text)
 value_of choice.Modules text = option_map given.Modules (number_of 1 256 text)
@@ -41,6 +42,7 @@ abbrev pub flag_of : Choice → Option Given
 flag_of choice.BindServices = Some given.Bind
 flag_of choice.StripDebug = Some (given.Plugin plugin.Strip)
 flag_of choice.CompactPool = Some (given.Plugin plugin.Compact)
+flag_of choice.ModulePackages = Some (given.Plugin plugin.Packages)
 flag_of _ = None
 
 -- what an argument gives, or none where it isn't of its form

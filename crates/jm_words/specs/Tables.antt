@@ -46,7 +46,7 @@ abbrev pub options : Verb → List Choice
 options verb.Link =
     choice.Jobs ∷ choice.ModulePath ∷ choice.FromImage ∷ choice.AddModules ∷ choice.Output
     ∷ choice.Endian ∷ choice.BindServices ∷ choice.ExcludeResources ∷ choice.OrderResources
-    ∷ choice.StripDebug ∷ choice.CompactPool ∷ []
+    ∷ choice.StripDebug ∷ choice.CompactPool ∷ choice.ModulePackages ∷ []
 options verb.List = choice.Jobs ∷ choice.Include ∷ []
 options verb.Extract = choice.Jobs ∷ choice.Dir ∷ choice.Include ∷ []
 options verb.Gen = choice.Jobs ∷ choice.Modules ∷ choice.Classes ∷ choice.Seed ∷ []
@@ -65,6 +65,7 @@ option_name choice.ExcludeResources = codes "--exclude-resources"
 option_name choice.OrderResources = codes "--order-resources"
 option_name choice.StripDebug = codes "--strip-java-debug-attributes"
 option_name choice.CompactPool = codes "--compact-pool"
+option_name choice.ModulePackages = codes "--module-packages"
 option_name choice.Include = codes "--include"
 option_name choice.Dir = codes "--dir"
 option_name choice.Modules = codes "--modules"
@@ -77,6 +78,7 @@ is_plugin choice.ExcludeResources = true
 is_plugin choice.OrderResources = true
 is_plugin choice.StripDebug = true
 is_plugin choice.CompactPool = true
+is_plugin choice.ModulePackages = true
 is_plugin _ = false
 
 -- the option in whose place an option stands, or the option itself

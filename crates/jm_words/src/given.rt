@@ -80,7 +80,8 @@ pub fn value_of(alloc: Global, choice: Choice, text: &[u8]) -> Result<Option<Giv
         Choice::Modules => Ok(count_of(256, text).map(|modules| Given::Modules(modules))),
         Choice::Classes => Ok(count_of(1024, text).map(|classes| Given::Classes(classes))),
         Choice::Seed => Ok(number_of(0, u64::MAX, text).map(|seed| Given::Seed(seed))),
-        Choice::BindServices | Choice::StripDebug | Choice::CompactPool => Ok(None),
+        Choice::BindServices | Choice::StripDebug | Choice::CompactPool | Choice::ModulePackages =>
+            Ok(None),
     }
 }
 
@@ -92,6 +93,7 @@ pub fn flag_of(choice: Choice) -> Option<Given>
         Choice::BindServices => Some(Given::Bind),
         Choice::StripDebug => Some(Given::Plugin(Plugin::Strip)),
         Choice::CompactPool => Some(Given::Plugin(Plugin::Compact)),
+        Choice::ModulePackages => Some(Given::Plugin(Plugin::Packages)),
         Choice::Jobs
         | Choice::ModulePath
         | Choice::FromImage

@@ -43,6 +43,7 @@ pub enum Choice {
     OrderResources,
     StripDebug,
     CompactPool,
+    ModulePackages,
     Include,
     Dir,
     Modules,
@@ -101,6 +102,7 @@ pub fn options(verb: Verb) -> &'static [Choice]
             Choice::OrderResources,
             Choice::StripDebug,
             Choice::CompactPool,
+            Choice::ModulePackages,
         ],
         Verb::List => &[Choice::Jobs, Choice::Include],
         Verb::Extract => &[Choice::Jobs, Choice::Dir, Choice::Include],
@@ -125,6 +127,7 @@ pub fn option_name(choice: Choice) -> &'static [u8]
         Choice::OrderResources => b"--order-resources",
         Choice::StripDebug => b"--strip-java-debug-attributes",
         Choice::CompactPool => b"--compact-pool",
+        Choice::ModulePackages => b"--module-packages",
         Choice::Include => b"--include",
         Choice::Dir => b"--dir",
         Choice::Modules => b"--modules",
@@ -141,7 +144,8 @@ pub fn is_plugin(choice: Choice) -> bool
         Choice::ExcludeResources
         | Choice::OrderResources
         | Choice::StripDebug
-        | Choice::CompactPool => true,
+        | Choice::CompactPool
+        | Choice::ModulePackages => true,
         Choice::Jobs
         | Choice::ModulePath
         | Choice::FromImage
@@ -173,6 +177,7 @@ pub fn instead_of(choice: Choice) -> Choice
         | Choice::OrderResources
         | Choice::StripDebug
         | Choice::CompactPool
+        | Choice::ModulePackages
         | Choice::Include
         | Choice::Dir
         | Choice::Modules
