@@ -52,8 +52,8 @@ impl<'a, R: Files + AllocGlobal> FileShelf<'a, R> {
         }
     }
 
-    /// For a user: the path at which the last call that answered `Failed` did, a colon, and what the
-    /// system said. None where none did, and where no memory was found for it.
+    /// For a user: the path at which the last call that answered `Failed` did, a colon, and what
+    /// the system said. None where none did, and where no memory was found for it.
     pub fn last_failure(&self) -> Option<&str> {
         match &self.last_failure {
             Some(text) => Some(text.as_str()),
@@ -123,9 +123,9 @@ impl<'a, R: Files + AllocGlobal> Shelf for FileShelf<'a, R> {
     ghost whole = { λ shelf. is_none shelf.made_last };
 
     /// Goes through the folder to any depth, and through links to files and folders as if these
-    /// stood there. A link that leads nowhere is a fault, and so are a ring of links, what is neither
-    /// a file nor a folder, a folder that can't be listed, a name that isn't UTF-8, and more than
-    /// 16,777,216 files and folders. A folder that isn't there has no names.
+    /// stood there. A link that leads nowhere is a fault, and so are a ring of links, what is
+    /// neither a file nor a folder, a folder that can't be listed, a name that isn't UTF-8, and
+    /// more than 16,777,216 files and folders. A folder that isn't there has no names.
     fn names(&mut self, alloc: Global, dir: &[u8]) -> Result<List<Text>, ShelfError> {
         self.settle(alloc)?;
         let answer = names_in(self.rt, alloc, dir);
@@ -134,8 +134,8 @@ impl<'a, R: Files + AllocGlobal> Shelf for FileShelf<'a, R> {
 
     /// None where the path, or a folder of it, isn't there, or a folder of it is a file. A folder
     /// in the place of the file is a fault, and so are more than 4,294,967,296 bytes, and another
-    /// number of bytes than the file had when it was opened. What isn't a file on a disk, as a pipe,
-    /// has no such number, and is read to its end.
+    /// number of bytes than the file had when it was opened. What isn't a file on a disk, as a
+    /// pipe, has no such number, and is read to its end.
     fn read(&mut self, alloc: Global, path: &[u8]) -> Result<Option<Text>, ShelfError> {
         self.settle(alloc)?;
         let answer = read_at(self.rt, alloc, path);
