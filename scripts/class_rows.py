@@ -1,4 +1,4 @@
-"""Rows for the verbs `read`, `strip` and `describe` of crates/jm_class_cases: classes as bytes, and the answers
+"""Rows for the verbs `read`, `strip`, `describe` and `packages=..` of crates/jm_class_cases: classes as bytes, and the answers
 that are wanted, as the Java Virtual Machine Specification, chapter 4, and the rules of this project give them.
 """
 
@@ -167,6 +167,73 @@ MODULES = [
     ("a class cut to 23 bytes", SMALLEST[:23], "Class Short 22"),
 ]
 
+# How many bytes stand behind the tag of a constant, but for a Utf8.
+BODIES = {3: 4, 4: 4, 5: 8, 6: 8, 7: 2, 8: 2, 9: 4, 10: 4, 11: 4, 12: 4, 15: 3, 16: 2, 17: 4, 18: 4, 19: 2, 20: 2}
+
+
+def number(text, place, size=2):
+    return int.from_bytes(text[place:place + size], "big")
+
+
+def behind_attributes(text, place):
+    count, place = number(text, place), place + 2
+    for _ in range(count):
+        place += 6 + number(text, place + 2, 4)
+    return place
+
+
+def packaged(text, packages):
+    """The class with an attribute ModulePackages more, whose constants stand behind all others."""
+    slots, place, pool_end = number(text, 8), 10, None
+    taken = 1
+    while taken < slots:
+        tag = text[place]
+        place += 3 + number(text, place + 1) if tag == 1 else 1 + BODIES[tag]
+        taken += 2 if tag in (5, 6) else 1
+    pool_end = place
+    place += 8 + 2 * number(text, place + 6)
+    for _ in range(2):
+        count, place = number(text, place), place + 2
+        for _ in range(count):
+            place = behind_attributes(text, place + 6)
+    utf8s = [b"ModulePackages", *(name.encode() for name in packages)]
+    added = [b"\1" + len(name).to_bytes(2, "big") + name for name in utf8s]
+    constants, listed = added[0], len(packages).to_bytes(2, "big")
+    for at, utf8 in enumerate(added[1:]):
+        its = slots + 1 + 2 * at
+        constants += utf8 + b"\x14" + its.to_bytes(2, "big")
+        listed += (its + 1).to_bytes(2, "big")
+    attribute = slots.to_bytes(2, "big") + len(listed).to_bytes(4, "big") + listed
+    return (text[:8] + (slots + 1 + 2 * len(packages)).to_bytes(2, "big") + text[10:pool_end] + constants
+            + text[pool_end:place] + (number(text, place) + 1).to_bytes(2, "big") + text[place + 2:] + attribute)
+
+
+# Classes, the packages of a list, and whether the class takes it; or its fault.
+PACKAGES = [
+    ("a module without a package", ALONE, [], True),
+    ("a module with one package", ALONE, ["p"], True),
+    ("a module with two", ALONE, ["p", "p/q"], True),
+    ("a module that requires two", TWO, ["a/b/c", "b"], True),
+    ("a module with a main class", changed(ALONE, (79, 79, b"\0\1\0\0\0\2\0\2"), TWO_ATTRIBUTES, MAIN), ["p"], True),
+    ("a module with a Long", changed(ALONE, (43, 43, LONG[10:19]), (9, 10, b"\x08")), ["p"], True),
+    ("the flag of a module and no attribute", changed(SMALLEST, (10, 11, b"\x80")), ["p"], True),
+    ("a list that is there", packaged(ALONE, ["q"]), ["p"], False),
+    ("an empty list that is there", packaged(ALONE, []), ["p"], False),
+    ("two lists that are there", packaged(packaged(ALONE, ["q"]), ["r"]), [], False),
+    ("a class that is no module", SMALLEST, ["p"], False),
+    ("a generated class", GENERATED, ["m000/p0"], False),
+    ("a class cut to 23 bytes", SMALLEST[:23], ["p"], "Short 22"),
+    ("another first byte", changed(SMALLEST, (0, 1, [0])), [], "Magic"),
+]
+
+
+def packages_rows():
+    rows = []
+    for name, text, packages, takes in PACKAGES:
+        made = packaged(text, packages).hex().upper() if takes is True else "same" if takes is False else takes
+        rows.append(("packages=" + ",".join(packages), name, text, made))
+    return rows
+
 
 def class_rows():
     """Verb, name, class and answer."""
@@ -177,4 +244,4 @@ def class_rows():
         rows.append(("read", name, text, f"written as it was, {len(text)} bytes: {parts}"))
         rows.append(("strip", name, text, "same" if left == text else left.hex().upper()))
     rows += [("describe", name, text, told) for name, text, told in MODULES]
-    return sorted(rows, key=lambda row: ["read", "strip", "describe"].index(row[0]))
+    return sorted(rows, key=lambda row: ["read", "strip", "describe"].index(row[0])) + packages_rows()

@@ -3,6 +3,8 @@
 //!
 //! compact     the bytes of the compacted class, or `same`
 //! strip       the bytes of the class without debug information, or `same`
+//! packages=.. the bytes of the class with a list of these packages, which have commas between
+//!             them, or `same`
 //! read        that the class is written as it was, with its length; how many parts it has; behind
 //!             semicolons its fields, its methods, their codes, and all texts of its constants
 //! describe    the module's name and the names that it requires, with a `!` where one is mandated,

@@ -4,9 +4,10 @@ use crate::described::put_described;
 use crate::digits::{bytes_of, put_digits};
 use crate::parts::put_read;
 use crate::texts::put_error;
-use jm_bytes::Text;
+use jm_bytes::{List, NoMemory, Text};
 use jm_class::ReadError;
 use jm_compact::compact;
+use jm_packages::add_packages;
 use jm_strip::strip;
 use std::alloc::{AllocError, Global};
 
@@ -44,6 +45,23 @@ fn put_compacted(told: &mut String, alloc: Global, bytes: &[u8]) -> Result<(), A
     Ok(())
 }
 
+/// The names in a text, with commas between them.
+fn names_in(alloc: Global, text: &str) -> Result<List<Text>, NoMemory> {
+    let mut names = List::new(alloc);
+    for name in text.split(',') {
+        if !name.is_empty() {
+            names.push(Text::copy_of(alloc, name.as_bytes())?)?;
+        }
+    }
+    Ok(names)
+}
+
+/// The class with a list of packages.
+fn packaged(alloc: Global, bytes: &[u8], names: &str) -> Result<Text, ReadError> {
+    let packages = names_in(alloc, names)?;
+    add_packages(alloc, bytes, packages.as_slice())
+}
+
 /// Puts what a verb makes of the bytes.
 fn put_answer(
     told: &mut String,
@@ -51,6 +69,9 @@ fn put_answer(
     verb: &str,
     bytes: &[u8],
 ) -> Result<(), AllocError> {
+    if let Some(names) = verb.strip_prefix("packages=") {
+        return put_made(told, bytes, packaged(alloc, bytes, names));
+    }
     match verb {
         "compact" => put_compacted(told, alloc, bytes),
         "strip" => put_made(told, bytes, strip(alloc, bytes)),

@@ -2,8 +2,8 @@
 -- count, and a Package constant for each package; JVMS 4.4.12: such a constant holds the number of
 -- the Utf8 of its name). Where the constants stand that it needs, and which classes stay as they
 -- are, is this project's rule.
-use Rattle.std.specs.Prelude.{◌≡◌, ℕ, ◌+◌, ◌*◌, nat_le, nat_lt, Bool, not, ◌&&◌, ◌||◌, List, [], ◌∷◌}
-use Rattle.std.specs.Prelude.{◌++◌, length, Ok, codes, if◌then◌else◌}
+use Rattle.std.specs.Prelude.{◌≡◌, ℕ, ◌+◌, ◌*◌, nat_le, nat_lt, Bool, not, ◌&&◌, ◌||◌, List, []}
+use Rattle.std.specs.Prelude.{◌∷◌, ◌++◌, length, Ok, codes, if◌then◌else◌}
 use Rattle.std.specs.List.{list_all, list_any}
 use Rattle.jm_class.specs.Classes.{SlotData, Constant, Opaque, AttributeData, ClassData, u2}
 use Rattle.jm_class.specs.Classes.{utf8_at, class_text, ReadsAs}

@@ -1,4 +1,5 @@
-ghost use Rattle.std.specs.Prelude.{◌≡◌, ◌<◌, ◌+◌, true, length, None, Some, Ok, Err, List, ℕ, IfOk, OnOk};
+ghost use Rattle.std.specs.Prelude.{◌≡◌, ◌<◌, ◌+◌, true, length, None, Some, Ok, Err, List, ℕ};
+ghost use Rattle.std.specs.Prelude.{IfOk, OnOk};
 ghost use Rattle.jm_class.specs.declared.class.ReadError.TheVariants.{Fault};
 ghost use Rattle.jm_class.specs.Classes.{ClassData, ReadsAs, IsClass};
 ghost use Rattle.jm_class.specs.ComputedClass.{class_fault};
