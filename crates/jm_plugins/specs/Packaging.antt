@@ -1,7 +1,7 @@
 -- The packages of modules among resources, and the descriptors that are to name them (what a class
 -- package is says the page of the format; JVMS 4.2.3 for the slashes in the names of packages).
-use Rattle.std.specs.Prelude.{ℕ, nat_eq, List, ◌∷◌, ◌++◌, Bool, ◌&&◌, Option, Some, None, option_map, map, filter, codes}
-use Rattle.std.specs.Prelude.{if◌then◌else◌}
+use Rattle.std.specs.Prelude.{ℕ, nat_eq, List, ◌∷◌, ◌++◌, Bool, ◌&&◌, Option, Some, None}
+use Rattle.std.specs.Prelude.{option_map, map, filter, codes, if◌then◌else◌}
 use Rattle.std.specs.List.{filter_map, starts_with}
 use Rattle.std.specs.Str.{bytes_eq}
 use Rattle.jm_class.specs.Classes.{ClassData}
@@ -20,8 +20,8 @@ abbrev pub packages_of : List (List ℕ) → List ℕ → List (List ℕ)
 packages_of names «module» =
     map slashed (class_packages (filter (λ name. bytes_eq (module_of name) «module») names))
 
--- the name is that of a module's descriptor, `/m/module-info.class`, where m has no slash: it begins
--- with a slash, and its path within its module is `module-info.class`
+-- the name is that of a module's descriptor, `/m/module-info.class`, where m has no slash: it
+-- begins with a slash, and its path within its module is `module-info.class`
 abbrev pub is_descriptor : List ℕ → Bool
 is_descriptor name =
     starts_with nat_eq name (codes "/") && bytes_eq (path_of name) (codes "module-info.class")
