@@ -59,6 +59,7 @@ fn tell_plugin(line: &mut String, plugin: &Plugin) -> Result<(), AllocError> {
         }
         Plugin::Strip => line.push_str(" strip"),
         Plugin::Compact => line.push_str(" compact"),
+        Plugin::Packages => line.push_str(" packages"),
     }
 }
 
@@ -239,9 +240,10 @@ const MAKING: &[(&str, &str, &str)] = &[
         "link: all options of a module path, the plug-ins in turn",
         "link --order-resources=/a/**,glob:/b/? --module-path mods//:/x/ \
          --strip-java-debug-attributes --add-modules=a,b,a --exclude-resources **\\, --endian=big \
-         --output --o/ --bind-services --compact-pool --compact-pool --jobs=64",
+         --output --o/ --bind-services --compact-pool --module-packages --compact-pool \
+         --module-packages --jobs=64",
         "link |mods| |/x| add |a| |b| |a| to |--o/| jobs 64 \
-         order 2 strip exclude 1 compact compact big bound",
+         order 2 strip exclude 1 compact packages compact packages big bound",
     ),
     (
         "link: from an image, and no other option",

@@ -8,34 +8,47 @@ use jm_pool::Pool;
 use std::alloc::Global;
 use std::test::Fail;
 
-/// A plug-in, as its name and, behind a `=`, its patterns.
-fn plug_in(alloc: Global, word: &str) -> Result<Plugin, PatternError> {
+/// A plug-in, as its name and, behind a `=`, its patterns; none for any other word.
+fn plug_in(alloc: Global, word: &str) -> Result<Option<Plugin>, PatternError> {
     if let Some(patterns) = word.strip_prefix("order=") {
-        return Ok(Plugin::Order(read_list(alloc, patterns.as_bytes())?));
+        return Ok(Some(Plugin::Order(read_list(alloc, patterns.as_bytes())?)));
     }
     if let Some(patterns) = word.strip_prefix("exclude=") {
-        return Ok(Plugin::Exclude(read_list(alloc, patterns.as_bytes())?));
+        return Ok(Some(Plugin::Exclude(read_list(alloc, patterns.as_bytes())?)));
     }
-    if word == "compact" {
-        return Ok(Plugin::Compact);
-    }
-    Ok(Plugin::Strip)
+    Ok(match word {
+        "strip" => Some(Plugin::Strip),
+        "compact" => Some(Plugin::Compact),
+        "packages" => Some(Plugin::Packages),
+        _ => None,
+    })
 }
 
 /// Plug-ins, with spaces between them.
 fn plug_ins(alloc: Global, words: &str) -> Result<List<Plugin>, PatternError> {
     let mut list = List::new(alloc);
     for word in words.split(' ') {
-        if !word.is_empty() {
-            list.push(plug_in(alloc, word)?)?;
+        if let Some(plugin) = plug_in(alloc, word)? {
+            list.push(plugin)?;
         }
     }
     Ok(list)
 }
 
+/// How many words there are.
+fn count_of(words: &str) -> usize {
+    words.split(' ').filter(|word| !word.is_empty()).count()
+}
+
 const GIVEN: &str = "/a/B.class=sourced /a/x=1 /b/B.class=sourced /b/y=sourced";
 
 const BAD: &str = "/a/A.class=sourced /a/B.class=no /a/C.class=none";
+
+const NO_MODULE: &str =
+    "/a/module-info.class=sourced /a/p/A.class=no /module-info.class=no /a/b/module-info.class=no";
+
+const BAD_MODULES: &str =
+    "/a/A.class=no /a/module-info.class=bare /c/module-info.class=none /b/module-info.class=no";
 
 const TWO: &str = "/a/A.class=generated /a/B.class=stripped";
 
@@ -84,6 +97,12 @@ const TURNS: &[(&str, &str, &str, &str)] = &[
         TWO,
         "/a/A.class=stripped /a/B.class=compacted",
     ),
+    (
+        "packages: descriptors alone, and no class that is no module's",
+        "packages",
+        NO_MODULE,
+        NO_MODULE,
+    ),
 ];
 
 /// The same of classes that are refused, with their fault.
@@ -112,6 +131,18 @@ const REFUSED: &[(&str, &str, &str, &str)] = &[
         BAD,
         "BadClass /a/C.class Magic",
     ),
+    (
+        "packages: the least place of a descriptor that doesn't read",
+        "packages",
+        BAD_MODULES,
+        "BadClass /c/module-info.class Magic",
+    ),
+    (
+        "packages behind an order",
+        "order=/b/** packages",
+        BAD_MODULES,
+        "BadClass /b/module-info.class Short 0",
+    ),
 ];
 
 /// What plug-ins left, as words.
@@ -131,6 +162,7 @@ fn plug_ins_act_in_turn(rt: HostRuntime) -> Result<(), Fail> {
     for rows in [TURNS, REFUSED] {
         for (shows, words, given, want) in rows {
             let list = plug_ins(rt.alloc(), words)?;
+            assert_eq!(rt; list.len(), count_of(words), "each of {words} is a plug-in");
             for jobs in [1, 2, 64] {
                 let pool = pool_of(rt.alloc(), given)?;
                 let answer = apply(&rt, rt.alloc(), jobs, pool, list.as_slice(), &NoGate);
