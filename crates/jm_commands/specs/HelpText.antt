@@ -65,6 +65,8 @@ plug_ins_text =
     ++ codes "      drops what a class says for debuggers\n"
     ++ codes "  --compact-pool\n"
     ++ codes "      drops the constants of a class that nothing names\n"
+    ++ codes "  --module-packages\n"
+    ++ codes "      names the packages of each module in its descriptor\n"
     ++ codes "\n"
 
 -- the statuses in the help

@@ -59,6 +59,8 @@ plug-ins:
       drops what a class says for debuggers
   --compact-pool
       drops the constants of a class that nothing names
+  --module-packages
+      names the packages of each module in its descriptor
 
 statuses:
   0 the output was put

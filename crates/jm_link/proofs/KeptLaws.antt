@@ -14,6 +14,7 @@ use Rattle.jm_class.specs.declared.class.ClassFault.{ClassFault}
 use Rattle.jm_class.proofs.ComputedClassLaws.{reads-class_of}
 use Rattle.jm_compact.specs.Compact.{compact_text}
 use Rattle.jm_form.specs.Layout.{Written}
+use Rattle.jm_form.specs.Trees.{module_of}
 use Rattle.jm_modinfo.specs.declared.descriptor.Descriptor.{Descriptor}
 use Rattle.jm_modinfo.specs.ComputedInfo.{info_of}
 use Rattle.jm_plugins.specs.declared.Plugin.{Plugin}
@@ -21,9 +22,11 @@ use Rattle.jm_plugins.specs.declared.Plugin.TheVariants as plugin
 use Rattle.jm_plugins.specs.declared.chain.ApplyError.{ApplyError}
 use Rattle.jm_pattern.specs.ComputedMatching.{matches_any}
 use Rattle.jm_bytes.specs.Results.{followed}
-use Rattle.jm_plugins.specs.Plugins.{act, apply, remade, remade_pair, remade_pairs, stripped_text}
+use Rattle.jm_plugins.specs.Packaging.{is_descriptor, listing_text, packages_of}
+use Rattle.jm_plugins.specs.Plugins.{act, apply, is_class, remade, remade_pair, remade_pairs, stripped_text}
+use Rattle.jm_pool.specs.Pairs.{names_of}
 use Rattle.jm_link.specs.Relinked.{leaves_order}
-use Rattle.jm_link.proofs.SaidLaws.{Says, compacted_says, stripped_says}
+use Rattle.jm_link.proofs.SaidLaws.{Says, compacted_says, packaged_says, stripped_says}
 
 -- a resource that has the name of one that was there, and says as a descriptor what that one said
 pub record IsKept (old : List Written) (r : Written) : Type 0 where
@@ -93,23 +96,23 @@ module _ (R : List ℕ → List ℕ → Type 0) where
 
   -- classes of another text
 
-  module _ (text : ClassData → List ℕ) (keeps : (c : ClassData) (d : Descriptor) → IsClass c → info_of c ≡ Ok d → Says (text c) d) where
-    remade_one : (p q : Written) → remade_pair text p ≡ Ok q → (p.0 ≡ q.0) × ((d : Descriptor) → Says p.1 d → Says q.1 d)
+  module _ (takes : List ℕ → Bool) (text : List ℕ → ClassData → List ℕ) (keeps : (name : List ℕ) (c : ClassData) (d : Descriptor) → IsClass c → info_of c ≡ Ok d → Says (text name c) d) where
+    remade_one : (p q : Written) → remade_pair takes text p ≡ Ok q → (p.0 ≡ q.0) × ((d : Descriptor) → Says p.1 d → Says q.1 d)
     remade_one p q is =
-        elim (chosen (ends_with nat_eq p.0 (codes ".class")) (remade text p.0 (class_of p.1)) (Ok p) (Ok q) is) [
+        elim (chosen (takes p.0) (remade (text p.0) p.0 (class_of p.1)) (Ok p) (Ok q) is) [
           | inl class ↦
-              let made = remade_ok text p.0 (class_of p.1) q class.1 in
-              (ap (λ (x : Written). x.0) made.2, λ d was. subst (λ (x : Written). Says x.1 d) made.2 (let says = class_says p.1 made.0 d made.1 was in keeps made.0 d says.0 says.1))
+              let made = remade_ok (text p.0) p.0 (class_of p.1) q class.1 in
+              (ap (λ (x : Written). x.0) made.2, λ d was. subst (λ (x : Written). Says x.1 d) made.2 (let says = class_says p.1 made.0 d made.1 was in keeps p.0 made.0 d says.0 says.1))
           | inr other ↦
               let same = same_ok {E = ApplyError} p q other.1 in
               (ap (λ (x : Written). x.0) same, λ d was. subst (λ (x : Written). Says x.1 d) same was)
         ]
 
-    remade_all : (old new : List Written) → remade_pairs text old ≡ Ok new → AreKept old new
+    remade_all : (old new : List Written) → remade_pairs takes text old ≡ Ok new → AreKept old new
     remade_all [] new is = subst (AreKept []) (same_ok {E = ApplyError} [] new is) (same_kept [])
     remade_all (p ∷ old) new is =
-        let one = followed_ok (remade_pair text p) (λ first. followed (remade_pairs text old) (λ behind. Ok (first ∷ behind))) new is in
-        let rest = followed_ok (remade_pairs text old) (λ behind. Ok (one.0 ∷ behind)) new one.2 in
+        let one = followed_ok (remade_pair takes text p) (λ first. followed (remade_pairs takes text old) (λ behind. Ok (first ∷ behind))) new is in
+        let rest = followed_ok (remade_pairs takes text old) (λ behind. Ok (one.0 ∷ behind)) new one.2 in
         let same = remade_one p one.0 one.1 in
         subst (AreKept (p ∷ old)) (same_ok {E = ApplyError} (one.0 ∷ rest.0) new rest.2) (more_kept p one.0 old rest.0 same.0 same.1 (remade_all old rest.0 rest.1))
 
@@ -117,8 +120,9 @@ module _ (R : List ℕ → List ℕ → Type 0) where
   acted (plugin.Exclude patterns) old new leaves is =
       subst (AreKept old) (same_ok {E = ApplyError} _ new is) (filtered (λ r. not (matches_any patterns r.0)) old)
   acted (plugin.Order patterns) old new leaves is = absurd (false≢true leaves)
-  acted plugin.Strip old new leaves is = remade_all stripped_text stripped_says old new is
-  acted plugin.Compact old new leaves is = remade_all compact_text compacted_says old new is
+  acted plugin.Strip old new leaves is = remade_all is_class (λ name. stripped_text) (λ name. stripped_says) old new is
+  acted plugin.Compact old new leaves is = remade_all is_class (λ name. compact_text) (λ name. compacted_says) old new is
+  acted plugin.Packages old new leaves is = remade_all is_descriptor (listing_text (names_of old)) (λ name. packaged_says (packages_of (names_of old) (module_of name))) old new is
 
   pub applied : (plugins : List Plugin) (old new : List Written) → All (λ one. leaves_order one ≡ true) plugins → apply plugins old ≡ Ok new → AreKept old new
   applied [] old new leave is = subst (AreKept old) (same_ok {E = ApplyError} old new is) (same_kept old)

@@ -1,5 +1,5 @@
--- What the class of a module says stays as it is when its debug information is left out, and such a
--- class isn't compacted.
+-- What the class of a module says stays as it is when its debug information is left out or a list
+-- of its packages is added, and such a class isn't compacted.
 use Rattle.std.proofs.Common.{◌≡◌, ℕ, inl, inr, Bool, true, false, cond, List, [], ◌∷◌, Contains, Option, Some, None, Result, Ok, Err, refl, sym, ap, subst, ◌∙◌, filter, codes, length, map, nat_eq, not}
 use Rattle.std.proofs.lemmas.Bool.{false≢true}
 use Rattle.std.proofs.lemmas.Slice.Eq.{bytes_eq-Decides}
@@ -26,6 +26,8 @@ use Rattle.jm_class.specs.Readings.{Left, Outcome, Reading, and_then, continued,
 use Rattle.jm_modinfo.specs.Descriptors.{bodies, bytes_named, is_named, main_bodies, module_bodies, plain_bytes}
 use Rattle.jm_modinfo.specs.Flags.{is_module}
 use Rattle.jm_modpath.specs.Modules.{info_in, info_with}
+use Rattle.jm_packages.specs.Packages.{packaged, packages_text}
+use Rattle.jm_packages.proofs.PackagedLaws.{packaged-class, packaged-info}
 use Rattle.jm_plugins.specs.Plugins.{stripped_text}
 use Rattle.jm_poolmap.specs.declared.forms.Place.TheVariants.{Class, Field, Method}
 use Rattle.jm_poolmap.specs.declared.walk.Walk.{Walk}
@@ -83,6 +85,15 @@ stripped_says c d fits is = record {
   class = strip c;
   reads = record { well_formed = strip-class c fits; text = refl };
   info = stripped_info c ∙ is;
+}
+
+-- With a list of packages
+
+pub packaged_says : (packages : List (List ℕ)) (c : ClassData) (d : Descriptor) → IsClass c → info_of c ≡ Ok d → Says (packages_text packages c) d
+packaged_says packages c d fits is = record {
+  class = packaged packages c;
+  reads = record { well_formed = packaged-class packages c fits; text = refl };
+  info = packaged-info packages c d fits is;
 }
 
 -- An attribute that isn't listed

@@ -61,6 +61,7 @@ leaves_order (plugin.Order patterns) = false
 leaves_order (plugin.Exclude patterns) = true
 leaves_order plugin.Strip = true
 leaves_order plugin.Compact = true
+leaves_order plugin.Packages = true
 
 -- a link made these bytes, without an order of resources, and the descriptor of each module that it
 -- took stands in them; what is asked for is these modules, in the same byte order and no plug-in
