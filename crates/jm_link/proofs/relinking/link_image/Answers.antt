@@ -23,7 +23,7 @@ returns-in_err-modules g c =
     let links : ImageLinks c.args.image.now asked path c.from_residual.result old old =
     rw (passed_on c.from_residual.result _ c.from_residual.ensures.1)
     (refused (ImageComesTo c.args.image.now asked) ⊥ path old old refl (image_refusal error) (unseen c.args.image.now asked error c.in_err-modules.ensures.modules)) in
-    record { links = links; gives_back = given_back c.args.image.now asked path c.from_residual.result old old links }
+    record { links = links; gives_back = given_back c.args.image.now asked path c.from_residual.result old old links; reads = c.modules_of.ensures.reads }
 
 pub closed-requires : goal.closed-requires
 closed-requires g c = rw c.as_slice.ensures c.in_ok-modules.ensures.are.differ
@@ -39,7 +39,7 @@ returns-in_err-places g c =
     let links : ImageLinks c.args.image.now asked path c.from_residual-in_err-places.result old old =
     rw (passed_on c.from_residual-in_err-places.result _ c.from_residual-in_err-places.ensures.1)
     (ended (ImageComesTo c.args.image.now asked) ⊥ path old old refl _ stop closes (unclosed c.args.image.now asked c.in_ok-modules.modules shown.0 shown.1 shown.2)) in
-    record { links = links; gives_back = given_back c.args.image.now asked path c.from_residual-in_err-places.result old old links }
+    record { links = links; gives_back = given_back c.args.image.now asked path c.from_residual-in_err-places.result old old links; reads = c.modules_of.ensures.reads }
 
 pub gather-requires-clause-places : goal.gather-requires-clause-places
 gather-requires-clause-places g c =
@@ -59,7 +59,7 @@ returns-in_err-read g c =
     let links : ImageLinks c.args.image.now asked path c.from_residual-in_err-read.result old old =
     rw (passed_on c.from_residual-in_err-read.result _ c.from_residual-in_err-read.ensures.1)
     (refused (ImageComesTo c.args.image.now asked) ⊥ path old old refl (gathering_refusal error) (unfit c.args.image.now asked c.in_ok-modules.modules shown.0 shown.1 shown.2 c.in_ok-places.places closes error gathers)) in
-    record { links = links; gives_back = given_back c.args.image.now asked path c.from_residual-in_err-read.result old old links }
+    record { links = links; gives_back = given_back c.args.image.now asked path c.from_residual-in_err-read.result old old links; reads = c.modules_of.ensures.reads }
 
 pub returns-in_err-left : goal.returns-in_err-left
 returns-in_err-left g c =
@@ -75,7 +75,7 @@ returns-in_err-left g c =
     rw (passed_on c.from_residual-in_err-left.result _ c.from_residual-in_err-left.ensures.1)
     (refused (ImageComesTo c.args.image.now asked) ⊥ path old old refl (plugging_refusal error)
     (λ r is. to (Err r) (unplugged asked (length c.in_ok-places.places) c.in_ok-read.read error c.in_err-left.ensures r is))) in
-    record { links = links; gives_back = given_back c.args.image.now asked path c.from_residual-in_err-left.result old old links }
+    record { links = links; gives_back = given_back c.args.image.now asked path c.from_residual-in_err-left.result old old links; reads = c.modules_of.ensures.reads }
 
 pub write_image-requires-clause-fit : goal.write_image-requires-clause-fit
 write_image-requires-clause-fit g c =
@@ -102,4 +102,4 @@ returns g c =
     let did = image_written asked modules read c.in_ok-left.left left fit path c.write_image.result old new (rw c.len.ensures at c.write_image.ensures) in
     let links : ImageLinks c.args.image.now asked path c.write_image.result old new =
     links_as (PoolComesTo asked modules read) (ImageComesTo c.args.image.now asked) ⊥ ⊥ path c.write_image.result old new (gathered_to c.args.image.now asked c.in_ok-modules.modules shown.0 shown.1 shown.2 c.in_ok-places.places closes read gathers) (λ none. none) did in
-    record { links = links; gives_back = given_back c.args.image.now asked path c.write_image.result old new links }
+    record { links = links; gives_back = given_back c.args.image.now asked path c.write_image.result old new links; reads = c.modules_of.ensures.reads }
