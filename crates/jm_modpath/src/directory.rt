@@ -1,5 +1,5 @@
 //! The modules that the folders of a directory show.
-ghost use Rattle.std.specs.Prelude.{◌≡◌, ◌∷◌, ◌++◌, [], All, Contains, IsUtf8, IfOk, IsErrOf};
+ghost use Rattle.std.specs.Prelude.{◌≡◌, ◌∷◌, ◌++◌, [], All, Contains, IsUtf8, IfOk, IsOk, IsErrOf};
 ghost use Rattle.std.specs.Prelude.{None, Ok, Err, ◌≢◌};
 ghost use Rattle.std.specs.Prelude.{true, false};
 ghost use Rattle.jm_class.specs.Classes.{ClassData, IsClass};
@@ -51,7 +51,7 @@ fn read_info<S: Shelf>(alloc: Global, folder: &[u8], shelf: &mut S) -> Result<De
         Comes (file files (info_path folder.now) ≡ None)
         (info_due folder.now (folder_info files folder.now)) result) }
     ensures legal { IfOk result (λ d. is_legal d.name ≡ true) }
-    ensures faults { CountsFaults (S.faults shelf.old) (S.faults shelf.new)
+    ensures faults { CountsFaults (S.faults shelf.old) (S.faults shelf.new) (IsOk result)
         (IsErrOf result PathStop.Outside) }
 {
     let path = inside(alloc, folder, b"module-info.class")?;
@@ -142,7 +142,7 @@ fn visible_module<S: Shelf>(
         Comes ⊥ (folder_due files directory.now earlier.now folder.now) result) }
     ensures new { IfOk result (λ m. is_named earlier.now (name_of m) ≡ false) }
     ensures texts { IfOk result HasTexts }
-    ensures faults { CountsFaults (S.faults shelf.old) (S.faults shelf.new)
+    ensures faults { CountsFaults (S.faults shelf.old) (S.faults shelf.new) (IsOk result)
         (IsErrOf result PathStop.Outside) }
 {
     let path = inside(alloc, directory, folder)?;
@@ -168,7 +168,7 @@ fn with_folder<S: Shelf>(
     ensures files { S.files shelf.new ≡ S.files shelf.old }
     ensures told { Shows (S.files shelf.old) (λ files.
         Comes ⊥ (added_due files directory.now found folder.now) result) }
-    ensures faults { CountsFaults (S.faults shelf.old) (S.faults shelf.new)
+    ensures faults { CountsFaults (S.faults shelf.old) (S.faults shelf.new) (IsOk result)
         (IsErrOf result PathStop.Outside) }
 {
     let module = visible_module(alloc, directory, folder, names, &found, shelf)?;
@@ -190,7 +190,7 @@ fn found_among<S: Shelf>(
     ensures files { S.files shelf.new ≡ S.files shelf.old }
     ensures told { Shows (S.files shelf.old) (λ files.
         Comes ⊥ (folders_due files directory.now [] (folders_among names.now)) result) }
-    ensures faults { CountsFaults (S.faults shelf.old) (S.faults shelf.new)
+    ensures faults { CountsFaults (S.faults shelf.old) (S.faults shelf.new) (IsOk result)
         (IsErrOf result PathStop.Outside) }
 {
     let folders = folders_among(alloc, names)?;
@@ -207,7 +207,7 @@ pub fn found_in<S: Shelf>(alloc: Global, directory: &[u8], shelf: &mut S) -> Res
     ensures files { S.files shelf.new ≡ S.files shelf.old }
     ensures told { Shows (S.files shelf.old) (λ files.
         Comes ⊥ (directory_due files directory.now) result) }
-    ensures faults { CountsFaults (S.faults shelf.old) (S.faults shelf.new)
+    ensures faults { CountsFaults (S.faults shelf.old) (S.faults shelf.new) (IsOk result)
         (IsErrOf result PathStop.Outside) }
 {
     let names = shelf.names(alloc, directory)?;

@@ -1,5 +1,5 @@
 //! The modules that a module path shows.
-ghost use Rattle.std.specs.Prelude.{◌≡◌, ◌∷◌, ◌++◌, [], All, IsUtf8, IfOk, IsErrOf};
+ghost use Rattle.std.specs.Prelude.{◌≡◌, ◌∷◌, ◌++◌, [], All, IsUtf8, IfOk, IsOk, IsErrOf};
 ghost use Rattle.jm_outside.specs.Outcome.{CountsFaults, Shows};
 ghost use Rattle.jm_modpath.specs.Finding.{AreVisible, Comes, HasTexts, ShowsModules};
 ghost use Rattle.jm_modpath.specs.Finding.{shown_more};
@@ -54,7 +54,7 @@ fn with_directory<S: Shelf>(
     ensures files { S.files shelf.new ≡ S.files shelf.old }
     ensures told { Shows (S.files shelf.old) (λ files.
         Comes ⊥ (shown_more files found directory.now) result) }
-    ensures faults { CountsFaults (S.faults shelf.old) (S.faults shelf.new)
+    ensures faults { CountsFaults (S.faults shelf.old) (S.faults shelf.new) (IsOk result)
         (IsErrOf result PathStop.Outside) }
 {
     let modules = found_in(alloc, directory, shelf)?.into_list();
@@ -74,7 +74,7 @@ pub fn visible_modules<S: Shelf>(
     ensures modules { Shows (S.files shelf.old) (λ files.
         ShowsModules files directories.now result) }
     ensures are { IfOk result AreVisible }
-    ensures faults { CountsFaults (S.faults shelf.old) (S.faults shelf.new)
+    ensures faults { CountsFaults (S.faults shelf.old) (S.faults shelf.new) (IsOk result)
         (IsErrOf result PathStop.Outside) }
 {
     let mut found = Found::new(alloc);

@@ -6,4 +6,5 @@ pub mod Holds
 pub mod Made
 pub mod MapView
 pub mod Outcome
+pub mod Shelves
 pub mod Views
