@@ -1,4 +1,4 @@
-ghost use Rattle.std.specs.Prelude.{◌≡◌, ◌+◌, ◌∷◌, [], ◌≤◌, IsUtf8, OnOk, OnErr, IsErrOf};
+ghost use Rattle.std.specs.Prelude.{◌≡◌, ◌+◌, ◌∷◌, [], ◌≤◌, IsUtf8, OnOk, OnErr, IsOk, IsErrOf};
 ghost use Rattle.jm_outside.specs.Outcome.{CountsFaults};
 ghost use Rattle.jm_outside.specs.Made.{MadeAll, MadePart};
 ghost use Rattle.jm_gen.specs.Draws.{drawn};
@@ -25,7 +25,7 @@ fn make_info<S: Shelf>(
         (MadeAll (info_file dir.now number draw ∷ []) (S.files shelf.old) (S.files shelf.new)) }
     ensures err { OnErr result
         (MadePart (info_file dir.now number draw ∷ []) (S.files shelf.old) (S.files shelf.new)) }
-    ensures faults { CountsFaults (S.faults shelf.old) (S.faults shelf.new)
+    ensures faults { CountsFaults (S.faults shelf.old) (S.faults shelf.new) (IsOk result)
         (IsErrOf result ShelfError.Failed) }
 {
     let bytes = info(alloc, number, draw)?;
@@ -47,7 +47,7 @@ fn make_class<S: Shelf>(
         (S.files shelf.old) (S.files shelf.new)) }
     ensures err { OnErr result (MadePart (class_file dir.now number class value ∷ [])
         (S.files shelf.old) (S.files shelf.new)) }
-    ensures faults { CountsFaults (S.faults shelf.old) (S.faults shelf.new)
+    ensures faults { CountsFaults (S.faults shelf.old) (S.faults shelf.new) (IsOk result)
         (IsErrOf result ShelfError.Failed) }
 {
     let bytes = class_bytes(alloc, number, class, value)?;
@@ -73,7 +73,7 @@ fn make_module<S: Shelf>(
     ensures err { OnErr result (MadePart (module_files dir.now classes draws.old number 0)
         (S.files shelf.old) (S.files shelf.new)) }
     ensures draws { OnOk result (draws.new ≡ drawn draws.old (classes + 1)) }
-    ensures faults { CountsFaults (S.faults shelf.old) (S.faults shelf.new)
+    ensures faults { CountsFaults (S.faults shelf.old) (S.faults shelf.new) (IsOk result)
         (IsErrOf result ShelfError.Failed) }
 {
     make_info(alloc, shelf, dir, number, draws.draw())?;
@@ -104,7 +104,7 @@ pub fn generate<S: Shelf>(
         (S.files shelf.old) (S.files shelf.new)) }
     ensures err { OnErr result (MadePart (generated dir.now modules classes seed)
         (S.files shelf.old) (S.files shelf.new)) }
-    ensures faults { CountsFaults (S.faults shelf.old) (S.faults shelf.new)
+    ensures faults { CountsFaults (S.faults shelf.old) (S.faults shelf.new) (IsOk result)
         (IsErrOf result ShelfError.Failed) }
 {
     let mut draws = Draws::new(seed);

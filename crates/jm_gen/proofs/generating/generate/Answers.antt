@@ -1,4 +1,4 @@
-use Rattle.std.proofs.Common.{◌≡◌, ◌+◌, ◌*◌, ℕ, ap, subst, ◌∙◌, arith}
+use Rattle.std.proofs.Common.{◌≡◌, ◌+◌, ◌*◌, ℕ, refl, ap, subst, ◌∙◌, arith}
 use Rattle.std.proofs.Math.Nat.{add-mul}
 use Rattle.jm_outside.specs.Made.{MadeAll, MadePart, Writes}
 use Rattle.jm_outside.proofs.MadeLaws.{made_none}
@@ -15,7 +15,7 @@ loop-number-init g c =
     record {
       files = made_none (g.S.Shelf.files c.args.shelf.now);
       draws = c.new-draws.ensures ∙ ap (drawn c.args.seed) none;
-      count = omega arith;
+      faults = refl;
     }
 
 pub returns-in_err-make_module-clause-err : goal.returns-in_err-make_module-clause-err
@@ -47,7 +47,7 @@ loop-number-preserved g c =
       files = all_next (λ k. module_files dir classes seed k (k * (classes + 1))) number (g.S.Shelf.files c.args.shelf.now) now new c.loop-number.invariant.files
           (subst (λ (fs : Writes). MadeAll fs now new) same c.in_ok-make_module.ensures.ok);
       draws = c.in_ok-make_module.ensures.draws ∙ ap (λ (d : ℕ). drawn d (classes + 1)) c.loop-number.invariant.draws ∙ drawn-drawn seed before (classes + 1) ∙ ap (drawn seed) further;
-      count = let earlier = c.loop-number.invariant.count in let call = c.in_ok-make_module.ensures.faults.count in omega (arith, earlier, call);
+      faults = c.in_ok-make_module.ensures.faults.kept refl ∙ c.loop-number.invariant.faults;
     }
 
 pub returns-clause-ok : goal.returns-clause-ok

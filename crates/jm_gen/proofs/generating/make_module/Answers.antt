@@ -1,4 +1,4 @@
-use Rattle.std.proofs.Common.{◌≡◌, ◌+◌, ◌∷◌, [], ℕ, ap, subst, ◌∙◌, arith}
+use Rattle.std.proofs.Common.{◌≡◌, ◌+◌, ◌∷◌, [], ℕ, ap, refl, subst, ◌∙◌, arith}
 use Rattle.jm_outside.specs.Made.{MadeAll, MadePart}
 use Rattle.jm_bytes.proofs.ResultLaws.{on_err}
 use Rattle.jm_gen.specs.Draws.{draw, drawn}
@@ -27,7 +27,7 @@ loop-class-init g c =
     record {
       files = subst (λ (d : ℕ). MadeAll (info_file dir number d ∷ []) old new) c.draw.ensures.drawn c.in_ok-make_info.ensures.ok;
       draws = c.draw.ensures.next;
-      count = c.in_ok-make_info.ensures.faults.count;
+      faults = c.in_ok-make_info.ensures.faults.kept refl;
     }
 
 pub returns-in_err-make_class-clause-err : goal.returns-in_err-make_class-clause-err
@@ -58,7 +58,7 @@ loop-class-preserved g c =
       files = made_next (info_file dir number (draw seed)) (λ k. class_file dir number k (drawn seed (0 + 2 + k))) class old (g.S.Shelf.files c.loop-class.shelf) new c.loop-class.invariant.files
           (subst (λ (v : ℕ). MadeAll (class_file dir number class v ∷ []) (g.S.Shelf.files c.loop-class.shelf) new) value c.in_ok-make_class.ensures.ok);
       draws = c.draw-in-loop-class.ensures.next ∙ ap draw c.loop-class.invariant.draws ∙ drawn_next seed (class + 1);
-      count = let before = c.loop-class.invariant.count in let call = c.in_ok-make_class.ensures.faults.count in omega (arith, before, call);
+      faults = c.in_ok-make_class.ensures.faults.kept refl ∙ c.loop-class.invariant.faults;
     }
 
 pub returns-clause-ok : goal.returns-clause-ok

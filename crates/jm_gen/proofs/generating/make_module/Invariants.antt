@@ -1,4 +1,4 @@
-use Rattle.std.proofs.Common.{◌≡◌, ◌+◌, ◌≤◌}
+use Rattle.std.proofs.Common.{◌≡◌, ◌+◌}
 use Rattle.jm_outside.specs.Made.{MadeAll}
 use Rattle.jm_gen.specs.Draws.{drawn}
 use Rattle.jm_gen.specs.Generated.{module_files}
@@ -8,5 +8,5 @@ abbrev pub invariant-loop-class : goal.invariant-loop-class
 invariant-loop-class g l = record {
   files : MadeAll (module_files l.dir l.class l.fn.draws l.number 0) (g.S.Shelf.files l.fn.shelf) (g.S.Shelf.files l.shelf);
   draws : l.draws ≡ drawn l.fn.draws (l.class + 1);
-  count : g.S.Shelf.faults l.fn.shelf ≤ g.S.Shelf.faults l.shelf;
+  faults : g.S.Shelf.faults l.shelf ≡ g.S.Shelf.faults l.fn.shelf;
 }
