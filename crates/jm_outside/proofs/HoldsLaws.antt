@@ -5,9 +5,10 @@ use Rattle.std.specs.declared.cmp.Ordering.{Ordering}
 use Rattle.std.specs.declared.cmp.Ordering.TheVariants.{Less, Equal, Greater}
 use Rattle.std.specs.Cmp.Lexicographic.{slice_cmp}
 use Rattle.std.proofs.lemmas.Cmp.{nat_list_eq_equiv}
-use Rattle.std.proofs.lemmas.List.{take-append-le}
+use Rattle.std.proofs.lemmas.List.{take-append-le, take_all}
 use Rattle.std.proofs.Math.Seq.{take-append-add, take-append_seam}
 use Rattle.std.proofs.lemmas.Map.Text.{is_eq-slice_cmp}
+use Rattle.jm_bytes.proofs.Choice.{same_some}
 use Rattle.jm_outside.specs.Files.{Files, file, put, add}
 use Rattle.jm_outside.specs.Outcome.{AddsFront, AsBeforeOrEmpty, Told}
 use Rattle.jm_outside.proofs.Laws.{file-put}
@@ -83,3 +84,10 @@ part_made None new path bytes told = tt
 part_made (Some old) None path bytes told = told
 part_made (Some old) (Some new) path bytes (inl same) = inl same
 part_made (Some old) (Some new) path bytes (inr empty) = inr (0, omega arith, empty)
+
+-- a file that holds all the bytes holds a front of them
+pub part_of_whole : (base now : Option Files) (path bytes : List ℕ) → Holds base path bytes now → HoldsPart base path bytes now
+part_of_whole None now path bytes holds = tt
+part_of_whole (Some old) None path bytes holds = cc
+part_of_whole (Some old) (Some new) path bytes holds =
+    inr (length bytes, omega arith, same_some new (put old path bytes) holds ∙ ap (put old path) (sym (take_all (length bytes) bytes (omega arith))))

@@ -1,5 +1,5 @@
 //! A drafted image, put into a file.
-ghost use Rattle.std.specs.Prelude.{◌≡◌, ◌++◌, ℕ, List, Option, Some, IsUtf8, OnOk, OnErr, IsErrOf};
+ghost use Rattle.std.specs.Prelude.{◌≡◌, ◌++◌, ℕ, List, Option, Some, IsUtf8, OnOk, OnErr, IsOk, IsErrOf};
 ghost use Rattle.jm_form.specs.Layout.{contents_text, layout};
 ghost use Rattle.jm_outside.specs.Files.{Files};
 ghost use Rattle.jm_outside.specs.Outcome.{CountsFaults};
@@ -25,7 +25,7 @@ fn append_resources<S: Shelf>(
     ensures err { (base : Option Files) (front : List ℕ)
         → Holds base path.now front (S.files shelf.old) → OnErr result
         (HoldsPart base path.now (front ++ contents_text pool.now) (S.files shelf.new)) }
-    ensures faults { CountsFaults (S.faults shelf.old) (S.faults shelf.new)
+    ensures faults { CountsFaults (S.faults shelf.old) (S.faults shelf.new) (IsOk result)
         (IsErrOf result ShelfError.Failed) }
 {
     for place in 0..pool.len() {
@@ -52,7 +52,7 @@ pub fn write<S: Shelf>(
         × Holds (S.files shelf.old) path.now image (S.files shelf.new)) }
     ensures err { OnErr result ((image : List ℕ) × (layout draft.now.order pool.now ≡ Some image)
         × HoldsPart (S.files shelf.old) path.now image (S.files shelf.new)) }
-    ensures faults { CountsFaults (S.faults shelf.old) (S.faults shelf.new)
+    ensures faults { CountsFaults (S.faults shelf.old) (S.faults shelf.new) (IsOk result)
         (IsErrOf result ShelfError.Failed) }
 {
     shelf.create(alloc, path)?;

@@ -1,4 +1,4 @@
-use Rattle.std.proofs.Common.{◌+◌, ◌++◌, take, drop, subst, arith}
+use Rattle.std.proofs.Common.{◌+◌, ◌++◌, take, drop, subst, refl, ◌∙◌}
 use Rattle.jm_form.specs.Layout.{contents_text}
 use Rattle.jm_outside.specs.Holds.{Holds, HoldsPart}
 use Rattle.jm_writer.proofs.LayoutLaws.{contents_more, contents_ends}
@@ -32,5 +32,5 @@ loop-place-preserved g c =
           subst (λ l. Holds base path l (g.S.Shelf.files c.append.new.self))
           (contents_more pool place (c.at.result.0.now, bytes) front c.at.ensures)
           (holds_more base (g.S.Shelf.files c.loop-place.shelf) (g.S.Shelf.files c.append.new.self) path done bytes (c.loop-place.invariant.files base front at_first) c.in_ok-append.ensures.ok);
-      count = let before = c.loop-place.invariant.count in let call = c.in_ok-append.ensures.faults.count in omega (arith, before, call);
+      faults = c.in_ok-append.ensures.faults.kept refl ∙ c.loop-place.invariant.faults;
     }
