@@ -24,6 +24,7 @@ use Rattle.jm_link.specs.Relinked.{GivesBack, HoldsBytes, LinksFrom, Relinks, Sh
 use Rattle.jm_link.specs.Relinked.Source.{ModulePath, Image}
 use Rattle.jm_link.specs.Resources.{resources_in}
 use Rattle.jm_outside.specs.Holds.{Holds}
+use Rattle.jm_outside.specs.Shelves.{ShelfSeen}
 use Rattle.jm_link.proofs.ChosenLaws.{chosen_below}
 use Rattle.jm_link.proofs.ClosedAgain.{taken}
 use Rattle.jm_relink.proofs.AskedLaws.{visible_in}
@@ -149,11 +150,11 @@ module _ (b : List ℕ) (asked : Request) (relinks : Relinks b asked) where
       not_both same = cc
 
 -- relinking gives an image back
-pub given_back : (b : List ℕ) (asked : Request) (path : List ℕ) (answer : Result Summary LinkStop) (old new : Option Files) (faults new_faults : ℕ) → ImageLinks b asked path answer old new faults new_faults → GivesBack b asked path answer old new
-given_back b asked path (Ok summary) old new faults new_faults (image, links, is, holds) = λ relinks.
-    subst (λ x. Holds old path x new) (same_bytes b asked relinks image links.0) holds
-given_back b asked path (Err (stop.Refused refusal)) old new faults new_faults (links, is) = λ relinks.
+pub given_back : (b : List ℕ) (asked : Request) (path : List ℕ) (answer : Result Summary LinkStop) (old new : ShelfSeen) → ImageLinks b asked path answer old new → GivesBack b asked path answer old.told new.told
+given_back b asked path (Ok summary) old new (image, links, is, stands) = λ relinks.
+    subst (λ x. Holds old.told path x new.told) (same_bytes b asked relinks image links.0) stands.holds
+given_back b asked path (Err (stop.Refused refusal)) old new (links, is) = λ relinks.
     never_refused b asked relinks refusal links.0
-given_back b asked path (Err (stop.NotThere listed)) old new faults new_faults (none, is) = λ relinks. none
-given_back b asked path (Err stop.Outside) old new faults new_faults did = λ relinks. tt
-given_back b asked path (Err stop.Memory) old new faults new_faults did = λ relinks. tt
+given_back b asked path (Err (stop.NotThere listed)) old new (none, is) = λ relinks. none
+given_back b asked path (Err stop.Outside) old new did = λ relinks. tt
+given_back b asked path (Err stop.Memory) old new did = λ relinks. tt

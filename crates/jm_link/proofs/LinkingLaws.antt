@@ -1,5 +1,5 @@
 -- What a link does, from what its steps did.
-use Rattle.std.proofs.Common.{◌≡◌, ◌≢◌, ◌⊎◌, ◌<◌, ◌≤◌, inl, inr, ℕ, suc, Bool, true, false, List, [], ◌∷◌, length, map, All, AllPairs, Option, Some, None, Result, Ok, Err, refl, sym, ap, subst}
+use Rattle.std.proofs.Common.{◌≡◌, ◌≢◌, ◌⊎◌, ◌<◌, ◌∙◌, inl, inr, ℕ, suc, Bool, true, false, List, [], ◌∷◌, length, map, All, AllPairs, Option, Some, None, Result, Ok, Err, refl, sym, ap, subst}
 use Rattle.std.proofs.lemmas.List.Elements.{All-contains, All-map}
 use Rattle.jm_bytes.proofs.Members.{all_from_contains, contains_map}
 use Rattle.jm_bytes.specs.Checks.{first_fault}
@@ -13,8 +13,9 @@ use Rattle.jm_names.specs.ByName.{Named}
 use Rattle.jm_names.specs.NameFaults.{IsSound}
 use Rattle.jm_names.specs.Names.{is_node}
 use Rattle.jm_outside.specs.Files.{Files, file}
+use Rattle.jm_outside.specs.Holds.{Holds, HoldsPart}
 use Rattle.jm_outside.specs.Outcome.{Rose, Shows}
-use Rattle.jm_outside.proofs.CountLaws.{rose_sooner}
+use Rattle.jm_outside.specs.Shelves.{ShelfFailed, ShelfSeen}
 use Rattle.jm_plugins.specs.Plugins.{apply}
 use Rattle.jm_plugins.specs.declared.Plugin.{Plugin}
 use Rattle.jm_plugins.specs.declared.chain.ApplyError.{ApplyError}
@@ -45,42 +46,56 @@ use Rattle.jm_link.proofs.LaidLaws.{laid_free}
 use Rattle.jm_link.proofs.ListedLaws.{files_there, visible_lists}
 use Rattle.jm_link.proofs.ResourcesApart.{file_names_apart}
 
--- the same of results that are others' too, and where the same isn't there
-pub links_as : (One Other : Result LinkedImage Refusal → Type 0) (Absent Missing : Type 0) (path : List ℕ) (answer : Result Summary LinkStop) (old new : Option Files) (faults new_faults : ℕ) → ((r : Result LinkedImage Refusal) → One r → Other r) → (Absent → Missing) → LinksBy One Absent path answer old new faults new_faults → LinksBy Other Missing path answer old new faults new_faults
-links_as One Other Absent Missing path (Ok summary) old new faults new_faults same absent (image, comes, is, held) = (image, same (Ok image) comes, is, held)
-links_as One Other Absent Missing path (Err (stop.Refused refusal)) old new faults new_faults same absent (comes, files) = (same (Err refusal) comes, files)
-links_as One Other Absent Missing path (Err (stop.NotThere listed)) old new faults new_faults same absent (none, files) = (absent none, files)
-links_as One Other Absent Missing path (Err stop.Outside) old new faults new_faults same absent (breaks, rose) = (go breaks, rose)
-  where
-    go : BreaksOff One path old new → BreaksOff Other path old new
-    go (inl files) = inl files
-    go (inr (image, comes, part)) = inr (image, same (Ok image) comes, part)
-links_as One Other Absent Missing path (Err stop.Memory) old new faults new_faults same absent breaks = go breaks
-  where
-    go : BreaksOff One path old new → BreaksOff Other path old new
-    go (inl files) = inl files
-    go (inr (image, comes, part)) = inr (image, same (Ok image) comes, part)
+-- a failed link of results that are others' too
+breaks_as : (One Other : Result LinkedImage Refusal → Type 0) (path : List ℕ) (old new : ShelfSeen) → ((r : Result LinkedImage Refusal) → One r → Other r) → BreaksOff One path old new → BreaksOff Other path old new
+breaks_as One Other path old new same (inl files) = inl files
+breaks_as One Other path old new same (inr (image, comes, part)) = inr (image, same (Ok image) comes, part)
 
--- the same from before some calls that changed no file
-pub links_sooner : (Comes : Result LinkedImage Refusal → Type 0) (Absent : Type 0) (path : List ℕ) (answer : Result Summary LinkStop) (old new : Option Files) (first faults new_faults : ℕ) → first ≤ faults → LinksBy Comes Absent path answer old new faults new_faults → LinksBy Comes Absent path answer old new first new_faults
-links_sooner Comes Absent path (Ok summary) old new first faults new_faults sooner did = did
-links_sooner Comes Absent path (Err (stop.Refused refusal)) old new first faults new_faults sooner did = did
-links_sooner Comes Absent path (Err (stop.NotThere listed)) old new first faults new_faults sooner did = did
-links_sooner Comes Absent path (Err stop.Outside) old new first faults new_faults sooner (breaks, rose) = (breaks, rose_sooner first faults new_faults sooner rose)
-links_sooner Comes Absent path (Err stop.Memory) old new first faults new_faults sooner did = did
+-- the same of results that are others' too, and where the same isn't there
+pub links_as : (One Other : Result LinkedImage Refusal → Type 0) (Absent Missing : Type 0) (path : List ℕ) (answer : Result Summary LinkStop) (old new : ShelfSeen) → ((r : Result LinkedImage Refusal) → One r → Other r) → (Absent → Missing) → LinksBy One Absent path answer old new → LinksBy Other Missing path answer old new
+links_as One Other Absent Missing path (Ok summary) old new same absent (image, comes, is, stands) = (image, same (Ok image) comes, is, stands)
+links_as One Other Absent Missing path (Err (stop.Refused refusal)) old new same absent (comes, files) = (same (Err refusal) comes, files)
+links_as One Other Absent Missing path (Err (stop.NotThere listed)) old new same absent (none, files) = (absent none, files)
+links_as One Other Absent Missing path (Err stop.Outside) old new same absent (breaks, failed) = (breaks_as One Other path old new same breaks, failed)
+links_as One Other Absent Missing path (Err stop.Memory) old new same absent breaks = breaks_as One Other path old new same breaks
+
+-- the same from before some calls that changed no file, none of which failed
+module _ (Comes : Result LinkedImage Refusal → Type 0) (Absent : Type 0) (path : List ℕ) (first old new : ShelfSeen) (files : old.told ≡ first.told) (kept : old.faults ≡ first.faults) where
+  breaks_sooner : BreaksOff Comes path old new → BreaksOff Comes path first new
+  breaks_sooner (inl same) = inl (same ∙ files)
+  breaks_sooner (inr (image, comes, part)) = inr (image, comes, subst (λ (told : Option Files). HoldsPart told path image.bytes new.told) files part)
+
+  failed_sooner : ShelfFailed old new → ShelfFailed first new
+  failed_sooner = subst (λ (n : ℕ). Rose n new.faults) kept
+
+  pub links_sooner : (answer : Result Summary LinkStop) → LinksBy Comes Absent path answer old new → LinksBy Comes Absent path answer first new
+  links_sooner (Ok summary) (image, comes, is, stands) = (
+    image,
+    comes,
+    is,
+    record {
+      holds = subst (λ (told : Option Files). Holds told path image.bytes new.told) files stands.holds;
+      whole = stands.whole;
+      kept = stands.kept ∙ kept;
+    },
+  )
+  links_sooner (Err (stop.Refused refusal)) (comes, same) = (comes, same ∙ files)
+  links_sooner (Err (stop.NotThere listed)) (none, same) = (none, same ∙ files)
+  links_sooner (Err stop.Outside) (breaks, failed) = (breaks_sooner breaks, failed_sooner failed)
+  links_sooner (Err stop.Memory) breaks = breaks_sooner breaks
 
 -- A step that ended the work
 
-module _ (Comes : Result LinkedImage Refusal → Type 0) (Absent : Type 0) (path : List ℕ) (old new : Option Files) (faults new_faults : ℕ) (same : new ≡ old) where
+module _ (Comes : Result LinkedImage Refusal → Type 0) (Absent : Type 0) (path : List ℕ) (old new : ShelfSeen) (same : new.told ≡ old.told) where
   -- with its answer, having read nothing
-  pub ended : (Refuses : Refusal → Type 0) (given : LinkStop) → StepStops Refuses ⊥ ⊥ given → ((r : Refusal) → Refuses r → Comes (Err r)) → LinksBy Comes Absent path (Err given) old new faults new_faults
+  pub ended : (Refuses : Refusal → Type 0) (given : LinkStop) → StepStops Refuses ⊥ ⊥ given → ((r : Refusal) → Refuses r → Comes (Err r)) → LinksBy Comes Absent path (Err given) old new
   ended Refuses (stop.Refused r) is comes = (comes r is, same)
   ended Refuses (stop.NotThere listed) is comes = absurd is
   ended Refuses stop.Outside is comes = absurd is
   ended Refuses stop.Memory is comes = inl same
 
   -- with the refusal that its error is, or without memory
-  pub refused : (o : Option Refusal) → ((r : Refusal) → o ≡ Some r → Comes (Err r)) → LinksBy Comes Absent path (Err (stop_of_refusal o)) old new faults new_faults
+  pub refused : (o : Option Refusal) → ((r : Refusal) → o ≡ Some r → Comes (Err r)) → LinksBy Comes Absent path (Err (stop_of_refusal o)) old new
   refused (Some r) comes = (comes r refl, same)
   refused None comes = inl same
 
@@ -123,16 +138,16 @@ module _ (asked : Request) (modules : ℕ) (before : List Written) where
     abbrev image : LinkedImage
     image = image_with order modules resources
 
-    part_written : (path : List ℕ) (old new : Option Files) → WritesPart order modules resources path old new → BreaksOff (PoolComesTo asked modules before) path old new
+    part_written : (path : List ℕ) (old new : ShelfSeen) → WritesPart order modules resources path old new → BreaksOff (PoolComesTo asked modules before) path old new
     part_written path old new part = inr (image, comes_to None part.free, part.part)
 
-    pub image_written : (path : List ℕ) (answer : Result Summary LinkStop) (old new : Option Files) (faults new_faults : ℕ) → WritesImage order modules resources path answer old new faults new_faults → LinksBy (PoolComesTo asked modules before) ⊥ path answer old new faults new_faults
-    image_written path (Ok summary) old new faults new_faults (none, is, held) = (image, comes_to None none, is, held)
-    image_written path (Err (stop.Refused given)) old new faults new_faults (is, files) = (comes_to (Some given) is, files)
-    image_written path (Err (stop.NotThere listed)) old new faults new_faults never = absurd never
-    image_written path (Err stop.Outside) old new faults new_faults (part, rose) = (part_written path old new part, rose)
-    image_written path (Err stop.Memory) old new faults new_faults (inl files) = inl files
-    image_written path (Err stop.Memory) old new faults new_faults (inr part) = part_written path old new part
+    pub image_written : (path : List ℕ) (answer : Result Summary LinkStop) (old new : ShelfSeen) → WritesImage order modules resources path answer old new → LinksBy (PoolComesTo asked modules before) ⊥ path answer old new
+    image_written path (Ok summary) old new (none, is, stands) = (image, comes_to None none, is, stands)
+    image_written path (Err (stop.Refused given)) old new (is, files) = (comes_to (Some given) is, files)
+    image_written path (Err (stop.NotThere listed)) old new never = absurd never
+    image_written path (Err stop.Outside) old new (part, failed) = (part_written path old new part, failed)
+    image_written path (Err stop.Memory) old new (inl files) = inl files
+    image_written path (Err stop.Memory) old new (inr part) = part_written path old new part
 
 -- The closure
 
@@ -165,18 +180,18 @@ pub candidates_length : (ms : List VisibleModule) → length (candidates ms) ≡
 candidates_length [] = refl
 candidates_length (m ∷ ms) = ap suc (candidates_length ms)
 
-module _ (told : Option Files) (directories : List (List ℕ)) (asked : Request) where
-  -- the path shows no modules
-  pub unseen : (given : PathStop) (path : List ℕ) (new : Option Files) (faults new_faults : ℕ) → new ≡ told → Shows told (λ files. ShowsModules files directories (Err given)) → (given ≡ path_stop.Outside → Rose faults new_faults) → LinksBy (ComesTo told directories asked) (TellsNothing told) path (Err (stop_of_path given)) told new faults new_faults
-  unseen (path_stop.Refused r) path new faults new_faults same shows rose = (go told shows, same)
-    where
-      go : (t : Option Files) → Shows t (λ files. ShowsModules files directories (Err (path_stop.Refused r))) → ComesTo t directories asked (Err (path_refusal_as r))
-      go None shows = tt
-      go (Some files) shows = rw shows (refl, tt)
-  unseen (path_stop.NotThere listed) path new faults new_faults same shows rose = (shows, same)
-  unseen path_stop.Outside path new faults new_faults same shows rose = (inl same, rose refl)
-  unseen path_stop.Memory path new faults new_faults same shows rose = inl same
+-- the path shows no modules
+pub unseen : (directories : List (List ℕ)) (asked : Request) (given : PathStop) (path : List ℕ) (old new : ShelfSeen) → new.told ≡ old.told → Shows old.told (λ files. ShowsModules files directories (Err given)) → (given ≡ path_stop.Outside → ShelfFailed old new) → LinksBy (ComesTo old.told directories asked) (TellsNothing old.told) path (Err (stop_of_path given)) old new
+unseen directories asked (path_stop.Refused r) path old new same shows failed = (go old.told shows, same)
+  where
+    go : (t : Option Files) → Shows t (λ files. ShowsModules files directories (Err (path_stop.Refused r))) → ComesTo t directories asked (Err (path_refusal_as r))
+    go None shows = tt
+    go (Some files) shows = rw shows (refl, tt)
+unseen directories asked (path_stop.NotThere listed) path old new same shows failed = (shows, same)
+unseen directories asked path_stop.Outside path old new same shows failed = (inl same, failed refl)
+unseen directories asked path_stop.Memory path old new same shows failed = inl same
 
+module _ (told : Option Files) (directories : List (List ℕ)) (asked : Request) where
   module _ (found : List VisibleModule) (shows : Shows told (λ files. ShowsModules files directories (Ok found))) where
     found_to : (r : Result LinkedImage Refusal) → ((files : Files) → told ≡ Some files → LinksAmong asked (candidates found) (resources_in files found) r × IsLaid asked.order r) → ComesTo told directories asked r
     found_to r comes = go told shows comes
@@ -205,11 +220,11 @@ module _ (told : Option Files) (directories : List (List ℕ)) (asked : Request)
           (among_to asked (candidates found) (resources_in files found) places closes r (rw (bad_name files names, fit, sym same) comes), laid))
 
 -- reading ended the work
-pub unread : (Comes : Result LinkedImage Refusal → Type 0) (told new : Option Files) (path : List ℕ) (given : LinkStop) (faults new_faults : ℕ) → new ≡ told → StepStops (λ r. ⊥) (TellsNothing told) (Unit {0}) given → (given ≡ stop.Outside → Rose faults new_faults) → LinksBy Comes (TellsNothing told) path (Err given) told new faults new_faults
-unread Comes told new path (stop.Refused r) faults new_faults same is rose = absurd is
-unread Comes told new path (stop.NotThere listed) faults new_faults same is rose = (is, same)
-unread Comes told new path stop.Outside faults new_faults same is rose = (inl same, rose refl)
-unread Comes told new path stop.Memory faults new_faults same is rose = inl same
+pub unread : (Comes : Result LinkedImage Refusal → Type 0) (path : List ℕ) (given : LinkStop) (old new : ShelfSeen) → new.told ≡ old.told → StepStops (λ r. ⊥) (TellsNothing old.told) (Unit {0}) given → (given ≡ stop.Outside → ShelfFailed old new) → LinksBy Comes (TellsNothing old.told) path (Err given) old new
+unread Comes path (stop.Refused r) old new same is failed = absurd is
+unread Comes path (stop.NotThere listed) old new same is failed = (is, same)
+unread Comes path stop.Outside old new same is failed = (inl same, failed refl)
+unread Comes path stop.Memory old new same is failed = inl same
 
 -- nothing is absent where nothing is read
 pub none_absent : (told : Option Files) → ⊥ → TellsNothing told

@@ -4,7 +4,7 @@ use Rattle.std.specs.Prelude.{ℕ, ◌≡◌, List, map, Option, Some, None, Res
 use Rattle.std.specs.List.{filter_map, flat_map}
 use Rattle.jm_closure.specs.declared.candidate.Candidate.{Candidate}
 use Rattle.jm_form.specs.Layout.{Written}
-use Rattle.jm_outside.specs.Files.{Files}
+use Rattle.jm_outside.specs.Shelves.{ShelfSeen}
 use Rattle.jm_relink.specs.declared.error.RelinkError.{RelinkError}
 use Rattle.jm_relink.specs.declared.error.RelinkError.TheVariants as relink
 use Rattle.jm_relink.specs.Gathering.{resources_with}
@@ -56,6 +56,5 @@ ImageComesTo b asked result = ImageLinksTo b asked result × IsLaid asked.order 
 -- what a link of the modules of an image did to the files, by its answer; no file is read, so none
 -- is missing
 abbrev pub ImageLinks : List ℕ → Request → List ℕ → Result Summary LinkStop
-    → (old new : Option Files) → (faults new_faults : ℕ) → Type 0
-ImageLinks b asked path answer old new faults new_faults =
-    LinksBy (ImageComesTo b asked) ⊥ path answer old new faults new_faults
+    → (old new : ShelfSeen) → Type 0
+ImageLinks b asked path answer old new = LinksBy (ImageComesTo b asked) ⊥ path answer old new

@@ -1,11 +1,12 @@
 -- What a `link` did to the files of a shelf (this project's rule).
-use Rattle.std.specs.Prelude.{ℕ, ◌≡◌, ◌⊎◌, List, length, Option, Result, Ok, Err}
+use Rattle.std.specs.Prelude.{ℕ, ◌≡◌, ◌⊎◌, IsTrue, List, length, Option, Result, Ok, Err}
 use Rattle.jm_bytes.specs.declared.words.Order.{Order}
 use Rattle.jm_form.specs.Layout.{Written}
 use Rattle.jm_outside.specs.Files.{Files}
-use Rattle.jm_outside.specs.Outcome.{Rose, Shows}
+use Rattle.jm_outside.specs.Outcome.{Shows}
 use Rattle.jm_writer.specs.Laid.{IsLaidOut}
 use Rattle.jm_outside.specs.Holds.{Holds, HoldsPart}
+use Rattle.jm_outside.specs.Shelves.{ShelfFailed, ShelfSeen}
 use Rattle.jm_link.specs.declared.linking.Asked.{Asked}
 use Rattle.jm_link.specs.declared.linking.LinkStop.{LinkStop}
 use Rattle.jm_link.specs.declared.linking.LinkStop.TheVariants as stop
@@ -45,26 +46,34 @@ ComesTo told directories asked result =
 
 -- what a link did, where its result is one of these
 
--- it failed: before it wrote, or with a front of its image written
-abbrev pub BreaksOff : (Result LinkedImage Refusal → Type 0) → List ℕ → Option Files → Option Files
+-- the file at a path is these bytes and stands whole under its own name, all others are as before,
+-- and no call failed
+pub record StandsAt (path bytes : List ℕ) (old new : ShelfSeen) : Type 0 where
+  pub holds : Holds old.told path bytes new.told
+  pub whole : IsTrue new.whole
+  pub kept : new.faults ≡ old.faults
+
+-- it failed: before it wrote, or with a front of its image written, which may be all of it
+abbrev pub BreaksOff : (Result LinkedImage Refusal → Type 0) → List ℕ → (old new : ShelfSeen)
     → Type 0
 BreaksOff Comes path old new =
-    (new ≡ old) ⊎ ((image : LinkedImage) × Comes (Ok image) × HoldsPart old path image.bytes new)
+    (new.told ≡ old.told)
+    ⊎ ((image : LinkedImage) × Comes (Ok image) × HoldsPart old.told path image.bytes new.told)
 
 -- by the answer: the image stands at the path; a refusal, or a listed file that isn't there, so
 -- that `Absent` holds, and no file was changed; a failure of the outside, or no memory
 abbrev pub LinksBy : (Result LinkedImage Refusal → Type 0) → Type 0 → List ℕ
-    → Result Summary LinkStop → (old new : Option Files) → (faults new_faults : ℕ) → Type 0
-LinksBy Comes Absent path (Ok summary) old new faults new_faults =
+    → Result Summary LinkStop → (old new : ShelfSeen) → Type 0
+LinksBy Comes Absent path (Ok summary) old new =
     (image : LinkedImage) × Comes (Ok image) × (summary ≡ summary_of image)
-    × Holds old path image.bytes new
-LinksBy Comes Absent path (Err (stop.Refused refusal)) old new faults new_faults =
-    Comes (Err refusal) × (new ≡ old)
-LinksBy Comes Absent path (Err (stop.NotThere listed)) old new faults new_faults =
-    Absent × (new ≡ old)
-LinksBy Comes Absent path (Err stop.Outside) old new faults new_faults =
-    BreaksOff Comes path old new × Rose faults new_faults
-LinksBy Comes Absent path (Err stop.Memory) old new faults new_faults = BreaksOff Comes path old new
+    × StandsAt path image.bytes old new
+LinksBy Comes Absent path (Err (stop.Refused refusal)) old new =
+    Comes (Err refusal) × (new.told ≡ old.told)
+LinksBy Comes Absent path (Err (stop.NotThere listed)) old new =
+    Absent × (new.told ≡ old.told)
+LinksBy Comes Absent path (Err stop.Outside) old new =
+    BreaksOff Comes path old new × ShelfFailed old new
+LinksBy Comes Absent path (Err stop.Memory) old new = BreaksOff Comes path old new
 
 -- the shelf doesn't tell its files: one that does never says of a listed file that it isn't there
 abbrev pub TellsNothing : Option Files → Type 0
@@ -72,9 +81,9 @@ TellsNothing told = Shows told (λ files. ⊥)
 
 -- what a link of the modules of a module path did to the files, by its answer
 abbrev pub Links : List (List ℕ) → Request → List ℕ → Result Summary LinkStop
-    → (old new : Option Files) → (faults new_faults : ℕ) → Type 0
-Links directories asked path answer old new faults new_faults =
-    LinksBy (ComesTo old directories asked) (TellsNothing old) path answer old new faults new_faults
+    → (old new : ShelfSeen) → Type 0
+Links directories asked path answer old new =
+    LinksBy (ComesTo old.told directories asked) (TellsNothing old.told) path answer old new
 
 -- what the resources of so many modules come to: the plug-ins act on them, and what these leave is
 -- laid out

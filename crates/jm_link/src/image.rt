@@ -1,15 +1,42 @@
 //! The image of the resources, planned and written.
-ghost use Rattle.std.specs.Prelude.{IsUtf8};
+ghost use Rattle.std.specs.Prelude.{◌≡◌, ℕ, List, Some, IsUtf8, IsOk, IsTrue, OnOk, OnErr, IsErrOf};
+ghost use Rattle.jm_form.specs.Layout.{layout};
+ghost use Rattle.jm_outside.specs.Holds.{Holds, HoldsPart};
+ghost use Rattle.jm_outside.specs.Outcome.{CountsFaults};
+ghost use Rattle.jm_outside.specs.Shelves.{shelf_at};
 ghost use Rattle.jm_pool.specs.Pairs.{names_of};
 ghost use Rattle.jm_writer.specs.Drafts.{IsDraft};
 ghost use Rattle.jm_link.specs.Resources.{AreFit};
 ghost use Rattle.jm_link.specs.Written.{WritesImage};
 
 use crate::linking::{Asked, LinkStop, Summary};
-use jm_outside::Shelf;
+use jm_outside::{Shelf, ShelfError};
 use jm_pool::Pool;
 use jm_writer::{Draft, plan, write};
 use std::alloc::Global;
+
+/// Writes a planned image, and ends the making of files behind it. After a refusal the file may
+/// hold all of the image.
+fn write_whole<S: Shelf>(
+    alloc: Global,
+    draft: &Draft,
+    pool: &Pool,
+    shelf: &mut S,
+    path: &[u8],
+) -> Result<(), ShelfError>
+    requires draft { IsDraft draft.now.order pool.now draft.now }
+    requires path { IsUtf8 path.now }
+    ensures ok { OnOk result ((image : List ℕ) × (layout draft.now.order pool.now ≡ Some image)
+        × Holds (S.files shelf.old) path.now image (S.files shelf.new)) }
+    ensures err { OnErr result ((image : List ℕ) × (layout draft.now.order pool.now ≡ Some image)
+        × HoldsPart (S.files shelf.old) path.now image (S.files shelf.new)) }
+    ensures whole { OnOk result (IsTrue (S.whole shelf.new)) }
+    ensures faults { CountsFaults (S.faults shelf.old) (S.faults shelf.new) (IsOk result)
+        (IsErrOf result ShelfError.Failed) }
+{
+    write(alloc, draft, pool, shelf, path)?;
+    shelf.finish(alloc)
+}
 
 /// Writes a planned image of so many modules.
 fn write_draft<S: Shelf>(
@@ -23,9 +50,9 @@ fn write_draft<S: Shelf>(
     requires draft { IsDraft draft.now.order pool.now draft.now }
     requires path { IsUtf8 path.now }
     ensures { WritesImage draft.now.order modules pool.now path.now result
-        (S.files shelf.old) (S.files shelf.new) (S.faults shelf.old) (S.faults shelf.new) }
+        (shelf_at S.Shelf shelf.old) (shelf_at S.Shelf shelf.new) }
 {
-    write(alloc, draft, pool, shelf, path)?;
+    write_whole(alloc, draft, pool, shelf, path)?;
     Ok(Summary {
         modules,
         resources: pool.len(),
@@ -46,7 +73,7 @@ pub fn write_image<S: Shelf>(
     requires fit { AreFit (names_of pool.now) }
     requires output { IsUtf8 asked.now.output.now }
     ensures { WritesImage asked.now.order modules pool.now asked.now.output.now result
-        (S.files shelf.old) (S.files shelf.new) (S.faults shelf.old) (S.faults shelf.new) }
+        (shelf_at S.Shelf shelf.old) (shelf_at S.Shelf shelf.new) }
 {
     let draft = plan(alloc, asked.order, pool)?;
     write_draft(alloc, &draft, modules, pool, shelf, asked.output)

@@ -1,6 +1,7 @@
 //! A whole `link` from a module path.
 ghost use Rattle.std.specs.Prelude.{◌<◌, All, IsUtf8};
 ghost use Rattle.jm_link.specs.Links.{Links, request_of};
+ghost use Rattle.jm_outside.specs.Shelves.{shelf_at};
 
 use crate::closing::closed;
 use crate::image::write_image;
@@ -72,7 +73,7 @@ pub fn link<T: Threads + Sync, S: Shelf, G: Gate + Sync>(
     requires directories { All IsUtf8 directories.now }
     requires output { IsUtf8 asked.now.output.now }
     ensures { Links directories.now (request_of asked.now) asked.now.output.now result
-        (S.files shelf.old) (S.files shelf.new) (S.faults shelf.old) (S.faults shelf.new) }
+        (shelf_at S.Shelf shelf.old) (shelf_at S.Shelf shelf.new) }
 {
     let visible = visible_modules(alloc, directories, shelf)?;
     let places = closed(alloc, visible.candidates(), asked)?;

@@ -3,6 +3,7 @@ ghost use Rattle.std.specs.Prelude.{◌≡◌, ◌<◌, IsUtf8};
 ghost use Rattle.jm_link.specs.ImageLinked.{ImageLinks};
 ghost use Rattle.jm_link.specs.Links.{request_of};
 ghost use Rattle.jm_link.specs.Relinked.{GivesBack};
+ghost use Rattle.jm_outside.specs.Shelves.{shelf_at};
 
 use crate::closing::closed;
 use crate::image::write_image;
@@ -36,7 +37,7 @@ pub fn link_image<T: Threads + Sync, S: Shelf, G: Gate + Sync, R: Ledger>(
     requires reads { reads.old.bytes ≡ image.now }
     requires output { IsUtf8 asked.now.output.now }
     ensures links { ImageLinks image.now (request_of asked.now) asked.now.output.now result
-        (S.files shelf.old) (S.files shelf.new) (S.faults shelf.old) (S.faults shelf.new) }
+        (shelf_at S.Shelf shelf.old) (shelf_at S.Shelf shelf.new) }
     ensures gives_back { GivesBack image.now (request_of asked.now) asked.now.output.now result
         (S.files shelf.old) (S.files shelf.new) }
 {

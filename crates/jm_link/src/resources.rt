@@ -1,6 +1,6 @@
 //! The files of the modules that are linked, and the resources that they are.
 ghost use Rattle.std.specs.Prelude.{◌≡◌, ◌≢◌, ◌<◌, ◌∷◌, ◌++◌, [], All, AllPairs, IsUtf8, IfOk};
-ghost use Rattle.std.specs.Prelude.{OnOk, IsErrOf, None, length, map};
+ghost use Rattle.std.specs.Prelude.{OnOk, IsOk, IsErrOf, None, length, map};
 ghost use Rattle.jm_outside.specs.Files.{file};
 ghost use Rattle.jm_outside.specs.Outcome.{CountsFaults, Shows};
 ghost use Rattle.jm_pool.specs.Pairs.{bytes_of, names_of};
@@ -150,7 +150,7 @@ fn read_file<S: Shelf>(alloc: Global, path: Text, shelf: &mut S) -> Result<Text,
     ensures bytes { IfOk result (λ bytes.
         Shows (S.files shelf.old) (λ told. bytes ≡ bytes_at told path)) }
     ensures stops { OnlyFails (S.files shelf.old) result }
-    ensures faults { CountsFaults (S.faults shelf.old) (S.faults shelf.new)
+    ensures faults { CountsFaults (S.faults shelf.old) (S.faults shelf.new) (IsOk result)
         (IsErrOf result LinkStop.Outside) }
 {
     match shelf.read(alloc, path.as_slice())? {
@@ -186,7 +186,7 @@ fn read_resource<S: Shelf>(
         pool.new ≡ pool.old ++ (resource.name, bytes_at told resource.path) ∷ [])) }
     ensures names { OnOk result (names_of pool.new ≡ names_of pool.old ++ resource.name ∷ []) }
     ensures stops { OnlyFails (S.files shelf.old) result }
-    ensures faults { CountsFaults (S.faults shelf.old) (S.faults shelf.new)
+    ensures faults { CountsFaults (S.faults shelf.old) (S.faults shelf.new) (IsOk result)
         (IsErrOf result LinkStop.Outside) }
 {
     let ResourceFile { name, path } = resource;
@@ -209,7 +209,7 @@ pub fn read_resources<S: Shelf>(
         pool ≡ resources_of told (map pair_of files))) }
     ensures names { IfOk result (λ pool. names_of pool ≡ file_names files) }
     ensures stops { OnlyFails (S.files shelf.old) result }
-    ensures faults { CountsFaults (S.faults shelf.old) (S.faults shelf.new)
+    ensures faults { CountsFaults (S.faults shelf.old) (S.faults shelf.new) (IsOk result)
         (IsErrOf result LinkStop.Outside) }
 {
     let mut pool = Pool::new(alloc);

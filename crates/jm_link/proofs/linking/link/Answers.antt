@@ -1,9 +1,10 @@
-use Rattle.std.proofs.Common.{◌≡◌, ◌∙◌, ◌<◌, ℕ, List, length, map, Err, arith, subst, sym}
+use Rattle.std.proofs.Common.{◌≡◌, ◌∙◌, ◌<◌, ℕ, List, length, map, Err, refl, subst, sym}
 use Rattle.jm_bytes.proofs.Members.{all_from_contains}
 use Rattle.jm_bytes.proofs.ResultLaws.{passed_on}
 use Rattle.jm_closure.specs.declared.candidate.Candidate.{Candidate}
 use Rattle.jm_modpath.specs.Modules.{candidates}
 use Rattle.jm_outside.specs.Outcome.{Shows}
+use Rattle.jm_outside.specs.Shelves.{shelf_at}
 use Rattle.jm_link.specs.Closing.{ClosesAmong}
 use Rattle.jm_link.specs.Linked.{Request, plugging_refusal}
 use Rattle.jm_link.specs.Links.{ComesTo, PoolComesTo, TellsNothing, request_of}
@@ -23,7 +24,7 @@ returns-in_err-places g c =
     let stop = c.in_err-places.field-0.0 in
     let closes = subst (λ (cs : List Candidate). ClosesAmong cs asked.roots asked.bind (Err stop)) c.candidates.ensures c.in_err-places.ensures in
     rw (passed_on c.from_residual-in_err-places.result _ c.from_residual-in_err-places.ensures.1)
-    (ended (ComesTo told c.args.directories.now asked) (TellsNothing told) c.args.asked.now.output.now told (g.S.Shelf.files c.visible_modules.new.shelf) (g.S.Shelf.faults c.args.shelf.now) (g.S.Shelf.faults c.visible_modules.new.shelf) c.visible_modules.ensures.files _ stop closes
+    (ended (ComesTo told c.args.directories.now asked) (TellsNothing told) c.args.asked.now.output.now (shelf_at g.S.Shelf c.args.shelf.now) (shelf_at g.S.Shelf c.visible_modules.new.shelf) c.visible_modules.ensures.files _ stop closes
     (unclosed told c.args.directories.now asked c.in_ok-visible.visible c.in_ok-visible.ensures.modules))
 
 pub link_files-requires-clause-places : goal.link_files-requires-clause-places
@@ -48,7 +49,7 @@ returns-in_err-files g c =
     let closes = rw c.candidates.ensures at c.in_ok-places.ensures in
     let named = subst (λ (places : List ℕ). NamesAll (link_files visible places) (Err stop)) c.as_slice.ensures c.in_err-files.ensures.files in
     rw (passed_on c.from_residual-in_err-files.result _ c.from_residual-in_err-files.ensures.1)
-    (ended (ComesTo told c.args.directories.now asked) (TellsNothing told) c.args.asked.now.output.now told (g.S.Shelf.files c.visible_modules.new.shelf) (g.S.Shelf.faults c.args.shelf.now) (g.S.Shelf.faults c.visible_modules.new.shelf) c.visible_modules.ensures.files _ stop named
+    (ended (ComesTo told c.args.directories.now asked) (TellsNothing told) c.args.asked.now.output.now (shelf_at g.S.Shelf c.args.shelf.now) (shelf_at g.S.Shelf c.visible_modules.new.shelf) c.visible_modules.ensures.files _ stop named
     (unfit told c.args.directories.now asked visible c.in_ok-visible.ensures.modules c.in_ok-places.places closes))
 
 pub read_resources-requires-clause-told : goal.read_resources-requires-clause-told
@@ -68,7 +69,7 @@ returns-in_err-left g c =
     let read = subst (λ t. Shows t (λ files. c.in_ok-read.read ≡ resources_of files (map pair_of c.in_ok-files.files))) c.visible_modules.ensures.files c.in_ok-read.ensures.pool in
     let to = read_to told c.args.directories.now asked visible c.in_ok-visible.ensures.modules c.in_ok-places.places closes named.0 c.in_ok-read.read (subst (λ names. Shows told (λ files. c.in_ok-read.read ≡ resources_of files names)) named.1 read) in
     rw (passed_on c.from_residual-in_err-left.result _ c.from_residual-in_err-left.ensures.1)
-    (refused (ComesTo told c.args.directories.now asked) (TellsNothing told) c.args.asked.now.output.now told (g.S.Shelf.files c.read_resources.new.shelf) (g.S.Shelf.faults c.args.shelf.now) (g.S.Shelf.faults c.read_resources.new.shelf) (c.read_resources.ensures.files ∙ c.visible_modules.ensures.files) (plugging_refusal error)
+    (refused (ComesTo told c.args.directories.now asked) (TellsNothing told) c.args.asked.now.output.now (shelf_at g.S.Shelf c.args.shelf.now) (shelf_at g.S.Shelf c.read_resources.new.shelf) (c.read_resources.ensures.files ∙ c.visible_modules.ensures.files) (plugging_refusal error)
     (λ r is. to (Err r) (unplugged asked (length c.in_ok-places.places) c.in_ok-read.read error c.in_err-left.ensures r is)))
 
 pub write_image-requires-clause-fit : goal.write_image-requires-clause-fit
@@ -80,9 +81,9 @@ returns g c =
     let asked : Request = request_of c.args.asked.now in
     let path = c.args.asked.now.output.now in
     let told = g.S.Shelf.files c.args.shelf.now in
-    let new = g.S.Shelf.files c.write_image.new.shelf in
-    let read_faults = g.S.Shelf.faults c.read_resources.new.shelf in
-    let new_faults = g.S.Shelf.faults c.write_image.new.shelf in
+    let first = shelf_at g.S.Shelf c.args.shelf.now in
+    let old = shelf_at g.S.Shelf c.read_resources.new.shelf in
+    let new = shelf_at g.S.Shelf c.write_image.new.shelf in
     let visible = c.in_ok-visible.visible in
     let modules = length c.in_ok-places.places in
     let resources = c.in_ok-read.read in
@@ -92,7 +93,8 @@ returns g c =
     let to = read_to told c.args.directories.now asked visible c.in_ok-visible.ensures.modules c.in_ok-places.places closes named.0 resources (subst (λ names. Shows told (λ files. resources ≡ resources_of files names)) named.1 read) in
     let left = left_is c.in_ok-left.left _ c.in_ok-left.ensures in
     let fit = fit_left asked.plugins resources c.in_ok-left.left left (subst AreFit (sym c.in_ok-read.ensures.names) c.in_ok-files.ensures.fit) in
-    let written = rw (c.len.ensures, c.read_resources.ensures.files, c.visible_modules.ensures.files) at c.write_image.ensures in
-    let did = image_written asked modules resources c.in_ok-left.left left fit path c.write_image.result told new read_faults new_faults written in
-    links_sooner (ComesTo told c.args.directories.now asked) (TellsNothing told) path c.write_image.result told new (g.S.Shelf.faults c.args.shelf.now) read_faults new_faults (omega (arith, c.visible_modules.ensures.faults.count, c.read_resources.ensures.faults.count))
-    (links_as (PoolComesTo asked modules resources) (ComesTo told c.args.directories.now asked) ⊥ (TellsNothing told) path c.write_image.result told new read_faults new_faults to (none_absent told) did)
+    let did = image_written asked modules resources c.in_ok-left.left left fit path c.write_image.result old new (rw c.len.ensures at c.write_image.ensures) in
+    links_sooner (ComesTo told c.args.directories.now asked) (TellsNothing told) path first old new
+    (c.read_resources.ensures.files ∙ c.visible_modules.ensures.files)
+    (c.in_ok-read.ensures.faults.kept refl ∙ c.in_ok-visible.ensures.faults.kept refl) c.write_image.result
+    (links_as (PoolComesTo asked modules resources) (ComesTo told c.args.directories.now asked) ⊥ (TellsNothing told) path c.write_image.result old new to (none_absent told) did)

@@ -3,6 +3,7 @@ use Rattle.jm_bytes.proofs.ResultLaws.{passed_on}
 use Rattle.jm_closure.specs.declared.candidate.Candidate.{Candidate}
 use Rattle.jm_relink.specs.Gathering.{GathersAll, gathered}
 use Rattle.jm_relink.proofs.AskedLaws.{visible_in}
+use Rattle.jm_outside.specs.Shelves.{ShelfSeen, shelf_at}
 use Rattle.jm_link.specs.Closing.{ClosesAmong}
 use Rattle.jm_link.specs.ImageLinked.{ImageComesTo, ImageLinks, image_refusal}
 use Rattle.jm_link.specs.Linked.{Request, plugging_refusal}
@@ -17,13 +18,12 @@ pub returns-in_err-modules : goal.returns-in_err-modules
 returns-in_err-modules g c =
     let asked : Request = request_of c.args.asked.now in
     let path = c.args.asked.now.output.now in
-    let told = g.S.Shelf.files c.args.shelf.now in
-    let faults = g.S.Shelf.faults c.args.shelf.now in
+    let old : ShelfSeen = shelf_at g.S.Shelf c.args.shelf.now in
     let error = c.in_err-modules.field-0.0 in
-    let links : ImageLinks c.args.image.now asked path c.from_residual.result told told faults faults =
+    let links : ImageLinks c.args.image.now asked path c.from_residual.result old old =
     rw (passed_on c.from_residual.result _ c.from_residual.ensures.1)
-    (refused (ImageComesTo c.args.image.now asked) ⊥ path told told faults faults refl (image_refusal error) (unseen c.args.image.now asked error c.in_err-modules.ensures.modules)) in
-    record { links = links; gives_back = given_back c.args.image.now asked path c.from_residual.result told told faults faults links }
+    (refused (ImageComesTo c.args.image.now asked) ⊥ path old old refl (image_refusal error) (unseen c.args.image.now asked error c.in_err-modules.ensures.modules)) in
+    record { links = links; gives_back = given_back c.args.image.now asked path c.from_residual.result old old links }
 
 pub closed-requires : goal.closed-requires
 closed-requires g c = rw c.as_slice.ensures c.in_ok-modules.ensures.are.differ
@@ -33,14 +33,13 @@ returns-in_err-places g c =
     let shown = c.in_ok-modules.ensures.modules in
     let asked : Request = request_of c.args.asked.now in
     let path = c.args.asked.now.output.now in
-    let told = g.S.Shelf.files c.args.shelf.now in
-    let faults = g.S.Shelf.faults c.args.shelf.now in
+    let old : ShelfSeen = shelf_at g.S.Shelf c.args.shelf.now in
     let stop = c.in_err-places.field-0.0 in
     let closes = subst (λ (cs : List Candidate). ClosesAmong cs asked.roots asked.bind (Err stop)) c.as_slice.ensures c.in_err-places.ensures in
-    let links : ImageLinks c.args.image.now asked path c.from_residual-in_err-places.result told told faults faults =
+    let links : ImageLinks c.args.image.now asked path c.from_residual-in_err-places.result old old =
     rw (passed_on c.from_residual-in_err-places.result _ c.from_residual-in_err-places.ensures.1)
-    (ended (ImageComesTo c.args.image.now asked) ⊥ path told told faults faults refl _ stop closes (unclosed c.args.image.now asked c.in_ok-modules.modules shown.0 shown.1 shown.2)) in
-    record { links = links; gives_back = given_back c.args.image.now asked path c.from_residual-in_err-places.result told told faults faults links }
+    (ended (ImageComesTo c.args.image.now asked) ⊥ path old old refl _ stop closes (unclosed c.args.image.now asked c.in_ok-modules.modules shown.0 shown.1 shown.2)) in
+    record { links = links; gives_back = given_back c.args.image.now asked path c.from_residual-in_err-places.result old old links }
 
 pub gather-requires-clause-places : goal.gather-requires-clause-places
 gather-requires-clause-places g c =
@@ -53,32 +52,30 @@ returns-in_err-read g c =
     let shown = c.in_ok-modules.ensures.modules in
     let asked : Request = request_of c.args.asked.now in
     let path = c.args.asked.now.output.now in
-    let told = g.S.Shelf.files c.args.shelf.now in
-    let faults = g.S.Shelf.faults c.args.shelf.now in
+    let old : ShelfSeen = shelf_at g.S.Shelf c.args.shelf.now in
     let error = c.in_err-read.field-0.0 in
     let closes = rw c.as_slice.ensures at c.in_ok-places.ensures in
     let gathers = subst (λ (places : List ℕ). GathersAll (gathered c.in_ok-modules.modules places) (Err error)) c.as_slice-2.ensures c.in_err-read.ensures in
-    let links : ImageLinks c.args.image.now asked path c.from_residual-in_err-read.result told told faults faults =
+    let links : ImageLinks c.args.image.now asked path c.from_residual-in_err-read.result old old =
     rw (passed_on c.from_residual-in_err-read.result _ c.from_residual-in_err-read.ensures.1)
-    (refused (ImageComesTo c.args.image.now asked) ⊥ path told told faults faults refl (gathering_refusal error) (unfit c.args.image.now asked c.in_ok-modules.modules shown.0 shown.1 shown.2 c.in_ok-places.places closes error gathers)) in
-    record { links = links; gives_back = given_back c.args.image.now asked path c.from_residual-in_err-read.result told told faults faults links }
+    (refused (ImageComesTo c.args.image.now asked) ⊥ path old old refl (gathering_refusal error) (unfit c.args.image.now asked c.in_ok-modules.modules shown.0 shown.1 shown.2 c.in_ok-places.places closes error gathers)) in
+    record { links = links; gives_back = given_back c.args.image.now asked path c.from_residual-in_err-read.result old old links }
 
 pub returns-in_err-left : goal.returns-in_err-left
 returns-in_err-left g c =
     let shown = c.in_ok-modules.ensures.modules in
     let asked : Request = request_of c.args.asked.now in
     let path = c.args.asked.now.output.now in
-    let told = g.S.Shelf.files c.args.shelf.now in
-    let faults = g.S.Shelf.faults c.args.shelf.now in
+    let old : ShelfSeen = shelf_at g.S.Shelf c.args.shelf.now in
     let error = c.in_err-left.field-0.0 in
     let closes = rw c.as_slice.ensures at c.in_ok-places.ensures in
     let gathers = rw c.as_slice-2.ensures at c.in_ok-read.ensures in
     let to = gathered_to c.args.image.now asked c.in_ok-modules.modules shown.0 shown.1 shown.2 c.in_ok-places.places closes c.in_ok-read.read gathers in
-    let links : ImageLinks c.args.image.now asked path c.from_residual-in_err-left.result told told faults faults =
+    let links : ImageLinks c.args.image.now asked path c.from_residual-in_err-left.result old old =
     rw (passed_on c.from_residual-in_err-left.result _ c.from_residual-in_err-left.ensures.1)
-    (refused (ImageComesTo c.args.image.now asked) ⊥ path told told faults faults refl (plugging_refusal error)
+    (refused (ImageComesTo c.args.image.now asked) ⊥ path old old refl (plugging_refusal error)
     (λ r is. to (Err r) (unplugged asked (length c.in_ok-places.places) c.in_ok-read.read error c.in_err-left.ensures r is))) in
-    record { links = links; gives_back = given_back c.args.image.now asked path c.from_residual-in_err-left.result told told faults faults links }
+    record { links = links; gives_back = given_back c.args.image.now asked path c.from_residual-in_err-left.result old old links }
 
 pub write_image-requires-clause-fit : goal.write_image-requires-clause-fit
 write_image-requires-clause-fit g c =
@@ -94,17 +91,15 @@ returns g c =
     let shown = c.in_ok-modules.ensures.modules in
     let asked : Request = request_of c.args.asked.now in
     let path = c.args.asked.now.output.now in
-    let told = g.S.Shelf.files c.args.shelf.now in
-    let new = g.S.Shelf.files c.write_image.new.shelf in
-    let faults = g.S.Shelf.faults c.args.shelf.now in
-    let new_faults = g.S.Shelf.faults c.write_image.new.shelf in
+    let old : ShelfSeen = shelf_at g.S.Shelf c.args.shelf.now in
+    let new : ShelfSeen = shelf_at g.S.Shelf c.write_image.new.shelf in
     let closes = rw c.as_slice.ensures at c.in_ok-places.ensures in
     let gathers = rw c.as_slice-2.ensures at c.in_ok-read.ensures in
     let modules = length c.in_ok-places.places in
     let read = c.in_ok-read.read in
     let left = left_is c.in_ok-left.left _ c.in_ok-left.ensures in
     let fit = fit_left asked.plugins read c.in_ok-left.left left (gathered_fit c.args.image.now asked c.in_ok-modules.modules shown.0 shown.1 shown.2 c.in_ok-places.places closes read gathers) in
-    let did = image_written asked modules read c.in_ok-left.left left fit path c.write_image.result told new faults new_faults (rw c.len.ensures at c.write_image.ensures) in
-    let links : ImageLinks c.args.image.now asked path c.write_image.result told new faults new_faults =
-    links_as (PoolComesTo asked modules read) (ImageComesTo c.args.image.now asked) ⊥ ⊥ path c.write_image.result told new faults new_faults (gathered_to c.args.image.now asked c.in_ok-modules.modules shown.0 shown.1 shown.2 c.in_ok-places.places closes read gathers) (λ none. none) did in
-    record { links = links; gives_back = given_back c.args.image.now asked path c.write_image.result told new faults new_faults links }
+    let did = image_written asked modules read c.in_ok-left.left left fit path c.write_image.result old new (rw c.len.ensures at c.write_image.ensures) in
+    let links : ImageLinks c.args.image.now asked path c.write_image.result old new =
+    links_as (PoolComesTo asked modules read) (ImageComesTo c.args.image.now asked) ⊥ ⊥ path c.write_image.result old new (gathered_to c.args.image.now asked c.in_ok-modules.modules shown.0 shown.1 shown.2 c.in_ok-places.places closes read gathers) (λ none. none) did in
+    record { links = links; gives_back = given_back c.args.image.now asked path c.write_image.result old new links }

@@ -1,4 +1,4 @@
-use Rattle.std.proofs.Common.{◌∙◌, ◌∷◌, ◌++◌, [], IsUtf8, append_assoc, ap, arith, sym}
+use Rattle.std.proofs.Common.{◌∙◌, ◌∷◌, ◌++◌, [], IsUtf8, append_assoc, ap, refl, sym}
 use Rattle.std.proofs.lemmas.List.{map-append}
 use Rattle.jm_link.specs.declared.resources.ResourceFile.{ResourceFile}
 use Rattle.jm_link.proofs.ResourceLaws.{held_among, name_is_new, read_more}
@@ -22,7 +22,7 @@ loop-file-preserved g c =
       ends = tt;
       all = append_assoc c.loop-file.yielded (file ∷ []) c.next.new.self.rest.items ∙ ap (λ rest. c.loop-file.yielded ++ rest) (sym c.in-Some.ensures.steps.0) ∙ before.all;
       files = did.files ∙ before.files;
-      faults = omega (arith, before.faults, did.faults.count);
+      faults = did.faults.kept refl ∙ before.faults;
       pool = read_more (g.S.Shelf.files c.args.shelf.now) (g.S.Shelf.files c.loop-file.shelf) c.loop-file.yielded file c.loop-file.pool c.read_resource.new.pool before.files before.pool did.pool;
       names = did.names ∙ ap (λ names. names ++ file.name ∷ []) before.names ∙ sym (map-append (λ (f : ResourceFile). f.name) c.loop-file.yielded (file ∷ []));
     }
