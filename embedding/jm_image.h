@@ -44,8 +44,8 @@ struct jm_content { uint64_t place, size; bool found; };
 
 /* Promises: found exactly where an entry has the name, such as /java.base/java/lang/Object.class,
  * and then its content are the size bytes from place on; else place and size are 0. The look-up
- * behind it takes at most 2 hashes and reads at most as many bytes as the name has and 76 more, none
- * of them of the content. Asks: VALID. */
+ * behind it takes at most 2 hashes and reads at most as many bytes as the name has and 76 more.
+ * Asks: VALID. */
 struct jm_content jm_image_find(const uint8_t *bytes, size_t length,
                                 const uint8_t *name, size_t name_length);
 

@@ -1,5 +1,5 @@
 -- What `extract` does, from what its call answered.
-use Rattle.std.proofs.Common.{◌≡◌, inl, inr, ℕ, List, [], length, Option, None, Result, Ok, Err, refl, sym, subst}
+use Rattle.std.proofs.Common.{◌≡◌, inl, inr, ℕ, List, [], length, Option, None, Result, Ok, Err, IsTrue, refl, sym, ap, subst}
 use Rattle.jm_outside.specs.Made.{MadePart}
 use Rattle.jm_outside.proofs.MadeLaws.{part_of_all}
 use Rattle.jm_names.specs.ByName.{Named}
@@ -8,14 +8,15 @@ use Rattle.jm_extract.specs.declared.extracting.ExtractStop.{ExtractStop}
 use Rattle.jm_extract.specs.declared.extracting.ExtractStop.TheVariants as extract_stop
 use Rattle.jm_extract.specs.Extracted.{BreaksOff, Extracts}
 use Rattle.jm_outside.specs.Files.{Files}
+use Rattle.jm_outside.specs.Shelves.{ShelfFailed}
 use Rattle.jm_commands.specs.declared.complaint.Complaint.TheVariants as complaint
 use Rattle.jm_commands.specs.declared.stop.Stop.{Stop}
 use Rattle.jm_commands.specs.declared.stop.Stop.TheVariants as stop
 use Rattle.jm_commands.specs.ExtractText.{extract_text}
 use Rattle.jm_commands.specs.Outcome.{Outcome, done, extract_outcome, refusing}
 use Rattle.jm_commands.specs.FailedBefore.{WorkFailed}
-use Rattle.jm_commands.specs.Run.{PutDoes, StepDoes}
-use Rattle.jm_commands.specs.Sinks.{Failed}
+use Rattle.jm_commands.specs.Run.{PutDoes, StandAll, StepDoes}
+use Rattle.jm_commands.specs.Sinks.{Seen}
 use Rattle.jm_commands.specs.Stops.{stop_of_extract}
 use Rattle.jm_commands.specs.World.{World}
 use Rattle.jm_commands.proofs.Gotten.{front_of_nothing}
@@ -34,37 +35,51 @@ broken_part dir (Ok entries) old new part = part
 broken_part dir (Err refusal) old new same = stays_part [] old new same
 
 -- the shelf may fail before either
-shelf_failed : (dir : List ℕ) (due : Result (List Named) Refusal) (old new : World) → Failed old.shelf new.shelf → WorkFailed (extract_outcome dir due).session (extract_outcome dir due).status old new
+shelf_failed : (dir : List ℕ) (due : Result (List Named) Refusal) (old new : World) → ShelfFailed old.shelf new.shelf → WorkFailed (extract_outcome dir due).session (extract_outcome dir due).status old new
 shelf_failed dir (Ok entries) old new failed = inl failed
 shelf_failed dir (Err refusal) old new failed = failed
 
-module _ (dir : List ℕ) (due : Result (List Named) Refusal) (old new : World) (source : new.input.told ≡ old.input.told) where
+module _ (dir : List ℕ) (due : Result (List Named) Refusal) (old new : World) (input : new.input ≡ old.input) where
   abbrev Does : Result (Unit {0}) Stop → Type 0
   Does answer = StepDoes (extract_outcome dir due) answer old new
 
+  source : new.input.told ≡ old.input.told
+  source = ap (λ (s : Seen (List ℕ)). s.told) input
+
   -- the files were made, and then the text was put
-  pub extract_put : (count : ℕ) (answer : Result (Unit {0}) Stop) → Extracts due dir (Ok count) old.shelf.told new.shelf.told → PutDoes (done (extract_text count)) answer old.out new.out → Does answer
-  extract_put count answer (entries, is, counted, all) put =
+  pub extract_put : (count : ℕ) (answer : Result (Unit {0}) Stop) → Extracts due dir (Ok count) old.shelf.told new.shelf.told → IsTrue new.shelf.whole → new.shelf.faults ≡ old.shelf.faults → PutDoes (done (extract_text count)) answer old.out new.out → Does answer
+  extract_put count answer (entries, is, counted, made) whole kept put =
       subst (λ (d : Result (List Named) Refusal). StepDoes (extract_outcome dir d) answer old new) (sym is)
       (go answer (subst (λ (n : ℕ). PutDoes (done (extract_text n)) answer old.out new.out) counted put))
     where
-      made : Outcome
-      made = extract_outcome dir (Ok entries)
+      makes : Outcome
+      makes = extract_outcome dir (Ok entries)
 
-      part : MadePart made.writes old.shelf.told new.shelf.told
-      part = part_of_all made.writes old.shelf.told new.shelf.told all
+      all : StandAll makes.writes old.shelf new.shelf
+      all = record { made = made; whole = λ some. whole }
 
-      go : (answer : Result (Unit {0}) Stop) → PutDoes (done (extract_text (length entries))) answer old.out new.out → StepDoes made answer old new
-      go (Ok _) put = record { answers = (refl, refl); output = put.output; files = all; files_first = inl all; source = source; outside = λ failed. cc }
+      part : MadePart makes.writes old.shelf.told new.shelf.told
+      part = part_of_all makes.writes old.shelf.told new.shelf.told made
+
+      go : (answer : Result (Unit {0}) Stop) → PutDoes (done (extract_text (length entries))) answer old.out new.out → StepDoes makes answer old new
+      go (Ok _) put = record {
+        answers = (refl, refl);
+        output = put.output;
+        files = all;
+        files_first = inl all;
+        source = source;
+        outside = λ failed. cc;
+        none_rose = λ ok. record { shelf = kept; input = ap (λ (s : Seen (List ℕ)). s.faults) input; out = put.kept ok };
+      }
       go (Err (stop.Complaint given)) put = absurd (never_done given (extract_text (length entries)) put.answers)
-      go (Err stop.Outside) put = record { answers = tt; output = put.output; files = part; files_first = inl all; source = source; outside = λ failed. inr (put.outside failed) }
-      go (Err stop.Memory) put = record { answers = tt; output = put.output; files = part; files_first = inl all; source = source; outside = λ failed. cc }
+      go (Err stop.Outside) put = record { answers = tt; output = put.output; files = part; files_first = inl all; source = source; outside = λ failed. inr (put.outside failed); none_rose = λ ok. cc }
+      go (Err stop.Memory) put = record { answers = tt; output = put.output; files = part; files_first = inl all; source = source; outside = λ failed. cc; none_rose = λ ok. cc }
 
   -- it stopped before anything was put
-  pub extract_stopped : (given : ExtractStop) → Extracts due dir (Err given) old.shelf.told new.shelf.told → (given ≡ extract_stop.Outside → Failed old.shelf new.shelf) → new.out.told ≡ old.out.told → Does (Err (stop_of_extract given))
+  pub extract_stopped : (given : ExtractStop) → Extracts due dir (Err given) old.shelf.told new.shelf.told → (given ≡ extract_stop.Outside → ShelfFailed old.shelf new.shelf) → new.out.told ≡ old.out.told → Does (Err (stop_of_extract given))
   extract_stopped (extract_stop.Refused refusal) (is, files) rose unput =
       subst (λ (d : Result (List Named) Refusal). StepDoes (extract_outcome dir d) answer old new) (sym is)
-      (put_step (refusing refusal) old new files source refl answer (complained (refusing refusal) (complaint.Refused refusal) old.out new.out refl unput))
+      (put_step (refusing refusal) old new files source refl answer (complained (refusing refusal) (complaint.Refused refusal) old.out new.out refl unput) (λ ok. cc))
     where
       answer : Result (Unit {0}) Stop
       answer = Err (stop.Complaint (complaint.Refused refusal))
@@ -75,6 +90,7 @@ module _ (dir : List ℕ) (due : Result (List Named) Refusal) (old new : World) 
     files_first = inr unput;
     source = rw (extract_session dir due) source;
     outside = λ failed. shelf_failed dir due old new (rose refl);
+    none_rose = λ ok. cc;
   }
   extract_stopped extract_stop.Memory broken rose unput = record {
     answers = tt;
@@ -83,4 +99,5 @@ module _ (dir : List ℕ) (due : Result (List Named) Refusal) (old new : World) 
     files_first = inr unput;
     source = rw (extract_session dir due) source;
     outside = λ failed. cc;
+    none_rose = λ ok. cc;
   }

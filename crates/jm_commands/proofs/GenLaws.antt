@@ -1,6 +1,7 @@
 -- What `gen` does, from what its calls answered.
-use Rattle.std.proofs.Common.{◌≡◌, ◌≤◌, ◌⊎◌, inl, inr, true, ℕ, List, [], ◌++◌, ◌∷◌, Option, Result, Ok, Err, refl, subst, append-nil}
+use Rattle.std.proofs.Common.{◌≡◌, ◌⊎◌, inl, inr, true, IsTrue, IsOk, ℕ, List, [], ◌++◌, ◌∷◌, Option, Result, Ok, Err, refl, subst, append-nil}
 use Rattle.jm_outside.specs.Files.{Files}
+use Rattle.jm_outside.specs.Shelves.{ShelfFailed, ShelfSeen}
 use Rattle.jm_outside.specs.declared.shelf.ShelfError.{ShelfError}
 use Rattle.jm_outside.specs.declared.shelf.ShelfError.TheVariants as shelf_error
 use Rattle.jm_outside.specs.Made.{MadeAll, MadePart, Writes}
@@ -13,12 +14,11 @@ use Rattle.jm_commands.specs.declared.stop.Stop.TheVariants as stop
 use Rattle.jm_commands.specs.Gen.{Gen, gen_request, generated_request, image_path, made_first, modules_path}
 use Rattle.jm_commands.specs.LinkText.{gen_text}
 use Rattle.jm_commands.specs.Outcome.{Early, Outcome, behind, done, gen_link, reading}
-use Rattle.jm_commands.specs.Run.{Answers, FilesFirst, FilesMade, GenComesTo, LinkComesTo, PutDoes, StepComesTo}
-use Rattle.jm_commands.specs.Sinks.{Failed, Seen}
+use Rattle.jm_commands.specs.Run.{Answers, FilesFirst, FilesMade, GenComesTo, LinkComesTo, PutDoes, StandAll, StepComesTo}
 use Rattle.jm_commands.specs.Stops.{stop_of_link, stop_of_shelf}
 use Rattle.jm_commands.specs.World.{World}
 use Rattle.jm_commands.proofs.LinkLaws.{link_put, link_stopped}
-use Rattle.jm_commands.proofs.StepLaws.{early_sooner, source_behind, work_sooner}
+use Rattle.jm_commands.proofs.StepLaws.{early_sooner, none_sooner, source_behind, work_sooner}
 
 -- the answer is that of what is due with files made before
 answers_behind : (made : Writes) (due : Outcome) (answer : Result (Unit {0}) Stop) → Answers due answer → Answers (behind made due) answer
@@ -28,54 +28,67 @@ answers_behind made due (Err stop.Outside) is = tt
 answers_behind made due (Err stop.Memory) is = tt
 
 -- files that were made behind others
-files_behind : (made writes : Writes) (answer : Result (Unit {0}) Stop) (old now new : Option Files) → MadeAll made old now → FilesMade answer writes now new → FilesMade answer (made ++ writes) old new
-files_behind made writes (Ok _) old now new first more = made_append made writes old now new first more
-files_behind made writes (Err (stop.Complaint given)) old now new first more = made_append made writes old now new first more
-files_behind made writes (Err stop.Outside) old now new first more = part_append made writes old now new first more
-files_behind made writes (Err stop.Memory) old now new first more = part_append made writes old now new first more
+all_behind : (made writes : Writes) (shelf now new : ShelfSeen) → MadeAll made shelf.told now.told → IsTrue new.whole → StandAll writes now new → StandAll (made ++ writes) shelf new
+all_behind made writes shelf now new first whole more = record {
+  made = made_append made writes shelf.told now.told new.told first more.made;
+  whole = λ some. whole;
+}
+
+-- the making of files was ended, or the step isn't done and nothing was put
+abbrev pub EndsFiles : Result (Unit {0}) Stop → World → World → Type 0
+EndsFiles answer now new = IsTrue new.shelf.whole ⊎ ((IsOk answer → ⊥) × (new.out.told ≡ now.out.told))
+
+files_behind : (made writes : Writes) (answer : Result (Unit {0}) Stop) (shelf : ShelfSeen) (now new : World) → MadeAll made shelf.told now.shelf.told → EndsFiles answer now new → FilesMade answer writes now.shelf new.shelf → FilesMade answer (made ++ writes) shelf new.shelf
+files_behind made writes (Ok _) shelf now new first (inl whole) more = all_behind made writes shelf now.shelf new.shelf first whole more
+files_behind made writes (Ok _) shelf now new first (inr (undone, unput)) more = absurd (undone refl)
+files_behind made writes (Err (stop.Complaint given)) shelf now new first ends more = made_append made writes shelf.told now.shelf.told new.shelf.told first more
+files_behind made writes (Err stop.Outside) shelf now new first ends more = part_append made writes shelf.told now.shelf.told new.shelf.told first more
+files_behind made writes (Err stop.Memory) shelf now new first ends more = part_append made writes shelf.told now.shelf.told new.shelf.told first more
 
 -- the output is put behind all of them
-first_behind_made : (made writes : Writes) (old : Option Files) (now new : World) → MadeAll made old now.shelf.told → FilesFirst writes now new → MadeAll (made ++ writes) old new.shelf.told ⊎ (new.out.told ≡ now.out.told)
-first_behind_made made writes old now new first (inl more) = inl (made_append made writes old now.shelf.told new.shelf.told first more)
-first_behind_made made writes old now new first (inr unput) = inr unput
+first_behind_made : (made writes : Writes) (answer : Result (Unit {0}) Stop) (shelf : ShelfSeen) (now new : World) → MadeAll made shelf.told now.shelf.told → EndsFiles answer now new → FilesFirst writes now new → StandAll (made ++ writes) shelf new.shelf ⊎ (new.out.told ≡ now.out.told)
+first_behind_made made writes answer shelf now new first (inl whole) (inl more) = inl (all_behind made writes shelf now.shelf new.shelf first whole more)
+first_behind_made made writes answer shelf now new first (inl whole) (inr unput) = inr unput
+first_behind_made made writes answer shelf now new first (inr (undone, unput)) files = inr unput
 
 -- files are read, and these are made, before it is known what is due
 abbrev making : Writes → Early
 making made = record { writes = made; reads = true }
 
-module _ (made : Writes) (shelf : Seen Files) (now new : World) (first : MadeAll made shelf.told now.shelf.told) (up : shelf.faults ≤ now.shelf.faults) where
+module _ (made : Writes) (shelf : ShelfSeen) (now new : World) (first : MadeAll made shelf.told now.shelf.told) (kept : now.shelf.faults ≡ shelf.faults) where
   abbrev old : World
   old = record { shelf = shelf; input = now.input; out = now.out }
 
   -- a step behind the making of files
-  pub step_after : (Due : Outcome → Type 0) (answer : Result (Unit {0}) Stop) → StepComesTo Due reading answer now new → StepComesTo (λ due. (last : Outcome) × Due last × (due ≡ behind made last)) (making made) answer old new
-  step_after Due answer (inl fails) = inl (record {
+  pub step_after : (Due : Outcome → Type 0) (answer : Result (Unit {0}) Stop) → EndsFiles answer now new → StepComesTo Due reading answer now new → StepComesTo (λ due. (last : Outcome) × Due last × (due ≡ behind made last)) (making made) answer old new
+  step_after Due answer ends (inl fails) = inl (record {
     failed = fails.failed;
     files = subst (λ (writes : Writes). MadePart writes shelf.told new.shelf.told) (append-nil made) (part_append made [] shelf.told now.shelf.told new.shelf.told first fails.files);
     source = fails.source;
     output = fails.output;
-    outside = λ failed. early_sooner shelf now new up reading (fails.outside failed);
+    outside = λ failed. early_sooner shelf now new kept reading (fails.outside failed);
   })
-  step_after Due answer (inr (due, is, step)) = inr (
+  step_after Due answer ends (inr (due, is, step)) = inr (
     behind made due,
     (due, is, refl),
     record {
       answers = answers_behind made due answer step.answers;
       output = step.output;
-      files = files_behind made due.writes answer shelf.told now.shelf.told new.shelf.told first step.files;
-      files_first = first_behind_made made due.writes shelf.told now new first step.files_first;
+      files = files_behind made due.writes answer shelf now new first ends step.files;
+      files_first = first_behind_made made due.writes answer shelf now new first ends step.files_first;
       source = source_behind shelf now new due.session _ step.source;
-      outside = λ failed. work_sooner shelf now new up due.session due.status (step.outside failed);
+      outside = λ failed. work_sooner shelf now new kept due.session due.status (step.outside failed);
+      none_rose = λ ok. none_sooner shelf now new kept (step.none_rose ok);
     },
   )
 
 -- the link of a `gen`, by the paths that it was made with
-pub links_as : (gen : Gen) (mods image : List ℕ) (answer : Result Summary LinkStop) (old new : Option Files) (faults new_faults : ℕ) → mods ≡ modules_path gen → image ≡ image_path gen → Links (mods ∷ []) (generated_request gen.modules) image answer old new faults new_faults → Links (modules_path gen ∷ []) (gen_request gen) (image_path gen) answer old new faults new_faults
-links_as gen mods image answer old new faults new_faults one two links =
-    subst (λ (path : List ℕ). Links (modules_path gen ∷ []) (gen_request gen) path answer old new faults new_faults) two
-    (subst (λ (path : List ℕ). Links (path ∷ []) (gen_request gen) image answer old new faults new_faults) one links)
+pub links_as : (gen : Gen) (mods image : List ℕ) (answer : Result Summary LinkStop) (old new : ShelfSeen) → mods ≡ modules_path gen → image ≡ image_path gen → Links (mods ∷ []) (generated_request gen.modules) image answer old new → Links (modules_path gen ∷ []) (gen_request gen) (image_path gen) answer old new
+links_as gen mods image answer old new one two links =
+    subst (λ (path : List ℕ). Links (modules_path gen ∷ []) (gen_request gen) path answer old new) two
+    (subst (λ (path : List ℕ). Links (path ∷ []) (gen_request gen) image answer old new) one links)
 
-module _ (gen : Gen) (shelf : Seen Files) (now new : World) where
+module _ (gen : Gen) (shelf : ShelfSeen) (now new : World) where
   abbrev before : World
   before = record { shelf = shelf; input = now.input; out = now.out }
 
@@ -83,22 +96,22 @@ module _ (gen : Gen) (shelf : Seen Files) (now new : World) where
   Does answer = StepComesTo (GenComesTo shelf.told gen) (making (made_first gen)) answer before new
 
   -- the link of all that was made
-  linked_after : (answer : Result (Unit {0}) Stop) → MadeAll (made_first gen) shelf.told now.shelf.told → shelf.faults ≤ now.shelf.faults → StepComesTo (LinkComesTo now.shelf.told (gen_link gen)) reading answer now new → Does answer
-  linked_after answer made up step =
+  linked_after : (answer : Result (Unit {0}) Stop) → MadeAll (made_first gen) shelf.told now.shelf.told → now.shelf.faults ≡ shelf.faults → EndsFiles answer now new → StepComesTo (LinkComesTo now.shelf.told (gen_link gen)) reading answer now new → Does answer
+  linked_after answer made kept ends step =
       subst (λ (told : Option Files). StepComesTo (λ due. (last : Outcome) × LinkComesTo told (gen_link gen) last × (due ≡ behind (made_first gen) last)) (making (made_first gen)) answer before new) made
-      (step_after (made_first gen) shelf now new made up (LinkComesTo now.shelf.told (gen_link gen)) answer step)
+      (step_after (made_first gen) shelf now new made kept (LinkComesTo now.shelf.told (gen_link gen)) answer ends step)
 
   -- all was made and linked, and then the text was put
-  pub gen_put : (summary : Summary) (answer : Result (Unit {0}) Stop) → MadeAll (made_first gen) shelf.told now.shelf.told → shelf.faults ≤ now.shelf.faults → new.input.told ≡ now.input.told → Links (modules_path gen ∷ []) (gen_request gen) (image_path gen) (Ok summary) now.shelf.told new.shelf.told now.shelf.faults new.shelf.faults → PutDoes (done (gen_text summary)) answer now.out new.out → Does answer
-  gen_put summary answer made up source links put =
-      linked_after answer made up (link_put (gen_link gen) now new source summary answer links put)
+  pub gen_put : (summary : Summary) (answer : Result (Unit {0}) Stop) → MadeAll (made_first gen) shelf.told now.shelf.told → now.shelf.faults ≡ shelf.faults → new.input ≡ now.input → Links (modules_path gen ∷ []) (gen_request gen) (image_path gen) (Ok summary) now.shelf new.shelf → PutDoes (done (gen_text summary)) answer now.out new.out → Does answer
+  gen_put summary answer made kept input links put =
+      linked_after answer made kept (inl links.3.whole) (link_put (gen_link gen) now new input summary answer links put)
 
   -- all was made, and the link stopped
-  pub gen_stopped : (given : LinkStop) → MadeAll (made_first gen) shelf.told now.shelf.told → shelf.faults ≤ now.shelf.faults → new.input.told ≡ now.input.told → Links (modules_path gen ∷ []) (gen_request gen) (image_path gen) (Err given) now.shelf.told new.shelf.told now.shelf.faults new.shelf.faults → new.out.told ≡ now.out.told → Does (Err (stop_of_link given))
-  gen_stopped given made up source links unput =
-      linked_after (Err (stop_of_link given)) made up (link_stopped (gen_link gen) now new source given links unput)
+  pub gen_stopped : (given : LinkStop) → MadeAll (made_first gen) shelf.told now.shelf.told → now.shelf.faults ≡ shelf.faults → new.input ≡ now.input → Links (modules_path gen ∷ []) (gen_request gen) (image_path gen) (Err given) now.shelf new.shelf → new.out.told ≡ now.out.told → Does (Err (stop_of_link given))
+  gen_stopped given made kept input links unput =
+      linked_after (Err (stop_of_link given)) made kept (inr ((λ ok. cc), unput)) (link_stopped (gen_link gen) now new input given links unput)
 
 -- the making was broken off
-pub gen_unmade : (gen : Gen) (error : ShelfError) (old new : World) → MadePart (made_first gen) old.shelf.told new.shelf.told → new.input.told ≡ old.input.told → new.out.told ≡ old.out.told → (error ≡ shelf_error.Failed → Failed old.shelf new.shelf) → StepComesTo (GenComesTo old.shelf.told gen) (making (made_first gen)) (Err (stop_of_shelf error)) old new
+pub gen_unmade : (gen : Gen) (error : ShelfError) (old new : World) → MadePart (made_first gen) old.shelf.told new.shelf.told → new.input.told ≡ old.input.told → new.out.told ≡ old.out.told → (error ≡ shelf_error.Failed → ShelfFailed old.shelf new.shelf) → StepComesTo (GenComesTo old.shelf.told gen) (making (made_first gen)) (Err (stop_of_shelf error)) old new
 gen_unmade gen shelf_error.Failed old new part source unput rose = inl (record { failed = tt; files = part; source = source; output = unput; outside = λ failed. (refl, rose refl) })
 gen_unmade gen shelf_error.Memory old new part source unput rose = inl (record { failed = tt; files = part; source = source; output = unput; outside = λ failed. cc })

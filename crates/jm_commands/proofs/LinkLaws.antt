@@ -3,7 +3,7 @@ use Rattle.std.proofs.Common.{◌≡◌, inl, inr, ℕ, List, [], Option, Some, 
 use Rattle.jm_bytes.specs.declared.words.Order.{Order}
 use Rattle.jm_outside.specs.Files.{Files, put}
 use Rattle.jm_outside.specs.Outcome.{Shows}
-use Rattle.jm_outside.specs.Made.{MadeAll}
+use Rattle.jm_outside.specs.Made.{MadePart}
 use Rattle.jm_outside.proofs.MadeLaws.{part_alone, part_of_all}
 use Rattle.jm_link.specs.declared.linking.LinkStop.{LinkStop}
 use Rattle.jm_link.specs.declared.linking.LinkStop.TheVariants as link_stop
@@ -15,16 +15,16 @@ use Rattle.jm_link.specs.ImageLinked.{ImageComesTo, ImageLinks}
 use Rattle.jm_link.specs.Links.{BreaksOff, ComesTo, IsLaid, Links, LinksBy, TellsNothing, summary_of}
 use Rattle.jm_commands.specs.declared.complaint.Complaint.{Complaint}
 use Rattle.jm_commands.specs.declared.complaint.Complaint.TheVariants as complaint
-use Rattle.jm_commands.specs.declared.status.Status.TheVariants as status
 use Rattle.jm_commands.specs.declared.stop.Stop.{Stop}
 use Rattle.jm_commands.specs.declared.stop.Stop.TheVariants as stop
 use Rattle.jm_commands.specs.Outcome.{Link, Outcome, done, link_outcome, linked, not_there, reading, refusing}
-use Rattle.jm_commands.specs.Run.{ImageLinkComesTo, LinkComesFrom, LinkComesTo, PathLinkComesTo, PutDoes, ShowsLinked, StepComesTo, StepDoes, outcome_of}
+use Rattle.jm_commands.specs.Run.{ImageLinkComesTo, LinkComesFrom, LinkComesTo, PathLinkComesTo, PutDoes, ShowsLinked, StandAll, StepComesTo, StepDoes, outcome_of}
+use Rattle.jm_commands.specs.Sinks.{Seen}
 use Rattle.jm_commands.specs.Stops.{stop_of_link}
 use Rattle.jm_commands.specs.World.{World}
 use Rattle.jm_commands.proofs.Gotten.{front_of_nothing}
 use Rattle.jm_commands.proofs.Made.{stays_part}
-use Rattle.jm_commands.proofs.StepLaws.{complains}
+use Rattle.jm_commands.proofs.StepLaws.{complains, complains_undone}
 
 -- an image that is laid out shows the trees of its resources
 linked_shown : (order : Order) (result : Result LinkedImage Refusal) → IsLaid order result → ShowsLinked result
@@ -38,49 +38,53 @@ comes_shown (Some files) directories asked result comes = linked_shown asked.ord
 
 -- what is done is no complaint
 pub never_done : (given : Complaint) (text : List ℕ) → done text ≡ outcome_of given → ⊥
-never_done given text is = go given (ap (λ o. o.status) is)
-  where
-    go : (c : Complaint) → status.Done ≡ (outcome_of c).status → ⊥
-    go (complaint.Words fault) same = cc
-    go (complaint.Damaged damage) same = cc
-    go (complaint.NotThere text) same = cc
-    go (complaint.Refused refusal) same = cc
-    go (complaint.BadNode at) same = cc
-    go complaint.NotFolder same = cc
-    go (complaint.LongLine k) same = cc
-    go complaint.TooManyLines same = cc
+never_done given text is = complains_undone given (ap (λ o. o.status) is)
 
 -- of a link that comes to one of these results, or finds a listed file missing, from what is due then
-module _ (link : Link) (Comes : Result LinkedImage Refusal → Type 0) (Absent : Type 0) (Due : Outcome → Type 0) (old new : World) (source : new.input.told ≡ old.input.told) (as_due : (result : Result LinkedImage Refusal) → Comes result → Due (link_outcome link result)) (as_absent : (listed : List ℕ) → Absent → Due (not_there listed)) where
+module _ (link : Link) (Comes : Result LinkedImage Refusal → Type 0) (Absent : Type 0) (Due : Outcome → Type 0) (old new : World) (input : new.input ≡ old.input) (as_due : (result : Result LinkedImage Refusal) → Comes result → Due (link_outcome link result)) (as_absent : (listed : List ℕ) → Absent → Due (not_there listed)) where
   abbrev Does : Result (Unit {0}) Stop → Type 0
   Does answer = StepComesTo Due reading answer old new
 
+  source : new.input.told ≡ old.input.told
+  source = ap (λ (s : Seen (List ℕ)). s.told) input
+
   -- the image was written, and then the text was put
-  pub put_linked : (summary : Summary) (answer : Result (Unit {0}) Stop) → LinksBy Comes Absent link.output (Ok summary) old.shelf.told new.shelf.told old.shelf.faults new.shelf.faults → PutDoes (done (link.text summary)) answer old.out new.out → Does answer
-  put_linked summary answer (image, comes, is, held) put =
+  pub put_linked : (summary : Summary) (answer : Result (Unit {0}) Stop) → LinksBy Comes Absent link.output (Ok summary) old.shelf new.shelf → PutDoes (done (link.text summary)) answer old.out new.out → Does answer
+  put_linked summary answer (image, comes, is, stands) put =
       inr (due, as_due (Ok image) comes, go answer (subst (λ (s : Summary). PutDoes (done (link.text s)) answer old.out new.out) is put))
     where
       due : Outcome
       due = linked link image
 
-      made : MadeAll due.writes old.shelf.told new.shelf.told
-      made = held
+      all : StandAll due.writes old.shelf new.shelf
+      all = record { made = stands.holds; whole = λ some. stands.whole }
+
+      part : MadePart due.writes old.shelf.told new.shelf.told
+      part = part_of_all due.writes old.shelf.told new.shelf.told stands.holds
 
       go : (answer : Result (Unit {0}) Stop) → PutDoes (done (link.text (summary_of image))) answer old.out new.out → StepDoes due answer old new
-      go (Ok _) put = record { answers = (refl, refl); output = put.output; files = made; files_first = inl made; source = source; outside = λ failed. cc }
+      go (Ok _) put = record {
+        answers = (refl, refl);
+        output = put.output;
+        files = all;
+        files_first = inl all;
+        source = source;
+        outside = λ failed. cc;
+        none_rose = λ ok. record { shelf = stands.kept; input = ap (λ (s : Seen (List ℕ)). s.faults) input; out = put.kept ok };
+      }
       go (Err (stop.Complaint given)) put = absurd (never_done given (link.text (summary_of image)) put.answers)
-      go (Err stop.Outside) put = record { answers = tt; output = put.output; files = part_of_all due.writes old.shelf.told new.shelf.told made; files_first = inl made; source = source; outside = λ failed. inr (put.outside failed) }
-      go (Err stop.Memory) put = record { answers = tt; output = put.output; files = part_of_all due.writes old.shelf.told new.shelf.told made; files_first = inl made; source = source; outside = λ failed. cc }
+      go (Err stop.Outside) put = record { answers = tt; output = put.output; files = part; files_first = inl all; source = source; outside = λ failed. inr (put.outside failed); none_rose = λ ok. cc }
+      go (Err stop.Memory) put = record { answers = tt; output = put.output; files = part; files_first = inl all; source = source; outside = λ failed. cc; none_rose = λ ok. cc }
 
   -- it stopped before anything was put
-  pub stopped_linked : (given : LinkStop) → LinksBy Comes Absent link.output (Err given) old.shelf.told new.shelf.told old.shelf.faults new.shelf.faults → new.out.told ≡ old.out.told → Does (Err (stop_of_link given))
+  pub stopped_linked : (given : LinkStop) → LinksBy Comes Absent link.output (Err given) old.shelf new.shelf → new.out.told ≡ old.out.told → Does (Err (stop_of_link given))
   stopped_linked (link_stop.Refused refusal) (comes, files) unput =
       complains Due reading (refusing refusal) (complaint.Refused refusal) (complaint.Refused refusal) old new (as_due (Err refusal) comes) refl refl (record { files = files; source = source; output = unput })
   stopped_linked (link_stop.NotThere listed) (none, files) unput =
       complains Due reading (not_there listed) (complaint.NotThere listed) (complaint.NotThere listed) old new (as_absent listed none) refl refl (record { files = files; source = source; output = unput })
   stopped_linked link_stop.Outside (breaks, rose) unput = broken breaks
     where
-      broken : BreaksOff Comes link.output old.shelf.told new.shelf.told → Does (Err stop.Outside)
+      broken : BreaksOff Comes link.output old.shelf new.shelf → Does (Err stop.Outside)
       broken (inl files) = inl (record { failed = tt; files = stays_part [] old.shelf.told new.shelf.told files; source = source; output = unput; outside = λ failed. (refl, rose) })
       broken (inr (image, comes, part)) = inr (
         linked link image,
@@ -92,11 +96,12 @@ module _ (link : Link) (Comes : Result LinkedImage Refusal → Type 0) (Absent :
           files_first = inr unput;
           source = source;
           outside = λ failed. inl rose;
+          none_rose = λ ok. cc;
         },
       )
   stopped_linked link_stop.Memory breaks unput = broken breaks
     where
-      broken : BreaksOff Comes link.output old.shelf.told new.shelf.told → Does (Err stop.Memory)
+      broken : BreaksOff Comes link.output old.shelf new.shelf → Does (Err stop.Memory)
       broken (inl files) = inl (record { failed = tt; files = stays_part [] old.shelf.told new.shelf.told files; source = source; output = unput; outside = λ failed. cc })
       broken (inr (image, comes, part)) = inr (
         linked link image,
@@ -108,35 +113,36 @@ module _ (link : Link) (Comes : Result LinkedImage Refusal → Type 0) (Absent :
           files_first = inr unput;
           source = source;
           outside = λ failed. cc;
+          none_rose = λ ok. cc;
         },
       )
 
 -- From a module path
 
-module _ (link : Link) (old new : World) (source : new.input.told ≡ old.input.told) where
+module _ (link : Link) (old new : World) (input : new.input ≡ old.input) where
   path_due : (result : Result LinkedImage Refusal) → ComesTo old.shelf.told link.directories link.asked result → PathLinkComesTo old.shelf.told link (link_outcome link result)
   path_due result comes = inl (result, comes, comes_shown old.shelf.told link.directories link.asked result comes, refl)
 
   path_absent : (listed : List ℕ) → TellsNothing old.shelf.told → PathLinkComesTo old.shelf.told link (not_there listed)
   path_absent listed none = inr (listed, none, refl)
 
-  pub link_put : (summary : Summary) (answer : Result (Unit {0}) Stop) → Links link.directories link.asked link.output (Ok summary) old.shelf.told new.shelf.told old.shelf.faults new.shelf.faults → PutDoes (done (link.text summary)) answer old.out new.out → StepComesTo (PathLinkComesTo old.shelf.told link) reading answer old new
-  link_put = put_linked link (ComesTo old.shelf.told link.directories link.asked) (TellsNothing old.shelf.told) (PathLinkComesTo old.shelf.told link) old new source path_due path_absent
+  pub link_put : (summary : Summary) (answer : Result (Unit {0}) Stop) → Links link.directories link.asked link.output (Ok summary) old.shelf new.shelf → PutDoes (done (link.text summary)) answer old.out new.out → StepComesTo (PathLinkComesTo old.shelf.told link) reading answer old new
+  link_put = put_linked link (ComesTo old.shelf.told link.directories link.asked) (TellsNothing old.shelf.told) (PathLinkComesTo old.shelf.told link) old new input path_due path_absent
 
-  pub link_stopped : (given : LinkStop) → Links link.directories link.asked link.output (Err given) old.shelf.told new.shelf.told old.shelf.faults new.shelf.faults → new.out.told ≡ old.out.told → StepComesTo (PathLinkComesTo old.shelf.told link) reading (Err (stop_of_link given)) old new
-  link_stopped = stopped_linked link (ComesTo old.shelf.told link.directories link.asked) (TellsNothing old.shelf.told) (PathLinkComesTo old.shelf.told link) old new source path_due path_absent
+  pub link_stopped : (given : LinkStop) → Links link.directories link.asked link.output (Err given) old.shelf new.shelf → new.out.told ≡ old.out.told → StepComesTo (PathLinkComesTo old.shelf.told link) reading (Err (stop_of_link given)) old new
+  link_stopped = stopped_linked link (ComesTo old.shelf.told link.directories link.asked) (TellsNothing old.shelf.told) (PathLinkComesTo old.shelf.told link) old new input path_due path_absent
 
 -- From an image
 
-module _ (link : Link) (b : List ℕ) (old new : World) (source : new.input.told ≡ old.input.told) where
+module _ (link : Link) (b : List ℕ) (old new : World) (input : new.input ≡ old.input) where
   image_due : (result : Result LinkedImage Refusal) → ImageComesTo b link.asked result → ImageLinkComesTo link b (link_outcome link result)
   image_due result comes = (result, comes, linked_shown link.asked.order result comes.1, refl)
 
-  pub image_put : (summary : Summary) (answer : Result (Unit {0}) Stop) → ImageLinks b link.asked link.output (Ok summary) old.shelf.told new.shelf.told old.shelf.faults new.shelf.faults → PutDoes (done (link.text summary)) answer old.out new.out → StepComesTo (ImageLinkComesTo link b) reading answer old new
-  image_put = put_linked link (ImageComesTo b link.asked) ⊥ (ImageLinkComesTo link b) old new source image_due (λ listed never. absurd never)
+  pub image_put : (summary : Summary) (answer : Result (Unit {0}) Stop) → ImageLinks b link.asked link.output (Ok summary) old.shelf new.shelf → PutDoes (done (link.text summary)) answer old.out new.out → StepComesTo (ImageLinkComesTo link b) reading answer old new
+  image_put = put_linked link (ImageComesTo b link.asked) ⊥ (ImageLinkComesTo link b) old new input image_due (λ listed never. absurd never)
 
-  pub image_stopped : (given : LinkStop) → ImageLinks b link.asked link.output (Err given) old.shelf.told new.shelf.told old.shelf.faults new.shelf.faults → new.out.told ≡ old.out.told → StepComesTo (ImageLinkComesTo link b) reading (Err (stop_of_link given)) old new
-  image_stopped = stopped_linked link (ImageComesTo b link.asked) ⊥ (ImageLinkComesTo link b) old new source image_due (λ listed never. absurd never)
+  pub image_stopped : (given : LinkStop) → ImageLinks b link.asked link.output (Err given) old.shelf new.shelf → new.out.told ≡ old.out.told → StepComesTo (ImageLinkComesTo link b) reading (Err (stop_of_link given)) old new
+  image_stopped = stopped_linked link (ImageComesTo b link.asked) ⊥ (ImageLinkComesTo link b) old new input image_due (λ listed never. absurd never)
 
 -- by where the modules are
 pub link_comes : (told : Option Files) (link : Link) (image : Option (List ℕ)) (answer : Result (Unit {0}) Stop) (old new : World) → link.image ≡ image → StepComesTo (LinkComesFrom told link image) reading answer old new → StepComesTo (LinkComesTo told link) reading answer old new

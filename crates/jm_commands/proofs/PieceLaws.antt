@@ -1,5 +1,5 @@
 -- Texts that a sink gets piece by piece.
-use Rattle.std.proofs.Common.{◌≡◌, ℕ, ◌+◌, ◌<◌, ◌≤◌, List, [], ◌∷◌, ◌++◌, drop, flat_map, get_or, length, map, take, Option, Some, None, option_map, Result, Ok, Err, OnOk, IsErrOf, inl, refl, sym, ap, subst, ◌∙◌, arith, append-nil}
+use Rattle.std.proofs.Common.{◌≡◌, ℕ, ◌+◌, ◌<◌, ◌≤◌, List, [], ◌∷◌, ◌++◌, drop, flat_map, get_or, length, map, take, Option, Some, None, option_map, Result, Ok, Err, OnOk, IsOk, IsErrOf, inl, refl, sym, ap, subst, ◌∙◌, arith, append-nil}
 use Rattle.std.proofs.Math.Seq.{take-append-add}
 use Rattle.std.proofs.lemmas.List.{append_assoc, drop_all, drop_more, length-append, take-append-le}
 use Rattle.jm_form.specs.declared.trees.Holds.{Holds}
@@ -9,7 +9,6 @@ use Rattle.jm_jrt.specs.Views.{count_of}
 use Rattle.jm_outside.specs.Outcome.{CountsFaults, PutsFront, Told}
 use Rattle.jm_outside.specs.declared.streams.SinkError.{SinkError}
 use Rattle.jm_outside.specs.declared.streams.SinkError.TheVariants as sink_error
-use Rattle.jm_outside.proofs.CountLaws.{rose_sooner}
 use Rattle.jm_commands.specs.Outcome.{done}
 use Rattle.jm_commands.specs.Pieces.{Passes, PassesText, PutsText}
 use Rattle.jm_commands.specs.Run.{PutDoes}
@@ -56,7 +55,7 @@ pub held_back : (text : List ℕ) (now : Seen (List ℕ)) → PassesText [] text
 held_back text now = record {
   passed = ([], gets_nothing now now refl, append-nil text);
   front = tt;
-  faults = record { count = omega arith; rose = λ failed. cc };
+  faults = record { count = omega arith; kept = λ ok. refl; rose = λ failed. cc };
 }
 
 -- a piece was put
@@ -87,34 +86,31 @@ line_passed line held more holds (Err e) old new is text = record {
 
 -- The whole
 
--- of the whole text some was put, and the rest is held back or still to come
+-- of the whole text some was put, by calls that didn't fail, and the rest is held back or still to
+-- come
 abbrev pub Left : (whole left : List ℕ) → Seen (List ℕ) → Seen (List ℕ) → Type 0
-Left whole left old now = Passes whole [] left old now × (old.faults ≤ now.faults)
+Left whole left old now = Passes whole [] left old now × (now.faults ≡ old.faults)
 
 pub all_left : (whole : List ℕ) (now : Seen (List ℕ)) → Left whole whole now now
-all_left whole now = (([], gets_nothing now now refl, refl), omega arith)
+all_left whole now = (([], gets_nothing now now refl, refl), refl)
 
 -- a line more was passed on
 pub less_left : (whole held line rest holds : List ℕ) (old now new : Seen (List ℕ)) → Left whole (held ++ (line ++ rest)) old now → PassesText line held holds (Ok tt) now new → Left whole (holds ++ rest) old new
-less_left whole held line rest holds old now new ((got, gets, is), count) text =
+less_left whole held line rest holds old now new ((got, gets, is), kept) text =
     let put = text.passed in
-    let faults = text.faults.count in
-    ((got ++ put.0, gets_both got put.0 old now new gets put.1, is ∙ ap (λ l. got ++ l) (sym (append_assoc held line rest) ∙ ap (λ l. l ++ rest) put.2 ∙ append_assoc put.0 holds rest) ∙ sym (append_assoc got put.0 (holds ++ rest))), omega (arith, count, faults))
+    ((got ++ put.0, gets_both got put.0 old now new gets put.1, is ∙ ap (λ l. got ++ l) (sym (append_assoc held line rest) ∙ ap (λ l. l ++ rest) put.2 ∙ append_assoc put.0 holds rest) ∙ sym (append_assoc got put.0 (holds ++ rest))), text.faults.kept refl ∙ kept)
 
 -- a piece was put
 pub piece_left : (whole text rest : List ℕ) (old now new : Seen (List ℕ)) → Left whole (text ++ rest) old now → PutsText text (Ok tt) now new → Left whole rest old new
-piece_left whole text rest old now new ((got, gets, is), count) put =
-    let faults = put.faults.count in
-    ((got ++ text, gets_both got text old now new gets put.all, is ∙ sym (append_assoc got text rest)), omega (arith, count, faults))
+piece_left whole text rest old now new ((got, gets, is), kept) put =
+    ((got ++ text, gets_both got text old now new gets put.all, is ∙ sym (append_assoc got text rest)), put.faults.kept refl ∙ kept)
 
 -- it broke off
-pub broken : (whole text rest : List ℕ) (error : SinkError) (old now new : Seen (List ℕ)) → Left whole (text ++ rest) old now → GetsFront text now new → CountsFaults now.faults new.faults (IsErrOf {T = Unit {0}} (Err error) sink_error.Failed) → PutsText whole (Err error) old new
-broken whole text rest error old now new ((got, gets, is), count) front faults = record {
+pub broken : (whole text rest : List ℕ) (error : SinkError) (old now new : Seen (List ℕ)) → Left whole (text ++ rest) old now → GetsFront text now new → CountsFaults now.faults new.faults (IsOk {T = Unit {0}} (Err error)) (IsErrOf {T = Unit {0}} (Err error) sink_error.Failed) → PutsText whole (Err error) old new
+broken whole text rest error old now new ((got, gets, is), kept) front faults = record {
   all = tt;
   front = subst (λ l. GetsFront l old new) (sym is) (front_behind got (text ++ rest) old now new gets (front_longer text rest now new front));
-  faults =
-      let later = faults.count in
-      record { count = omega (arith, count, later); rose = λ failed. rose_sooner old.faults now.faults new.faults count (faults.rose failed) };
+  faults = subst (λ (count : ℕ). CountsFaults count new.faults (IsOk {T = Unit {0}} (Err error)) (IsErrOf {T = Unit {0}} (Err error) sink_error.Failed)) kept faults;
 }
 
 pub line_broken : (whole held line rest holds : List ℕ) (error : SinkError) (old now new : Seen (List ℕ)) → Left whole (held ++ (line ++ rest)) old now → PassesText line held holds (Err error) now new → PutsText whole (Err error) old new
@@ -124,14 +120,14 @@ line_broken whole held line rest holds error old now new left text =
 -- no memory was found for what was left
 pub unput : (whole left : List ℕ) (old now : Seen (List ℕ)) → Left whole left old now → PutsText whole (Err sink_error.Memory) old now
 unput whole left old now is =
-    broken whole left [] sink_error.Memory old now now (subst (λ l. Left whole l old now) (sym (append-nil left)) is) (front_of_nothing left now now refl) (record { count = omega arith; rose = λ failed. cc })
+    broken whole left [] sink_error.Memory old now now (subst (λ l. Left whole l old now) (sym (append-nil left)) is) (front_of_nothing left now now refl) (record { count = omega arith; kept = λ ok. cc; rose = λ failed. cc })
 
 -- all that was left was put
 pub last_put : (whole text : List ℕ) (answer : Result (Unit {0}) SinkError) (old now new : Seen (List ℕ)) → Left whole text old now → PutsText text answer now new → PutsText whole answer old new
-last_put whole text (Ok _) old now new ((got, gets, is), count) put = record {
+last_put whole text (Ok _) old now new ((got, gets, is), kept) put = record {
   all = subst (λ l. Gets l old new) (sym is) (gets_both got text old now new gets put.all);
   front = tt;
-  faults = let later = put.faults.count in record { count = omega (arith, count, later); rose = λ failed. cc };
+  faults = let same = put.faults.kept refl ∙ kept in record { count = omega (arith, same); kept = λ ok. same; rose = λ failed. cc };
 }
 last_put whole text (Err error) old now new left put =
     broken whole text [] error old now new (subst (λ l. Left whole l old now) (sym (append-nil text)) left) put.front put.faults
@@ -158,8 +154,8 @@ no_child path (Owners (owner ∷ owners)) none = cc
 -- The step of a run
 
 pub text_put : (text : List ℕ) (out new_out : Seen (List ℕ)) → PutsText text (Ok tt) out new_out → PutDoes (done text) (Ok tt) out new_out
-text_put text out new_out put = record { answers = refl; output = put.all; outside = λ failed. cc; memory = λ failed. cc }
+text_put text out new_out put = record { answers = refl; output = put.all; outside = λ failed. cc; kept = λ ok. put.faults.kept refl; memory = λ failed. cc }
 
 pub text_unput : (text : List ℕ) (error : SinkError) (out new_out : Seen (List ℕ)) → PutsText text (Err error) out new_out → PutDoes (done text) (Err (stop_of_sink error)) out new_out
-text_unput text sink_error.Failed out new_out put = record { answers = refl; output = put.front; outside = λ failed. put.faults.rose refl; memory = λ failed. cc }
-text_unput text sink_error.Memory out new_out put = record { answers = tt; output = put.front; outside = λ failed. cc; memory = λ same. inl refl }
+text_unput text sink_error.Failed out new_out put = record { answers = refl; output = put.front; outside = λ failed. put.faults.rose refl; kept = λ ok. cc; memory = λ failed. cc }
+text_unput text sink_error.Memory out new_out put = record { answers = tt; output = put.front; outside = λ failed. cc; kept = λ ok. cc; memory = λ same. inl refl }

@@ -17,6 +17,7 @@ use Rattle.jm_commands.specs.Sinks.{Failed, Gets, GetsFront, Seen}
 use Rattle.jm_commands.specs.Texts.{line_of}
 use Rattle.jm_commands.specs.World.{World}
 use Rattle.jm_commands.proofs.Gotten.{front_of_all, front_of_nothing, gets_nothing}
+use Rattle.jm_commands.proofs.StepLaws.{complains_undone}
 
 -- a complaint's line was put
 pub reported : (given : Complaint) (is : Status) (err new_err : Seen (List ℕ)) → is ≡ status_of given → Gets (line_of given) err new_err → ReportDoes given is err new_err
@@ -31,6 +32,11 @@ reported given is err new_err same put = subst (λ (s : Status). ReportDoes give
     go complaint.NotFolder put = (refl, put)
     go (complaint.LongLine k) put = (refl, put)
     go complaint.TooManyLines put = (refl, put)
+
+-- a run that reports a complaint isn't done
+reported_undone : (given : Complaint) (is : Status) (err new_err : Seen (List ℕ)) → ReportDoes given is err new_err → is ≡ status.Done → ⊥
+reported_undone given is err new_err report done =
+    complains_undone given (subst (λ (s : Status). ReportDoes given s err new_err) done report).0
 
 -- a complaint has a line, so the error sink may fail
 line_failed : (given : Complaint) (err new_err : Seen (List ℕ)) → Failed err new_err → LineFailed (status_of given) err new_err
@@ -110,10 +116,12 @@ module _ (due : Outcome) (old new : World) where
       record {
         output = step.output;
         line = subst (λ (text : List ℕ). Gets text err err) (sym step.answers.1) (gets_nothing err err refl);
-        files = step.files;
+        files = step.files.made;
       },
     );
     source = source_map due.session (StopsAs (Ok tt)) (EndsAs status.Done err err) old new (ends_done err) step.source;
+    stand = λ done. step.files;
+    none_rose = λ done. (step.none_rose refl, refl);
   }
 
   -- the outside failed
@@ -121,6 +129,8 @@ module _ (due : Outcome) (old new : World) where
   ran_outside err step = record {
     ends = (record { output = step.output; line = front_of_nothing due.line err err refl; files = step.files; files_first = step.files_first }, inl (step.outside refl));
     source = source_map due.session (StopsAs (Err stop.Outside)) (EndsAs status.Outside err err) old new (ends_outside err) step.source;
+    stand = λ done. cc;
+    none_rose = λ done. cc;
   }
 
   -- no memory was found
@@ -128,6 +138,8 @@ module _ (due : Outcome) (old new : World) where
   ran_memory err step = record {
     ends = record { output = step.output; line = front_of_nothing due.line err err refl; files = step.files; files_first = step.files_first };
     source = source_map due.session (StopsAs (Err stop.Memory)) (EndsAs status.Memory err err) old new (ends_memory err) step.source;
+    stand = λ done. cc;
+    none_rose = λ done. cc;
   }
 
   -- a complaint was reported
@@ -135,6 +147,8 @@ module _ (due : Outcome) (old new : World) where
   ran_complaint given is err new_err step report = record {
     ends = go is report;
     source = source_map due.session (StopsAs (Err (stop.Complaint given))) (EndsAs is err new_err) old new (ends_complaint given err new_err is report) step.source;
+    stand = λ done. absurd (reported_undone given is err new_err report done);
+    none_rose = λ done. absurd (reported_undone given is err new_err report done);
   }
     where
       all : Gets (line_of given) err new_err → DoesAll due old new err new_err
@@ -145,7 +159,7 @@ module _ (due : Outcome) (old new : World) where
         output = front_of_all due.output old.out new.out step.output;
         line = subst (λ (text : List ℕ). GetsFront text err new_err) (sym step.answers.1) put;
         files = part_of_all due.writes old.shelf.told new.shelf.told step.files;
-        files_first = inl step.files;
+        files_first = step.files_first;
       }
 
       go : (s : Status) → ReportDoes given s err new_err → EndsWith due s old new err new_err

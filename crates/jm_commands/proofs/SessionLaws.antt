@@ -1,5 +1,5 @@
 -- What a session's step and its run do, from what `serve` answered.
-use Rattle.std.proofs.Common.{◌≡◌, ◌≤◌, ℕ, zero, suc, List, [], ◌∷◌, ◌++◌, length, take, drop, Option, Some, None, option_map, Result, Ok, Err, ◌⊎◌, inl, inr, refl, sym, ap, ◌∙◌, subst, arith}
+use Rattle.std.proofs.Common.{◌≡◌, ◌≤◌, ℕ, zero, suc, List, [], ◌∷◌, ◌++◌, length, take, drop, Option, Some, None, option_map, Result, Ok, Err, IsOk, ◌⊎◌, inl, inr, refl, sym, ap, ◌∙◌, subst, arith}
 use Rattle.std.proofs.lemmas.Bool.{le-ltb, lt-ltb}
 use Rattle.std.proofs.lemmas.List.{length-append, take-append-drop}
 use Rattle.std.proofs.Math.Seq.{take-append_seam}
@@ -7,6 +7,7 @@ use Rattle.jm_bytes.proofs.Choice.{same_some}
 use Rattle.jm_bytes.specs.Metered.{Metered}
 use Rattle.jm_outside.specs.Made.{MadeAll}
 use Rattle.jm_outside.specs.Outcome.{CountsFaults, PutsFront, Shows, Told}
+use Rattle.jm_outside.specs.Shelves.{ShelfSeen}
 use Rattle.jm_jrt.specs.declared.serve_error.ServeError.{ServeError}
 use Rattle.jm_jrt.specs.declared.serve_error.ServeError.TheVariants as serve_error
 use Rattle.jm_jrt.specs.Lines.{lines_of, replies}
@@ -17,7 +18,7 @@ use Rattle.jm_commands.specs.declared.complaint.Complaint.TheVariants as complai
 use Rattle.jm_commands.specs.declared.stop.Stop.{Stop}
 use Rattle.jm_commands.specs.declared.stop.Stop.TheVariants as stop
 use Rattle.jm_commands.specs.Outcome.{session_fault, session_outcome, session_with}
-use Rattle.jm_commands.specs.Run.{StepDoes, StepOnText}
+use Rattle.jm_commands.specs.Run.{StandAll, StepDoes, StepOnText}
 use Rattle.jm_commands.specs.SessionHeld.{EndedBy, Held, StopsAs}
 use Rattle.jm_commands.specs.Sinks.{Failed, Gets, GetsFront}
 use Rattle.jm_commands.specs.Stops.{stop_of_session}
@@ -77,7 +78,7 @@ front_told (Some old) (Some new) text (more, is, (n, front)) = puts_front old ne
 -- The step
 
 -- a fault of the source or of the output comes only where its count rose
-ended_by : (answered : Result ℕ ServeError) (old new : World) → CountsFaults old.input.faults new.input.faults (answered ≡ Err serve_error.ReadFault) → CountsFaults old.out.faults new.out.faults (answered ≡ Err serve_error.WriteFault) → EndedBy answered old new
+ended_by : (answered : Result ℕ ServeError) (old new : World) → CountsFaults old.input.faults new.input.faults (IsOk answered) (answered ≡ Err serve_error.ReadFault) → CountsFaults old.out.faults new.out.faults (IsOk answered) (answered ≡ Err serve_error.WriteFault) → EndedBy answered old new
 ended_by (Ok n) old new input out = tt
 ended_by (Err serve_error.ReadFault) old new input out = input.rose refl
 ended_by (Err serve_error.WriteFault) old new input out = out.rose refl
@@ -90,7 +91,7 @@ shows_text None new_rest text left told = tt
 shows_text (Some old) None text left told = absurd told
 shows_text (Some old) (Some new) text left told = sym told.0
 
-module _ (b text : List ℕ) (old new : World) (files : new.shelf.told ≡ old.shelf.told) where
+module _ (b text : List ℕ) (old new : World) (shelf : new.shelf ≡ old.shelf) where
   abbrev output : List ℕ
   output = replies b (answered_in text)
 
@@ -100,32 +101,46 @@ module _ (b text : List ℕ) (old new : World) (files : new.shelf.told ≡ old.s
   got : (more : List ℕ) → new.out.told ≡ option_map (λ put. put ++ more) old.out.told → more ≡ output → Gets output old.out new.out
   got more is all = subst (λ (t : List ℕ). Gets t old.out new.out) all is
 
+  files : new.shelf.told ≡ old.shelf.told
+  files = ap (λ (s : ShelfSeen). s.told) shelf
+
   unmade : MadeAll [] old.shelf.told new.shelf.told
   unmade = stays_all old.shelf.told new.shelf.told files
 
-  step_ended : HeldAs (Ok tt) → Gets output old.out new.out → StepDoes (session_with b output None) (Ok tt) old new
-  step_ended held gets = record { answers = (refl, refl); output = gets; files = unmade; files_first = inl unmade; source = held; outside = λ failed. cc }
+  stand : StandAll [] old.shelf new.shelf
+  stand = record { made = unmade; whole = λ some. absurd (some refl) }
+
+  step_ended : HeldAs (Ok tt) → Gets output old.out new.out → new.input.faults ≡ old.input.faults → new.out.faults ≡ old.out.faults → StepDoes (session_with b output None) (Ok tt) old new
+  step_ended held gets input out = record {
+    answers = (refl, refl);
+    output = gets;
+    files = stand;
+    files_first = inl stand;
+    source = held;
+    outside = λ failed. cc;
+    none_rose = λ ok. record { shelf = ap (λ (s : ShelfSeen). s.faults) shelf; input = input; out = out };
+  }
 
   step_long : (k : ℕ) → HeldAs (Err (stop.Complaint (complaint.LongLine k))) → Gets output old.out new.out → StepDoes (session_with b output (Some (complaint.LongLine k))) (Err (stop.Complaint (complaint.LongLine k))) old new
-  step_long k held gets = record { answers = (refl, refl); output = gets; files = unmade; files_first = inl unmade; source = held; outside = λ failed. cc }
+  step_long k held gets = record { answers = (refl, refl); output = gets; files = unmade; files_first = inl stand; source = held; outside = λ failed. cc; none_rose = λ ok. cc }
 
   step_many : HeldAs (Err (stop.Complaint complaint.TooManyLines)) → Gets output old.out new.out → StepDoes (session_with b output (Some complaint.TooManyLines)) (Err (stop.Complaint complaint.TooManyLines)) old new
-  step_many held gets = record { answers = (refl, refl); output = gets; files = unmade; files_first = inl unmade; source = held; outside = λ failed. cc }
+  step_many held gets = record { answers = (refl, refl); output = gets; files = unmade; files_first = inl stand; source = held; outside = λ failed. cc; none_rose = λ ok. cc }
 
   step_outside : (fault : Option Complaint) → HeldAs (Err stop.Outside) → GetsFront output old.out new.out → Failed old.input new.input ⊎ Failed old.out new.out → StepDoes (session_with b output fault) (Err stop.Outside) old new
-  step_outside None held gets failed = record { answers = tt; output = gets; files = stays_part [] old.shelf.told new.shelf.told files; files_first = inl unmade; source = held; outside = λ is. failed }
-  step_outside (Some given) held gets failed = record { answers = tt; output = gets; files = stays_part [] old.shelf.told new.shelf.told files; files_first = inl unmade; source = held; outside = λ is. failed }
+  step_outside None held gets failed = record { answers = tt; output = gets; files = stays_part [] old.shelf.told new.shelf.told files; files_first = inl stand; source = held; outside = λ is. failed; none_rose = λ ok. cc }
+  step_outside (Some given) held gets failed = record { answers = tt; output = gets; files = stays_part [] old.shelf.told new.shelf.told files; files_first = inl stand; source = held; outside = λ is. failed; none_rose = λ ok. cc }
 
   step_memory : (fault : Option Complaint) → HeldAs (Err stop.Memory) → GetsFront output old.out new.out → StepDoes (session_with b output fault) (Err stop.Memory) old new
-  step_memory None held gets = record { answers = tt; output = gets; files = stays_part [] old.shelf.told new.shelf.told files; files_first = inl unmade; source = held; outside = λ failed. cc }
-  step_memory (Some given) held gets = record { answers = tt; output = gets; files = stays_part [] old.shelf.told new.shelf.told files; files_first = inl unmade; source = held; outside = λ failed. cc }
+  step_memory None held gets = record { answers = tt; output = gets; files = stays_part [] old.shelf.told new.shelf.told files; files_first = inl stand; source = held; outside = λ failed. cc; none_rose = λ ok. cc }
+  step_memory (Some given) held gets = record { answers = tt; output = gets; files = stays_part [] old.shelf.told new.shelf.told files; files_first = inl stand; source = held; outside = λ failed. cc; none_rose = λ ok. cc }
 
   by_fault : (fault : Option Complaint) (answer : Result (Unit {0}) Stop) → session_fault (length (lines_of text)) (length (answered_in text)) ≡ fault → StepDoes (session_with b output fault) answer old new → StepDoes (session_outcome b text) answer old new
   by_fault fault answer is = subst (λ (o : Option Complaint). StepDoes (session_with b output o) answer old new) (sym is)
 
-  by_answer : (answered : Result ℕ ServeError) (left : List ℕ) → Ended answered text left → PutBehind b answered text left old.out.told new.out.told → HeldAs (stop_of_session answered) → CountsFaults old.input.faults new.input.faults (answered ≡ Err serve_error.ReadFault) → CountsFaults old.out.faults new.out.faults (answered ≡ Err serve_error.WriteFault) → StepDoes (session_outcome b text) (stop_of_session answered) old new
+  by_answer : (answered : Result ℕ ServeError) (left : List ℕ) → Ended answered text left → PutBehind b answered text left old.out.told new.out.told → HeldAs (stop_of_session answered) → CountsFaults old.input.faults new.input.faults (IsOk answered) (answered ≡ Err serve_error.ReadFault) → CountsFaults old.out.faults new.out.faults (IsOk answered) (answered ≡ Err serve_error.WriteFault) → StepDoes (session_outcome b text) (stop_of_session answered) old new
   by_answer (Ok n) left ended (more, is, all) held input out =
-      by_fault None (Ok tt) (fault_of_whole (lines_of text) (answered_in text) ended.answered) (step_ended held (got more is all))
+      by_fault None (Ok tt) (fault_of_whole (lines_of text) (answered_in text) ended.answered) (step_ended held (got more is all) (input.kept refl) (out.kept refl))
   by_answer (Err (serve_error.LongLine k)) left ended (more, is, all) held input out =
       by_fault (Some (complaint.LongLine k)) (Err (stop.Complaint (complaint.LongLine k))) (fault_of_long text k ended) (step_long k held (got more is all))
   by_answer (Err serve_error.TooManyLines) left ended (more, is, all) held input out =
@@ -140,10 +155,10 @@ module _ (b text : List ℕ) (old new : World) (files : new.shelf.told ≡ old.s
       step_memory (session_fault (length (lines_of text)) (length (answered_in text))) held
       (front_put old.out.told new.out.told more output (length (replies b (take n (answered_in text)))) is (put ∙ replies_front b n (answered_in text)))
 
-pub session_step : (b : List ℕ) (answered : Result ℕ ServeError) (old new : World) (reads new_reads : Metered) → new.shelf.told ≡ old.shelf.told → Serves b answered old.input.told new.input.told old.out.told new.out.told reads new_reads → CountsFaults old.input.faults new.input.faults (answered ≡ Err serve_error.ReadFault) → CountsFaults old.out.faults new.out.faults (answered ≡ Err serve_error.WriteFault) → StepOnText (session_outcome b) (stop_of_session answered) old new
-session_step b answered old new reads new_reads files serves input out = inr (
+pub session_step : (b : List ℕ) (answered : Result ℕ ServeError) (old new : World) (reads new_reads : Metered) → new.shelf ≡ old.shelf → Serves b answered old.input.told new.input.told old.out.told new.out.told reads new_reads → CountsFaults old.input.faults new.input.faults (IsOk answered) (answered ≡ Err serve_error.ReadFault) → CountsFaults old.out.faults new.out.faults (IsOk answered) (answered ≡ Err serve_error.WriteFault) → StepOnText (session_outcome b) (stop_of_session answered) old new
+session_step b answered old new reads new_reads shelf serves input out = inr (
   session_outcome b serves.text,
   (serves.text, shows_text old.input.told new.input.told serves.text serves.left serves.told, refl),
-  by_answer b serves.text old new files answered serves.left serves.ended serves.put
+  by_answer b serves.text old new shelf answered serves.left serves.ended serves.put
       (record { answered = answered; ends = refl; ended_by = ended_by answered old new input out; reads = reads; new_reads = new_reads; serves = serves }) input out,
 )

@@ -1,5 +1,5 @@
 -- What a step does, from what its calls answered.
-use Rattle.std.proofs.Common.{◌≡◌, ℕ, ◌≤◌, true, false, List, [], Option, Some, None, is_some, Result, Ok, Err, inl, inr, refl, sym, ap, subst, IsErrAnd}
+use Rattle.std.proofs.Common.{◌≡◌, ℕ, true, false, List, [], Option, Some, None, is_some, Result, Ok, Err, IsOk, IsTrue, ◌≢◌, inl, inr, refl, sym, ap, ◌∙◌, subst, IsErrAnd}
 use Rattle.jm_outside.specs.Made.{MadeAll, MadePart, Writes}
 use Rattle.jm_form.specs.declared.rows.Row.{Row}
 use Rattle.jm_form.specs.Damages.{first_damage}
@@ -7,7 +7,8 @@ use Rattle.jm_jrt.specs.declared.serve_error.ServeError.{ServeError}
 use Rattle.jm_jrt.specs.declared.serve_error.ServeError.TheVariants as serve_error
 use Rattle.jm_names.specs.UtfForms.{utf}
 use Rattle.jm_outside.specs.Files.{Files}
-use Rattle.jm_outside.specs.Outcome.{Shows, Told}
+use Rattle.jm_outside.specs.Outcome.{Rose, Shows, Told}
+use Rattle.jm_outside.specs.Shelves.{ShelfFailed, ShelfSeen}
 use Rattle.jm_words.specs.declared.commands.Command.{Command}
 use Rattle.jm_words.specs.declared.errors.WordsError.{WordsError}
 use Rattle.jm_words.specs.declared.errors.WordsError.TheVariants as error
@@ -23,25 +24,35 @@ use Rattle.jm_outside.specs.declared.streams.SinkError.TheVariants as sink_error
 use Rattle.jm_commands.specs.Cat.{content_of}
 use Rattle.jm_commands.specs.FailedBefore.{FailedEarly, WorkFailed}
 use Rattle.jm_commands.specs.Outcome.{Early, Outcome, cat_outcome, damaged, done, early_in, early_of, faulty, not_there, reading, task_of, without_files}
-use Rattle.jm_commands.specs.Run.{CommandComesTo, FileComesTo, FilesFirst, FilesMade, IsFailure, OpenedComesTo, Opens, PutDoes, ReadsFile, StepComesTo, StepDoes, StepOnText, WordsComeTo, outcome_of}
+use Rattle.jm_commands.specs.Run.{CommandComesTo, FileComesTo, FilesFirst, FilesMade, IsFailure, OpenedComesTo, Opens, PutDoes, ReadsFile, StandAll, StepComesTo, StepDoes, StepOnText, WordsComeTo, outcome_of, status_of}
 use Rattle.jm_commands.specs.SessionHeld.{EndedBy, NotBegun, SourceRead}
 use Rattle.jm_commands.specs.Sinks.{Failed, Gets, GetsFront, Seen}
 use Rattle.jm_commands.specs.Stops.{stop_of_sink, stop_of_words}
-use Rattle.jm_commands.specs.World.{World}
+use Rattle.jm_commands.specs.World.{NoneRose, World}
 use Rattle.jm_commands.proofs.Gotten.{front_of_nothing, gets_nothing}
 use Rattle.jm_commands.proofs.Made.{stays_all, stays_part}
-use Rattle.jm_outside.proofs.CountLaws.{rose_sooner}
 
 -- an error of a step, by what it was made of
 pub from_stop : (answer : Result (Unit {0}) Stop) (is : Stop) → IsErrAnd answer (λ stop. stop ≡ is) → answer ≡ Err is
 from_stop (Ok _) is gives = absurd gives
 from_stop (Err stop) is gives = ap (λ s. Err s) gives
 
+-- no complaint ends a run with `Done`
+pub complains_undone : (given : Complaint) → status.Done ≡ status_of given → ⊥
+complains_undone (complaint.Words fault) same = cc
+complains_undone (complaint.Damaged damage) same = cc
+complains_undone (complaint.NotThere text) same = cc
+complains_undone (complaint.Refused refusal) same = cc
+complains_undone (complaint.BadNode at) same = cc
+complains_undone complaint.NotFolder same = cc
+complains_undone (complaint.LongLine k) same = cc
+complains_undone complaint.TooManyLines same = cc
+
 -- Steps that only put
 
 -- nothing was put for want of memory
 pub no_memory : (due : Outcome) (out new_out : Seen (List ℕ)) → new_out.told ≡ out.told → PutDoes due (Err stop.Memory) out new_out
-no_memory due out new_out unput = record { answers = tt; output = front_of_nothing due.output out new_out unput; outside = λ failed. cc; memory = λ failed. inr unput }
+no_memory due out new_out unput = record { answers = tt; output = front_of_nothing due.output out new_out unput; outside = λ failed. cc; kept = λ ok. cc; memory = λ failed. inr unput }
 
 -- nothing was put, and a complaint is all
 pub complained : (due : Outcome) (given : Complaint) (out new_out : Seen (List ℕ)) → due ≡ outcome_of given → new_out.told ≡ out.told → PutDoes due (Err (stop.Complaint given)) out new_out
@@ -49,21 +60,22 @@ complained due given out new_out is unput = record {
   answers = is;
   output = subst (λ (text : List ℕ). Gets text out new_out) (sym (ap (λ o. o.output) is)) (gets_nothing out new_out unput);
   outside = λ failed. cc;
+  kept = λ ok. cc;
   memory = λ failed. cc;
 }
 
 -- `cat`
 
 -- the content was put
-pub content_put : (found : Option (Row × List ℕ)) (name : List ℕ) (out new_out : Seen (List ℕ)) → true ≡ is_some found → Gets (content_of found) out new_out → PutDoes (cat_outcome name found) (Ok tt) out new_out
-content_put None name out new_out there put = cc
-content_put (Some found) name out new_out there put = record { answers = refl; output = put; outside = λ failed. cc; memory = λ failed. cc }
+pub content_put : (found : Option (Row × List ℕ)) (name : List ℕ) (out new_out : Seen (List ℕ)) → true ≡ is_some found → Gets (content_of found) out new_out → new_out.faults ≡ out.faults → PutDoes (cat_outcome name found) (Ok tt) out new_out
+content_put None name out new_out there put kept = cc
+content_put (Some found) name out new_out there put kept = record { answers = refl; output = put; outside = λ failed. cc; kept = λ ok. kept; memory = λ failed. cc }
 
 -- the put of the content failed
 pub content_unput : (found : Option (Row × List ℕ)) (name : List ℕ) (error : SinkError) (out new_out : Seen (List ℕ)) → is_some found ≡ true → GetsFront (content_of found) out new_out → (error ≡ sink_error.Failed → Failed out new_out) → (error ≡ sink_error.Memory → new_out.told ≡ out.told) → PutDoes (cat_outcome name found) (Err (stop_of_sink error)) out new_out
 content_unput None name error out new_out there front failed unput = cc
-content_unput (Some found) name sink_error.Failed out new_out there front failed unput = record { answers = refl; output = front; outside = λ same. failed refl; memory = λ same. cc }
-content_unput (Some found) name sink_error.Memory out new_out there front failed unput = record { answers = tt; output = front; outside = λ same. cc; memory = λ same. inr (unput refl) }
+content_unput (Some found) name sink_error.Failed out new_out there front failed unput = record { answers = refl; output = front; outside = λ same. failed refl; kept = λ ok. cc; memory = λ same. cc }
+content_unput (Some found) name sink_error.Memory out new_out there front failed unput = record { answers = tt; output = front; outside = λ same. cc; kept = λ ok. cc; memory = λ same. inr (unput refl) }
 
 -- there is no content to put
 pub nothing_found : (found : Option (Row × List ℕ)) (name : List ℕ) → false ≡ is_some found → cat_outcome name found ≡ not_there (utf name)
@@ -119,57 +131,68 @@ out_of_memory Due early now = fails_at_once Due early (Err stop.Memory) now now 
 output_failed : (due : Outcome) (old new : World) → due ≡ done due.output → Failed old.out new.out → WorkFailed due.session due.status old new
 output_failed due old new is failed = subst (λ (o : Outcome). WorkFailed o.session o.status old new) (sym is) (inr failed)
 
+-- where the step is done, the calls of the shelf and of the source didn't fail
+abbrev pub Quiet : Result (Unit {0}) Stop → World → World → Type 0
+Quiet answer old new = IsOk answer → (new.shelf.faults ≡ old.shelf.faults) × (new.input.faults ≡ old.input.faults)
+
 -- a put, behind calls that changed no file and read nothing from the source
 module _ (due : Outcome) (old new : World) (files : new.shelf.told ≡ old.shelf.told) (source : new.input.told ≡ old.input.told) (alone : due.session ≡ None) where
   unmade : due.writes ≡ [] → MadeAll due.writes old.shelf.told new.shelf.told
   unmade none = subst (λ (writes : Writes). MadeAll writes old.shelf.told new.shelf.told) (sym none) (stays_all old.shelf.told new.shelf.told files)
 
+  stand : due.writes ≡ [] → StandAll due.writes old.shelf new.shelf
+  stand none = record { made = unmade none; whole = λ some. absurd (some none) }
+
   unread : (Ends : Result ℕ ServeError → Type 0) → SourceRead due.session Ends old new
   unread Ends = subst (λ (session : Option (List ℕ)). SourceRead session Ends old new) (sym alone) source
 
-  pub put_step : (answer : Result (Unit {0}) Stop) → PutDoes due answer old.out new.out → StepDoes due answer old new
-  put_step (Ok _) put = record {
+  pub put_step : (answer : Result (Unit {0}) Stop) → PutDoes due answer old.out new.out → Quiet answer old new → StepDoes due answer old new
+  put_step (Ok _) put quiet = record {
+    answers = (ap (λ o. o.status) put.answers, ap (λ o. o.line) put.answers);
+    output = put.output;
+    files = stand (ap (λ o. o.writes) put.answers);
+    files_first = inl (stand (ap (λ o. o.writes) put.answers));
+    source = unread _;
+    outside = λ failed. cc;
+    none_rose = λ ok. let both = quiet ok in record { shelf = both.0; input = both.1; out = put.kept ok };
+  }
+  put_step (Err (stop.Complaint given)) put quiet = record {
     answers = (ap (λ o. o.status) put.answers, ap (λ o. o.line) put.answers);
     output = put.output;
     files = unmade (ap (λ o. o.writes) put.answers);
-    files_first = inl (unmade (ap (λ o. o.writes) put.answers));
+    files_first = inl (stand (ap (λ o. o.writes) put.answers));
     source = unread _;
     outside = λ failed. cc;
+    none_rose = λ ok. cc;
   }
-  put_step (Err (stop.Complaint given)) put = record {
-    answers = (ap (λ o. o.status) put.answers, ap (λ o. o.line) put.answers);
-    output = put.output;
-    files = unmade (ap (λ o. o.writes) put.answers);
-    files_first = inl (unmade (ap (λ o. o.writes) put.answers));
-    source = unread _;
-    outside = λ failed. cc;
-  }
-  put_step (Err stop.Outside) put = record {
+  put_step (Err stop.Outside) put quiet = record {
     answers = tt;
     output = put.output;
     files = stays_part due.writes old.shelf.told new.shelf.told files;
-    files_first = inl (unmade (ap (λ o. o.writes) put.answers));
+    files_first = inl (stand (ap (λ o. o.writes) put.answers));
     source = unread _;
     outside = λ failed. output_failed due old new put.answers (put.outside failed);
+    none_rose = λ ok. cc;
   }
-  put_step (Err stop.Memory) put = record {
+  put_step (Err stop.Memory) put quiet = record {
     answers = tt;
     output = put.output;
     files = stays_part due.writes old.shelf.told new.shelf.told files;
-    files_first = elim (put.memory refl) [ inl is ↦ inl (unmade (ap (λ o. o.writes) is)) | inr unput ↦ inr unput ];
+    files_first = elim (put.memory refl) [ inl is ↦ inl (stand (ap (λ o. o.writes) is)) | inr unput ↦ inr unput ];
     source = unread _;
     outside = λ failed. cc;
+    none_rose = λ ok. cc;
   }
 
 -- a put, which is due
-pub put_comes : (Due : Outcome → Type 0) (early : Early) (due : Outcome) (answer : Result (Unit {0}) Stop) (old new : World) → Due due → PutDoes due answer old.out new.out → new.shelf.told ≡ old.shelf.told → new.input.told ≡ old.input.told → due.session ≡ None → StepComesTo Due early answer old new
-put_comes Due early due answer old new comes put files source alone = inr (due, comes, put_step due old new files source alone answer put)
+pub put_comes : (Due : Outcome → Type 0) (early : Early) (due : Outcome) (answer : Result (Unit {0}) Stop) (old new : World) → Due due → PutDoes due answer old.out new.out → new.shelf.told ≡ old.shelf.told → new.input.told ≡ old.input.told → due.session ≡ None → Quiet answer old new → StepComesTo Due early answer old new
+put_comes Due early due answer old new comes put files source alone quiet = inr (due, comes, put_step due old new files source alone answer put quiet)
 
 -- nothing was done, and a complaint is due
 pub complains : (Due : Outcome → Type 0) (early : Early) (due : Outcome) (given same : Complaint) (old new : World) → Due due → due ≡ outcome_of same → given ≡ same → Unmoved old new → StepComesTo Due early (Err (stop.Complaint given)) old new
 complains Due early due given same old new comes is as_given unmoved =
     subst (λ (c : Complaint). StepComesTo Due early (Err (stop.Complaint c)) old new) (sym as_given)
-    (put_comes Due early due (Err (stop.Complaint same)) old new comes (complained due same old.out new.out is unmoved.output) unmoved.files unmoved.source (ap (λ o. o.session) is))
+    (put_comes Due early due (Err (stop.Complaint same)) old new comes (complained due same old.out new.out is unmoved.output) unmoved.files unmoved.source (ap (λ o. o.session) is) (λ ok. cc))
 
 -- what is due is the same for each text
 pub on_any_text : (of_text : List ℕ → Outcome) (same : Outcome) (answer : Result (Unit {0}) Stop) (old new : World) → ((text : List ℕ) → of_text text ≡ same) → StepDoes same answer old new → StepOnText of_text answer old new
@@ -178,8 +201,8 @@ on_any_text of_text same answer old new is does =
     inr (same, (text, has_told_text old.input.told, sym (is text)), does)
 
 -- a put, where what is due is the same for each text
-pub put_on_text : (of_text : List ℕ → Outcome) (same : Outcome) (answer : Result (Unit {0}) Stop) (old new : World) → PutDoes same answer old.out new.out → new.shelf.told ≡ old.shelf.told → new.input.told ≡ old.input.told → same.session ≡ None → ((text : List ℕ) → of_text text ≡ same) → StepOnText of_text answer old new
-put_on_text of_text same answer old new put files source alone is = on_any_text of_text same answer old new is (put_step same old new files source alone answer put)
+pub put_on_text : (of_text : List ℕ → Outcome) (same : Outcome) (answer : Result (Unit {0}) Stop) (old new : World) → PutDoes same answer old.out new.out → new.shelf.told ≡ old.shelf.told → new.input.told ≡ old.input.told → same.session ≡ None → Quiet answer old new → ((text : List ℕ) → of_text text ≡ same) → StepOnText of_text answer old new
+put_on_text of_text same answer old new put files source alone quiet is = on_any_text of_text same answer old new is (put_step same old new files source alone answer put quiet)
 
 -- the bytes are no image
 pub image_unopened : (Sound : Outcome → Type 0) (b : List ℕ) (given : Stop) (now : World) → Opens {A = List ℕ} b (Err given) → StepComesTo (OpenedComesTo Sound (first_damage b)) reading (Err given) now now
@@ -190,7 +213,7 @@ image_unopened Sound b stop.Memory now none = out_of_memory (OpenedComesTo Sound
 
 -- A step behind a call of the shelf that changed no file
 
-module _ (shelf : Seen Files) (now new : World) where
+module _ (shelf : ShelfSeen) (now new : World) where
   abbrev old : World
   old = record { shelf = shelf; input = now.input; out = now.out }
 
@@ -206,9 +229,12 @@ module _ (shelf : Seen Files) (now new : World) where
   source_behind None Ends read = read
   source_behind (Some b) Ends held = record { answered = held.answered; ends = held.ends; ended_by = ended_behind held.answered held.ended_by; reads = held.reads; new_reads = held.new_reads; serves = held.serves }
 
-  module _ (up : shelf.faults ≤ now.shelf.faults) where
-    sooner : Failed now.shelf new.shelf → Failed shelf new.shelf
-    sooner = rose_sooner shelf.faults now.shelf.faults new.shelf.faults up
+  module _ (kept : now.shelf.faults ≡ shelf.faults) where
+    sooner : ShelfFailed now.shelf new.shelf → ShelfFailed shelf new.shelf
+    sooner = subst (λ (count : ℕ). Rose count new.shelf.faults) kept
+
+    pub none_sooner : NoneRose now new → NoneRose old new
+    none_sooner none = record { shelf = none.shelf ∙ kept; input = none.input; out = none.out }
 
     pub early_sooner : (early : Early) → FailedEarly early now new → FailedEarly early old new
     early_sooner early (reads, failed) = (reads, sooner failed)
@@ -225,36 +251,46 @@ module _ (shelf : Seen Files) (now new : World) where
     work_sooner None status.Outside failed = absurd failed
     work_sooner None status.Memory failed = absurd failed
 
-  pub first_behind : (writes : Writes) → now.shelf.told ≡ shelf.told → FilesFirst writes now new → FilesFirst writes old new
-  first_behind writes same (inl made) = inl (subst (λ (told : Option Files). MadeAll writes told new.shelf.told) same made)
+  pub stand_behind : (writes : Writes) → now.shelf.told ≡ shelf.told → StandAll writes now.shelf new.shelf → StandAll writes shelf new.shelf
+  stand_behind writes same all = record { made = subst (λ (told : Option Files). MadeAll writes told new.shelf.told) same all.made; whole = all.whole }
+
+  made_behind : (writes : Writes) (answer : Result (Unit {0}) Stop) → now.shelf.told ≡ shelf.told → FilesMade answer writes now.shelf new.shelf → FilesMade answer writes shelf new.shelf
+  made_behind writes (Ok _) same made = stand_behind writes same made
+  made_behind writes (Err (stop.Complaint given)) same made = subst (λ (told : Option Files). MadeAll writes told new.shelf.told) same made
+  made_behind writes (Err stop.Outside) same made = subst (λ (told : Option Files). MadePart writes told new.shelf.told) same made
+  made_behind writes (Err stop.Memory) same made = subst (λ (told : Option Files). MadePart writes told new.shelf.told) same made
+
+  first_behind : (writes : Writes) → now.shelf.told ≡ shelf.told → FilesFirst writes now new → FilesFirst writes old new
+  first_behind writes same (inl all) = inl (stand_behind writes same all)
   first_behind writes same (inr unput) = inr unput
 
-  pub step_behind : (due : Outcome) (answer : Result (Unit {0}) Stop) → now.shelf.told ≡ shelf.told → shelf.faults ≤ now.shelf.faults → StepDoes due answer now new → StepDoes due answer old new
-  step_behind due answer same up step = record {
+  pub step_behind : (due : Outcome) (answer : Result (Unit {0}) Stop) → now.shelf.told ≡ shelf.told → now.shelf.faults ≡ shelf.faults → StepDoes due answer now new → StepDoes due answer old new
+  step_behind due answer same kept step = record {
     answers = step.answers;
     output = step.output;
-    files = subst (λ (told : Option Files). FilesMade answer due.writes told new.shelf.told) same step.files;
+    files = made_behind due.writes answer same step.files;
     files_first = first_behind due.writes same step.files_first;
     source = source_behind due.session _ step.source;
-    outside = λ failed. work_sooner up due.session due.status (step.outside failed);
+    outside = λ failed. work_sooner kept due.session due.status (step.outside failed);
+    none_rose = λ ok. none_sooner kept (step.none_rose ok);
   }
 
 -- A step on the file of a path
 
 -- behind the read of the file
-pub file_read : (Bytes : List ℕ → Outcome → Type 0) (path b : List ℕ) (shelf : Seen Files) (now new : World) (answer : Result (Unit {0}) Stop) → ReadsFile shelf.told path (Ok b) → now.shelf.told ≡ shelf.told → shelf.faults ≤ now.shelf.faults → StepComesTo (Bytes b) reading answer now new → StepComesTo (FileComesTo shelf.told path Bytes) reading answer (record { shelf = shelf; input = now.input; out = now.out }) new
-file_read Bytes path b shelf now new answer has same up (inl fails) = inl (record {
+pub file_read : (Bytes : List ℕ → Outcome → Type 0) (path b : List ℕ) (shelf : ShelfSeen) (now new : World) (answer : Result (Unit {0}) Stop) → ReadsFile shelf.told path (Ok b) → now.shelf.told ≡ shelf.told → now.shelf.faults ≡ shelf.faults → StepComesTo (Bytes b) reading answer now new → StepComesTo (FileComesTo shelf.told path Bytes) reading answer (record { shelf = shelf; input = now.input; out = now.out }) new
+file_read Bytes path b shelf now new answer has same kept (inl fails) = inl (record {
   failed = fails.failed;
   files = subst (λ (told : Option Files). MadePart [] told new.shelf.told) same fails.files;
   source = fails.source;
   output = fails.output;
-  outside = λ failed. early_sooner shelf now new up reading (fails.outside failed);
+  outside = λ failed. early_sooner shelf now new kept reading (fails.outside failed);
 })
-file_read Bytes path b shelf now new answer has same up (inr (due, is, step)) =
-    inr (due, (Some b, has, is), step_behind shelf now new due answer same up step)
+file_read Bytes path b shelf now new answer has same kept (inr (due, is, step)) =
+    inr (due, (Some b, has, is), step_behind shelf now new due answer same kept step)
 
 -- the file isn't there, or its read failed
-pub file_unread : (Bytes : List ℕ → Outcome → Type 0) (path : List ℕ) (given : Stop) (old new : World) → ReadsFile old.shelf.told path (Err given) → Unmoved old new → (given ≡ stop.Outside → Failed old.shelf new.shelf) → StepComesTo (FileComesTo old.shelf.told path Bytes) reading (Err given) old new
+pub file_unread : (Bytes : List ℕ → Outcome → Type 0) (path : List ℕ) (given : Stop) (old new : World) → ReadsFile old.shelf.told path (Err given) → Unmoved old new → (given ≡ stop.Outside → ShelfFailed old.shelf new.shelf) → StepComesTo (FileComesTo old.shelf.told path Bytes) reading (Err given) old new
 file_unread Bytes path (stop.Complaint given) old new (none, is) unmoved rose =
     complains (FileComesTo old.shelf.told path Bytes) reading (not_there path) given (complaint.NotThere path) old new (None, none, refl) refl is unmoved
 file_unread Bytes path stop.Outside old new read unmoved rose = fails_at_once (FileComesTo old.shelf.told path Bytes) reading (Err stop.Outside) old new tt unmoved (λ failed. (refl, rose refl))

@@ -20,6 +20,7 @@ use Rattle.jm_commands.specs.Sinks.{Failed, Seen}
 use Rattle.jm_commands.specs.World.{World}
 use Rattle.jm_outside.specs.Files.{Files}
 use Rattle.jm_outside.specs.Made.{written}
+use Rattle.jm_outside.specs.Shelves.{ShelfFailed}
 
 -- a shelf with one image
 abbrev shelf : List ℕ → Option Files
@@ -111,10 +112,10 @@ module _ (old new : World) (err new_err : Seen (List ℕ)) where
   for_words (inl never) = absurd never
   for_words (inr line) = line
 
-  for_damage : FailedBefore (refused status.Damaged (codes "damaged: BadNode 0")) old new err new_err → Failed old.shelf new.shelf ⊎ Failed err new_err
+  for_damage : FailedBefore (refused status.Damaged (codes "damaged: BadNode 0")) old new err new_err → ShelfFailed old.shelf new.shelf ⊎ Failed err new_err
   for_damage failed = failed
 
-  for_output : FailedBefore (done (codes "hi")) old new err new_err → Failed old.shelf new.shelf ⊎ Failed old.out new.out
+  for_output : FailedBefore (done (codes "hi")) old new err new_err → ShelfFailed old.shelf new.shelf ⊎ Failed old.out new.out
   for_output (inl work) = work
   for_output (inr never) = absurd never
 

@@ -1,6 +1,6 @@
 -- What `cat` puts of an image (this project's rule).
 use Rattle.std.specs.Prelude.{ℕ, ◌≡◌, true, false, Bool, List, [], Option, Some, None, is_some}
-use Rattle.std.specs.Prelude.{Result, Ok, IfOk, OnOk, OnErr, IsErrOf}
+use Rattle.std.specs.Prelude.{Result, Ok, IfOk, OnOk, OnErr, IsOk, IsErrOf}
 use Rattle.jm_form.specs.declared.rows.Row.{Row}
 use Rattle.jm_outside.specs.Outcome.{CountsFaults}
 use Rattle.jm_outside.specs.declared.streams.SinkError.{SinkError}
@@ -22,4 +22,5 @@ pub record CatDoes (found : Option (Row × List ℕ)) (answer : Result Bool Sink
   pub front : OnErr answer (GetsFront (content_of found) out new_out)
   pub an_entry : OnErr answer (is_some found ≡ true)
   pub memory : IsErrOf answer sink_error.Memory → new_out.told ≡ out.told
-  pub faults : CountsFaults out.faults new_out.faults (IsErrOf answer sink_error.Failed)
+  pub faults : CountsFaults out.faults new_out.faults (IsOk answer)
+      (IsErrOf answer sink_error.Failed)

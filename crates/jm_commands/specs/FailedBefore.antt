@@ -3,6 +3,7 @@ use Rattle.std.specs.Prelude.{ℕ, ◌≡◌, ◌⊎◌, true, List, Option, Som
 use Rattle.jm_commands.specs.declared.status.Status.{Status}
 use Rattle.jm_commands.specs.declared.status.Status.TheVariants as status
 use Rattle.jm_commands.specs.Outcome.{Early, Outcome}
+use Rattle.jm_outside.specs.Shelves.{ShelfFailed}
 use Rattle.jm_commands.specs.Sinks.{Failed, Seen}
 use Rattle.jm_commands.specs.World.{World}
 
@@ -11,10 +12,10 @@ use Rattle.jm_commands.specs.World.{World}
 -- and `NotThere` the shelf, and of all others none
 abbrev pub WorkFailed : Option (List ℕ) → Status → World → World → Type 0
 WorkFailed (Some b) is old new = Failed old.input new.input ⊎ Failed old.out new.out
-WorkFailed None status.Done old new = Failed old.shelf new.shelf ⊎ Failed old.out new.out
-WorkFailed None status.Refused old new = Failed old.shelf new.shelf
-WorkFailed None status.Damaged old new = Failed old.shelf new.shelf
-WorkFailed None status.NotThere old new = Failed old.shelf new.shelf
+WorkFailed None status.Done old new = ShelfFailed old.shelf new.shelf ⊎ Failed old.out new.out
+WorkFailed None status.Refused old new = ShelfFailed old.shelf new.shelf
+WorkFailed None status.Damaged old new = ShelfFailed old.shelf new.shelf
+WorkFailed None status.NotThere old new = ShelfFailed old.shelf new.shelf
 WorkFailed None status.Words old new = ⊥
 WorkFailed None status.Session old new = ⊥
 WorkFailed None status.Outside old new = ⊥
@@ -38,4 +39,4 @@ FailedBefore due old new err new_err =
 
 -- the shelf failed before it was known what is due, in work that reads files
 abbrev pub FailedEarly : Early → World → World → Type 0
-FailedEarly early old new = (early.reads ≡ true) × Failed old.shelf new.shelf
+FailedEarly early old new = (early.reads ≡ true) × ShelfFailed old.shelf new.shelf

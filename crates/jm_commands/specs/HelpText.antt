@@ -88,4 +88,4 @@ help_text = usage_text ++ commands_text ++ options_text ++ plug_ins_text ++ stat
 
 -- the text of `--version`
 abbrev pub version_text : List ℕ
-version_text = codes "jm_tool 0.1.0\n"
+version_text = codes "jm_tool 1.0.0\n"

@@ -1,9 +1,11 @@
 -- What a run did to the outside, said by what its command comes to (this project's rule).
-use Rattle.std.specs.Prelude.{ℕ, ◌≡◌, ◌⊎◌, List, [], Option, Some, None, option_map}
+use Rattle.std.specs.Prelude.{ℕ, ◌≡◌, ◌≢◌, ◌⊎◌, IsTrue, IsOk, List, [], Option, Some, None}
+use Rattle.std.specs.Prelude.{option_map}
 use Rattle.std.specs.Prelude.{Result, Ok, Err}
 use Rattle.jm_form.specs.declared.damage.Damage.{Damage}
 use Rattle.jm_form.specs.Damages.{first_damage}
 use Rattle.jm_outside.specs.Made.{MadeAll, MadePart, Writes, written}
+use Rattle.jm_outside.specs.Shelves.{ShelfSeen}
 use Rattle.jm_jrt.specs.TreesShown.{ShowsTrees}
 use Rattle.jm_texts.specs.declared.refusal.Refusal.{Refusal}
 use Rattle.jm_link.specs.Linked.{LinkedImage}
@@ -28,7 +30,7 @@ use Rattle.jm_commands.specs.Outcome.{Task, Puts, Describes, OnImage, Links, Mak
 use Rattle.jm_commands.specs.SessionHeld.{EndsAs, SourceRead, StopsAs}
 use Rattle.jm_commands.specs.Sinks.{Seen, Failed, Gets, GetsFront}
 use Rattle.jm_commands.specs.Texts.{complaint_text, line_of}
-use Rattle.jm_commands.specs.World.{World}
+use Rattle.jm_commands.specs.World.{NoneRose, World}
 
 -- What the words come to
 
@@ -166,12 +168,18 @@ Outputs (Err (stop.Complaint complaint)) output old new = Gets output old new
 Outputs (Err stop.Outside) output old new = GetsFront output old new
 Outputs (Err stop.Memory) output old new = GetsFront output old new
 
--- the files are made, but some of them where the outside failed or no memory was found
-abbrev pub FilesMade : Result (Unit {0}) Stop → Writes → Option Files → Option Files → Type 0
-FilesMade (Ok _) writes old new = MadeAll writes old new
-FilesMade (Err (stop.Complaint complaint)) writes old new = MadeAll writes old new
-FilesMade (Err stop.Outside) writes old new = MadePart writes old new
-FilesMade (Err stop.Memory) writes old new = MadePart writes old new
+-- all files were made, and, where there are any, they stand whole under their own names
+pub record StandAll (writes : Writes) (old new : ShelfSeen) : Type 0 where
+  pub made : MadeAll writes old.told new.told
+  pub whole : writes ≢ [] → IsTrue new.whole
+
+-- the files are made, and stand behind a step that is done; but some of them are made where the
+-- outside failed or no memory was found
+abbrev pub FilesMade : Result (Unit {0}) Stop → Writes → (old new : ShelfSeen) → Type 0
+FilesMade (Ok _) writes old new = StandAll writes old new
+FilesMade (Err (stop.Complaint complaint)) writes old new = MadeAll writes old.told new.told
+FilesMade (Err stop.Outside) writes old new = MadePart writes old.told new.told
+FilesMade (Err stop.Memory) writes old new = MadePart writes old.told new.told
 
 -- a failure of the outside, or want of memory
 abbrev pub IsFailure : Result (Unit {0}) Stop → Type 0
@@ -180,20 +188,21 @@ IsFailure (Err (stop.Complaint complaint)) = ⊥
 IsFailure (Err stop.Outside) = Unit {0}
 IsFailure (Err stop.Memory) = Unit {0}
 
--- the output is put behind all files: they stand whole, or nothing was put
+-- the output is put behind all files: they stand whole, under their own names, or nothing was put
 abbrev pub FilesFirst : Writes → World → World → Type 0
 FilesFirst writes old new =
-    MadeAll writes old.shelf.told new.shelf.told ⊎ (new.out.told ≡ old.out.told)
+    StandAll writes old.shelf new.shelf ⊎ (new.out.told ≡ old.out.told)
 
 -- what any step does, where this is what the command comes to
 pub record StepDoes (due : Outcome) (answer : Result (Unit {0}) Stop) (old new : World)
     : Type 0 where
   pub answers : Answers due answer
   pub output : Outputs answer due.output old.out new.out
-  pub files : FilesMade answer due.writes old.shelf.told new.shelf.told
+  pub files : FilesMade answer due.writes old.shelf new.shelf
   pub files_first : FilesFirst due.writes old new
   pub source : SourceRead due.session (StopsAs answer) old new
   pub outside : answer ≡ Err stop.Outside → WorkFailed due.session due.status old new
+  pub none_rose : IsOk answer → NoneRose old new
 
 -- a step failed before it was known what the command comes to: with nothing put and nothing read
 -- from the source, and of these files some made
@@ -235,6 +244,7 @@ pub record PutDoes (due : Outcome) (answer : Result (Unit {0}) Stop)
   pub answers : AnswersAll due answer
   pub output : Outputs answer due.output out new_out
   pub outside : answer ≡ Err stop.Outside → Failed out new_out
+  pub kept : IsOk answer → new_out.faults ≡ out.faults
   pub memory : answer ≡ Err stop.Memory → (due ≡ done due.output) ⊎ (new_out.told ≡ out.told)
 
 -- A run
@@ -280,11 +290,14 @@ EndsWith due is old new err new_err = (is ≡ due.status) × DoesAll due old new
 abbrev pub IsFailed : Status → Type 0
 IsFailed is = (is ≡ status.Outside) ⊎ (is ≡ status.Memory)
 
--- what a whole run does, where this is what the words come to
+-- what a whole run does, where this is what the words come to; with `Done` the files stand whole
+-- under their own names, and no call failed
 pub record RunDoes (due : Outcome) (is : Status) (old new : World) (err new_err : Seen (List ℕ))
     : Type 0 where
   pub ends : EndsWith due is old new err new_err
   pub source : SourceRead due.session (EndsAs is err new_err) old new
+  pub stand : is ≡ status.Done → StandAll due.writes old.shelf new.shelf
+  pub none_rose : is ≡ status.Done → NoneRose old new × (new_err.faults ≡ err.faults)
 
 -- a run failed before it was known what the words come to: with nothing put and nothing read from
 -- the source, and of these files some made

@@ -1,8 +1,8 @@
--- A shelf or a sink as the proofs see it, and what a sink gets (this project's rule).
+-- A source or a sink as the proofs see it, and what a sink gets (this project's rule).
 use Rattle.std.specs.Prelude.{ℕ, ◌≡◌, ◌++◌, List, Option, option_map}
 use Rattle.jm_outside.specs.Outcome.{PutsFront, Rose, Told}
 
--- what a shelf, a source or a sink tells, if it tells it, and its count of faults
+-- what a source or a sink tells, if it tells it, and its count of faults
 pub record Seen (A : Type 0) : Type 0 where
   pub told : Option A
   pub faults : ℕ
@@ -11,7 +11,7 @@ pub record Seen (A : Type 0) : Type 0 where
 abbrev pub seen : {A : Type 0} → Option A → ℕ → Seen A
 seen told faults = record { told = told; faults = faults }
 
--- a shelf, a source or a sink failed: its count of faults rose
+-- a source or a sink failed: its count of faults rose
 abbrev pub Failed : {A : Type 0} → Seen A → Seen A → Type 0
 Failed old new = Rose old.faults new.faults
 

@@ -2,11 +2,12 @@ ghost use Rattle.std.specs.Prelude.{◌≡◌, IsUtf8, List, ℕ};
 ghost use Rattle.jm_class.specs.Views.{plain};
 ghost use Rattle.jm_class.specs.Classes.{IsClass};
 ghost use Rattle.jm_modinfo.specs.ComputedInfo.{info_of};
+ghost use Rattle.jm_outside.specs.Shelves.{shelf_at};
 ghost use Rattle.jm_commands.specs.Outcome.{describe_outcome, descriptor_outcome, reading};
 ghost use Rattle.jm_commands.specs.Run.{FileComesTo, PutDoes, StepComesTo};
 ghost use Rattle.jm_commands.specs.Sinks.{Seen};
 ghost use Rattle.jm_commands.specs.Stops.{Refuses};
-ghost use Rattle.jm_commands.specs.World.{shelf_at, sink_at, world};
+ghost use Rattle.jm_commands.specs.World.{sink_at, world};
 
 use crate::complaint::Complaint;
 use crate::image_file::file_bytes;

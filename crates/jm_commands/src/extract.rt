@@ -1,12 +1,14 @@
 //! The command `extract`.
-ghost use Rattle.std.specs.Prelude.{◌≡◌, ◌<◌, ℕ, IfOk, IsErrOf, IsUtf8, List};
+ghost use Rattle.std.specs.Prelude.{◌≡◌, ◌<◌, ℕ, IfOk, IsOk, IsErrOf, IsTrue, IsUtf8, List};
+ghost use Rattle.std.specs.Prelude.{OnOk};
 ghost use Rattle.jm_outside.specs.Outcome.{CountsFaults};
+ghost use Rattle.jm_outside.specs.Shelves.{shelf_at};
 ghost use Rattle.jm_extract.specs.Extracted.{Extracts, extracted};
 ghost use Rattle.jm_commands.specs.ExtractText.{extract_text};
 ghost use Rattle.jm_commands.specs.Outcome.{done, extract_outcome};
 ghost use Rattle.jm_commands.specs.Run.{PutDoes, StepDoes};
 ghost use Rattle.jm_commands.specs.Sinks.{Seen};
-ghost use Rattle.jm_commands.specs.World.{shelf_at, sink_at, world};
+ghost use Rattle.jm_commands.specs.World.{sink_at, world};
 
 use crate::opened::Opened;
 use crate::output::put_output;
@@ -56,7 +58,8 @@ fn extract_counted<S: Shelf, R: Ledger>(
     requires reads_some { 0 < reads.parts }
     ensures extracts { Extracts (extracted image.now include.now) dir.now result
         (S.files shelf.old) (S.files shelf.new) }
-    ensures faults { CountsFaults (S.faults shelf.old) (S.faults shelf.new)
+    ensures whole { OnOk result (IsTrue (S.whole shelf.new)) }
+    ensures faults { CountsFaults (S.faults shelf.old) (S.faults shelf.new) (IsOk result)
         (IsErrOf result ExtractStop.Outside) }
 {
     let mut reads = Meter::<R>::new(image.bytes(), reads);

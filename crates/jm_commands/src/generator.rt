@@ -3,12 +3,13 @@ ghost use Rattle.std.specs.Prelude.{◌≡◌, ◌<◌, ◌∷◌, ◌++◌, [],
 ghost use Rattle.std.specs.Prelude.{IsUtf8, List, ℕ, string_bytes};
 ghost use Rattle.jm_link.specs.Links.{Links};
 ghost use Rattle.jm_words.specs.Paths.{FilePathsAreText, NumbersFit};
+ghost use Rattle.jm_outside.specs.Shelves.{shelf_at};
 ghost use Rattle.jm_commands.specs.Gen.{generated_request};
 ghost use Rattle.jm_commands.specs.LinkText.{gen_text};
 ghost use Rattle.jm_commands.specs.Outcome.{done, early_of, gen_of, task_of};
 ghost use Rattle.jm_commands.specs.Run.{CommandComesTo, PutDoes, StepComesTo};
 ghost use Rattle.jm_commands.specs.Sinks.{Seen};
-ghost use Rattle.jm_commands.specs.World.{shelf_at, sink_at, world};
+ghost use Rattle.jm_commands.specs.World.{sink_at, world};
 
 use crate::output::put_output;
 use crate::stop::Stop;
@@ -48,7 +49,7 @@ fn link_generated<T: Threads + Sync, S: Shelf, G: Gate + Sync>(
     requires dir { IsUtf8 dir.now }
     requires mods { IsUtf8 mods }
     ensures { Links (mods ∷ []) (generated_request modules) (dir.now ++ codes "/image") result
-        (S.files shelf.old) (S.files shelf.new) (S.faults shelf.old) (S.faults shelf.new) }
+        (shelf_at S.Shelf shelf.old) (shelf_at S.Shelf shelf.new) }
 {
     let mut directories = List::new(workers.alloc);
     directories.push(mods)?;

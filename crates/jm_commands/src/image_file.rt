@@ -1,4 +1,4 @@
-ghost use Rattle.std.specs.Prelude.{◌≡◌, ◌<◌, IsErrOf, IsUtf8};
+ghost use Rattle.std.specs.Prelude.{◌≡◌, ◌<◌, IsOk, IsErrOf, IsUtf8};
 ghost use Rattle.jm_form.specs.Validity.{look};
 ghost use Rattle.jm_outside.specs.Outcome.{CountsFaults};
 ghost use Rattle.jm_commands.specs.Cat.{CatDoes};
@@ -55,7 +55,7 @@ pub fn file_bytes<S: Shelf>(alloc: Global, path: &Text, shelf: &mut S) -> Result
     requires { IsUtf8 path.now }
     ensures files { S.files shelf.new ≡ S.files shelf.old }
     ensures reads { ReadsFile (S.files shelf.old) path.now result }
-    ensures faults { CountsFaults (S.faults shelf.old) (S.faults shelf.new)
+    ensures faults { CountsFaults (S.faults shelf.old) (S.faults shelf.new) (IsOk result)
         (IsErrOf result Stop.Outside) }
 {
     match shelf.read(alloc, path.as_slice()) {

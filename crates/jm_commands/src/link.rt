@@ -4,13 +4,14 @@ ghost use Rattle.std.specs.Prelude.{string_bytes};
 ghost use Rattle.jm_link.specs.ImageLinked.{ImageLinks};
 ghost use Rattle.jm_link.specs.Links.{request_of};
 ghost use Rattle.jm_words.specs.Paths.{FilePathsAreText};
+ghost use Rattle.jm_outside.specs.Shelves.{shelf_at};
 ghost use Rattle.jm_commands.specs.LinkText.{link_text};
 ghost use Rattle.jm_commands.specs.Outcome.{done, early_of, link_from, link_of, reading};
 ghost use Rattle.jm_commands.specs.Outcome.{task_of};
 ghost use Rattle.jm_commands.specs.Run.{CommandComesTo, ImageComes, ImageLinkComesTo};
 ghost use Rattle.jm_commands.specs.Run.{PathLinkComesTo, PutDoes, StepComesTo};
 ghost use Rattle.jm_commands.specs.Sinks.{Seen};
-ghost use Rattle.jm_commands.specs.World.{shelf_at, sink_at, world};
+ghost use Rattle.jm_commands.specs.World.{sink_at, world};
 
 use crate::image_file::file_bytes;
 use crate::opened::Opened;
@@ -100,7 +101,7 @@ fn link_counted<T: Threads + Sync, S: Shelf, G: Gate + Sync, R: Ledger>(
     requires reads_parts { reads.parts ≡ R.parts }
     requires reads_some { 0 < reads.parts }
     ensures { ImageLinks image.now (request_of asked.now) asked.now.output.now result
-        (S.files shelf.old) (S.files shelf.new) (S.faults shelf.old) (S.faults shelf.new) }
+        (shelf_at S.Shelf shelf.old) (shelf_at S.Shelf shelf.new) }
 {
     let mut reads = Meter::<R>::new(image.bytes(), reads);
     link_image(

@@ -1,12 +1,11 @@
 //! The command `serve`.
-ghost use Rattle.std.specs.Prelude.{◌≡◌, ◌<◌, IsErrOf};
+ghost use Rattle.std.specs.Prelude.{◌≡◌, ◌<◌, IsOk, IsErrOf};
 ghost use Rattle.jm_bytes.specs.Metered.{Metered};
-ghost use Rattle.jm_outside.specs.Files.{Files};
 ghost use Rattle.jm_outside.specs.Outcome.{CountsFaults};
+ghost use Rattle.jm_outside.specs.Shelves.{ShelfSeen};
 ghost use Rattle.jm_jrt.specs.Sessions.{Serves};
 ghost use Rattle.jm_commands.specs.Outcome.{session_outcome};
 ghost use Rattle.jm_commands.specs.Run.{StepOnText};
-ghost use Rattle.jm_commands.specs.Sinks.{Seen};
 ghost use Rattle.jm_commands.specs.Stops.{stop_of_session};
 ghost use Rattle.jm_commands.specs.World.{sink_at, source_at, world};
 
@@ -38,9 +37,9 @@ fn serve_counted<I: Source, O: Sink, H: Ledger, R: Ledger>(
     ensures serves { (before : Metered) × (after : Metered) × Serves image.now result
         (I.rest input.old) (I.rest input.new) (O.content out.old) (O.content out.new)
         before after }
-    ensures input_faults { CountsFaults (I.faults input.old) (I.faults input.new)
+    ensures input_faults { CountsFaults (I.faults input.old) (I.faults input.new) (IsOk result)
         (IsErrOf result ServeError.ReadFault) }
-    ensures out_faults { CountsFaults (O.faults out.old) (O.faults out.new)
+    ensures out_faults { CountsFaults (O.faults out.old) (O.faults out.new) (IsOk result)
         (IsErrOf result ServeError.WriteFault) }
 {
     let mut hashes = Steps::<H>::new(hashes);
@@ -70,7 +69,7 @@ pub fn serve_command<I: Source, O: Sink>(
     input: &mut I,
     out: &mut O,
 ) -> Result<(), Stop>
-    ensures { (shelf : Seen Files) →
+    ensures { (shelf : ShelfSeen) →
         StepOnText (session_outcome image.now) result
         (world shelf (source_at I.Source input.old) (sink_at O.Sink out.old))
         (world shelf (source_at I.Source input.new) (sink_at O.Sink out.new)) }

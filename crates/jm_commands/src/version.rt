@@ -13,5 +13,5 @@ pub fn version_command<O: Sink>(alloc: Global, out: &mut O) -> Result<(), Stop>
     ensures { PutDoes (done version_text) result
         (sink_at O.Sink out.old) (sink_at O.Sink out.new) }
 {
-    put_output(alloc, b"jm_tool 0.1.0\n", out)
+    put_output(alloc, b"jm_tool 1.0.0\n", out)
 }

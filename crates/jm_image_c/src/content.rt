@@ -10,7 +10,7 @@ use jm_valid::Image;
 use std::sync::ledger::{Blank, Ledger};
 
 /// Where the content of the entry of a name stands. It costs at most two hashes, and at most the
-/// name's bytes and 76 more of the index; no byte of the content.
+/// name's bytes and 76 more.
 fn content_named<H: Ledger, R: Ledger>(
     image: &Image,
     name: &[u8],

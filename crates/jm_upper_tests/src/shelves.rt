@@ -33,6 +33,7 @@ fn tell_answer<S: Shelf>(
             None => extend(out, b"-")?,
         },
         "create" => shelf.create(alloc, path.as_bytes())?,
+        "finish" => shelf.finish(alloc)?,
         _ => shelf.append(alloc, path.as_bytes(), bytes.as_bytes())?,
     }
     Ok(())
@@ -93,6 +94,7 @@ pub const TREE: &[&str] = &[
     "nothing is added to the third|append|d/a/b.txt||",
     "nor a second time|append|d/a/b.txt||",
     "once more to the second|append|d/a b|2|",
+    "the making of files ends|finish|||",
     "all rise by their bytes|names|d||a b,a/b.txt,a/b/two words.txt,",
     "what was added since it was made anew|read|d/a b||22",
     "an empty file|read|d/a/b.txt||",
@@ -100,18 +102,20 @@ pub const TREE: &[&str] = &[
     "no file|read|d/a/c||-",
 ];
 
-/// The first four calls fail, the last of them with half its bytes added.
+/// The first five calls fail, the fourth of them with half its bytes added.
 const FAILING: &[&str] = &[
     "a list fails|names|d||!",
     "a read fails|read|d/a||!",
     "a create fails|create|d/a||!",
     "an append fails|append|d/a|12345|!",
+    "a finish fails|finish|||!",
     "a list|names|d||a,",
     "half was added|read|d/a||one12",
     "the same list|names|d||a,",
     "the same read|read|d/a||one12",
     "a create|create|d/a||",
     "an append|append|d/a|12345|",
+    "a finish|finish|||",
     "the list is as before|names|d||a,",
     "the file has what was added|read|d/a||12345",
 ];
@@ -126,7 +130,7 @@ fn a_shelf_in_memory_keeps_files(rt: HostRuntime) -> Result<(), Fail> {
 
 #[test]
 fn a_shelf_in_memory_fails_the_listed_calls(rt: HostRuntime) -> Result<(), Fail> {
-    let mut shelf = shelf_of(rt.alloc(), &[("d/a", b"one")], &[0, 1, 2, 3])?;
+    let mut shelf = shelf_of(rt.alloc(), &[("d/a", b"one")], &[0, 1, 2, 3, 4])?;
     assert_eq!(rt; unlike(rt.alloc(), &mut shelf, FAILING)?, None);
     assert_eq!(rt; shelf.file(b"d/a"), Some(b"12345".as_slice()));
     Ok(())

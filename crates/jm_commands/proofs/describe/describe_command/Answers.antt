@@ -1,6 +1,7 @@
 use Rattle.std.proofs.Common.{◌≡◌, refl}
 use Rattle.jm_commands.specs.Outcome.{describe_outcome, reading}
-use Rattle.jm_commands.specs.World.{shelf_at, sink_at, world}
+use Rattle.jm_outside.specs.Shelves.{shelf_at}
+use Rattle.jm_commands.specs.World.{sink_at, world}
 use Rattle.jm_commands.proofs.OutcomeLaws.{describe_session}
 use Rattle.jm_commands.proofs.StepLaws.{file_read, file_unread, put_comes}
 use Rattle.jm_commands.proofs.describe.describe_command.Goals as goal
@@ -13,8 +14,8 @@ returns-in-Ok g c source =
     let put = rw (c.as_slice.ensures, c.as_slice-in-Ok.ensures) at c.describe_bytes.ensures in
     file_read (λ bytes due. due ≡ describe_outcome path bytes) path b (shelf_at g.S.Shelf c.args.shelf.now)
     (world (shelf_at g.S.Shelf c.file_bytes.new.shelf) source (sink_at g.O.Sink c.args.out.now))
-    _ _ read.reads read.files read.faults.count
-    (put_comes (λ due. due ≡ describe_outcome path b) reading (describe_outcome path b) _ _ _ refl put refl refl (describe_session path b))
+    _ _ read.reads read.files (read.faults.kept refl)
+    (put_comes (λ due. due ≡ describe_outcome path b) reading (describe_outcome path b) _ _ _ refl put refl refl (describe_session path b) (λ ok. (refl, refl)))
 
 pub returns-in-Err : goal.returns-in-Err
 returns-in-Err g c source =

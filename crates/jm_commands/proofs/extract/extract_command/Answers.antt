@@ -10,4 +10,6 @@ returns-in_err-count g c source =
     rw is (extract_stopped c.args.dir.now _ _ _ refl _ did.extracts (λ failed. did.faults.rose (rw failed refl)) refl)
 
 pub returns : goal.returns
-returns g c source = extract_put c.args.dir.now _ _ _ refl _ _ c.in_ok-count.ensures.extracts c.put_count.ensures
+returns g c source =
+    let did = c.in_ok-count.ensures in
+    extract_put c.args.dir.now _ _ _ refl _ _ did.extracts did.whole (did.faults.kept refl) c.put_count.ensures

@@ -18,7 +18,7 @@ returns-in_err-there g c =
 pub returns-then-there : goal.returns-then-there
 returns-then-there g c =
     let put = c.in_ok-there.ensures in
-    content_put (look c.args.image.now c.args.name.now) c.args.name.now _ _ (sym c.if-there.true ∙ put.there) put.put
+    content_put (look c.args.image.now c.args.name.now) c.args.name.now _ _ (sym c.if-there.true ∙ put.there) put.put (put.faults.kept refl)
 
 pub returns-in_err-text : goal.returns-in_err-text
 returns-in_err-text g c =

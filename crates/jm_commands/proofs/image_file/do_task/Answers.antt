@@ -11,15 +11,15 @@ pub returns-in-Cat : goal.returns-in-Cat
 returns-in-Cat g c =
     let name = c.as_slice.result.now in
     let found = look c.args.image.now name in
-    rw c.in-Cat.is (put_on_text _ (cat_outcome name found) _ _ _ c.cat_step.ensures refl refl (cat_session name found) (λ text. rw c.as_slice.ensures refl))
+    rw c.in-Cat.is (put_on_text _ (cat_outcome name found) _ _ _ c.cat_step.ensures refl refl (cat_session name found) (λ ok. (refl, refl)) (λ text. rw c.as_slice.ensures refl))
 
 pub returns-in-List : goal.returns-in-List
 returns-in-List g c =
-    rw c.in-List.is (put_on_text _ _ _ _ _ c.list_command.ensures refl refl refl (λ text. refl))
+    rw c.in-List.is (put_on_text _ _ _ _ _ c.list_command.ensures refl refl refl (λ ok. (refl, refl)) (λ text. refl))
 
 pub returns-in-Info : goal.returns-in-Info
 returns-in-Info g c =
-    rw c.in-Info.is (put_on_text _ _ _ _ _ c.info_command.ensures refl refl refl (λ text. refl))
+    rw c.in-Info.is (put_on_text _ _ _ _ _ c.info_command.ensures refl refl refl (λ ok. (refl, refl)) (λ text. refl))
 
 pub returns-in-Extract : goal.returns-in-Extract
 returns-in-Extract g c =
@@ -29,13 +29,13 @@ returns-in-Extract g c =
 
 pub returns-in-Verify : goal.returns-in-Verify
 returns-in-Verify g c =
-    rw c.in-Verify.is (put_on_text _ _ _ _ _ c.verify_command.ensures refl refl refl (λ text. refl))
+    rw c.in-Verify.is (put_on_text _ _ _ _ _ c.verify_command.ensures refl refl refl (λ ok. (refl, refl)) (λ text. refl))
 
 pub returns-in-Ls : goal.returns-in-Ls
 returns-in-Ls g c =
     let path = c.as_slice-in-Ls.result.now in
     let holds = held (stat c.args.image.now path) in
-    rw c.in-Ls.is (put_on_text _ (ls_outcome path holds) _ _ _ c.ls_command.ensures refl refl (ls_session path holds) (λ text. rw c.as_slice-in-Ls.ensures refl))
+    rw c.in-Ls.is (put_on_text _ (ls_outcome path holds) _ _ _ c.ls_command.ensures refl refl (ls_session path holds) (λ ok. (refl, refl)) (λ text. rw c.as_slice-in-Ls.ensures refl))
 
 pub returns-in-Serve : goal.returns-in-Serve
 returns-in-Serve g c = rw c.in-Serve.is (c.serve_command.ensures _)

@@ -1,7 +1,9 @@
 use Rattle.std.proofs.Common.{refl}
 use Rattle.jm_form.specs.Damages.{first_damage}
+use Rattle.jm_outside.specs.Shelves.{shelf_at}
 use Rattle.jm_commands.specs.Outcome.{link_from}
 use Rattle.jm_commands.specs.Run.{ImageLinkComesTo, OpenedComesTo}
+use Rattle.jm_commands.specs.World.{sink_at, world}
 use Rattle.jm_commands.proofs.StepLaws.{file_read, file_unread, image_unopened}
 use Rattle.jm_commands.proofs.link.link_from_image.Goals as goal
 
@@ -11,8 +13,9 @@ returns-in-Ok-of g c source =
     let b = c.as_slice-bytes.result.now in
     let link = link_from c.args.words.now in
     let does = rw c.in-Ok-of.ensures.same at c.link_opened.ensures source in
-    file_read (λ bytes. OpenedComesTo (ImageLinkComesTo link bytes) (first_damage bytes)) c.args.path.now b _ _ _ _
-    (rw c.as_slice-bytes.ensures read.reads) read.files read.faults.count (rw c.in-Ok-of.ensures.opens does)
+    file_read (λ bytes. OpenedComesTo (ImageLinkComesTo link bytes) (first_damage bytes)) c.args.path.now b (shelf_at g.S.Shelf c.args.shelf.now)
+    (world (shelf_at g.S.Shelf c.file_bytes.new.shelf) source (sink_at g.O.Sink c.args.out.now)) _ _
+    (rw c.as_slice-bytes.ensures read.reads) read.files (read.faults.kept refl) (rw c.in-Ok-of.ensures.opens does)
 
 pub returns-in-Ok : goal.returns-in-Ok
 returns-in-Ok g c source =
@@ -20,7 +23,7 @@ returns-in-Ok g c source =
     let b = c.as_slice-bytes.result.now in
     let link = link_from c.args.words.now in
     file_read (λ bytes. OpenedComesTo (ImageLinkComesTo link bytes) (first_damage bytes)) c.args.path.now b _ _ _ _
-    (rw c.as_slice-bytes.ensures read.reads) read.files read.faults.count (image_unopened (ImageLinkComesTo link b) b c.in-Err-of.stop _ c.in-Err-of.ensures.opens)
+    (rw c.as_slice-bytes.ensures read.reads) read.files (read.faults.kept refl) (image_unopened (ImageLinkComesTo link b) b c.in-Err-of.stop _ c.in-Err-of.ensures.opens)
 
 pub returns : goal.returns
 returns g c source =
