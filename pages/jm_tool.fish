@@ -21,6 +21,7 @@ complete -c jm_tool -n '__fish_seen_subcommand_from link' -l exclude-resources -
 complete -c jm_tool -n '__fish_seen_subcommand_from link' -l order-resources -x -d 'puts the resources in the order of the patterns that match their names'
 complete -c jm_tool -n '__fish_seen_subcommand_from link' -l strip-java-debug-attributes -d 'drops what a class says for debuggers'
 complete -c jm_tool -n '__fish_seen_subcommand_from link' -l compact-pool -d 'drops the constants of a class that nothing names'
+complete -c jm_tool -n '__fish_seen_subcommand_from link' -l module-packages -d 'names the packages of each module in its descriptor'
 complete -c jm_tool -n '__fish_seen_subcommand_from link' -l from-image -r -F
 complete -c jm_tool -n '__fish_seen_subcommand_from link' -l jobs -x -d 'works in N pieces, from 1 to 64, with each command; no answer changes'
 complete -c jm_tool -n '__fish_seen_subcommand_from cat' -F
