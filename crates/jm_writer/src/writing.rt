@@ -1,5 +1,6 @@
 //! A drafted image, put into a file.
-ghost use Rattle.std.specs.Prelude.{◌≡◌, ◌++◌, ℕ, List, Option, Some, IsUtf8, OnOk, OnErr, IsOk, IsErrOf};
+ghost use Rattle.std.specs.Prelude.{◌≡◌, ◌++◌, ℕ, List, Option, Some, IsUtf8};
+ghost use Rattle.std.specs.Prelude.{OnOk, OnErr, IsOk, IsErrOf};
 ghost use Rattle.jm_form.specs.Layout.{contents_text, layout};
 ghost use Rattle.jm_outside.specs.Files.{Files};
 ghost use Rattle.jm_outside.specs.Outcome.{CountsFaults};
