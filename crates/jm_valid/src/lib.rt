@@ -17,3 +17,4 @@ pub use image::Image;
 pub use jm_form::Damage;
 pub use open::{open_alone, open_image};
 pub use open_error::OpenError;
+pub use sections::ended_texts;
