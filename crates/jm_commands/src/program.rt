@@ -1,7 +1,7 @@
 ghost use Rattle.std.specs.Prelude.{◌≡◌, ◌<◌, List};
 ghost use Rattle.std.specs.Prelude.{map, string_bytes};
-ghost use Rattle.jm_words.specs.Commands.{command_in};
 ghost use Rattle.jm_words.specs.Paths.{FilePathsAreText, NumbersFit};
+ghost use Rattle.jm_words.specs.Rule.{Says};
 ghost use Rattle.jm_commands.specs.Outcome.{early_in, early_of, task_of};
 ghost use Rattle.jm_commands.specs.Run.{CommandComesTo, EndsStep, ReportDoes, RunComesTo};
 ghost use Rattle.jm_commands.specs.Run.{StepComesTo, WordsComeTo};
@@ -120,19 +120,17 @@ pub fn run<T: Threads + Sync, S: Shelf, I: Source, O: Sink, E: Sink, G: Gate + S
     err: &mut E,
     gate: &G,
 ) -> Status
-    ensures comes { RunComesTo
-        (WordsComeTo (S.files shelf.old) (I.rest input.old)
-        (command_in (map string_bytes words.now)))
-        (early_in (command_in (map string_bytes words.now))) result
+    ensures comes { Says (map string_bytes words.now) (λ asked. RunComesTo
+        (WordsComeTo (S.files shelf.old) (I.rest input.old) asked) (early_in asked) result
         (world_of S.Shelf I.Source O.Sink shelf.old input.old out.old)
         (world_of S.Shelf I.Source O.Sink shelf.new input.new out.new)
-        (sink_at E.Sink err.old) (sink_at E.Sink err.new) }
-    ensures session { ServesRun (served_in (command_in (map string_bytes words.now))) result
+        (sink_at E.Sink err.old) (sink_at E.Sink err.new)) }
+    ensures session { Says (map string_bytes words.now) (λ asked. ServesRun (served_in asked) result
         (world_of S.Shelf I.Source O.Sink shelf.old input.old out.old)
         (world_of S.Shelf I.Source O.Sink shelf.new input.new out.new)
-        (sink_at E.Sink err.old) (sink_at E.Sink err.new) }
-    ensures relinks { RelinksRun (link_in (command_in (map string_bytes words.now))) result
-        (S.files shelf.old) (S.files shelf.new) }
+        (sink_at E.Sink err.old) (sink_at E.Sink err.new)) }
+    ensures relinks { Says (map string_bytes words.now) (λ asked. RelinksRun (link_in asked) result
+        (S.files shelf.old) (S.files shelf.new)) }
 {
     match read_words(alloc, words) {
         Ok(command) => {

@@ -1,3 +1,4 @@
+pub mod FieldLaws
 pub mod PathLaws
 pub mod ReadingLaws
 pub mod RuleLaws

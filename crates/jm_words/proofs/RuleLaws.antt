@@ -1,6 +1,6 @@
 -- The command that is computed is what the words say, and they say one thing.
 use Rattle.std.proofs.Common.{◌≡◌, ◌⊎◌, ℕ, zero, suc, ◌+◌, ◌<◌, Bool, cond, List, [], ◌∷◌, ◌++◌, length, drop, map, inl, inr, Option, Some, None, Result, Ok, Err, refl, sym, ap, ◌∙◌, subst, append-nil, arith}
-use Rattle.std.specs.Prelude.{fold, count_by, slice_get, unwrap_or}
+use Rattle.std.specs.Prelude.{count_by, slice_get, unwrap_or}
 use Rattle.std.specs.List.{filter_map, cons_option, range_with_len}
 use Rattle.std.proofs.lemmas.Bool.{cases_lt}
 use Rattle.std.proofs.lemmas.List.{drop-drop}
@@ -8,6 +8,7 @@ use Rattle.std.proofs.lemmas.List.Elements.{filter_map-append}
 use Rattle.std.proofs.lemmas.List.FromFn.{map-range_with_len_more}
 use Rattle.std.proofs.lemmas.List.Sums.{fold-append}
 use Rattle.jm_bytes.proofs.Choice.{same_some}
+use Rattle.jm_bytes.proofs.Pairs.{range_with_len-append}
 use Rattle.jm_bytes.specs.Results.{UnlessMemory}
 use Rattle.jm_words.specs.declared.commands.Command.{Command}
 use Rattle.jm_words.specs.declared.drafts.Draft.{Draft}
@@ -18,11 +19,13 @@ use Rattle.jm_words.specs.declared.tables.Verb.{Verb}
 use Rattle.jm_words.specs.declared.tables.Argument.{Argument}
 use Rattle.jm_words.specs.declared.tables.Choice.{Choice}
 use Rattle.jm_words.specs.Commands.{command_after, command_in, command_of, command_or_missing, command_unless_fault, verb_named}
-use Rattle.jm_words.specs.Drafts.{nothing}
+use Rattle.jm_words.specs.declared.given.Given.{Given}
+use Rattle.jm_words.specs.Drafts.{by_field, nothing}
 use Rattle.jm_words.specs.Reading.{Standing, after_role, after_sound, after_words, draft_or_fault, left_behind, reading_of, unless_kind, with_option, with_word}
 use Rattle.jm_words.specs.Roles.{Role, Unknown, Flag, Waits, WithValue, ValueFor, AsArgument, is_argument, named_by, role_of, waiting}
-use Rattle.jm_words.specs.Rule.{AreSound, IsFirstFault, SaysAfter, SaysBehind, SaysCommand, draft_at, given_at, kind_at, left_at, options_before, role_at, roles_before, word_at}
+use Rattle.jm_words.specs.Rule.{AreSound, IsFirstFault, SaysAfter, SaysBehind, SaysCommand, command_given, given_at, givens_before, kind_at, left_at, options_before, role_at, roles_before, word_at}
 use Rattle.jm_words.specs.Tables.{arguments, options}
+use Rattle.jm_words.proofs.FieldLaws.{by_field_more}
 use Rattle.jm_words.proofs.ReadingLaws.{after_words_err}
 
 -- Lists
@@ -51,7 +54,7 @@ module _ (verb : Verb) (words : List (List ℕ)) where
   -- what stands at a place
   abbrev standing_at : ℕ → Standing
   standing_at i = record {
-    draft = draft_at verb words i;
+    draft = by_field (givens_before verb words i);
     before = options_before verb words i;
     left = left_at verb words i;
     pending = pending_at i;
@@ -66,10 +69,19 @@ module _ (verb : Verb) (words : List (List ℕ)) where
   roles_more : (i : ℕ) → roles_before verb words (suc i) ≡ roles_before verb words i ++ role_at verb words i ∷ []
   roles_more i = ranged (role_at verb words) i
 
-  draft_more : (i : ℕ) → draft_at verb words (suc i) ≡ with_word (draft_at verb words i) (given_at verb words i)
+  givens_more : (i : ℕ) → givens_before verb words (suc i) ≡ givens_before verb words i ++ cons_option (given_at verb words i) []
+  givens_more i =
+      let one : suc i ≡ i + 1 = omega arith in
+      let same : 0 + i ≡ i = omega arith in
+      ap (λ n. filter_map (given_at verb words) (range_with_len 0 n)) one
+      ∙ ap (filter_map (given_at verb words)) (range_with_len-append 0 i 1)
+      ∙ ap (λ (j : ℕ). filter_map (given_at verb words) (range_with_len 0 i ++ range_with_len j 1)) same
+      ∙ filter_map-append (given_at verb words) (range_with_len 0 i) (i ∷ [])
+
+  draft_more : (i : ℕ) → by_field (givens_before verb words (suc i)) ≡ with_word (by_field (givens_before verb words i)) (given_at verb words i)
   draft_more i =
-      ap (fold with_word nothing) (ranged (given_at verb words) i)
-      ∙ fold-append with_word nothing (map (given_at verb words) (range_with_len 0 i)) (given_at verb words i ∷ [])
+      ap (λ (givens : List Given). by_field givens) (givens_more i)
+      ∙ by_field_more (givens_before verb words i) (given_at verb words i)
 
   options_more : (i : ℕ) → options_before verb words (suc i) ≡ with_option (options_before verb words i) (named_by (role_at verb words i))
   options_more i =
@@ -157,12 +169,12 @@ module _ (verb : Verb) (words : List (List ℕ)) where
   pub behind_says : SaysBehind verb words (command_unless_fault verb (length words + 1) (draft_or_fault (reading_of verb words)))
   behind_says = go (reading_of verb words) all_read
     where
-      made : AreSound verb words → (command : Option Command) → command_of verb (draft_at verb words (length words)) ≡ command → SaysBehind verb words (command_or_missing (length words + 1) command)
+      made : AreSound verb words → (command : Option Command) → command_given verb words ≡ command → SaysBehind verb words (command_or_missing (length words + 1) command)
       made sound None e = inr (sound, e, refl, refl)
       made sound (Some command) e = (sound, e)
 
       go : (read : Result Standing WordsError) → Reads read → SaysBehind verb words (command_unless_fault verb (length words + 1) (draft_or_fault read))
-      go (Ok standing) (sound, same) = rw same (made sound (command_of verb (draft_at verb words (length words))) refl)
+      go (Ok standing) (sound, same) = rw same (made sound (command_given verb words) refl)
       go (Err (Fault at kind)) first = inl first
       go (Err Memory) none = absurd none
 

@@ -2,11 +2,10 @@
 -- first fault of a word in its role decides, and a missing argument or option comes last. A place
 -- is that of a word behind the command, from 0, so the word at place i has the number i + 2.
 use Rattle.std.specs.Prelude.{◌≡◌, ◌⊎◌, ℕ, zero, suc, ◌+◌, ◌<◌, ◌==◌, List, [], ◌∷◌, length, drop}
-use Rattle.std.specs.Prelude.{map, fold, count_by, slice_get, unwrap_or, Option, Some, None}
+use Rattle.std.specs.Prelude.{map, count_by, slice_get, unwrap_or, Option, Some, None}
 use Rattle.std.specs.Prelude.{Result, Ok, Err}
 use Rattle.std.specs.List.{filter_map, range_with_len}
 use Rattle.jm_words.specs.declared.commands.Command.{Command}
-use Rattle.jm_words.specs.declared.drafts.Draft.{Draft}
 use Rattle.jm_words.specs.declared.errors.WordsError.{WordsError}
 use Rattle.jm_words.specs.declared.errors.WordsError.TheVariants.{Fault, Memory}
 use Rattle.jm_words.specs.declared.errors.WordsKind.{WordsKind}
@@ -16,8 +15,7 @@ use Rattle.jm_words.specs.declared.tables.Verb.{Verb}
 use Rattle.jm_words.specs.declared.tables.Argument.{Argument}
 use Rattle.jm_words.specs.declared.tables.Choice.{Choice}
 use Rattle.jm_words.specs.Commands.{command_of, verb_named}
-use Rattle.jm_words.specs.Drafts.{nothing}
-use Rattle.jm_words.specs.Reading.{with_word}
+use Rattle.jm_words.specs.Drafts.{by_field}
 use Rattle.jm_words.specs.Roles.{Role, first_kind, given_by, is_argument, named_by, role_of}
 use Rattle.jm_words.specs.Roles.{waiting}
 use Rattle.jm_words.specs.Tables.{arguments, options}
@@ -68,25 +66,26 @@ pub record IsFirstFault (verb : Verb) (words : List (List ℕ)) (at : ℕ) (kind
 abbrev pub given_at : Verb → List (List ℕ) → ℕ → Option Given
 given_at verb words i = given_by (left_at verb words i) (role_at verb words i)
 
--- all that the words before a place give, each put to what was given before it
-abbrev pub draft_at : Verb → List (List ℕ) → ℕ → Draft
-draft_at verb words i = fold with_word nothing (map (given_at verb words) (range_with_len 0 i))
+-- what the words before a place give in their roles, in their order
+abbrev pub givens_before : Verb → List (List ℕ) → ℕ → List Given
+givens_before verb words i = filter_map (given_at verb words) (range_with_len 0 i)
 
--- an argument or an option isn't there that must be
-abbrev pub IsMissing : Verb → List (List ℕ) → Type 0
-IsMissing verb words = command_of verb (draft_at verb words (length words)) ≡ None
+-- the command of which each field is the value of the one word that gives it, or its default; the
+-- plug-ins are those of all words that give one; none where a field isn't there that must be
+abbrev pub command_given : Verb → List (List ℕ) → Option Command
+command_given verb words =
+    command_of verb (by_field (givens_before verb words (length words)))
 
--- what the words behind a command say: its first fault; `Missing` with the number of all words; or
--- the command of all that they give
+-- what the words behind a command say: their first fault; `Missing` with the number of all words;
+-- or the command that they give
 abbrev pub SaysBehind : Verb → List (List ℕ) → Result Command WordsError → Type 0
 SaysBehind verb words (Err (Fault at found)) =
     IsFirstFault verb words at found
-    ⊎ (AreSound verb words × IsMissing verb words × (at ≡ length words + 1)
+    ⊎ (AreSound verb words × (command_given verb words ≡ None) × (at ≡ length words + 1)
     × (found ≡ kind.Missing))
 SaysBehind verb words (Err Memory) = ⊥
 SaysBehind verb words (Ok command) =
-    AreSound verb words
-    × (command_of verb (draft_at verb words (length words)) ≡ Some command)
+    AreSound verb words × (command_given verb words ≡ Some command)
 
 -- what words say whose first one names this command, or none
 abbrev pub SaysAfter : Option Verb → List (List ℕ) → Result Command WordsError → Type 0
@@ -97,3 +96,8 @@ SaysAfter (Some verb) words result = SaysBehind verb words result
 abbrev pub SaysCommand : List (List ℕ) → Result Command WordsError → Type 0
 SaysCommand [] result = result ≡ Err (Fault 0 kind.NoCommand)
 SaysCommand (name ∷ words) result = SaysAfter (verb_named name) words result
+
+-- something holds of what the words of a command line say
+abbrev pub Says : List (List ℕ) → (Result Command WordsError → Type 0) → Type 0
+Says words Holds =
+    (asked : Result Command WordsError) × SaysCommand words asked × Holds asked
