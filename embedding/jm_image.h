@@ -71,7 +71,8 @@ struct jm_owner {
 
 /* Promises: the first owner, of the package at a path such as /packages/java.lang, for which it
  * isn't empty. As much of its name as there is room for is put into the front of the room, with no
- * zero byte. Asks: VALID, and room bytes at name that nobody else uses. */
+ * zero byte; the rest of the room stays, all of it where the kind isn't JM_OWNED.
+ * Asks: VALID, and room bytes at name that nobody else uses. */
 struct jm_owner jm_image_owner(const uint8_t *bytes, size_t length,
                                const uint8_t *path, size_t path_length,
                                uint8_t *name, size_t room);

@@ -1,5 +1,6 @@
 -- The numbers in which the exports tell what the libraries below them answer.
-use Rattle.std.specs.Prelude.{ℕ, ◌+◌, nat_lt, List, [], ◌∷◌, length, Option, Some, None}
+use Rattle.std.specs.Prelude.{ℕ, ◌+◌, nat_lt, List, [], ◌∷◌, ◌++◌, length, take, drop}
+use Rattle.std.specs.Prelude.{Option, Some, None}
 use Rattle.std.specs.Prelude.{Result, Ok, Err, if◌then◌else◌, true, false}
 use Rattle.jm_form.specs.declared.container.Header.{Header}
 use Rattle.jm_form.specs.declared.container.HeaderFault.{HeaderFault}
@@ -101,6 +102,10 @@ owner_told (Err NotFolder) = owner_of 0 0
 abbrev pub owner_name : Result (Option (List ℕ)) JrtError → List ℕ
 owner_name (Ok (Some name)) = name
 owner_name other = []
+
+-- a room with as many bytes of a text as it has room for at its front, and what stood behind them
+abbrev pub put_front : List ℕ → List ℕ → List ℕ
+put_front text room = take (length room) text ++ drop (length text) room
 
 -- Entries
 

@@ -5,14 +5,14 @@
 //! so calls on any number of threads share nothing that changes.
 #![tactic(auto)]
 
-ghost use Rattle.std.specs.Prelude.{◌≡◌, ◌≢◌, ◌+◌, ◌≤◌, length, take, slice_range, Some, IfSome};
+ghost use Rattle.std.specs.Prelude.{◌≡◌, ◌≢◌, ◌+◌, ◌≤◌, length, slice_range, Some, IfSome};
 ghost use Rattle.std.specs.Prelude.{option_map};
 ghost use Rattle.jm_form.specs.Damages.{first_damage};
 ghost use Rattle.jm_form.specs.Validity.{look, Valid};
 ghost use Rattle.jm_reader.specs.Walk.{entries_of};
 ghost use Rattle.jm_jrt.specs.Stat as trees;
 ghost use Rattle.jm_image_c.specs.Told.{content_told, damage_verdict, entry_told, owner_name};
-ghost use Rattle.jm_image_c.specs.Told.{owner_told, slots_of, standing_told};
+ghost use Rattle.jm_image_c.specs.Told.{owner_told, put_front, slots_of, standing_told};
 
 mod content;
 mod entry;
@@ -70,14 +70,14 @@ pub extern "C" fn jm_image_stat(bytes: &[u8], path: &[u8]) -> Standing
 }
 
 /// The first owner, of the package at a path such as `/packages/java.lang`, for which it isn't
-/// empty. As many bytes of its name as there is room for are put into `name`.
+/// empty. As many bytes of its name as there is room for are put into `name`; all behind them, and
+/// all of it where there is no such owner, stays.
 #[unsafe(no_mangle)]
 pub extern "C" fn jm_image_owner(bytes: &[u8], path: &[u8], name: &mut [u8]) -> Owner
     requires { Valid bytes.now }
     ensures owner { result ≡ owner_told (trees.owner bytes.now path.now) }
     ensures room { length name.new ≡ length name.old }
-    ensures name { take (length (owner_name (trees.owner bytes.now path.now))) name.new
-        ≡ take (length name.old) (owner_name (trees.owner bytes.now path.now)) }
+    ensures name { name.new ≡ put_front (owner_name (trees.owner bytes.now path.now)) name.old }
 {
     let image = Image::of_valid(bytes);
     first_owner::<Brand, Brand>(&image, bytes, path, name, Blank::new(1), Blank::new(1))

@@ -1,6 +1,6 @@
-ghost use Rattle.std.specs.Prelude.{◌≡◌, ◌<◌, length, take};
+ghost use Rattle.std.specs.Prelude.{◌≡◌, ◌<◌, length};
 ghost use Rattle.jm_jrt.specs.Stat as trees;
-ghost use Rattle.jm_image_c.specs.Told.{owner_name, owner_told, standing_told};
+ghost use Rattle.jm_image_c.specs.Told.{owner_name, owner_told, put_front, standing_told};
 
 use crate::numbers::{Owner, Standing};
 use jm_bytes::{Meter, Steps};
@@ -39,8 +39,7 @@ pub fn standing<H: Ledger, R: Ledger>(
 
 /// Puts as many bytes of a text as there is room for into the front of the room.
 fn put_front(text: &[u8], room: &mut [u8])
-    ensures size { length room.new ≡ length room.old }
-    ensures front { take (length text.now) room.new ≡ take (length room.old) text.now }
+    ensures { room.new ≡ put_front text.now room.old }
 {
     let size = text.len().min(room.len());
     room[..size].copy_from_slice(&text[..size]);
@@ -64,8 +63,7 @@ pub fn first_owner<H: Ledger, R: Ledger>(
     requires reads_some { 0 < reads.parts }
     ensures owner { result ≡ owner_told (trees.owner bytes.now path.now) }
     ensures room { length name.new ≡ length name.old }
-    ensures name { take (length (owner_name (trees.owner bytes.now path.now))) name.new
-        ≡ take (length name.old) (owner_name (trees.owner bytes.now path.now)) }
+    ensures name { name.new ≡ put_front (owner_name (trees.owner bytes.now path.now)) name.old }
 {
     let mut hashes = Steps::<H>::new(hashes);
     let mut reads = Meter::<R>::new(bytes, reads);
