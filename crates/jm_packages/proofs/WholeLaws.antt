@@ -1,10 +1,9 @@
 -- What the call's answer says of the class that its bytes read as.
-use Rattle.std.proofs.Common.{◌≡◌, ℕ, List, true, Some, None, Ok, sym, ap, subst, ◌∙◌}
-use Rattle.jm_bytes.proofs.Choice.{same_ok}
+use Rattle.std.proofs.Common.{◌≡◌, ◌↔◌, ℕ, List, true, Some, Ok, sym, ap, subst, ◌∙◌}
 use Rattle.jm_class.specs.declared.class.ClassFault.{ClassFault}
 use Rattle.jm_class.specs.Classes.{ClassData, class_text, ReadsAs}
-use Rattle.jm_class.specs.ComputedClass.{class_fault, fault_of}
-use Rattle.jm_class.proofs.ComputedClassLaws.{reads-class_of, reads_once}
+use Rattle.jm_class.specs.ComputedClass.{class_fault}
+use Rattle.jm_class.proofs.ComputedClassLaws.{reads-no_fault, reads_once}
 use Rattle.jm_modinfo.specs.declared.descriptor.Descriptor.{Descriptor}
 use Rattle.jm_modinfo.specs.ComputedInfo.{info_of}
 use Rattle.jm_packages.specs.Packages.{packaged, packages_text, takes_none, PackagesTo, Stays}
@@ -33,12 +32,15 @@ module _ (packages : List (List ℕ)) (bytes text : List ℕ) (class : ClassData
 
 -- Bytes that stay
 
-pub class_stays : (bytes : List ℕ) (class : ClassData) → ReadsAs bytes class → takes_none class ≡ true → Stays bytes
-class_stays bytes class reads none c packages is =
-    let same : class ≡ c = same_ok {E = ClassFault} class c (sym (reads-class_of bytes class reads) ∙ is) in
-    none_stays packages c (subst (λ k. takes_none k ≡ true) same none)
+pub class_stays : (bytes : List ℕ) (class : ClassData) → ReadsAs bytes class → (takes_none class ≡ true) ↔ Stays bytes
+class_stays bytes class reads =
+    (λ none. record { class = class; reads = reads; none = none }, λ stays. ap takes_none (reads_once bytes class stays.class reads stays.reads) ∙ stays.none)
 
-pub fault_stays : (bytes : List ℕ) (fault : ClassFault) → class_fault bytes ≡ Some fault → Stays bytes
-fault_stays bytes fault found c packages is =
-    let none : class_fault bytes ≡ None = ap fault_of is in
+pub fault_stays : (bytes : List ℕ) (fault : ClassFault) → class_fault bytes ≡ Some fault → Stays bytes → ⊥
+fault_stays bytes fault found stays =
+    let none = reads-no_fault bytes stays.class stays.reads in
     cc
+
+-- what they stay with these packages
+pub stays_text : (packages : List (List ℕ)) (bytes : List ℕ) (stays : Stays bytes) → packages_text packages stays.class ≡ bytes
+stays_text packages bytes stays = ap class_text (none_stays packages stays.class stays.none) ∙ stays.reads.text

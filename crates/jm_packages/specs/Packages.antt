@@ -2,12 +2,11 @@
 -- count, and a Package constant for each package; JVMS 4.4.12: such a constant holds the number of
 -- the Utf8 of its name). Where the constants stand that it needs, and which classes stay as they
 -- are, is this project's rule.
-use Rattle.std.specs.Prelude.{◌≡◌, ℕ, ◌+◌, ◌*◌, nat_le, nat_lt, Bool, not, ◌&&◌, ◌||◌, List, []}
-use Rattle.std.specs.Prelude.{◌∷◌, ◌++◌, length, Ok, codes, if◌then◌else◌}
+use Rattle.std.specs.Prelude.{◌≡◌, ℕ, ◌+◌, ◌*◌, nat_le, nat_lt, Bool, true, not, ◌&&◌, ◌||◌}
+use Rattle.std.specs.Prelude.{List, [], ◌∷◌, ◌++◌, length, codes, if◌then◌else◌}
 use Rattle.std.specs.List.{list_all, list_any}
 use Rattle.jm_class.specs.Classes.{SlotData, Constant, Opaque, AttributeData, ClassData, u2}
 use Rattle.jm_class.specs.Classes.{utf8_at, class_text, ReadsAs}
-use Rattle.jm_class.specs.ComputedClass.{class_of}
 use Rattle.jm_modinfo.specs.Descriptors.{is_named}
 use Rattle.jm_modinfo.specs.Flags.{is_module}
 use Rattle.jm_modinfo.specs.Written.{utf8, numbers_text}
@@ -81,7 +80,8 @@ pub record PackagesTo (packages : List (List ℕ)) (bytes text : List ℕ) : Typ
   pub reads : ReadsAs bytes class
   pub is : text ≡ packages_text packages class
 
--- the bytes are no class, or one that stays as it is, whatever the packages are
-abbrev pub Stays : List ℕ → Type 0
-Stays bytes =
-    (c : ClassData) (packages : List (List ℕ)) → class_of bytes ≡ Ok c → packaged packages c ≡ c
+-- the bytes read as a class that takes no list, whatever the packages are, so that it stays
+pub record Stays (bytes : List ℕ) : Type 0 where
+  pub class : ClassData
+  pub reads : ReadsAs bytes class
+  pub none : takes_none class ≡ true

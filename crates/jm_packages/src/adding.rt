@@ -1,4 +1,4 @@
-ghost use Rattle.std.specs.Prelude.{◌≡◌, ◌<◌, ◌+◌, true, length, None, Some, Ok, Err, List, ℕ};
+ghost use Rattle.std.specs.Prelude.{◌≡◌, ◌↔◌, ◌<◌, ◌+◌, true, length, None, Some, Ok, Err, List, ℕ};
 ghost use Rattle.std.specs.Prelude.{IfOk, OnOk};
 ghost use Rattle.jm_class.specs.declared.class.ReadError.TheVariants.{Fault};
 ghost use Rattle.jm_class.specs.Classes.{ClassData, ReadsAs, IsClass};
@@ -107,14 +107,14 @@ pub fn add_packages(alloc: Global, bytes: &[u8], packages: &[Text]) -> Result<Te
     Ok(text)
 }
 
-/// Whether some bytes are no class, or one that stays as it is, whatever the packages are: one that
-/// is no module's or has a list.
+/// Whether some bytes are a class that stays as it is, whatever the packages are: one that is no
+/// module's or has a list.
 pub fn stays(alloc: Global, bytes: &[u8]) -> Result<bool, NoMemory>
-    ensures { IfOk result (λ stays. stays ≡ true → Stays bytes.now) }
+    ensures { IfOk result (λ stays. (stays ≡ true) ↔ Stays bytes.now) }
 {
     match read(alloc, bytes) {
         Ok(class) => Ok(takes_none(&class)),
-        Err(ReadError::Fault(_)) => Ok(true),
+        Err(ReadError::Fault(_)) => Ok(false),
         Err(ReadError::Memory) => Err(NoMemory),
     }
 }
