@@ -72,8 +72,9 @@ fn place_of(names: &[Text], bound: &[u8]) -> usize
     names.partition_point(|name| is_before(name.as_slice(), bound))
 }
 
-/// The part of rising names in which those of a folder lie side by side.
-fn names_of_folder<'a>(
+/// The part of rising names in which those of a folder lie side by side. It looks at the logarithm
+/// of their number.
+pub fn names_of_folder<'a>(
     alloc: Global,
     names: &'a [Text],
     folder: &[u8],

@@ -15,6 +15,7 @@ mod rising;
 mod stops;
 mod visible;
 
+pub use folders::names_of_folder;
 pub use info::{InfoStop, info_in};
 pub use modules::VisibleModules;
 pub use names::{inside, resource_name};
