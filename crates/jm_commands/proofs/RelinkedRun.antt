@@ -7,7 +7,7 @@ use Rattle.jm_form.proofs.Validity.{valid_sound}
 use Rattle.jm_texts.specs.declared.refusal.Refusal.{Refusal}
 use Rattle.jm_link.specs.ImageLinked.{ImageComesTo}
 use Rattle.jm_link.specs.Linked.{LinkedImage}
-use Rattle.jm_link.proofs.GivenBack.{never_refused, same_bytes}
+use Rattle.jm_link.proofs.GivenBack.{laid, never_refused, same_bytes}
 use Rattle.jm_outside.specs.Files.{Files, file as read}
 use Rattle.jm_outside.specs.Outcome.{Shows}
 use Rattle.jm_words.specs.declared.commands.Command.{Command}
@@ -60,7 +60,7 @@ module _ (link : Link) (b : List ℕ) where
     by_result (Err refusal) comes is = absurd (never_refused b link.asked file.relinks refusal comes.0)
 
     valid : Valid b
-    valid = subst Valid (sym file.relinks.made) file.relinks.laid.valid
+    valid = subst Valid (sym file.relinks.made) (laid b link.asked file.relinks).valid
 
     opened : OpenedComesTo (ImageLinkComesTo link b) (first_damage b) due → (due.status ≡ status.Done) × (due.writes ≡ (link.output, b) ∷ [])
     opened comes = go (subst (λ d. OpenedComesTo (ImageLinkComesTo link b) d due) (valid_sound b valid) comes)

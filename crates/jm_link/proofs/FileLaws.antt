@@ -24,6 +24,7 @@ use Rattle.jm_modpath.specs.declared.visible.VisibleModule.{VisibleModule}
 use Rattle.jm_names.specs.ByName.{Named}
 use Rattle.jm_modpath.specs.Finding.{HasTexts}
 use Rattle.jm_modpath.specs.Modules.{candidates, inside, name_of, resource_name}
+use Rattle.jm_relink.specs.Files.{file_name}
 use Rattle.jm_link.specs.Chosen.{is_called, reserved}
 use Rattle.jm_link.specs.Resources.{link_files, module_files}
 use Rattle.jm_names.proofs.NameOrder.{from_by_name}
@@ -63,14 +64,14 @@ pub legal_plain : (name : List ℕ) → is_legal name ≡ true → list_any is_s
 legal_plain name legal = legal_bytes name (both _ _ legal).1
 
 -- a resource of a module with another name than the two trees' is no node
-pub no_node : («module» path : List ℕ) → is_legal «module» ≡ true → «module» ≢ codes "modules" → «module» ≢ codes "packages" → is_node (resource_name «module» path) ≡ false
-no_node «module» path legal one other = false_from_ne_true (is_node (resource_name «module» path)) (λ is. elim (node_module (resource_name «module» path) is) [
+pub no_node : («module» path : List ℕ) → list_any is_slash «module» ≡ false → «module» ≢ codes "modules" → «module» ≢ codes "packages" → is_node (file_name «module» path) ≡ false
+no_node «module» path whole one other = false_from_ne_true (is_node (file_name «module» path)) (λ is. elim (node_module (file_name «module» path) is) [
   | inl same ↦ one (sym again ∙ same)
   | inr same ↦ other (sym again ∙ same)
 ])
   where
-    again : module_of (resource_name «module» path) ≡ «module»
-    again = module_again «module» (modified path) (legal_plain «module» legal)
+    again : module_of (file_name «module» path) ≡ «module»
+    again = module_again «module» path whole
 
 not_some : (r : Refusal) → Some r ≡ None → ⊥
 not_some r is = cc
@@ -90,9 +91,9 @@ free_names found free = go (is_called found (codes "modules")) refl (is_called f
         not_none is also none = not_some _ (rw (is, also) at none)
     go false is false also none = (is, also)
 
-other_name : (found : List VisibleModule) (name : List ℕ) (m : VisibleModule) → is_called (candidates found) name ≡ false → Contains found m → name_of m ≢ name
-other_name found name m free there same =
-    false≢true (sym free ∙ any_contains (λ c. bytes_eq name (closure.name_of c)) (candidates found) m.candidate (contains_map (λ (k : VisibleModule). k.candidate) found m there) ((bytes_eq-Decides name (name_of m)).1 (sym same)))
+pub other_name : (found : List Candidate) (name : List ℕ) (c : Candidate) → is_called found name ≡ false → Contains found c → closure.name_of c ≢ name
+other_name found name c free there same =
+    false≢true (sym free ∙ any_contains (λ d. bytes_eq name (closure.name_of d)) found c there ((bytes_eq-Decides name (closure.name_of c)).1 (sym same)))
 
 -- Where a file comes from
 
@@ -124,5 +125,9 @@ files_free found places texts free = all_from_contains (λ f. is_node f.0 ≡ fa
     go f there =
         let from = file_from found places f there in
         let names = free_names (candidates found) free in
-        let legal = (All-contains HasTexts found from.«module» texts from.there).legal in
-        ap (λ g. is_node g.0) from.is ∙ no_node (name_of from.«module») from.path legal (other_name found (codes "modules") from.«module» names.0 from.there) (other_name found (codes "packages") from.«module» names.1 from.there)
+        let whole = legal_plain (name_of from.«module») (All-contains HasTexts found from.«module» texts from.there).legal in
+        let among = contains_map (λ (k : VisibleModule). k.candidate) found from.«module» from.there in
+        ap (λ g. is_node g.0) from.is
+        ∙ no_node (name_of from.«module») (modified from.path) whole
+        (other_name (candidates found) (codes "modules") from.«module».candidate names.0 among)
+        (other_name (candidates found) (codes "packages") from.«module».candidate names.1 among)

@@ -1,22 +1,46 @@
 -- The image of resources that nothing refuses is what their layout is.
-use Rattle.std.proofs.Common.{◌≡◌, ◌≢◌, ℕ, false, List, [], ◌∷◌, length, All, AllPairs, Option, Some, None, is_none, option_and_then, option_map, refl}
+use Rattle.std.proofs.Common.{◌≡◌, ◌≢◌, ℕ, false, List, [], ◌∷◌, ◌++◌, ◌≤◌, get_or, length, length-append, All, AllPairs, Option, Some, None, is_none, option_and_then, option_map, refl, sym, ap, subst, ◌∙◌, arith}
 use Rattle.std.proofs.lemmas.Bool.{ltb-false}
-use Rattle.std.specs.Prelude.{nat_lt}
+use Rattle.std.proofs.lemmas.List.{get_or_append_left, get_or_default}
+use Rattle.std.specs.Prelude.{nat_lt, slice_index}
 use Rattle.jm_bytes.specs.Checks.{fault_if}
 use Rattle.jm_bytes.proofs.CheckLaws.{fault_if_none, no_fault_head, no_fault_tail}
 use Rattle.jm_bytes.specs.declared.words.Order.{Order}
-use Rattle.jm_form.specs.Greedy.{GreedyTable}
-use Rattle.jm_form.specs.Layout.{Written, all_sized, layout_table, layout_with, names_of}
-use Rattle.jm_form.specs.Trees.{first_clash}
+use Rattle.jm_form.specs.Greedy.{GreedyTable, bucket_of}
+use Rattle.jm_form.specs.Layout.{Written, all_names, all_sized, layout_table, layout_with, names_of}
+use Rattle.jm_form.specs.Serves.{Serves}
+use Rattle.jm_form.specs.Table.{redirect_of, slot_of}
+use Rattle.jm_form.specs.Trees.{first_clash, node_names}
 use Rattle.jm_names.specs.NameFaults.{IsSound}
 use Rattle.jm_names.specs.Names.{is_node}
 use Rattle.jm_writer.specs.Drafts.{entry_limit, image_limit, large_number}
 use Rattle.jm_writer.specs.Laid.{CanLay, IsLaidOut}
+use Rattle.jm_writer.proofs.LaidNames.{all_names_are}
 use Rattle.jm_writer.proofs.LaidOut.{laid_out}
+use Rattle.jm_writer.proofs.LaidTable.{slots_within, table_found}
 use Rattle.jm_texts.specs.declared.refusal.Refusal.{Refusal}
 use Rattle.jm_texts.specs.declared.refusal.Refusal.TheVariants as refusal
 use Rattle.jm_link.specs.Linked.{image_with, layout_refusal, size_refusal}
-use Rattle.jm_bytes.proofs.Choice.{mapped_none}
+use Rattle.jm_bytes.proofs.Choice.{mapped_none, same_some}
+
+-- Names with a table differ
+
+-- each has a slot of its own
+served_apart : (names : List (List ℕ)) (slots : ℕ) (words given : List ℕ) → Serves names slots words given → AllPairs (λ m n. m ≢ n) names
+served_apart names slots words given serves i j d before inside same =
+    let first = get_or_default names i d [] (omega arith) in
+    let second = get_or_default names j d [] inside in
+    let led : Some (slice_index given i) ≡ Some (slice_index given j) =
+    sym (serves.led i (omega arith)) ∙ ap (λ name. slot_of slots name (redirect_of (slice_index words (bucket_of slots name)))) (sym first ∙ same ∙ second) ∙ serves.led j inside in
+    serves.apart i j 0 before (omega (arith, serves.given_length)) (same_some (slice_index given i) (slice_index given j) led)
+
+pairs_front : {X : Type 0} (R : X → X → Type 0) (xs ys : List X) → AllPairs R (xs ++ ys) → AllPairs R xs
+pairs_front R xs ys all i j d before inside =
+    let long = length-append xs ys in
+    subst (λ x. R x (get_or xs j d)) (get_or_append_left xs ys d i (omega arith))
+    (subst (R (get_or (xs ++ ys) i d)) (get_or_append_left xs ys d j inside) (all i j d before (omega arith)))
+
+-- What nothing refuses
 
 -- the checks behind the third, the second and the first
 abbrev behind_table : Order → List Written → List (Option Refusal)
@@ -52,12 +76,28 @@ module _ (order : Order) (resources : List Written) (free : layout_refusal order
       (no_fault_tail (fault_if (nat_lt entry_limit (length (all_sized resources))) (refusal.TooMany (length (all_sized resources)))) (behind_count order resources)
       (no_fault_tail (option_map (λ name. refusal.Clash name) (first_clash (names_of resources))) (behind_clash order resources) free)))
 
-  pub laid_free : (modules : ℕ) → AllPairs (λ m n. m ≢ n) (names_of resources) → All IsSound (names_of resources) → All (λ name. is_node name ≡ false) (names_of resources) → IsLaidOut order resources (image_with order modules resources).bytes
-  laid_free modules differ sound plain = go (layout_table resources) refl has_table within
-    where
-      can : CanLay resources
-      can = record { differ = differ; plain = record { sound = sound; resources = plain; apart = apart } }
+  -- the image by a table is within the limit
+  small : (table : GreedyTable) → layout_table resources ≡ Some table → length (layout_with order resources table) ≤ image_limit
+  small table is =
+      ltb-false image_limit (length (layout_with order resources table))
+      (fault_if_none (nat_lt image_limit (length (layout_with order resources table))) (refusal.TooLarge (large_number order resources table))
+      (sym (ap (option_and_then (size_refusal order resources)) is) ∙ within))
 
-      go : (o : Option GreedyTable) → layout_table resources ≡ o → is_none o ≡ false → option_and_then (size_refusal order resources) o ≡ None → IsLaidOut order resources (image_with order modules resources).bytes
-      go None is some small = cc
-      go (Some table) is some small = rw is (laid_out order resources (layout_with order resources table) can (rw is refl) (ltb-false image_limit (length (layout_with order resources table)) (fault_if_none (nat_lt image_limit (length (layout_with order resources table))) (refusal.TooLarge (large_number order resources table)) small)))
+  -- what has a table within the limit has names that differ
+  apart_with : (table : GreedyTable) → layout_table resources ≡ Some table → AllPairs (λ m n. m ≢ n) (names_of resources)
+  apart_with table is =
+      let found = table_found (all_names resources) table is in
+      let size = slots_within order resources table found in
+      let limit = small table is in
+      let served = found.served (omega (arith, size, limit)) in
+      pairs_front (λ (m n : List ℕ). m ≢ n) (names_of resources) (node_names (names_of resources))
+      (subst (AllPairs (λ (m n : List ℕ). m ≢ n)) (all_names_are resources) (served_apart (all_names resources) table.length _ table.slots served.serves))
+
+  pub laid_free : (modules : ℕ) → All IsSound (names_of resources) → All (λ name. is_node name ≡ false) (names_of resources) → IsLaidOut order resources (image_with order modules resources).bytes
+  laid_free modules sound plain = go (layout_table resources) refl has_table
+    where
+      go : (o : Option GreedyTable) → layout_table resources ≡ o → is_none o ≡ false → IsLaidOut order resources (image_with order modules resources).bytes
+      go None is some = cc
+      go (Some table) is some =
+          let can : CanLay resources = record { differ = apart_with table is; plain = record { sound = sound; resources = plain; apart = apart } } in
+          rw is (laid_out order resources (layout_with order resources table) can (rw is refl) (small table is))

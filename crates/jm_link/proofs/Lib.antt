@@ -9,6 +9,7 @@ pub mod LaidLaws
 pub mod LinkVectors
 pub mod LinkingLaws
 pub mod ListedLaws
+pub mod MadeFrom
 pub mod OnceLaws
 pub mod RelinkedLaws
 pub mod ResourceLaws

@@ -126,7 +126,7 @@ module _ (asked : Request) (modules : ℕ) (before : List Written) where
     order = asked.order
 
     laid : (refused : Option Refusal) → layout_refusal order resources ≡ refused → IsLaid order (laid_out order modules resources refused)
-    laid None is = laid_free order resources is modules fit.differ fit.sound fit.plain
+    laid None is = laid_free order resources is modules fit.sound fit.plain
     laid (Some refusal) is = tt
 
     comes_to : (refused : Option Refusal) → layout_refusal order resources ≡ refused → PoolComesTo asked modules before (laid_out order modules resources refused)

@@ -19,7 +19,6 @@ use Rattle.jm_texts.specs.declared.refusal.Refusal.{Refusal}
 use Rattle.jm_link.specs.Chosen.{Chosen}
 use Rattle.jm_link.specs.ImageLinked.{ImageLinksTo, seen_candidates}
 use Rattle.jm_link.specs.Linked.{LinkedImage, LinksTo, Request}
-use Rattle.jm_link.specs.Links.{IsLaid}
 
 -- Where a link takes its modules from
 
@@ -71,7 +70,6 @@ pub record Relinks (b : List ℕ) (asked : Request) : Type 0 where
   pub first : Request
   pub image : LinkedImage
   pub linked : LinksFrom source first (Ok image)
-  pub laid : IsLaid first.order (Ok image)
   pub made : b ≡ image.bytes
   pub unordered : All (λ one. leaves_order one ≡ true) first.plugins
   pub infos : (name : List ℕ) → Takes source first name
