@@ -1,3 +1,4 @@
+mod EndLaws
 pub mod FaultLaws
 pub mod PairLaws
 pub mod LinkLaws

@@ -1,7 +1,9 @@
-ghost use Rattle.std.specs.Prelude.{◌≡◌, ◌<◌, ◌*◌, IfSome, None, Ok, is_some, option_map};
+ghost use Rattle.std.specs.Prelude.{◌≡◌, ◌<◌, ◌*◌, true, IfSome, None, Ok, is_some, option_map};
 ghost use Rattle.std.specs.List.{list_any};
 ghost use Rattle.std.specs.Str.{bytes_eq};
 ghost use Rattle.jm_form.specs.Head.{header_of};
+ghost use Rattle.jm_form.specs.Places.{strings};
+ghost use Rattle.jm_form.specs.Texts.{text_at, text_ends};
 ghost use Rattle.jm_reader.specs.Walk.{IsLater};
 ghost use Rattle.jm_jrt.specs.Stat.{first_full};
 ghost use Rattle.jm_jrt.specs.Told.{is_pair_sound, owner_told, owners_left, words_fault};
@@ -10,7 +12,7 @@ ghost use Rattle.jm_jrt.specs.Views.{owner_as};
 
 use crate::words::{pair_count, word};
 use jm_bytes::{Buf, Meter};
-use jm_form::{Header, text};
+use jm_form::{Header, front, text};
 use std::sync::ledger::Ledger;
 
 /// A module that has a package, and whether the package is empty there.
@@ -52,6 +54,39 @@ pub fn owner_at<'a, R: Ledger>(
     Owned { empty, module }
 }
 
+/// The text at a place of the strings, if it is this one. The byte at which it would end is looked at
+/// first, so that a long text costs little, however many pairs lead to it.
+fn text_if<'a, R: Ledger>(
+    buf: &Buf<'a>,
+    header: &Header,
+    place: u32,
+    asked: &[u8],
+    reads: &mut Meter<R>,
+) -> Option<&'a [u8]>
+    requires read { header_of buf.now ≡ Ok header.now }
+    requires metered { reads.old.bytes ≡ buf.now }
+    requires ends { text_ends (strings buf.now header.now) place ≡ true }
+    ensures found { is_some result
+        ≡ bytes_eq asked.now (text_at (strings buf.now header.now) place) }
+    ensures same { IfSome result (λ text. text.now ≡ asked.now) }
+    ensures reads { IsLater reads.old reads.new }
+{
+    let _size = buf.len();
+    let behind = (header.strings - place) as usize;
+    if asked.len() >= behind {
+        return None;
+    }
+    let start = header.strings_place() + place as usize;
+    let part = buf.part(start, asked.len() + 1, reads);
+    let (_, end) = part.split_at(asked.len());
+    let ended = end == b"\0".as_slice();
+    if !ended {
+        return None;
+    }
+    let text = front(part)?;
+    if asked == text { Some(text) } else { None }
+}
+
 /// The module that is asked for, as the image has it, if it is one of the owners.
 pub fn find_owner<'a, R: Ledger>(
     buf: &Buf<'a>,
@@ -70,9 +105,10 @@ pub fn find_owner<'a, R: Ledger>(
     ensures reads { IsLater reads.old reads.new }
 {
     for k in 0..pair_count(content) {
-        let owner = owner_at(buf, header, content, k, reads);
-        if asked == owner.module {
-            return Some(owner.module);
+        let place = word(header, content, 2 * k + 1);
+        let found = text_if(buf, header, place, asked, reads);
+        if found.is_some() {
+            return found;
         }
     }
     None
@@ -94,9 +130,8 @@ pub fn first_full<'a, R: Ledger>(
     ensures reads { IsLater reads.old reads.new }
 {
     for k in 0..pair_count(content) {
-        let owner = owner_at(buf, header, content, k, reads);
-        if !owner.empty {
-            return Some(owner.module);
+        if word(header, content, 2 * k) != 1 {
+            return Some(owner_at(buf, header, content, k, reads).module);
         }
     }
     None

@@ -1,13 +1,14 @@
-ghost use Rattle.std.specs.Prelude.{◌≡◌, ◌+◌, ◌*◌, ◌<◌, ◌≤◌, length, true, Ok};
+ghost use Rattle.std.specs.Prelude.{◌≡◌, ◌*◌, true, Ok};
 ghost use Rattle.jm_form.specs.Head.{header_of};
 ghost use Rattle.jm_form.specs.Places.{strings};
+ghost use Rattle.jm_form.specs.Texts.{ended_length, text_ends};
 ghost use Rattle.jm_reader.specs.Walk.{IsLater};
 ghost use Rattle.jm_jrt.specs.Told as told;
 
 use crate::jrt_error::JrtError;
-use crate::rows::name_at;
 use jm_bytes::{Buf, Meter, word_at};
-use jm_form::{Header, text};
+use jm_form::{Header, row_at_place};
+use jm_valid::ended_texts;
 use std::sync::ledger::Ledger;
 
 /// How many words a content is read as; the last may not fit.
@@ -24,13 +25,6 @@ pub fn pair_count(content: &[u8]) -> usize
     (content.len() + 7) / 8
 }
 
-/// The content has all four bytes of word `k`.
-fn fits(content: &[u8], k: usize) -> bool
-    ensures { result ≡ told.fits content.now k }
-{
-    k < content.len() / 4
-}
-
 /// Word `k` of a content.
 pub fn word(header: &Header, content: &[u8], k: usize) -> u32
     requires { told.fits content.now k ≡ true }
@@ -39,61 +33,81 @@ pub fn word(header: &Header, content: &[u8], k: usize) -> u32
     word_at(header.order, content, 4 * k)
 }
 
-/// Word `k` tells a child.
-fn is_child_sound<R: Ledger>(
-    buf: &Buf,
-    header: &Header,
-    content: &[u8],
-    k: usize,
-    reads: &mut Meter<R>,
-) -> bool
-    requires read { header_of buf.now ≡ Ok header.now }
-    requires metered { reads.old.bytes ≡ buf.now }
-    ensures sound { result ≡ told.is_child_sound buf.now header.now content.now k }
-    ensures reads { IsLater reads.old reads.new }
-{
-    if !fits(content, k) {
-        return false;
-    }
-    name_at(buf, header, word(header, content, k), reads).is_some()
+/// An image with its header, and how far its texts end.
+#[derive(Clone, Copy)]
+struct Ended<'b, 'a> {
+    buf: &'b Buf<'a>,
+    header: &'b Header,
+    /// A text of the strings ends in them exactly where its place is below this, in bytes from the
+    /// front of the strings.
+    length: u64,
+    ghost read: { header_of buf.now ≡ Ok header.now },
+    ghost cut: { length ≡ ended_length (strings buf.now header.now) },
 }
 
-/// The number is right for word `k` of a content of pairs.
-fn is_half_sound<R: Ledger>(
-    buf: &Buf,
-    header: &Header,
-    k: usize,
-    number: u32,
-    reads: &mut Meter<R>,
-) -> bool
-    requires read { header_of buf.now ≡ Ok header.now }
-    requires metered { reads.old.bytes ≡ buf.now }
-    ensures sound { result ≡ told.is_half_sound (strings buf.now header.now) k number }
-    ensures reads { IsLater reads.old reads.new }
-{
-    if k % 2 == 0 {
-        return number < 2;
+impl<'b, 'a> Ended<'b, 'a> {
+    /// Looks for the last zero byte of the strings, which count as read.
+    fn of<R: Ledger>(buf: &'b Buf<'a>, header: &'b Header, reads: &mut Meter<R>) -> Ended<'b, 'a>
+        requires read { header_of buf.now ≡ Ok header.now }
+        requires metered { reads.old.bytes ≡ buf.now }
+        ensures buf { result.buf.now ≡ buf.now }
+        ensures header { result.header.now ≡ header.now }
+        ensures reads { IsLater reads.old reads.new }
+    {
+        let _size = buf.len();
+        let strings = buf.part(header.strings_place(), header.strings as usize, reads);
+        let length = ended_texts(strings).len() as u64;
+        Ended {
+            buf,
+            header,
+            length,
+        }
     }
-    text(buf, header, u64::from(number), reads).is_some()
-}
 
-/// Word `k` is the half of a pair that tells an owner.
-fn is_pair_sound<R: Ledger>(
-    buf: &Buf,
-    header: &Header,
-    content: &[u8],
-    k: usize,
-    reads: &mut Meter<R>,
-) -> bool
-    requires read { header_of buf.now ≡ Ok header.now }
-    requires metered { reads.old.bytes ≡ buf.now }
-    ensures sound { result ≡ told.is_pair_sound buf.now header.now content.now k }
-    ensures reads { IsLater reads.old reads.new }
-{
-    if !fits(content, k) {
-        return false;
+    /// A text from this place of the strings on ends within them.
+    fn ends(&self, place: u64) -> bool
+        ensures { result ≡ text_ends (strings self.now.buf.now self.now.header.now) place }
+    {
+        place < self.length
     }
-    is_half_sound(buf, header, k, word(header, content, k), reads)
+
+    /// Word `k` of a content tells a child.
+    fn is_child_sound<R: Ledger>(&self, content: &[u8], k: usize, reads: &mut Meter<R>) -> bool
+        requires { reads.old.bytes ≡ self.now.buf.now }
+        ensures sound { result
+            ≡ told.is_child_sound self.now.buf.now self.now.header.now content.now k }
+        ensures reads { IsLater reads.old reads.new }
+    {
+        if k >= content.len() / 4 {
+            return false;
+        }
+        let place = word(self.header, content, k);
+        match row_at_place(self.buf, self.header, place, reads).row() {
+            None => false,
+            Some(row) => {
+                self.ends(row.module)
+                    && self.ends(row.parent)
+                    && self.ends(row.base)
+                    && self.ends(row.ext)
+            }
+        }
+    }
+
+    /// Word `k` of a content is the half of a pair that tells an owner.
+    fn is_pair_sound(&self, content: &[u8], k: usize) -> bool
+        ensures { result
+            ≡ told.is_pair_sound self.now.buf.now self.now.header.now content.now k }
+    {
+        if k >= content.len() / 4 {
+            return false;
+        }
+        let number = word(self.header, content, k);
+        if k % 2 == 0 {
+            number < 2
+        } else {
+            self.ends(u64::from(number))
+        }
+    }
 }
 
 /// The first word of a content that tells no child.
@@ -109,8 +123,9 @@ pub fn children_fault<R: Ledger>(
         (told.is_child_sound buf.now header.now content.now) (told.word_count content.now) }
     ensures reads { IsLater reads.old reads.new }
 {
+    let ended = Ended::of(buf, header, reads);
     for k in 0..word_count(content) {
-        if !is_child_sound(buf, header, content, k, reads) {
+        if !ended.is_child_sound(content, k, reads) {
             return Some(JrtError::BadNode(4 * k));
         }
     }
@@ -130,8 +145,9 @@ pub fn owners_fault<R: Ledger>(
         (told.is_pair_sound buf.now header.now content.now) (2 * told.pair_count content.now) }
     ensures reads { IsLater reads.old reads.new }
 {
+    let ended = Ended::of(buf, header, reads);
     for half in 0..2 * pair_count(content) {
-        if !is_pair_sound(buf, header, content, half, reads) {
+        if !ended.is_pair_sound(content, half) {
             return Some(JrtError::BadNode(4 * half));
         }
     }

@@ -1,13 +1,19 @@
-use Rattle.std.proofs.Common.{◌≡◌, ◌+◌, ◌∷◌, List, sym, ap, ◌∙◌, arith}
+use Rattle.std.proofs.Common.{◌≡◌, ◌+◌, ◌*◌, ◌==◌, ◌∷◌, true, false, List, Some, sym, ap, ◌∙◌, arith}
+use Rattle.std.proofs.lemmas.Bool.{eqb-true, false_from_ne_true}
 use Rattle.jm_form.specs.declared.trees.Owner.{Owner}
-use Rattle.jm_jrt.specs.Told.{owners_left}
+use Rattle.jm_jrt.specs.Told.{owner_told, owners_left, word_of}
 use Rattle.jm_jrt.specs.Stat.{first_full}
-use Rattle.jm_jrt.specs.Views.{owner_as}
-use Rattle.jm_jrt.proofs.PairLaws.{full_here, full_later, owners_more}
+use Rattle.jm_jrt.proofs.PairLaws.{full_here, full_later, owners_more, pair_at}
 use Rattle.jm_jrt.proofs.owners.first_full.Goals as goal
 
-pub returns-then-not-owner-clause-found : goal.returns-then-not-owner-clause-found
-returns-then-not-owner-clause-found g c =
+pub word-requires : goal.word-requires
+word-requires g c =
+    let count = c.pair_count-k-end.ensures in
+    let below = c.loop-k-test.true in
+    (pair_at c.args.buf.now c.args.header.now c.args.content.now c.loop-k.k c.requires.sound (omega arith)).flag_fits
+
+pub returns-then-word-ne1-clause-found : goal.returns-then-word-ne1-clause-found
+returns-then-word-ne1-clause-found g c =
     let b = c.args.buf.now in
     let h = c.args.header.now in
     let content = c.args.content.now in
@@ -15,8 +21,9 @@ returns-then-not-owner-clause-found g c =
     let count = c.pair_count-k-end.ensures in
     let below = c.loop-k-test.true in
     let left : List Owner = owners_left b h content (k + 1) in
-    let here : owners_left b h content k ≡ owner_as c.owner_at-owner.result ∷ left = owners_more b h content k (omega arith) ∙ ap (λ (o : Owner). o ∷ left) (sym c.owner_at-owner.ensures.owner) in
-    sym (c.loop-k.invariant.rest ∙ ap first_full here ∙ full_here (owner_as c.owner_at-owner.result) left c.if-not-owner.true)
+    let here : owners_left b h content k ≡ owner_told b h content k ∷ left = owners_more b h content k (omega arith) in
+    let full : word_of h content (2 * k) == 1 ≡ false = ap (λ n. n == 1) (sym c.word.ensures) ∙ false_from_ne_true (c.word.result == 1) (λ is. c.if-word-ne1.true (eqb-true c.word.result 1 is)) in
+    sym (c.loop-k.invariant.rest ∙ ap first_full here ∙ full_here (owner_told b h content k) left full ∙ ap (λ (o : Owner). Some o.module) (sym c.owner_at.ensures.owner))
 
 pub loop-k-preserved : goal.loop-k-preserved
 loop-k-preserved g c =
@@ -26,13 +33,12 @@ loop-k-preserved g c =
     let k = c.loop-k.k in
     let count = c.pair_count-k-end.ensures in
     let below = c.loop-k-test.true in
-    let later = c.owner_at-owner.ensures.reads in
-    let higher = later.count in
     let loop = c.loop-k.invariant in
     let left : List Owner = owners_left b h content (k + 1) in
-    let here : owners_left b h content k ≡ owner_as c.owner_at-owner.result ∷ left = owners_more b h content k (omega arith) ∙ ap (λ (o : Owner). o ∷ left) (sym c.owner_at-owner.ensures.owner) in
+    let here : owners_left b h content k ≡ owner_told b h content k ∷ left = owners_more b h content k (omega arith) in
+    let empty : word_of h content (2 * k) == 1 ≡ true = ap (λ n. n == 1) (sym c.word.ensures ∙ c.if-word-ne1.false) in
     record {
-      bytes = later.bytes ∙ loop.bytes;
-      count = omega arith;
-      rest = loop.rest ∙ ap first_full here ∙ full_later (owner_as c.owner_at-owner.result) left c.if-not-owner.false;
+      bytes = loop.bytes;
+      count = loop.count;
+      rest = loop.rest ∙ ap first_full here ∙ full_later (owner_told b h content k) left empty;
     }
