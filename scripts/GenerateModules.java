@@ -6,34 +6,61 @@ import java.nio.file.Files;
 import java.nio.file.Path;
 import java.util.Map;
 import java.util.TreeMap;
+import java.util.stream.Stream;
 
 /**
  * Makes the files that `jm_tool gen` makes of the same numbers, by a program of its own: `GenerateModules MODULES
- * CLASSES SEED FOLDER` puts them below FOLDER. Without FOLDER it prints how many they are and the sum over them that
- * the tests in jm_upper_tests take: of the bytes of each path below `x` and of each file, by rising path.
+ * CLASSES SEED [PLUGINS]` prints how many they are and the sum over them that the tests in jm_upper_tests take: of the
+ * bytes of each path below `x` and of each file, by rising path. With the plug-ins `strip,compact` or `compact,strip`
+ * they are as these leave them in this order. A FOLDER behind PLUGINS, which may be empty, has the files put there in
+ * place of the sum, and `GenerateModules FOLDER` prints the sum over the files that are there.
  */
 public class GenerateModules {
   private static long drawn;
+  private static boolean stripped;
+  private static boolean compacted;
 
   public static void main(String[] words) throws IOException {
+    if (words.length == 1) {
+      printSum(filesBelow(Path.of(words[0])));
+      return;
+    }
     int modules = Integer.parseInt(words[0]);
     int classes = Integer.parseInt(words[1]);
     drawn = Long.parseUnsignedLong(words[2]);
+    String plugins = words.length > 3 ? words[3] : "";
+    stripped = !plugins.isEmpty();
+    // Compacting in front of stripping finds each constant named.
+    compacted = plugins.equals("strip,compact");
     Map<String, byte[]> files = files(modules, classes);
-    if (words.length > 3) {
+    if (words.length > 4) {
       for (Map.Entry<String, byte[]> file : files.entrySet()) {
-        Path path = Path.of(words[3], file.getKey());
+        Path path = Path.of(words[4], file.getKey());
         Files.createDirectories(path.getParent());
         Files.write(path, file.getValue());
       }
     } else {
-      long sum = 0;
-      for (Map.Entry<String, byte[]> file : files.entrySet()) {
-        sum = sum(sum, ("x/" + file.getKey()).getBytes(StandardCharsets.US_ASCII));
-        sum = sum(sum, file.getValue());
-      }
-      System.out.println(files.size() + " " + Long.toUnsignedString(sum));
+      printSum(files);
     }
+  }
+
+  private static void printSum(Map<String, byte[]> files) {
+    long sum = 0;
+    for (Map.Entry<String, byte[]> file : files.entrySet()) {
+      sum = sum(sum, ("x/" + file.getKey()).getBytes(StandardCharsets.US_ASCII));
+      sum = sum(sum, file.getValue());
+    }
+    System.out.println(files.size() + " " + Long.toUnsignedString(sum));
+  }
+
+  private static Map<String, byte[]> filesBelow(Path folder) throws IOException {
+    Map<String, byte[]> files = new TreeMap<>();
+    try (Stream<Path> all = Files.walk(folder)) {
+      for (Path path : (Iterable<Path>) all.filter(Files::isRegularFile)::iterator) {
+        files.put(folder.relativize(path).toString(), Files.readAllBytes(path));
+      }
+    }
+    return files;
   }
 
   private static Map<String, byte[]> files(int modules, int classes) throws IOException {
@@ -99,26 +126,37 @@ public class GenerateModules {
     ByteArrayOutputStream bytes = new ByteArrayOutputStream();
     DataOutputStream out = new DataOutputStream(bytes);
     out.writeInt(0xCAFEBABE);
-    shorts(out, 0, 61, 13);
+    String[] debug = compacted ? new String[0] : new String[] {"LineNumberTable", "SourceFile", own + ".java"};
+    int number = 8 + debug.length;
+    shorts(out, 0, 61, number + 2);
     text(out, path);
     index(out, 7, 1);
     text(out, "java/lang/Object");
     index(out, 7, 3);
-    for (String each : new String[] {"v", "()J", "Code", "LineNumberTable", "SourceFile", own + ".java"}) {
+    for (String each : new String[] {"v", "()J", "Code"}) {
+      text(out, each);
+    }
+    for (String each : debug) {
       text(out, each);
     }
     out.writeByte(5);
     out.writeLong(value);
     shorts(out, 0x0021, 2, 4, 0, 0, 1, 0x0009, 5, 6, 1, 7);
-    out.writeInt(28);
+    out.writeInt(stripped ? 16 : 28);
     shorts(out, 2, 0);
     out.writeInt(4);
-    out.writeInt(0x14000BAD);
-    shorts(out, 0, 1, 8);
-    out.writeInt(6);
-    shorts(out, 1, 0, 1, 1, 9);
-    out.writeInt(2);
-    shorts(out, 10);
+    // ldc2_w of the long, lreturn
+    out.writeInt(0x140000AD | number << 8);
+    shorts(out, 0);
+    if (stripped) {
+      shorts(out, 0, 0);
+    } else {
+      shorts(out, 1, 8);
+      out.writeInt(6);
+      shorts(out, 1, 0, 1, 1, 9);
+      out.writeInt(2);
+      shorts(out, 10);
+    }
     return bytes.toByteArray();
   }
 

@@ -11,8 +11,8 @@ import java.util.regex.Matcher;
 import java.util.regex.Pattern;
 
 /**
- * Computes the answers of the tables of small graphs in the tests of jm_lower_tests, plainly and slowly:
- * `java scripts/SlowClosure.java crates/jm_lower_tests/src/closures.rt`.
+ * Computes the answers of the tables of small graphs in the tests, plainly and slowly:
+ * `java scripts/SlowClosure.java crates/jm_lower_tests/src/closures.rt crates/jm_upper_tests/src/services.rt`.
  *
  * A module is reached where a list of modules leads to it from a root, each requiring the next without `static`: all
  * such lists are gone through. A module is bound where it is in every closed set: all sets of modules are gone

@@ -1,4 +1,5 @@
-//! Images and classes, byte for byte.
+//! Images and classes, byte for byte, as `scripts/small_images` makes them by a program of its own,
+//! which `.ci/run` compares with them.
 ghost use Rattle.std.specs.Prelude.{◌≡◌, IfOk};
 
 use jm_halves::NoGate;

@@ -21,6 +21,8 @@ mod pools;
 #[cfg(test)]
 mod runs;
 #[cfg(test)]
+mod services;
+#[cfg(test)]
 mod sessions;
 #[cfg(test)]
 mod shelves;
