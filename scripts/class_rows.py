@@ -105,6 +105,10 @@ CLASS_FAULTS = [
     ("a Code longer than any file", GENERATED, (143, 147, [255, 255, 255, 255]), "Short 147"),
     ("a Code whose length is too small by 1", GENERATED, (146, 147, [27]), "CodeLength 143"),
     ("a Code whose length is too great by 1", GENERATED, (146, 147, [29]), "CodeLength 143"),
+    # The length and the bytes agree, so that a reader that trusts the length finds the next part.
+    ("a Code one byte longer than its parts", GENERATED, (146, 175, [29, *GENERATED[147:175], 0]), "CodeLength 143"),
+    ("a Code of no attribute, one byte longer than its parts", STRIPPED, (146, 163, [17, *STRIPPED[147:163], 0]),
+     "CodeLength 143"),
     ("instructions whose length is too great by 1", GENERATED, (154, 155, [5]), "Index 164"),
     ("an attribute of a Code named by a Long", GENERATED, (164, 165, [11]), "Index 163"),
     ("an attribute behind a count of 0", GENERATED, (176, 177, [0]), "Rest 177"),
