@@ -1,28 +1,29 @@
 //! A gate at which two pieces of work meet.
 
 use crate::calls::shelf_of;
-use crate::images::SIX_IMAGE;
+use crate::images::{SIX, SIX_IMAGE};
 use crate::runs::told_by;
 use jm_halves::Gate;
 use jm_valid::open_image;
 use std::hint::spin_loop;
-use std::sync::atomic::{AtomicBool, Ordering};
+use std::sync::atomic::{AtomicBool, AtomicUsize, Ordering};
 use std::test::Fail;
 
-/// How often a flag is looked for.
+/// How often a count is looked at.
 const LOOKS: u32 = 200_000_000;
 
-/// A gate at which each of two pieces raises its flag and looks for the other's.
+/// A gate at which each of two pieces counts its entries, and looks for one of the other.
 #[derive(Drop)]
 struct Meeting {
-    flags: [AtomicBool; 2],
+    first: AtomicUsize,
+    second: AtomicUsize,
     missed: AtomicBool,
 }
 
-/// Looks for a flag until it is up, and says whether it was ever seen.
-fn sees(flag: &AtomicBool) -> bool {
+/// Looks at a count until it isn't 0, and says whether it ever was another.
+fn rises(count: &AtomicUsize) -> bool {
     for _ in 0..LOOKS {
-        if flag.load(Ordering::SeqCst) {
+        if count.load(Ordering::SeqCst) > 0 {
             return true;
         }
         spin_loop();
@@ -32,14 +33,13 @@ fn sees(flag: &AtomicBool) -> bool {
 
 impl Gate for Meeting {
     fn enter(&self, piece: usize) {
-        let [first, second] = &self.flags;
         let (own, other) = if piece == 0 {
-            (first, second)
+            (&self.first, &self.second)
         } else {
-            (second, first)
+            (&self.second, &self.first)
         };
-        own.store(true, Ordering::SeqCst);
-        if !sees(other) {
+        own.fetch_add(1, Ordering::SeqCst);
+        if !self.missed.load(Ordering::SeqCst) && !rises(other) {
             self.missed.store(true, Ordering::SeqCst);
         }
     }
@@ -49,36 +49,54 @@ impl Meeting {
     /// A meeting to which no piece has come.
     fn new() -> Meeting {
         Meeting {
-            flags: [AtomicBool::new(false), AtomicBool::new(false)],
+            first: AtomicUsize::new(0),
+            second: AtomicUsize::new(0),
             missed: AtomicBool::new(false),
         }
     }
 
-    /// Whether each piece raised its flag and saw the other's.
-    fn is_met(&self) -> bool {
-        let [first, second] = &self.flags;
-        let raised = first.load(Ordering::SeqCst) && second.load(Ordering::SeqCst);
-        raised && !self.missed.load(Ordering::SeqCst)
+    /// The entries of each piece, and whether one of them missed the other.
+    fn told(&self) -> ((usize, usize), bool) {
+        let first = self.first.load(Ordering::SeqCst);
+        let second = self.second.load(Ordering::SeqCst);
+        ((first, second), self.missed.load(Ordering::SeqCst))
     }
 }
 
-/// Command lines of two jobs on a shelf with an image, and the front of what each gives.
-const LINES: &[(&str, &str)] = &[
-    ("verify img --jobs 2", "0|valid 21\n|"),
+/// Command lines of two jobs, one behind another on a shelf with six files, the front of what each
+/// gives, and how often each piece enters the gate: once for a plug-in. For an image that is opened
+/// both enter for its slots, and one for its names, which are a single part.
+const LINES: &[(&str, &str, (usize, usize))] = &[
+    (
+        "link --module-path mods --add-modules a --output img --exclude-resources=/c/** --jobs 2",
+        "0|modules 3\nresources 6\nbytes 1006\n|",
+        (1, 1),
+    ),
+    ("verify img --jobs 2", "0|valid 21\n|", (2, 1)),
+    (
+        "link --from-image img --add-modules a --output two --exclude-resources=/c/** --jobs 2",
+        "0|modules 3\nresources 6\nbytes 1006\n|",
+        (3, 2),
+    ),
     (
         "gen d --modules 1 --classes 2 --seed 0 --jobs 2",
         "0|modules 1\nresources 3\n",
+        (1, 1),
     ),
 ];
 
 #[test]
 fn both_pieces_of_a_run_meet(rt: HostRuntime) -> Result<(), Fail> {
-    for (line, front) in LINES {
+    let mut shelf = shelf_of(rt.alloc(), SIX, &[])?;
+    for (line, front, entries) in LINES {
         let gate = Meeting::new();
-        let mut shelf = shelf_of(rt.alloc(), &[("img", SIX_IMAGE)], &[])?;
         let told = told_by(&rt, rt.alloc(), line, &mut shelf, &gate)?;
         assert!(rt; told.starts_with(front), "{line}: {told}");
-        assert!(rt; gate.is_met(), "the pieces of {line} met at the gate");
+        assert_eq!(rt;
+            gate.told(),
+            (*entries, false),
+            "how often each piece of {line} entered the gate, and whether one missed the other"
+        );
     }
     Ok(())
 }
@@ -88,6 +106,10 @@ fn both_pieces_of_an_opening_meet(rt: HostRuntime) -> Result<(), Fail> {
     let gate = Meeting::new();
     let image = open_image(&rt, rt.alloc(), 2, SIX_IMAGE, &gate)?;
     assert_eq!(rt; image.header().count, 21, "the image that was opened");
-    assert!(rt; gate.is_met(), "the pieces met at the gate");
+    assert_eq!(rt;
+        gate.told(),
+        ((2, 1), false),
+        "how often each piece entered the gate, and whether one missed the other"
+    );
     Ok(())
 }

@@ -4,25 +4,35 @@ ghost use Rattle.std.specs.Prelude.{◌≤◌};
 use crate::calls::shelf_of;
 use jm_bytes::{NoMemory, copy_of, extend};
 use jm_gen::generate;
-use jm_outside::{MemShelf, Shelf, make_file};
-use std::alloc::Global;
+use jm_outside::{MemShelf, Shelf, ShelfError, make_file};
+use std::alloc::{AllocError, Global};
 use std::test::Fail;
 
-/// The call that fails while a file is made anew, whether it is made, and what then stands.
-const MADE: &[(&str, u64, bool, &[u8])] = &[
-    ("no call fails", 9, true, b"bytes"),
-    ("the create fails", 0, false, b"old"),
-    ("the append fails", 1, false, b"by"),
+/// How some files were made, as a text.
+fn told(alloc: Global, made: &Result<(), ShelfError>) -> Result<String, AllocError> {
+    format!(in alloc; "{made:?}")
+}
+
+/// The call that fails while a file is made anew, how that ends, and what then stands.
+const MADE: &[(&str, u64, &str, &[u8])] = &[
+    ("no call fails", 9, "Ok(())", b"bytes"),
+    ("the create fails", 0, "Err(Failed)", b"old"),
+    ("the append fails", 1, "Err(Failed)", b"by"),
 ];
 
 #[test]
 fn a_file_stands_whole_or_a_front_of_it(rt: HostRuntime) -> Result<(), Fail> {
     let path = "a/b".as_bytes();
-    for (shows, failing, is_made, stands) in MADE {
+    for (shows, failing, end, stands) in MADE {
         let mut shelf = shelf_of(rt.alloc(), &[("a/b", b"old")], &[*failing])?;
-        let made = make_file(rt.alloc(), &mut shelf, path, b"bytes").is_ok();
-        assert_eq!(rt; made, *is_made, "{shows}");
-        assert_eq!(rt; shelf.file(path), Some(*stands), "{shows}");
+        let made = make_file(rt.alloc(), &mut shelf, path, b"bytes");
+        let made = told(rt.alloc(), &made)?;
+        assert_eq!(rt; made.as_str(), *end, "{shows}");
+        assert_eq!(rt;
+            shelf.file(path),
+            Some(*stands),
+            "what stands where {shows}"
+        );
     }
     Ok(())
 }
@@ -66,7 +76,7 @@ fn generated(alloc: Global, modules: u32, classes: u32, seed: u64) -> Result<(us
 
 #[test]
 fn files_from_a_number(rt: HostRuntime) -> Result<(), Fail> {
-    // the sums are of another program's files
+    // the sums are those of `java scripts/GenerateModules.java MODULES CLASSES SEED`
     for (shows, modules, classes, seed, sum) in [
         ("one class", 1, 1, 0, (2, 1_931_872_847_541_223_504)),
         (
@@ -92,31 +102,46 @@ fn files_from_a_number(rt: HostRuntime) -> Result<(), Fail> {
         ),
     ] {
         let made = generated(rt.alloc(), modules, classes, seed)?;
-        assert_eq!(rt; made, sum, "{shows}");
+        assert_eq!(rt; made, sum, "{shows}: gen of {modules}, {classes}, {seed}");
     }
     Ok(())
 }
 
-/// The call that fails while one module with one class is made, whether all is made, and how long
-/// its two files then are.
-const LEFT: &[(&str, u64, bool, Option<usize>, Option<usize>)] = &[
-    ("the first create fails", 0, false, None, None),
-    ("the first append fails", 1, false, Some(41), None),
-    ("the second create fails", 2, false, Some(82), None),
-    ("the second append fails", 3, false, Some(82), Some(92)),
-    ("no call fails", 9, true, Some(82), Some(185)),
+/// The call that fails while one module with one class is made, how that ends, and how long its two
+/// files then are.
+const LEFT: &[(&str, u64, &str, Option<usize>, Option<usize>)] = &[
+    ("the first create fails", 0, "Err(Failed)", None, None),
+    ("the first append fails", 1, "Err(Failed)", Some(41), None),
+    ("the second create fails", 2, "Err(Failed)", Some(82), None),
+    (
+        "the second append fails",
+        3,
+        "Err(Failed)",
+        Some(82),
+        Some(92),
+    ),
+    ("no call fails", 9, "Ok(())", Some(82), Some(185)),
 ];
 
 #[test]
 fn a_failing_call_leaves_a_front(rt: HostRuntime) -> Result<(), Fail> {
-    for (shows, failing, is_made, info, class) in LEFT {
+    for (shows, failing, end, info, class) in LEFT {
         let mut shelf = shelf_of(rt.alloc(), &[], &[*failing])?;
-        let made = generate(rt.alloc(), &mut shelf, "x".as_bytes(), 1, 1, 0).is_ok();
-        assert_eq!(rt; made, *is_made, "{shows}");
+        let made = generate(rt.alloc(), &mut shelf, "x".as_bytes(), 1, 1, 0);
+        let made = told(rt.alloc(), &made)?;
+        assert_eq!(rt; made.as_str(), *end, "{shows}");
         let stands = shelf.file(b"x/m000/module-info.class");
-        assert_eq!(rt; stands.map(|bytes| bytes.len()), *info, "{shows}");
+        assert_eq!(rt;
+            stands.map(|bytes| bytes.len()),
+            *info,
+            "the descriptor where {shows}"
+        );
         let stands = shelf.file(b"x/m000/m000/p0/C0000.class");
-        assert_eq!(rt; stands.map(|bytes| bytes.len()), *class, "{shows}");
+        assert_eq!(rt;
+            stands.map(|bytes| bytes.len()),
+            *class,
+            "the class where {shows}"
+        );
     }
     Ok(())
 }

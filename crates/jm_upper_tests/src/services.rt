@@ -1,7 +1,7 @@
 //! Links that bind services, of modules whose descriptors are written here from words.
 //!
-//! A module is a line: its name, and behind it `m` for a module that it requires, `?s` for a service
-//! that it uses and `!s` for one that it provides.
+//! A module is a line: its name, and behind it `m` for a module that it requires, `?s` for a
+//! service that it uses and `!s` for one that it provides.
 
 use crate::calls::put;
 use crate::runs::told_by;
@@ -45,10 +45,10 @@ impl Rows {
     }
 }
 
-/// Puts numbers of two bytes, the highest first.
+/// Puts numbers below 65,536, the highest byte first.
 fn put_numbers(out: &mut Vec<u8>, numbers: &[usize]) -> Result<(), NoMemory> {
     for number in numbers {
-        extend(out, &[(*number >> 8) as u8, *number as u8])?;
+        extend(out, &[(*number / 256 % 256) as u8, (*number % 256) as u8])?;
     }
     Ok(())
 }

@@ -7,31 +7,41 @@ use crate::calls::shelf_of;
 use crate::images::{EMPTY, EMPTY_BIG, SIX, SIX_BIG, SIX_IMAGE};
 use crate::pools::{are_fit, pool_of};
 use crate::told::text_of;
-use jm_bytes::{NoMemory, Order, Text};
+use jm_bytes::{Order, Text};
 use jm_pool::Pool;
 use jm_writer::{Draft, PlanError, plan, write};
-use std::alloc::Global;
+use std::alloc::{AllocError, Global};
 use std::test::Fail;
 
-/// How many bytes stand in the file that a draft is written to where a call fails, if they are the
-/// image's front and the draft's length is the image's.
+/// What stands in a file that should be an image or a front of it: how many bytes, or the first one
+/// that isn't the image's.
+fn told_front(alloc: Global, bytes: Option<&[u8]>, image: &[u8]) -> Result<String, AllocError> {
+    let Some(bytes) = bytes else {
+        return String::from_str(alloc, "no file");
+    };
+    for (at, byte) in bytes.iter().enumerate() {
+        if image.get(at) != Some(byte) {
+            return format!(in alloc; "{byte} at {at}, and not {:?}", image.get(at));
+        }
+    }
+    format!(in alloc; "{} bytes", bytes.len())
+}
+
+/// How a draft is written where a call fails, and what then stands in its file.
 fn stands(
     alloc: Global,
     draft: &Draft,
     pool: &Pool,
     image: &[u8],
     failing: u64,
-) -> Result<Option<usize>, NoMemory>
+) -> Result<String, Fail>
     requires { IsDraft draft.now.order pool.now draft.now }
 {
     let mut shelf = shelf_of(alloc, &[], &[failing])?;
-    let _answer = write(alloc, draft, pool, &mut shelf, "img".as_bytes());
-    match shelf.file(b"img") {
-        Some(bytes) if image.starts_with(bytes) && draft.length == image.len() as u64 => {
-            Ok(Some(bytes.len()))
-        }
-        _ => Ok(None),
-    }
+    let answer = write(alloc, draft, pool, &mut shelf, "img".as_bytes());
+    let front = told_front(alloc, shelf.file(b"img"), image)?;
+    let length = draft.length;
+    Ok(format!(in alloc; "{answer:?}, {front} of {length}")?)
 }
 
 /// The same of the image of a pool.
@@ -41,23 +51,23 @@ fn written(
     pool: &Pool,
     image: &[u8],
     failing: u64,
-) -> Result<Option<usize>, Fail> {
+) -> Result<String, Fail> {
     if !are_fit(pool) {
-        return Ok(None);
+        return Ok(String::from_str(alloc, "names that aren't fit")?);
     }
     let draft = plan(alloc, order, pool)?;
-    Ok(stands(alloc, &draft, pool, image, failing)?)
+    stands(alloc, &draft, pool, image, failing)
 }
 
 /// What is shown; the image of files in an order of bytes, the call that fails while it is written,
-/// and how many of its bytes then stand.
+/// how that ends, and what then stands of how many bytes.
 struct Write {
     shows: &'static str,
     files: &'static [(&'static str, &'static [u8])],
     order: Order,
     image: &'static [u8],
     failing: u64,
-    left: Option<usize>,
+    left: &'static str,
 }
 
 /// The number of a call that isn't made.
@@ -70,7 +80,7 @@ const WHOLE: &[Write] = &[
         order: Order::Little,
         image: EMPTY,
         failing: NEVER,
-        left: Some(85),
+        left: "Ok(()), 85 bytes of 85",
     },
     Write {
         shows: "no resource, big",
@@ -78,7 +88,7 @@ const WHOLE: &[Write] = &[
         order: Order::Big,
         image: EMPTY_BIG,
         failing: NEVER,
-        left: Some(85),
+        left: "Ok(()), 85 bytes of 85",
     },
     Write {
         shows: "six resources, little",
@@ -86,7 +96,7 @@ const WHOLE: &[Write] = &[
         order: Order::Little,
         image: SIX_IMAGE,
         failing: NEVER,
-        left: Some(1006),
+        left: "Ok(()), 1006 bytes of 1006",
     },
     Write {
         shows: "six resources, big",
@@ -94,7 +104,7 @@ const WHOLE: &[Write] = &[
         order: Order::Big,
         image: SIX_BIG,
         failing: NEVER,
-        left: Some(1006),
+        left: "Ok(()), 1006 bytes of 1006",
     },
 ];
 
@@ -105,7 +115,7 @@ const FAILING: &[Write] = &[
         order: Order::Little,
         image: SIX_IMAGE,
         failing: 0,
-        left: None,
+        left: "Err(Failed), no file of 1006",
     },
     Write {
         shows: "the append of the index fails",
@@ -113,7 +123,7 @@ const FAILING: &[Write] = &[
         order: Order::Little,
         image: SIX_IMAGE,
         failing: 1,
-        left: Some(289),
+        left: "Err(Failed), 289 bytes of 1006",
     },
     Write {
         shows: "the append of the second resource fails",
@@ -121,7 +131,7 @@ const FAILING: &[Write] = &[
         order: Order::Little,
         image: SIX_IMAGE,
         failing: 3,
-        left: Some(693),
+        left: "Err(Failed), 693 bytes of 1006",
     },
     Write {
         shows: "the append of the tail fails",
@@ -129,7 +139,7 @@ const FAILING: &[Write] = &[
         order: Order::Little,
         image: SIX_IMAGE,
         failing: 8,
-        left: Some(948),
+        left: "Err(Failed), 948 bytes of 1006",
     },
 ];
 
@@ -139,7 +149,7 @@ fn images_are_written_whole_or_a_front(rt: HostRuntime) -> Result<(), Fail> {
         for row in rows {
             let pool = pool_of(rt.alloc(), row.files)?;
             let left = written(rt.alloc(), row.order, &pool, row.image, row.failing)?;
-            assert_eq!(rt; left, row.left, "{}", row.shows);
+            assert_eq!(rt; left.as_str(), row.left, "{}", row.shows);
         }
     }
     Ok(())
