@@ -24,10 +24,11 @@ live_flags-tell c sites fits is =
 pub flags_same : (c : ClassData) (sites : List Site) (flags : List Bool) → IsClass c → sites_of c ≡ Some sites → TellsLive c flags → flags ≡ live_flags c
 flags_same c sites flags fits is tells = told_once c flags (live_flags c) tells (live_flags-tell c sites fits is)
 
-module _ (c : ClassData) (fits : IsClass c) (bytes : IsBytes (class_text c)) where
+module _ (c : ClassData) (fits : IsClass c) where
   compact_sites : (sites : List Site) → sites_of c ≡ Some sites → compact_text c ≡ compact_with (live_flags c) sites c
   compact_sites sites is = ap (text_by c) is
 
+  -- the computed text is one by the rule
   pub rule : IsCompact c (compact_text c)
   rule = go (sites_of c) refl
     where
@@ -35,8 +36,15 @@ module _ (c : ClassData) (fits : IsClass c) (bytes : IsBytes (class_text c)) whe
       go None is = Whole is (ap (text_by c) is)
       go (Some sites) is = Smaller sites (live_flags c) is (live_flags-tell c sites fits is) (compact_sites sites is)
 
+  -- there is no other
+  pub rule_only : (text : List ℕ) → IsCompact c text → text ≡ compact_text c
+  rule_only text (Whole is whole) = whole ∙ sym (ap (text_by c) is)
+  rule_only text (Smaller sites flags is tells smaller) =
+      smaller ∙ ap (λ (own : List Bool). compact_with own sites c) (flags_same c sites flags fits is tells) ∙ sym (compact_sites sites is)
+
+module _ (c : ClassData) (fits : IsClass c) (bytes : IsBytes (class_text c)) where
   pub says : (sites : List Site) → sites_of c ≡ Some sites → SaysTheSame c sites (compact_text c)
-  says sites is = says_the_same c fits bytes sites is (live_flags c) (live_flags-tell c sites fits is) (compact_text c) (compact_sites sites is)
+  says sites is = says_the_same c fits bytes sites is (live_flags c) (live_flags-tell c sites fits is) (compact_text c) (compact_sites c fits sites is)
 
   pub shorter : length (compact_text c) ≤ length (class_text c)
   shorter = go (sites_of c) refl
@@ -44,7 +52,7 @@ module _ (c : ClassData) (fits : IsClass c) (bytes : IsBytes (class_text c)) whe
       go : (found : Option (List Site)) → sites_of c ≡ found → length (compact_text c) ≤ length (class_text c)
       go None is = let same = ap length (ap (text_by c) is) in omega (arith, same)
       go (Some sites) is =
-          let same = ap length (compact_sites sites is) in
+          let same = ap length (compact_sites c fits sites is) in
           let less = not_longer c fits bytes sites is (live_flags c) (live_flags-tell c sites fits is) in
           omega (arith, same, less)
 
@@ -58,7 +66,7 @@ module _ (c : ClassData) (fits : IsClass c) (bytes : IsBytes (class_text c)) whe
       go (Some sites) is =
           let tells = live_flags-tell c sites fits is in
           let d : ClassData = m c fits bytes sites is (live_flags c) tells in
-          let text : compact_text c ≡ class_text d = compact_sites sites is ∙ class_reads c fits bytes sites is (live_flags c) tells in
+          let text : compact_text c ≡ class_text d = compact_sites c fits sites is ∙ class_reads c fits bytes sites is (live_flags c) tells in
           let fine : IsClass d = class_fits c fits bytes sites is (live_flags c) tells in
           let found = sites_again c fits bytes sites is (live_flags c) tells in
           let stays = again_same c fits bytes sites is (live_flags c) tells (live_flags d) (live_flags-tell d _ fine found) in
@@ -79,7 +87,7 @@ module _ (bytes : List ℕ) (c : ClassData) (reads : ReadsAs bytes c) (all : IsB
   computed_text = ap with_text (reads-class_of bytes c reads)
 
   pub rule_text : (d : ClassData) → ReadsAs bytes d → IsCompact d (compact_text c)
-  rule_text d other = subst (λ e. IsCompact e (compact_text c)) (only d other) (rule c reads.well_formed class_bytes)
+  rule_text d other = subst (λ e. IsCompact e (compact_text c)) (only d other) (rule c reads.well_formed)
 
   pub says_text : (d : ClassData) (sites : List Site) → ReadsAs bytes d → sites_of d ≡ Some sites → SaysTheSame d sites (compact_text c)
   says_text d sites other is =

@@ -54,8 +54,8 @@ pub fn owner_at<'a, R: Ledger>(
     Owned { empty, module }
 }
 
-/// The text at a place of the strings, if it is this one. The byte at which it would end is looked at
-/// first, so that a long text costs little, however many pairs lead to it.
+/// The text at a place of the strings, if it is this one. The byte at which it would end is looked
+/// at first, so that a long text costs little, however many pairs lead to it.
 fn text_if<'a, R: Ledger>(
     buf: &Buf<'a>,
     header: &Header,

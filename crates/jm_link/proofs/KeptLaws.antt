@@ -23,7 +23,8 @@ use Rattle.jm_plugins.specs.declared.chain.ApplyError.{ApplyError}
 use Rattle.jm_pattern.specs.ComputedMatching.{matches_any}
 use Rattle.jm_bytes.specs.Results.{followed}
 use Rattle.jm_plugins.specs.Packaging.{is_descriptor, listing_text, packages_of}
-use Rattle.jm_plugins.specs.Plugins.{act, apply, is_class, remade, remade_pair, remade_pairs, stripped_text}
+use Rattle.jm_plugins.specs.ComputedPlugins.{act, apply, remade, remade_pair, remade_pairs, stripped_text}
+use Rattle.jm_plugins.specs.Plugins.{is_class}
 use Rattle.jm_pool.specs.Pairs.{names_of}
 use Rattle.jm_link.specs.Relinked.{leaves_order}
 use Rattle.jm_link.proofs.SaidLaws.{Says, compacted_says, packaged_says, stripped_says}

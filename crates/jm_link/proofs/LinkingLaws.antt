@@ -3,7 +3,6 @@ use Rattle.std.proofs.Common.{◌≡◌, ◌≢◌, ◌⊎◌, ◌<◌, ◌∙�
 use Rattle.std.proofs.lemmas.List.Elements.{All-contains, All-map}
 use Rattle.jm_bytes.proofs.Members.{all_from_contains, contains_map}
 use Rattle.jm_bytes.specs.Checks.{first_fault}
-use Rattle.jm_bytes.specs.Results.{UnlessMemory}
 use Rattle.jm_bytes.specs.declared.words.Order.{Order}
 use Rattle.jm_closure.specs.declared.candidate.Candidate.{Candidate}
 use Rattle.jm_closure.specs.declared.error.CloseError.{CloseError}
@@ -16,10 +15,11 @@ use Rattle.jm_outside.specs.Files.{Files, file}
 use Rattle.jm_outside.specs.Holds.{Holds, HoldsPart}
 use Rattle.jm_outside.specs.Outcome.{Rose, Shows}
 use Rattle.jm_outside.specs.Shelves.{ShelfFailed, ShelfSeen}
-use Rattle.jm_plugins.specs.Plugins.{apply}
+use Rattle.jm_plugins.specs.Plugins.{Applies}
 use Rattle.jm_plugins.specs.declared.Plugin.{Plugin}
 use Rattle.jm_plugins.specs.declared.chain.ApplyError.{ApplyError}
 use Rattle.jm_plugins.specs.declared.chain.ApplyError.TheVariants as plugging
+use Rattle.jm_plugins.proofs.ComputedPluginsLaws.{applies_only}
 use Rattle.jm_plugins.proofs.NameLaws.{names_differ, names_kept}
 use Rattle.jm_modpath.specs.declared.refusal.PathStop.{PathStop}
 use Rattle.jm_modpath.specs.declared.refusal.PathStop.TheVariants as path_stop
@@ -34,7 +34,7 @@ use Rattle.jm_link.specs.declared.linking.Summary.{Summary}
 use Rattle.jm_link.specs.declared.resources.ResourceFile.{ResourceFile}
 use Rattle.jm_link.specs.Chosen.{Chosen, reserved}
 use Rattle.jm_link.specs.Closing.{ClosesAmong, ClosesWith, IsRefusedAmong}
-use Rattle.jm_link.specs.Linked.{IsGatheredTo, IsPluggedTo, LinkedImage, LinksAmong, Request, image_with, laid_out, layout_refusal, path_refusal_as, plugging_refusal}
+use Rattle.jm_link.specs.Linked.{IsGatheredTo, LinkedImage, LinksAmong, PlugsTo, Request, image_with, laid_out, layout_refusal, path_refusal_as, plugging_refusal}
 use Rattle.jm_link.specs.Links.{BreaksOff, ComesTo, IsLaid, LinksBy, PoolComesTo, TellsNothing}
 use Rattle.jm_link.specs.ResourceFiles.{file_names, pair_of}
 use Rattle.jm_link.specs.Resources.{AreFit, link_files, resources_in, resources_of}
@@ -102,26 +102,28 @@ module _ (Comes : Result LinkedImage Refusal → Type 0) (Absent : Type 0) (path
 -- The image of resources
 
 -- names stay fit under plug-ins
-pub fit_left : (plugins : List Plugin) (before left : List Written) → apply plugins before ≡ Ok left → AreFit (names_of before) → AreFit (names_of left)
-fit_left plugins before left is fit = record {
-  differ = names_differ plugins before left is fit.differ;
-  sound = names_kept IsSound plugins before left is fit.sound;
-  plain = names_kept (λ name. is_node name ≡ false) plugins before left is fit.plain;
-}
+pub fit_left : (plugins : List Plugin) (before left : List Written) → Applies plugins before (Ok left) → AreFit (names_of before) → AreFit (names_of left)
+fit_left plugins before left applies fit =
+    let is = sym (applies_only plugins before (Ok left) applies) in
+    record {
+      differ = names_differ plugins before left is fit.differ;
+      sound = names_kept IsSound plugins before left is fit.sound;
+      plain = names_kept (λ name. is_node name ≡ false) plugins before left is fit.plain;
+    }
 
 -- what plug-ins left, where memory was found
-pub left_is : (left : List Written) (given : Result (List Written) ApplyError) → UnlessMemory plugging.Memory (Ok left) given → given ≡ Ok left
-left_is left given (inl never) = cc
-left_is left given (inr is) = sym is
+pub left_is : (plugins : List Plugin) (before left : List Written) → (◌≡◌ {A = Result (List Written) ApplyError} (Ok left) (Err plugging.Memory)) ⊎ Applies plugins before (Ok left) → Applies plugins before (Ok left)
+left_is plugins before left (inl never) = cc
+left_is plugins before left (inr applies) = applies
 
 module _ (asked : Request) (modules : ℕ) (before : List Written) where
   -- the plug-ins are refused
-  pub unplugged : (error : ApplyError) → UnlessMemory plugging.Memory (Err error) (apply asked.plugins before) → (r : Refusal) → plugging_refusal error ≡ Some r → PoolComesTo asked modules before (Err r)
+  pub unplugged : (error : ApplyError) → (◌≡◌ {A = Result (List Written) ApplyError} (Err error) (Err plugging.Memory)) ⊎ Applies asked.plugins before (Err error) → (r : Refusal) → plugging_refusal error ≡ Some r → PoolComesTo asked modules before (Err r)
   unplugged (plugging.BadClass name fault) (inl never) r is = cc
   unplugged plugging.Memory (inl memory) r is = cc
-  unplugged error (inr same) r is = (rw (sym same) is, tt)
+  unplugged error (inr applies) r is = ((Err error, applies, is), tt)
 
-  module _ (resources : List Written) (left : apply asked.plugins before ≡ Ok resources) (fit : AreFit (names_of resources)) where
+  module _ (resources : List Written) (left : Applies asked.plugins before (Ok resources)) (fit : AreFit (names_of resources)) where
     abbrev order : Order
     order = asked.order
 
@@ -132,8 +134,8 @@ module _ (asked : Request) (modules : ℕ) (before : List Written) where
     comes_to : (refused : Option Refusal) → layout_refusal order resources ≡ refused → PoolComesTo asked modules before (laid_out order modules resources refused)
     comes_to refused is = (plugged refused is, laid refused is)
       where
-        plugged : (refused : Option Refusal) → layout_refusal order resources ≡ refused → IsPluggedTo order modules (apply asked.plugins before) (laid_out order modules resources refused)
-        plugged refused is = rw (left, is) refl
+        plugged : (refused : Option Refusal) → layout_refusal order resources ≡ refused → PlugsTo asked modules before (laid_out order modules resources refused)
+        plugged refused is = (Ok resources, left, rw is refl)
 
     abbrev image : LinkedImage
     image = image_with order modules resources

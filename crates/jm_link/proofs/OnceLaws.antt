@@ -11,10 +11,11 @@ use Rattle.jm_modpath.specs.declared.refusal.PathRefusal.{PathRefusal}
 use Rattle.jm_modpath.specs.Modules.{candidates, path_refusal, visible}
 use Rattle.jm_outside.specs.Files.{Files}
 use Rattle.jm_plugins.specs.declared.chain.ApplyError.{ApplyError}
-use Rattle.jm_plugins.specs.Plugins.{apply}
+use Rattle.jm_plugins.specs.ComputedPlugins.{apply}
+use Rattle.jm_plugins.proofs.ComputedPluginsLaws.{applies_only}
 use Rattle.jm_texts.specs.declared.refusal.Refusal.{Refusal}
 use Rattle.jm_link.specs.Chosen.{Chosen, reserved}
-use Rattle.jm_link.specs.Linked.{IsClosedTo, IsFoundTo, IsGatheredTo, IsLinkedOf, IsPathTo, IsPluggedTo, LinkedImage, LinksAmong, LinksTo, Request}
+use Rattle.jm_link.specs.Linked.{IsClosedTo, IsFoundTo, IsGatheredTo, IsLinkedOf, IsPathTo, IsPluggedTo, LinkedImage, LinksAmong, LinksTo, PlugsTo, Request}
 use Rattle.jm_link.specs.Resources.{resources_in}
 use Rattle.jm_texts.specs.NameRefusals.{first_bad_name}
 use Rattle.jm_link.proofs.ChosenLaws.{chosen_below}
@@ -29,10 +30,15 @@ plugged_once order modules (Err error) (Err refusal) (Ok image) one other = absu
 plugged_once order modules (Err error) (Err refusal) (Err refusal') one other =
     rw (same_some refusal refusal' (sym one ∙ other)) refl
 
+-- what is laid out is what the plug-ins are computed to leave
+pub plugs_computed : (asked : Request) (modules : ℕ) (resources : List Written) (r : Answer) → PlugsTo asked modules resources r → IsPluggedTo asked.order modules (apply asked.plugins resources) r
+plugs_computed asked modules resources r (left, applies, is) =
+    subst (λ o. IsPluggedTo asked.order modules o r) (applies_only asked.plugins resources left applies) is
+
 gathered_once : (asked : Request) (modules : ℕ) (resources : List Written) (bad : Option Refusal) (a b : Answer) → IsGatheredTo asked modules resources bad a → IsGatheredTo asked modules resources bad b → a ≡ b
 gathered_once asked modules resources (Some refusal) a b one other = one ∙ sym other
 gathered_once asked modules resources None a b one other =
-    plugged_once asked.order modules (apply asked.plugins resources) a b one other
+    plugged_once asked.order modules (apply asked.plugins resources) a b (plugs_computed asked modules resources a one) (plugs_computed asked modules resources b other)
 
 closed_once : (asked : Request) (resources : List ℕ → List Written) (closed : Result (List ℕ) CloseError) (a b : Answer) → IsClosedTo asked resources closed a → IsClosedTo asked resources closed b → a ≡ b
 closed_once asked resources (Ok places) a b one other =

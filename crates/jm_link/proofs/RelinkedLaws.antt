@@ -21,7 +21,8 @@ use Rattle.jm_form.specs.Layout.{Written}
 use Rattle.jm_form.specs.Validity.{Stands, resources}
 use Rattle.jm_names.specs.ComputedFault.{name_fault}
 use Rattle.jm_plugins.specs.declared.chain.ApplyError.{ApplyError}
-use Rattle.jm_plugins.specs.Plugins.{apply}
+use Rattle.jm_plugins.specs.ComputedPlugins.{apply}
+use Rattle.jm_plugins.specs.Plugins.{Applies}
 use Rattle.jm_reader.specs.Walk.{entries_with}
 use Rattle.jm_relink.specs.Files.{info_entry, resources_of}
 use Rattle.jm_relink.specs.Modules.{IsVisibleIn, ModulesOf, SeenModule}
@@ -31,13 +32,14 @@ use Rattle.jm_texts.specs.declared.refusal.Refusal.{Refusal}
 use Rattle.jm_texts.specs.declared.refusal.Refusal.TheVariants as refusal
 use Rattle.jm_link.specs.Chosen.{Chosen, is_called, reserved}
 use Rattle.jm_link.specs.ImageLinked.{ImageLinksTo, resources_seen, seen_candidates, seen_resources}
-use Rattle.jm_link.specs.Linked.{IsClosedTo, IsFoundTo, IsGatheredTo, IsLinkedOf, IsPluggedTo, LinkedImage, LinksAmong, Request, image_with, laid_out, layout_refusal}
+use Rattle.jm_link.specs.Linked.{IsClosedTo, IsFoundTo, IsGatheredTo, IsLinkedOf, IsPluggedTo, LinkedImage, LinksAmong, PlugsTo, Request, image_with, laid_out, layout_refusal}
 use Rattle.jm_link.specs.Relinked.{leaves_order}
 use Rattle.jm_texts.specs.NameRefusals.{first_bad_name, name_refusal}
 use Rattle.jm_link.proofs.ClosedAgain.{chosen_further, closes_again, found_again, taken}
 use Rattle.jm_link.proofs.FileLaws.{free_names, got}
 use Rattle.jm_link.proofs.FileOrder.{IsFirstOrOne}
 use Rattle.jm_link.proofs.KeptLaws.{AreKept, applied}
+use Rattle.jm_link.proofs.OnceLaws.{plugs_computed}
 use Rattle.jm_link.proofs.SeenAgain.{AreOf, kept_of, only_packages, resources_again, see, seen, seen_visible}
 use Rattle.jm_bytes.proofs.Members.{element_at}
 
@@ -62,7 +64,7 @@ plugged_parts order modules (Ok left) image is = let parts = laid_parts order mo
 plugged_parts order modules (Err error) image is = absurd is
 
 gathered_parts : (asked : Request) (modules : ℕ) (rs : List Written) (o : Option Refusal) (image : LinkedImage) → IsGatheredTo asked modules rs o (Ok image) → (o ≡ None) × IsPluggedTo asked.order modules (apply asked.plugins rs) (Ok image)
-gathered_parts asked modules rs None image is = (refl, is)
+gathered_parts asked modules rs None image is = (refl, plugs_computed asked modules rs (Ok image) is)
 gathered_parts asked modules rs (Some refusal) image is = cc
 
 closed_parts : (asked : Request) (gathered : List ℕ → List Written) (closed : Result (List ℕ) CloseError) (image : LinkedImage) → IsClosedTo asked gathered closed (Ok image) → (places : List ℕ) × (closed ≡ Ok places) × IsGatheredTo asked (length places) (gathered places) (first_bad_name (gathered places)) (Ok image)
@@ -217,8 +219,8 @@ module _ (b : List ℕ) (first asked : Request) (found : List Candidate) (gather
         ∙ ap (λ n. laid_out first.order n made.left (layout_refusal first.order made.left)) count
         ∙ ap (laid_out first.order (length made.places) made.left) made.fits)
 
-    plugged_again : IsPluggedTo asked.order (length all) (apply asked.plugins made.left) (Ok image)
-    plugged_again = subst (λ ps. IsPluggedTo asked.order (length all) (apply ps made.left) (Ok image)) (sym plugins) laid_again
+    plugged_again : PlugsTo asked (length all) made.left (Ok image)
+    plugged_again = (Ok made.left, subst (λ ps. Applies ps made.left (Ok made.left)) (sym plugins) refl, laid_again)
 
     gathered_to : IsGatheredTo asked (length all) (resources_seen ss all) (first_bad_name (resources_seen ss all)) (Ok image)
     gathered_to =

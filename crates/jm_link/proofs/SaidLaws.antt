@@ -28,7 +28,7 @@ use Rattle.jm_modinfo.specs.Flags.{is_module}
 use Rattle.jm_modpath.specs.Modules.{info_in, info_with}
 use Rattle.jm_packages.specs.Packages.{packaged, packages_text}
 use Rattle.jm_packages.proofs.PackagedLaws.{packaged-class, packaged-info}
-use Rattle.jm_plugins.specs.Plugins.{stripped_text}
+use Rattle.jm_plugins.specs.ComputedPlugins.{stripped_text}
 use Rattle.jm_poolmap.specs.declared.forms.Place.TheVariants.{Class, Field, Method}
 use Rattle.jm_poolmap.specs.declared.walk.Walk.{Walk}
 use Rattle.jm_poolmap.specs.ComputedSites.{Step, Walked, attribute_step, back_step, each, found_by, front_step, member_step, passes, step_on, steps, walk_of}

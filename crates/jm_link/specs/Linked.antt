@@ -19,7 +19,7 @@ use Rattle.jm_outside.specs.Files.{Files}
 use Rattle.jm_plugins.specs.declared.Plugin.{Plugin}
 use Rattle.jm_plugins.specs.declared.chain.ApplyError.{ApplyError}
 use Rattle.jm_plugins.specs.declared.chain.ApplyError.TheVariants as plugging
-use Rattle.jm_plugins.specs.Plugins.{apply}
+use Rattle.jm_plugins.specs.Plugins.{Applies}
 use Rattle.jm_writer.specs.Drafts.{entry_limit, image_limit, large_number}
 use Rattle.jm_texts.specs.declared.refusal.Refusal.{Refusal}
 use Rattle.jm_texts.specs.declared.refusal.Refusal.TheVariants as refusal
@@ -93,13 +93,19 @@ IsPluggedTo order modules (Ok resources) result =
 IsPluggedTo order modules (Err error) (Ok image) = ⊥
 IsPluggedTo order modules (Err error) (Err refusal) = plugging_refusal error ≡ Some refusal
 
+-- what the resources of so many modules come to: the plug-ins act on them, and what these leave is
+-- laid out
+abbrev pub PlugsTo : Request → ℕ → List Written → Result LinkedImage Refusal → Type 0
+PlugsTo asked modules resources result =
+    (left : Result (List Written) ApplyError) × Applies asked.plugins resources left
+    × IsPluggedTo asked.order modules left result
+
 -- the first unfit name of the resources of so many modules is refused, else the plug-ins act on
 -- them
 abbrev pub IsGatheredTo : Request → ℕ → List Written → Option Refusal
     → Result LinkedImage Refusal → Type 0
 IsGatheredTo asked modules resources (Some refusal) result = result ≡ Err refusal
-IsGatheredTo asked modules resources None result =
-    IsPluggedTo asked.order modules (apply asked.plugins resources) result
+IsGatheredTo asked modules resources None result = PlugsTo asked modules resources result
 
 -- The closure
 

@@ -12,8 +12,7 @@ use Rattle.jm_link.specs.declared.linking.LinkStop.{LinkStop}
 use Rattle.jm_link.specs.declared.linking.LinkStop.TheVariants as stop
 use Rattle.jm_link.specs.declared.linking.Summary.{Summary}
 use Rattle.jm_texts.specs.declared.refusal.Refusal.{Refusal}
-use Rattle.jm_plugins.specs.Plugins.{apply}
-use Rattle.jm_link.specs.Linked.{IsPluggedTo, LinkedImage, LinksTo, Request}
+use Rattle.jm_link.specs.Linked.{LinkedImage, LinksTo, PlugsTo, Request}
 
 -- what is asked for, as plain data
 abbrev pub request_of : Asked → Request
@@ -85,9 +84,7 @@ abbrev pub Links : List (List ℕ) → Request → List ℕ → Result Summary L
 Links directories asked path answer old new =
     LinksBy (ComesTo old.told directories asked) (TellsNothing old.told) path answer old new
 
--- what the resources of so many modules come to: the plug-ins act on them, and what these leave is
--- laid out
+-- what the resources of so many modules come to, and an image is laid out
 abbrev pub PoolComesTo : Request → ℕ → List Written → Result LinkedImage Refusal → Type 0
 PoolComesTo asked modules resources result =
-    IsPluggedTo asked.order modules (apply asked.plugins resources) result
-    × IsLaid asked.order result
+    PlugsTo asked modules resources result × IsLaid asked.order result

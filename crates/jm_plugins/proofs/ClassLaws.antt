@@ -1,5 +1,6 @@
 -- Classes made anew, put at their places one after another, are the pairs with these texts.
 use Rattle.std.proofs.Common.{◌≡◌, ℕ, zero, suc, ◌+◌, ◌<◌, inl, inr, List, [], ◌∷◌, ◌++◌, Bool, true, false, cond, Result, Ok, Err, IfOk, Some, All, length, drop, ◌≤◌, get_or, slice_get, refl, sym, ap, subst, ◌∙◌, arith, append_assoc, append-nil}
+use Rattle.std.proofs.lemmas.Bool.{false≢true}
 use Rattle.std.proofs.lemmas.List.{length_push, drop_more, drop_all}
 use Rattle.std.proofs.lemmas.Option.{get_or_from_slice_get}
 use Rattle.std.proofs.lemmas.List.Elements.{All-nil, All-cons, All-head, All-tail, All-weaker}
@@ -20,8 +21,8 @@ use Rattle.jm_plugins.specs.declared.chain.ApplyError.TheVariants.{BadClass, Mem
 use Rattle.jm_plugins.specs.declared.classes.Remade.{Remade}
 use Rattle.jm_bytes.specs.Results.{followed, UnlessMemory}
 use Rattle.jm_pool.proofs.PairLaws.{zipped}
-use Rattle.jm_plugins.specs.Plugins.{remade, remade_pair, remade_pairs, stripped_text}
-use Rattle.jm_plugins.specs.Steps.{class_places, put_remade, put_one, IsRemade, Refuses, RemadeAs}
+use Rattle.jm_plugins.specs.ComputedPlugins.{remade, remade_pair, remade_pairs, stripped_text}
+use Rattle.jm_plugins.specs.Steps.{class_places, put_remade, put_one, IsRemade, ReadsByRule, Refuses, RemadeAs, TakenRead}
 use Rattle.jm_plugins.proofs.Beside.{at_front}
 
 -- Pairs with other bytes at a place
@@ -84,16 +85,20 @@ remade_within text n all (place ∷ places) (one ∷ outs) zipped within =
 
 -- What is said of one text
 
+-- bytes with a fault are computed to be none
+pub fault_computed : (bytes : List ℕ) (fault : ClassFault) → class_fault bytes ≡ Some fault → class_of bytes ≡ Err fault
+fault_computed bytes fault found = go (class_of bytes) refl found
+  where
+    go : (r : Result ClassData ClassFault) → class_of bytes ≡ r → fault_of r ≡ Some fault → class_of bytes ≡ Err fault
+    go (Ok c) is none = cc
+    go (Err found) is same = let found_is : found ≡ fault = cc in cc
+
 pub strips_as : (bytes : List ℕ) (result : Result (List ℕ) ReadError)
     → IfOk result (λ text. StripsTo bytes text)
     → ((fault : ClassFault) → result ≡ Err (read_error.Fault fault) → class_fault bytes ≡ Some fault) → RemadeAs stripped_text bytes result
 strips_as bytes (Ok text) given fails =
     (given.class, reads-class_of bytes given.class given.reads, given.is)
-strips_as bytes (Err (read_error.Fault fault)) given fails = go (class_of bytes) refl (fails fault refl)
-  where
-    go : (r : Result ClassData ClassFault) → class_of bytes ≡ r → fault_of r ≡ Some fault → class_of bytes ≡ Err fault
-    go (Ok c) is none = cc
-    go (Err found) is same = let found_is : found ≡ fault = cc in cc
+strips_as bytes (Err (read_error.Fault fault)) given fails = fault_computed bytes fault (fails fault refl)
 strips_as bytes (Err read_error.Memory) given fails = tt
 
 pub packages_as : (packages : List (List ℕ)) (bytes : List ℕ) (result : Result (List ℕ) ReadError)
@@ -101,11 +106,7 @@ pub packages_as : (packages : List (List ℕ)) (bytes : List ℕ) (result : Resu
     → ((fault : ClassFault) → result ≡ Err (read_error.Fault fault) → class_fault bytes ≡ Some fault) → RemadeAs (packages_text packages) bytes result
 packages_as packages bytes (Ok text) given fails =
     (given.class, reads-class_of bytes given.class given.reads, given.is)
-packages_as packages bytes (Err (read_error.Fault fault)) given fails = go (class_of bytes) refl (fails fault refl)
-  where
-    go : (r : Result ClassData ClassFault) → class_of bytes ≡ r → fault_of r ≡ Some fault → class_of bytes ≡ Err fault
-    go (Ok c) is none = cc
-    go (Err found) is same = let found_is : found ≡ fault = cc in cc
+packages_as packages bytes (Err (read_error.Fault fault)) given fails = fault_computed bytes fault (fails fault refl)
 packages_as packages bytes (Err read_error.Memory) given fails = tt
 
 pub compacts_as : (bytes : List ℕ) (result : Result (List ℕ) ReadError) → Compacts bytes result → RemadeAs compact_text bytes result
@@ -162,7 +163,7 @@ module _ (takes : List ℕ → Bool) (text : List ℕ → ClassData → List ℕ
       go true named [] zipped on = let none = rw named at zipped in absurd none
       go true named (one ∷ later) zipped on =
           let beside : AllZip (IsRemade text all) (length front ∷ class_places takes (length front + 1) rest) (one ∷ later) = rw named at zipped in
-          let own_text = beside.0.1 pair there in
+          let own_text = beside.0.2 pair there in
           let place : one.place ≡ length done = beside.0.0 ∙ sym level in
           rw place (one_class one later one.outcome named own_text beside.1 on)
 
@@ -173,6 +174,31 @@ module _ (takes : List ℕ → Bool) (text : List ℕ → ClassData → List ℕ
       plain : (o : Result (List (List ℕ × List ℕ)) ApplyError) → followed o (λ ys. Ok ys) ≡ o
       plain (Ok ys) = refl
       plain (Err refusal) = refl
+
+-- Classes that were read
+
+module _ (takes : List ℕ → Bool) (text : List ℕ → ClassData → List ℕ) where
+  abbrev Read : List ℕ × List ℕ → Type 0
+  Read pair = takes pair.0 ≡ true → ReadsByRule pair.1
+
+  read_from : (all front rest : List (List ℕ × List ℕ)) (outs : List Remade) → all ≡ front ++ rest → AllZip (IsRemade text all) (class_places takes (length front) rest) outs → TakenRead takes rest
+  read_from all front [] outs is zipped = All-nil Read
+  read_from all front (pair ∷ rest) outs is zipped = go (takes pair.0) refl outs zipped (λ later beside. read_from all (front ++ pair ∷ []) rest later (is ∙ sym (append_assoc front (pair ∷ []) rest)) (subst (λ n. AllZip (IsRemade text all) (class_places takes n rest) later) (sym (length_push front pair)) beside))
+    where
+      there : slice_get all (length front) ≡ Some pair
+      there = ap (λ l. slice_get l (length front)) is ∙ at_front front rest pair
+
+      go : (b : Bool) → takes pair.0 ≡ b → (outs : List Remade) → AllZip (IsRemade text all) (cond b (length front ∷ class_places takes (length front + 1) rest) (class_places takes (length front + 1) rest)) outs
+          → ((later : List Remade) → AllZip (IsRemade text all) (class_places takes (length front + 1) rest) later → TakenRead takes rest) → TakenRead takes (pair ∷ rest)
+      go false not_taken outs zipped on =
+          All-cons Read pair rest (λ taken. absurd (false≢true (sym not_taken ∙ taken))) (on outs zipped)
+      go true taken [] zipped on = absurd zipped
+      go true taken (one ∷ later) zipped on =
+          All-cons Read pair rest (λ also. zipped.0.1 pair there) (on later zipped.1)
+
+  -- those that were made anew all read by the rule
+  pub taken_read : (pairs : List (List ℕ × List ℕ)) (outs : List Remade) → AllZip (IsRemade text pairs) (class_places takes 0 pairs) outs → TakenRead takes pairs
+  taken_read pairs outs zipped = read_from pairs [] pairs outs refl zipped
 
 -- Texts that are the same
 

@@ -1,5 +1,6 @@
 pub mod Beside
 pub mod ClassLaws
+pub mod ComputedPluginsLaws
 pub mod NameLaws
 pub mod PackagingLaws
 pub mod OrderLaws

@@ -22,7 +22,8 @@ use Rattle.jm_pattern.specs.ComputedMatching.{matches_any}
 use Rattle.jm_plugins.specs.Matching.{excluded, ordered}
 use Rattle.jm_bytes.specs.Results.{followed}
 use Rattle.jm_plugins.specs.Packaging.{is_descriptor, listing_text}
-use Rattle.jm_plugins.specs.Plugins.{act, apply, is_class, remade, remade_pair, remade_pairs, stripped_text}
+use Rattle.jm_plugins.specs.ComputedPlugins.{act, apply, remade, remade_pair, remade_pairs, stripped_text}
+use Rattle.jm_plugins.specs.Plugins.{is_class}
 
 -- Names of what a plug-in leaves
 

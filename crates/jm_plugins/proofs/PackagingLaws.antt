@@ -1,33 +1,40 @@
 -- The packages of a module, by the keys of all classes: the keys of one module are those with its
 -- name and a slash in front, and they rise as the packages do.
-use Rattle.std.proofs.Common.{◌≡◌, ℕ, zero, suc, ◌+◌, ◌<◌, inl, inr, Bool, true, false, cond, not, ◌||◌, List, [], ◌∷◌, ◌++◌, take, drop, length, get_or, map, filter, AllPairs, Contains, Option, Some, None, option_map, Ok, slice_get, nat_eq, refl, sym, ap, subst, ◌∙◌, arith, append_assoc}
+use Rattle.std.proofs.Common.{◌≡◌, ℕ, zero, suc, ◌+◌, ◌<◌, inl, inr, Bool, true, false, cond, not, ◌||◌, List, [], ◌∷◌, ◌++◌, take, drop, length, get_or, map, filter, All, AllPairs, Contains, Option, Some, None, option_map, Ok, slice_get, nat_eq, refl, sym, ap, subst, ◌∙◌, arith, append_assoc}
 use Rattle.std.proofs.lemmas.Bool.{false≢true}
 use Rattle.std.proofs.lemmas.List.{map-append, take_more, append-nil}
-use Rattle.std.proofs.lemmas.List.Elements.{Contains-append_cases, Contains-append_left, Contains-append_right, filter_map-append}
+use Rattle.std.proofs.lemmas.List.Elements.{All-head, All-more, All-tail, All-weaker, Contains-append_cases, Contains-append_left, Contains-append_right, filter_map-append}
+use Rattle.std.proofs.lemmas.Option.{get_or_from_slice_get}
 use Rattle.std.proofs.lemmas.Slice.Eq.{bytes_eq-Decides}
 use Rattle.std.specs.Cmp.{nat_cmp_is}
 use Rattle.std.specs.Cmp.Lexicographic.{slice_cmp}
-use Rattle.std.specs.List.{before_first, cons_option, filter_map, list_any, position_or_len}
+use Rattle.std.specs.List.{AllByRecursion, before_first, cons_option, filter_map, list_any, position_or_len}
+use Rattle.std.specs.List.Sorted.{IsStrictlySortedBy}
 use Rattle.std.specs.Ordering.{nat_cmp, ordering_then}
 use Rattle.std.specs.declared.cmp.Ordering.TheVariants.{Equal}
 use Rattle.std.specs.Str.{bytes_eq}
-use Rattle.jm_bytes.proofs.Choice.{mapped_some, same_some}
+use Rattle.jm_bytes.specs.Results.{followed}
+use Rattle.jm_bytes.proofs.Choice.{mapped_some, same_ok, same_some}
 use Rattle.jm_bytes.proofs.Members.{all_from_contains, contains_cases, contains_here, contains_later, contains_none, contains_filter, contains_filter_map, from_filter, from_filter_map}
-use Rattle.jm_bytes.proofs.Pairs.{pairs_filter_map}
-use Rattle.jm_class.specs.Classes.{ClassData}
+use Rattle.jm_bytes.proofs.Pairs.{pairs_filter_map, pairs_head, pairs_tail}
+use Rattle.jm_class.specs.Classes.{ClassData, ReadsAs}
 use Rattle.jm_class.specs.ComputedClass.{class_of}
+use Rattle.jm_class.specs.declared.class.ClassFault.{ClassFault}
+use Rattle.jm_class.proofs.ComputedClassLaws.{reads-class_of}
 use Rattle.jm_form.specs.Rising.{rising, with_placed}
 use Rattle.jm_form.specs.Trees.{module_of}
 use Rattle.jm_form.proofs.RisingLaws.{Before, contains_rising, from_rising, rising_only, rising_rises, rising_same}
 use Rattle.jm_modpath.specs.Finding.{named_package, names_within}
 use Rattle.jm_modpath.proofs.PackageLaws.{class_packages_are}
 use Rattle.jm_names.specs.Names.{is_slash}
-use Rattle.jm_outside.specs.Files.{after_front}
+use Rattle.jm_outside.specs.Files.{Rising, after_front}
 use Rattle.jm_outside.proofs.Names.{after_front-is, front_of}
-use Rattle.jm_packages.specs.Packages.{packages_text}
+use Rattle.jm_packages.specs.Packages.{packages_text, Stays}
+use Rattle.jm_packages.proofs.WholeLaws.{stays_text}
 use Rattle.jm_pool.specs.Pairs.{names_of}
 use Rattle.jm_plugins.specs.Packaging.{slashed, packages_of, is_descriptor, listing_text, class_key, with_key, class_keys, packages_by}
-use Rattle.jm_plugins.specs.Steps.{Serves}
+use Rattle.jm_plugins.specs.ComputedPlugins.{remade, remade_pair, remade_pairs}
+use Rattle.jm_plugins.specs.Steps.{ReadsByRule, Serves, TakenRead}
 
 -- Modules have no slash
 
@@ -182,6 +189,59 @@ packages_more m keys i key below is =
     sym (map-append slashed (filter_map f (take i keys)) (filter_map f (key ∷ [])))
     ∙ ap (map slashed) (sym (filter_map-append f (take i keys) (key ∷ [])))
     ∙ ap (λ ks. map slashed (filter_map f ks)) (sym grown)
+
+-- The keys rise
+
+before_all : (key : List ℕ) (keys : List (List ℕ)) → All (Before key) keys → AllByRecursion (Before key) keys
+before_all key [] all = tt
+before_all key (other ∷ keys) all =
+    (All-head (Before key) other keys all, before_all key keys (All-tail (Before key) other keys all))
+
+strictly : (keys : List (List ℕ)) → AllPairs Before keys → Rising keys
+unfolding IsStrictlySortedBy
+strictly [] rises = tt
+strictly (key ∷ keys) rises =
+    (before_all key keys (pairs_head Before key keys rises), strictly keys (pairs_tail Before key keys rises))
+
+pub keys_rise : (names : List (List ℕ)) → Rising (class_keys names)
+keys_rise names = strictly (class_keys names) (rising_rises (filter_map class_key names))
+
+-- Descriptors that stay
+
+-- where the class of each descriptor stays, all pairs do
+abbrev pub StaysListed : List ℕ × List ℕ → Type 0
+StaysListed pair = is_descriptor pair.0 ≡ true → Stays pair.1
+
+-- one pair more
+pub listed_next : (pairs : List (List ℕ × List ℕ)) (place : ℕ) (pair : List ℕ × List ℕ) → slice_get pairs place ≡ Some pair → place < length pairs → All StaysListed (take place pairs) → StaysListed pair → All StaysListed (take (place + 1) pairs)
+listed_next pairs place pair there below before one =
+    All-more StaysListed pairs place pair below before (subst StaysListed (sym (get_or_from_slice_get pairs place pair pair there)) one)
+
+pair_stays : (names : List (List ℕ)) (pair : List ℕ × List ℕ) → StaysListed pair → remade_pair is_descriptor (listing_text names) pair ≡ Ok pair
+pair_stays names pair stays = go (is_descriptor pair.0) refl
+  where
+    go : (b : Bool) → is_descriptor pair.0 ≡ b → cond b (remade (listing_text names pair.0) pair.0 (class_of pair.1)) (Ok pair) ≡ Ok pair
+    go false is = refl
+    go true is =
+        let own = stays is in
+        ap (remade (listing_text names pair.0) pair.0) (reads-class_of pair.1 own.class own.reads)
+        ∙ ap (λ text. Ok (pair.0, text)) (stays_text (packages_of names (module_of pair.0)) pair.1 own)
+
+pub pairs_stay : (names : List (List ℕ)) (pairs : List (List ℕ × List ℕ)) → All StaysListed pairs → remade_pairs is_descriptor (listing_text names) pairs ≡ Ok pairs
+pairs_stay names [] all = refl
+pairs_stay names (pair ∷ pairs) all =
+    ap (λ o. followed o (λ first. followed (remade_pairs is_descriptor (listing_text names) pairs) (λ rest. Ok (first ∷ rest)))) (pair_stays names pair (All-head StaysListed pair pairs all))
+    ∙ ap (λ o. followed o (λ rest. Ok (pair ∷ rest))) (pairs_stay names pairs (All-tail StaysListed pair pairs all))
+
+-- a class that stays reads by the rule
+stays_read : (bytes : List ℕ) → Stays bytes → ReadsByRule bytes
+stays_read bytes stays c is =
+    let same : stays.class ≡ c = same_ok {E = ClassFault} stays.class c (sym (reads-class_of bytes stays.class stays.reads) ∙ is) in
+    subst (ReadsAs bytes) same stays.reads
+
+pub pairs_read : (pairs : List (List ℕ × List ℕ)) → All StaysListed pairs → TakenRead is_descriptor pairs
+pairs_read pairs all =
+    All-weaker StaysListed (λ (pair : List ℕ × List ℕ). is_descriptor pair.0 ≡ true → ReadsByRule pair.1) (λ pair stays listed. stays_read pair.1 (stays listed)) pairs all
 
 -- Keys that serve
 

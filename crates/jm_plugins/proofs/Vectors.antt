@@ -6,7 +6,7 @@ use Rattle.jm_pattern.specs.declared.signs.Sign.{Sign}
 use Rattle.jm_pattern.specs.declared.signs.Sign.TheVariants.{AnyRun, Byte}
 use Rattle.jm_plugins.specs.declared.Plugin.TheVariants as plugin
 use Rattle.jm_plugins.specs.declared.chain.ApplyError.TheVariants.{BadClass}
-use Rattle.jm_plugins.specs.Plugins.{apply}
+use Rattle.jm_plugins.specs.ComputedPlugins.{apply}
 
 -- `**/B.class` and `/a/**`; 47 is `/`, 66 is `B` and 97 is `a`
 abbrev named_b : List Sign

@@ -1,3 +1,4 @@
+pub mod ComputedPlugins
 pub mod Matching
 pub mod Packaging
 pub mod Plugins

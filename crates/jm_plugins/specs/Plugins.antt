@@ -1,61 +1,75 @@
 -- What plug-ins make of the resources before they are written (JEP 282; what each plug-in does is
--- this project's rule).
-use Rattle.std.specs.Prelude.{ℕ, Bool, List, [], ◌∷◌, Result, Ok, Err, nat_eq, codes}
-use Rattle.std.specs.Prelude.{if◌then◌else◌}
-use Rattle.std.specs.List.{ends_with}
-use Rattle.jm_bytes.specs.Results.{followed}
-use Rattle.jm_class.specs.Classes.{ClassData, class_text}
-use Rattle.jm_class.specs.ComputedClass.{class_of}
+-- this project's rule). ComputedPlugins has the same as values.
+use Rattle.std.specs.Prelude.{ℕ, ◌≡◌, true, false, nat_eq, Bool, List, [], ◌∷◌, ◌++◌, All, codes}
+use Rattle.std.specs.Prelude.{Some, Result, Ok, Err}
+use Rattle.std.specs.List.{ends_with, AllZip}
+use Rattle.jm_class.specs.Classes.{ClassData, class_text, ReadsAs}
+use Rattle.jm_class.specs.ComputedClass.{class_fault}
 use Rattle.jm_class.specs.declared.class.ClassFault.{ClassFault}
-use Rattle.jm_compact.specs.Compact.{compact_text}
+use Rattle.jm_compact.specs.Compact.{IsCompact}
 use Rattle.jm_pool.specs.Pairs.{names_of}
 use Rattle.jm_strip.specs.Strip.{strip}
 use Rattle.jm_plugins.specs.declared.Plugin.{Plugin}
 use Rattle.jm_plugins.specs.declared.Plugin.TheVariants as plugin
 use Rattle.jm_plugins.specs.declared.chain.ApplyError.{ApplyError}
-use Rattle.jm_plugins.specs.declared.chain.ApplyError.TheVariants.{BadClass}
+use Rattle.jm_plugins.specs.declared.chain.ApplyError.TheVariants.{BadClass, Memory}
 use Rattle.jm_plugins.specs.Matching.{excluded, ordered}
 use Rattle.jm_plugins.specs.Packaging.{is_descriptor, listing_text}
 
--- the pair of a class that was read, with another text of it, or the refusal by its fault
-abbrev pub remade : (ClassData → List ℕ) → List ℕ → Result ClassData ClassFault
-    → Result (List ℕ × List ℕ) ApplyError
-remade text name (Ok class) = Ok (name, text class)
-remade text name (Err fault) = Err (BadClass name fault)
-
--- a pair with the other text of its class, where its name is taken, or that class's refusal
-abbrev pub remade_pair : (List ℕ → Bool) → (List ℕ → ClassData → List ℕ) → List ℕ × List ℕ
-    → Result (List ℕ × List ℕ) ApplyError
-remade_pair takes text pair =
-    if takes pair.0 then remade (text pair.0) pair.0 (class_of pair.1) else Ok pair
-
--- all pairs so, or the first refusal
-abbrev pub remade_pairs : (List ℕ → Bool) → (List ℕ → ClassData → List ℕ)
-    → List (List ℕ × List ℕ) → Result (List (List ℕ × List ℕ)) ApplyError
-remade_pairs takes text [] = Ok []
-remade_pairs takes text (pair ∷ pairs) =
-    followed (remade_pair takes text pair)
-    (λ first. followed (remade_pairs takes text pairs) (λ rest. Ok (first ∷ rest)))
+-- names with their bytes
+abbrev pub Pairs : Type 0
+Pairs = List (List ℕ × List ℕ)
 
 -- the name ends in `.class`
 abbrev pub is_class : List ℕ → Bool
 is_class name = ends_with nat_eq name (codes ".class")
 
--- the text of a class without its debug information: that of `Strip`, as `compact_text` is that of
--- `Compact`
-abbrev pub stripped_text : ClassData → List ℕ
-stripped_text class = class_text (strip class)
+-- what becomes of a pair: it stays where its name isn't taken; else its bytes read as a class, and
+-- give way to a text that is right for the name and the class
+pub data IsMadeAnew (takes : List ℕ → Bool) (IsRight : List ℕ → ClassData → List ℕ → Type 0)
+    (pair made : List ℕ × List ℕ) : Type 0 where
+  Untaken : takes pair.0 ≡ false → made ≡ pair → IsMadeAnew takes IsRight pair made
+  Taken : takes pair.0 ≡ true → (c : ClassData) → ReadsAs pair.1 c → (text : List ℕ)
+      → IsRight pair.0 c text → made ≡ (pair.0, text) → IsMadeAnew takes IsRight pair made
 
--- what one plug-in makes of the pairs, or its refusal
-abbrev pub act : Plugin → List (List ℕ × List ℕ) → Result (List (List ℕ × List ℕ)) ApplyError
-act (plugin.Exclude patterns) pairs = Ok (excluded patterns pairs)
-act (plugin.Order patterns) pairs = Ok (ordered patterns pairs)
-act plugin.Strip pairs = remade_pairs is_class (λ name. stripped_text) pairs
-act plugin.Compact pairs = remade_pairs is_class (λ name. compact_text) pairs
-act plugin.Packages pairs = remade_pairs is_descriptor (listing_text (names_of pairs)) pairs
+-- this is the name, and the fault of the bytes, of the first pair whose name is taken and whose
+-- bytes read as no class
+pub record IsFirstBad (takes : List ℕ → Bool) (pairs : Pairs) (name : List ℕ)
+    (fault : ClassFault) : Type 0 where
+  pub before : Pairs
+  pub bytes : List ℕ
+  pub behind : Pairs
+  pub is : pairs ≡ before ++ (name, bytes) ∷ behind
+  pub read : All (λ pair. takes pair.0 ≡ true → (c : ClassData) × ReadsAs pair.1 c) before
+  pub taken : takes name ≡ true
+  pub bad : class_fault bytes ≡ Some fault
+
+-- all pairs made anew so, or the first whose bytes read as no class
+abbrev pub AreMadeAnew : (List ℕ → Bool) → (List ℕ → ClassData → List ℕ → Type 0) → Pairs
+    → Result Pairs ApplyError → Type 0
+AreMadeAnew takes IsRight pairs (Ok made) = AllZip (IsMadeAnew takes IsRight) pairs made
+AreMadeAnew takes IsRight pairs (Err (BadClass name fault)) = IsFirstBad takes pairs name fault
+AreMadeAnew takes IsRight pairs (Err Memory) = ⊥
+
+-- what one plug-in makes of the pairs
+abbrev pub Makes : Plugin → Pairs → Result Pairs ApplyError → Type 0
+Makes (plugin.Exclude patterns) pairs result = result ≡ Ok (excluded patterns pairs)
+Makes (plugin.Order patterns) pairs result = result ≡ Ok (ordered patterns pairs)
+Makes plugin.Strip pairs result =
+    AreMadeAnew is_class (λ name c text. text ≡ class_text (strip c)) pairs result
+Makes plugin.Compact pairs result = AreMadeAnew is_class (λ name. IsCompact) pairs result
+Makes plugin.Packages pairs result =
+    AreMadeAnew is_descriptor (λ name c text. text ≡ listing_text (names_of pairs) name c) pairs
+    result
+
+-- what is made goes on to the later plug-ins; a refusal is the result
+abbrev pub GoesOn : (Pairs → Result Pairs ApplyError → Type 0) → Result Pairs ApplyError
+    → Result Pairs ApplyError → Type 0
+GoesOn Later (Ok made) result = Later made result
+GoesOn Later (Err refusal) result = result ≡ Err refusal
 
 -- what plug-ins make of the pairs, from the first plug-in to the last, or the first refusal
-abbrev pub apply : List Plugin → List (List ℕ × List ℕ)
-    → Result (List (List ℕ × List ℕ)) ApplyError
-apply [] pairs = Ok pairs
-apply (one ∷ later) pairs = followed (act one pairs) (apply later)
+abbrev pub Applies : List Plugin → Pairs → Result Pairs ApplyError → Type 0
+Applies [] pairs result = result ≡ Ok pairs
+Applies (one ∷ later) pairs result =
+    (made : Result Pairs ApplyError) × Makes one pairs made × GoesOn (Applies later) made result

@@ -2,7 +2,7 @@
 use Rattle.std.specs.Prelude.{ℕ, ◌≡◌, ◌+◌, ◌⊎◌, List, [], ◌∷◌, Some, Result, Ok, Err, Bool}
 use Rattle.std.specs.Prelude.{All, true, slice_get, slice_index_or, if◌then◌else◌}
 use Rattle.std.specs.List.{position_or_len}
-use Rattle.jm_class.specs.Classes.{ClassData}
+use Rattle.jm_class.specs.Classes.{ClassData, ReadsAs}
 use Rattle.jm_class.specs.ComputedClass.{class_of}
 use Rattle.jm_class.specs.declared.class.ReadError.{ReadError}
 use Rattle.jm_class.specs.declared.class.ReadError.TheVariants as read_error
@@ -18,7 +18,8 @@ use Rattle.jm_plugins.specs.declared.classes.Remade.{Remade}
 use Rattle.jm_plugins.specs.declared.classes.Remaking.{Remaking}
 use Rattle.jm_plugins.specs.declared.classes.Remaking.TheVariants as remaking
 use Rattle.jm_plugins.specs.Packaging.{is_descriptor, listing_text, packages_by}
-use Rattle.jm_plugins.specs.Plugins.{is_class, stripped_text}
+use Rattle.jm_plugins.specs.ComputedPlugins.{stripped_text}
+use Rattle.jm_plugins.specs.Plugins.{is_class}
 
 -- the number of the first pattern that matches the name, or how many patterns there are
 abbrev pub rank : List (List Sign) → List ℕ → ℕ
@@ -50,10 +51,18 @@ RemadeAs text bytes (Ok made) = (c : _) × (class_of bytes ≡ Ok c) × (made �
 RemadeAs text bytes (Err (read_error.Fault fault)) = class_of bytes ≡ Err fault
 RemadeAs text bytes (Err read_error.Memory) = Unit {0}
 
+-- the class that is computed of some bytes is the one that they read as, by the rule
+abbrev pub ReadsByRule : List ℕ → Type 0
+ReadsByRule bytes = (c : ClassData) → class_of bytes ≡ Ok c → ReadsAs bytes c
+
+-- that holds of each pair whose name is taken
+abbrev pub TakenRead : (List ℕ → Bool) → List (List ℕ × List ℕ) → Type 0
+TakenRead takes pairs = All (λ pair. takes pair.0 ≡ true → ReadsByRule pair.1) pairs
+
 -- what making the class at a place anew gave
 abbrev pub IsRemade : (List ℕ → ClassData → List ℕ) → List (List ℕ × List ℕ) → ℕ → Remade → Type 0
 IsRemade text pairs place one =
-    (one.place ≡ place)
+    (one.place ≡ place) × ((pair : _) → slice_get pairs place ≡ Some pair → ReadsByRule pair.1)
     × ((pair : _) → slice_get pairs place ≡ Some pair
     → RemadeAs (text pair.0) pair.1 one.outcome)
 

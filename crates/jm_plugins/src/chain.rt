@@ -1,6 +1,6 @@
-ghost use Rattle.std.specs.Prelude.{◌<◌};
-ghost use Rattle.jm_bytes.specs.Results.{UnlessMemory};
-ghost use Rattle.jm_plugins.specs.Plugins.{act, apply};
+ghost use Rattle.std.specs.Prelude.{◌≡◌, ◌⊎◌, ◌<◌, Err};
+ghost use Rattle.jm_plugins.specs.declared.chain.ApplyError.TheVariants.{Memory};
+ghost use Rattle.jm_plugins.specs.Plugins.{Applies, Makes};
 
 use crate::Plugin;
 use crate::classes::{Remaking, remake_classes};
@@ -49,7 +49,7 @@ fn act<R: Threads + Sync, G: Gate + Sync>(
     gate: &G,
 ) -> Result<Pool, ApplyError>
     requires { 0 < jobs }
-    ensures { UnlessMemory ApplyError.Memory result (act plugin.now pool) }
+    ensures { (result ≡ Err Memory) ⊎ Makes plugin.now pool result }
 {
     match plugin {
         Plugin::Exclude(patterns) => Ok(exclude(rt, alloc, jobs, pool, patterns.as_slice(), gate)?),
@@ -70,7 +70,7 @@ fn act_all<R: Threads + Sync, G: Gate + Sync>(
     gate: &G,
 ) -> Result<Pool, ApplyError>
     requires { 0 < jobs }
-    ensures { UnlessMemory ApplyError.Memory result (apply list.now pool) }
+    ensures { (result ≡ Err Memory) ⊎ Applies list.now pool result }
 {
     let mut pool = pool;
     for number in 0..list.len() {
@@ -92,7 +92,7 @@ pub fn apply<R: Threads + Sync, G: Gate + Sync>(
     gate: &G,
 ) -> Result<Pool, ApplyError>
     requires { 0 < jobs }
-    ensures { UnlessMemory ApplyError.Memory result (apply list.now pool) }
+    ensures { (result ≡ Err Memory) ⊎ Applies list.now pool result }
 {
     act_all(rt, alloc, jobs, pool, list, gate)
 }

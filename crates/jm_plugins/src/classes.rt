@@ -1,15 +1,16 @@
-ghost use Rattle.std.specs.Prelude.{◌≡◌, ◌<◌, All, length, IfOk};
+ghost use Rattle.std.specs.Prelude.{◌≡◌, ◌⊎◌, ◌<◌, All, Err, length, IfOk};
 ghost use Rattle.std.specs.List.{AllZip};
 ghost use Rattle.jm_bytes.specs.Results.{UnlessMemory};
 ghost use Rattle.jm_form.specs.Trees.{module_of};
 ghost use Rattle.jm_packages.specs.Packages.{packages_text};
-ghost use Rattle.jm_plugins.specs.Plugins.{remade_pairs};
+ghost use Rattle.jm_plugins.specs.declared.chain.ApplyError.TheVariants.{Memory};
+ghost use Rattle.jm_plugins.specs.ComputedPlugins.{remade_pairs};
 ghost use Rattle.jm_plugins.specs.Packaging.{packages_by};
 ghost use Rattle.jm_plugins.specs.Steps.{class_places, put_remade, taken_by, text_of, IsRemade};
-ghost use Rattle.jm_plugins.specs.Steps.{Refuses, RemadeAs};
+ghost use Rattle.jm_plugins.specs.Steps.{ReadsByRule, Refuses, RemadeAs, TakenRead};
 
 use crate::chain::ApplyError;
-use crate::packages::{is_descriptor, module_of, packages_by};
+use crate::packages::{Keys, is_descriptor, module_of, packages_by};
 use jm_bytes::{List, NoMemory, Text};
 use jm_class::ReadError;
 use jm_compact::compact;
@@ -28,7 +29,7 @@ pub enum Remaking<'a> {
     /// Without the constants that nothing names.
     Compact,
     /// Those of modules with their packages, by the keys of all classes.
-    Packages(&'a [Text]),
+    Packages(&'a Keys),
 }
 
 /// What making the class at a place of the pool anew gave.
@@ -63,7 +64,7 @@ fn class_places(alloc: Global, pool: &Pool, way: Remaking) -> Result<List<usize>
 }
 
 /// The class of a module with its packages, by the keys of all classes.
-fn with_packages(alloc: Global, name: &[u8], bytes: &[u8], keys: &[Text]) -> Result<Text, ReadError>
+fn with_packages(alloc: Global, name: &[u8], bytes: &[u8], keys: &Keys) -> Result<Text, ReadError>
     ensures { RemadeAs (packages_text (packages_by keys.now (module_of name.now)))
         bytes.now result }
 {
@@ -73,7 +74,8 @@ fn with_packages(alloc: Global, name: &[u8], bytes: &[u8], keys: &[Text]) -> Res
 
 /// The other text of the class that the bytes of a name are.
 fn remake(alloc: Global, name: &[u8], bytes: &[u8], way: Remaking) -> Result<Text, ReadError>
-    ensures { RemadeAs (text_of way.entry name.now) bytes.now result }
+    ensures made { RemadeAs (text_of way.entry name.now) bytes.now result }
+    ensures read { ReadsByRule bytes.now }
 {
     match way {
         Remaking::Strip => strip(alloc, bytes),
@@ -152,8 +154,9 @@ pub fn remake_classes<R: Threads + Sync, G: Gate + Sync>(
     gate: &G,
 ) -> Result<Pool, ApplyError>
     requires { 0 < jobs }
-    ensures { UnlessMemory ApplyError.Memory result
+    ensures computed { UnlessMemory ApplyError.Memory result
         (remade_pairs (taken_by way.entry) (text_of way.entry) pool) }
+    ensures read { (result ≡ Err Memory) ⊎ TakenRead (taken_by way.entry) pool }
 {
     let remade = remake_each(rt, alloc, jobs, &pool, way, gate)?;
     put_remade(alloc, pool, remade)

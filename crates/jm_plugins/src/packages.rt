@@ -1,5 +1,6 @@
 //! The packages of modules, from the names of a pool.
-ghost use Rattle.std.specs.Prelude.{◌≡◌, ◌<◌, ◌∷◌, ◌++◌, [], IfOk, OnOk, map, option_map};
+ghost use Rattle.std.specs.Prelude.{◌≡◌, ◌⊎◌, ◌<◌, ◌∷◌, ◌++◌, [], true, All, Err, IfOk};
+ghost use Rattle.std.specs.Prelude.{OnOk, map, option_map};
 ghost use Rattle.std.specs.List.{filter_map};
 ghost use Rattle.jm_bytes.specs.Results.{UnlessMemory};
 ghost use Rattle.jm_form.specs.Rising.{with_placed};
@@ -8,20 +9,25 @@ ghost use Rattle.jm_modpath.specs.Finding.{class_folder};
 ghost use Rattle.jm_modpath.specs.TextView.{items_of};
 ghost use Rattle.jm_names.specs.Names.{dotted};
 ghost use Rattle.jm_outside.specs.Files.{after_front};
+ghost use Rattle.jm_packages.specs.Packages.{Stays};
 ghost use Rattle.jm_pool.specs.Pairs.{names_of};
 ghost use Rattle.jm_plugins.specs.Packaging.{class_key, class_keys, with_key, is_descriptor};
 ghost use Rattle.jm_plugins.specs.Packaging.{listing_text, packages_by, slashed};
-ghost use Rattle.jm_plugins.specs.Plugins.{remade_pairs};
+ghost use Rattle.jm_plugins.specs.declared.chain.ApplyError.TheVariants.{Memory};
+ghost use Rattle.jm_plugins.specs.ComputedPlugins.{remade_pairs};
+ghost use Rattle.jm_plugins.specs.Steps.{TakenRead};
 
 use crate::chain::ApplyError;
 use crate::classes::{Remaking, remake_classes};
 use jm_bytes::{List, NoMemory, Text, copy_of, extend};
 use jm_halves::Gate;
-use jm_modpath::class_folder;
+use jm_modpath::{class_folder, names_of_folder};
 use jm_names::{cut_at_first, dotted};
+use jm_packages::stays;
 use jm_pool::Pool;
 use std::alloc::Global;
 use std::collections::BTreeSet;
+use std::marker::Model;
 use std::thread::Threads;
 
 /// The module of a resource.
@@ -99,15 +105,32 @@ fn key_set(alloc: Global, pool: &Pool) -> Result<BTreeSet<Vec<u8>>, NoMemory>
     Ok(set)
 }
 
-/// The keys of all classes of a pool, rising.
-fn class_keys(alloc: Global, pool: &Pool) -> Result<List<Text>, NoMemory>
+/// Keys of classes, which rise.
+#[derive(Drop)]
+pub struct Keys {
+    list: List<Text>,
+}
+
+impl Model for Keys {
+    ghost use Rattle.std.specs.Prelude.{List, ℕ};
+    ghost use Rattle.jm_outside.specs.Files.{Rising};
+
+    ghost Value = { List (List ℕ) };
+
+    ghost view = { λ a. a.list };
+
+    ghost invariant = { λ a. Rising a.list };
+}
+
+/// The keys of all classes of a pool.
+fn class_keys(alloc: Global, pool: &Pool) -> Result<Keys, NoMemory>
     ensures { IfOk result (λ keys. keys ≡ class_keys (names_of pool.now)) }
 {
-    let mut keys = List::new(alloc);
+    let mut list = List::new(alloc);
     for key in key_set(alloc, pool)? {
-        keys.push(Text::from_vec(key))?;
+        list.push(Text::from_vec(key))?;
     }
-    Ok(keys)
+    Ok(Keys { list })
 }
 
 /// A package with a slash for each dot.
@@ -137,20 +160,49 @@ fn put_package(
     Ok(())
 }
 
-/// The packages of a module, by the keys of all classes.
-pub fn packages_by(alloc: Global, keys: &[Text], module: &[u8]) -> Result<List<Text>, NoMemory>
+/// The packages of a module, by the keys of all classes. It looks at no other module's keys, but
+/// for the logarithm of their number.
+pub fn packages_by(alloc: Global, keys: &Keys, module: &[u8]) -> Result<List<Text>, NoMemory>
     ensures { IfOk result (λ packages. packages ≡ packages_by keys.now «module».now) }
 {
     let mut front = Text::copy_of(alloc, module)?;
     front.push(b'/')?;
     let mut packages = List::new(alloc);
-    for key in keys {
+    for key in names_of_folder(alloc, keys.list.as_slice(), module)? {
         put_package(alloc, &mut packages, front.as_slice(), key.as_slice())?;
     }
     Ok(packages)
 }
 
-/// Puts for the descriptor of each module its class with the module's packages.
+/// Whether a resource stays as it is, whatever the packages are: all but descriptors do.
+fn stays_at(alloc: Global, name: &[u8], bytes: &[u8]) -> Result<bool, NoMemory>
+    ensures { IfOk result
+        (λ stay. stay ≡ true → is_descriptor name.now ≡ true → Stays bytes.now) }
+{
+    if is_descriptor(name) {
+        stays(alloc, bytes)
+    } else {
+        Ok(true)
+    }
+}
+
+/// Whether all resources of a pool stay as they are, whatever the packages are.
+fn all_stay(alloc: Global, pool: &Pool) -> Result<bool, NoMemory>
+    ensures { IfOk result (λ stay. stay ≡ true
+        → All (λ pair. is_descriptor pair.0 ≡ true → Stays pair.1) pool.now) }
+{
+    for place in 0..pool.len() {
+        let (name, bytes) = pool.at(place);
+        let stay = stays_at(alloc, name, bytes)?;
+        if !stay {
+            return Ok(false);
+        }
+    }
+    Ok(true)
+}
+
+/// Puts for the descriptor of each module its class with the module's packages. The keys of classes
+/// are looked for only where a descriptor is to change.
 pub fn list_packages<R: Threads + Sync, G: Gate + Sync>(
     rt: &R,
     alloc: Global,
@@ -159,16 +211,13 @@ pub fn list_packages<R: Threads + Sync, G: Gate + Sync>(
     gate: &G,
 ) -> Result<Pool, ApplyError>
     requires { 0 < jobs }
-    ensures { UnlessMemory ApplyError.Memory result
+    ensures computed { UnlessMemory ApplyError.Memory result
         (remade_pairs is_descriptor (listing_text (names_of pool)) pool) }
+    ensures read { (result ≡ Err Memory) ⊎ TakenRead is_descriptor pool }
 {
+    if all_stay(alloc, &pool)? {
+        return Ok(pool);
+    }
     let keys = class_keys(alloc, &pool)?;
-    remake_classes(
-        rt,
-        alloc,
-        jobs,
-        pool,
-        Remaking::Packages(keys.as_slice()),
-        gate,
-    )
+    remake_classes(rt, alloc, jobs, pool, Remaking::Packages(&keys), gate)
 }

@@ -21,8 +21,8 @@ pub struct Sections<'a> {
     pub ghost contents_cut: { contents.now ≡ places.contents bytes.now header },
 }
 
-/// The front up to and with the last zero byte: a text of the strings ends within them exactly where
-/// it begins within this front.
+/// The front up to and with the last zero byte: a text of the strings ends within them exactly
+/// where it begins within this front.
 pub fn ended_texts(strings: &[u8]) -> &[u8]
     ensures { result.now ≡ ended_texts strings.now }
 {

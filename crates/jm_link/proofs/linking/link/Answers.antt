@@ -74,7 +74,7 @@ returns-in_err-left g c =
 
 pub write_image-requires-clause-fit : goal.write_image-requires-clause-fit
 write_image-requires-clause-fit g c =
-    fit_left c.args.asked.now.plugins.now c.in_ok-read.read c.in_ok-left.left (left_is c.in_ok-left.left _ c.in_ok-left.ensures) (subst AreFit (sym c.in_ok-read.ensures.names) c.in_ok-files.ensures.fit)
+    fit_left c.args.asked.now.plugins.now c.in_ok-read.read c.in_ok-left.left (left_is c.args.asked.now.plugins.now c.in_ok-read.read c.in_ok-left.left c.in_ok-left.ensures) (subst AreFit (sym c.in_ok-read.ensures.names) c.in_ok-files.ensures.fit)
 
 pub returns : goal.returns
 returns g c =
@@ -91,7 +91,7 @@ returns g c =
     let named = rw c.as_slice.ensures at c.in_ok-files.ensures.files in
     let read = subst (λ t. Shows t (λ files. resources ≡ resources_of files (map pair_of c.in_ok-files.files))) c.visible_modules.ensures.files c.in_ok-read.ensures.pool in
     let to = read_to told c.args.directories.now asked visible c.in_ok-visible.ensures.modules c.in_ok-places.places closes named.0 resources (subst (λ names. Shows told (λ files. resources ≡ resources_of files names)) named.1 read) in
-    let left = left_is c.in_ok-left.left _ c.in_ok-left.ensures in
+    let left = left_is asked.plugins resources c.in_ok-left.left c.in_ok-left.ensures in
     let fit = fit_left asked.plugins resources c.in_ok-left.left left (subst AreFit (sym c.in_ok-read.ensures.names) c.in_ok-files.ensures.fit) in
     let did = image_written asked modules resources c.in_ok-left.left left fit path c.write_image.result old new (rw c.len.ensures at c.write_image.ensures) in
     links_sooner (ComesTo told c.args.directories.now asked) (TellsNothing told) path first old new

@@ -83,7 +83,7 @@ write_image-requires-clause-fit g c =
     let asked : Request = request_of c.args.asked.now in
     let closes = rw c.as_slice.ensures at c.in_ok-places.ensures in
     let gathers = rw c.as_slice-2.ensures at c.in_ok-read.ensures in
-    fit_left asked.plugins c.in_ok-read.read c.in_ok-left.left (left_is c.in_ok-left.left _ c.in_ok-left.ensures)
+    fit_left asked.plugins c.in_ok-read.read c.in_ok-left.left (left_is asked.plugins c.in_ok-read.read c.in_ok-left.left c.in_ok-left.ensures)
     (gathered_fit c.args.image.now asked c.in_ok-modules.modules shown.0 shown.1 shown.2 c.in_ok-places.places closes c.in_ok-read.read gathers)
 
 pub returns : goal.returns
@@ -97,7 +97,7 @@ returns g c =
     let gathers = rw c.as_slice-2.ensures at c.in_ok-read.ensures in
     let modules = length c.in_ok-places.places in
     let read = c.in_ok-read.read in
-    let left = left_is c.in_ok-left.left _ c.in_ok-left.ensures in
+    let left = left_is asked.plugins read c.in_ok-left.left c.in_ok-left.ensures in
     let fit = fit_left asked.plugins read c.in_ok-left.left left (gathered_fit c.args.image.now asked c.in_ok-modules.modules shown.0 shown.1 shown.2 c.in_ok-places.places closes read gathers) in
     let did = image_written asked modules read c.in_ok-left.left left fit path c.write_image.result old new (rw c.len.ensures at c.write_image.ensures) in
     let links : ImageLinks c.args.image.now asked path c.write_image.result old new =

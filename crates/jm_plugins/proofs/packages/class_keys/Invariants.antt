@@ -8,5 +8,5 @@ abbrev pub invariant-loop-key : goal.invariant-loop-key
 invariant-loop-key l = record {
   can : (goal.iterator-loop-key).can_next l.key-iterator;
   ends : (goal.iterator-loop-key).is_finite l.key-iterator;
-  so_far : l.keys ++ items_of l.key-iterator ≡ class_keys (names_of l.pool);
+  so_far : l.list ++ items_of l.key-iterator ≡ class_keys (names_of l.pool);
 }

@@ -3,4 +3,4 @@ use Rattle.jm_plugins.specs.Packaging.{packages_by}
 use Rattle.jm_plugins.proofs.packages.packages_by.Given as goal
 
 abbrev pub invariant-loop-key : goal.invariant-loop-key
-invariant-loop-key l = l.packages ≡ packages_by (take l.key-index l.keys) l.«module»
+invariant-loop-key l = l.packages ≡ packages_by (take l.key-index l.key-items) l.«module»

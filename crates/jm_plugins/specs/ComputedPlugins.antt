@@ -1,0 +1,56 @@
+-- What plug-ins make of the resources, as values that compute. The rules are `Makes` and `Applies`
+-- of Plugins; proofs/ComputedPluginsLaws ties them together.
+use Rattle.std.specs.Prelude.{ℕ, Bool, List, [], ◌∷◌, Result, Ok, Err, if◌then◌else◌}
+use Rattle.jm_bytes.specs.Results.{followed}
+use Rattle.jm_class.specs.Classes.{ClassData, class_text}
+use Rattle.jm_class.specs.ComputedClass.{class_of}
+use Rattle.jm_class.specs.declared.class.ClassFault.{ClassFault}
+use Rattle.jm_compact.specs.Compact.{compact_text}
+use Rattle.jm_pool.specs.Pairs.{names_of}
+use Rattle.jm_strip.specs.Strip.{strip}
+use Rattle.jm_plugins.specs.declared.Plugin.{Plugin}
+use Rattle.jm_plugins.specs.declared.Plugin.TheVariants as plugin
+use Rattle.jm_plugins.specs.declared.chain.ApplyError.{ApplyError}
+use Rattle.jm_plugins.specs.declared.chain.ApplyError.TheVariants.{BadClass}
+use Rattle.jm_plugins.specs.Matching.{excluded, ordered}
+use Rattle.jm_plugins.specs.Packaging.{is_descriptor, listing_text}
+use Rattle.jm_plugins.specs.Plugins.{Pairs, is_class}
+
+-- the pair of a class that was read, with another text of it, or the refusal by its fault
+abbrev pub remade : (ClassData → List ℕ) → List ℕ → Result ClassData ClassFault
+    → Result (List ℕ × List ℕ) ApplyError
+remade text name (Ok class) = Ok (name, text class)
+remade text name (Err fault) = Err (BadClass name fault)
+
+-- a pair with the other text of its class, where its name is taken, or that class's refusal
+abbrev pub remade_pair : (List ℕ → Bool) → (List ℕ → ClassData → List ℕ) → List ℕ × List ℕ
+    → Result (List ℕ × List ℕ) ApplyError
+remade_pair takes text pair =
+    if takes pair.0 then remade (text pair.0) pair.0 (class_of pair.1) else Ok pair
+
+-- all pairs so, or the first refusal
+abbrev pub remade_pairs : (List ℕ → Bool) → (List ℕ → ClassData → List ℕ) → Pairs
+    → Result Pairs ApplyError
+remade_pairs takes text [] = Ok []
+remade_pairs takes text (pair ∷ pairs) =
+    followed (remade_pair takes text pair)
+    (λ first. followed (remade_pairs takes text pairs) (λ rest. Ok (first ∷ rest)))
+
+-- the text of a class without its debug information: that of `Strip`, as `compact_text` is that of
+-- `Compact`
+abbrev pub stripped_text : ClassData → List ℕ
+stripped_text class = class_text (strip class)
+
+-- `Makes` as a value: what one plug-in makes of the pairs, or its refusal
+abbrev pub act : Plugin → Pairs → Result Pairs ApplyError
+act (plugin.Exclude patterns) pairs = Ok (excluded patterns pairs)
+act (plugin.Order patterns) pairs = Ok (ordered patterns pairs)
+act plugin.Strip pairs = remade_pairs is_class (λ name. stripped_text) pairs
+act plugin.Compact pairs = remade_pairs is_class (λ name. compact_text) pairs
+act plugin.Packages pairs = remade_pairs is_descriptor (listing_text (names_of pairs)) pairs
+
+-- `Applies` as a value: what plug-ins make of the pairs, from the first to the last, or the first
+-- refusal
+abbrev pub apply : List Plugin → Pairs → Result Pairs ApplyError
+apply [] pairs = Ok pairs
+apply (one ∷ later) pairs = followed (act one pairs) (apply later)
