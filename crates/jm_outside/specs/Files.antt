@@ -1,7 +1,7 @@
 -- The files that a shelf tells: a finite map from path to bytes, as a list of pairs (this project's
 -- rule).
 use Rattle.std.specs.Prelude.{ℕ, List, [], ◌∷◌, ◌++◌, Option, Some, None, map, unwrap_or, All}
-use Rattle.std.specs.Prelude.{IsUtf8, if◌then◌else◌, ◌==◌}
+use Rattle.std.specs.Prelude.{IsUtf8, if◌then◌else◌, ◌==◌, length, take, drop, option_map}
 use Rattle.std.specs.List.{filter_map}
 use Rattle.std.specs.List.Sorted.{IsStrictlySortedBy}
 use Rattle.std.specs.Str.{bytes_eq}
@@ -29,6 +29,18 @@ pub record IsSound (files : Files) : Type 0 where
 abbrev pub file : Files → List ℕ → Option (List ℕ)
 file [] path = None
 file (f ∷ files) path = if bytes_eq path f.0 then Some f.1 else file files path
+
+-- the length of the file at a path, in bytes
+abbrev pub file_length : Files → List ℕ → Option ℕ
+file_length files path = option_map (λ bytes. length bytes) (file files path)
+
+-- a part of the bytes of a text: at most so many of those from a place on
+abbrev pub part : List ℕ → ℕ → ℕ → List ℕ
+part bytes at count = take count (drop at bytes)
+
+-- a part of the bytes of the file at a path
+abbrev pub file_part : Files → List ℕ → ℕ → ℕ → Option (List ℕ)
+file_part files path at count = option_map (λ bytes. part bytes at count) (file files path)
 
 -- the files with these bytes at a path, in place of what it had: in front of the first path above
 abbrev pub put : Files → List ℕ → List ℕ → Files

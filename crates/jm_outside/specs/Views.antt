@@ -14,6 +14,10 @@ files_on shelf = shelf.files
 abbrev pub calls_of : MemShelf → CallNumbers
 calls_of shelf = shelf.calls
 
+-- how many bytes of files a shelf in memory handed out
+abbrev pub handed_by : MemShelf → ℕ
+handed_by shelf = shelf.handed
+
 -- the bytes that a source in memory still has
 abbrev pub rest_of : MemSource → List ℕ
 rest_of source = drop source.at source.bytes

@@ -1,5 +1,5 @@
 ghost use Rattle.std.specs.Prelude.{◌≡◌, ◌++◌, ◌∷◌, [], IfOk, OnOk, OnErr, option_map};
-ghost use Rattle.jm_outside.specs.Files.{file, put, add, after_front, names_below};
+ghost use Rattle.jm_outside.specs.Files.{file, file_part, part, put, add, after_front, names_below};
 
 use jm_bytes::{List, NoMemory, Text, copy_of, extend};
 use std::alloc::Global;
@@ -35,6 +35,16 @@ impl FileMap {
     {
         match self.files.get(path) {
             Some(bytes) => Some(bytes.as_slice()),
+            None => None,
+        }
+    }
+
+    /// At most `count` bytes of the file at a path, from the byte `at` on.
+    pub fn part(&self, path: &[u8], at: u64, count: usize) -> Option<&[u8]>
+        ensures { option_map (λ bytes. bytes.now) result ≡ file_part self.now path.now at count }
+    {
+        match self.file(path) {
+            Some(bytes) => Some(part_of(bytes, at, count)),
             None => None,
         }
     }
@@ -78,6 +88,15 @@ impl FileMap {
             None => self.put(copy_of(alloc, path)?, copy_of(alloc, bytes)?),
         }
     }
+}
+
+fn part_of(bytes: &[u8], at: u64, count: usize) -> &[u8]
+    ensures { result.now ≡ part bytes.now at count }
+{
+    let start = at.min(bytes.len() as u64) as usize;
+    let (_, rest) = bytes.split_at(start);
+    let (part, _) = rest.split_at(count.min(rest.len()));
+    part
 }
 
 fn name_below<'a>(folder: &[u8], path: &'a [u8]) -> Option<&'a [u8]>

@@ -5,6 +5,7 @@
 
 mod calls;
 mod file_map;
+mod handed;
 mod making;
 mod mem_shelf;
 mod mem_streams;
@@ -12,6 +13,7 @@ mod shelf;
 mod std_streams;
 mod streams;
 
+pub use handed::Handed;
 pub use making::make_file;
 pub use mem_shelf::MemShelf;
 pub use mem_streams::{MemSink, MemSource};

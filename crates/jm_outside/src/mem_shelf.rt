@@ -1,14 +1,16 @@
-ghost use Rattle.std.specs.Prelude.{◌≡◌, ◌/◌, ◌↔◌, [], Some, true, All, IsUtf8, IsOk, IfOk, OnOk};
-ghost use Rattle.std.specs.Prelude.{OnErr, IsErrOf, option_map};
+ghost use Rattle.std.specs.Prelude.{◌≡◌, ◌≤◌, ◌+◌, ◌/◌, ◌↔◌, [], Some, true, All, IsUtf8};
+ghost use Rattle.std.specs.Prelude.{IsOk, IfOk, OnOk, OnErr, IsErrOf, length, option_map};
 ghost use Rattle.std.specs.List.Sorted.{IsStrictlySortedBy-prop};
 ghost use Rattle.std.proofs.lemmas.Str.{IsUtf8-had};
-ghost use Rattle.jm_outside.specs.Files.{Rising, paths, file, put, add, names_below};
+ghost use Rattle.jm_outside.specs.Files.{Rising, paths, file, file_length, file_part, put, add};
+ghost use Rattle.jm_outside.specs.Files.{names_below};
 ghost use Rattle.jm_outside.specs.Outcome.{CountsFaults};
 ghost use Rattle.jm_outside.specs.ComputedCalls.{no_calls, IsListed, after_call};
 ghost use Rattle.jm_outside.specs.ComputedCuts.{first_half};
 
 use crate::calls::Calls;
 use crate::file_map::FileMap;
+use crate::handed::Handed;
 use crate::shelf::{Shelf, ShelfError};
 use jm_bytes::{List, NoMemory, Text};
 use std::alloc::Global;
@@ -21,21 +23,35 @@ use std::alloc::Global;
 pub struct MemShelf {
     files: FileMap,
     calls: Calls,
+    handed: Handed,
     ghost rising: { Rising (paths files) } by { IsStrictlySortedBy-prop _ (paths files) },
     ghost texts: { All (λ path. ∥ IsUtf8 path ∥₁) (paths files) },
 }
 
+/// A copy of bytes of a file, which counts as handed out.
+fn handed_copy(alloc: Global, handed: &mut Handed, bytes: &[u8]) -> Result<Text, NoMemory>
+    ensures copy { IfOk result (λ text. text ≡ bytes.now) }
+    ensures ok { OnOk result (handed.new ≡ handed.old + length bytes.now) }
+    ensures err { OnErr result (handed.new ≡ handed.old) }
+{
+    let text = Text::copy_of(alloc, bytes)?;
+    handed.add(bytes.len())?;
+    Ok(text)
+}
+
 impl MemShelf {
-    ghost use Rattle.jm_outside.specs.Views.{files_on, calls_of};
+    ghost use Rattle.jm_outside.specs.Views.{files_on, calls_of, handed_by};
 
     /// A shelf of no file, none of whose calls fails.
     pub fn new(alloc: Global) -> MemShelf
         ensures files { files_on result ≡ [] }
         ensures calls { calls_of result ≡ no_calls }
+        ensures handed { handed_by result ≡ 0 }
     {
         MemShelf {
             files: FileMap::new(alloc),
             calls: Calls::new(alloc),
+            handed: Handed::new(),
         }
     }
 
@@ -43,6 +59,7 @@ impl MemShelf {
     pub fn fail_on(&mut self, calls: List<u64>)
         ensures files { files_on self.new ≡ files_on self.old }
         ensures calls { calls_of self.new ≡ record (calls_of self.old) { failing = calls } }
+        ensures handed { handed_by self.new ≡ handed_by self.old }
     {
         self.calls.fail_on(calls);
     }
@@ -53,6 +70,7 @@ impl MemShelf {
         ensures ok { OnOk result (files_on self.new ≡ put (files_on self.old) path bytes) }
         ensures err { OnErr result (files_on self.new ≡ files_on self.old) }
         ensures calls { calls_of self.new ≡ calls_of self.old }
+        ensures handed { handed_by self.new ≡ handed_by self.old }
     {
         self.files.put(path.into_vec(), bytes.into_vec())
     }
@@ -66,8 +84,8 @@ impl MemShelf {
 }
 
 impl Shelf for MemShelf {
-    ghost use Rattle.jm_outside.specs.Views.{files_on, calls_of};
-    ghost use Rattle.jm_outside.specs.Answers.{shelf_failed};
+    ghost use Rattle.jm_outside.specs.Views.{files_on, calls_of, handed_by};
+    ghost use Rattle.jm_outside.specs.Answers.{shelf_failed, handed_out};
 
     ghost files = { λ shelf. Some (files_on shelf) };
 
@@ -75,6 +93,8 @@ impl Shelf for MemShelf {
 
     // A file in memory has its own name from the start.
     ghost whole = { λ _. true };
+
+    ghost handed = { λ shelf. handed_by shelf };
 
     /// A listed call answers `Failed`.
     fn names(&mut self, alloc: Global, dir: &[u8]) -> Result<List<Text>, ShelfError>
@@ -84,6 +104,7 @@ impl Shelf for MemShelf {
         ensures texts { IfOk result (All IsUtf8) }
         ensures found { IfOk result (λ names. names ≡ names_below dir.now (files_on self.old)) }
         ensures listed { IsErrOf result ShelfError.Failed ↔ IsListed (calls_of self.old) }
+        ensures handed { handed_by self.new ≡ handed_by self.old }
         ensures calls { calls_of self.new ≡ after_call (calls_of self.old) (shelf_failed result) }
 
         // Follows from `calls`.
@@ -103,6 +124,7 @@ impl Shelf for MemShelf {
         ensures files { files_on self.new ≡ files_on self.old }
         ensures found { IfOk result (λ found. found ≡ file (files_on self.old) path.now) }
         ensures listed { IsErrOf result ShelfError.Failed ↔ IsListed (calls_of self.old) }
+        ensures handed { handed_by self.new ≡ handed_by self.old + handed_out result }
         ensures calls { calls_of self.new ≡ after_call (calls_of self.old) (shelf_failed result) }
 
         // Follows from `calls`.
@@ -114,7 +136,62 @@ impl Shelf for MemShelf {
             return Err(ShelfError::Failed);
         }
         match self.files.file(path) {
-            Some(bytes) => Ok(Some(Text::copy_of(alloc, bytes)?)),
+            Some(bytes) => Ok(Some(handed_copy(alloc, &mut self.handed, bytes)?)),
+            None => Ok(None),
+        }
+    }
+
+    /// A listed call answers `Failed`.
+    fn length(&mut self, _alloc: Global, path: &[u8]) -> Result<Option<u64>, ShelfError>
+        requires text { IsUtf8 path.now }
+        ensures files { files_on self.new ≡ files_on self.old }
+        ensures found { IfOk result (λ found. found ≡ file_length (files_on self.old) path.now) }
+        ensures listed { IsErrOf result ShelfError.Failed ↔ IsListed (calls_of self.old) }
+        ensures memory { ¬ IsErrOf result ShelfError.Memory }
+        ensures handed { handed_by self.new ≡ handed_by self.old }
+        ensures calls { calls_of self.new ≡ after_call (calls_of self.old) (shelf_failed result) }
+
+        // Follows from `calls`.
+        ensures faults { CountsFaults (calls_of self.old).faults (calls_of self.new).faults
+            (IsOk result) (IsErrOf result ShelfError.Failed) }
+    {
+        if self.calls.number() {
+            self.calls.fault();
+            return Err(ShelfError::Failed);
+        }
+        match self.files.file(path) {
+            Some(bytes) => Ok(Some(bytes.len() as u64)),
+            None => Ok(None),
+        }
+    }
+
+    /// A listed call answers `Failed`.
+    fn read_part(
+        &mut self,
+        alloc: Global,
+        path: &[u8],
+        at: u64,
+        length: usize,
+    ) -> Result<Option<Text>, ShelfError>
+        requires text { IsUtf8 path.now }
+        ensures files { files_on self.new ≡ files_on self.old }
+        ensures found { IfOk result
+            (λ found. found ≡ file_part (files_on self.old) path.now at length) }
+        ensures listed { IsErrOf result ShelfError.Failed ↔ IsListed (calls_of self.old) }
+        ensures within { handed_out result ≤ length }
+        ensures handed { handed_by self.new ≡ handed_by self.old + handed_out result }
+        ensures calls { calls_of self.new ≡ after_call (calls_of self.old) (shelf_failed result) }
+
+        // Follows from `calls`.
+        ensures faults { CountsFaults (calls_of self.old).faults (calls_of self.new).faults
+            (IsOk result) (IsErrOf result ShelfError.Failed) }
+    {
+        if self.calls.number() {
+            self.calls.fault();
+            return Err(ShelfError::Failed);
+        }
+        match self.files.part(path, at, length) {
+            Some(bytes) => Ok(Some(handed_copy(alloc, &mut self.handed, bytes)?)),
             None => Ok(None),
         }
     }
@@ -125,6 +202,7 @@ impl Shelf for MemShelf {
         ensures ok { OnOk result (files_on self.new ≡ put (files_on self.old) path.now []) }
         ensures err { OnErr result (files_on self.new ≡ files_on self.old) }
         ensures listed { IsErrOf result ShelfError.Failed ↔ IsListed (calls_of self.old) }
+        ensures handed { handed_by self.new ≡ handed_by self.old }
         ensures calls { calls_of self.new ≡ after_call (calls_of self.old) (shelf_failed result) }
 
         // Follows from `calls`.
@@ -149,6 +227,7 @@ impl Shelf for MemShelf {
         ensures memory { IsErrOf result ShelfError.Memory → files_on self.new ≡ files_on self.old }
         ensures listed { IsErrOf result ShelfError.Failed → IsListed (calls_of self.old) }
         ensures unlisted { OnOk result (¬ IsListed (calls_of self.old)) }
+        ensures handed { handed_by self.new ≡ handed_by self.old }
         ensures calls { calls_of self.new ≡ after_call (calls_of self.old) (shelf_failed result) }
 
         // Follows from `calls`.
@@ -170,6 +249,7 @@ impl Shelf for MemShelf {
         ensures files { files_on self.new ≡ files_on self.old }
         ensures listed { IsErrOf result ShelfError.Failed ↔ IsListed (calls_of self.old) }
         ensures memory { ¬ IsErrOf result ShelfError.Memory }
+        ensures handed { handed_by self.new ≡ handed_by self.old }
         ensures calls { calls_of self.new ≡ after_call (calls_of self.old) (shelf_failed result) }
 
         // Follows from `calls`.

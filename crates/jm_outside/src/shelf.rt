@@ -1,7 +1,9 @@
-ghost use Rattle.std.specs.Prelude.{◌≡◌, ℕ, [], Bool, Option, All, IsUtf8, IsOk};
+ghost use Rattle.std.specs.Prelude.{◌≡◌, ◌≤◌, ◌+◌, ℕ, [], Bool, Option, All, IsUtf8, IsOk};
 ghost use Rattle.std.specs.Prelude.{IsTrue, IfOk, OnOk};
 ghost use Rattle.std.specs.Prelude.{OnErr, IsErrOf, option_map};
-ghost use Rattle.jm_outside.specs.Files.{Files, IsSound, Rising, file, put, add, names_below};
+ghost use Rattle.jm_outside.specs.Files.{Files, IsSound, Rising, file, file_length, file_part};
+ghost use Rattle.jm_outside.specs.Files.{put, add, names_below};
+ghost use Rattle.jm_outside.specs.Answers.{handed_out};
 ghost use Rattle.jm_outside.specs.Outcome.{Shows, Told, AsBeforeOrEmpty, AddsFront, CountsFaults};
 
 use jm_bytes::{List, NoMemory, Text};
@@ -50,7 +52,8 @@ impl<T: Drop> From<AllocFailed<T>> for ShelfError {
     }
 }
 
-/// A shelf of files, each a path and its bytes. It may tell its files, and counts its faults.
+/// A shelf of files, each a path and its bytes. It may tell its files, and counts its faults and
+/// the bytes that it hands out.
 ///
 /// Every path and folder that a call takes is UTF-8. A folder has no slash at its end: the file `r`
 /// of the folder `dir` has the path `dir/r`.
@@ -64,6 +67,9 @@ pub trait Shelf {
     // Whether each file that was made stands whole under its own name.
     ghost whole: { Self → Bool };
 
+    // How many bytes of files the shelf handed out, told or not.
+    ghost handed: { Self → ℕ };
+
     /// The names of the files below a folder, to any depth, rising in byte order: what follows
     /// `dir` and a slash in their paths. A folder that isn't there has none.
     fn names(&mut self, alloc: Global, dir: &[u8]) -> Result<List<Text>, ShelfError>
@@ -76,6 +82,7 @@ pub trait Shelf {
 
         ensures told { IfOk result (λ names. Shows (files self.old)
             (λ files. names ≡ names_below dir.now files)) }
+        ensures handed { handed self.new ≡ handed self.old }
         ensures faults { CountsFaults (faults self.old) (faults self.new) (IsOk result)
             (IsErrOf result ShelfError.Failed) };
 
@@ -85,6 +92,38 @@ pub trait Shelf {
         ensures files { files self.new ≡ files self.old }
         ensures told { IfOk result (λ found. Shows (files self.old)
             (λ files. found ≡ file files path.now)) }
+        ensures handed { handed self.new ≡ handed self.old + handed_out result }
+        ensures faults { CountsFaults (faults self.old) (faults self.new) (IsOk result)
+            (IsErrOf result ShelfError.Failed) };
+
+    /// The length of the file at a path, in bytes. None exactly where no file has the path.
+    fn length(&mut self, alloc: Global, path: &[u8]) -> Result<Option<u64>, ShelfError>
+        requires text { IsUtf8 path.now }
+        ensures files { files self.new ≡ files self.old }
+        ensures told { IfOk result (λ found. Shows (files self.old)
+            (λ files. found ≡ file_length files path.now)) }
+        ensures handed { handed self.new ≡ handed self.old }
+        ensures faults { CountsFaults (faults self.old) (faults self.new) (IsOk result)
+            (IsErrOf result ShelfError.Failed) };
+
+    /// The bytes of the file at a path from the byte `at` on, at most `length` of them: none where
+    /// the file ends there or before. None exactly where no file has the path.
+    fn read_part(
+        &mut self,
+        alloc: Global,
+        path: &[u8],
+        at: u64,
+        length: usize,
+    ) -> Result<Option<Text>, ShelfError>
+        requires text { IsUtf8 path.now }
+        ensures files { files self.new ≡ files self.old }
+        ensures told { IfOk result (λ found. Shows (files self.old)
+            (λ files. found ≡ file_part files path.now at length)) }
+
+        // Told or not.
+        ensures within { handed_out result ≤ length }
+
+        ensures handed { handed self.new ≡ handed self.old + handed_out result }
         ensures faults { CountsFaults (faults self.old) (faults self.new) (IsOk result)
             (IsErrOf result ShelfError.Failed) };
 
@@ -96,6 +135,7 @@ pub trait Shelf {
         ensures err { OnErr result (Told (files self.old) (files self.new)
             (λ old new. AsBeforeOrEmpty old new path.now)) }
         ensures memory { IsErrOf result ShelfError.Memory → files self.new ≡ files self.old }
+        ensures handed { handed self.new ≡ handed self.old }
         ensures faults { CountsFaults (faults self.old) (faults self.new) (IsOk result)
             (IsErrOf result ShelfError.Failed) };
 
@@ -108,6 +148,7 @@ pub trait Shelf {
         ensures err { OnErr result (Told (files self.old) (files self.new)
             (λ old new. AddsFront old new path.now bytes.now)) }
         ensures memory { IsErrOf result ShelfError.Memory → files self.new ≡ files self.old }
+        ensures handed { handed self.new ≡ handed self.old }
         ensures faults { CountsFaults (faults self.old) (faults self.new) (IsOk result)
             (IsErrOf result ShelfError.Failed) };
 
@@ -115,6 +156,7 @@ pub trait Shelf {
     fn finish(&mut self, alloc: Global) -> Result<(), ShelfError>
         ensures files { files self.new ≡ files self.old }
         ensures whole { OnOk result (IsTrue (whole self.new)) }
+        ensures handed { handed self.new ≡ handed self.old }
         ensures faults { CountsFaults (faults self.old) (faults self.new) (IsOk result)
             (IsErrOf result ShelfError.Failed) };
 
