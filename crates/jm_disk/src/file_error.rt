@@ -19,7 +19,7 @@ pub enum Reason {
     Vanished,
     /// The file gave more or fewer bytes than it had when it was opened.
     Changed,
-    /// What is to be replaced is neither a file nor a link to one.
+    /// What is to be replaced, or to be read in parts, is neither a file nor a link to one.
     NotFile,
     /// What stands in a folder is neither a file nor a folder.
     NotListed,

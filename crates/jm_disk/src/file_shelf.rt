@@ -4,9 +4,10 @@ ghost use Rattle.jm_outside.specs.Outcome.{CountsFaults};
 use crate::file_error::{FileError, Reason};
 use crate::folders::names_in;
 use crate::new_file::{NewFile, append_at, make};
+use crate::parts::{PartedFile, open_for};
 use crate::reading::read_at;
 use jm_bytes::{List, Text};
-use jm_outside::{Shelf, ShelfError};
+use jm_outside::{Handed, Shelf, ShelfError};
 use std::alloc::Global;
 use std::rt::Files;
 use std::str;
@@ -17,11 +18,16 @@ use std::str;
 /// The file that was made last is open and unfinished until the next one is made, or until a call
 /// looks at files or ends their making. Bytes go to the system at once, and to the end of the file.
 ///
+/// The file of which the length or a part was asked last is open until another file's is, or until
+/// files are made: what comes of it is of one file, whatever stands at its path by then.
+///
 /// Each error of the system counts as one fault.
 #[derive(Drop)]
 pub struct FileShelf<'a, R: Files + AllocGlobal> {
     rt: &'a R,
     made_last: Option<NewFile<R::File>>,
+    parted: Option<PartedFile<R::File>>,
+    handed: Handed,
     faults: u64,
     last_failure: Option<String>,
 }
@@ -42,11 +48,14 @@ fn told(alloc: Global, path: &[u8], error: FileError) -> Option<String> {
 impl<'a, R: Files + AllocGlobal> FileShelf<'a, R> {
     /// The shelf of a runtime's file system, which has no fault yet.
     pub fn new(rt: &'a R) -> FileShelf<'a, R>
-        ensures { ⟦<FileShelf<'a, R> as Shelf>⟧.faults result ≡ 0 }
+        ensures faults { ⟦<FileShelf<'a, R> as Shelf>⟧.faults result ≡ 0 }
+        ensures handed { ⟦<FileShelf<'a, R> as Shelf>⟧.handed result ≡ 0 }
     {
         FileShelf {
             rt,
             made_last: None,
+            parted: None,
+            handed: Handed::new(),
             faults: 0,
             last_failure: None,
         }
@@ -64,6 +73,7 @@ impl<'a, R: Files + AllocGlobal> FileShelf<'a, R> {
     /// Removes the file that isn't finished, if there is one.
     pub fn give_up(&mut self)
         ensures whole { IsTrue (is_none self.new.made_last) }
+        ensures handed { self.new.handed ≡ self.old.handed }
         ensures faults { self.new.faults ≡ self.old.faults }
     {
         if let Some(file) = self.made_last.take() {
@@ -74,6 +84,7 @@ impl<'a, R: Files + AllocGlobal> FileShelf<'a, R> {
     /// Finishes the file that isn't finished, if there is one.
     fn settle(&mut self, alloc: Global) -> Result<(), ShelfError>
         ensures whole { IsTrue (is_none self.new.made_last) }
+        ensures handed { self.new.handed ≡ self.old.handed }
         ensures faults { CountsFaults self.old.faults self.new.faults (IsOk result)
             (IsErrOf result ShelfError.Failed) }
     {
@@ -86,6 +97,20 @@ impl<'a, R: Files + AllocGlobal> FileShelf<'a, R> {
         }
     }
 
+    /// Opens the file of a path to be read in parts, unless it is open already. None is open then
+    /// where no file is there.
+    fn open(&mut self, alloc: Global, path: &[u8]) -> Result<(), ShelfError>
+        ensures handed { self.new.handed ≡ self.old.handed }
+        ensures faults { CountsFaults self.old.faults self.new.faults (IsOk result)
+            (IsErrOf result ShelfError.Failed) }
+    {
+        self.settle(alloc)?;
+        let kept = self.parted.take();
+        let answer = open_for(self.rt, kept, path);
+        self.parted = self.judge(alloc, path, answer)?;
+        Ok(())
+    }
+
     /// Hands on what a call answered. Where it failed, it counts a fault and keeps what failed.
     fn judge<T: Drop>(
         &mut self,
@@ -95,6 +120,7 @@ impl<'a, R: Files + AllocGlobal> FileShelf<'a, R> {
     ) -> Result<T, ShelfError>
         ensures answer { IfOk result (λ value. answer ≡ Ok value) }
         ensures made { self.new.made_last ≡ self.old.made_last }
+        ensures handed { self.new.handed ≡ self.old.handed }
         ensures faults { CountsFaults self.old.faults self.new.faults (IsOk result)
             (IsErrOf result ShelfError.Failed) }
     {
@@ -122,6 +148,8 @@ impl<'a, R: Files + AllocGlobal> Shelf for FileShelf<'a, R> {
 
     ghost whole = { λ shelf. is_none shelf.made_last };
 
+    ghost handed = { λ shelf. shelf.handed };
+
     /// Goes through the folder to any depth, and through links to files and folders as if these
     /// stood there. A link that leads nowhere is a fault, and so are a ring of links, what is
     /// neither a file nor a folder, a folder that can't be listed, a name that isn't UTF-8, and
@@ -139,12 +167,46 @@ impl<'a, R: Files + AllocGlobal> Shelf for FileShelf<'a, R> {
     fn read(&mut self, alloc: Global, path: &[u8]) -> Result<Option<Text>, ShelfError> {
         self.settle(alloc)?;
         let answer = read_at(self.rt, alloc, path);
-        self.judge(alloc, path, answer)
+        let Some(text) = self.judge(alloc, path, answer)? else {
+            return Ok(None);
+        };
+        self.handed.add(text.len())?;
+        Ok(Some(text))
+    }
+
+    /// None as `read`. What is there and is neither a file nor a link to one is a fault. A file
+    /// that is open has the length that it has by now.
+    fn length(&mut self, alloc: Global, path: &[u8]) -> Result<Option<u64>, ShelfError> {
+        self.open(alloc, path)?;
+        let Some(file) = &self.parted else {
+            return Ok(None);
+        };
+        let answer = file.length();
+        Ok(Some(self.judge(alloc, path, answer)?))
+    }
+
+    /// None and a fault as `length`. A file that got shorter gives fewer bytes, or none.
+    fn read_part(
+        &mut self,
+        alloc: Global,
+        path: &[u8],
+        at: u64,
+        length: usize,
+    ) -> Result<Option<Text>, ShelfError> {
+        self.open(alloc, path)?;
+        let Some(file) = &mut self.parted else {
+            return Ok(None);
+        };
+        let answer = file.part(alloc, at, length);
+        let text = self.judge(alloc, path, answer)?;
+        self.handed.add(text.len())?;
+        Ok(Some(text))
     }
 
     /// Makes the folders of the path that are missing. Where a file is there, or a link to one, it
     /// stays until the new one is finished; where anything else is there, that is a fault.
     fn create(&mut self, alloc: Global, path: &[u8]) -> Result<(), ShelfError> {
+        self.parted = None;
         self.settle(alloc)?;
         let answer = make(self.rt, path);
         self.made_last = Some(self.judge(alloc, path, answer)?);
@@ -154,6 +216,7 @@ impl<'a, R: Files + AllocGlobal> Shelf for FileShelf<'a, R> {
     /// Makes no folder: one that is missing is a fault. Where bytes can't be added to the file that
     /// was made last, it is removed.
     fn append(&mut self, alloc: Global, path: &[u8], bytes: &[u8]) -> Result<(), ShelfError> {
+        self.parted = None;
         let answer = match &mut self.made_last {
             Some(file) if file.is_for(path) => file.append(bytes),
             _ => {
@@ -168,6 +231,7 @@ impl<'a, R: Files + AllocGlobal> Shelf for FileShelf<'a, R> {
     }
 
     fn finish(&mut self, alloc: Global) -> Result<(), ShelfError> {
+        self.parted = None;
         self.settle(alloc)
     }
 

@@ -5,6 +5,7 @@ mod file_error;
 mod file_shelf;
 mod folders;
 mod new_file;
+mod parts;
 mod paths;
 mod reading;
 

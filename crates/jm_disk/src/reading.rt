@@ -1,5 +1,5 @@
 //! The bytes of a file of the system.
-ghost use Rattle.std.specs.Prelude.{◌≤◌};
+ghost use Rattle.std.specs.Prelude.{◌≡◌, ◌≤◌, ◌+◌, [], IsOk, OnOk, length};
 
 use crate::file_error::{FileError, Reason};
 use crate::paths::{is_absence, text_of};
@@ -62,6 +62,21 @@ fn read_all<F: Read>(
     Err(FileError::from(Reason::TooLarge))
 }
 
+/// Reads so many bytes from where the file stands, fewer only where it meets the end.
+pub fn read_up_to<F: Read>(file: &mut F, count: usize, bytes: &mut Vec<u8>) -> Result<(), FileError>
+    requires { bytes.old.items ≡ [] }
+    ensures { OnOk result (length bytes.new.items ≤ count) }
+{
+    for _ in 0..u64::MAX {
+        let room = (count - bytes.len()).min(MOST_PIECE);
+        make_room(bytes, room, Some(count as u64))?;
+        if room == 0 || read_piece(file, room, bytes)? == 0 {
+            return Ok(());
+        }
+    }
+    Err(FileError::from(Reason::TooLarge))
+}
+
 /// How many bytes a read asks for behind those that came: one more than the length leaves, so that
 /// a file that grew is known, but not more than a piece.
 fn room_behind(end: usize, length: Option<u64>) -> usize
@@ -79,6 +94,7 @@ fn room_behind(end: usize, length: Option<u64>) -> usize
 /// Makes room for a piece. Up to the length the room at most doubles, and hardly passes it.
 fn make_room(bytes: &mut Vec<u8>, room: usize, length: Option<u64>) -> Result<(), FileError>
     requires { room ≤ 262_144 }
+    ensures { bytes.new.items ≡ bytes.old.items }
 {
     let end = bytes.len() + room;
     let whole = length.unwrap_or(0).saturating_add(1) as usize;
@@ -91,6 +107,7 @@ fn make_room(bytes: &mut Vec<u8>, room: usize, length: Option<u64>) -> Result<()
 /// Reads once, to the end of what came.
 fn read_piece<F: Read>(file: &mut F, room: usize, bytes: &mut Vec<u8>) -> Result<usize, FileError>
     requires { room ≤ 262_144 }
+    ensures { IsOk result → length bytes.new.items ≤ length bytes.old.items + room }
 {
     let start = bytes.len();
     bytes.resize(start + room, 0)?;

@@ -1,0 +1,70 @@
+//! A file of the system that is read in parts.
+ghost use Rattle.std.specs.Prelude.{◌≤◌, IfOk, length};
+
+use crate::file_error::{FileError, Reason};
+use crate::paths::{is_absence, text_of};
+use crate::reading::read_up_to;
+use jm_bytes::Text;
+use std::alloc::Global;
+use std::fs;
+use std::fs::OpenFile;
+use std::io::{Read, Seek, SeekFrom};
+use std::rt::Files;
+
+/// The highest place in a file of which the system knows.
+const LAST_PLACE: u64 = 9_223_372_036_854_775_807;
+
+/// A file that is open to be read in parts, and the path at which it stood when it was opened.
+#[derive(Drop)]
+pub struct PartedFile<F: Read + Seek + OpenFile + Drop> {
+    path: String,
+    file: F,
+}
+
+/// The file of a path: the one that was kept, if it is for this path, and else the one that stands
+/// there, or None where none does.
+pub fn open_for<R: Files + AllocGlobal>(
+    rt: &R,
+    kept: Option<PartedFile<R::File>>,
+    path: &[u8],
+) -> Result<Option<PartedFile<R::File>>, FileError> {
+    match kept {
+        Some(file) if file.path.as_bytes() == path => Ok(Some(file)),
+        Some(_) | None => open_at(rt, text_of(path)?),
+    }
+}
+
+fn open_at<R: Files + AllocGlobal>(
+    rt: &R,
+    path: &str,
+) -> Result<Option<PartedFile<R::File>>, FileError> {
+    let file = match fs::open(rt, path) {
+        Ok(file) => file,
+        Err(e) if is_absence(e.kind()) => return Ok(None),
+        Err(e) => return Err(FileError::from(e)),
+    };
+    if !file.metadata()?.is_file() {
+        return Err(FileError::from(Reason::NotFile));
+    }
+    let path = String::from_str(rt.alloc(), path)?;
+    Ok(Some(PartedFile { path, file }))
+}
+
+impl<F: Read + Seek + OpenFile + Drop> PartedFile<F> {
+    /// How many bytes the file has now.
+    pub fn length(&self) -> Result<u64, FileError> {
+        Ok(self.file.metadata()?.len())
+    }
+
+    /// The bytes from a place on, so many or as many as there are.
+    pub fn part(&mut self, alloc: Global, at: u64, count: usize) -> Result<Text, FileError>
+        ensures { IfOk result (λ text. length text ≤ count) }
+    {
+        let mut bytes = Vec::new(alloc);
+        if at <= LAST_PLACE {
+            self.file.seek(SeekFrom::Start(at))?;
+            read_up_to(&mut self.file, count, &mut bytes)?;
+        }
+        Ok(Text::from_vec(bytes))
+    }
+}
