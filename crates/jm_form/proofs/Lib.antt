@@ -7,6 +7,7 @@ pub mod FitsLaws
 pub mod FreeLaws
 pub mod HeadLaws
 pub mod LayoutVectors
+pub mod LocalityLaws
 pub mod LookLaws
 pub mod OverlapLaws
 pub mod OverlapNone

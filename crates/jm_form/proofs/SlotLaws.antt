@@ -12,11 +12,11 @@ use Rattle.jm_form.specs.declared.rows.Row.{Row}
 use Rattle.jm_form.specs.declared.slots.SlotRow.{SlotRow}
 use Rattle.jm_form.specs.declared.slots.SlotRow.TheVariants as slot_row
 use Rattle.jm_form.specs.ComputedRows.{row_front}
-use Rattle.jm_form.specs.Damages.{content_fits, entry_checks, row_checks, slot_fault}
+use Rattle.jm_form.specs.Damages.{content_fits, entry_checks, row_checks, slot_fault, slot_fault_with}
 use Rattle.jm_form.specs.Entries.{row_at, row_of_slot, row_read, row_text, spelled_row, texts_end}
 use Rattle.jm_form.specs.Places.{contents, offset_word, strings}
 use Rattle.jm_form.specs.Texts.{text_ends}
-use Rattle.jm_form.specs.Validity.{SoundRow}
+use Rattle.jm_form.specs.Validity.{SoundRow, SoundRowWith}
 
 -- The checks of a slot, over whether its offset word is within the locations and what was read there
 
@@ -65,19 +65,27 @@ spelled_fault i section size false read row e = cc
 spelled_fault i section size true None row e = cc
 spelled_fault i section size true (Some r) row e = ap (λ s. first_fault (entry_checks i section size (spelled_row s))) e
 
--- The fault of a slot
+-- The fault of a slot, with contents of so many bytes
 
-pub slot_outside : (b : List ℕ) (h : Header) (i : ℕ) → row_of_slot b h i ≡ slot_row.Outside → slot_fault b h i ≡ Some (damage.Offset i)
-slot_outside b h i e = outside_fault i (strings b h) (length (contents b h)) (nat_lt (offset_word b h i) h.locations) (row_front (row_text b h i)) e
+pub slot_outside : (b : List ℕ) (h : Header) (size i : ℕ) → row_of_slot b h i ≡ slot_row.Outside → slot_fault_with b h size i ≡ Some (damage.Offset i)
+slot_outside b h size i e = outside_fault i (strings b h) size (nat_lt (offset_word b h i) h.locations) (row_front (row_text b h i)) e
 
-pub slot_unspelled : (b : List ℕ) (h : Header) (i : ℕ) → row_of_slot b h i ≡ slot_row.Unspelled → slot_fault b h i ≡ Some (damage.Row i)
-slot_unspelled b h i e = unspelled_fault i (strings b h) (length (contents b h)) (nat_lt (offset_word b h i) h.locations) (row_front (row_text b h i)) e
+pub slot_unspelled : (b : List ℕ) (h : Header) (size i : ℕ) → row_of_slot b h i ≡ slot_row.Unspelled → slot_fault_with b h size i ≡ Some (damage.Row i)
+slot_unspelled b h size i e = unspelled_fault i (strings b h) size (nat_lt (offset_word b h i) h.locations) (row_front (row_text b h i)) e
+
+pub slot_blank_with : (b : List ℕ) (h : Header) (size i : ℕ) → row_of_slot b h i ≡ slot_row.Blank → slot_fault_with b h size i ≡ None
+slot_blank_with b h size i e = blank_fault i (strings b h) size (nat_lt (offset_word b h i) h.locations) (row_front (row_text b h i)) e
+
+pub slot_spelled_with : (b : List ℕ) (h : Header) (size i : ℕ) (row : Row) → row_of_slot b h i ≡ slot_row.Spelled row → slot_fault_with b h size i ≡ first_fault (row_checks i (strings b h) size row)
+slot_spelled_with b h size i row e = spelled_fault i (strings b h) size (nat_lt (offset_word b h i) h.locations) (row_front (row_text b h i)) row e
+
+-- with the contents of the bytes
 
 pub slot_blank : (b : List ℕ) (h : Header) (i : ℕ) → row_of_slot b h i ≡ slot_row.Blank → slot_fault b h i ≡ None
-slot_blank b h i e = blank_fault i (strings b h) (length (contents b h)) (nat_lt (offset_word b h i) h.locations) (row_front (row_text b h i)) e
+slot_blank b h i e = slot_blank_with b h (length (contents b h)) i e
 
 pub slot_spelled : (b : List ℕ) (h : Header) (i : ℕ) (row : Row) → row_of_slot b h i ≡ slot_row.Spelled row → slot_fault b h i ≡ first_fault (row_checks i (strings b h) (length (contents b h)) row)
-slot_spelled b h i row e = spelled_fault i (strings b h) (length (contents b h)) (nat_lt (offset_word b h i) h.locations) (row_front (row_text b h i)) row e
+slot_spelled b h i row e = slot_spelled_with b h (length (contents b h)) i row e
 
 -- A slot without a fault
 
@@ -98,10 +106,8 @@ content_within offset size all e = grind (arith, nat_tests)
 test_holds : (test : Bool) (fault : Damage) (later : List (Option Damage)) → first_fault (fault_if (not test) fault ∷ later) ≡ None → test ≡ true
 test_holds test fault later e = not-false test (fault_if_none (not test) fault (no_fault_head (fault_if (not test) fault) later e))
 
-pub checked_row : (b : List ℕ) (h : Header) (i : ℕ) (row : Row) → first_fault (row_checks i (strings b h) (length (contents b h)) row) ≡ None → SoundRow b h row
-checked_row b h i row clear =
-    let s : List ℕ = strings b h in
-    let all : ℕ = length (contents b h) in
+pub checked_row : (s : List ℕ) (all i : ℕ) (row : Row) → first_fault (row_checks i s all row) ≡ None → SoundRowWith s all row
+checked_row s all i row clear =
     let stored = fault_if (not (row.packed == 0)) (damage.Compressed i) in
     let texts = text_check s 1 row.module in
     let parents = text_check s 2 row.parent in
@@ -126,12 +132,18 @@ checked_row b h i row clear =
     text_check s kind place = fault_if (not (text_ends s place)) (damage.Text i kind)
 
 -- the row of a slot without a fault, where it isn't blank, is sound
+pub sound_row_with : (b : List ℕ) (h : Header) (size i : ℕ) (row : Row) → slot_fault_with b h size i ≡ None → row_at b h i ≡ Some row → SoundRowWith (strings b h) size row
+sound_row_with b h size i row clear there = checked_row (strings b h) size i row (sym (slot_spelled_with b h size i row (row_spelled b h i row there)) ∙ clear)
+
 pub sound_row : (b : List ℕ) (h : Header) (i : ℕ) (row : Row) → slot_fault b h i ≡ None → row_at b h i ≡ Some row → SoundRow b h row
-sound_row b h i row clear there = checked_row b h i row (sym (slot_spelled b h i row (row_spelled b h i row there)) ∙ clear)
+sound_row b h i row clear there = sound_row_with b h (length (contents b h)) i row clear there
 
 all_four : (a b c d : Bool) → a ≡ true → b ≡ true → c ≡ true → d ≡ true → a && b && c && d ≡ true
 all_four a b c d one two three four = rw (one, two, three, four) refl
 
 -- the texts of a sound row end
+pub sound_texts_with : (section : List ℕ) (size : ℕ) (row : Row) → SoundRowWith section size row → texts_end section row ≡ true
+sound_texts_with section size row sound = all_four _ _ _ _ sound.module_ends sound.parent_ends sound.base_ends sound.ext_ends
+
 pub sound_texts : (b : List ℕ) (h : Header) (row : Row) → SoundRow b h row → texts_end (strings b h) row ≡ true
-sound_texts b h row sound = all_four _ _ _ _ sound.module_ends sound.parent_ends sound.base_ends sound.ext_ends
+sound_texts b h row sound = sound_texts_with (strings b h) (length (contents b h)) row sound

@@ -7,17 +7,21 @@ use Rattle.jm_form.specs.declared.container.Header.{Header}
 use Rattle.jm_form.specs.declared.container.HeaderFault.{HeaderFault}
 use Rattle.jm_form.specs.declared.damage.Damage.TheVariants as damage
 use Rattle.jm_form.specs.ComputedOverlap.{first_overlap}
-use Rattle.jm_form.specs.Damages.{damage_with, entries_checks, first_damage, image_checks, slot_fault, slot_faults}
+use Rattle.jm_form.specs.Damages.{damage_with, entries_checks, first_damage, image_checks, slot_fault, slot_fault_with, slot_faults, slot_faults_with}
 use Rattle.jm_form.specs.Entries.{Entry, entries}
 use Rattle.jm_form.specs.Head.{header_of}
 use Rattle.jm_form.specs.Overlap.{Apart, ranges_of}
-use Rattle.jm_form.specs.Validity.{SoundSlots, Valid, ValidAs}
+use Rattle.jm_form.specs.Places.{contents}
+use Rattle.jm_form.specs.Validity.{SoundSlots, SoundSlotsWith, Valid, ValidAs}
 use Rattle.jm_form.proofs.OverlapNone.{apart_no_overlap, no_overlap_apart}
 
 -- Slots
 
+pub slots_sound_with : (b : List ℕ) (h : Header) (size : ℕ) → first_fault (slot_faults_with b h size) ≡ None → SoundSlotsWith b h size
+slots_sound_with b h size clear i below = no_fault_between (slot_fault_with b h size) 0 h.length clear i (omega arith) (omega arith)
+
 pub slots_sound : (b : List ℕ) (h : Header) → first_fault (slot_faults b h) ≡ None → SoundSlots b h
-slots_sound b h clear i below = no_fault_between (slot_fault b h) 0 h.length clear i (omega arith) (omega arith)
+slots_sound b h = slots_sound_with b h (length (contents b h))
 
 pub sound_slots : (b : List ℕ) (h : Header) → SoundSlots b h → first_fault (slot_faults b h) ≡ None
 sound_slots b h sound = no_fault_from_between (slot_fault b h) 0 h.length (λ i from to. sound i (omega arith))

@@ -11,9 +11,9 @@ use Rattle.jm_form.specs.declared.rows.Row.{Row}
 use Rattle.jm_form.specs.ComputedOverlap.{first_overlap}
 use Rattle.jm_form.specs.ComputedRows.{row_front}
 use Rattle.jm_form.specs.Entries.{Entry, slots, row_text, row_at, entries}
-use Rattle.jm_form.specs.Head.{header_of}
+use Rattle.jm_form.specs.Head.{header_of, header_with}
 use Rattle.jm_form.specs.Overlap.{ranges_of}
-use Rattle.jm_form.specs.Places.{offset_word, strings, contents}
+use Rattle.jm_form.specs.Places.{offset_word, strings, contents, contents_size}
 use Rattle.jm_form.specs.Texts.{text_ends}
 
 -- the content lies in contents of so many bytes
@@ -38,16 +38,28 @@ entry_checks i section size None = []
 entry_checks i section size (Some row) = row_checks i section size row
 
 -- what can be wrong with slot i, whether it holds an entry or not: its offset word, its row, and
--- what the row says
-abbrev pub slot_checks : List ℕ → Header → ℕ → List (Option Damage)
-slot_checks b h i =
+-- what the row says; the contents, of which the bytes may hold none, have so many bytes
+abbrev pub slot_checks_with : List ℕ → Header → ℕ → ℕ → List (Option Damage)
+slot_checks_with b h size i =
     fault_if (not (nat_lt (offset_word b h i) h.locations)) (damage.Offset i)
     ∷ fault_if (is_none (row_front (row_text b h i))) (damage.Row i)
-    ∷ entry_checks i (strings b h) (length (contents b h)) (row_at b h i)
+    ∷ entry_checks i (strings b h) size (row_at b h i)
+
+-- the same, with the contents that stand behind the index
+abbrev pub slot_checks : List ℕ → Header → ℕ → List (Option Damage)
+slot_checks b h i = slot_checks_with b h (length (contents b h)) i
+
+-- the first fault of a slot, with contents of so many bytes
+abbrev pub slot_fault_with : List ℕ → Header → ℕ → ℕ → Option Damage
+slot_fault_with b h size i = first_fault (slot_checks_with b h size i)
 
 -- the first fault of a slot
 abbrev pub slot_fault : List ℕ → Header → ℕ → Option Damage
 slot_fault b h i = first_fault (slot_checks b h i)
+
+-- the first fault of each slot, by rising slot, with contents of so many bytes
+abbrev pub slot_faults_with : List ℕ → Header → ℕ → List (Option Damage)
+slot_faults_with b h size = map (slot_fault_with b h size) (slots h)
 
 -- the first fault of each slot, by rising slot
 abbrev pub slot_faults : List ℕ → Header → List (Option Damage)
@@ -60,10 +72,24 @@ entries_checks stated es =
     ∷ option_map (λ o. damage.Overlap o.0 o.1) (first_overlap (ranges_of es))
     ∷ []
 
--- what can be wrong with an image that has a header: each slot's fault, then the count, then the
--- overlap
+-- what can be wrong with an image that has a header, with contents of so many bytes: each slot's
+-- fault, then the count, then the overlap
+abbrev pub image_checks_with : List ℕ → Header → ℕ → List (Option Damage)
+image_checks_with b h size = slot_faults_with b h size ++ entries_checks h.count (entries b h)
+
+-- the same, with the contents that stand behind the index
 abbrev pub image_checks : List ℕ → Header → List (Option Damage)
-image_checks b h = slot_faults b h ++ entries_checks h.count (entries b h)
+image_checks b h = image_checks_with b h (length (contents b h))
+
+-- the damage of a file of so many bytes that begins with these, by what was read as the header
+abbrev pub front_damage_with : List ℕ → ℕ → Result Header HeaderFault → Option Damage
+front_damage_with front size (Err fault) = Some (damage.Header fault)
+front_damage_with front size (Ok h) =
+    first_fault (image_checks_with front h (contents_size size h))
+
+-- the damage of a file of so many bytes that begins with these, which hold its index
+abbrev pub front_damage : List ℕ → ℕ → Option Damage
+front_damage front size = front_damage_with front size (header_with front size)
 
 -- the damage, by what was read as the header
 abbrev pub damage_with : List ℕ → Result Header HeaderFault → Option Damage

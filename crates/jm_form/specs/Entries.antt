@@ -93,6 +93,10 @@ entry_of b h i row = record {
   content = content_of (contents b h) row;
 }
 
+-- what the index says of an entry: all but its content
+abbrev pub indexed : Entry → ℕ × Row × List ℕ
+indexed e = (e.slot, e.row, e.name)
+
 -- the entry that a slot spells, or none where it has no row
 abbrev pub entry_at : List ℕ → Header → ℕ → Option Entry
 entry_at b h i = option_map (entry_of b h i) (row_at b h i)

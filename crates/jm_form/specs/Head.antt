@@ -1,6 +1,7 @@
 -- The header of an image: seven words (jimage 1.0; the order of its faults is this project's rule).
-use Rattle.std.specs.Prelude.{ℕ, ◌+◌, ◌*◌, ◌==◌, nat_lt, not, List, [], ◌∷◌, length, Option, Some}
-use Rattle.std.specs.Prelude.{None, is_none, unwrap_or, Result, if◌then◌else◌}
+use Rattle.std.specs.Prelude.{ℕ, ◌+◌, ◌*◌, ◌≡◌, ◌≤◌, ◌==◌, nat_lt, min, not, List, [], ◌∷◌, length}
+use Rattle.std.specs.Prelude.{take, Option, Some, None, is_none, unwrap_or, Result, Ok}
+use Rattle.std.specs.Prelude.{if◌then◌else◌}
 use Rattle.jm_bytes.specs.Checks.{fault_if, first_fault, unless_fault}
 use Rattle.jm_bytes.specs.Word.{word}
 use Rattle.jm_bytes.specs.declared.words.Order.{Order}
@@ -43,15 +44,41 @@ fields_of b = fields_in (read_order b) b
 abbrev pub index_length : Header → ℕ
 index_length h = 28 + 8 * h.length + h.locations + h.strings
 
--- what can be wrong with a header, in this order
-abbrev pub header_checks : List ℕ → List (Option HeaderFault)
-header_checks b =
-    fault_if (nat_lt (length b) 28) Short
-    ∷ fault_if (is_none (order_of b)) Magic
-    ∷ fault_if (not (version_of b == 0x00010000)) (Version (version_of b))
-    ∷ fault_if (nat_lt (length b) (index_length (fields_of b))) Sizes
+-- what can be wrong with the header of a file of so many bytes that begins with these, in this
+-- order
+abbrev pub header_checks_with : List ℕ → ℕ → List (Option HeaderFault)
+header_checks_with front size =
+    fault_if (nat_lt size 28) Short
+    ∷ fault_if (is_none (order_of front)) Magic
+    ∷ fault_if (not (version_of front == 0x00010000)) (Version (version_of front))
+    ∷ fault_if (nat_lt size (index_length (fields_of front))) Sizes
     ∷ []
+
+-- the same of a file
+abbrev pub header_checks : List ℕ → List (Option HeaderFault)
+header_checks b = header_checks_with b (length b)
+
+-- the header of a file of so many bytes that begins with these, or its first header fault
+abbrev pub header_with : List ℕ → ℕ → Result Header HeaderFault
+header_with front size =
+    unless_fault (first_fault (header_checks_with front size)) (fields_of front)
 
 -- the header, or the first header fault
 abbrev pub header_of : List ℕ → Result Header HeaderFault
-header_of b = unless_fault (first_fault (header_checks b)) (fields_of b)
+header_of b = header_with b (length b)
+
+-- the file has so many bytes and begins with these
+pub record IsFileOf (front : List ℕ) (size : ℕ) (b : List ℕ) : Type 0 where
+  pub begins : take (length front) b ≡ front
+  pub length_is : length b ≡ size
+
+-- these bytes, with which a file of so many begins, are enough to read its header: they are 28, or
+-- the whole file
+abbrev pub HoldsHead : List ℕ → ℕ → Type 0
+HoldsHead front size = min size 28 ≤ length front
+
+-- they are enough to read its index, if it has a header
+pub record HoldsIndex (front : List ℕ) (size : ℕ) : Type 0 where
+  pub within : length front ≤ size
+  pub head : HoldsHead front size
+  pub index : (h : Header) → header_with front size ≡ Ok h → index_length h ≤ length front

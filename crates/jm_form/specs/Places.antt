@@ -1,6 +1,6 @@
 -- Where the parts of an image stand: behind the header the redirect words, the offset words, the
 -- locations, the strings and the contents (jimage 1.0). Places count bytes from the image's front.
-use Rattle.std.specs.Prelude.{ℕ, ◌+◌, ◌*◌, List, take, drop}
+use Rattle.std.specs.Prelude.{ℕ, ◌+◌, ◌-◌, ◌*◌, List, take, drop}
 use Rattle.jm_bytes.specs.Word.{word}
 use Rattle.jm_form.specs.declared.container.Header.{Header}
 use Rattle.jm_form.specs.Head.{index_length}
@@ -42,3 +42,7 @@ strings b h = take h.strings (drop (strings_place h) b)
 -- all that stands behind the index
 abbrev pub contents : List ℕ → Header → List ℕ
 contents b h = drop (index_length h) b
+
+-- how many bytes stand behind the index in a file of so many
+abbrev pub contents_size : ℕ → Header → ℕ
+contents_size size h = size - index_length h

@@ -5,12 +5,16 @@ use Rattle.jm_names.specs.Names.{is_node}
 use Rattle.jm_form.specs.declared.container.Header.{Header}
 use Rattle.jm_form.specs.declared.container.HeaderFault.{HeaderFault}
 use Rattle.jm_form.specs.declared.rows.Row.{Row}
-use Rattle.jm_form.specs.Damages.{slot_fault}
+use Rattle.jm_form.specs.Damages.{slot_fault, slot_fault_with}
 use Rattle.jm_form.specs.Entries.{Entry, entries, entry_with}
 use Rattle.jm_form.specs.Head.{header_of}
 use Rattle.jm_form.specs.Overlap.{Apart, ranges_of}
 use Rattle.jm_form.specs.Places.{strings, contents}
 use Rattle.jm_form.specs.Texts.{text_ends}
+
+-- no slot has a fault, spare ones included, with contents of so many bytes
+abbrev pub SoundSlotsWith : List ℕ → Header → ℕ → Type 0
+SoundSlotsWith b h size = (i : ℕ) → i < h.length → slot_fault_with b h size i ≡ None
 
 -- no slot has a fault, spare ones included
 abbrev pub SoundSlots : List ℕ → Header → Type 0
@@ -29,14 +33,18 @@ abbrev pub Valid : List ℕ → Type 0
 Valid b = (h : Header) × ValidAs b h
 
 -- what a row keeps in a slot without a fault: the content is stored as it is, the four texts end in
--- the strings, and the content lies in the contents
-pub record SoundRow (b : List ℕ) (h : Header) (row : Row) : Type 0 where
+-- the strings, and the content lies in contents of so many bytes
+pub record SoundRowWith (section : List ℕ) (size : ℕ) (row : Row) : Type 0 where
   pub stored : row.packed ≡ 0
-  pub module_ends : text_ends (strings b h) row.module ≡ true
-  pub parent_ends : text_ends (strings b h) row.parent ≡ true
-  pub base_ends : text_ends (strings b h) row.base ≡ true
-  pub ext_ends : text_ends (strings b h) row.ext ≡ true
-  pub within : row.offset + row.size ≤ length (contents b h)
+  pub module_ends : text_ends section row.module ≡ true
+  pub parent_ends : text_ends section row.parent ≡ true
+  pub base_ends : text_ends section row.base ≡ true
+  pub ext_ends : text_ends section row.ext ≡ true
+  pub within : row.offset + row.size ≤ size
+
+-- the same, with the strings and the contents of the bytes
+abbrev pub SoundRow : List ℕ → Header → Row → Type 0
+SoundRow b h row = SoundRowWith (strings b h) (length (contents b h)) row
 
 -- the entries whose name isn't that of a node, with their contents
 abbrev pub resources : List Entry → List (List ℕ × List ℕ)

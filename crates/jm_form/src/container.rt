@@ -1,6 +1,7 @@
 ghost use Rattle.std.specs.Prelude.{◌≡◌, ◌%◌, ◌≤◌, ◌<◌, Some, length};
 ghost use Rattle.jm_form.specs.DamageText.{header_fault_text};
-ghost use Rattle.jm_form.specs.Head.{fields_in, header_of, index_length, order_of};
+ghost use Rattle.jm_form.specs.Head.{fields_in, header_of, header_with, HoldsHead};
+ghost use Rattle.jm_form.specs.Head.{index_length, order_of};
 ghost use Rattle.jm_form.specs.Places as places;
 ghost use Rattle.jm_form.specs.Table.{slot_below};
 
@@ -145,26 +146,35 @@ fn fields_in(order: Order, bytes: &[u8]) -> Header
     }
 }
 
-/// Reads the header, the seven words at the front (jimage 1.0).
+/// Reads the header, the seven words at the front (jimage 1.0), of a file of this length of which
+/// these are the first bytes: 28 of them are enough, and more change nothing.
 ///
 /// The faults are looked for in the order of `HeaderFault`, and the sum of the index's parts is
-/// taken in 64 bits.
-pub fn read_header(bytes: &[u8]) -> Result<Header, HeaderFault>
-    ensures { result ≡ header_of bytes.now }
+/// taken in 64 bits. The index has as many bytes as `contents_place` of the header says.
+pub fn read_header_of(front: &[u8], length: u64) -> Result<Header, HeaderFault>
+    requires { HoldsHead front.now length }
+    ensures { result ≡ header_with front.now length }
 {
-    if bytes.len() < HEADER_LENGTH {
+    if length < HEADER_LENGTH as u64 {
         return Err(HeaderFault::Short);
     }
-    let Some(order) = order_of(bytes) else {
+    let Some(order) = order_of(front) else {
         return Err(HeaderFault::Magic);
     };
-    let version = word_at(order, bytes, 4);
+    let version = word_at(order, front, 4);
     if version != VERSION {
         return Err(HeaderFault::Version(version));
     }
-    let header = fields_in(order, bytes);
-    if header.contents_place() > bytes.len() {
+    let header = fields_in(order, front);
+    if header.contents_place() as u64 > length {
         return Err(HeaderFault::Sizes);
     }
     Ok(header)
+}
+
+/// Reads the header of a file whose bytes are all here.
+pub fn read_header(bytes: &[u8]) -> Result<Header, HeaderFault>
+    ensures { result ≡ header_of bytes.now }
+{
+    read_header_of(bytes, bytes.len() as u64)
 }

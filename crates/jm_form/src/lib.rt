@@ -12,7 +12,7 @@ mod table;
 mod texts;
 mod trees;
 
-pub use container::{Header, HeaderFault, read_header};
+pub use container::{Header, HeaderFault, read_header, read_header_of};
 pub use damage::Damage;
 pub use ranges::Range;
 pub use rows::{Row, read_row};
