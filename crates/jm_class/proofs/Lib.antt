@@ -1,5 +1,7 @@
+pub mod ClassFaultLaws
 pub mod ComputedClassLaws
 pub mod FieldLaws
+pub mod FormatLaws
 pub mod ListReadings
 pub mod PoolLaws
 pub mod ReadingLaws

@@ -205,7 +205,7 @@ pub pool-lawful : Lawful pool_field pool_text (λ pool. (length pool < 65535) ×
 pool-lawful =
     said-lawful _ pool_text _ (λ pool. (length pool < 65535) × IsPoolFrom false pool)
     (and_then-lawful _ _ u2 _ (λ pool. length pool + 1) (flat_map slot_text) Always (λ _ pool. IsPoolFrom false pool)
-    (checked-lawful (λ count. nat_lt 0 count) (λ at count. Index at) _ _ _ (number16-lawful Short))
+    (checked-lawful (λ count. nat_lt 0 count) _ _ _ _ (number16-lawful Short))
     (λ count fits. said-lawful _ _ _ _ (slots-lawful (count - 1) false (λ e. cc))
     (λ xs is. ((tt, let some = ltb-true 0 count fits.1 in let size = is.0 in omega (arith, some, size)), is.1))
     (λ xs is. (let size = is.0.1 in omega (arith, size), is.1)) (λ xs is. refl)))

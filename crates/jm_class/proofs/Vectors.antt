@@ -1,10 +1,13 @@
 -- The definitions, evaluated on the small classes of the format's cases.
-use Rattle.std.proofs.Common.{◌≡◌, ℕ, List, [], ◌∷◌, ◌++◌, Option, Some, None, Result, Ok, Err, refl, take, drop, length}
+use Rattle.std.proofs.Common.{◌≡◌, ℕ, List, [], ◌∷◌, ◌++◌, Option, Some, None, Result, Ok, Err, refl, map, take, drop, length}
 use Rattle.std.specs.Prelude.{replicate}
+use Rattle.jm_bytes.specs.Checks.{first_fault}
 use Rattle.jm_class.specs.declared.class.ClassFault.{ClassFault}
 use Rattle.jm_class.specs.declared.class.ClassFault.TheVariants.{Magic, Version, Short, Tag, Index, CodeLength, Rest}
 use Rattle.jm_class.specs.Classes.{Constant, Hole, ClassData, class_text}
+use Rattle.jm_class.specs.ClassFaults.{class_table, class_fields_seen}
 use Rattle.jm_class.specs.ComputedClass.{class_of, class_fault}
+use Rattle.jm_class.proofs.FormatLaws.{field_fault}
 
 abbrev zeros : ℕ → List ℕ
 zeros n = replicate n 0
@@ -119,3 +122,37 @@ generated-shorter = refl
 
 generated-longer : class_fault (take 146 generated ++ 29 ∷ drop 147 generated) ≡ Some (CodeLength 143)
 generated-longer = refl
+
+-- The rule, evaluated: the fields from left to right, and the fault of the first that has one
+
+abbrev places : List ℕ → List (ℕ × ℕ)
+places bytes = map (λ f. (f.place, f.size)) (class_fields_seen bytes)
+
+abbrev rule_fault : List ℕ → Option ClassFault
+rule_fault bytes = first_fault (map (λ f. field_fault class_table f) (class_fields_seen bytes))
+
+-- magic, minor, major, count of the pool, flags, class, class above, four counts; the end
+smallest-fields : places smallest ≡ (0, 4) ∷ (4, 2) ∷ (6, 2) ∷ (8, 2) ∷ (10, 2) ∷ (12, 2) ∷ (14, 2) ∷ (16, 2) ∷ (18, 2) ∷ (20, 2) ∷
+    (22, 2) ∷ (24, 0) ∷ []
+smallest-fields = refl
+
+-- the last count doesn't fit, and nothing is told of what stands behind it
+cut-fields : places (take 23 smallest) ≡ (0, 4) ∷ (4, 2) ∷ (6, 2) ∷ (8, 2) ∷ (10, 2) ∷ (12, 2) ∷ (14, 2) ∷ (16, 2) ∷ (18, 2) ∷ (20, 2) ∷
+    (22, 2) ∷ []
+cut-fields = refl
+
+cut-rule : rule_fault (take 23 smallest) ≡ Some (Short 22)
+cut-rule = refl
+
+-- a Utf8 of 5 bytes of which 4 are there is short at its length
+text-rule : rule_fault (begin ++ 0 ∷ 2 ∷ 1 ∷ 0 ∷ 5 ∷ zeros 4) ≡ Some (Short 11)
+text-rule = refl
+
+generated-rule : rule_fault generated ≡ None
+generated-rule = refl
+
+hostile-rule : rule_fault (take 143 generated ++ 255 ∷ 255 ∷ 255 ∷ 255 ∷ drop 147 generated) ≡ Some (Short 147)
+hostile-rule = refl
+
+shorter-rule : rule_fault (take 146 generated ++ 27 ∷ drop 147 generated) ≡ Some (CodeLength 143)
+shorter-rule = refl

@@ -1,5 +1,7 @@
+pub mod ClassFaults
 pub mod Classes
 pub mod ComputedClass
 pub mod FaultText
+pub mod Formats
 pub mod Readings
 pub mod Views
