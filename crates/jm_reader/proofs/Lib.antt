@@ -1,3 +1,4 @@
+pub mod HeadLaws
 pub mod MarkLaws
 pub mod NameTexts
 pub mod OrderLaws

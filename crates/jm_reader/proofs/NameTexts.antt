@@ -1,17 +1,12 @@
 -- The name of a row as four texts with their marks.
-use Rattle.std.proofs.Common.{◌≡◌, ℕ, ◌+◌, List, [], ◌∷◌, Some, None, refl, sym, ap, ◌∙◌}
+use Rattle.std.proofs.Common.{◌≡◌, ℕ, List, [], ◌∷◌, Some, None, refl, ap}
 use Rattle.std.proofs.lemmas.List.{append-nil}
 use Rattle.std.proofs.lemmas.List.Elements.{All-nil, All-cons}
 use Rattle.std.specs.Prelude.{All}
 use Rattle.jm_names.specs.Names.{module_front, parent_front, ext_end}
-use Rattle.jm_form.specs.declared.container.Header.{Header}
 use Rattle.jm_form.specs.declared.rows.Row.{Row}
 use Rattle.jm_form.specs.Entries.{name_of}
-use Rattle.jm_form.specs.Places.{strings, strings_place}
 use Rattle.jm_form.specs.Texts.{text_at, EndsWithin}
-use Rattle.jm_form.specs.Validity.{SoundRow, ValidAs}
-use Rattle.jm_form.proofs.HeadLaws.{header_fits}
-use Rattle.jm_form.proofs.SectionLaws.{Placed, text_placed}
 use Rattle.jm_reader.specs.declared.marks.MarkedText.{MarkedText}
 use Rattle.jm_reader.specs.Marks.{marked, spelling}
 
@@ -51,25 +46,16 @@ four m p b e = module_text m ∷ parent_text p ∷ base_text b ∷ ext_text e �
 abbrev pub TextEnds : List ℕ → MarkedText → Type 0
 TextEnds bytes text = EndsWithin bytes text.place
 
-ends_at : (bytes : List ℕ) (h : Header) (text : MarkedText) (place : ℕ) → Placed bytes h place → text.place ≡ strings_place h + place → EndsWithin bytes text.place
-ends_at bytes h text place placed is = let within = placed.ends in record { within = rw is within }
+-- the four texts end within the image where each does
+pub four_end : (bytes : List ℕ) (m p b e : ℕ) → EndsWithin bytes m → EndsWithin bytes p → EndsWithin bytes b → EndsWithin bytes e → All (TextEnds bytes) (four m p b e)
+four_end bytes m p b e first second third last =
+    All-cons (TextEnds bytes) (module_text m) (parent_text p ∷ base_text b ∷ ext_text e ∷ []) first
+    (All-cons (TextEnds bytes) (parent_text p) (base_text b ∷ ext_text e ∷ []) second
+    (All-cons (TextEnds bytes) (base_text b) (ext_text e ∷ []) third
+    (All-cons (TextEnds bytes) (ext_text e) [] last (All-nil (TextEnds bytes)))))
 
--- the four texts end within the image
-pub four_end : (bytes : List ℕ) (h : Header) (row : Row) (m p b e : ℕ) → ValidAs bytes h → SoundRow bytes h row → m ≡ strings_place h + row.module → p ≡ strings_place h + row.parent → b ≡ strings_place h + row.base → e ≡ strings_place h + row.ext → All (TextEnds bytes) (four m p b e)
-four_end bytes h row m p b e valid sound at_m at_p at_b at_e =
-    let fits = header_fits bytes h valid.header in
-    let last = All-cons (TextEnds bytes) (ext_text e) [] (ends_at bytes h (ext_text e) row.ext (text_placed bytes h row.ext fits sound.ext_ends) at_e) (All-nil (TextEnds bytes)) in
-    let third = All-cons (TextEnds bytes) (base_text b) (ext_text e ∷ []) (ends_at bytes h (base_text b) row.base (text_placed bytes h row.base fits sound.base_ends) at_b) last in
-    let second = All-cons (TextEnds bytes) (parent_text p) (base_text b ∷ ext_text e ∷ []) (ends_at bytes h (parent_text p) row.parent (text_placed bytes h row.parent fits sound.parent_ends) at_p) third in
-    All-cons (TextEnds bytes) (module_text m) (parent_text p ∷ base_text b ∷ ext_text e ∷ []) (ends_at bytes h (module_text m) row.module (text_placed bytes h row.module fits sound.module_ends) at_m) second
-
--- and spell the row's name
-pub four_spell : (bytes : List ℕ) (h : Header) (row : Row) (m p b e : ℕ) → ValidAs bytes h → SoundRow bytes h row → m ≡ strings_place h + row.module → p ≡ strings_place h + row.parent → b ≡ strings_place h + row.base → e ≡ strings_place h + row.ext → spelling bytes (four m p b e) ≡ name_of (strings bytes h) row
-four_spell bytes h row m p b e valid sound at_m at_p at_b at_e =
-    let fits = header_fits bytes h valid.header in
-    let text_m : text_at bytes m ≡ text_at (strings bytes h) row.module = ap (text_at bytes) at_m ∙ sym (text_placed bytes h row.module fits sound.module_ends).text in
-    let text_p : text_at bytes p ≡ text_at (strings bytes h) row.parent = ap (text_at bytes) at_p ∙ sym (text_placed bytes h row.parent fits sound.parent_ends).text in
-    let text_b : text_at bytes b ≡ text_at (strings bytes h) row.base = ap (text_at bytes) at_b ∙ sym (text_placed bytes h row.base fits sound.base_ends).text in
-    let text_e : text_at bytes e ≡ text_at (strings bytes h) row.ext = ap (text_at bytes) at_e ∙ sym (text_placed bytes h row.ext fits sound.ext_ends).text in
+-- and spell the row's name where they are the row's
+pub four_spell : (bytes section : List ℕ) (row : Row) (m p b e : ℕ) → text_at bytes m ≡ text_at section row.module → text_at bytes p ≡ text_at section row.parent → text_at bytes b ≡ text_at section row.base → text_at bytes e ≡ text_at section row.ext → spelling bytes (four m p b e) ≡ name_of section row
+four_spell bytes section row m p b e text_m text_p text_b text_e =
     rw (text_m, text_p, text_b, text_e)
-    (rw (module_marked (text_at (strings bytes h) row.module), parent_marked (text_at (strings bytes h) row.parent), base_marked (text_at (strings bytes h) row.base), ext_marked (text_at (strings bytes h) row.ext), append-nil (ext_end (text_at (strings bytes h) row.ext))) refl)
+    (rw (module_marked (text_at section row.module), parent_marked (text_at section row.parent), base_marked (text_at section row.base), ext_marked (text_at section row.ext), append-nil (ext_end (text_at section row.ext))) refl)

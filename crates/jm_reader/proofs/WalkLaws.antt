@@ -4,13 +4,16 @@ use Rattle.std.proofs.lemmas.List.Elements.{Contains-get_or, filter-append, filt
 use Rattle.std.specs.List.{filter, filter_map, range_with_len}
 use Rattle.jm_bytes.specs.Metered.{Metered}
 use Rattle.jm_form.specs.declared.container.Header.{Header}
-use Rattle.jm_form.specs.Entries.{entries, entry_at, is_reached}
+use Rattle.jm_form.specs.declared.rows.Row.{Row}
+use Rattle.jm_form.specs.Entries.{content_of, entries, entry_at, entry_of, is_reached, name_of}
 use Rattle.jm_form.specs.Head.{header_of}
+use Rattle.jm_form.specs.Places.{contents, strings}
 use Rattle.jm_form.proofs.EntryLaws.{names_differ, slots_rise}
 use Rattle.jm_reader.specs.declared.entries.Entry as handed
+use Rattle.jm_reader.specs.Look.{head, head_with}
 use Rattle.jm_reader.specs.Walk.{entries_from, entries_to_come, to_come_with, entries_in, entry_alone, IsFirst, IsLater}
 
-from_more : (b : List ℕ) (h : Header) (slot : ℕ) → slot < h.length → entries_from b h slot ≡ entry_alone b h slot ++ entries_from b h (slot + 1)
+from_more : (b : List ℕ) (h : Header) (slot : ℕ) → slot < h.length → entries_from b h slot ≡ entries_in b h (slot ∷ []) ++ entries_from b h (slot + 1)
 from_more b h slot below =
     let later : List ℕ = range_with_len (slot + 1) (h.length - (slot + 1)) in
     let size : h.length - slot ≡ suc (h.length - (slot + 1)) = omega arith in
@@ -23,25 +26,32 @@ with_header : (b : List ℕ) (h : Header) (slot : ℕ) → header_of b ≡ Ok h 
 with_header b h slot header = ap (to_come_with b slot) header
 
 -- the entries from a slot on are that slot's and those behind it
-pub to_come_more : (b : List ℕ) (h : Header) (slot : ℕ) → header_of b ≡ Ok h → slot < h.length → entries_to_come b slot ≡ entry_alone b h slot ++ entries_to_come b (slot + 1)
+pub to_come_more : (b : List ℕ) (h : Header) (slot : ℕ) → header_of b ≡ Ok h → slot < h.length → entries_to_come b slot ≡ entry_alone b slot ++ entries_to_come b (slot + 1)
 to_come_more b h slot header below =
     with_header b h slot header ∙ from_more b h slot below
-    ∙ ap (λ es. entry_alone b h slot ++ es) (sym (with_header b h (slot + 1) header))
+    ∙ ap (λ es. entries_in b h (slot ∷ []) ++ es) (sym (with_header b h (slot + 1) header))
+    ∙ ap (λ r. entries_in b (head_with b r) (slot ∷ []) ++ entries_to_come b (slot + 1)) (sym header)
 
 -- behind a spare slot all of them follow
-pub to_come_spare : (b : List ℕ) (h : Header) (slot : ℕ) → header_of b ≡ Ok h → slot < h.length → entry_alone b h slot ≡ [] → entries_to_come b slot ≡ entries_to_come b (slot + 1)
+pub to_come_spare : (b : List ℕ) (h : Header) (slot : ℕ) → header_of b ≡ Ok h → slot < h.length → entry_alone b slot ≡ [] → entries_to_come b slot ≡ entries_to_come b (slot + 1)
 to_come_spare b h slot header below spare = to_come_more b h slot header below ∙ ap (λ es. es ++ entries_to_come b (slot + 1)) spare
 
--- and the slot's own is the first of them
-pub first_to_come : (b : List ℕ) (h : Header) (start slot : ℕ) (given : handed.Entry) → header_of b ≡ Ok h → slot < h.length → entries_to_come b start ≡ entries_to_come b slot → IsFirst (entry_alone b h slot) given [] → given.slot ≡ slot → IsFirst (entries_to_come b start) given (entries_to_come b (given.slot + 1))
-first_to_come b h start slot given header below rest alone same = record {
-  entry = alone.entry;
+-- what is handed out of a row has the row's name and content
+pub record IsOfRow (b : List ℕ) (k : ℕ) (row : Row) (given : handed.Entry) : Type 0 where
+  pub slot : given.slot ≡ k
+  pub name : given.name ≡ name_of (strings b (head b)) row
+  pub content : given.bytes.now ≡ content_of (contents b (head b)) row
+
+-- and the entry of a slot is the first from there on
+pub first_to_come : (b : List ℕ) (h : Header) (start slot : ℕ) (row : Row) (given : handed.Entry) → header_of b ≡ Ok h → slot < h.length → entries_to_come b start ≡ entries_to_come b slot → entry_alone b slot ≡ entry_of b (head b) slot row ∷ [] → IsOfRow b slot row given → IsFirst (entries_to_come b start) given (entries_to_come b (given.slot + 1))
+first_to_come b h start slot row given header below rest alone of = record {
+  entry = entry_of b (head b) slot row;
   first =
-      rest ∙ to_come_more b h slot header below ∙ ap (λ es. es ++ entries_to_come b (slot + 1)) alone.first
-      ∙ ap (λ (n : ℕ). alone.entry ∷ entries_to_come b (n + 1)) (sym same);
-  slot = alone.slot;
-  name = alone.name;
-  content = alone.content;
+      rest ∙ to_come_more b h slot header below ∙ ap (λ es. es ++ entries_to_come b (slot + 1)) alone
+      ∙ ap (λ (n : ℕ). entry_of b (head b) slot row ∷ entries_to_come b (n + 1)) (sym of.slot);
+  slot = of.slot;
+  name = of.name;
+  content = of.content;
 }
 
 -- All of them

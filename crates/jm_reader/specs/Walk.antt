@@ -7,6 +7,7 @@ use Rattle.jm_form.specs.declared.container.HeaderFault.{HeaderFault}
 use Rattle.jm_form.specs.Entries.{Entry, entries, entry_at, is_reached}
 use Rattle.jm_form.specs.Head.{header_of}
 use Rattle.jm_reader.specs.declared.entries.Entry as handed
+use Rattle.jm_reader.specs.Look.{head}
 
 -- the image's bytes and the entries still to come
 pub record Walked : Type 0 where
@@ -17,9 +18,9 @@ pub record Walked : Type 0 where
 abbrev pub entries_in : List ℕ → Header → List ℕ → List Entry
 entries_in b h places = filter (is_reached b h) (filter_map (entry_at b h) places)
 
--- the entry of one slot, or none where the slot is spare
-abbrev pub entry_alone : List ℕ → Header → ℕ → List Entry
-entry_alone b h slot = entries_in b h (slot ∷ [])
+-- the entry of one slot of an image, or none where the slot is spare
+abbrev pub entry_alone : List ℕ → ℕ → List Entry
+entry_alone b slot = entries_in b (head b) (slot ∷ [])
 
 -- the entries of the slots from one on
 abbrev pub entries_from : List ℕ → Header → ℕ → List Entry

@@ -1,11 +1,14 @@
-ghost use Rattle.std.specs.Prelude.{◌≡◌, ◌<◌, ◌+◌, [], IfSome, IfNone};
-ghost use Rattle.jm_form.specs.Validity.{ValidAs};
+ghost use Rattle.std.specs.Prelude.{◌≡◌, ◌<◌, ◌+◌, ◌-◌, ◌^◌, [], ◌∷◌, IfSome, IfNone};
+ghost use Rattle.jm_form.specs.Entries.{entry_of, name_of};
+ghost use Rattle.jm_form.specs.Places.{strings};
+ghost use Rattle.jm_form.specs.Validity.{SoundRow};
+ghost use Rattle.jm_reader.specs.Look.{head};
 ghost use Rattle.jm_reader.specs.Walk.{entries_to_come, entries_of, entry_alone, IsFirst, IsLater};
 
 use crate::contents::content;
 use crate::name_view::NameView;
-use jm_bytes::{Buf, Meter};
-use jm_form::{Header, is_led_to, pieces_of, row_of_slot};
+use jm_bytes::Meter;
+use jm_form::{Row, is_led_to, pieces_of, row_of_slot};
 use jm_valid::Image;
 use std::marker::Model;
 use std::sync::ledger::Ledger;
@@ -36,53 +39,49 @@ impl<'a> Model for Entries<'a> {
     ghost view = { λ a. record { bytes = a.image; rest = entries_to_come a.image a.slot } };
 }
 
-/// The entry of a slot, or None where the slot is spare.
-fn entry_of_slot<'a, R: Ledger>(
-    buf: &Buf<'a>,
-    header: &Header,
+/// The row and the name of the entry that a slot holds, or None where the slot is spare.
+pub fn held<'a, R: Ledger>(
+    image: &Image<'a>,
     slot: u32,
     reads: &mut Meter<R>,
-) -> Option<Entry<'a>>
-    requires valid { ValidAs buf.now header.now }
-    requires below { slot < header.now.length }
-    requires metered { reads.old.bytes ≡ buf.now }
-    ensures entry { IfSome result
-        (λ entry. IsFirst (entry_alone buf.now header.now slot) entry []) }
-    ensures slot { IfSome result (λ entry. entry.slot ≡ slot) }
-    ensures spare { IfNone result (entry_alone buf.now header.now slot ≡ []) }
+) -> Option<(Row, NameView<'a>)>
+    requires below { slot < (head image.now).length }
+    requires metered { reads.old.bytes ≡ image.now }
+    ensures entry { IfSome result (λ held. entry_alone image.now slot
+        ≡ entry_of image.now (head image.now) slot held.0 ∷ []) }
+    ensures name { IfSome result (λ held.
+        held.1 ≡ name_of (strings image.now (head image.now)) held.0) }
+    ensures sound { IfSome result (λ held. SoundRow image.now (head image.now) held.0) }
+    ensures spare { IfNone result (entry_alone image.now slot ≡ []) }
     ensures reads { IsLater reads.old reads.new }
 {
-    let row = row_of_slot(buf, header, slot, reads).row()?;
-    let pieces = pieces_of(buf, header, &row, reads)?;
-    if !is_led_to(buf, header, slot, &pieces, reads) {
-        return None;
+    let (buf, header) = (image.buf(), image.header());
+    let row = row_of_slot(&buf, &header, slot, reads).row()?;
+    let pieces = pieces_of(&buf, &header, &row, reads)?;
+    if is_led_to(&buf, &header, slot, &pieces, reads) {
+        Some((row, NameView::of(&pieces)))
+    } else {
+        None
     }
-    let bytes = content(buf, header, &row, reads);
-    Some(Entry {
-        slot,
-        name: NameView::of(&pieces),
-        bytes,
-    })
 }
 
 /// The entry of the least slot that holds one, of the slots from `start` on.
 fn next_entry<'a, R: Ledger>(
-    buf: &Buf<'a>,
-    header: &Header,
+    image: &Image<'a>,
     start: u32,
     reads: &mut Meter<R>,
 ) -> Option<Entry<'a>>
-    requires valid { ValidAs buf.now header.now }
-    requires metered { reads.old.bytes ≡ buf.now }
+    requires { reads.old.bytes ≡ image.now }
     ensures entry { IfSome result (λ entry. IsFirst
-        (entries_to_come buf.now start) entry (entries_to_come buf.now (entry.slot + 1))) }
-    ensures slot { IfSome result (λ entry. entry.slot < header.now.length) }
-    ensures end { IfNone result (entries_to_come buf.now start ≡ []) }
+        (entries_to_come image.now start) entry (entries_to_come image.now (entry.slot + 1))) }
+    ensures slot { IfSome result (λ entry. entry.slot < 2 ^ 32 - 1) }
+    ensures end { IfNone result (entries_to_come image.now start ≡ []) }
     ensures reads { IsLater reads.old reads.new }
 {
-    for slot in start..header.length {
-        if let Some(entry) = entry_of_slot(buf, header, slot, reads) {
-            return Some(entry);
+    for slot in start..image.header().length {
+        if let Some((row, name)) = held(image, slot, reads) {
+            let bytes = content(image, &row, reads);
+            return Some(Entry { slot, name, bytes });
         }
     }
     None
@@ -109,7 +108,7 @@ impl<'a> Entries<'a> {
         ensures stays { IfNone result (self.new.rest ≡ []) }
         ensures reads { IsLater reads.old reads.new }
     {
-        let entry = next_entry(&self.image.buf(), &self.image.header(), self.slot, reads)?;
+        let entry = next_entry(&self.image, self.slot, reads)?;
         self.slot = entry.slot + 1;
         Some(entry)
     }

@@ -12,7 +12,8 @@ mod order;
 mod table;
 mod texts;
 
-pub use entries::{Entries, Entry, walk};
+pub use entries::{Entries, Entry, held, walk};
 pub use look_up::{Found, find, find_row};
 pub use name_bytes::NameBytes;
 pub use name_view::NameView;
+pub use texts::place_of;

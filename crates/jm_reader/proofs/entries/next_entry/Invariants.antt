@@ -6,5 +6,5 @@ abbrev pub invariant-loop-slot : goal.invariant-loop-slot
 invariant-loop-slot g l = record {
   bytes : l.reads.bytes ≡ l.fn.reads.bytes;
   count : l.fn.reads.count ≤ l.reads.count;
-  rest : entries_to_come l.buf l.start ≡ entries_to_come l.buf l.slot;
+  rest : entries_to_come l.image l.start ≡ entries_to_come l.image l.slot;
 }

@@ -1,0 +1,47 @@
+-- The header of an image's bytes is the one that was read.
+use Rattle.std.proofs.Common.{◌≡◌, ℕ, ◌+◌, true, List, Option, Ok, sym, ap, ◌∙◌, subst}
+use Rattle.std.specs.Prelude.{slice_range}
+use Rattle.jm_form.specs.declared.container.Header.{Header}
+use Rattle.jm_form.specs.declared.rows.Row.{Row}
+use Rattle.jm_form.specs.declared.slots.SlotRow.{SlotRow}
+use Rattle.jm_form.specs.Entries.{content_of, row_at, row_of_slot, spelled_row}
+use Rattle.jm_form.specs.Head.{header_of, index_length}
+use Rattle.jm_form.specs.Places.{contents, strings, strings_place}
+use Rattle.jm_form.specs.Texts.{text_at, text_ends, EndsWithin}
+use Rattle.jm_form.specs.Validity.{ValidAs}
+use Rattle.jm_form.proofs.HeadLaws.{header_fits}
+use Rattle.jm_form.proofs.SectionLaws.{content_placed, text_placed}
+use Rattle.jm_reader.specs.Look.{head, head_with}
+
+pub head_is : (b : List ℕ) (h : Header) → header_of b ≡ Ok h → head b ≡ h
+head_is b h read = ap (head_with b) read
+
+pub head_valid : (b : List ℕ) (h : Header) → ValidAs b h → ValidAs b (head b)
+head_valid b h valid = subst (ValidAs b) (sym (head_is b h valid.header)) valid
+
+-- the row that was read of a slot, by the header that was read, is the slot's
+pub row_there : (b : List ℕ) (h : Header) (buf : List ℕ) (slot : ℕ) (row : Option Row) (read : SlotRow) → header_of b ≡ Ok h → buf ≡ b → row ≡ spelled_row read → read ≡ row_of_slot buf h slot → row_at b (head b) slot ≡ row
+row_there b h buf slot row read header same is from =
+    sym (is ∙ ap spelled_row from ∙ ap (λ x. spelled_row (row_of_slot x h slot)) same
+    ∙ ap (λ g. spelled_row (row_of_slot b g slot)) (sym (head_is b h header)))
+
+-- a text of the strings stands in the image, and ends there
+pub record TextThere (b : List ℕ) (place at : ℕ) : Type 0 where
+  pub is : at ≡ strings_place (head b) + place
+  pub ends : EndsWithin b at
+  pub text : text_at b at ≡ text_at (strings b (head b)) place
+
+pub text_there : (b : List ℕ) (h : Header) (place at : ℕ) → header_of b ≡ Ok h → text_ends (strings b (head b)) place ≡ true → at ≡ strings_place h + place → TextThere b place at
+text_there b h place at read ends is =
+    let back = sym (head_is b h read) in
+    let placed = text_placed b h place (header_fits b h read) (ap (λ g. text_ends (strings b g) place) back ∙ ends) in
+    let within = placed.ends in
+    record {
+      is = is ∙ ap (λ g. strings_place g + place) back;
+      ends = record { within = rw is within };
+      text = ap (text_at b) is ∙ sym placed.text ∙ ap (λ g. text_at (strings b g) place) back;
+    }
+
+-- the part of the image that a row says is its content
+pub content_there : (b : List ℕ) (h : Header) (row : Row) → header_of b ≡ Ok h → slice_range b (index_length h + row.offset) (index_length h + row.offset + row.size) ≡ content_of (contents b (head b)) row
+content_there b h row read = sym (content_placed b h row) ∙ ap (λ g. content_of (contents b g) row) (sym (head_is b h read))
