@@ -7,11 +7,11 @@ use Rattle.std.proofs.lemmas.List.Elements.{All-head, All-map, All-nil, All-tail
 use Rattle.std.proofs.lemmas.Str.{IsUtf8-string_bytes}
 use Rattle.jm_bytes.specs.Results.{UnlessMemory}
 use Rattle.jm_names.specs.Names.{is_empty}
-use Rattle.jm_plugins.specs.declared.Plugin.TheVariants as plugin
+use Rattle.jm_words.specs.declared.tasks.Plugin.TheVariants as plugin
 use Rattle.jm_words.specs.declared.errors.WordsError.{WordsError}
 use Rattle.jm_words.specs.declared.errors.WordsError.TheVariants.{Memory}
 use Rattle.jm_words.specs.declared.errors.WordsKind.{WordsKind}
-use Rattle.jm_words.specs.declared.commands.Command.{Command}
+use Rattle.jm_words.specs.declared.tasks.Command.{Command}
 use Rattle.jm_words.specs.declared.drafts.Draft.{Draft}
 use Rattle.jm_words.specs.declared.given.Given.{Given}
 use Rattle.jm_words.specs.declared.given.Given.TheVariants as given
@@ -23,10 +23,13 @@ use Rattle.jm_words.specs.declared.tables.Choice.{Choice}
 use Rattle.jm_words.specs.declared.tables.Choice.TheVariants as choice
 use Rattle.jm_words.specs.declared.tables.Verb.{Verb}
 use Rattle.jm_words.specs.declared.tables.Verb.TheVariants as verb_is
-use Rattle.jm_words.specs.Commands.{command_after, command_in, command_of, command_or_missing, command_unless_fault, folders_in, image_in, jobs_of, needing, verb_named}
+use Rattle.jm_words.specs.declared.tasks.ImageWork.{ImageWork}
+use Rattle.jm_words.specs.declared.tasks.ImageWork.TheVariants as work
+use Rattle.jm_words.specs.declared.tasks.Task.{Task}
+use Rattle.jm_words.specs.Commands.{command_after, command_in, command_of, command_or_missing, command_unless_fault, folders_in, gen_of, image_in, link_of, needing, on_image, task_of, verb_named}
 use Rattle.jm_words.specs.Drafts.{with_given}
 use Rattle.jm_words.specs.Givens.{argument_of, flag_of, value_of}
-use Rattle.jm_words.specs.Paths.{FilePathsAreText, NumbersFit, jobs_in}
+use Rattle.jm_words.specs.Paths.{FilePathsAreText, FolderIsText, GenFits, LinkIsText, NumbersFit}
 use Rattle.jm_words.specs.Reading.{Standing, after_role, after_sound, after_words, before_words, draft_or_fault, reading_of, unless_kind, with_word}
 use Rattle.jm_words.specs.Roles.{Role, Unknown, Flag, Waits, WithValue, ValueFor, AsArgument, bare_role, first_argument, first_kind, given_by, has_hyphens, is_equals, option_named, option_role, plain_role, role_of, value_behind}
 use Rattle.jm_words.specs.Tables.{options}
@@ -243,9 +246,13 @@ reading_is_fit verb words are = go (reading_of verb words) (words_are_fit (optio
 
 -- The command
 
+-- what is known of a task
+abbrev IsKnownTask : Task → Type 0
+IsKnownTask task = FilePathsAreText task × NumbersFit task
+
 -- what is known of a command
 abbrev IsKnown : Command → Type 0
-IsKnown command = FilePathsAreText command × (0 < jobs_in command) × NumbersFit command
+IsKnown command = IsKnownTask command.task × (0 < command.jobs)
 
 some_job : (jobs : Option ℕ) → IfSome jobs (IsWithin 1 64) → 0 < unwrap_or jobs 1
 some_job None fit = omega arith
@@ -255,33 +262,38 @@ source_is_text : (s : Source) → IsTextSource s → All IsUtf8 (folders_in s) �
 source_is_text (source.Folders dirs) are = (are, tt)
 source_is_text (source.Image image) is = (All-nil IsUtf8, is)
 
-command_is_known : (verb : Verb) (draft : Draft) → AreFit draft → IfSome (command_of verb draft) IsKnown
-command_is_known verb draft (file, folder, source, output, modules, classes, jobs) = go verb
-  where
-    job : 0 < jobs_of draft
-    job = some_job draft.jobs jobs
+module _ (draft : Draft) (are : AreFit draft) where
+  any : {A B : Type 0} (Q : B → Type 0) (o : Option A) (make : A → Option B) → ((x : A) → IfSome (make x) Q) → IfSome (needing o make) Q
+  any Q o make known = needed (λ _. Unit {0}) Q o make (always o) (λ x _. known x)
 
-    on_file : (make : List ℕ → Option Command) → ((text : List ℕ) → IsUtf8 text → IfSome (make text) IsKnown) → IfSome (needing draft.file make) IsKnown
-    on_file make known = needed IsUtf8 IsKnown draft.file make file known
+  link_is_text : IfSome (link_of draft) LinkIsText
+  link_is_text =
+      needed IsTextSource LinkIsText draft.source _ are.2 (λ s is. any LinkIsText draft.roots _ (λ roots. needed IsUtf8 LinkIsText draft.output _ are.3 (λ text fit. let both = source_is_text s is in (both.0, fit, both.1))))
 
-    any : {A : Type 0} (o : Option A) (make : A → Option Command) → ((x : A) → IfSome (make x) IsKnown) → IfSome (needing o make) IsKnown
-    any o make known = needed (λ _. Unit {0}) IsKnown o make (always o) (λ x _. known x)
+  gen_fits : IfSome (gen_of draft) (λ gen. IsUtf8 gen.dir × GenFits gen)
+  gen_fits =
+      needed IsUtf8 (λ gen. IsUtf8 gen.dir × GenFits gen) draft.folder _ are.1 (λ dir is. needed (IsWithin 1 256) (λ gen. IsUtf8 gen.dir × GenFits gen) draft.modules _ are.4 (λ m few. needed (IsWithin 1 1024) (λ gen. IsUtf8 gen.dir × GenFits gen) draft.classes _ are.5 (λ n less. any (λ gen. IsUtf8 gen.dir × GenFits gen) draft.seed _ (λ seed. (is, (few, less))))))
 
-    go : (v : Verb) → IfSome (command_of v draft) IsKnown
-    go verb_is.Link =
-        needed IsTextSource IsKnown draft.source _ source (λ s is. any draft.roots _ (λ roots. needed IsUtf8 IsKnown draft.output _ output (λ text fit. let both = source_is_text s is in ((both.0, fit, both.1), job, tt))))
-    go verb_is.Cat = on_file _ (λ image is. any draft.name _ (λ name. (is, job, tt)))
-    go verb_is.List = on_file _ (λ image is. (is, job, tt))
-    go verb_is.Ls = on_file _ (λ image is. any draft.name _ (λ path. (is, job, tt)))
-    go verb_is.Info = on_file _ (λ image is. (is, job, tt))
-    go verb_is.Extract = on_file _ (λ image is. needed IsUtf8 IsKnown draft.folder _ folder (λ dir fit. ((is, fit), job, tt)))
-    go verb_is.Verify = on_file _ (λ image is. (is, job, tt))
-    go verb_is.Serve = on_file _ (λ image is. (is, job, tt))
-    go verb_is.Gen =
-        needed IsUtf8 IsKnown draft.folder _ folder (λ dir is. needed (IsWithin 1 256) IsKnown draft.modules _ modules (λ m few. needed (IsWithin 1 1024) IsKnown draft.classes _ classes (λ n less. any draft.seed _ (λ seed. (is, job, (few, less))))))
-    go verb_is.Describe = on_file _ (λ file is. (is, job, tt))
-    go verb_is.Help = (tt, job, tt)
-    go verb_is.Version = (tt, job, tt)
+  image_is_text : (work : ImageWork) → FolderIsText work → IfSome (on_image draft.file work) IsKnownTask
+  image_is_text work is = needed IsUtf8 IsKnownTask draft.file _ are.0 (λ image text. ((text, is), tt))
+
+  task_is_known : (verb : Verb) → IfSome (task_of verb draft) IsKnownTask
+  task_is_known verb_is.Link = needed LinkIsText IsKnownTask (link_of draft) _ link_is_text (λ link is. (is, tt))
+  task_is_known verb_is.Cat = any IsKnownTask draft.name _ (λ name. image_is_text (work.Cat name) tt)
+  task_is_known verb_is.List = image_is_text (work.List draft.include) tt
+  task_is_known verb_is.Ls = any IsKnownTask draft.name _ (λ path. image_is_text (work.Ls path) tt)
+  task_is_known verb_is.Info = image_is_text work.Info tt
+  task_is_known verb_is.Extract = needed IsUtf8 IsKnownTask draft.folder _ are.1 (λ dir is. image_is_text (work.Extract dir draft.include) is)
+  task_is_known verb_is.Verify = image_is_text work.Verify tt
+  task_is_known verb_is.Serve = image_is_text work.Serve tt
+  task_is_known verb_is.Gen = needed (λ gen. IsUtf8 gen.dir × GenFits gen) IsKnownTask (gen_of draft) _ gen_fits (λ gen fits. fits)
+  task_is_known verb_is.Describe = needed IsUtf8 IsKnownTask draft.file _ are.0 (λ file is. (is, tt))
+  task_is_known verb_is.Help = (tt, tt)
+  task_is_known verb_is.Version = (tt, tt)
+
+  command_is_known : (verb : Verb) → IfSome (command_of verb draft) IsKnown
+  command_is_known verb =
+      mapped IsKnownTask IsKnown (λ task. record { jobs = unwrap_or draft.jobs 1; task = task }) (task_of verb draft) (λ task known. (known, some_job draft.jobs are.6)) (task_is_known verb)
 
 words_are_known : (words : List (List ℕ)) → All IsUtf8 words → IfOk (command_in words) IsKnown
 words_are_known [] are = tt
@@ -292,7 +304,7 @@ words_are_known (name ∷ words) are = go (verb_named name)
     made (Some command) known = known
 
     read : (verb : Verb) (draft : Result Draft WordsError) → IfOk draft AreFit → IfOk (command_unless_fault verb (length words + 1) draft) IsKnown
-    read verb (Ok draft) fit = made (command_of verb draft) (command_is_known verb draft fit)
+    read verb (Ok draft) fit = made (command_of verb draft) (command_is_known draft fit verb)
     read verb (Err fault) fit = tt
 
     go : (verb : Option Verb) → IfOk (command_after verb words) IsKnown
@@ -303,14 +315,14 @@ part_of : (P Q : Command → Type 0) (result : Result Command WordsError) → ((
 part_of P Q (Ok command) part holds = part command holds
 part_of P Q (Err fault) part holds = tt
 
-pub paths_are_text : (words : List (List ℕ)) → All IsUtf8 words → IfOk (command_in words) FilePathsAreText
-paths_are_text words are = part_of IsKnown FilePathsAreText (command_in words) (λ command known. known.0) (words_are_known words are)
+pub paths_are_text : (words : List (List ℕ)) → All IsUtf8 words → IfOk (command_in words) (λ command. FilePathsAreText command.task)
+paths_are_text words are = part_of IsKnown (λ command. FilePathsAreText command.task) (command_in words) (λ command known. known.0.0) (words_are_known words are)
 
-pub jobs_are_some : (words : List (List ℕ)) → All IsUtf8 words → IfOk (command_in words) (λ command. 0 < jobs_in command)
-jobs_are_some words are = part_of IsKnown (λ command. 0 < jobs_in command) (command_in words) (λ command known. known.1) (words_are_known words are)
+pub jobs_are_some : (words : List (List ℕ)) → All IsUtf8 words → IfOk (command_in words) (λ command. 0 < command.jobs)
+jobs_are_some words are = part_of IsKnown (λ command. 0 < command.jobs) (command_in words) (λ command known. known.1) (words_are_known words are)
 
-pub numbers_fit : (words : List (List ℕ)) → All IsUtf8 words → IfOk (command_in words) NumbersFit
-numbers_fit words are = part_of IsKnown NumbersFit (command_in words) (λ command known. known.2) (words_are_known words are)
+pub numbers_fit : (words : List (List ℕ)) → All IsUtf8 words → IfOk (command_in words) (λ command. NumbersFit command.task)
+numbers_fit words are = part_of IsKnown (λ command. NumbersFit command.task) (command_in words) (λ command known. known.0.1) (words_are_known words are)
 
 -- what holds of the command that the words make holds of the one that was read
 pub read_unless_memory : (P : Command → Type 0) (result given : Result Command WordsError) → UnlessMemory Memory result given → IfOk given P → IfOk result P

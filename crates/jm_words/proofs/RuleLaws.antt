@@ -10,7 +10,7 @@ use Rattle.std.proofs.lemmas.List.Sums.{fold-append}
 use Rattle.jm_bytes.proofs.Choice.{same_some}
 use Rattle.jm_bytes.proofs.Pairs.{range_with_len-append}
 use Rattle.jm_bytes.specs.Results.{UnlessMemory}
-use Rattle.jm_words.specs.declared.commands.Command.{Command}
+use Rattle.jm_words.specs.declared.tasks.Command.{Command}
 use Rattle.jm_words.specs.declared.drafts.Draft.{Draft}
 use Rattle.jm_words.specs.declared.errors.WordsError.{WordsError}
 use Rattle.jm_words.specs.declared.errors.WordsError.TheVariants.{Fault, Memory}
@@ -18,9 +18,9 @@ use Rattle.jm_words.specs.declared.errors.WordsKind.{WordsKind}
 use Rattle.jm_words.specs.declared.tables.Verb.{Verb}
 use Rattle.jm_words.specs.declared.tables.Argument.{Argument}
 use Rattle.jm_words.specs.declared.tables.Choice.{Choice}
-use Rattle.jm_words.specs.Commands.{command_after, command_in, command_of, command_or_missing, command_unless_fault, verb_named}
+use Rattle.jm_words.specs.Commands.{command_after, command_in, command_or_missing, command_unless_fault, verb_named}
 use Rattle.jm_words.specs.declared.given.Given.{Given}
-use Rattle.jm_words.specs.Drafts.{by_field, nothing}
+use Rattle.jm_words.specs.Drafts.{by_field}
 use Rattle.jm_words.specs.Reading.{Standing, after_role, after_sound, after_words, draft_or_fault, left_behind, reading_of, unless_kind, with_option, with_word}
 use Rattle.jm_words.specs.Roles.{Role, Unknown, Flag, Waits, WithValue, ValueFor, AsArgument, is_argument, named_by, role_of, waiting}
 use Rattle.jm_words.specs.Rule.{AreSound, IsFirstFault, SaysAfter, SaysBehind, SaysCommand, command_given, given_at, givens_before, kind_at, left_at, options_before, role_at, roles_before, word_at}

@@ -2,8 +2,9 @@
 use Rattle.std.proofs.Common.{◌≡◌, false, [], ◌∷◌, Ok, None, Some, refl}
 use Rattle.std.specs.Prelude.{codes}
 use Rattle.jm_bytes.specs.declared.words.Order.TheVariants.{Little}
-use Rattle.jm_plugins.specs.declared.Plugin.TheVariants as plugin
-use Rattle.jm_words.specs.declared.commands.Command.TheVariants as command
+use Rattle.jm_words.specs.declared.tasks.Plugin.TheVariants as plugin
+use Rattle.jm_words.specs.declared.tasks.ImageWork.TheVariants as work
+use Rattle.jm_words.specs.declared.tasks.Task.TheVariants as task
 use Rattle.jm_words.specs.declared.errors.WordsKind.TheVariants as kind
 use Rattle.jm_words.specs.declared.tables.Argument.TheVariants as argument
 use Rattle.jm_words.specs.declared.tables.Choice.TheVariants as choice
@@ -46,15 +47,21 @@ two_sources = refl
 value_before_option : command_in (codes "cat" ∷ codes "--jobs" ∷ codes "--zap" ∷ []) ≡ fault_at 3 kind.BadValue
 value_before_option = refl
 
-cat_with_jobs : command_in (codes "cat" ∷ codes "--jobs=2" ∷ codes "img" ∷ codes "/m/a" ∷ []) ≡ Ok (command.Cat (codes "img") (codes "/m/a") 2)
+cat_with_jobs : command_in (codes "cat" ∷ codes "--jobs=2" ∷ codes "img" ∷ codes "/m/a" ∷ []) ≡ Ok (record { jobs = 2; task = task.Image (codes "img") (work.Cat (codes "/m/a")) })
 cat_with_jobs = refl
 
 link_from_folders : command_in (codes "link" ∷ codes "--module-path=x/:y" ∷ codes "--output" ∷ codes "o" ∷ codes "--compact-pool" ∷ codes "--add-modules=a,b" ∷ [])
-    ≡ Ok (command.Link (codes "x" ∷ codes "y" ∷ []) (codes "a" ∷ codes "b" ∷ []) (codes "o") (plugin.Compact ∷ []) Little false None 1)
+    ≡ Ok (record {
+      jobs = 1;
+      task = task.Link (record { dirs = codes "x" ∷ codes "y" ∷ []; roots = codes "a" ∷ codes "b" ∷ []; output = codes "o"; plugins = plugin.Compact ∷ []; order = Little; bind = false; from_image = None });
+    })
 link_from_folders = refl
 
 link_with_packages : command_in (codes "link" ∷ codes "--from-image=i" ∷ codes "--module-packages" ∷ codes "--output" ∷ codes "o" ∷ codes "--module-packages" ∷ codes "--add-modules=a" ∷ [])
-    ≡ Ok (command.Link [] (codes "a" ∷ []) (codes "o") (plugin.Packages ∷ plugin.Packages ∷ []) Little false (Some (codes "i")) 1)
+    ≡ Ok (record {
+      jobs = 1;
+      task = task.Link (record { dirs = []; roots = codes "a" ∷ []; output = codes "o"; plugins = plugin.Packages ∷ plugin.Packages ∷ []; order = Little; bind = false; from_image = Some (codes "i") });
+    })
 link_with_packages = refl
 
 option_again_without_value : command_in (codes "cat" ∷ codes "--jobs=2" ∷ codes "--jobs" ∷ []) ≡ fault_at 3 kind.Repeated
@@ -67,7 +74,7 @@ number_with_zero : command_in (codes "gen" ∷ codes "--modules=01" ∷ codes "d
 number_with_zero = refl
 
 value_like_option : command_in (codes "extract" ∷ codes "img" ∷ codes "--dir" ∷ codes "--dir/" ∷ [])
-    ≡ Ok (command.Extract (codes "img") (codes "--dir") None 1)
+    ≡ Ok (record { jobs = 1; task = task.Image (codes "img") (work.Extract (codes "--dir") None) })
 value_like_option = refl
 
 no_source : command_in (codes "link" ∷ codes "--add-modules=a" ∷ codes "--output=o" ∷ []) ≡ fault_at 3 kind.Missing

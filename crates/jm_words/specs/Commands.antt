@@ -1,11 +1,9 @@
 -- The command that words make (this project's rule).
-use Rattle.std.specs.Prelude.{ℕ, ◌+◌, List, [], ◌∷◌, length, Option, Some, None, unwrap_or}
-use Rattle.std.specs.Prelude.{Result, Ok, Err}
+use Rattle.std.specs.Prelude.{ℕ, ◌+◌, List, [], ◌∷◌, length, Option, Some, None, option_map}
+use Rattle.std.specs.Prelude.{unwrap_or, Result, Ok, Err}
 use Rattle.std.specs.List.{find}
 use Rattle.std.specs.Str.{bytes_eq}
 use Rattle.jm_bytes.specs.declared.words.Order.TheVariants.{Little}
-use Rattle.jm_words.specs.declared.commands.Command.{Command}
-use Rattle.jm_words.specs.declared.commands.Command.TheVariants as command
 use Rattle.jm_words.specs.declared.drafts.Draft.{Draft}
 use Rattle.jm_words.specs.declared.errors.WordsError.{WordsError}
 use Rattle.jm_words.specs.declared.errors.WordsKind.TheVariants as kind
@@ -13,6 +11,13 @@ use Rattle.jm_words.specs.declared.given.Source.{Source}
 use Rattle.jm_words.specs.declared.given.Source.TheVariants as source
 use Rattle.jm_words.specs.declared.tables.Verb.{Verb}
 use Rattle.jm_words.specs.declared.tables.Verb.TheVariants as verb
+use Rattle.jm_words.specs.declared.tasks.Command.{Command}
+use Rattle.jm_words.specs.declared.tasks.GenTask.{GenTask}
+use Rattle.jm_words.specs.declared.tasks.ImageWork.{ImageWork}
+use Rattle.jm_words.specs.declared.tasks.ImageWork.TheVariants as work
+use Rattle.jm_words.specs.declared.tasks.LinkTask.{LinkTask}
+use Rattle.jm_words.specs.declared.tasks.Task.{Task}
+use Rattle.jm_words.specs.declared.tasks.Task.TheVariants as task
 use Rattle.jm_words.specs.Tables.{verbs, verb_name}
 use Rattle.jm_words.specs.Reading.{draft_or_fault, fault_at, reading_of}
 
@@ -20,10 +25,6 @@ use Rattle.jm_words.specs.Reading.{draft_or_fault, fault_at, reading_of}
 abbrev pub needing : {A B : Type 0} → Option A → (A → Option B) → Option B
 needing None make = None
 needing (Some value) make = make value
-
--- the number of jobs, 1 where none was given
-abbrev pub jobs_of : Draft → ℕ
-jobs_of draft = unwrap_or draft.jobs 1
 
 -- the folders of `--module-path`, none where an image stands in their place
 abbrev pub folders_in : Source → List (List ℕ)
@@ -35,36 +36,51 @@ abbrev pub image_in : Source → Option (List ℕ)
 image_in (source.Folders dirs) = None
 image_in (source.Image image) = Some image
 
--- the command of what was given, or none where an argument or an option isn't there that must be
-abbrev pub command_of : Verb → Draft → Option Command
-command_of verb.Link draft =
-    needing draft.source (λ source. needing draft.roots (λ roots.
-    needing draft.output (λ output. Some (command.Link (folders_in source) roots output
-    draft.plugins (unwrap_or draft.order Little) draft.bind (image_in source) (jobs_of draft)))))
-command_of verb.Cat draft =
-    needing draft.file (λ image. needing draft.name (λ name.
-    Some (command.Cat image name (jobs_of draft))))
-command_of verb.List draft =
-    needing draft.file (λ image. Some (command.List image draft.include (jobs_of draft)))
-command_of verb.Ls draft =
-    needing draft.file (λ image. needing draft.name (λ path.
-    Some (command.Ls image path (jobs_of draft))))
-command_of verb.Info draft = needing draft.file (λ image. Some (command.Info image (jobs_of draft)))
-command_of verb.Extract draft =
-    needing draft.file (λ image. needing draft.folder (λ dir.
-    Some (command.Extract image dir draft.include (jobs_of draft))))
-command_of verb.Verify draft =
-    needing draft.file (λ image. Some (command.Verify image (jobs_of draft)))
-command_of verb.Serve draft =
-    needing draft.file (λ image. Some (command.Serve image (jobs_of draft)))
-command_of verb.Gen draft =
+-- the `link` of what was given, or none where an option isn't there that must be
+abbrev pub link_of : Draft → Option LinkTask
+link_of draft =
+    needing draft.source (λ source. needing draft.roots (λ roots. needing draft.output (λ output.
+    Some (record {
+      dirs = folders_in source;
+      roots = roots;
+      output = output;
+      plugins = draft.plugins;
+      order = unwrap_or draft.order Little;
+      bind = draft.bind;
+      from_image = image_in source;
+    }))))
+
+-- the `gen` of what was given, or none where something isn't there that must be
+abbrev pub gen_of : Draft → Option GenTask
+gen_of draft =
     needing draft.folder (λ dir. needing draft.modules (λ modules.
     needing draft.classes (λ classes. needing draft.seed (λ seed.
-    Some (command.Gen dir modules classes seed (jobs_of draft))))))
-command_of verb.Describe draft =
-    needing draft.file (λ file. Some (command.Describe file (jobs_of draft)))
-command_of verb.Help draft = Some (command.Help (jobs_of draft))
-command_of verb.Version draft = Some (command.Version (jobs_of draft))
+    Some (record { dir = dir; modules = modules; classes = classes; seed = seed })))))
+
+-- the work on an image, or none where the image wasn't given
+abbrev pub on_image : Option (List ℕ) → ImageWork → Option Task
+on_image file work = needing file (λ image. Some (task.Image image work))
+
+-- the task of what was given, or none where an argument or an option isn't there that must be
+abbrev pub task_of : Verb → Draft → Option Task
+task_of verb.Link draft = needing (link_of draft) (λ link. Some (task.Link link))
+task_of verb.Cat draft = needing draft.name (λ name. on_image draft.file (work.Cat name))
+task_of verb.List draft = on_image draft.file (work.List draft.include)
+task_of verb.Ls draft = needing draft.name (λ path. on_image draft.file (work.Ls path))
+task_of verb.Info draft = on_image draft.file work.Info
+task_of verb.Extract draft =
+    needing draft.folder (λ dir. on_image draft.file (work.Extract dir draft.include))
+task_of verb.Verify draft = on_image draft.file work.Verify
+task_of verb.Serve draft = on_image draft.file work.Serve
+task_of verb.Gen draft = needing (gen_of draft) (λ gen. Some (task.Gen gen))
+task_of verb.Describe draft = needing draft.file (λ file. Some (task.Describe file))
+task_of verb.Help draft = Some task.Help
+task_of verb.Version draft = Some task.Version
+
+-- the task of what was given, for the number of jobs that was, or else for one
+abbrev pub command_of : Verb → Draft → Option Command
+command_of verb draft =
+    option_map (λ task. record { jobs = unwrap_or draft.jobs 1; task = task }) (task_of verb draft)
 
 -- the command of a name
 abbrev pub verb_named : List ℕ → Option Verb

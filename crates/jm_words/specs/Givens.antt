@@ -1,7 +1,7 @@
 -- What an argument or an option gives (this project's rule).
 use Rattle.std.specs.Prelude.{ℕ, ◌-◌, ◌^◌, List, Option, Some, None, option_map}
 use Rattle.jm_names.specs.UtfForms.{modified}
-use Rattle.jm_plugins.specs.declared.Plugin.TheVariants as plugin
+use Rattle.jm_words.specs.declared.tasks.Plugin.TheVariants as plugin
 use Rattle.jm_words.specs.declared.given.Given.{Given}
 use Rattle.jm_words.specs.declared.given.Given.TheVariants as given
 use Rattle.jm_words.specs.declared.given.Source.TheVariants as source

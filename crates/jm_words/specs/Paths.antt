@@ -1,41 +1,35 @@
--- What is known of a command that words make (this project's rule).
-use Rattle.std.specs.Prelude.{ℕ, ◌≤◌, IfSome, All, IsUtf8}
-use Rattle.jm_words.specs.declared.commands.Command.{Command}
-use Rattle.jm_words.specs.declared.commands.Command.TheVariants as command
+-- What is known of a task that words make (this project's rule).
+use Rattle.std.specs.Prelude.{◌≤◌, IfSome, All, IsUtf8}
+use Rattle.jm_words.specs.declared.tasks.GenTask.{GenTask}
+use Rattle.jm_words.specs.declared.tasks.ImageWork.{ImageWork}
+use Rattle.jm_words.specs.declared.tasks.ImageWork.TheVariants as work
+use Rattle.jm_words.specs.declared.tasks.LinkTask.{LinkTask}
+use Rattle.jm_words.specs.declared.tasks.Task.{Task}
+use Rattle.jm_words.specs.declared.tasks.Task.TheVariants as task
 
--- the paths of the files and folders that a command names are UTF-8
-abbrev pub FilePathsAreText : Command → Type 0
-FilePathsAreText (command.Link dirs roots output plugins order bind from_image jobs) =
-    All IsUtf8 dirs × IsUtf8 output × IfSome from_image IsUtf8
-FilePathsAreText (command.Cat image name jobs) = IsUtf8 image
-FilePathsAreText (command.List image include jobs) = IsUtf8 image
-FilePathsAreText (command.Ls image path jobs) = IsUtf8 image
-FilePathsAreText (command.Info image jobs) = IsUtf8 image
-FilePathsAreText (command.Extract image dir include jobs) = IsUtf8 image × IsUtf8 dir
-FilePathsAreText (command.Verify image jobs) = IsUtf8 image
-FilePathsAreText (command.Serve image jobs) = IsUtf8 image
-FilePathsAreText (command.Gen dir modules classes seed jobs) = IsUtf8 dir
-FilePathsAreText (command.Describe file jobs) = IsUtf8 file
-FilePathsAreText (command.Help jobs) = Unit {0}
-FilePathsAreText (command.Version jobs) = Unit {0}
+-- the paths of the files and folders that a `link` names are UTF-8
+abbrev pub LinkIsText : LinkTask → Type 0
+LinkIsText link = All IsUtf8 link.dirs × IsUtf8 link.output × IfSome link.from_image IsUtf8
 
--- the number of jobs of a command
-abbrev pub jobs_in : Command → ℕ
-jobs_in (command.Link dirs roots output plugins order bind from_image jobs) = jobs
-jobs_in (command.Cat image name jobs) = jobs
-jobs_in (command.List image include jobs) = jobs
-jobs_in (command.Ls image path jobs) = jobs
-jobs_in (command.Info image jobs) = jobs
-jobs_in (command.Extract image dir include jobs) = jobs
-jobs_in (command.Verify image jobs) = jobs
-jobs_in (command.Serve image jobs) = jobs
-jobs_in (command.Gen dir modules classes seed jobs) = jobs
-jobs_in (command.Describe file jobs) = jobs
-jobs_in (command.Help jobs) = jobs
-jobs_in (command.Version jobs) = jobs
+-- the path of the folder that files are made in is UTF-8
+abbrev pub FolderIsText : ImageWork → Type 0
+FolderIsText (work.Extract dir include) = IsUtf8 dir
+FolderIsText _ = Unit {0}
+
+-- the paths of the files and folders that a task names are UTF-8
+abbrev pub FilePathsAreText : Task → Type 0
+FilePathsAreText (task.Link link) = LinkIsText link
+FilePathsAreText (task.Image image work) = IsUtf8 image × FolderIsText work
+FilePathsAreText (task.Gen gen) = IsUtf8 gen.dir
+FilePathsAreText (task.Describe file) = IsUtf8 file
+FilePathsAreText task.Help = Unit {0}
+FilePathsAreText task.Version = Unit {0}
+
+-- the numbers of a `gen` are within its limits
+abbrev pub GenFits : GenTask → Type 0
+GenFits gen = ((1 ≤ gen.modules) × (gen.modules ≤ 256)) × ((1 ≤ gen.classes) × (gen.classes ≤ 1024))
 
 -- the numbers of a generator are within its limits
-abbrev pub NumbersFit : Command → Type 0
-NumbersFit (command.Gen dir modules classes seed jobs) =
-    ((1 ≤ modules) × (modules ≤ 256)) × ((1 ≤ classes) × (classes ≤ 1024))
+abbrev pub NumbersFit : Task → Type 0
+NumbersFit (task.Gen gen) = GenFits gen
 NumbersFit _ = Unit {0}

@@ -2,9 +2,9 @@ ghost use Rattle.std.specs.Prelude.{◌≡◌, OnOk};
 ghost use Rattle.jm_words.specs.Drafts.{nothing, with_given};
 
 use crate::given::{Given, Source};
+use crate::tasks::Plugin;
 use jm_bytes::{List, NoMemory, Order, Text};
 use jm_pattern::Pattern;
-use jm_plugins::Plugin;
 use std::alloc::Global;
 
 /// What words have given so far: a place for each kind of argument and option.

@@ -2,6 +2,7 @@ ghost use Rattle.std.specs.Prelude.{◌≡◌, IfOk};
 ghost use Rattle.jm_words.specs.Givens.{argument_of, flag_of, value_of};
 
 use crate::tables::{Argument, Choice};
+use crate::tasks::Plugin;
 use crate::values::{
     count_of, folder_of, folders_of, inner_path_of, names_of, number_of, order_of, path_of,
     patterns_of,
@@ -9,7 +10,6 @@ use crate::values::{
 use jm_bytes::{List, NoMemory, Order, Text};
 use jm_names::to_modified;
 use jm_pattern::Pattern;
-use jm_plugins::Plugin;
 use std::alloc::Global;
 
 /// Where a `link` takes its modules from.

@@ -8,7 +8,9 @@ mod errors;
 mod given;
 mod reading;
 mod tables;
+mod tasks;
 mod values;
 
-pub use commands::{Command, read_words};
+pub use commands::read_words;
 pub use errors::{WordsError, WordsKind};
+pub use tasks::{Command, GenTask, ImageWork, LinkTask, Plugin, Task};
