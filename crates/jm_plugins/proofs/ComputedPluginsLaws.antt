@@ -13,8 +13,8 @@ use Rattle.jm_compact.specs.Compact.{IsCompact, compact_text}
 use Rattle.jm_compact.proofs.WholeText.{rule, rule_only}
 use Rattle.jm_pool.specs.Pairs.{names_of}
 use Rattle.jm_strip.specs.Strip.{strip}
-use Rattle.jm_plugins.specs.declared.Plugin.{Plugin}
-use Rattle.jm_plugins.specs.declared.Plugin.TheVariants as plugin
+use Rattle.jm_words.specs.declared.tasks.Plugin.{Plugin}
+use Rattle.jm_words.specs.declared.tasks.Plugin.TheVariants as plugin
 use Rattle.jm_plugins.specs.declared.chain.ApplyError.{ApplyError}
 use Rattle.jm_plugins.specs.declared.chain.ApplyError.TheVariants.{BadClass, Memory}
 use Rattle.jm_plugins.specs.ComputedPlugins.{act, apply, remade, remade_pair, remade_pairs, stripped_text}

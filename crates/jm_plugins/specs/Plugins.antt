@@ -9,8 +9,8 @@ use Rattle.jm_class.specs.declared.class.ClassFault.{ClassFault}
 use Rattle.jm_compact.specs.Compact.{IsCompact}
 use Rattle.jm_pool.specs.Pairs.{names_of}
 use Rattle.jm_strip.specs.Strip.{strip}
-use Rattle.jm_plugins.specs.declared.Plugin.{Plugin}
-use Rattle.jm_plugins.specs.declared.Plugin.TheVariants as plugin
+use Rattle.jm_words.specs.declared.tasks.Plugin.{Plugin}
+use Rattle.jm_words.specs.declared.tasks.Plugin.TheVariants as plugin
 use Rattle.jm_plugins.specs.declared.chain.ApplyError.{ApplyError}
 use Rattle.jm_plugins.specs.declared.chain.ApplyError.TheVariants.{BadClass, Memory}
 use Rattle.jm_plugins.specs.Matching.{excluded, ordered}

@@ -2,7 +2,6 @@ ghost use Rattle.std.specs.Prelude.{◌≡◌, ◌⊎◌, ◌<◌, Err};
 ghost use Rattle.jm_plugins.specs.declared.chain.ApplyError.TheVariants.{Memory};
 ghost use Rattle.jm_plugins.specs.Plugins.{Applies, Makes};
 
-use crate::Plugin;
 use crate::classes::{Remaking, remake_classes};
 use crate::exclusion::exclude;
 use crate::order::order;
@@ -11,6 +10,7 @@ use jm_bytes::{NoMemory, Text};
 use jm_class::ClassFault;
 use jm_halves::Gate;
 use jm_pool::Pool;
+use jm_words::Plugin;
 use std::alloc::Global;
 use std::thread::Threads;
 

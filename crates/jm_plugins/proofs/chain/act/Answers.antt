@@ -1,5 +1,5 @@
 use Rattle.std.proofs.Common.{◌≡◌, ◌⊎◌, inr, ap, sym, subst, ◌∙◌, Err, Ok}
-use Rattle.jm_plugins.specs.declared.Plugin.TheVariants as plugin
+use Rattle.jm_words.specs.declared.tasks.Plugin.TheVariants as plugin
 use Rattle.jm_plugins.specs.declared.chain.ApplyError.TheVariants.{Memory}
 use Rattle.jm_plugins.specs.Plugins.{Makes}
 use Rattle.jm_plugins.proofs.ComputedPluginsLaws.{makes_unless}
