@@ -17,8 +17,8 @@ use Rattle.jm_form.specs.Layout.{Written}
 use Rattle.jm_form.specs.Trees.{module_of}
 use Rattle.jm_modinfo.specs.declared.descriptor.Descriptor.{Descriptor}
 use Rattle.jm_modinfo.specs.ComputedInfo.{info_of}
-use Rattle.jm_plugins.specs.declared.Plugin.{Plugin}
-use Rattle.jm_plugins.specs.declared.Plugin.TheVariants as plugin
+use Rattle.jm_words.specs.declared.tasks.Plugin.{Plugin}
+use Rattle.jm_words.specs.declared.tasks.Plugin.TheVariants as plugin
 use Rattle.jm_plugins.specs.declared.chain.ApplyError.{ApplyError}
 use Rattle.jm_pattern.specs.ComputedMatching.{matches_any}
 use Rattle.jm_bytes.specs.Results.{followed}

@@ -16,7 +16,7 @@ use Rattle.jm_outside.specs.Holds.{Holds, HoldsPart}
 use Rattle.jm_outside.specs.Outcome.{Rose, Shows}
 use Rattle.jm_outside.specs.Shelves.{ShelfFailed, ShelfSeen}
 use Rattle.jm_plugins.specs.Plugins.{Applies}
-use Rattle.jm_plugins.specs.declared.Plugin.{Plugin}
+use Rattle.jm_words.specs.declared.tasks.Plugin.{Plugin}
 use Rattle.jm_plugins.specs.declared.chain.ApplyError.{ApplyError}
 use Rattle.jm_plugins.specs.declared.chain.ApplyError.TheVariants as plugging
 use Rattle.jm_plugins.proofs.ComputedPluginsLaws.{applies_only}

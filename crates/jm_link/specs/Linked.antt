@@ -16,7 +16,7 @@ use Rattle.jm_modpath.specs.declared.refusal.PathRefusal.{PathRefusal}
 use Rattle.jm_modpath.specs.declared.refusal.PathRefusal.TheVariants as path
 use Rattle.jm_modpath.specs.Modules.{candidates, path_refusal, visible}
 use Rattle.jm_outside.specs.Files.{Files}
-use Rattle.jm_plugins.specs.declared.Plugin.{Plugin}
+use Rattle.jm_words.specs.declared.tasks.Plugin.{Plugin}
 use Rattle.jm_plugins.specs.declared.chain.ApplyError.{ApplyError}
 use Rattle.jm_plugins.specs.declared.chain.ApplyError.TheVariants as plugging
 use Rattle.jm_plugins.specs.Plugins.{Applies}

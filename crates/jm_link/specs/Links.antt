@@ -7,20 +7,20 @@ use Rattle.jm_outside.specs.Outcome.{Shows}
 use Rattle.jm_writer.specs.Laid.{IsLaidOut}
 use Rattle.jm_outside.specs.Holds.{Holds, HoldsPart}
 use Rattle.jm_outside.specs.Shelves.{ShelfFailed, ShelfSeen}
-use Rattle.jm_link.specs.declared.linking.Asked.{Asked}
 use Rattle.jm_link.specs.declared.linking.LinkStop.{LinkStop}
 use Rattle.jm_link.specs.declared.linking.LinkStop.TheVariants as stop
 use Rattle.jm_link.specs.declared.linking.Summary.{Summary}
 use Rattle.jm_texts.specs.declared.refusal.Refusal.{Refusal}
 use Rattle.jm_link.specs.Linked.{LinkedImage, LinksTo, PlugsTo, Request}
+use Rattle.jm_words.specs.declared.tasks.LinkTask.{LinkTask}
 
--- what is asked for, as plain data
-abbrev pub request_of : Asked → Request
-request_of asked = record {
-  roots = asked.roots.now;
-  bind = asked.bind;
-  plugins = asked.plugins.now;
-  order = asked.order;
+-- what of a task decides its image, whatever shows the modules
+abbrev pub request_of : LinkTask → Request
+request_of task = record {
+  roots = task.roots;
+  bind = task.bind;
+  plugins = task.plugins;
+  order = task.order;
 }
 
 -- what is told of an image: the numbers of its modules and resources, its length, its slots

@@ -8,8 +8,8 @@ use Rattle.jm_outside.specs.Holds.{Holds}
 use Rattle.jm_form.specs.Layout.{names_of}
 use Rattle.jm_modpath.specs.Modules.{bytes_at, candidates, visible}
 use Rattle.jm_outside.specs.Files.{Files}
-use Rattle.jm_plugins.specs.declared.Plugin.{Plugin}
-use Rattle.jm_plugins.specs.declared.Plugin.TheVariants as plugin
+use Rattle.jm_words.specs.declared.tasks.Plugin.{Plugin}
+use Rattle.jm_words.specs.declared.tasks.Plugin.TheVariants as plugin
 use Rattle.jm_relink.specs.Files.{info_entry}
 use Rattle.jm_relink.specs.Modules.{ModulesOf, SeenModule}
 use Rattle.jm_link.specs.declared.linking.LinkStop.{LinkStop}

@@ -5,11 +5,12 @@ ghost use Rattle.jm_link.specs.Chosen.{is_called, reserved};
 ghost use Rattle.jm_link.specs.Closing.{ClosesAmong, ClosesWith};
 ghost use Rattle.jm_link.specs.Steps.{StepGives};
 
-use crate::linking::{Asked, LinkStop};
+use crate::linking::LinkStop;
 use jm_bind::bind;
 use jm_bytes::{List, Text};
 use jm_closure::{Candidate, CloseError, close};
 use jm_texts::Refusal;
+use jm_words::LinkTask;
 use std::alloc::Global;
 
 /// One of the modules has this name.
@@ -38,22 +39,22 @@ fn refuse_reserved(alloc: Global, found: &[Candidate]) -> Result<(), LinkStop>
 }
 
 /// The closure of the roots, or with service binding what is bound.
-fn chosen(alloc: Global, found: &[Candidate], asked: &Asked) -> Result<List<usize>, CloseError>
+fn chosen(alloc: Global, found: &[Candidate], task: &LinkTask) -> Result<List<usize>, CloseError>
     requires { NamesDiffer found.now }
-    ensures { ClosesWith asked.now.bind found.now asked.now.roots.now result }
+    ensures { ClosesWith task.now.bind found.now task.now.roots result }
 {
-    if asked.bind {
-        bind(alloc, found, asked.roots)
+    if task.bind {
+        bind(alloc, found, task.roots.as_slice())
     } else {
-        close(alloc, found, asked.roots)
+        close(alloc, found, task.roots.as_slice())
     }
 }
 
 /// The places of the modules that are linked, rising by name.
-pub fn closed(alloc: Global, found: &[Candidate], asked: &Asked) -> Result<List<usize>, LinkStop>
+pub fn closed(alloc: Global, found: &[Candidate], task: &LinkTask) -> Result<List<usize>, LinkStop>
     requires { NamesDiffer found.now }
-    ensures { ClosesAmong found.now asked.now.roots.now asked.now.bind result }
+    ensures { ClosesAmong found.now task.now.roots task.now.bind result }
 {
     refuse_reserved(alloc, found)?;
-    Ok(chosen(alloc, found, asked)?)
+    Ok(chosen(alloc, found, task)?)
 }

@@ -9,9 +9,10 @@ ghost use Rattle.jm_writer.specs.Drafts.{IsDraft};
 ghost use Rattle.jm_link.specs.Resources.{AreFit};
 ghost use Rattle.jm_link.specs.Written.{WritesImage};
 
-use crate::linking::{Asked, LinkStop, Summary};
+use crate::linking::{LinkStop, Summary};
 use jm_outside::{Shelf, ShelfError};
 use jm_pool::Pool;
+use jm_words::LinkTask;
 use jm_writer::{Draft, plan, write};
 use std::alloc::Global;
 
@@ -65,16 +66,17 @@ fn write_draft<S: Shelf>(
 /// is made before the file is touched.
 pub fn write_image<S: Shelf>(
     alloc: Global,
-    asked: &Asked,
+    task: &LinkTask,
     modules: usize,
     pool: &Pool,
     shelf: &mut S,
 ) -> Result<Summary, LinkStop>
     requires fit { AreFit (names_of pool.now) }
-    requires output { IsUtf8 asked.now.output.now }
-    ensures { WritesImage asked.now.order modules pool.now asked.now.output.now result
+    requires output { IsUtf8 task.now.output }
+    ensures { WritesImage task.now.order modules pool.now task.now.output result
         (shelf_at S.Shelf shelf.old) (shelf_at S.Shelf shelf.new) }
 {
-    let draft = plan(alloc, asked.order, pool)?;
-    write_draft(alloc, &draft, modules, pool, shelf, asked.output)
+    let draft = plan(alloc, task.order, pool)?;
+    let path = task.output.as_slice();
+    write_draft(alloc, &draft, modules, pool, shelf, path)
 }

@@ -9,5 +9,5 @@ mod relinking;
 mod resources;
 mod stops;
 
-pub use linking::{Asked, LinkStop, Summary, link};
+pub use linking::{LinkStop, Summary, link};
 pub use relinking::link_image;

@@ -16,8 +16,8 @@ use Rattle.jm_link.proofs.relinking.link_image.Goals as goal
 
 pub returns-in_err-modules : goal.returns-in_err-modules
 returns-in_err-modules g c =
-    let asked : Request = request_of c.args.asked.now in
-    let path = c.args.asked.now.output.now in
+    let asked : Request = request_of c.args.task.now in
+    let path = c.args.task.now.output in
     let old : ShelfSeen = shelf_at g.S.Shelf c.args.shelf.now in
     let error = c.in_err-modules.field-0.0 in
     let links : ImageLinks c.args.image.now asked path c.from_residual.result old old =
@@ -31,8 +31,8 @@ closed-requires g c = rw c.as_slice.ensures c.in_ok-modules.ensures.are.differ
 pub returns-in_err-places : goal.returns-in_err-places
 returns-in_err-places g c =
     let shown = c.in_ok-modules.ensures.modules in
-    let asked : Request = request_of c.args.asked.now in
-    let path = c.args.asked.now.output.now in
+    let asked : Request = request_of c.args.task.now in
+    let path = c.args.task.now.output in
     let old : ShelfSeen = shelf_at g.S.Shelf c.args.shelf.now in
     let stop = c.in_err-places.field-0.0 in
     let closes = subst (λ (cs : List Candidate). ClosesAmong cs asked.roots asked.bind (Err stop)) c.as_slice.ensures c.in_err-places.ensures in
@@ -45,13 +45,13 @@ pub gather-requires-clause-places : goal.gather-requires-clause-places
 gather-requires-clause-places g c =
     let shown = c.in_ok-modules.ensures.modules in
     let closes = rw c.as_slice.ensures at c.in_ok-places.ensures in
-    rw c.as_slice-2.ensures (image_places c.args.image.now c.in_ok-modules.modules shown.0 (visible_in c.args.image.now shown.0 shown.1) shown.2 c.args.asked.now.roots.now c.args.asked.now.bind c.in_ok-places.places closes.1)
+    rw c.as_slice-2.ensures (image_places c.args.image.now c.in_ok-modules.modules shown.0 (visible_in c.args.image.now shown.0 shown.1) shown.2 c.args.task.now.roots c.args.task.now.bind c.in_ok-places.places closes.1)
 
 pub returns-in_err-read : goal.returns-in_err-read
 returns-in_err-read g c =
     let shown = c.in_ok-modules.ensures.modules in
-    let asked : Request = request_of c.args.asked.now in
-    let path = c.args.asked.now.output.now in
+    let asked : Request = request_of c.args.task.now in
+    let path = c.args.task.now.output in
     let old : ShelfSeen = shelf_at g.S.Shelf c.args.shelf.now in
     let error = c.in_err-read.field-0.0 in
     let closes = rw c.as_slice.ensures at c.in_ok-places.ensures in
@@ -63,9 +63,10 @@ returns-in_err-read g c =
 
 pub returns-in_err-left : goal.returns-in_err-left
 returns-in_err-left g c =
+    let acted = rw c.as_slice-3.ensures at c.in_err-left.ensures in
     let shown = c.in_ok-modules.ensures.modules in
-    let asked : Request = request_of c.args.asked.now in
-    let path = c.args.asked.now.output.now in
+    let asked : Request = request_of c.args.task.now in
+    let path = c.args.task.now.output in
     let old : ShelfSeen = shelf_at g.S.Shelf c.args.shelf.now in
     let error = c.in_err-left.field-0.0 in
     let closes = rw c.as_slice.ensures at c.in_ok-places.ensures in
@@ -74,30 +75,32 @@ returns-in_err-left g c =
     let links : ImageLinks c.args.image.now asked path c.from_residual-in_err-left.result old old =
     rw (passed_on c.from_residual-in_err-left.result _ c.from_residual-in_err-left.ensures.1)
     (refused (ImageComesTo c.args.image.now asked) ⊥ path old old refl (plugging_refusal error)
-    (λ r is. to (Err r) (unplugged asked (length c.in_ok-places.places) c.in_ok-read.read error c.in_err-left.ensures r is))) in
+    (λ r is. to (Err r) (unplugged asked (length c.in_ok-places.places) c.in_ok-read.read error acted r is))) in
     record { links = links; gives_back = given_back c.args.image.now asked path c.from_residual-in_err-left.result old old links; reads = c.modules_of.ensures.reads }
 
 pub write_image-requires-clause-fit : goal.write_image-requires-clause-fit
 write_image-requires-clause-fit g c =
+    let acted = rw c.as_slice-3.ensures at c.in_ok-left.ensures in
     let shown = c.in_ok-modules.ensures.modules in
-    let asked : Request = request_of c.args.asked.now in
+    let asked : Request = request_of c.args.task.now in
     let closes = rw c.as_slice.ensures at c.in_ok-places.ensures in
     let gathers = rw c.as_slice-2.ensures at c.in_ok-read.ensures in
-    fit_left asked.plugins c.in_ok-read.read c.in_ok-left.left (left_is asked.plugins c.in_ok-read.read c.in_ok-left.left c.in_ok-left.ensures)
+    fit_left asked.plugins c.in_ok-read.read c.in_ok-left.left (left_is asked.plugins c.in_ok-read.read c.in_ok-left.left acted)
     (gathered_fit c.args.image.now asked c.in_ok-modules.modules shown.0 shown.1 shown.2 c.in_ok-places.places closes c.in_ok-read.read gathers)
 
 pub returns : goal.returns
 returns g c =
+    let acted = rw c.as_slice-3.ensures at c.in_ok-left.ensures in
     let shown = c.in_ok-modules.ensures.modules in
-    let asked : Request = request_of c.args.asked.now in
-    let path = c.args.asked.now.output.now in
+    let asked : Request = request_of c.args.task.now in
+    let path = c.args.task.now.output in
     let old : ShelfSeen = shelf_at g.S.Shelf c.args.shelf.now in
     let new : ShelfSeen = shelf_at g.S.Shelf c.write_image.new.shelf in
     let closes = rw c.as_slice.ensures at c.in_ok-places.ensures in
     let gathers = rw c.as_slice-2.ensures at c.in_ok-read.ensures in
     let modules = length c.in_ok-places.places in
     let read = c.in_ok-read.read in
-    let left = left_is asked.plugins read c.in_ok-left.left c.in_ok-left.ensures in
+    let left = left_is asked.plugins read c.in_ok-left.left acted in
     let fit = fit_left asked.plugins read c.in_ok-left.left left (gathered_fit c.args.image.now asked c.in_ok-modules.modules shown.0 shown.1 shown.2 c.in_ok-places.places closes read gathers) in
     let did = image_written asked modules read c.in_ok-left.left left fit path c.write_image.result old new (rw c.len.ensures at c.write_image.ensures) in
     let links : ImageLinks c.args.image.now asked path c.write_image.result old new =
