@@ -1,5 +1,5 @@
 -- What `gen` does, from what its calls answered.
-use Rattle.std.proofs.Common.{◌≡◌, ◌⊎◌, inl, inr, true, IsTrue, IsOk, ℕ, List, [], ◌++◌, ◌∷◌, Option, Result, Ok, Err, refl, subst, append-nil}
+use Rattle.std.proofs.Common.{◌≡◌, ◌⊎◌, inl, inr, IsTrue, IsOk, ℕ, List, [], ◌++◌, ◌∷◌, Option, Result, Ok, Err, refl, subst, append-nil}
 use Rattle.jm_outside.specs.Files.{Files}
 use Rattle.jm_outside.specs.Shelves.{ShelfFailed, ShelfSeen}
 use Rattle.jm_outside.specs.declared.shelf.ShelfError.{ShelfError}
@@ -8,12 +8,13 @@ use Rattle.jm_outside.specs.Made.{MadeAll, MadePart, Writes}
 use Rattle.jm_outside.proofs.MadeLaws.{made_append, part_append}
 use Rattle.jm_link.specs.declared.linking.LinkStop.{LinkStop}
 use Rattle.jm_link.specs.declared.linking.Summary.{Summary}
-use Rattle.jm_link.specs.Links.{Links}
+use Rattle.jm_link.specs.Links.{Links, request_of}
+use Rattle.jm_words.specs.declared.tasks.GenTask.{GenTask}
 use Rattle.jm_commands.specs.declared.stop.Stop.{Stop}
 use Rattle.jm_commands.specs.declared.stop.Stop.TheVariants as stop
-use Rattle.jm_commands.specs.Gen.{Gen, gen_request, generated_request, image_path, made_first, modules_path}
+use Rattle.jm_commands.specs.Gen.{gen_link, image_path, made_first, modules_path}
 use Rattle.jm_commands.specs.LinkText.{gen_text}
-use Rattle.jm_commands.specs.Outcome.{Early, Outcome, behind, done, gen_link, reading}
+use Rattle.jm_commands.specs.Outcome.{Outcome, behind, done, making, reading}
 use Rattle.jm_commands.specs.Run.{Answers, FilesFirst, FilesMade, GenComesTo, LinkComesTo, PutDoes, StandAll, StepComesTo}
 use Rattle.jm_commands.specs.Stops.{stop_of_link, stop_of_shelf}
 use Rattle.jm_commands.specs.World.{World}
@@ -51,10 +52,6 @@ first_behind_made made writes answer shelf now new first (inl whole) (inl more) 
 first_behind_made made writes answer shelf now new first (inl whole) (inr unput) = inr unput
 first_behind_made made writes answer shelf now new first (inr (undone, unput)) files = inr unput
 
--- files are read, and these are made, before it is known what is due
-abbrev making : Writes → Early
-making made = record { writes = made; reads = true }
-
 module _ (made : Writes) (shelf : ShelfSeen) (now new : World) (first : MadeAll made shelf.told now.shelf.told) (kept : now.shelf.faults ≡ shelf.faults) where
   abbrev old : World
   old = record { shelf = shelf; input = now.input; out = now.out }
@@ -82,13 +79,12 @@ module _ (made : Writes) (shelf : ShelfSeen) (now new : World) (first : MadeAll 
     },
   )
 
--- the link of a `gen`, by the paths that it was made with
-pub links_as : (gen : Gen) (mods image : List ℕ) (answer : Result Summary LinkStop) (old new : ShelfSeen) → mods ≡ modules_path gen → image ≡ image_path gen → Links (mods ∷ []) (generated_request gen.modules) image answer old new → Links (modules_path gen ∷ []) (gen_request gen) (image_path gen) answer old new
-links_as gen mods image answer old new one two links =
-    subst (λ (path : List ℕ). Links (modules_path gen ∷ []) (gen_request gen) path answer old new) two
-    (subst (λ (path : List ℕ). Links (path ∷ []) (gen_request gen) image answer old new) one links)
+-- the link of a `gen`, by the folder that its modules were made in
+pub links_as : (gen : GenTask) (mods : List ℕ) (answer : Result Summary LinkStop) (old new : ShelfSeen) → mods ≡ modules_path gen → Links (mods ∷ []) (request_of (gen_link gen)) (image_path gen) answer old new → Links (modules_path gen ∷ []) (request_of (gen_link gen)) (image_path gen) answer old new
+links_as gen mods answer old new one links =
+    subst (λ (path : List ℕ). Links (path ∷ []) (request_of (gen_link gen)) (image_path gen) answer old new) one links
 
-module _ (gen : Gen) (shelf : ShelfSeen) (now new : World) where
+module _ (gen : GenTask) (shelf : ShelfSeen) (now new : World) where
   abbrev before : World
   before = record { shelf = shelf; input = now.input; out = now.out }
 
@@ -96,22 +92,22 @@ module _ (gen : Gen) (shelf : ShelfSeen) (now new : World) where
   Does answer = StepComesTo (GenComesTo shelf.told gen) (making (made_first gen)) answer before new
 
   -- the link of all that was made
-  linked_after : (answer : Result (Unit {0}) Stop) → MadeAll (made_first gen) shelf.told now.shelf.told → now.shelf.faults ≡ shelf.faults → EndsFiles answer now new → StepComesTo (LinkComesTo now.shelf.told (gen_link gen)) reading answer now new → Does answer
+  linked_after : (answer : Result (Unit {0}) Stop) → MadeAll (made_first gen) shelf.told now.shelf.told → now.shelf.faults ≡ shelf.faults → EndsFiles answer now new → StepComesTo (LinkComesTo gen_text now.shelf.told (gen_link gen)) reading answer now new → Does answer
   linked_after answer made kept ends step =
-      subst (λ (told : Option Files). StepComesTo (λ due. (last : Outcome) × LinkComesTo told (gen_link gen) last × (due ≡ behind (made_first gen) last)) (making (made_first gen)) answer before new) made
-      (step_after (made_first gen) shelf now new made kept (LinkComesTo now.shelf.told (gen_link gen)) answer ends step)
+      subst (λ (told : Option Files). StepComesTo (λ due. (last : Outcome) × LinkComesTo gen_text told (gen_link gen) last × (due ≡ behind (made_first gen) last)) (making (made_first gen)) answer before new) made
+      (step_after (made_first gen) shelf now new made kept (LinkComesTo gen_text now.shelf.told (gen_link gen)) answer ends step)
 
   -- all was made and linked, and then the text was put
-  pub gen_put : (summary : Summary) (answer : Result (Unit {0}) Stop) → MadeAll (made_first gen) shelf.told now.shelf.told → now.shelf.faults ≡ shelf.faults → new.input ≡ now.input → Links (modules_path gen ∷ []) (gen_request gen) (image_path gen) (Ok summary) now.shelf new.shelf → PutDoes (done (gen_text summary)) answer now.out new.out → Does answer
+  pub gen_put : (summary : Summary) (answer : Result (Unit {0}) Stop) → MadeAll (made_first gen) shelf.told now.shelf.told → now.shelf.faults ≡ shelf.faults → new.input ≡ now.input → Links (modules_path gen ∷ []) (request_of (gen_link gen)) (image_path gen) (Ok summary) now.shelf new.shelf → PutDoes (done (gen_text summary)) answer now.out new.out → Does answer
   gen_put summary answer made kept input links put =
-      linked_after answer made kept (inl links.3.whole) (link_put (gen_link gen) now new input summary answer links put)
+      linked_after answer made kept (inl links.3.whole) (link_put gen_text (gen_link gen) now new input summary answer links put)
 
   -- all was made, and the link stopped
-  pub gen_stopped : (given : LinkStop) → MadeAll (made_first gen) shelf.told now.shelf.told → now.shelf.faults ≡ shelf.faults → new.input ≡ now.input → Links (modules_path gen ∷ []) (gen_request gen) (image_path gen) (Err given) now.shelf new.shelf → new.out.told ≡ now.out.told → Does (Err (stop_of_link given))
+  pub gen_stopped : (given : LinkStop) → MadeAll (made_first gen) shelf.told now.shelf.told → now.shelf.faults ≡ shelf.faults → new.input ≡ now.input → Links (modules_path gen ∷ []) (request_of (gen_link gen)) (image_path gen) (Err given) now.shelf new.shelf → new.out.told ≡ now.out.told → Does (Err (stop_of_link given))
   gen_stopped given made kept input links unput =
-      linked_after (Err (stop_of_link given)) made kept (inr ((λ ok. cc), unput)) (link_stopped (gen_link gen) now new input given links unput)
+      linked_after (Err (stop_of_link given)) made kept (inr ((λ ok. cc), unput)) (link_stopped gen_text (gen_link gen) now new input given links unput)
 
 -- the making was broken off
-pub gen_unmade : (gen : Gen) (error : ShelfError) (old new : World) → MadePart (made_first gen) old.shelf.told new.shelf.told → new.input.told ≡ old.input.told → new.out.told ≡ old.out.told → (error ≡ shelf_error.Failed → ShelfFailed old.shelf new.shelf) → StepComesTo (GenComesTo old.shelf.told gen) (making (made_first gen)) (Err (stop_of_shelf error)) old new
+pub gen_unmade : (gen : GenTask) (error : ShelfError) (old new : World) → MadePart (made_first gen) old.shelf.told new.shelf.told → new.input.told ≡ old.input.told → new.out.told ≡ old.out.told → (error ≡ shelf_error.Failed → ShelfFailed old.shelf new.shelf) → StepComesTo (GenComesTo old.shelf.told gen) (making (made_first gen)) (Err (stop_of_shelf error)) old new
 gen_unmade gen shelf_error.Failed old new part source unput rose = inl (record { failed = tt; files = part; source = source; output = unput; outside = λ failed. (refl, rose refl) })
 gen_unmade gen shelf_error.Memory old new part source unput rose = inl (record { failed = tt; files = part; source = source; output = unput; outside = λ failed. cc })

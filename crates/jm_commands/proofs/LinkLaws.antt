@@ -12,12 +12,13 @@ use Rattle.jm_texts.specs.declared.refusal.Refusal.{Refusal}
 use Rattle.jm_jrt.proofs.TreeLaws.{trees_shown_short}
 use Rattle.jm_link.specs.Linked.{LinkedImage, Request}
 use Rattle.jm_link.specs.ImageLinked.{ImageComesTo, ImageLinks}
-use Rattle.jm_link.specs.Links.{BreaksOff, ComesTo, IsLaid, Links, LinksBy, TellsNothing, summary_of}
+use Rattle.jm_link.specs.Links.{BreaksOff, ComesTo, IsLaid, Links, LinksBy, TellsNothing, request_of, summary_of}
+use Rattle.jm_words.specs.declared.tasks.LinkTask.{LinkTask}
 use Rattle.jm_commands.specs.declared.complaint.Complaint.{Complaint}
 use Rattle.jm_commands.specs.declared.complaint.Complaint.TheVariants as complaint
 use Rattle.jm_commands.specs.declared.stop.Stop.{Stop}
 use Rattle.jm_commands.specs.declared.stop.Stop.TheVariants as stop
-use Rattle.jm_commands.specs.Outcome.{Link, Outcome, done, link_outcome, linked, not_there, reading, refusing}
+use Rattle.jm_commands.specs.Outcome.{Outcome, done, link_outcome, linked, not_there, reading, refusing}
 use Rattle.jm_commands.specs.Run.{ImageLinkComesTo, LinkComesFrom, LinkComesTo, PathLinkComesTo, PutDoes, ShowsLinked, StandAll, StepComesTo, StepDoes, outcome_of}
 use Rattle.jm_commands.specs.Sinks.{Seen}
 use Rattle.jm_commands.specs.Stops.{stop_of_link}
@@ -41,7 +42,7 @@ pub never_done : (given : Complaint) (text : List ℕ) → done text ≡ outcome
 never_done given text is = complains_undone given (ap (λ o. o.status) is)
 
 -- of a link that comes to one of these results, or finds a listed file missing, from what is due then
-module _ (link : Link) (Comes : Result LinkedImage Refusal → Type 0) (Absent : Type 0) (Due : Outcome → Type 0) (old new : World) (input : new.input ≡ old.input) (as_due : (result : Result LinkedImage Refusal) → Comes result → Due (link_outcome link result)) (as_absent : (listed : List ℕ) → Absent → Due (not_there listed)) where
+module _ (text : Summary → List ℕ) (link : LinkTask) (Comes : Result LinkedImage Refusal → Type 0) (Absent : Type 0) (Due : Outcome → Type 0) (old new : World) (input : new.input ≡ old.input) (as_due : (result : Result LinkedImage Refusal) → Comes result → Due (link_outcome text link result)) (as_absent : (listed : List ℕ) → Absent → Due (not_there listed)) where
   abbrev Does : Result (Unit {0}) Stop → Type 0
   Does answer = StepComesTo Due reading answer old new
 
@@ -49,12 +50,12 @@ module _ (link : Link) (Comes : Result LinkedImage Refusal → Type 0) (Absent :
   source = ap (λ (s : Seen (List ℕ)). s.told) input
 
   -- the image was written, and then the text was put
-  pub put_linked : (summary : Summary) (answer : Result (Unit {0}) Stop) → LinksBy Comes Absent link.output (Ok summary) old.shelf new.shelf → PutDoes (done (link.text summary)) answer old.out new.out → Does answer
+  pub put_linked : (summary : Summary) (answer : Result (Unit {0}) Stop) → LinksBy Comes Absent link.output (Ok summary) old.shelf new.shelf → PutDoes (done (text summary)) answer old.out new.out → Does answer
   put_linked summary answer (image, comes, is, stands) put =
-      inr (due, as_due (Ok image) comes, go answer (subst (λ (s : Summary). PutDoes (done (link.text s)) answer old.out new.out) is put))
+      inr (due, as_due (Ok image) comes, go answer (subst (λ (s : Summary). PutDoes (done (text s)) answer old.out new.out) is put))
     where
       due : Outcome
-      due = linked link image
+      due = linked text link image
 
       all : StandAll due.writes old.shelf new.shelf
       all = record { made = stands.holds; whole = λ some. stands.whole }
@@ -62,7 +63,7 @@ module _ (link : Link) (Comes : Result LinkedImage Refusal → Type 0) (Absent :
       part : MadePart due.writes old.shelf.told new.shelf.told
       part = part_of_all due.writes old.shelf.told new.shelf.told stands.holds
 
-      go : (answer : Result (Unit {0}) Stop) → PutDoes (done (link.text (summary_of image))) answer old.out new.out → StepDoes due answer old new
+      go : (answer : Result (Unit {0}) Stop) → PutDoes (done (text (summary_of image))) answer old.out new.out → StepDoes due answer old new
       go (Ok _) put = record {
         answers = (refl, refl);
         output = put.output;
@@ -72,7 +73,7 @@ module _ (link : Link) (Comes : Result LinkedImage Refusal → Type 0) (Absent :
         outside = λ failed. cc;
         none_rose = λ ok. record { shelf = stands.kept; input = ap (λ (s : Seen (List ℕ)). s.faults) input; out = put.kept ok };
       }
-      go (Err (stop.Complaint given)) put = absurd (never_done given (link.text (summary_of image)) put.answers)
+      go (Err (stop.Complaint given)) put = absurd (never_done given (text (summary_of image)) put.answers)
       go (Err stop.Outside) put = record { answers = tt; output = put.output; files = part; files_first = inl all; source = source; outside = λ failed. inr (put.outside failed); none_rose = λ ok. cc }
       go (Err stop.Memory) put = record { answers = tt; output = put.output; files = part; files_first = inl all; source = source; outside = λ failed. cc; none_rose = λ ok. cc }
 
@@ -87,11 +88,11 @@ module _ (link : Link) (Comes : Result LinkedImage Refusal → Type 0) (Absent :
       broken : BreaksOff Comes link.output old.shelf new.shelf → Does (Err stop.Outside)
       broken (inl files) = inl (record { failed = tt; files = stays_part [] old.shelf.told new.shelf.told files; source = source; output = unput; outside = λ failed. (refl, rose) })
       broken (inr (image, comes, part)) = inr (
-        linked link image,
+        linked text link image,
         as_due (Ok image) comes,
         record {
           answers = tt;
-          output = front_of_nothing (linked link image).output old.out new.out unput;
+          output = front_of_nothing (linked text link image).output old.out new.out unput;
           files = part_alone old.shelf.told new.shelf.told link.output image.bytes part;
           files_first = inr unput;
           source = source;
@@ -104,11 +105,11 @@ module _ (link : Link) (Comes : Result LinkedImage Refusal → Type 0) (Absent :
       broken : BreaksOff Comes link.output old.shelf new.shelf → Does (Err stop.Memory)
       broken (inl files) = inl (record { failed = tt; files = stays_part [] old.shelf.told new.shelf.told files; source = source; output = unput; outside = λ failed. cc })
       broken (inr (image, comes, part)) = inr (
-        linked link image,
+        linked text link image,
         as_due (Ok image) comes,
         record {
           answers = tt;
-          output = front_of_nothing (linked link image).output old.out new.out unput;
+          output = front_of_nothing (linked text link image).output old.out new.out unput;
           files = part_alone old.shelf.told new.shelf.told link.output image.bytes part;
           files_first = inr unput;
           source = source;
@@ -119,32 +120,32 @@ module _ (link : Link) (Comes : Result LinkedImage Refusal → Type 0) (Absent :
 
 -- From a module path
 
-module _ (link : Link) (old new : World) (input : new.input ≡ old.input) where
-  path_due : (result : Result LinkedImage Refusal) → ComesTo old.shelf.told link.directories link.asked result → PathLinkComesTo old.shelf.told link (link_outcome link result)
-  path_due result comes = inl (result, comes, comes_shown old.shelf.told link.directories link.asked result comes, refl)
+module _ (text : Summary → List ℕ) (link : LinkTask) (old new : World) (input : new.input ≡ old.input) where
+  path_due : (result : Result LinkedImage Refusal) → ComesTo old.shelf.told link.dirs (request_of link) result → PathLinkComesTo text old.shelf.told link (link_outcome text link result)
+  path_due result comes = inl (result, comes, comes_shown old.shelf.told link.dirs (request_of link) result comes, refl)
 
-  path_absent : (listed : List ℕ) → TellsNothing old.shelf.told → PathLinkComesTo old.shelf.told link (not_there listed)
+  path_absent : (listed : List ℕ) → TellsNothing old.shelf.told → PathLinkComesTo text old.shelf.told link (not_there listed)
   path_absent listed none = inr (listed, none, refl)
 
-  pub link_put : (summary : Summary) (answer : Result (Unit {0}) Stop) → Links link.directories link.asked link.output (Ok summary) old.shelf new.shelf → PutDoes (done (link.text summary)) answer old.out new.out → StepComesTo (PathLinkComesTo old.shelf.told link) reading answer old new
-  link_put = put_linked link (ComesTo old.shelf.told link.directories link.asked) (TellsNothing old.shelf.told) (PathLinkComesTo old.shelf.told link) old new input path_due path_absent
+  pub link_put : (summary : Summary) (answer : Result (Unit {0}) Stop) → Links link.dirs (request_of link) link.output (Ok summary) old.shelf new.shelf → PutDoes (done (text summary)) answer old.out new.out → StepComesTo (PathLinkComesTo text old.shelf.told link) reading answer old new
+  link_put = put_linked text link (ComesTo old.shelf.told link.dirs (request_of link)) (TellsNothing old.shelf.told) (PathLinkComesTo text old.shelf.told link) old new input path_due path_absent
 
-  pub link_stopped : (given : LinkStop) → Links link.directories link.asked link.output (Err given) old.shelf new.shelf → new.out.told ≡ old.out.told → StepComesTo (PathLinkComesTo old.shelf.told link) reading (Err (stop_of_link given)) old new
-  link_stopped = stopped_linked link (ComesTo old.shelf.told link.directories link.asked) (TellsNothing old.shelf.told) (PathLinkComesTo old.shelf.told link) old new input path_due path_absent
+  pub link_stopped : (given : LinkStop) → Links link.dirs (request_of link) link.output (Err given) old.shelf new.shelf → new.out.told ≡ old.out.told → StepComesTo (PathLinkComesTo text old.shelf.told link) reading (Err (stop_of_link given)) old new
+  link_stopped = stopped_linked text link (ComesTo old.shelf.told link.dirs (request_of link)) (TellsNothing old.shelf.told) (PathLinkComesTo text old.shelf.told link) old new input path_due path_absent
 
 -- From an image
 
-module _ (link : Link) (b : List ℕ) (old new : World) (input : new.input ≡ old.input) where
-  image_due : (result : Result LinkedImage Refusal) → ImageComesTo b link.asked result → ImageLinkComesTo link b (link_outcome link result)
-  image_due result comes = (result, comes, linked_shown link.asked.order result comes.1, refl)
+module _ (text : Summary → List ℕ) (link : LinkTask) (b : List ℕ) (old new : World) (input : new.input ≡ old.input) where
+  image_due : (result : Result LinkedImage Refusal) → ImageComesTo b (request_of link) result → ImageLinkComesTo text link b (link_outcome text link result)
+  image_due result comes = (result, comes, linked_shown link.order result comes.1, refl)
 
-  pub image_put : (summary : Summary) (answer : Result (Unit {0}) Stop) → ImageLinks b link.asked link.output (Ok summary) old.shelf new.shelf → PutDoes (done (link.text summary)) answer old.out new.out → StepComesTo (ImageLinkComesTo link b) reading answer old new
-  image_put = put_linked link (ImageComesTo b link.asked) ⊥ (ImageLinkComesTo link b) old new input image_due (λ listed never. absurd never)
+  pub image_put : (summary : Summary) (answer : Result (Unit {0}) Stop) → ImageLinks b (request_of link) link.output (Ok summary) old.shelf new.shelf → PutDoes (done (text summary)) answer old.out new.out → StepComesTo (ImageLinkComesTo text link b) reading answer old new
+  image_put = put_linked text link (ImageComesTo b (request_of link)) ⊥ (ImageLinkComesTo text link b) old new input image_due (λ listed never. absurd never)
 
-  pub image_stopped : (given : LinkStop) → ImageLinks b link.asked link.output (Err given) old.shelf new.shelf → new.out.told ≡ old.out.told → StepComesTo (ImageLinkComesTo link b) reading (Err (stop_of_link given)) old new
-  image_stopped = stopped_linked link (ImageComesTo b link.asked) ⊥ (ImageLinkComesTo link b) old new input image_due (λ listed never. absurd never)
+  pub image_stopped : (given : LinkStop) → ImageLinks b (request_of link) link.output (Err given) old.shelf new.shelf → new.out.told ≡ old.out.told → StepComesTo (ImageLinkComesTo text link b) reading (Err (stop_of_link given)) old new
+  image_stopped = stopped_linked text link (ImageComesTo b (request_of link)) ⊥ (ImageLinkComesTo text link b) old new input image_due (λ listed never. absurd never)
 
 -- by where the modules are
-pub link_comes : (told : Option Files) (link : Link) (image : Option (List ℕ)) (answer : Result (Unit {0}) Stop) (old new : World) → link.image ≡ image → StepComesTo (LinkComesFrom told link image) reading answer old new → StepComesTo (LinkComesTo told link) reading answer old new
-link_comes told link image answer old new is step =
-    subst (λ (o : Option (List ℕ)). StepComesTo (LinkComesFrom told link o) reading answer old new) (sym is) step
+pub link_comes : (text : Summary → List ℕ) (told : Option Files) (link : LinkTask) (image : Option (List ℕ)) (answer : Result (Unit {0}) Stop) (old new : World) → link.from_image ≡ image → StepComesTo (LinkComesFrom text told link image) reading answer old new → StepComesTo (LinkComesTo text told link) reading answer old new
+link_comes text told link image answer old new is step =
+    subst (λ (o : Option (List ℕ)). StepComesTo (LinkComesFrom text told link o) reading answer old new) (sym is) step

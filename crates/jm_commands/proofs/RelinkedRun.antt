@@ -1,5 +1,5 @@
 -- A run that relinks an image gives it back.
-use Rattle.std.proofs.Common.{◌≡◌, inl, inr, ℕ, List, [], ◌∷◌, Option, Some, None, Result, Ok, Err, sym, ap, subst, ◌∙◌}
+use Rattle.std.proofs.Common.{◌≡◌, inl, inr, ℕ, List, [], ◌∷◌, Option, Some, Result, Ok, Err, sym, ap, subst, ◌∙◌}
 use Rattle.jm_outside.specs.Made.{MadeAll}
 use Rattle.jm_form.specs.Damages.{first_damage}
 use Rattle.jm_form.specs.Validity.{Valid}
@@ -7,15 +7,20 @@ use Rattle.jm_form.proofs.Validity.{valid_sound}
 use Rattle.jm_texts.specs.declared.refusal.Refusal.{Refusal}
 use Rattle.jm_link.specs.ImageLinked.{ImageComesTo}
 use Rattle.jm_link.specs.Linked.{LinkedImage}
+use Rattle.jm_link.specs.Links.{request_of}
 use Rattle.jm_link.proofs.GivenBack.{laid, never_refused, same_bytes}
 use Rattle.jm_outside.specs.Files.{Files, file as read}
 use Rattle.jm_outside.specs.Outcome.{Shows}
-use Rattle.jm_words.specs.declared.commands.Command.{Command}
 use Rattle.jm_words.specs.declared.errors.WordsError.{WordsError}
+use Rattle.jm_words.specs.declared.tasks.Command.{Command}
+use Rattle.jm_words.specs.declared.tasks.LinkTask.{LinkTask}
+use Rattle.jm_words.specs.declared.tasks.Task.{Task}
+use Rattle.jm_words.specs.declared.tasks.Task.TheVariants as task
 use Rattle.jm_commands.specs.declared.status.Status.{Status}
 use Rattle.jm_commands.specs.declared.status.Status.TheVariants as status
-use Rattle.jm_commands.specs.Outcome.{Early, Link, Outcome, Task, Links, link_of, link_outcome, task_of}
-use Rattle.jm_commands.specs.RelinkedRun.{IsRelinked, RelinksFile, RelinksRun, link_in}
+use Rattle.jm_commands.specs.LinkText.{link_text}
+use Rattle.jm_commands.specs.Outcome.{Early, Outcome, link_outcome}
+use Rattle.jm_commands.specs.RelinkedRun.{IsRelinked, RelinksFile, RelinksRun, RelinksTask}
 use Rattle.jm_commands.specs.Run.{EndsWith, FoundComesTo, HasFile, ImageComes, ImageLinkComesTo, IsFailed, LinkComesFrom, LinkComesTo, OpenedComesTo, RunComesTo, RunDoes, TaskComesTo, WordsComeTo}
 use Rattle.jm_commands.specs.Sinks.{Seen}
 use Rattle.jm_commands.specs.World.{World}
@@ -24,7 +29,7 @@ failed_free : (output b : List ℕ) (is : Status) (old new : Option Files) → I
 failed_free output b is old new (inl same) = subst (λ s. IsRelinked output b s old new) (sym same) tt
 failed_free output b is old new (inr same) = subst (λ s. IsRelinked output b s old new) (sym same) tt
 
-module _ (link : Link) (b : List ℕ) where
+module _ (link : LinkTask) (b : List ℕ) where
   -- an outcome that makes these bytes ends so
   ends_so : (due : Outcome) (is : Status) (old new : World) (err new_err : Seen (List ℕ)) → due.status ≡ status.Done → due.writes ≡ (link.output, b) ∷ [] → EndsWith due is old new err new_err → IsRelinked link.output b is old.shelf.told new.shelf.told
   ends_so due status.Done old new err new_err done writes ends = subst (λ ws. MadeAll ws old.shelf.told new.shelf.told) writes ends.1.files
@@ -53,19 +58,19 @@ module _ (link : Link) (b : List ℕ) where
 
   module _ (told : Option Files) (file : RelinksFile link told b) (due : Outcome) where
     -- what is due makes these bytes
-    by_result : (result : Result LinkedImage Refusal) → ImageComesTo b link.asked result → due ≡ link_outcome link result → (due.status ≡ status.Done) × (due.writes ≡ (link.output, b) ∷ [])
+    by_result : (result : Result LinkedImage Refusal) → ImageComesTo b (request_of link) result → due ≡ link_outcome link_text link result → (due.status ≡ status.Done) × (due.writes ≡ (link.output, b) ∷ [])
     by_result (Ok image) comes is =
-        let same = same_bytes b link.asked file.relinks image comes.0 in
+        let same = same_bytes b (request_of link) file.relinks image comes.0 in
         (ap (λ (d : Outcome). d.status) is, ap (λ (d : Outcome). d.writes) is ∙ ap (λ x. (link.output, x) ∷ []) same)
-    by_result (Err refusal) comes is = absurd (never_refused b link.asked file.relinks refusal comes.0)
+    by_result (Err refusal) comes is = absurd (never_refused b (request_of link) file.relinks refusal comes.0)
 
     valid : Valid b
-    valid = subst Valid (sym file.relinks.made) (laid b link.asked file.relinks).valid
+    valid = subst Valid (sym file.relinks.made) (laid b (request_of link) file.relinks).valid
 
-    opened : OpenedComesTo (ImageLinkComesTo link b) (first_damage b) due → (due.status ≡ status.Done) × (due.writes ≡ (link.output, b) ∷ [])
-    opened comes = go (subst (λ d. OpenedComesTo (ImageLinkComesTo link b) d due) (valid_sound b valid) comes)
+    opened : OpenedComesTo (ImageLinkComesTo link_text link b) (first_damage b) due → (due.status ≡ status.Done) × (due.writes ≡ (link.output, b) ∷ [])
+    opened comes = go (subst (λ d. OpenedComesTo (ImageLinkComesTo link_text link b) d due) (valid_sound b valid) comes)
       where
-        go : ImageLinkComesTo link b due → (due.status ≡ status.Done) × (due.writes ≡ (link.output, b) ∷ [])
+        go : ImageLinkComesTo link_text link b due → (due.status ≡ status.Done) × (due.writes ≡ (link.output, b) ∷ [])
         go (result, links, shows, is) = by_result result links is
 
     found_is : (found : Option (List ℕ)) → HasFile told file.path found → found ≡ Some b
@@ -74,27 +79,31 @@ module _ (link : Link) (b : List ℕ) where
         files_at : Files → Option (List ℕ)
         files_at files = read files file.path
 
-    by_image : ImageComes told file.path (ImageLinkComesTo link) due → (due.status ≡ status.Done) × (due.writes ≡ (link.output, b) ∷ [])
-    by_image (found, has, comes) = opened (subst (λ o. FoundComesTo (λ bytes. OpenedComesTo (ImageLinkComesTo link bytes) (first_damage bytes)) file.path o due) (found_is found has) comes)
+    by_image : ImageComes told file.path (ImageLinkComesTo link_text link) due → (due.status ≡ status.Done) × (due.writes ≡ (link.output, b) ∷ [])
+    by_image (found, has, comes) = opened (subst (λ o. FoundComesTo (λ bytes. OpenedComesTo (ImageLinkComesTo link_text link bytes) (first_damage bytes)) file.path o due) (found_is found has) comes)
 
-    by_link : LinkComesTo told link due → (due.status ≡ status.Done) × (due.writes ≡ (link.output, b) ∷ [])
-    by_link comes = by_image (subst (λ o. LinkComesFrom told link o due) file.image comes)
+    by_link : LinkComesTo link_text told link due → (due.status ≡ status.Done) × (due.writes ≡ (link.output, b) ∷ [])
+    by_link comes = by_image (subst (λ o. LinkComesFrom link_text told link o due) file.image comes)
 
 module _ (due : Outcome) (is : Status) (old new : World) (err new_err : Seen (List ℕ)) (does : RunDoes due is old new err new_err) where
-  by_task : (task : Task) → TaskComesTo old.shelf.told old.input.told task due → RelinksRun (link_of task) is old.shelf.told new.shelf.told
-  by_task (Links link) comes = λ b file.
+  by_task : (task : Task) → TaskComesTo old.shelf.told old.input.told task due → RelinksTask task is old.shelf.told new.shelf.told
+  by_task (task.Link link) comes = λ b file.
       let makes = by_link link b old.shelf.told file due comes in
       ends_so link b due is old new err new_err makes.0 makes.1 does.ends
   by_task _ comes = tt
 
-  by_words : (asked : Result Command WordsError) → WordsComeTo old.shelf.told old.input.told asked due → RelinksRun (link_in asked) is old.shelf.told new.shelf.told
-  by_words (Ok given) comes = by_task (task_of given) comes
+  by_words : (asked : Result Command WordsError) → WordsComeTo old.shelf.told old.input.told asked due → RelinksRun asked is old.shelf.told new.shelf.told
+  by_words (Ok given) comes = by_task given.task comes
   by_words (Err fault) comes = tt
 
-pub run_relinks : (asked : Result Command WordsError) (early : Early) (is : Status) (old new : World) (err new_err : Seen (List ℕ)) → RunComesTo (WordsComeTo old.shelf.told old.input.told asked) early is old new err new_err → RelinksRun (link_in asked) is old.shelf.told new.shelf.told
-run_relinks asked early is old new err new_err (inl stops) = go (link_in asked)
+pub run_relinks : (asked : Result Command WordsError) (early : Early) (is : Status) (old new : World) (err new_err : Seen (List ℕ)) → RunComesTo (WordsComeTo old.shelf.told old.input.told asked) early is old new err new_err → RelinksRun asked is old.shelf.told new.shelf.told
+run_relinks asked early is old new err new_err (inl stops) = go asked
   where
-    go : (link : Option Link) → RelinksRun link is old.shelf.told new.shelf.told
-    go None = tt
-    go (Some link) = λ b file. failed_free link.output b is old.shelf.told new.shelf.told stops.failed
+    by_task : (given : Task) → RelinksTask given is old.shelf.told new.shelf.told
+    by_task (task.Link link) = λ b file. failed_free link.output b is old.shelf.told new.shelf.told stops.failed
+    by_task _ = tt
+
+    go : (given : Result Command WordsError) → RelinksRun given is old.shelf.told new.shelf.told
+    go (Ok command) = by_task command.task
+    go (Err fault) = tt
 run_relinks asked early is old new err new_err (inr (due, comes, does)) = by_words due is old new err new_err does asked comes

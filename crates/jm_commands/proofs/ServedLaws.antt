@@ -10,19 +10,23 @@ use Rattle.jm_jrt.specs.Stat.{held, stat}
 use Rattle.jm_jrt.specs.Lines.{replies}
 use Rattle.jm_jrt.specs.Sessions.{answered_in}
 use Rattle.jm_texts.specs.declared.refusal.Refusal.{Refusal}
+use Rattle.jm_link.specs.declared.linking.Summary.{Summary}
 use Rattle.jm_link.specs.Linked.{LinkedImage}
 use Rattle.jm_outside.specs.Files.{Files}
 use Rattle.jm_outside.specs.Outcome.{PutsFront, Told}
-use Rattle.jm_words.specs.declared.commands.Command.{Command}
 use Rattle.jm_words.specs.declared.errors.WordsError.{WordsError}
+use Rattle.jm_words.specs.declared.tasks.Command.{Command}
+use Rattle.jm_words.specs.declared.tasks.ImageWork.{ImageWork}
+use Rattle.jm_words.specs.declared.tasks.ImageWork.TheVariants as work
+use Rattle.jm_words.specs.declared.tasks.LinkTask.{LinkTask}
+use Rattle.jm_words.specs.declared.tasks.Task.{Task}
+use Rattle.jm_words.specs.declared.tasks.Task.TheVariants as task
 use Rattle.jm_commands.specs.declared.complaint.Complaint.{Complaint}
-use Rattle.jm_commands.specs.declared.image_file.ImageTask.{ImageTask}
-use Rattle.jm_commands.specs.declared.image_file.ImageTask.TheVariants as image_task
 use Rattle.jm_commands.specs.declared.status.Status.{Status}
 use Rattle.jm_commands.specs.declared.status.Status.TheVariants as status
-use Rattle.jm_commands.specs.Gen.{made_first}
-use Rattle.jm_commands.specs.Outcome.{Early, Link, Outcome, gen_link, image_outcome, link_outcome, session_outcome, session_with, task_of}
-use Rattle.jm_commands.specs.Outcome.{Task, Puts, Describes, OnImage, Links, Makes}
+use Rattle.jm_commands.specs.Gen.{gen_link, made_first}
+use Rattle.jm_commands.specs.LinkText.{gen_text, link_text}
+use Rattle.jm_commands.specs.Outcome.{Early, Outcome, image_outcome, link_outcome, session_outcome, session_with}
 use Rattle.jm_commands.specs.Run.{EndsWith, HasFile, ImageLinkComesTo, LinkComesFrom, LinkComesTo, OpenedComesTo, RunComesTo, RunDoes, TaskComesTo, TextComesTo, WordsComeTo}
 use Rattle.jm_commands.specs.Served.{ServesRun, served, served_in}
 use Rattle.jm_commands.specs.SessionHeld.{EndsAs, NotBegun, SourceRead}
@@ -34,16 +38,16 @@ use Rattle.jm_commands.proofs.StepLaws.{not_begun}
 
 -- A session is due of `serve` alone
 
-image_session : (path : List ℕ) (task : ImageTask) (b text : List ℕ) → served (OnImage path task) ≡ None → (image_outcome task b text).session ≡ None
-image_session path (image_task.Cat name) b text none = cat_session name (look b name)
-image_session path (image_task.Ls folder) b text none = ls_session folder (held (stat b folder))
-image_session path (image_task.Extract dir include) b text none = extract_session dir (extracted b include)
-image_session path image_task.Serve b text none = cc
-image_session path _ b text none = refl
+image_session : (image : List ℕ) (does : ImageWork) (b text : List ℕ) → served (task.Image image does) ≡ None → (image_outcome does b text).session ≡ None
+image_session image (work.Cat name) b text none = cat_session name (look b name)
+image_session image (work.Ls folder) b text none = ls_session folder (held (stat b folder))
+image_session image (work.Extract dir include) b text none = extract_session dir (extracted b include)
+image_session image work.Serve b text none = cc
+image_session image _ b text none = refl
 
-link_session : (link : Link) (result : Result LinkedImage Refusal) → (link_outcome link result).session ≡ None
-link_session link (Ok image) = refl
-link_session link (Err refusal) = refl
+link_session : (text : Summary → List ℕ) (link : LinkTask) (result : Result LinkedImage Refusal) → (link_outcome text link result).session ≡ None
+link_session text link (Ok image) = refl
+link_session text link (Err refusal) = refl
 
 -- an image is opened, and what comes of it without a damage has no session
 opened_session : (Sound : Outcome → Type 0) (due : Outcome) → (Sound due → due.session ≡ None) → (damage : Option Damage) → OpenedComesTo Sound damage due → due.session ≡ None
@@ -51,26 +55,27 @@ opened_session Sound due alone None comes = alone comes
 opened_session Sound due alone (Some damage) is = ap (λ o. o.session) is
 
 -- what a link comes to
-linked_session : (told : Option Files) (link : Link) (due : Outcome) → LinkComesTo told link due → due.session ≡ None
-linked_session told link due comes = from link.image comes
+linked_session : (text : Summary → List ℕ) (told : Option Files) (link : LinkTask) (due : Outcome) → LinkComesTo text told link due → due.session ≡ None
+linked_session text told link due comes = from link.from_image comes
   where
-    from : (image : Option (List ℕ)) → LinkComesFrom told link image due → due.session ≡ None
-    from None (inl (result, comes, shows, is)) = ap (λ o. o.session) is ∙ link_session link result
+    from : (image : Option (List ℕ)) → LinkComesFrom text told link image due → due.session ≡ None
+    from None (inl (result, comes, shows, is)) = ap (λ o. o.session) is ∙ link_session text link result
     from None (inr (listed, never, is)) = ap (λ o. o.session) is
     from (Some path) (None, has, is) = ap (λ o. o.session) is
     from (Some path) (Some b, has, comes) =
-        opened_session (ImageLinkComesTo link b) due (λ (result, comes, shows, is). ap (λ o. o.session) is ∙ link_session link result) (first_damage b) comes
+        opened_session (ImageLinkComesTo text link b) due (λ (result, comes, shows, is). ap (λ o. o.session) is ∙ link_session text link result) (first_damage b) comes
 
-due_session : (told : Option Files) (rest : Option (List ℕ)) (task : Task) (due : Outcome) → served task ≡ None → TaskComesTo told rest task due → due.session ≡ None
-due_session told rest (Puts text) due none is = ap (λ o. o.session) is
-due_session told rest (Describes path) due none (None, has, is) = ap (λ o. o.session) is
-due_session told rest (Describes path) due none (Some b, has, is) = ap (λ o. o.session) is ∙ describe_session path b
-due_session told rest (OnImage path task) due none (None, has, is) = ap (λ o. o.session) is
-due_session told rest (OnImage path task) due none (Some b, has, comes) =
-    opened_session (TextComesTo rest (image_outcome task b)) due (λ (text, told_text, is). ap (λ o. o.session) is ∙ image_session path task b text none) (first_damage b) comes
-due_session told rest (Links link) due none comes = linked_session told link due comes
-due_session told rest (Makes gen) due none (linked, comes, is) =
-    ap (λ o. o.session) is ∙ linked_session (option_map (λ files. written files (made_first gen)) told) (gen_link gen) linked comes
+due_session : (told : Option Files) (rest : Option (List ℕ)) (given : Task) (due : Outcome) → served given ≡ None → TaskComesTo told rest given due → due.session ≡ None
+due_session told rest task.Help due none is = ap (λ o. o.session) is
+due_session told rest task.Version due none is = ap (λ o. o.session) is
+due_session told rest (task.Describe file) due none (None, has, is) = ap (λ o. o.session) is
+due_session told rest (task.Describe file) due none (Some b, has, is) = ap (λ o. o.session) is ∙ describe_session file b
+due_session told rest (task.Image image does) due none (None, has, is) = ap (λ o. o.session) is
+due_session told rest (task.Image image does) due none (Some b, has, comes) =
+    opened_session (TextComesTo rest (image_outcome does b)) due (λ (text, told_text, is). ap (λ o. o.session) is ∙ image_session image does b text none) (first_damage b) comes
+due_session told rest (task.Link link) due none comes = linked_session link_text told link due comes
+due_session told rest (task.Gen gen) due none (linked, comes, is) =
+    ap (λ o. o.session) is ∙ linked_session gen_text (option_map (λ files. written files (made_first gen)) told) (gen_link gen) linked comes
 
 -- Nothing was put
 
@@ -107,8 +112,8 @@ module _ (due : Outcome) (old new : World) (err new_err : Seen (List ℕ)) (noth
 
 -- The run
 
-serve_of : (task : Task) (image : List ℕ) → served task ≡ Some image → task ≡ OnImage image image_task.Serve
-serve_of (OnImage path image_task.Serve) image is = ap (λ (p : List ℕ). OnImage p image_task.Serve) (same_some path image is)
+serve_of : (given : Task) (image : List ℕ) → served given ≡ Some image → given ≡ task.Image image work.Serve
+serve_of (task.Image path work.Serve) image is = ap (λ (p : List ℕ). task.Image p work.Serve) (same_some path image is)
 serve_of _ image is = cc
 
 session_is : (b output : List ℕ) (fault : Option Complaint) → (session_with b output fault).session ≡ Some b
@@ -126,17 +131,17 @@ module _ (due : Outcome) (is : Status) (old new : World) (err new_err : Seen (Li
   by_damage image b has (Some damage) found same = inl (unbegun (ap (λ o. o.session) same) (ap (λ o. o.output) same))
   by_damage image b has None sound (text, told_text, same) = inr (b, has, sound, subst (λ (o : Option (List ℕ)). SourceRead o (EndsAs is err new_err) old new) (ap (λ o. o.session) same ∙ session_is b (replies b (answered_in text)) _) does.source)
 
-  by_image : (image : List ℕ) → TaskComesTo old.shelf.told old.input.told (OnImage image image_task.Serve) due → ServesRun (Some image) is old new err new_err
+  by_image : (image : List ℕ) → TaskComesTo old.shelf.told old.input.told (task.Image image work.Serve) due → ServesRun (Some image) is old new err new_err
   by_image image (None, has, same) = inl (unbegun (ap (λ o. o.session) same) (ap (λ o. o.output) same))
   by_image image (Some b, has, comes) = by_damage image b has (first_damage b) refl comes
 
-  by_task : (task : Task) (session : Option (List ℕ)) → served task ≡ session → TaskComesTo old.shelf.told old.input.told task due → ServesRun session is old new err new_err
-  by_task task None none comes = unread (due_session old.shelf.told old.input.told task due none comes)
-  by_task task (Some image) serves comes =
-      by_image image (subst (λ (t : Task). TaskComesTo old.shelf.told old.input.told t due) (serve_of task image serves) comes)
+  by_task : (given : Task) (session : Option (List ℕ)) → served given ≡ session → TaskComesTo old.shelf.told old.input.told given due → ServesRun session is old new err new_err
+  by_task given None none comes = unread (due_session old.shelf.told old.input.told given due none comes)
+  by_task given (Some image) serves comes =
+      by_image image (subst (λ (t : Task). TaskComesTo old.shelf.told old.input.told t due) (serve_of given image serves) comes)
 
   by_words : (asked : Result Command WordsError) → WordsComeTo old.shelf.told old.input.told asked due → ServesRun (served_in asked) is old new err new_err
-  by_words (Ok given) comes = by_task (task_of given) (served (task_of given)) refl comes
+  by_words (Ok given) comes = by_task given.task (served given.task) refl comes
   by_words (Err fault) comes = unread (ap (λ o. o.session) comes)
 
 pub run_serves : (asked : Result Command WordsError) (early : Early) (is : Status) (old new : World) (err new_err : Seen (List ℕ)) → RunComesTo (WordsComeTo old.shelf.told old.input.told asked) early is old new err new_err → ServesRun (served_in asked) is old new err new_err

@@ -1,5 +1,5 @@
 -- What a step does, from what its calls answered.
-use Rattle.std.proofs.Common.{◌≡◌, ℕ, true, false, List, [], Option, Some, None, is_some, Result, Ok, Err, IsOk, IsTrue, ◌≢◌, inl, inr, refl, sym, ap, ◌∙◌, subst, IsErrAnd}
+use Rattle.std.proofs.Common.{◌≡◌, ℕ, true, false, List, [], Option, Some, None, is_some, Result, Ok, Err, IsOk, inl, inr, refl, sym, ap, ◌∙◌, subst, IsErrAnd}
 use Rattle.jm_outside.specs.Made.{MadeAll, MadePart, Writes}
 use Rattle.jm_form.specs.declared.rows.Row.{Row}
 use Rattle.jm_form.specs.Damages.{first_damage}
@@ -9,7 +9,7 @@ use Rattle.jm_names.specs.UtfForms.{utf}
 use Rattle.jm_outside.specs.Files.{Files}
 use Rattle.jm_outside.specs.Outcome.{Rose, Shows, Told}
 use Rattle.jm_outside.specs.Shelves.{ShelfFailed, ShelfSeen}
-use Rattle.jm_words.specs.declared.commands.Command.{Command}
+use Rattle.jm_words.specs.declared.tasks.Command.{Command}
 use Rattle.jm_words.specs.declared.errors.WordsError.{WordsError}
 use Rattle.jm_words.specs.declared.errors.WordsError.TheVariants as error
 use Rattle.jm_bytes.specs.Results.{UnlessMemory}
@@ -23,8 +23,8 @@ use Rattle.jm_outside.specs.declared.streams.SinkError.{SinkError}
 use Rattle.jm_outside.specs.declared.streams.SinkError.TheVariants as sink_error
 use Rattle.jm_commands.specs.Cat.{content_of}
 use Rattle.jm_commands.specs.FailedBefore.{FailedEarly, WorkFailed}
-use Rattle.jm_commands.specs.Outcome.{Early, Outcome, cat_outcome, damaged, done, early_in, early_of, faulty, not_there, reading, task_of, without_files}
-use Rattle.jm_commands.specs.Run.{CommandComesTo, FileComesTo, FilesFirst, FilesMade, IsFailure, OpenedComesTo, Opens, PutDoes, ReadsFile, StandAll, StepComesTo, StepDoes, StepOnText, WordsComeTo, outcome_of, status_of}
+use Rattle.jm_commands.specs.Outcome.{Early, Outcome, cat_outcome, damaged, done, early_in, early_of, faulty, not_there, reading, without_files}
+use Rattle.jm_commands.specs.Run.{FileComesTo, FilesFirst, FilesMade, IsFailure, OpenedComesTo, Opens, PutDoes, ReadsFile, StandAll, StepComesTo, StepDoes, StepOnText, TaskComesTo, WordsComeTo, outcome_of, status_of}
 use Rattle.jm_commands.specs.SessionHeld.{EndedBy, NotBegun, SourceRead}
 use Rattle.jm_commands.specs.Sinks.{Failed, Gets, GetsFront, Seen}
 use Rattle.jm_commands.specs.Stops.{stop_of_sink, stop_of_words}
@@ -299,7 +299,7 @@ file_unread Bytes path stop.Memory old new read unmoved rose = fails_at_once (Fi
 -- All words
 
 -- words that were read to a command
-pub words_read : (asked : Result Command WordsError) (given : Command) (answer : Result (Unit {0}) Stop) (old new : World) → UnlessMemory error.Memory (Ok given) asked → StepComesTo (CommandComesTo old.shelf.told old.input.told given) (early_of (task_of given)) answer old new → StepComesTo (WordsComeTo old.shelf.told old.input.told asked) (early_in asked) answer old new
+pub words_read : (asked : Result Command WordsError) (given : Command) (answer : Result (Unit {0}) Stop) (old new : World) → UnlessMemory error.Memory (Ok given) asked → StepComesTo (TaskComesTo old.shelf.told old.input.told given.task) (early_of given.task) answer old new → StepComesTo (WordsComeTo old.shelf.told old.input.told asked) (early_in asked) answer old new
 words_read asked given answer old new (inl memory) step = cc
 words_read asked given answer old new (inr read) step =
     subst (λ (a : Result Command WordsError). StepComesTo (WordsComeTo old.shelf.told old.input.told a) (early_in a) answer old new) read step

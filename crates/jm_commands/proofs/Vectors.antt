@@ -1,20 +1,20 @@
 -- What commands come to on small images, computed from the definitions.
-use Rattle.std.proofs.Common.{◌≡◌, ◌⊎◌, inl, inr, ℕ, List, [], ◌∷◌, ◌++◌, take, map, Option, Some, None, option_map, Result, Ok, Err, refl}
+use Rattle.std.proofs.Common.{◌≡◌, ◌⊎◌, inl, inr, ℕ, List, [], ◌∷◌, ◌++◌, take, map, Option, Some, None, Result, Ok, Err, refl}
 use Rattle.std.specs.Prelude.{codes}
 use Rattle.std.specs.Fmt.{digits}
 use Rattle.jm_form.proofs.Vectors.{no_entries, overlapping, tiny}
 use Rattle.jm_jrt.proofs.Vectors.{bad_node}
 use Rattle.jm_jrt.specs.declared.serve_error.ServeError.{ServeError}
 use Rattle.jm_jrt.specs.declared.serve_error.ServeError.TheVariants as serve_error
-use Rattle.jm_words.specs.declared.commands.Command.TheVariants as command
+use Rattle.jm_words.specs.declared.tasks.ImageWork.TheVariants as work
+use Rattle.jm_words.specs.declared.tasks.Task.TheVariants as task
 use Rattle.jm_commands.specs.declared.complaint.Complaint.TheVariants as complaint
 use Rattle.jm_commands.specs.declared.status.Status.TheVariants as status
-use Rattle.jm_commands.specs.declared.image_file.ImageTask.TheVariants as image_task
 use Rattle.jm_commands.specs.FailedBefore.{FailedBefore, FailedEarly}
-use Rattle.jm_commands.specs.Gen.{gen_request}
+use Rattle.jm_commands.specs.Gen.{gen_link}
 use Rattle.jm_commands.specs.HelpText.{version_text}
-use Rattle.jm_commands.specs.Outcome.{done, early_in, early_of, gen_of, image_outcome, refused, session_with, task_of}
-use Rattle.jm_commands.specs.Run.{CommandComesTo}
+use Rattle.jm_commands.specs.Outcome.{done, early_in, early_of, image_outcome, refused, session_with}
+use Rattle.jm_commands.specs.Run.{TaskComesTo}
 use Rattle.jm_commands.specs.SessionHeld.{EndedBy, EndsAs, EndsBroken, Held}
 use Rattle.jm_commands.specs.Sinks.{Failed, Seen}
 use Rattle.jm_commands.specs.World.{World}
@@ -28,67 +28,67 @@ shelf b = Some ((codes "img", b) ∷ [])
 
 -- `cat`
 
-content : CommandComesTo (shelf tiny) None (command.Cat (codes "img") (codes "/m/a") 1) (done (codes "hi"))
+content : TaskComesTo (shelf tiny) None (task.Image (codes "img") (work.Cat (codes "/m/a"))) (done (codes "hi"))
 content = (Some tiny, refl, ([], tt, refl))
 
-no_entry : CommandComesTo (shelf tiny) None (command.Cat (codes "img") (codes "/m/b") 1) (refused status.NotThere (codes "not there: /m/b"))
+no_entry : TaskComesTo (shelf tiny) None (task.Image (codes "img") (work.Cat (codes "/m/b"))) (refused status.NotThere (codes "not there: /m/b"))
 no_entry = (Some tiny, refl, ([], tt, refl))
 
-no_file : CommandComesTo (Some []) None (command.Cat (codes "img") (codes "/m/b") 1) (refused status.NotThere (codes "not there: img"))
+no_file : TaskComesTo (Some []) None (task.Image (codes "img") (work.Cat (codes "/m/b"))) (refused status.NotThere (codes "not there: img"))
 no_file = (None, refl, refl)
 
-cut_short : CommandComesTo (shelf (take 54 tiny)) None (command.Cat (codes "img") (codes "/m/a") 64) (refused status.Damaged (codes "damaged: Header Sizes"))
+cut_short : TaskComesTo (shelf (take 54 tiny)) None (task.Image (codes "img") (work.Cat (codes "/m/a"))) (refused status.Damaged (codes "damaged: Header Sizes"))
 cut_short = (Some (take 54 tiny), refl, refl)
 
 -- a name is said in UTF-8: U+1F600 is stored as two surrogates
-no_entry_above_ffff : image_outcome (image_task.Cat (0xED ∷ 0xA0 ∷ 0xBD ∷ 0xED ∷ 0xB8 ∷ 0x80 ∷ [])) tiny [] ≡ refused status.NotThere (codes "not there: " ++ 0xF0 ∷ 0x9F ∷ 0x98 ∷ 0x80 ∷ [])
+no_entry_above_ffff : image_outcome (work.Cat (0xED ∷ 0xA0 ∷ 0xBD ∷ 0xED ∷ 0xB8 ∷ 0x80 ∷ [])) tiny [] ≡ refused status.NotThere (codes "not there: " ++ 0xF0 ∷ 0x9F ∷ 0x98 ∷ 0x80 ∷ [])
 no_entry_above_ffff = refl
 
 -- `verify` and `info`
 
-one_entry : image_outcome image_task.Verify tiny [] ≡ done (codes "valid 1\n")
+one_entry : image_outcome work.Verify tiny [] ≡ done (codes "valid 1\n")
 unfolding digits
 one_entry = refl
 
-no_entry_at_all : image_outcome image_task.Verify no_entries [] ≡ done (codes "valid 0\n")
+no_entry_at_all : image_outcome work.Verify no_entries [] ≡ done (codes "valid 0\n")
 unfolding digits
 no_entry_at_all = refl
 
-overlap : CommandComesTo (shelf overlapping) None (command.Verify (codes "img") 1) (refused status.Damaged (codes "damaged: Overlap 0 1"))
+overlap : TaskComesTo (shelf overlapping) None (task.Image (codes "img") work.Verify) (refused status.Damaged (codes "damaged: Overlap 0 1"))
 unfolding digits
 overlap = (Some overlapping, refl, refl)
 
-header : image_outcome image_task.Info tiny [] ≡ done (codes "order little\nversion 1.0\nflags 0\nentries 1\nslots 1\nlocations 8\nstrings 11\nindex 55\ncontents 2\n")
+header : image_outcome work.Info tiny [] ≡ done (codes "order little\nversion 1.0\nflags 0\nentries 1\nslots 1\nlocations 8\nstrings 11\nindex 55\ncontents 2\n")
 unfolding digits
 header = refl
 
 -- `ls`
 
-the_roots : image_outcome (image_task.Ls (codes "/")) bad_node [] ≡ done (codes "/packages\n")
+the_roots : image_outcome (work.Ls (codes "/")) bad_node [] ≡ done (codes "/packages\n")
 the_roots = refl
 
-no_path : image_outcome (image_task.Ls (codes "/m/a")) tiny [] ≡ refused status.NotThere (codes "not there: /m/a")
+no_path : image_outcome (work.Ls (codes "/m/a")) tiny [] ≡ refused status.NotThere (codes "not there: /m/a")
 no_path = refl
 
-bad_folder : image_outcome (image_task.Ls (codes "/packages")) bad_node [] ≡ refused status.Damaged (codes "damaged: BadNode 0")
+bad_folder : image_outcome (work.Ls (codes "/packages")) bad_node [] ≡ refused status.Damaged (codes "damaged: BadNode 0")
 unfolding digits
 bad_folder = refl
 
-no_folder : image_outcome (image_task.Ls (codes "/modules/m/a")) tiny [] ≡ refused status.Refused (codes "refused: NotFolder")
+no_folder : image_outcome (work.Ls (codes "/modules/m/a")) tiny [] ≡ refused status.Refused (codes "refused: NotFolder")
 no_folder = refl
 
 -- `serve`
 
-two_lines : (image_outcome image_task.Serve tiny (codes "find /m/a\nwhat")).output ≡ codes "found 2\nhi\nerror Request\n"
+two_lines : (image_outcome work.Serve tiny (codes "find /m/a\nwhat")).output ≡ codes "found 2\nhi\nerror Request\n"
 unfolding digits
 two_lines = refl
 
-all_answered : (image_outcome image_task.Serve tiny (codes "find /m/a\nwhat")).status ≡ status.Done
+all_answered : (image_outcome work.Serve tiny (codes "find /m/a\nwhat")).status ≡ status.Done
 all_answered = refl
 
 -- without an image
 
-version : CommandComesTo None None (command.Version 1) (done version_text)
+version : TaskComesTo None None task.Version (done version_text)
 version = refl
 
 -- Files that are made
@@ -96,13 +96,13 @@ version = refl
 same_path_twice : written ((codes "a", codes "1") ∷ []) ((codes "b", codes "2") ∷ (codes "a", codes "3") ∷ []) ≡ (codes "a", codes "3") ∷ (codes "b", codes "2") ∷ []
 same_path_twice = refl
 
-first_paths : map (λ write. write.0) (early_of (task_of (command.Gen (codes "d") 1 1 0 2))).writes ≡ codes "d/mods/m000/module-info.class" ∷ codes "d/mods/m000/m000/p0/C0000.class" ∷ []
+first_paths : map (λ write. write.0) (early_of (task.Gen (record { dir = codes "d"; modules = 1; classes = 1; seed = 0 }))).writes ≡ codes "d/mods/m000/module-info.class" ∷ codes "d/mods/m000/m000/p0/C0000.class" ∷ []
 first_paths = refl
 
-no_first_paths : (early_of (task_of (command.Verify (codes "img") 2))).writes ≡ []
+no_first_paths : (early_of (task.Image (codes "img") work.Verify)).writes ≡ []
 no_first_paths = refl
 
-all_roots : option_map (λ gen. (gen_request gen).roots) (gen_of (task_of (command.Gen (codes "d") 3 1 0 2))) ≡ Some (codes "m000" ∷ codes "m001" ∷ codes "m002" ∷ [])
+all_roots : (gen_link (record { dir = codes "d"; modules = 3; classes = 1; seed = 0 })).roots ≡ codes "m000" ∷ codes "m001" ∷ codes "m002" ∷ []
 all_roots = refl
 
 -- What failed in place of what was due
@@ -126,7 +126,7 @@ module _ (old new : World) (err new_err : Seen (List ℕ)) where
   for_broken_session : (b output : List ℕ) → FailedBefore (session_with b output (Some complaint.TooManyLines)) old new err new_err → (Failed old.input new.input ⊎ Failed old.out new.out) ⊎ Failed err new_err
   for_broken_session b output failed = failed
 
-  no_file_read : FailedEarly (early_in (Ok (command.Help 1))) old new → ⊥
+  no_file_read : FailedEarly (early_in (Ok (record { jobs = 1; task = task.Help }))) old new → ⊥
   no_file_read (reads, failed) = cc
 
   -- a session that a run ends with 6 ended by the object whose count rose

@@ -3,7 +3,7 @@
 -- or its refusal (this project's rule).
 use Rattle.std.specs.Prelude.{ℕ, ◌+◌, nat_lt, List, [], ◌∷◌, ◌++◌, length, codes}
 use Rattle.std.specs.Prelude.{Bool, true, false}
-use Rattle.std.specs.Prelude.{Option, Some, None, Result, Ok, Err, if◌then◌else◌, IsUtf8}
+use Rattle.std.specs.Prelude.{Option, Some, None, Result, Ok, Err, if◌then◌else◌}
 use Rattle.std.specs.Fmt.{decimal}
 use Rattle.jm_form.specs.declared.damage.Damage.{Damage}
 use Rattle.jm_form.specs.declared.rows.Row.{Row}
@@ -18,9 +18,13 @@ use Rattle.jm_jrt.specs.Sessions.{answered_in}
 use Rattle.jm_jrt.specs.Stat.{held, stat}
 use Rattle.jm_names.specs.UtfForms.{utf}
 use Rattle.jm_outside.specs.Made.{Writes}
-use Rattle.jm_words.specs.declared.commands.Command.{Command}
-use Rattle.jm_words.specs.declared.commands.Command.TheVariants as command
 use Rattle.jm_words.specs.declared.errors.WordsError.{WordsError}
+use Rattle.jm_words.specs.declared.tasks.Command.{Command}
+use Rattle.jm_words.specs.declared.tasks.ImageWork.{ImageWork}
+use Rattle.jm_words.specs.declared.tasks.ImageWork.TheVariants as work
+use Rattle.jm_words.specs.declared.tasks.LinkTask.{LinkTask}
+use Rattle.jm_words.specs.declared.tasks.Task.{Task}
+use Rattle.jm_words.specs.declared.tasks.Task.TheVariants as task
 use Rattle.jm_words.specs.FaultText.{error_text}
 use Rattle.jm_class.specs.declared.class.ClassFault.{ClassFault}
 use Rattle.jm_class.specs.Classes.{ClassData}
@@ -34,23 +38,18 @@ use Rattle.jm_extract.specs.Extracted.{extracted, writes_of}
 use Rattle.jm_names.specs.ByName.{Named}
 use Rattle.jm_link.specs.declared.linking.Summary.{Summary}
 use Rattle.jm_texts.specs.declared.refusal.Refusal.{Refusal}
-use Rattle.jm_link.specs.Linked.{LinkedImage, Request}
-use Rattle.jm_link.specs.Links.{request_of, summary_of}
+use Rattle.jm_link.specs.Linked.{LinkedImage}
+use Rattle.jm_link.specs.Links.{summary_of}
 use Rattle.jm_texts.specs.declared.refusal.Refusal.TheVariants as refusal
 use Rattle.jm_commands.specs.declared.complaint.Complaint.{Complaint}
 use Rattle.jm_commands.specs.declared.complaint.Complaint.TheVariants as complaint
-use Rattle.jm_commands.specs.declared.image_file.ImageTask.{ImageTask}
-use Rattle.jm_commands.specs.declared.image_file.ImageTask.TheVariants as image_task
-use Rattle.jm_commands.specs.declared.link.LinkWords.{LinkWords}
 use Rattle.jm_texts.specs.DescribeText.{describe_text}
 use Rattle.jm_texts.specs.RefusalText.{refusal_text}
 use Rattle.jm_commands.specs.declared.status.Status.{Status}
 use Rattle.jm_commands.specs.declared.status.Status.TheVariants as status
 use Rattle.jm_commands.specs.ExtractText.{extract_text}
-use Rattle.jm_commands.specs.HelpText.{help_text, version_text}
 use Rattle.jm_texts.specs.InfoText.{info_text}
-use Rattle.jm_commands.specs.Gen.{Gen, gen_request, image_path, made_first, modules_path}
-use Rattle.jm_commands.specs.LinkText.{gen_text, link_text}
+use Rattle.jm_commands.specs.Gen.{made_first}
 use Rattle.jm_commands.specs.ListText.{list_text}
 use Rattle.jm_commands.specs.Texts.{line_of}
 use Rattle.jm_commands.specs.VerifyText.{verify_text}
@@ -177,39 +176,20 @@ describe_outcome path b = class_outcome path (class_of b)
 
 -- `link`: the image stands at the path, and the output says what it has
 
--- the directories of the module path, or the path of the image whose modules are linked in their
--- place; what the link is asked for, the path of its output, and the text on what was linked
-pub record Link : Type 0 where
-  pub directories : List (List ℕ)
-  pub image : Option (List ℕ)
-  pub asked : Request
-  pub output : List ℕ
-  pub text : Summary → List ℕ
-
--- the link that its words ask for
-abbrev pub link_from : LinkWords → Link
-link_from words = record {
-  directories = words.directories.now;
-  image = words.image.now;
-  asked = request_of words.asked;
-  output = words.asked.output.now;
-  text = link_text;
-}
-
--- the outcome of a link that made an image
-abbrev pub linked : Link → LinkedImage → Outcome
-linked link image = record {
+-- the outcome of a link that made an image, by the text on what was linked
+abbrev pub linked : (Summary → List ℕ) → LinkTask → LinkedImage → Outcome
+linked text link image = record {
   status = status.Done;
-  output = link.text (summary_of image);
+  output = text (summary_of image);
   line = [];
   writes = (link.output, image.bytes) ∷ [];
   session = None;
 }
 
--- what a link comes to, by its image or its refusal
-abbrev pub link_outcome : Link → Result LinkedImage Refusal → Outcome
-link_outcome link (Ok image) = linked link image
-link_outcome link (Err refusal) = refusing refusal
+-- what a link comes to, by that text, and by its image or its refusal
+abbrev pub link_outcome : (Summary → List ℕ) → LinkTask → Result LinkedImage Refusal → Outcome
+link_outcome text link (Ok image) = linked text link image
+link_outcome text link (Err refusal) = refusing refusal
 
 -- `extract`: a file of each taken entry below the directory, and the output says how many
 
@@ -236,77 +216,16 @@ behind made due = record {
   session = due.session;
 }
 
--- the link of a `gen`
-abbrev pub gen_link : Gen → Link
-gen_link gen = record {
-  directories = modules_path gen ∷ [];
-  image = None;
-  asked = gen_request gen;
-  output = image_path gen;
-  text = gen_text;
-}
-
--- what a task on an image comes to, by the bytes of its file, which have no damage, and by the
+-- what the work on an image comes to, by the bytes of its file, which have no damage, and by the
 -- source's text
-abbrev pub image_outcome : ImageTask → List ℕ → List ℕ → Outcome
-image_outcome (image_task.Cat name) b text = cat_outcome name (look b name)
-image_outcome (image_task.List include) b text = done (list_text b include)
-image_outcome (image_task.Ls path) b text = ls_outcome path (held (stat b path))
-image_outcome image_task.Info b text = done (info_text b)
-image_outcome (image_task.Extract dir include) b text = extract_outcome dir (extracted b include)
-image_outcome image_task.Verify b text = done (verify_text b)
-image_outcome image_task.Serve b text = session_outcome b text
-
--- the folder that a task makes files in has a path that is UTF-8
-abbrev pub FolderIsText : ImageTask → Type 0
-FolderIsText (image_task.Extract dir include) = IsUtf8 dir
-FolderIsText _ = Unit {0}
-
--- What a command asks for
-
--- what is asked of a run, apart from its number of jobs
-pub data Task : Type 0 where
-  -- a text is put
-  Puts : (text : List ℕ) → Task
-  -- the file of a path is described, which is the class of a module
-  Describes : (path : List ℕ) → Task
-  -- something is done with the image in the file of a path
-  OnImage : (path : List ℕ) → (task : ImageTask) → Task
-  Links : (link : Link) → Task
-  Makes : (gen : Gen) → Task
-
--- the task of a command
-abbrev pub task_of : Command → Task
-task_of (command.Link dirs roots output plugins order bind from_image jobs) =
-    Links (record {
-      directories = dirs;
-      image = from_image;
-      asked = record { roots = roots; bind = bind; plugins = plugins; order = order };
-      output = output;
-      text = link_text;
-    })
-task_of (command.Cat image name jobs) = OnImage image (image_task.Cat name)
-task_of (command.List image include jobs) = OnImage image (image_task.List include)
-task_of (command.Ls image path jobs) = OnImage image (image_task.Ls path)
-task_of (command.Info image jobs) = OnImage image image_task.Info
-task_of (command.Extract image dir include jobs) = OnImage image (image_task.Extract dir include)
-task_of (command.Verify image jobs) = OnImage image image_task.Verify
-task_of (command.Serve image jobs) = OnImage image image_task.Serve
-task_of (command.Gen dir modules classes seed jobs) =
-    Makes (record { dir = dir; modules = modules; classes = classes; seed = seed })
-task_of (command.Describe file jobs) = Describes file
-task_of (command.Help jobs) = Puts help_text
-task_of (command.Version jobs) = Puts version_text
-
--- the link that a task is, if it is one
-abbrev pub link_of : Task → Option Link
-link_of (Links link) = Some link
-link_of _ = None
-
--- the `gen` that a task is, if it is one
-abbrev pub gen_of : Task → Option Gen
-gen_of (Makes gen) = Some gen
-gen_of _ = None
+abbrev pub image_outcome : ImageWork → List ℕ → List ℕ → Outcome
+image_outcome (work.Cat name) b text = cat_outcome name (look b name)
+image_outcome (work.List include) b text = done (list_text b include)
+image_outcome (work.Ls path) b text = ls_outcome path (held (stat b path))
+image_outcome work.Info b text = done (info_text b)
+image_outcome (work.Extract dir include) b text = extract_outcome dir (extracted b include)
+image_outcome work.Verify b text = done (verify_text b)
+image_outcome work.Serve b text = session_outcome b text
 
 -- What is done with files before it is known what is due
 
@@ -323,15 +242,20 @@ reading = record { writes = []; reads = true }
 abbrev pub without_files : Early
 without_files = record { writes = []; reads = false }
 
+-- files are read, and these are made
+abbrev pub making : Writes → Early
+making made = record { writes = made; reads = true }
+
 -- what a task does with files before it is known what it comes to
 abbrev pub early_of : Task → Early
-early_of (Puts text) = without_files
-early_of (Describes path) = reading
-early_of (OnImage path task) = reading
-early_of (Links link) = reading
-early_of (Makes gen) = record { writes = made_first gen; reads = true }
+early_of (task.Link link) = reading
+early_of (task.Image image work) = reading
+early_of (task.Gen gen) = making (made_first gen)
+early_of (task.Describe file) = reading
+early_of task.Help = without_files
+early_of task.Version = without_files
 
 -- what is done of all words with files before it is known what they come to
 abbrev pub early_in : Result Command WordsError → Early
-early_in (Ok command) = early_of (task_of command)
+early_in (Ok command) = early_of command.task
 early_in (Err fault) = without_files

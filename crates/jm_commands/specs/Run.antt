@@ -8,13 +8,18 @@ use Rattle.jm_outside.specs.Made.{MadeAll, MadePart, Writes, written}
 use Rattle.jm_outside.specs.Shelves.{ShelfSeen}
 use Rattle.jm_jrt.specs.TreesShown.{ShowsTrees}
 use Rattle.jm_texts.specs.declared.refusal.Refusal.{Refusal}
+use Rattle.jm_link.specs.declared.linking.Summary.{Summary}
 use Rattle.jm_link.specs.Linked.{LinkedImage}
 use Rattle.jm_link.specs.ImageLinked.{ImageComesTo}
-use Rattle.jm_link.specs.Links.{ComesTo}
+use Rattle.jm_link.specs.Links.{ComesTo, request_of}
 use Rattle.jm_outside.specs.Files.{Files, file}
 use Rattle.jm_outside.specs.Outcome.{Shows}
-use Rattle.jm_words.specs.declared.commands.Command.{Command}
 use Rattle.jm_words.specs.declared.errors.WordsError.{WordsError}
+use Rattle.jm_words.specs.declared.tasks.Command.{Command}
+use Rattle.jm_words.specs.declared.tasks.GenTask.{GenTask}
+use Rattle.jm_words.specs.declared.tasks.LinkTask.{LinkTask}
+use Rattle.jm_words.specs.declared.tasks.Task.{Task}
+use Rattle.jm_words.specs.declared.tasks.Task.TheVariants as task
 use Rattle.jm_commands.specs.declared.complaint.Complaint.{Complaint}
 use Rattle.jm_commands.specs.declared.complaint.Complaint.TheVariants as complaint
 use Rattle.jm_commands.specs.declared.status.Status.{Status}
@@ -22,11 +27,12 @@ use Rattle.jm_commands.specs.declared.status.Status.TheVariants as status
 use Rattle.jm_commands.specs.declared.stop.Stop.{Stop}
 use Rattle.jm_commands.specs.declared.stop.Stop.TheVariants as stop
 use Rattle.jm_commands.specs.FailedBefore.{FailedBefore, FailedEarly, WorkFailed}
-use Rattle.jm_commands.specs.Gen.{Gen, made_first}
-use Rattle.jm_commands.specs.Outcome.{Early, Link, Outcome, behind, damaged, describe_outcome}
-use Rattle.jm_commands.specs.Outcome.{done, faulty, gen_link, image_outcome, link_outcome}
-use Rattle.jm_commands.specs.Outcome.{not_there, reading, refused, task_of}
-use Rattle.jm_commands.specs.Outcome.{Task, Puts, Describes, OnImage, Links, Makes}
+use Rattle.jm_commands.specs.Gen.{gen_link, made_first}
+use Rattle.jm_commands.specs.HelpText.{help_text, version_text}
+use Rattle.jm_commands.specs.LinkText.{gen_text, link_text}
+use Rattle.jm_commands.specs.Outcome.{Early, Outcome, behind, damaged, describe_outcome, done}
+use Rattle.jm_commands.specs.Outcome.{faulty, image_outcome, link_outcome, not_there, reading}
+use Rattle.jm_commands.specs.Outcome.{refused}
 use Rattle.jm_commands.specs.SessionHeld.{EndsAs, SourceRead, StopsAs}
 use Rattle.jm_commands.specs.Sinks.{Seen, Failed, Gets, GetsFront}
 use Rattle.jm_commands.specs.Texts.{complaint_text, line_of}
@@ -72,52 +78,52 @@ ShowsLinked (Err refusal) = Unit {0}
 
 -- a link from a module path comes to what its files do, where the shelf tells them; a shelf that
 -- tells nothing may say of a file that it listed that it isn't there
-abbrev pub PathLinkComesTo : Option Files → Link → Outcome → Type 0
-PathLinkComesTo told link due =
-    ((result : Result LinkedImage Refusal) × ComesTo told link.directories link.asked result
-    × Shows told (λ files. ShowsLinked result) × (due ≡ link_outcome link result))
+abbrev pub PathLinkComesTo : (Summary → List ℕ) → Option Files → LinkTask → Outcome → Type 0
+PathLinkComesTo text told link due =
+    ((result : Result LinkedImage Refusal) × ComesTo told link.dirs (request_of link) result
+    × Shows told (λ files. ShowsLinked result) × (due ≡ link_outcome text link result))
     ⊎ ((listed : List ℕ) × Shows told (λ files. ⊥) × (due ≡ not_there listed))
 
 -- a link of the modules of an image without a damage
-abbrev pub ImageLinkComesTo : Link → List ℕ → Outcome → Type 0
-ImageLinkComesTo link b due =
-    (result : Result LinkedImage Refusal) × ImageComesTo b link.asked result
-    × ShowsLinked result × (due ≡ link_outcome link result)
+abbrev pub ImageLinkComesTo : (Summary → List ℕ) → LinkTask → List ℕ → Outcome → Type 0
+ImageLinkComesTo text link b due =
+    (result : Result LinkedImage Refusal) × ImageComesTo b (request_of link) result
+    × ShowsLinked result × (due ≡ link_outcome text link result)
 
 -- what a link comes to, by where its modules are
-abbrev pub LinkComesFrom : Option Files → Link → Option (List ℕ) → Outcome → Type 0
-LinkComesFrom told link None due = PathLinkComesTo told link due
-LinkComesFrom told link (Some path) due = ImageComes told path (ImageLinkComesTo link) due
+abbrev pub LinkComesFrom
+    : (Summary → List ℕ) → Option Files → LinkTask → Option (List ℕ) → Outcome → Type 0
+LinkComesFrom text told link None due = PathLinkComesTo text told link due
+LinkComesFrom text told link (Some path) due =
+    ImageComes told path (ImageLinkComesTo text link) due
 
--- what a link comes to, by the files and by where its modules are
-abbrev pub LinkComesTo : Option Files → Link → Outcome → Type 0
-LinkComesTo told link due = LinkComesFrom told link link.image due
+-- what a link comes to, by the text on what was linked, by the files and by where its modules are
+abbrev pub LinkComesTo : (Summary → List ℕ) → Option Files → LinkTask → Outcome → Type 0
+LinkComesTo text told link due = LinkComesFrom text told link link.from_image due
 
 -- a `gen` comes to what its link does, where the files that it makes first are there
-abbrev pub GenComesTo : Option Files → Gen → Outcome → Type 0
+abbrev pub GenComesTo : Option Files → GenTask → Outcome → Type 0
 GenComesTo told gen due =
     (linked : Outcome)
-    × LinkComesTo (option_map (λ files. written files (made_first gen)) told) (gen_link gen) linked
+    × LinkComesTo gen_text (option_map (λ files. written files (made_first gen)) told)
+    (gen_link gen) linked
     × (due ≡ behind (made_first gen) linked)
 
 -- what a task comes to, by the told files and the told text of the source
 abbrev pub TaskComesTo : Option Files → Option (List ℕ) → Task → Outcome → Type 0
-TaskComesTo told rest (Puts text) due = due ≡ done text
-TaskComesTo told rest (Describes path) due =
-    FileComesTo told path (λ b described. described ≡ describe_outcome path b) due
-TaskComesTo told rest (OnImage path task) due =
-    ImageComes told path (λ b. TextComesTo rest (image_outcome task b)) due
-TaskComesTo told rest (Links link) due = LinkComesTo told link due
-TaskComesTo told rest (Makes gen) due = GenComesTo told gen due
+TaskComesTo told rest (task.Link link) due = LinkComesTo link_text told link due
+TaskComesTo told rest (task.Image image work) due =
+    ImageComes told image (λ b. TextComesTo rest (image_outcome work b)) due
+TaskComesTo told rest (task.Gen gen) due = GenComesTo told gen due
+TaskComesTo told rest (task.Describe file) due =
+    FileComesTo told file (λ b described. described ≡ describe_outcome file b) due
+TaskComesTo told rest task.Help due = due ≡ done help_text
+TaskComesTo told rest task.Version due = due ≡ done version_text
 
--- what a command comes to, by the files and by what the source has
-abbrev pub CommandComesTo : Option Files → Option (List ℕ) → Command → Outcome → Type 0
-CommandComesTo told rest command due = TaskComesTo told rest (task_of command) due
-
--- what all words come to: their command, or their first fault
+-- what all words come to: the task of their command, for any number of jobs, or their first fault
 abbrev pub WordsComeTo
     : Option Files → Option (List ℕ) → Result Command WordsError → Outcome → Type 0
-WordsComeTo told rest (Ok command) due = CommandComesTo told rest command due
+WordsComeTo told rest (Ok command) due = TaskComesTo told rest command.task due
 WordsComeTo told rest (Err fault) due = due ≡ faulty fault
 
 -- What is read of a file

@@ -1,11 +1,12 @@
 -- What a run of `serve` does with the source and the output (this project's rule).
 use Rattle.std.specs.Prelude.{ℕ, ◌≡◌, ◌⊎◌, List, Option, Some, None, Result, Ok, Err}
 use Rattle.jm_form.specs.Damages.{first_damage}
-use Rattle.jm_words.specs.declared.commands.Command.{Command}
 use Rattle.jm_words.specs.declared.errors.WordsError.{WordsError}
-use Rattle.jm_commands.specs.declared.image_file.ImageTask.TheVariants as image_task
+use Rattle.jm_words.specs.declared.tasks.Command.{Command}
+use Rattle.jm_words.specs.declared.tasks.ImageWork.TheVariants as work
+use Rattle.jm_words.specs.declared.tasks.Task.{Task}
+use Rattle.jm_words.specs.declared.tasks.Task.TheVariants as task
 use Rattle.jm_commands.specs.declared.status.Status.{Status}
-use Rattle.jm_commands.specs.Outcome.{Task, OnImage, task_of}
 use Rattle.jm_commands.specs.Run.{HasFile}
 use Rattle.jm_commands.specs.SessionHeld.{EndsAs, Held, NotBegun}
 use Rattle.jm_commands.specs.Sinks.{Seen}
@@ -13,12 +14,12 @@ use Rattle.jm_commands.specs.World.{World}
 
 -- the image of a `serve`, if a task is one
 abbrev pub served : Task → Option (List ℕ)
-served (OnImage image image_task.Serve) = Some image
+served (task.Image image work.Serve) = Some image
 served _ = None
 
 -- the image of a `serve`, if words ask for one
 abbrev pub served_in : Result Command WordsError → Option (List ℕ)
-served_in (Ok command) = served (task_of command)
+served_in (Ok command) = served command.task
 served_in (Err fault) = None
 
 -- a `serve` of an image: no session began, or its file has no damage, and a session over its bytes

@@ -1,13 +1,13 @@
 //! The command `gen`.
-ghost use Rattle.std.specs.Prelude.{◌≡◌, ◌<◌, ◌∷◌, ◌++◌, [], codes, IfOk, IsSome};
-ghost use Rattle.std.specs.Prelude.{IsUtf8, List, ℕ, string_bytes};
-ghost use Rattle.jm_link.specs.Links.{Links};
-ghost use Rattle.jm_words.specs.Paths.{FilePathsAreText, NumbersFit};
+ghost use Rattle.std.specs.Prelude.{◌≡◌, ◌<◌, ◌∷◌, ◌++◌, [], IfOk, IsUtf8};
+ghost use Rattle.std.specs.Prelude.{List, ℕ, string_bytes};
+ghost use Rattle.jm_link.specs.Links.{Links, request_of};
+ghost use Rattle.jm_words.specs.Paths.{GenFits};
 ghost use Rattle.jm_outside.specs.Shelves.{shelf_at};
-ghost use Rattle.jm_commands.specs.Gen.{generated_request};
+ghost use Rattle.jm_commands.specs.Gen.{gen_link, image_path, made_first};
 ghost use Rattle.jm_commands.specs.LinkText.{gen_text};
-ghost use Rattle.jm_commands.specs.Outcome.{done, early_of, gen_of, task_of};
-ghost use Rattle.jm_commands.specs.Run.{CommandComesTo, PutDoes, StepComesTo};
+ghost use Rattle.jm_commands.specs.Outcome.{done, making};
+ghost use Rattle.jm_commands.specs.Run.{GenComesTo, PutDoes, StepComesTo};
 ghost use Rattle.jm_commands.specs.Sinks.{Seen};
 ghost use Rattle.jm_commands.specs.World.{sink_at, world};
 
@@ -17,10 +17,9 @@ use crate::workers::Workers;
 use jm_bytes::{List, NoMemory, Order, Text, copy_of, extend};
 use jm_gen::{generate, module_names};
 use jm_halves::Gate;
-use jm_link::{Asked, LinkStop, Summary, link};
+use jm_link::{LinkStop, Summary, link};
 use jm_outside::{Shelf, Sink};
-use jm_plugins::Plugin;
-use jm_words::Command;
+use jm_words::{GenTask, LinkTask, Plugin};
 use std::alloc::{AllocError, Global};
 use std::thread::Threads;
 
@@ -36,38 +35,38 @@ fn below(alloc: Global, dir: &[u8], rest: &[u8]) -> Result<Text, NoMemory>
     Ok(Text::from_vec(path))
 }
 
-/// Links so many modules below a folder that were generated, without what their classes say for
+/// Links the modules of a `gen`, which were made in this folder, without what their classes say for
 /// debuggers.
 fn link_generated<T: Threads + Sync, S: Shelf, G: Gate + Sync>(
     workers: &Workers<T, G>,
-    dir: &[u8],
+    task: &GenTask,
     mods: Text,
-    modules: u32,
     shelf: &mut S,
 ) -> Result<Summary, LinkStop>
     requires jobs { 0 < workers.now.jobs }
-    requires dir { IsUtf8 dir.now }
+    requires dir { IsUtf8 task.now.dir }
     requires mods { IsUtf8 mods }
-    ensures { Links (mods ∷ []) (generated_request modules) (dir.now ++ codes "/image") result
+    ensures { Links (mods ∷ []) (request_of (gen_link task.now)) (image_path task.now) result
         (shelf_at S.Shelf shelf.old) (shelf_at S.Shelf shelf.new) }
 {
-    let mut directories = List::new(workers.alloc);
-    directories.push(mods)?;
-    let roots = module_names(workers.alloc, modules)?;
-    let output = below(workers.alloc, dir, "/image".as_bytes())?;
-    let asked = Asked {
-        roots: roots.as_slice(),
-        bind: false,
-        plugins: &[Plugin::Strip],
+    let mut dirs = List::new(workers.alloc);
+    dirs.push(mods)?;
+    let mut plugins = List::new(workers.alloc);
+    plugins.push(Plugin::Strip)?;
+    let link_task = LinkTask {
+        dirs,
+        roots: module_names(workers.alloc, task.modules)?,
+        output: below(workers.alloc, task.dir.as_slice(), "/image".as_bytes())?,
+        plugins,
         order: Order::Little,
-        output: output.as_slice(),
+        bind: false,
+        from_image: None,
     };
     link(
         workers.rt,
         workers.alloc,
         workers.jobs,
-        directories.as_slice(),
-        &asked,
+        &link_task,
         shelf,
         workers.gate,
     )
@@ -100,40 +99,27 @@ fn put_generated<O: Sink>(alloc: Global, summary: &Summary, out: &mut O) -> Resu
 /// the files that were made stay. The source of the run isn't lent to it.
 pub fn gen_command<T: Threads + Sync, S: Shelf, O: Sink, G: Gate + Sync>(
     workers: &Workers<T, G>,
-    command: Command,
+    task: &GenTask,
     shelf: &mut S,
     out: &mut O,
 ) -> Result<(), Stop>
-    requires generates { IsSome (gen_of (task_of command)) }
     requires jobs { 0 < workers.now.jobs }
-    requires paths { FilePathsAreText command }
-    requires numbers { NumbersFit command }
+    requires dir { IsUtf8 task.now.dir }
+    requires numbers { GenFits task.now }
     ensures { (source : Seen (List ℕ)) →
-        StepComesTo (CommandComesTo (S.files shelf.old) source.told command)
-        (early_of (task_of command)) result
+        StepComesTo (GenComesTo (S.files shelf.old) task.now) (making (made_first task.now)) result
         (world (shelf_at S.Shelf shelf.old) source (sink_at O.Sink out.old))
         (world (shelf_at S.Shelf shelf.new) source (sink_at O.Sink out.new)) }
 {
-    let Command::Gen {
-        dir,
-        modules,
-        classes,
-        seed,
-        ..
-    } = &command
-    else {
-        unreachable!()
-    };
-    let dir = dir.as_slice();
-    let mods = below(workers.alloc, dir, "/mods".as_bytes())?;
+    let mods = below(workers.alloc, task.dir.as_slice(), "/mods".as_bytes())?;
     generate(
         workers.alloc,
         shelf,
         mods.as_slice(),
-        *modules,
-        *classes,
-        *seed,
+        task.modules,
+        task.classes,
+        task.seed,
     )?;
-    let summary = link_generated(workers, dir, mods, *modules, shelf)?;
+    let summary = link_generated(workers, task, mods, shelf)?;
     put_generated(workers.alloc, &summary, out)
 }

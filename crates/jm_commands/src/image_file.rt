@@ -1,8 +1,9 @@
 ghost use Rattle.std.specs.Prelude.{◌≡◌, ◌<◌, IsOk, IsErrOf, IsUtf8};
 ghost use Rattle.jm_form.specs.Validity.{look};
 ghost use Rattle.jm_outside.specs.Outcome.{CountsFaults};
+ghost use Rattle.jm_words.specs.Paths.{FolderIsText};
 ghost use Rattle.jm_commands.specs.Cat.{CatDoes};
-ghost use Rattle.jm_commands.specs.Outcome.{FolderIsText, cat_outcome, image_outcome, reading};
+ghost use Rattle.jm_commands.specs.Outcome.{cat_outcome, image_outcome, reading};
 ghost use Rattle.jm_commands.specs.Run.{ImageComes, PutDoes, ReadsFile, StepComesTo};
 ghost use Rattle.jm_commands.specs.Run.{StepOnText, TextComesTo};
 ghost use Rattle.jm_commands.specs.World.{sink_at, world_of};
@@ -18,37 +19,15 @@ use crate::serve::serve_command;
 use crate::stop::Stop;
 use crate::verify::verify_command;
 use crate::workers::Workers;
-use jm_bytes::{List, Meter, Steps, Text};
+use jm_bytes::{Meter, Steps, Text};
 use jm_halves::Gate;
 use jm_names::to_utf8;
 use jm_outside::{Shelf, Sink, SinkError, Source};
-use jm_pattern::Pattern;
+use jm_words::ImageWork;
 use std::alloc::Global;
 use std::marker::Brand;
 use std::sync::ledger::{Blank, Ledger};
 use std::thread::Threads;
-
-/// What is done with an image. Names, paths in the image and patterns are Modified UTF-8.
-#[derive(Drop)]
-pub enum ImageTask {
-    Cat {
-        name: Text,
-    },
-    List {
-        include: Option<List<Pattern>>,
-    },
-    Ls {
-        path: Text,
-    },
-    Info,
-    /// The directory is the path of a folder.
-    Extract {
-        dir: Text,
-        include: Option<List<Pattern>>,
-    },
-    Verify,
-    Serve,
-}
 
 /// The bytes of the file at a path.
 pub fn file_bytes<S: Shelf>(alloc: Global, path: &Text, shelf: &mut S) -> Result<Text, Stop>
@@ -105,47 +84,47 @@ fn cat_step<O: Sink>(alloc: Global, image: &Opened, name: &[u8], out: &mut O) ->
     Err(Stop::Complaint(Complaint::NotThere(text)))
 }
 
-/// Does a task on an image.
-fn do_task<S: Shelf, I: Source, O: Sink>(
+/// Does a work on an image.
+fn do_work<S: Shelf, I: Source, O: Sink>(
     alloc: Global,
-    task: &ImageTask,
+    work: &ImageWork,
     image: &Opened,
     shelf: &mut S,
     input: &mut I,
     out: &mut O,
 ) -> Result<(), Stop>
-    requires text { FolderIsText task.now }
-    ensures { StepOnText (image_outcome task.now image.now) result
+    requires text { FolderIsText work.now }
+    ensures { StepOnText (image_outcome work.now image.now) result
         (world_of S.Shelf I.Source O.Sink shelf.old input.old out.old)
         (world_of S.Shelf I.Source O.Sink shelf.new input.new out.new) }
 {
-    match task {
-        ImageTask::Cat { name } => cat_step(alloc, image, name.as_slice(), out),
-        ImageTask::List { include } => list_command(alloc, image, include, out),
-        ImageTask::Ls { path } => ls_command(alloc, image, path.as_slice(), out),
-        ImageTask::Info => info_command(alloc, image, out),
-        ImageTask::Extract { dir, include } => {
+    match work {
+        ImageWork::Cat { name } => cat_step(alloc, image, name.as_slice(), out),
+        ImageWork::List { include } => list_command(alloc, image, include, out),
+        ImageWork::Ls { path } => ls_command(alloc, image, path.as_slice(), out),
+        ImageWork::Info => info_command(alloc, image, out),
+        ImageWork::Extract { dir, include } => {
             extract_command(alloc, image, include, dir.as_slice(), shelf, out)
         }
-        ImageTask::Verify => verify_command(alloc, image, out),
-        ImageTask::Serve => serve_command(alloc, image, input, out),
+        ImageWork::Verify => verify_command(alloc, image, out),
+        ImageWork::Serve => serve_command(alloc, image, input, out),
     }
 }
 
-/// Reads the file at a path, opens the image that its bytes are, and does a task on it.
+/// Reads the file at a path, opens the image that its bytes are, and does a work on it.
 pub fn on_image<T: Threads + Sync, S: Shelf, I: Source, O: Sink, G: Gate + Sync>(
     workers: &Workers<T, G>,
     path: &Text,
-    task: &ImageTask,
+    work: &ImageWork,
     shelf: &mut S,
     input: &mut I,
     out: &mut O,
 ) -> Result<(), Stop>
     requires jobs { 0 < workers.now.jobs }
     requires path { IsUtf8 path.now }
-    requires text { FolderIsText task.now }
+    requires text { FolderIsText work.now }
     ensures { StepComesTo (ImageComes (S.files shelf.old) path.now
-        (λ b. TextComesTo (I.rest input.old) (image_outcome task.now b))) reading result
+        (λ b. TextComesTo (I.rest input.old) (image_outcome work.now b))) reading result
         (world_of S.Shelf I.Source O.Sink shelf.old input.old out.old)
         (world_of S.Shelf I.Source O.Sink shelf.new input.new out.new) }
 {
@@ -153,7 +132,7 @@ pub fn on_image<T: Threads + Sync, S: Shelf, I: Source, O: Sink, G: Gate + Sync>
         Ok(bytes) => {
             let bytes = bytes.as_slice();
             match Opened::of(workers, bytes) {
-                Ok(image) => do_task(workers.alloc, task, &image, shelf, input, out),
+                Ok(image) => do_work(workers.alloc, work, &image, shelf, input, out),
                 Err(stop) => Err(stop),
             }
         }

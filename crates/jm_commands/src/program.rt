@@ -2,10 +2,10 @@ ghost use Rattle.std.specs.Prelude.{◌≡◌, ◌<◌, List};
 ghost use Rattle.std.specs.Prelude.{map, string_bytes};
 ghost use Rattle.jm_words.specs.Paths.{FilePathsAreText, NumbersFit};
 ghost use Rattle.jm_words.specs.Rule.{Says};
-ghost use Rattle.jm_commands.specs.Outcome.{early_in, early_of, task_of};
-ghost use Rattle.jm_commands.specs.Run.{CommandComesTo, EndsStep, ReportDoes, RunComesTo};
-ghost use Rattle.jm_commands.specs.Run.{StepComesTo, WordsComeTo};
-ghost use Rattle.jm_commands.specs.RelinkedRun.{RelinksRun, link_in};
+ghost use Rattle.jm_commands.specs.Outcome.{early_in, early_of};
+ghost use Rattle.jm_commands.specs.Run.{EndsStep, ReportDoes, RunComesTo, StepComesTo};
+ghost use Rattle.jm_commands.specs.Run.{TaskComesTo, WordsComeTo};
+ghost use Rattle.jm_commands.specs.RelinkedRun.{RelinksRun};
 ghost use Rattle.jm_commands.specs.Served.{ServesRun, served_in};
 ghost use Rattle.jm_commands.specs.World.{sink_at, world_of};
 
@@ -13,15 +13,15 @@ use crate::complaint::Complaint;
 use crate::describe::describe_command;
 use crate::generator::gen_command;
 use crate::help::help_command;
-use crate::image_file::{ImageTask, on_image};
+use crate::image_file::on_image;
 use crate::link::link_command;
 use crate::status::Status;
 use crate::stop::Stop;
 use crate::version::version_command;
-use crate::workers::{Workers, jobs_of};
+use crate::workers::Workers;
 use jm_halves::Gate;
 use jm_outside::{Shelf, Sink, SinkError, Source};
-use jm_words::{Command, read_words};
+use jm_words::{Task, read_words};
 use std::alloc::Global;
 use std::thread::Threads;
 
@@ -53,56 +53,29 @@ fn end<E: Sink>(alloc: Global, done: Result<(), Stop>, err: &mut E) -> Status
     }
 }
 
-/// Does a command.
+/// Does what a command is to do.
 fn do_command<T: Threads + Sync, S: Shelf, I: Source, O: Sink, G: Gate + Sync>(
     workers: &Workers<T, G>,
-    command: Command,
+    task: &Task,
     shelf: &mut S,
     input: &mut I,
     out: &mut O,
 ) -> Result<(), Stop>
     requires jobs { 0 < workers.now.jobs }
-    requires paths { FilePathsAreText command }
-    requires numbers { NumbersFit command }
-    ensures { StepComesTo (CommandComesTo (S.files shelf.old) (I.rest input.old) command)
-        (early_of (task_of command)) result
+    requires paths { FilePathsAreText task.now }
+    requires numbers { NumbersFit task.now }
+    ensures { StepComesTo (TaskComesTo (S.files shelf.old) (I.rest input.old) task.now)
+        (early_of task.now) result
         (world_of S.Shelf I.Source O.Sink shelf.old input.old out.old)
         (world_of S.Shelf I.Source O.Sink shelf.new input.new out.new) }
 {
-    match command {
-        Command::Help { .. } => help_command(workers.alloc, out),
-        Command::Version { .. } => version_command(workers.alloc, out),
-        Command::Describe { file, .. } => describe_command(workers.alloc, &file, shelf, out),
-        Command::Link { .. } => link_command(workers, command, shelf, out),
-        Command::Gen { .. } => gen_command(workers, command, shelf, out),
-        Command::Cat { image, name, .. } => {
-            on_image(workers, &image, &ImageTask::Cat { name }, shelf, input, out)
-        }
-        Command::List { image, include, .. } => {
-            let task = ImageTask::List { include };
-            on_image(workers, &image, &task, shelf, input, out)
-        }
-        Command::Ls { image, path, .. } => {
-            on_image(workers, &image, &ImageTask::Ls { path }, shelf, input, out)
-        }
-        Command::Info { image, .. } => {
-            on_image(workers, &image, &ImageTask::Info, shelf, input, out)
-        }
-        Command::Extract {
-            image,
-            dir,
-            include,
-            ..
-        } => {
-            let task = ImageTask::Extract { dir, include };
-            on_image(workers, &image, &task, shelf, input, out)
-        }
-        Command::Verify { image, .. } => {
-            on_image(workers, &image, &ImageTask::Verify, shelf, input, out)
-        }
-        Command::Serve { image, .. } => {
-            on_image(workers, &image, &ImageTask::Serve, shelf, input, out)
-        }
+    match task {
+        Task::Link(task) => link_command(workers, task, shelf, out),
+        Task::Image { image, work } => on_image(workers, image, work, shelf, input, out),
+        Task::Gen(task) => gen_command(workers, task, shelf, out),
+        Task::Describe { file } => describe_command(workers.alloc, file, shelf, out),
+        Task::Help => help_command(workers.alloc, out),
+        Task::Version => version_command(workers.alloc, out),
     }
 }
 
@@ -129,19 +102,22 @@ pub fn run<T: Threads + Sync, S: Shelf, I: Source, O: Sink, E: Sink, G: Gate + S
         (world_of S.Shelf I.Source O.Sink shelf.old input.old out.old)
         (world_of S.Shelf I.Source O.Sink shelf.new input.new out.new)
         (sink_at E.Sink err.old) (sink_at E.Sink err.new)) }
-    ensures relinks { Says (map string_bytes words.now) (λ asked. RelinksRun (link_in asked) result
+    ensures relinks { Says (map string_bytes words.now) (λ asked. RelinksRun asked result
         (S.files shelf.old) (S.files shelf.new)) }
 {
     match read_words(alloc, words) {
         Ok(command) => {
-            let jobs = jobs_of(&command);
             let workers = Workers {
                 rt,
                 alloc,
-                jobs,
+                jobs: command.jobs,
                 gate,
             };
-            end(alloc, do_command(&workers, command, shelf, input, out), err)
+            end(
+                alloc,
+                do_command(&workers, &command.task, shelf, input, out),
+                err,
+            )
         }
         Err(error) => end(alloc, Err(Stop::from(error)), err),
     }

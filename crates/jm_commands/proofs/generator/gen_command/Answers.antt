@@ -1,37 +1,29 @@
-use Rattle.std.proofs.Common.{◌≡◌, ◌++◌, ℕ, List, Ok, Err, refl, ◌∙◌, subst}
-use Rattle.std.specs.Prelude.{codes}
+use Rattle.std.proofs.Common.{◌≡◌, ℕ, List, Ok, Err, refl, ◌∙◌, subst}
 use Rattle.jm_outside.specs.Made.{MadeAll}
 use Rattle.jm_gen.specs.Generated.{generated}
-use Rattle.jm_commands.specs.Gen.{Gen, image_path, modules_path}
+use Rattle.jm_commands.specs.Gen.{modules_path}
 use Rattle.jm_outside.specs.Shelves.{shelf_at}
 use Rattle.jm_commands.specs.World.{sink_at, world}
 use Rattle.jm_commands.proofs.GenLaws.{gen_put, gen_stopped, links_as}
-use Rattle.jm_commands.proofs.OutcomeLaws.{only_gen}
 use Rattle.jm_commands.proofs.StepLaws.{from_stop}
 use Rattle.jm_commands.proofs.generator.gen_command.Goals as goal
 
-pub unreachable-requires : goal.unreachable-requires
-unreachable-requires g c = only_gen c.args.command c.requires.generates c.in_default.not-Gen
-
 pub returns : goal.returns
 returns g c source =
-    let gen : Gen = record { dir = c.in-Gen.dir; modules = c.in-Gen.modules; classes = c.in-Gen.classes; seed = c.in-Gen.seed } in
-    let path : c.in_ok-mods.mods ≡ modules_path gen = c.in_ok-mods.ensures.path ∙ rw (c.as_slice-dir.ensures, c.as_bytes.ensures.value) refl in
-    let made = subst (λ (dir : List ℕ). MadeAll (generated dir gen.modules gen.classes gen.seed) (g.S.Shelf.files c.args.shelf.now) (g.S.Shelf.files c.generate.new.shelf)) (c.as_slice.ensures ∙ path) c.in_ok-generate.ensures.ok in
-    let image : c.as_slice-dir.result.now ++ codes "/image" ≡ image_path gen = rw c.as_slice-dir.ensures refl in
-    let links = links_as gen _ _ (Ok c.in_ok-summary.summary) (shelf_at g.S.Shelf c.generate.new.shelf) (shelf_at g.S.Shelf c.link_generated.new.shelf) path image c.in_ok-summary.ensures in
-    rw c.in-Gen.is
-    (gen_put gen (shelf_at g.S.Shelf c.args.shelf.now) (world (shelf_at g.S.Shelf c.generate.new.shelf) source (sink_at g.O.Sink c.args.out.now))
-    _ _ _ made (c.in_ok-generate.ensures.faults.kept refl) refl links c.put_generated.ensures)
+    let gen = c.args.task.now in
+    let path : c.in_ok-mods.mods ≡ modules_path gen = c.in_ok-mods.ensures.path ∙ rw (c.as_slice.ensures, c.as_bytes.ensures.value) refl in
+    let made = subst (λ (dir : List ℕ). MadeAll (generated dir gen.modules gen.classes gen.seed) (g.S.Shelf.files c.args.shelf.now) (g.S.Shelf.files c.generate.new.shelf)) (c.as_slice-2.ensures ∙ path) c.in_ok-generate.ensures.ok in
+    let links = links_as gen _ (Ok c.in_ok-summary.summary) (shelf_at g.S.Shelf c.generate.new.shelf) (shelf_at g.S.Shelf c.link_generated.new.shelf) path c.in_ok-summary.ensures in
+    gen_put gen (shelf_at g.S.Shelf c.args.shelf.now) (world (shelf_at g.S.Shelf c.generate.new.shelf) source (sink_at g.O.Sink c.args.out.now))
+    _ _ _ made (c.in_ok-generate.ensures.faults.kept refl) refl links c.put_generated.ensures
 
 pub returns-in_err-summary : goal.returns-in_err-summary
 returns-in_err-summary g c source =
-    let gen : Gen = record { dir = c.in-Gen.dir; modules = c.in-Gen.modules; classes = c.in-Gen.classes; seed = c.in-Gen.seed } in
-    let path : c.in_ok-mods.mods ≡ modules_path gen = c.in_ok-mods.ensures.path ∙ rw (c.as_slice-dir.ensures, c.as_bytes.ensures.value) refl in
-    let made = subst (λ (dir : List ℕ). MadeAll (generated dir gen.modules gen.classes gen.seed) (g.S.Shelf.files c.args.shelf.now) (g.S.Shelf.files c.generate.new.shelf)) (c.as_slice.ensures ∙ path) c.in_ok-generate.ensures.ok in
-    let image : c.as_slice-dir.result.now ++ codes "/image" ≡ image_path gen = rw c.as_slice-dir.ensures refl in
-    let links = links_as gen _ _ (Err c.in_err-summary.field-0.0) (shelf_at g.S.Shelf c.generate.new.shelf) (shelf_at g.S.Shelf c.link_generated.new.shelf) path image c.in_err-summary.ensures in
+    let gen = c.args.task.now in
+    let path : c.in_ok-mods.mods ≡ modules_path gen = c.in_ok-mods.ensures.path ∙ rw (c.as_slice.ensures, c.as_bytes.ensures.value) refl in
+    let made = subst (λ (dir : List ℕ). MadeAll (generated dir gen.modules gen.classes gen.seed) (g.S.Shelf.files c.args.shelf.now) (g.S.Shelf.files c.generate.new.shelf)) (c.as_slice-2.ensures ∙ path) c.in_ok-generate.ensures.ok in
+    let links = links_as gen _ (Err c.in_err-summary.field-0.0) (shelf_at g.S.Shelf c.generate.new.shelf) (shelf_at g.S.Shelf c.link_generated.new.shelf) path c.in_err-summary.ensures in
     let is = from_stop c.from_residual-in_err-summary.result _ c.from_residual-in_err-summary.ensures.1 in
-    rw (c.in-Gen.is, is)
+    rw is
     (gen_stopped gen (shelf_at g.S.Shelf c.args.shelf.now) (world (shelf_at g.S.Shelf c.generate.new.shelf) source (sink_at g.O.Sink c.args.out.now))
     _ _ made (c.in_ok-generate.ensures.faults.kept refl) refl links refl)

@@ -1,7 +1,7 @@
 use Rattle.std.proofs.Common.{refl}
 use Rattle.jm_form.specs.Damages.{first_damage}
 use Rattle.jm_outside.specs.Shelves.{shelf_at}
-use Rattle.jm_commands.specs.Outcome.{link_from}
+use Rattle.jm_commands.specs.LinkText.{link_text}
 use Rattle.jm_commands.specs.Run.{ImageLinkComesTo, OpenedComesTo}
 use Rattle.jm_commands.specs.World.{sink_at, world}
 use Rattle.jm_commands.proofs.StepLaws.{file_read, file_unread, image_unopened}
@@ -11,9 +11,9 @@ pub returns-in-Ok-of : goal.returns-in-Ok-of
 returns-in-Ok-of g c source =
     let read = c.in-Ok.ensures in
     let b = c.as_slice-bytes.result.now in
-    let link = link_from c.args.words.now in
+    let link = c.args.task.now in
     let does = rw c.in-Ok-of.ensures.same at c.link_opened.ensures source in
-    file_read (λ bytes. OpenedComesTo (ImageLinkComesTo link bytes) (first_damage bytes)) c.args.path.now b (shelf_at g.S.Shelf c.args.shelf.now)
+    file_read (λ bytes. OpenedComesTo (ImageLinkComesTo link_text link bytes) (first_damage bytes)) c.args.path.now b (shelf_at g.S.Shelf c.args.shelf.now)
     (world (shelf_at g.S.Shelf c.file_bytes.new.shelf) source (sink_at g.O.Sink c.args.out.now)) _ _
     (rw c.as_slice-bytes.ensures read.reads) read.files (read.faults.kept refl) (rw c.in-Ok-of.ensures.opens does)
 
@@ -21,12 +21,12 @@ pub returns-in-Ok : goal.returns-in-Ok
 returns-in-Ok g c source =
     let read = c.in-Ok.ensures in
     let b = c.as_slice-bytes.result.now in
-    let link = link_from c.args.words.now in
-    file_read (λ bytes. OpenedComesTo (ImageLinkComesTo link bytes) (first_damage bytes)) c.args.path.now b _ _ _ _
-    (rw c.as_slice-bytes.ensures read.reads) read.files (read.faults.kept refl) (image_unopened (ImageLinkComesTo link b) b c.in-Err-of.stop _ c.in-Err-of.ensures.opens)
+    let link = c.args.task.now in
+    file_read (λ bytes. OpenedComesTo (ImageLinkComesTo link_text link bytes) (first_damage bytes)) c.args.path.now b _ _ _ _
+    (rw c.as_slice-bytes.ensures read.reads) read.files (read.faults.kept refl) (image_unopened (ImageLinkComesTo link_text link b) b c.in-Err-of.stop _ c.in-Err-of.ensures.opens)
 
 pub returns : goal.returns
 returns g c source =
     let read = c.in-Err.ensures in
-    let link = link_from c.args.words.now in
-    file_unread (λ bytes. OpenedComesTo (ImageLinkComesTo link bytes) (first_damage bytes)) c.args.path.now c.in-Err.stop _ _ read.reads (record { files = read.files; source = refl; output = refl }) (λ failed. read.faults.rose (rw failed refl))
+    let link = c.args.task.now in
+    file_unread (λ bytes. OpenedComesTo (ImageLinkComesTo link_text link bytes) (first_damage bytes)) c.args.path.now c.in-Err.stop _ _ read.reads (record { files = read.files; source = refl; output = refl }) (λ failed. read.faults.rose (rw failed refl))

@@ -5,7 +5,7 @@ use Rattle.jm_jrt.specs.Stat.{held, stat}
 use Rattle.jm_commands.specs.Outcome.{cat_outcome, extract_outcome, ls_outcome}
 use Rattle.jm_commands.proofs.OutcomeLaws.{cat_session, ls_session}
 use Rattle.jm_commands.proofs.StepLaws.{on_any_text, put_on_text}
-use Rattle.jm_commands.proofs.image_file.do_task.Goals as goal
+use Rattle.jm_commands.proofs.image_file.do_work.Goals as goal
 
 pub returns-in-Cat : goal.returns-in-Cat
 returns-in-Cat g c =
