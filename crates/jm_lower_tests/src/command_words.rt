@@ -2,8 +2,7 @@
 
 use jm_bytes::{List, Order, Text};
 use jm_pattern::Pattern;
-use jm_plugins::Plugin;
-use jm_words::{Command, WordsError, read_words};
+use jm_words::{Command, GenTask, ImageWork, LinkTask, Plugin, Task, WordsError, read_words};
 use std::alloc::{AllocError, Global};
 use std::test::Fail;
 
@@ -70,20 +69,19 @@ fn tell_plugins(line: &mut String, plugins: &List<Plugin>) -> Result<(), AllocEr
     Ok(())
 }
 
-/// Tells a command on a file: what it names there, and its jobs.
+/// Tells what a command names on a file: the file, and a place there.
 fn tell_file(
     line: &mut String,
     word: &str,
     file: &Text,
     place: Option<&Text>,
-    jobs: u32,
 ) -> Result<(), AllocError> {
     line.push_str(word)?;
     tell(line, file)?;
-    if let Some(place) = place {
-        tell(line, place)?;
+    match place {
+        Some(place) => tell(line, place),
+        None => Ok(()),
     }
-    write!(line, " jobs {jobs}")
 }
 
 /// Tells where a `link` reads: the folders, or the image.
@@ -102,74 +100,73 @@ fn tell_source(
     }
 }
 
-/// Tells a command, if it is a `link`.
-fn tell_link(line: &mut String, command: &Command) -> Result<(), AllocError> {
-    match command {
-        Command::Link {
-            dirs,
-            roots,
-            output,
-            plugins,
-            order,
-            bind,
-            from_image,
-            jobs,
-        } => {
-            line.push_str("link")?;
-            tell_source(line, dirs, from_image)?;
-            line.push_str(" add")?;
-            tell_all(line, roots)?;
-            line.push_str(" to")?;
-            tell(line, output)?;
-            write!(line, " jobs {jobs}")?;
-            tell_plugins(line, plugins)?;
-            line.push_str(if *order == Order::Big {
-                " big"
-            } else {
-                " little"
-            })?;
-            line.push_str(if *bind { " bound" } else { "" })
-        }
-        _ => Ok(()),
+/// Tells what a `link` reads, takes and makes.
+fn tell_link(line: &mut String, task: &LinkTask) -> Result<(), AllocError> {
+    line.push_str("link")?;
+    tell_source(line, &task.dirs, &task.from_image)?;
+    line.push_str(" add")?;
+    tell_all(line, &task.roots)?;
+    line.push_str(" to")?;
+    tell(line, &task.output)
+}
+
+/// Tells what a `link` does.
+fn tell_linking(line: &mut String, task: &LinkTask) -> Result<(), AllocError> {
+    tell_plugins(line, &task.plugins)?;
+    line.push_str(if task.order == Order::Big {
+        " big"
+    } else {
+        " little"
+    })?;
+    line.push_str(if task.bind { " bound" } else { "" })
+}
+
+/// Tells what a `gen` makes.
+fn tell_gen(line: &mut String, task: &GenTask) -> Result<(), AllocError> {
+    let GenTask {
+        modules,
+        classes,
+        seed,
+        ..
+    } = task;
+    write!(line, " modules {modules} classes {classes} seed {seed}")
+}
+
+/// Tells a work on an image, but for its patterns.
+fn tell_work(line: &mut String, image: &Text, work: &ImageWork) -> Result<(), AllocError> {
+    match work {
+        ImageWork::Cat { name } => tell_file(line, "cat", image, Some(name)),
+        ImageWork::List { .. } => tell_file(line, "list", image, None),
+        ImageWork::Ls { path } => tell_file(line, "ls", image, Some(path)),
+        ImageWork::Info => tell_file(line, "info", image, None),
+        ImageWork::Extract { dir, .. } => tell_file(line, "extract", image, Some(dir)),
+        ImageWork::Verify => tell_file(line, "verify", image, None),
+        ImageWork::Serve => tell_file(line, "serve", image, None),
     }
 }
 
-/// Tells a command that has more than a file, a place there and its jobs.
-fn tell_more(line: &mut String, command: &Command) -> Result<(), AllocError> {
-    match command {
-        Command::List { include, .. } | Command::Extract { include, .. } => {
-            tell_patterns(line, include)
-        }
-        Command::Gen {
-            modules,
-            classes,
-            seed,
-            ..
-        } => write!(line, " modules {modules} classes {classes} seed {seed}"),
-        _ => Ok(()),
+/// Tells what stands in front of the number of jobs.
+fn tell_task(line: &mut String, task: &Task) -> Result<(), AllocError> {
+    match task {
+        Task::Link(task) => tell_link(line, task),
+        Task::Image { image, work } => tell_work(line, image, work),
+        Task::Gen(task) => tell_file(line, "gen", &task.dir, None),
+        Task::Describe { file } => tell_file(line, "describe", file, None),
+        Task::Help => line.push_str("--help"),
+        Task::Version => line.push_str("--version"),
     }
 }
 
-/// Tells a command, but for what `tell_more` tells.
-fn tell_command(line: &mut String, command: &Command) -> Result<(), AllocError> {
-    match command {
-        Command::Link { .. } => tell_link(line, command),
-        Command::Cat { image, name, jobs } => tell_file(line, "cat", image, Some(name), *jobs),
-        Command::List { image, jobs, .. } => tell_file(line, "list", image, None, *jobs),
-        Command::Ls { image, path, jobs } => tell_file(line, "ls", image, Some(path), *jobs),
-        Command::Info { image, jobs } => tell_file(line, "info", image, None, *jobs),
-        Command::Extract {
-            image,
-            dir,
-            jobs,
+/// Tells what stands behind the number of jobs.
+fn tell_more(line: &mut String, task: &Task) -> Result<(), AllocError> {
+    match task {
+        Task::Link(task) => tell_linking(line, task),
+        Task::Image {
+            work: ImageWork::List { include } | ImageWork::Extract { include, .. },
             ..
-        } => tell_file(line, "extract", image, Some(dir), *jobs),
-        Command::Verify { image, jobs } => tell_file(line, "verify", image, None, *jobs),
-        Command::Serve { image, jobs } => tell_file(line, "serve", image, None, *jobs),
-        Command::Gen { dir, jobs, .. } => tell_file(line, "gen", dir, None, *jobs),
-        Command::Describe { file, jobs } => tell_file(line, "describe", file, None, *jobs),
-        Command::Help { jobs } => write!(line, "--help jobs {jobs}"),
-        Command::Version { jobs } => write!(line, "--version jobs {jobs}"),
+        } => tell_patterns(line, include),
+        Task::Gen(task) => tell_gen(line, task),
+        _ => Ok(()),
     }
 }
 
@@ -178,8 +175,10 @@ fn told(alloc: Global, words: &str) -> Result<String, Fail> {
     match read(alloc, words)? {
         Ok(command) => {
             let mut line = String::new(alloc);
-            tell_command(&mut line, &command)?;
-            tell_more(&mut line, &command)?;
+            let jobs = command.jobs;
+            tell_task(&mut line, &command.task)?;
+            write!(line, " jobs {jobs}")?;
+            tell_more(&mut line, &command.task)?;
             Ok(line)
         }
         Err(error) => Ok(format!(in alloc; "{error}")?),
