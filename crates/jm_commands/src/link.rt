@@ -1,13 +1,13 @@
 //! The command `link`.
-ghost use Rattle.std.specs.Prelude.{◌≡◌, ◌<◌, ℕ, All, IfOk, IsUtf8, List, string_bytes};
+ghost use Rattle.std.specs.Prelude.{◌≡◌, ◌<◌, ℕ, IfOk, IsUtf8, List, string_bytes};
 ghost use Rattle.jm_link.specs.ImageLinked.{ImageLinks};
 ghost use Rattle.jm_link.specs.Links.{request_of};
 ghost use Rattle.jm_words.specs.Paths.{LinkIsText};
 ghost use Rattle.jm_outside.specs.Shelves.{shelf_at};
 ghost use Rattle.jm_commands.specs.LinkText.{link_text};
 ghost use Rattle.jm_commands.specs.Outcome.{done, reading};
-ghost use Rattle.jm_commands.specs.Run.{ImageComes, ImageLinkComesTo, LinkComesTo};
-ghost use Rattle.jm_commands.specs.Run.{PathLinkComesTo, PutDoes, StepComesTo};
+ghost use Rattle.jm_commands.specs.Run.{ImageComes, ImageLinkComesTo, LinkComesTo, PutDoes};
+ghost use Rattle.jm_commands.specs.Run.{StepComesTo};
 ghost use Rattle.jm_commands.specs.Sinks.{Seen};
 ghost use Rattle.jm_commands.specs.World.{sink_at, world};
 
@@ -46,32 +46,6 @@ fn put_summary<O: Sink>(alloc: Global, summary: &Summary, out: &mut O) -> Result
 {
     let text = link_text(alloc, summary)?;
     put_output(alloc, text.as_bytes(), out)
-}
-
-/// Links from a module path, and puts what the image has.
-fn link_from_path<T: Threads + Sync, S: Shelf, O: Sink, G: Gate + Sync>(
-    workers: &Workers<T, G>,
-    task: &LinkTask,
-    shelf: &mut S,
-    out: &mut O,
-) -> Result<(), Stop>
-    requires jobs { 0 < workers.now.jobs }
-    requires directories { All IsUtf8 task.now.dirs }
-    requires output { IsUtf8 task.now.output }
-    ensures { (source : Seen (List ℕ)) →
-        StepComesTo (PathLinkComesTo link_text (S.files shelf.old) task.now) reading result
-        (world (shelf_at S.Shelf shelf.old) source (sink_at O.Sink out.old))
-        (world (shelf_at S.Shelf shelf.new) source (sink_at O.Sink out.new)) }
-{
-    let summary = link(
-        workers.rt,
-        workers.alloc,
-        workers.jobs,
-        task,
-        shelf,
-        workers.gate,
-    )?;
-    put_summary(workers.alloc, &summary, out)
 }
 
 /// Does what `link_image` does, with a meter of its own.
@@ -170,6 +144,16 @@ pub fn link_command<T: Threads + Sync, S: Shelf, O: Sink, G: Gate + Sync>(
 {
     match &task.from_image {
         Some(path) => link_from_image(workers, task, path, shelf, out),
-        None => link_from_path(workers, task, shelf, out),
+        None => {
+            let summary = link(
+                workers.rt,
+                workers.alloc,
+                workers.jobs,
+                task,
+                shelf,
+                workers.gate,
+            )?;
+            put_summary(workers.alloc, &summary, out)
+        }
     }
 }
