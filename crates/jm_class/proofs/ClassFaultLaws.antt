@@ -12,7 +12,7 @@ use Rattle.jm_class.specs.declared.class.ClassFault.TheVariants as fault
 use Rattle.jm_class.specs.declared.class.Class.{Class}
 use Rattle.jm_class.specs.declared.class.ReadError.{ReadError}
 use Rattle.jm_class.specs.declared.class.ReadError.TheVariants.{Fault}
-use Rattle.jm_class.specs.Classes.{SlotData, Constant, Hole, OpaqueData, CodeData, Opaque, Coded, AttributeData, MemberData, ClassData}
+use Rattle.jm_class.specs.Classes.{SlotData, Constant, Hole, CodeData, MemberData, ClassData}
 use Rattle.jm_class.specs.Classes.{magic, body_size, is_tag, is_wide, utf8_at, is_code_name, is_major}
 use Rattle.jm_class.specs.ClassFaults.{ClassRow, Magic, Major, Number, PoolCount, Tag, Body, TextBytes, Name, AttributeBody, InCode}
 use Rattle.jm_class.specs.ClassFaults.{NameInCode, CodeEnd, FileEnd, tag_fault, class_table, body_then, constant_then, slots_then}
@@ -25,7 +25,7 @@ use Rattle.jm_class.specs.Formats.{Format, Field, Part, Remaining, FieldSeen, by
 use Rattle.jm_class.specs.Readings.{Left, behind, Outcome, Reading, continued, number, list_of, sized, ended}
 use Rattle.jm_class.specs.Views.{ReadsClass}
 use Rattle.jm_class.proofs.ComputedClassLaws.{class_refused}
-use Rattle.jm_class.proofs.FormatLaws.{told, Agrees, AgreesAll, judged, then_agrees, step_agrees, value_agrees, field_agrees, part_agrees}
+use Rattle.jm_class.proofs.FormatLaws.{told, Agrees, AgreesAll, judged, then_agrees, step_agrees, passes_all, field_agrees, part_agrees}
 use Rattle.jm_class.proofs.FormatLaws.{number_is, number_agrees, checked_agrees, plain_agrees, list_agrees, sized_agrees, ended_agrees}
 use Rattle.jm_class.proofs.FormatLaws.{whole_agrees, one_fault, no_fault}
 
@@ -77,15 +77,15 @@ constant_agrees more next rest left same =
     (tag_agrees more (λ tag. body_then (body_size tag) (λ body. next tag body)) left)
     (λ tag after. then_agrees class_table (body_field tag after) _ _ (λ body last. told (next tag body) last) _
     (body_agrees (body_size tag) (λ body. next tag body) after)
-    (λ body last. rw (same tag body last) (value_agrees class_table (Constant tag body) last rest)))
+    (λ body last. rw (same tag body last) (passes_all class_table)))
 
 slots_agree : (n : ℕ) (due : Bool) (next : List SlotData → Format ClassRow) (left : Left)
     → ClassAgrees (slots n due left) (told (slots_then n due next) left) (λ slots after. told (next slots) after)
-slots_agree zero due next left = value_agrees class_table {A = List SlotData} [] left (λ slots after. told (next slots) after)
+slots_agree zero due next left = passes_all class_table
 slots_agree (suc n) true next left =
     then_agrees class_table (slots n false left) _ _ (λ slots after. told (next (Hole ∷ slots)) after) _
     (slots_agree n false (λ slots. next (Hole ∷ slots)) left)
-    (λ slots after. value_agrees class_table (Hole ∷ slots) after (λ slots after. told (next slots) after))
+    (λ slots after. passes_all class_table)
 slots_agree (suc n) false next left =
     then_agrees class_table (constant (nat_lt 0 n) left) _ _
     (λ slot after. told (slots_then n (is_wide_slot slot) (λ slots. next (slot ∷ slots))) after) _
@@ -93,7 +93,7 @@ slots_agree (suc n) false next left =
     (λ tag body after. refl))
     (λ slot after. then_agrees class_table (slots n (is_wide_slot slot) after) _ _ (λ slots last. told (next (slot ∷ slots)) last) _
     (slots_agree n (is_wide_slot slot) (λ slots. next (slot ∷ slots)) after)
-    (λ slots last. value_agrees class_table (slot ∷ slots) last (λ slots after. told (next slots) after)))
+    (λ slots last. passes_all class_table))
 
 pool_agrees : (next : List SlotData → Format ClassRow) (left : Left)
     → ClassAgrees (pool_field left) (told (pool_then next) left) (λ pool after. told (next pool) after)
@@ -128,7 +128,7 @@ module _ (code : ℕ) (pool : List SlotData) where
       (λ name after. then_agrees class_table _ _ _ (λ bytes last. told next last) _
       (sized_agrees class_table short (InCode code) (λ at. refl) (λ at bytes. refl) (InCode code) (λ at. refl)
       (λ at bytes. refl) next after)
-      (λ bytes last. value_agrees class_table {A = OpaqueData} (record { name = name; bytes = bytes }) last (λ a last. told next last)))
+      (λ bytes last. passes_all class_table))
 
   rows_agree : ClassAgreesAll (rows_field short)
       (λ next. number_then (InCode code) w16 (λ count. bytes_then (InCode code) (8 * count) next))
@@ -150,14 +150,7 @@ module _ (code : ℕ) (pool : List SlotData) where
       step_agrees class_table _ (list_then (InCode code) (plain_then code pool))
       (list_agrees class_table short (InCode code) (λ at. refl) (λ at bytes. refl) (opaque_field short pool)
       (plain_then code pool) plain_in_agrees) (Remaining (CodeEnd code)) _ end l4 (λ attributes l5.
-      value_agrees class_table (record {
-        max_stack = max_stack;
-        max_locals = max_locals;
-        code = bytes;
-        handlers = handlers;
-        attributes =
-            attributes;
-      }) l5 end)))))
+      passes_all class_table)))))
     where
       end : CodeData → Left → List (FieldSeen ClassRow)
       end c after = told (Remaining (CodeEnd code)) after
@@ -197,10 +190,10 @@ held_agrees : (pool : List SlotData) (coded : Bool) → ClassAgreesAll (held_fie
 held_agrees pool false next left =
     then_agrees class_table (sized fault.Short left) _ _ (λ bytes after. told next after) _
     (sized_agrees class_table fault.Short Number (λ at. refl) (λ at bytes. refl) AttributeBody (λ at. refl) (λ at bytes. refl) next left)
-    (λ bytes after. value_agrees class_table (Opaque bytes) after (λ a after. told next after))
+    (λ bytes after. passes_all class_table)
 held_agrees pool true next left =
     then_agrees class_table (code_field pool left) _ _ (λ code after. told next after) _ (code_held_agrees pool next left)
-    (λ code after. value_agrees class_table (Coded code) after (λ a after. told next after))
+    (λ code after. passes_all class_table)
 
 attribute_agrees : (pool : List SlotData) (in_method : Bool)
     → ClassAgreesAll (attribute_field pool in_method) (attribute_then pool in_method)
@@ -211,7 +204,7 @@ attribute_agrees pool in_method next left =
     (λ name after. then_agrees class_table (held_field pool (in_method && is_code_name (utf8_at pool name)) after) _ _
     (λ body last. told next last) _
     (held_agrees pool (in_method && is_code_name (utf8_at pool name)) next after)
-    (λ body last. value_agrees class_table {A = AttributeData} (record { name = name; body = body }) last (λ a after. told next after)))
+    (λ body last. passes_all class_table))
 
 -- Members and the class
 
@@ -224,7 +217,7 @@ member_agrees pool in_method next left =
     step_agrees class_table _ (list_then Number (attribute_then pool in_method))
     (list_all (attribute_field pool in_method) (attribute_then pool in_method) (attribute_agrees pool in_method)) next _ end l3
     (λ attributes l4.
-    value_agrees class_table (record { access = access; name = name; descriptor = descriptor; attributes = attributes }) l4 end))))
+    passes_all class_table))))
   where
     end : MemberData → Left → List (FieldSeen ClassRow)
     end m after = told next after
@@ -260,18 +253,7 @@ class_agrees left =
     step_agrees class_table _ (list_then Number (attribute_then pool false))
     (list_all (attribute_field pool false) (attribute_then pool false) (attribute_agrees pool false)) (Remaining FileEnd) _ end l9
     (λ attributes l10.
-    value_agrees class_table (record {
-      minor = minor;
-      major = major;
-      pool = pool;
-      access = access;
-      this_class = this_class;
-      super_class = super_class;
-      interfaces = interfaces;
-      fields = fields;
-      methods = methods;
-      attributes = attributes;
-    }) l10 end)))))))))))
+    passes_all class_table)))))))))))
   where
     end : ClassData → Left → List (FieldSeen ClassRow)
     end c after = told (Remaining FileEnd) after

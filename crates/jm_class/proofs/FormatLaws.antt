@@ -67,9 +67,9 @@ module _ {Row F : Type 0} (table : Table Row F) where
   then_agrees (Ok r) next fields middle rest one two = agrees_behind (next r.0 r.1) fields (middle r.0 r.1) rest one (two r.0 r.1)
   then_agrees (Err fault) next fields middle rest one two = one
 
-  -- a value for which no byte is read
-  pub value_agrees : {A : Type 0} (a : A) (left : Left) (rest : A → Left → List (FieldSeen Row)) → Agrees (value a left) (rest a left) rest
-  value_agrees a left rest = record { taken = []; good = All-nil (IsGood table); list = refl }
+  -- a value for which no byte is read: no field is taken
+  pub passes_all : {fields : List (FieldSeen Row)} → Passes fields fields
+  passes_all = record { taken = []; good = All-nil (IsGood table); list = refl }
 
   -- One field
 
@@ -125,6 +125,38 @@ module _ {Row F : Type 0} (table : Table Row F) where
       (fits_agrees row size left (nat_le size (length left.bytes)) refl _ _ _
       (λ fits. judged_agrees (seen row size left.place left.bytes) _ (table.refused row left.place (take size left.bytes))
       (made (take size left.bytes)) (behind size left) (λ a after. told (next left.place a) after) (omega (arith, fits)) refl refl))
+
+  -- what was read of a field that fits is what the table says of it: a fault, or what stands behind it
+  abbrev pub Judges : {A : Type 0} → Option F → Outcome F A → Left → Type 0
+  Judges None (Ok r) after = r.1 ≡ after
+  Judges (Some fault) (Err found) after = fault ≡ found
+  Judges _ _ after = ⊥
+
+  -- a reading of one field, on whose value nothing depends
+  pub judges_agrees : {A : Type 0} (row : Row) (size : ℕ) (next : Format Row) (left : Left) (outcome inside : Outcome F A)
+      → outcome ≡ cond (nat_le size (length left.bytes)) inside (Err (table.missing row left.place))
+      → Judges (table.refused row left.place (take size left.bytes)) inside (behind size left)
+      → Agrees outcome (told (bytes_then row size next) left) (λ a after. told next after)
+  judges_agrees {A} row size next left outcome inside is judges =
+      rw is
+      (fits_agrees row size left (nat_le size (length left.bytes)) refl inside _ _
+      (λ fits. go fits (table.refused row left.place (take size left.bytes)) refl inside judges))
+    where
+      go : size ≤ length left.bytes → (verdict : Option F) → table.refused row left.place (take size left.bytes) ≡ verdict
+          → (inside : Outcome F A) → Judges verdict inside (behind size left)
+          → Agrees inside (seen row size left.place left.bytes ∷ told next (behind size left)) (λ a after. told next after)
+      go fits None says (Ok r) judges =
+          judged_agrees _ _ None r.0 r.1 (λ a after. told next after) (omega (arith, fits)) says (ap (λ l. told next l) (sym judges))
+      go fits (Some fault) says (Err found) judges = record {
+        before = [];
+        field = seen row size left.place left.bytes;
+        after = told next (behind size left);
+        list = refl;
+        good = All-nil (IsGood table);
+        bad = inr (omega (arith, fits), says ∙ ap (λ f. Some f) judges);
+      }
+      go fits None says (Err found) judges = absurd judges
+      go fits (Some fault) says (Ok r) judges = absurd judges
 
   -- n bytes
   pub part_agrees : (short : ℕ → F) (row : Row) (n : ℕ) (next : ℕ → List ℕ → Format Row) (left : Left)
@@ -190,11 +222,11 @@ module _ {Row F : Type 0} (table : Table Row F) where
   -- so many of one kind
   pub counted_agrees : {A : Type 0} (item : Reading F A) (form : Format Row → Format Row) → AgreesAll item form → (n : ℕ)
       → AgreesAll (counted n item) (times n form)
-  counted_agrees {A} item form law zero next left = value_agrees {A = List A} [] left (λ a after. told next after)
+  counted_agrees {A} item form law zero next left = passes_all
   counted_agrees item form law (suc n) next left =
       then_agrees (item left) _ _ (λ a after. told (times n form next) after) _ (law (times n form next) left)
       (λ a after. then_agrees (counted n item after) _ _ (λ items last. told next last) _ (counted_agrees item form law n next after)
-      (λ items last. value_agrees (a ∷ items) last (λ a after. told next after)))
+      (λ items last. passes_all))
 
   module _ (short : ℕ → F) (row : Row) (same : (at : ℕ) → short at ≡ table.missing row at)
       (allowed : (at : ℕ) (bytes : List ℕ) → table.refused row at bytes ≡ None) where

@@ -1,5 +1,7 @@
 pub mod BodiesLaws
+pub mod BodyFaultLaws
 pub mod FieldTells
+pub mod InfoFaultLaws
 pub mod InfoLaws
 pub mod Stops
 pub mod TellsLaws

@@ -1,3 +1,4 @@
+pub mod BodyFaults
 pub mod Constants
 pub mod ComputedInfo
 pub mod Descriptors

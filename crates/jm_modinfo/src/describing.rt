@@ -3,6 +3,7 @@ ghost use Rattle.jm_class.specs.Classes.{IsClass};
 ghost use Rattle.jm_class.specs.Views.{plain};
 ghost use Rattle.jm_modinfo.specs.declared.descriptor.Descriptor.{Descriptor};
 ghost use Rattle.jm_modinfo.specs.declared.faults.InfoError.TheVariants.{Fault};
+ghost use Rattle.jm_modinfo.specs.BodyFaults.{HasInfoFault};
 ghost use Rattle.jm_modinfo.specs.ComputedInfo.{body_info, info_of};
 ghost use Rattle.jm_modinfo.specs.Descriptors.{InfoOf, IsModuleBody};
 ghost use Rattle.jm_modinfo.specs.Faults.{info_fault};
@@ -53,7 +54,10 @@ pub fn describe(alloc: Global, class: &Class) -> Result<Descriptor, InfoError>
     ensures info { IfOk result (λ d. InfoOf (plain class.now) d) }
     ensures only { IfOk result (λ d.
         (other : Descriptor) → InfoOf (plain class.now) other → other ≡ d) }
+    ensures allowed { OnOk result ((fault : _) → ¬ HasInfoFault (plain class.now) fault) }
     ensures no_fault { OnOk result (info_fault (plain class.now) ≡ None) }
+    ensures first { (fault : _) → result ≡ Err (Fault fault)
+        → HasInfoFault (plain class.now) fault }
     ensures fault { (fault : _) → result ≡ Err (Fault fault)
         → info_fault (plain class.now) ≡ Some fault }
     ensures no_info { (fault : _) → result ≡ Err (Fault fault)
