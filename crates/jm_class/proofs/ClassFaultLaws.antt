@@ -1,7 +1,7 @@
 -- The fault that `class_fault` computes is the one that `HasClassFault` rules, both ways: each reading
 -- of a class agrees with its fields.
 use Rattle.std.proofs.Common.{◌≡◌, ℕ, zero, suc, ◌-◌, ◌*◌, Bool, true, false, cond, ◌&&◌, List, [], ◌∷◌, length, take, Option, Some, None}
-use Rattle.std.proofs.Common.{Result, Ok, Err, refl, sym, ap, subst, ◌∙◌, arith}
+use Rattle.std.proofs.Common.{Result, Ok, Err, refl, ap, subst, arith}
 use Rattle.std.proofs.lemmas.Bool.Decides.{nat_tests}
 use Rattle.std.specs.Int.{w8, w16, w32, from_be_bytes}
 use Rattle.std.specs.Prelude.{nat_le, nat_lt, nat_eq, not, OnOk, is_some}
@@ -17,7 +17,7 @@ use Rattle.jm_class.specs.Classes.{magic, body_size, is_tag, is_wide, utf8_at, i
 use Rattle.jm_class.specs.ClassFaults.{ClassRow, Magic, Major, Number, PoolCount, Tag, Body, TextBytes, Name, AttributeBody, InCode}
 use Rattle.jm_class.specs.ClassFaults.{NameInCode, CodeEnd, FileEnd, tag_fault, class_table, body_then, constant_then, slots_then}
 use Rattle.jm_class.specs.ClassFaults.{pool_then, plain_then, code_format, held_then, attribute_then, member_then, class_format}
-use Rattle.jm_class.specs.ClassFaults.{class_fields_seen, HasClassFault}
+use Rattle.jm_class.specs.ClassFaults.{class_fields_seen, HasClassFault, HasNoClassFault}
 use Rattle.jm_class.specs.ComputedClass.{tag_field, body_of_size, body_field, constant, is_wide_slot, slots, pool_field, name_field}
 use Rattle.jm_class.specs.ComputedClass.{opaque_field, rows_field, code_fields, code_field, held_field, attribute_field, member_field}
 use Rattle.jm_class.specs.ComputedClass.{magic_field, major_field, class_fields, value_of, fault_of, class_fault}
@@ -27,7 +27,7 @@ use Rattle.jm_class.specs.Views.{ReadsClass}
 use Rattle.jm_class.proofs.ComputedClassLaws.{class_refused}
 use Rattle.jm_class.proofs.FormatLaws.{told, Agrees, AgreesAll, judged, then_agrees, step_agrees, passes_all, field_agrees, part_agrees}
 use Rattle.jm_class.proofs.FormatLaws.{number_is, number_agrees, checked_agrees, plain_agrees, list_agrees, sized_agrees, ended_agrees}
-use Rattle.jm_class.proofs.FormatLaws.{whole_agrees, one_fault, no_fault}
+use Rattle.jm_class.proofs.FormatLaws.{whole_agrees, one_fault, no_fault, passed_good, good_no_fault}
 
 -- what a reading of a class gave agrees with the fields
 abbrev ClassAgrees : {A : Type 0} → Outcome ClassFault A → List (FieldSeen ClassRow) → (A → Left → List (FieldSeen ClassRow)) → Type 0
@@ -311,6 +311,22 @@ rule-class_fault bytes f has = go (ended fault.Rest class_fields (record { place
     go (Ok r) agrees = absurd (no_fault class_table (class_fields_seen bytes) f agrees has)
     go (Err found) agrees = ap (λ f. Some f) (one_fault class_table (class_fields_seen bytes) found f agrees has)
 
+-- there is no fault exactly where each field is good
+pub no_class_fault-rule : (bytes : List ℕ) → class_fault bytes ≡ None → HasNoClassFault bytes
+no_class_fault-rule bytes is = go (ended fault.Rest class_fields (record { place = 0; bytes = bytes })) (whole_agrees_class bytes) is
+  where
+    go : (outcome : Outcome ClassFault ClassData) → ClassAgrees outcome (class_fields_seen bytes) (λ c after. [])
+        → fault_of (value_of outcome) ≡ None → HasNoClassFault bytes
+    go (Ok r) agrees is = passed_good class_table (class_fields_seen bytes) agrees
+    go (Err found) agrees is = cc
+
+pub rule-no_class_fault : (bytes : List ℕ) → HasNoClassFault bytes → class_fault bytes ≡ None
+rule-no_class_fault bytes good = go (class_fault bytes) refl
+  where
+    go : (found : Option ClassFault) → class_fault bytes ≡ found → class_fault bytes ≡ None
+    go None is = is
+    go (Some f) is = absurd (good_no_fault class_table (class_fields_seen bytes) f good (class_fault-rule bytes f is))
+
 -- what the code refused
 pub class_has_fault : (bytes : List ℕ) (result : Result Class ReadError) (f : ClassFault) → ReadsClass bytes result
     → result ≡ Err (Fault f) → HasClassFault bytes f
@@ -318,6 +334,6 @@ class_has_fault bytes result f reads is = class_fault-rule bytes f (class_refuse
 
 -- what the code read has no fault
 pub class_has_none : (bytes : List ℕ) (result : Result Class ReadError) → ReadsClass bytes result
-    → OnOk result ((f : ClassFault) → HasClassFault bytes f → ⊥)
-class_has_none bytes (Ok class) reads = λ f has. let both = sym (ap fault_of reads) ∙ rule-class_fault bytes f has in cc
+    → OnOk result (HasNoClassFault bytes)
+class_has_none bytes (Ok class) reads = no_class_fault-rule bytes (ap fault_of reads)
 class_has_none bytes (Err error) reads = tt

@@ -2,7 +2,7 @@
 -- those behind them are the fields of what is left; where it has a fault, that is the first fault of
 -- the fields. One law for each form of a reading; a list of fields has one fault.
 use Rattle.std.proofs.Common.{◌≡◌, ℕ, zero, suc, ◌+◌, ◌≤◌, inl, inr, Bool, true, false, cond, List, [], ◌∷◌, ◌++◌, length, take, Option}
-use Rattle.std.proofs.Common.{Some, None, Ok, Err, map, refl, sym, ap, ◌∙◌, arith, append_assoc}
+use Rattle.std.proofs.Common.{Some, None, Ok, Err, map, refl, sym, ap, subst, ◌∙◌, arith, append_assoc}
 use Rattle.std.proofs.lemmas.Bool.{leb-true, leb-false, le-leb}
 use Rattle.std.proofs.lemmas.List.{append-nil, length-take-le}
 use Rattle.std.proofs.lemmas.List.Elements.{All-nil, All-cons, All-append, All-head, All-tail}
@@ -11,7 +11,7 @@ use Rattle.std.specs.Prelude.{All, nat_le, nat_eq, not}
 use Rattle.jm_bytes.specs.Checks.{fault_if, first_fault}
 use Rattle.jm_bytes.proofs.Choice.{same_some}
 use Rattle.jm_class.specs.Formats.{Format, Field, Part, Remaining, FieldSeen, seen, fields_of, bytes_then, times, list_then, sized_then}
-use Rattle.jm_class.specs.Formats.{Table, Fits, IsGood, IsFaultOf, HasFirstFault}
+use Rattle.jm_class.specs.Formats.{Table, Fits, IsGood, AreGood, IsFaultOf, HasFirstFault}
 use Rattle.jm_class.specs.Readings.{Left, behind, Outcome, Reading, value, continued, part, number, counted, checked, ended, whole}
 use Rattle.jm_class.specs.Readings.{list_of, sized}
 
@@ -23,7 +23,7 @@ module _ {Row F : Type 0} (table : Table Row F) where
   -- good fields, and the rest behind them
   pub record Passes (fields rest : List (FieldSeen Row)) : Type 0 where
     pub taken : List (FieldSeen Row)
-    pub good : All (IsGood table) taken
+    pub good : AreGood table taken
     pub list : fields ≡ taken ++ rest
 
   -- what a reading gave agrees with the fields, where those behind the value follow from it
@@ -366,3 +366,11 @@ module _ {Row F : Type 0} (table : Table Row F) where
   -- fields that all passed have none
   pub no_fault : (fields : List (FieldSeen Row)) (fault : F) → Passes fields [] → HasFirstFault table fields fault → ⊥
   no_fault fields fault passes has = let both = sym (passed_none fields passes) ∙ fault_first fields fault has in cc
+
+  -- fields that all passed are good
+  pub passed_good : (fields : List (FieldSeen Row)) → Passes fields [] → AreGood table fields
+  passed_good fields passes = subst (AreGood table) (sym (passes.list ∙ append-nil passes.taken)) passes.good
+
+  -- good fields have no fault
+  pub good_no_fault : (fields : List (FieldSeen Row)) (fault : F) → AreGood table fields → HasFirstFault table fields fault → ⊥
+  good_no_fault fields fault good has = no_fault fields fault (record { taken = fields; good = good; list = sym (append-nil fields) }) has

@@ -9,7 +9,7 @@ use Rattle.jm_class.specs.declared.class.ClassFault.TheVariants as fault
 use Rattle.jm_class.specs.Classes.{SlotData, Constant, Hole, magic, body_size, is_tag, is_wide}
 use Rattle.jm_class.specs.Classes.{utf8_at, is_code_name, is_major}
 use Rattle.jm_class.specs.Formats.{Format, Field, Part, Remaining, FieldSeen, fields_of, bytes_then}
-use Rattle.jm_class.specs.Formats.{number_then, list_then, sized_then, Table, HasFirstFault}
+use Rattle.jm_class.specs.Formats.{number_then, list_then, sized_then, Table, AreGood, HasFirstFault}
 
 -- The table
 
@@ -161,3 +161,7 @@ class_fields_seen bytes = fields_of class_format 0 bytes
 -- the rule: the first field of these bytes that doesn't fit or isn't allowed has this fault
 abbrev pub HasClassFault : List ℕ → ClassFault → Type 0
 HasClassFault bytes fault = HasFirstFault class_table (class_fields_seen bytes) fault
+
+-- no fault: each field of these bytes fits and is allowed
+abbrev pub HasNoClassFault : List ℕ → Type 0
+HasNoClassFault bytes = AreGood class_table (class_fields_seen bytes)

@@ -91,6 +91,10 @@ IsAllowed table field = table.refused field.row field.place field.bytes ≡ None
 abbrev pub IsGood : {Row Fault : Type 0} → Table Row Fault → FieldSeen Row → Type 0
 IsGood table field = Fits field × IsAllowed table field
 
+-- each field fits and is allowed
+abbrev pub AreGood : {Row Fault : Type 0} → Table Row Fault → List (FieldSeen Row) → Type 0
+AreGood table fields = All (IsGood table) fields
+
 -- a field doesn't fit or isn't allowed, and the table says this fault
 abbrev pub IsFaultOf : {Row Fault : Type 0} → Table Row Fault → FieldSeen Row → Fault → Type 0
 IsFaultOf table field fault =
@@ -104,5 +108,5 @@ pub record HasFirstFault {Row Fault : Type 0} (table : Table Row Fault)
   pub field : FieldSeen Row
   pub after : List (FieldSeen Row)
   pub list : fields ≡ before ++ field ∷ after
-  pub good : All (IsGood table) before
+  pub good : AreGood table before
   pub bad : IsFaultOf table field fault

@@ -1,5 +1,5 @@
 ghost use Rattle.std.specs.Prelude.{◌≡◌, None, Some, Err, option_map, IfOk, OnOk};
-ghost use Rattle.jm_class.specs.ClassFaults.{HasClassFault};
+ghost use Rattle.jm_class.specs.ClassFaults.{HasClassFault, HasNoClassFault};
 ghost use Rattle.jm_class.specs.Classes.{ClassData, ReadsAs, utf8_at};
 ghost use Rattle.jm_class.specs.ComputedClass.{magic_field, major_field, class_fields, class_fault};
 ghost use Rattle.jm_class.specs.declared.class.ReadError.TheVariants.{Fault};
@@ -84,7 +84,7 @@ pub fn read<'a>(alloc: Global, bytes: &'a [u8]) -> Result<Class<'a>, ReadError>
     ensures class { IfOk result (λ class. ReadsAs bytes.now (plain class)) }
     ensures only { IfOk result (λ class.
         (other : ClassData) → ReadsAs bytes.now other → other ≡ plain class) }
-    ensures allowed { OnOk result ((fault : _) → ¬ HasClassFault bytes.now fault) }
+    ensures allowed { OnOk result (HasNoClassFault bytes.now) }
     ensures no_fault { OnOk result (class_fault bytes.now ≡ None) }
     ensures first { (fault : _) → result ≡ Err (Fault fault) → HasClassFault bytes.now fault }
     ensures fault { (fault : _) → result ≡ Err (Fault fault) → class_fault bytes.now ≡ Some fault }

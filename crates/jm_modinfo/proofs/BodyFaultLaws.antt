@@ -1,20 +1,19 @@
 -- The first fault of the class of a module, by its rule and as a value: each reading of the body agrees
 -- with its fields, so the fault that is computed is the one that is ruled, both ways.
-use Rattle.std.proofs.Common.{◌≡◌, ℕ, Bool, true, false, cond, List, [], ◌∷◌, length, take, Option, Some, None, Result, Ok, Err, refl}
-use Rattle.std.proofs.Common.{sym, ap, subst, ◌∙◌}
-use Rattle.std.specs.Int.{w16, byte_len, from_be_bytes}
+use Rattle.std.proofs.Common.{◌≡◌, ℕ, Bool, true, false, cond, List, [], length, take, Option, Some, None, Ok, Err, refl}
+use Rattle.std.proofs.Common.{ap, subst}
+use Rattle.std.specs.Int.{w16, from_be_bytes}
 use Rattle.std.specs.Prelude.{nat_le, not, is_some}
 use Rattle.jm_bytes.specs.Checks.{fault_if}
-use Rattle.jm_bytes.proofs.Choice.{same_some}
-use Rattle.jm_class.specs.Classes.{SlotData, ClassData}
-use Rattle.jm_class.specs.Formats.{Format, Remaining, FieldSeen, bytes_then, list_then}
-use Rattle.jm_class.specs.Readings.{Left, behind, Outcome, Reading, value, continued, number, list_of, ended}
+use Rattle.jm_class.specs.Classes.{SlotData}
+use Rattle.jm_class.specs.Formats.{Format, Remaining, FieldSeen, list_then}
+use Rattle.jm_class.specs.Readings.{Left, behind, Outcome, Reading, continued, list_of, ended}
 use Rattle.jm_class.proofs.FormatLaws.{told, Agrees, AgreesAll, Judges, judges_agrees, number_is, plain_agrees, list_agrees, step_agrees}
-use Rattle.jm_class.proofs.FormatLaws.{passes_all, ended_agrees, one_fault, no_fault}
-use Rattle.jm_modinfo.specs.BodyFaults.{InfoRow, Number, Named, Version, BodyEnd, text_fault, info_table, number_then, named_then}
-use Rattle.jm_modinfo.specs.BodyFaults.{version_then, names_then, need_then, opened_then, provides_then, module_format, body_fields}
-use Rattle.jm_modinfo.specs.BodyFaults.{HasBodyFault}
-use Rattle.jm_modinfo.specs.ComputedInfo.{found_or, short_number, index_field, named_field, version_field, names_field, need_field}
+use Rattle.jm_class.proofs.FormatLaws.{passes_all, ended_agrees, one_fault, no_fault, passed_good}
+use Rattle.jm_modinfo.specs.InfoFaults.{InfoRow, Number, Named, Version, BodyEnd, text_fault, info_table, number_then, named_then}
+use Rattle.jm_modinfo.specs.InfoFaults.{version_then, names_then, need_then, opened_then, provides_then, module_format, body_fields}
+use Rattle.jm_modinfo.specs.InfoFaults.{HasBodyFault, HasNoBodyFault}
+use Rattle.jm_modinfo.specs.ComputedInfo.{found_or, short_number, named_field, version_field, names_field, need_field}
 use Rattle.jm_modinfo.specs.ComputedInfo.{opened_field, provides_field, module_field, value_of, body_info}
 use Rattle.jm_modinfo.specs.Constants.{named_at, version_at, is_allowed}
 use Rattle.jm_modinfo.specs.declared.constants.Kind.{Kind}
@@ -25,7 +24,6 @@ use Rattle.jm_modinfo.specs.declared.descriptor.Opened.{Opened}
 use Rattle.jm_modinfo.specs.declared.descriptor.Provides.{Provides}
 use Rattle.jm_modinfo.specs.declared.faults.InfoFault.{InfoFault}
 use Rattle.jm_modinfo.specs.declared.faults.InfoFault.TheVariants as info
-use Rattle.jm_modinfo.specs.Faults.{fault_of}
 
 -- One field
 
@@ -189,3 +187,12 @@ rule-body_info pool body f has = go (ended info.Rest (module_field pool) (record
         → value_of outcome ≡ Err f
     go (Ok r) agrees = absurd (no_fault info_table (body_fields pool body) f agrees has)
     go (Err found) agrees = ap (λ f. Err f) (one_fault info_table (body_fields pool body) found f agrees has)
+
+-- a body that gives a descriptor has no fault
+pub body_info-good : (pool : List SlotData) (body : List ℕ) (d : Descriptor) → body_info pool body ≡ Ok d → HasNoBodyFault pool body
+body_info-good pool body d is = go (ended info.Rest (module_field pool) (record { place = 0; bytes = body })) (body_agrees pool body) is
+  where
+    go : (outcome : Outcome InfoFault Descriptor) → Agrees info_table outcome (body_fields pool body) (λ d after. [])
+        → value_of outcome ≡ Ok d → HasNoBodyFault pool body
+    go (Ok r) agrees is = passed_good info_table (body_fields pool body) agrees
+    go (Err found) agrees is = cc

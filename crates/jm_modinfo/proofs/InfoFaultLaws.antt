@@ -1,14 +1,16 @@
 -- The fault of the class of a module that is computed is the one that is ruled, both ways.
 use Rattle.std.proofs.Common.{◌≡◌, ℕ, ◌<◌, ◌≤◌, Bool, true, false, List, [], ◌∷◌, length, Option, Some, None, Result, Ok, Err, refl, sym}
-use Rattle.std.proofs.Common.{ap, subst, ◌∙◌, arith}
+use Rattle.std.proofs.Common.{ap, ◌∙◌, arith}
 use Rattle.std.proofs.lemmas.Bool.{ltb-true, ltb-false, lt-ltb, le-ltb}
 use Rattle.std.specs.Prelude.{nat_lt, not, option_and_then, OnOk}
 use Rattle.jm_bytes.proofs.Choice.{same_some}
 use Rattle.jm_bytes.specs.Checks.{fault_if, first_fault}
 use Rattle.jm_class.specs.Classes.{ClassData}
-use Rattle.jm_modinfo.proofs.BodyFaultLaws.{body_info-rule, rule-body_info}
+use Rattle.jm_class.proofs.FormatLaws.{good_no_fault}
+use Rattle.jm_modinfo.proofs.BodyFaultLaws.{body_info-good, body_info-rule, rule-body_info}
 use Rattle.jm_modinfo.proofs.InfoLaws.{described_sound, described_fault}
-use Rattle.jm_modinfo.specs.BodyFaults.{HasBodyFault, HasBody, IsNoMain, HasInfoFault, InAccess, InMajor, InNone, InMany, InBody, InMain}
+use Rattle.jm_modinfo.specs.InfoFaults.{info_table, body_fields, HasBody, IsNoMain, HasInfoFault, InAccess, InMajor, InNone}
+use Rattle.jm_modinfo.specs.InfoFaults.{InMany, InBody, InMain}
 use Rattle.jm_modinfo.specs.ComputedInfo.{only_body, body_info, main_named, main_of, info_of}
 use Rattle.jm_modinfo.specs.Constants.{number_in, named_at}
 use Rattle.jm_modinfo.specs.declared.constants.Kind.TheVariants.{Class}
@@ -35,10 +37,10 @@ module _ (c : ClassData) (f : InfoFault) where
       go : (name : Option (List ℕ)) → option_and_then (named_at c.pool Class) (number_in one) ≡ name → fault_of (main_named name) ≡ Some f
           → HasInfoFault c f
       go (Some text) named e = cc
-      go None named e = InMain body has (λ g fault. let both = sym is ∙ rule-body_info c.pool body g fault in cc) (rw found named)
+      go None named e = InMain body has (body_info-good c.pool body d is) (rw found named)
           (sym (same_some info.Main f e))
   main_rule body has d is (one ∷ other ∷ more) found e =
-      InMain body has (λ g fault. let both = sym is ∙ rule-body_info c.pool body g fault in cc) (rw found tt)
+      InMain body has (body_info-good c.pool body d is) (rw found tt)
       (sym (same_some info.Main f e))
 
   bodies_rule : is_module c.access ≡ true → 53 ≤ c.major → (bodies : List (List ℕ)) → module_bodies c ≡ bodies
@@ -102,7 +104,7 @@ module _ (c : ClassData) (f : InfoFault) where
   rule-info_fault (InMain body has none wrong is) = go (body_info c.pool body) refl
     where
       go : (result : Result Descriptor InfoFault) → body_info c.pool body ≡ result → info_fault c ≡ Some f
-      go (Err g) found = absurd (none g (body_info-rule c.pool body g found))
+      go (Err g) found = absurd (good_no_fault info_table (body_fields c.pool body) g none (body_info-rule c.pool body g found))
       go (Ok d) found =
           let new = le-ltb c.major 53 has.major in
           let main = no_main mains wrong in

@@ -1,18 +1,22 @@
 -- The definitions, evaluated on the small classes of the format's cases.
-use Rattle.std.proofs.Common.{◌≡◌, ℕ, List, [], ◌∷◌, ◌++◌, Option, Some, None, Result, Ok, Err, refl, take, drop, length}
+use Rattle.std.proofs.Common.{◌≡◌, ℕ, List, [], ◌∷◌, ◌++◌, Option, Some, None, Result, Ok, Err, refl, map, take, drop, length}
 use Rattle.std.specs.Prelude.{codes, replicate}
 use Rattle.std.specs.Fmt.{digits}
 use Rattle.std.specs.List.{flat_map}
+use Rattle.jm_bytes.specs.Checks.{first_fault}
 use Rattle.jm_class.specs.Classes.{SlotData, Constant, Opaque, ClassData, u2}
 use Rattle.jm_class.specs.ComputedClass.{class_of}
+use Rattle.jm_class.proofs.FormatLaws.{field_fault}
 use Rattle.jm_class.specs.declared.class.ClassFault.{ClassFault}
 use Rattle.jm_class.specs.declared.class.ClassFault.TheVariants as class
 use Rattle.jm_modinfo.specs.ComputedInfo.{info_of}
 use Rattle.jm_modinfo.specs.declared.descriptor.Need.{Need}
 use Rattle.jm_modinfo.specs.declared.faults.DescriptorFault.TheVariants as fault
 use Rattle.jm_modinfo.specs.declared.faults.InfoFault.{InfoFault}
-use Rattle.jm_modinfo.specs.declared.faults.InfoFault.TheVariants.{NotModule, OldVersion, NoModule, TwoModule, Index, Short, Rest, Name, Main}
+use Rattle.jm_modinfo.specs.declared.faults.InfoFault.TheVariants.{NotModule, OldVersion, NoModule, TwoModule, Index, Short, Rest, Name}
+use Rattle.jm_modinfo.specs.declared.faults.InfoFault.TheVariants.{Main}
 use Rattle.jm_modinfo.specs.Faults.{info_fault}
+use Rattle.jm_modinfo.specs.InfoFaults.{info_table, body_fields}
 use Rattle.jm_modinfo.specs.FaultText.{descriptor_fault_text}
 use Rattle.jm_modinfo.specs.Written.{utf8, info_pool, info_class, info_text, plain_descriptor}
 
@@ -163,3 +167,32 @@ printed = refl
 
 info_printed : descriptor_fault_text (fault.Info NotModule) ≡ codes "Info NotModule"
 info_printed = refl
+
+-- The rule of a body, evaluated: its fields from left to right, and the fault of the first that has one
+
+abbrev rule_fault : List ℕ → Option InfoFault
+rule_fault words = first_fault (map (λ f. field_fault info_table f) (body_fields all_pool (flat_map u2 words)))
+
+abbrev places : List ℕ → List (ℕ × ℕ)
+places words = map (λ f. (f.place, f.size)) (body_fields all_pool (flat_map u2 words))
+
+-- name, flags, version, one module that is required, four counts; the end
+body_places : places (5 ∷ 0 ∷ 0 ∷ 1 ∷ 11 ∷ 64 ∷ 12 ∷ 0 ∷ 0 ∷ 0 ∷ 0 ∷ [])
+    ≡ (0, 2) ∷ (2, 2) ∷ (4, 2) ∷ (6, 2) ∷ (8, 2) ∷ (10, 2) ∷ (12, 2) ∷ (14, 2) ∷ (16, 2) ∷ (18, 2) ∷ (20, 2) ∷ (22, 0) ∷ []
+body_places = refl
+
+good_rule : rule_fault (5 ∷ 0 ∷ 0 ∷ 0 ∷ 0 ∷ 0 ∷ 0 ∷ 0 ∷ []) ≡ None
+good_rule = refl
+
+short_rule : rule_fault (5 ∷ 0 ∷ 0 ∷ 0 ∷ 0 ∷ 0 ∷ 0 ∷ 1 ∷ []) ≡ Some (Short 16)
+short_rule = refl
+
+-- a class where a module has to stand, and a module whose name has a comma
+kind_rule : rule_fault (5 ∷ 0 ∷ 0 ∷ 1 ∷ 9 ∷ []) ≡ Some (Index 8)
+kind_rule = refl
+
+name_rule : rule_fault (5 ∷ 0 ∷ 0 ∷ 1 ∷ 15 ∷ []) ≡ Some (Name 8)
+name_rule = refl
+
+rest_rule : rule_fault (5 ∷ 0 ∷ 0 ∷ 0 ∷ 0 ∷ 0 ∷ 0 ∷ 0 ∷ 0 ∷ []) ≡ Some (Rest 16)
+rest_rule = refl

@@ -1,9 +1,9 @@
-pub mod BodyFaults
 pub mod Constants
 pub mod ComputedInfo
 pub mod Descriptors
 pub mod Faults
 pub mod FaultText
 pub mod Flags
+pub mod InfoFaults
 pub mod Views
 pub mod Written

@@ -3,7 +3,7 @@ ghost use Rattle.jm_class.specs.Classes.{IsClass};
 ghost use Rattle.jm_class.specs.Views.{plain};
 ghost use Rattle.jm_modinfo.specs.declared.descriptor.Descriptor.{Descriptor};
 ghost use Rattle.jm_modinfo.specs.declared.faults.InfoError.TheVariants.{Fault};
-ghost use Rattle.jm_modinfo.specs.BodyFaults.{HasInfoFault};
+ghost use Rattle.jm_modinfo.specs.InfoFaults.{HasInfoFault};
 ghost use Rattle.jm_modinfo.specs.ComputedInfo.{body_info, info_of};
 ghost use Rattle.jm_modinfo.specs.Descriptors.{InfoOf, IsModuleBody};
 ghost use Rattle.jm_modinfo.specs.Faults.{info_fault};

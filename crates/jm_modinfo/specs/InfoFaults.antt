@@ -1,13 +1,13 @@
 -- The first fault of the class of a module (this project's rule): the fields of the body of the
 -- Module attribute from left to right (JVMS 4.7.25) with their table of faults, and what comes in
 -- front of it and behind it. Places are in bytes from the front of the body.
-use Rattle.std.specs.Prelude.{◌≡◌, ℕ, ◌<◌, ◌≤◌, Bool, true, false, not, ◌==◌, List, [], ◌∷◌, length}
+use Rattle.std.specs.Prelude.{◌≡◌, ℕ, ◌<◌, ◌≤◌, true, false, not, ◌==◌, List, [], ◌∷◌, length}
 use Rattle.std.specs.Prelude.{Option, Some, None, is_some, option_and_then}
 use Rattle.std.specs.Int.{w16, from_be_bytes}
 use Rattle.jm_bytes.specs.Checks.{fault_if}
 use Rattle.jm_class.specs.Classes.{SlotData, ClassData}
 use Rattle.jm_class.specs.Formats.{Format, Remaining, FieldSeen, fields_of, bytes_then, list_then}
-use Rattle.jm_class.specs.Formats.{Table, HasFirstFault}
+use Rattle.jm_class.specs.Formats.{Table, AreGood, HasFirstFault}
 use Rattle.jm_modinfo.specs.Constants.{number_in, named_at, version_at, is_allowed}
 use Rattle.jm_modinfo.specs.declared.constants.Kind.{Kind}
 use Rattle.jm_modinfo.specs.declared.constants.Kind.TheVariants.{Class, Module, Package}
@@ -18,8 +18,8 @@ use Rattle.jm_modinfo.specs.Flags.{is_module}
 
 -- The table
 
--- the kinds of fields: a number, as flags and counts; the index of a constant of a kind, and that of
--- a version, by the pool; the end of the body
+-- the kinds of fields: a number, as flags and counts; the index of a constant of a kind, and that
+-- of a version, by the pool; the end of the body
 pub data InfoRow : Type 0 where
   Number : InfoRow
   Named : (pool : List SlotData) (kind : Kind) → InfoRow
@@ -101,6 +101,10 @@ body_fields pool body = fields_of (module_format pool) 0 body
 abbrev pub HasBodyFault : List SlotData → List ℕ → InfoFault → Type 0
 HasBodyFault pool body fault = HasFirstFault info_table (body_fields pool body) fault
 
+-- no fault: each field of a body fits and is allowed
+abbrev pub HasNoBodyFault : List SlotData → List ℕ → Type 0
+HasNoBodyFault pool body = AreGood info_table (body_fields pool body)
+
 -- The class
 
 -- a module's class of a version that is taken, which has one attribute `Module`, with this body
@@ -127,5 +131,5 @@ pub data HasInfoFault (c : ClassData) (fault : InfoFault) : Type 0 where
   InMany : is_module c.access ≡ true → 53 ≤ c.major → 1 < length (module_bodies c)
       → fault ≡ info.TwoModule → HasInfoFault c fault
   InBody : (body : List ℕ) → HasBody c body → HasBodyFault c.pool body fault → HasInfoFault c fault
-  InMain : (body : List ℕ) → HasBody c body → ((f : InfoFault) → ¬ HasBodyFault c.pool body f)
+  InMain : (body : List ℕ) → HasBody c body → HasNoBodyFault c.pool body
       → IsNoMain c.pool (main_bodies c) → fault ≡ info.Main → HasInfoFault c fault
