@@ -8,29 +8,34 @@ use Rattle.jm_class.specs.declared.class.ClassFault.{ClassFault}
 use Rattle.jm_class.specs.declared.class.ClassFault.TheVariants as fault
 use Rattle.jm_class.specs.Classes.{SlotData, Constant, Hole, magic, body_size, is_tag, is_wide}
 use Rattle.jm_class.specs.Classes.{utf8_at, is_code_name, is_major}
-use Rattle.jm_class.specs.Formats.{Format, Field, Part, Remaining, FieldSeen, fields_of, bytes_then}
-use Rattle.jm_class.specs.Formats.{number_then, list_then, sized_then, Table, AreGood, HasFirstFault}
+use Rattle.jm_class.specs.Formats.{Format, Field, Part, Remaining, FieldSeen, fields_of, Table}
+use Rattle.jm_class.specs.Formats.{bytes_then, number_then, list_then, sized_then, AreGood}
+use Rattle.jm_class.specs.Formats.{HasFirstFault}
 
 -- The table
 
--- the kinds of fields: the magic; the major version; any other number; the count of the pool; the
--- tag of a constant, behind which one number more of the pool is left or not; the body of a
--- constant; the bytes of a Utf8 whose body begins at a place; the name of an attribute, by the
--- pool; the body of an attribute; a field within a Code whose length stands at a place, the name of
--- an attribute in it, and its end; the end of the file
+-- the kinds of fields, which are the rows of the table
 pub data ClassRow : Type 0 where
+  -- the magic, and the major version
   Magic : ClassRow
   Major : ClassRow
+  -- any other number: the minor version, flags, an index, a count, a length
   Number : ClassRow
+  -- the count of the pool
   PoolCount : ClassRow
+  -- the tag of a constant, behind which one number more of the pool is left or not
   Tag : (more : Bool) → ClassRow
+  -- the body of a constant, and the bytes of a Utf8 whose body begins at a place
   Body : ClassRow
   TextBytes : (body : ℕ) → ClassRow
+  -- the name of an attribute, by the pool, and its body
   Name : (pool : List SlotData) → ClassRow
   AttributeBody : ClassRow
+  -- within a Code whose length stands at a place: a field, the name of an attribute, and the end
   InCode : (code : ℕ) → ClassRow
   NameInCode : (code : ℕ) (pool : List SlotData) → ClassRow
   CodeEnd : (code : ℕ) → ClassRow
+  -- the end of the file
   FileEnd : ClassRow
 
 -- the fault of a field at a place that doesn't fit: `Short` at this place, or for the bytes of a

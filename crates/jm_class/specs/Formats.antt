@@ -4,13 +4,15 @@ use Rattle.std.specs.Prelude.{◌≡◌, ◌⊎◌, ℕ, zero, suc, ◌+◌, ◌
 use Rattle.std.specs.Prelude.{take, drop, Option, Some, None, if◌then◌else◌, All}
 use Rattle.std.specs.Int.{Width, w16, w32, byte_len, from_be_bytes}
 
--- what stands from left to right: nothing more; a field of so many bytes, and what follows it,
--- which may depend on its place and its bytes; a part of so many bytes that has a format of its
--- own, and what follows it; all bytes that are left of the part
+-- what stands from left to right
 pub data Format (Row : Type 0) : Type 0 where
+  -- nothing more
   Done : Format Row
+  -- a field of so many bytes, and what follows it, which may depend on its place and its bytes
   Field : (row : Row) (size : ℕ) (next : ℕ → List ℕ → Format Row) → Format Row
+  -- a part of so many bytes that has a format of its own, and what follows it
   Part : (row : Row) (size : ℕ) (inner : Format Row) (next : Format Row) → Format Row
+  -- all bytes that are left of the part
   Remaining : (row : Row) → Format Row
 
 -- a field in the bytes: its row, its place, how many bytes it has, the place behind the last byte
