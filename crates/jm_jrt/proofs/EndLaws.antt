@@ -14,6 +14,8 @@ use Rattle.jm_form.specs.Places.{strings, strings_place}
 use Rattle.jm_form.specs.Texts.{text_at, text_ends}
 use Rattle.jm_form.proofs.HeadLaws.{header_fits, length-strings}
 use Rattle.jm_form.proofs.SectionLaws.{section_from}
+use Rattle.jm_reader.specs.Look.{head}
+use Rattle.jm_reader.proofs.HeadLaws.{head_is}
 use Rattle.jm_valid.proofs.PassageLaws.{long_stretch}
 
 -- a part of the strings is a part of the image
@@ -23,6 +25,13 @@ part_of_strings b h place n within =
     let size : start + place + n - (start + place) ≡ n = omega arith in
     let from = section_from b start h.strings place (omega arith) in
     rw size (sym (ap (take n) from ∙ take-take n (h.strings - place) (drop (start + place) b) (omega arith)))
+
+-- the strings are that part of the image which the header says
+pub strings_part : (b : List ℕ) (h : Header) (buf : List ℕ) (at : ℕ) → header_of b ≡ Ok h → buf ≡ b → at ≡ strings_place h → slice_range buf at (at + h.strings) ≡ strings b (head b)
+strings_part b h buf at read same is =
+    let size : strings_place h + h.strings - strings_place h ≡ h.strings = omega arith in
+    ap (λ x. slice_range x at (at + h.strings)) same ∙ ap (λ n. slice_range b n (n + h.strings)) is
+    ∙ ap (λ n. take n (drop (strings_place h) b)) size ∙ ap (strings b) (sym (head_is b h read))
 
 -- so many bytes from a text's place on as a name has, and one more, stand in the strings
 pub record Looked (b : List ℕ) (h : Header) (place : ℕ) (name part : List ℕ) : Type 0 where

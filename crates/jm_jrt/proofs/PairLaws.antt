@@ -6,9 +6,9 @@ use Rattle.std.specs.List.{list_any, range_with_len}
 use Rattle.std.specs.Str.{bytes_eq}
 use Rattle.jm_form.specs.declared.trees.Owner.{Owner}
 use Rattle.jm_jrt.specs.Stat.{first_full}
-use Rattle.jm_form.specs.declared.container.Header.{Header}
 use Rattle.jm_form.specs.Places.{strings}
 use Rattle.jm_form.specs.Texts.{text_ends}
+use Rattle.jm_reader.specs.Look.{head}
 use Rattle.jm_jrt.specs.Told.{fits, is_child_sound, is_half_sound, is_pair_sound, is_row_sound, name_told, names_from, names_left, owner_told, owners_from, owners_left, pair_count, row_told, word_count, word_of, words_fault}
 use Rattle.jm_jrt.proofs.FaultLaws.{sound_below}
 
@@ -19,36 +19,36 @@ both false b e = cc
 
 -- Children
 
-pub record ChildAt (b : List ℕ) (h : Header) (content : List ℕ) (k : ℕ) : Type 0 where
+pub record ChildAt (b : List ℕ) (content : List ℕ) (k : ℕ) : Type 0 where
   pub fits : fits content k ≡ true
-  pub sound : is_row_sound (strings b h) (row_told b h (word_of h content k)) ≡ true
+  pub sound : is_row_sound (strings b (head b)) (row_told b (word_of b content k)) ≡ true
 
-pub child_at : (b : List ℕ) (h : Header) (content : List ℕ) (k : ℕ) → words_fault (is_child_sound b h content) (word_count content) ≡ None → k < word_count content → ChildAt b h content k
-child_at b h content k none below =
-    let parts = both (fits content k) (is_row_sound (strings b h) (row_told b h (word_of h content k))) (sound_below (is_child_sound b h content) (word_count content) none k below) in
+pub child_at : (b : List ℕ) (content : List ℕ) (k : ℕ) → words_fault (is_child_sound b content) (word_count content) ≡ None → k < word_count content → ChildAt b content k
+child_at b content k none below =
+    let parts = both (fits content k) (is_row_sound (strings b (head b)) (row_told b (word_of b content k))) (sound_below (is_child_sound b content) (word_count content) none k below) in
     record { fits = parts.0; sound = parts.1 }
 
-pub names_more : (b : List ℕ) (h : Header) (content : List ℕ) (k : ℕ) → k < word_count content → names_left b h content k ≡ name_told b h (word_of h content k) ∷ names_left b h content (k + 1)
-names_more b h content k below =
+pub names_more : (b : List ℕ) (content : List ℕ) (k : ℕ) → k < word_count content → names_left b content k ≡ name_told b (word_of b content k) ∷ names_left b content (k + 1)
+names_more b content k below =
     let size : word_count content - k ≡ suc (word_count content - (k + 1)) = omega arith in
-    ap (λ (n : ℕ). names_from b h content k n) size
+    ap (λ (n : ℕ). names_from b content k n) size
 
-pub names_end : (b : List ℕ) (h : Header) (content : List ℕ) (k : ℕ) → word_count content ≤ k → names_left b h content k ≡ []
-names_end b h content k past =
+pub names_end : (b : List ℕ) (content : List ℕ) (k : ℕ) → word_count content ≤ k → names_left b content k ≡ []
+names_end b content k past =
     let size : word_count content - k ≡ 0 = omega arith in
-    ap (λ (n : ℕ). names_from b h content k n) size
+    ap (λ (n : ℕ). names_from b content k n) size
 
-pub names_length : (b : List ℕ) (h : Header) (content : List ℕ) (k : ℕ) → length (names_left b h content k) ≡ word_count content - k
-names_length b h content k =
-    length-map (range_with_len k (word_count content - k)) (λ k. name_told b h (word_of h content k)) ∙ length-range_with_len k (word_count content - k)
+pub names_length : (b : List ℕ) (content : List ℕ) (k : ℕ) → length (names_left b content k) ≡ word_count content - k
+names_length b content k =
+    length-map (range_with_len k (word_count content - k)) (λ k. name_told b (word_of b content k)) ∙ length-range_with_len k (word_count content - k)
 
 -- Pairs
 
-pub record PairAt (b : List ℕ) (h : Header) (content : List ℕ) (k : ℕ) : Type 0 where
+pub record PairAt (b : List ℕ) (content : List ℕ) (k : ℕ) : Type 0 where
   pub flag_fits : fits content (2 * k) ≡ true
   pub place_fits : fits content (2 * k + 1) ≡ true
-  pub flag : nat_lt (word_of h content (2 * k)) 2 ≡ true
-  pub ends : text_ends (strings b h) (word_of h content (2 * k + 1)) ≡ true
+  pub flag : nat_lt (word_of b content (2 * k)) 2 ≡ true
+  pub ends : text_ends (strings b (head b)) (word_of b content (2 * k + 1)) ≡ true
 
 first_half : (section : List ℕ) (k n : ℕ) → k % 2 == 0 ≡ true → is_half_sound section k n ≡ true → nat_lt n 2 ≡ true
 first_half section k n even sound = rw even at sound
@@ -56,32 +56,32 @@ first_half section k n even sound = rw even at sound
 second_half : (section : List ℕ) (k n : ℕ) → k % 2 == 0 ≡ false → is_half_sound section k n ≡ true → text_ends section n ≡ true
 second_half section k n odd sound = rw odd at sound
 
-pub pair_at : (b : List ℕ) (h : Header) (content : List ℕ) (k : ℕ) → words_fault (is_pair_sound b h content) (2 * pair_count content) ≡ None → k < pair_count content → PairAt b h content k
-pair_at b h content k none below =
-    let first = both (fits content (2 * k)) (is_half_sound (strings b h) (2 * k) (word_of h content (2 * k))) (sound_below (is_pair_sound b h content) (2 * pair_count content) none (2 * k) (omega arith)) in
-    let second = both (fits content (2 * k + 1)) (is_half_sound (strings b h) (2 * k + 1) (word_of h content (2 * k + 1))) (sound_below (is_pair_sound b h content) (2 * pair_count content) none (2 * k + 1) (omega arith)) in
+pub pair_at : (b : List ℕ) (content : List ℕ) (k : ℕ) → words_fault (is_pair_sound b content) (2 * pair_count content) ≡ None → k < pair_count content → PairAt b content k
+pair_at b content k none below =
+    let first = both (fits content (2 * k)) (is_half_sound (strings b (head b)) (2 * k) (word_of b content (2 * k))) (sound_below (is_pair_sound b content) (2 * pair_count content) none (2 * k) (omega arith)) in
+    let second = both (fits content (2 * k + 1)) (is_half_sound (strings b (head b)) (2 * k + 1) (word_of b content (2 * k + 1))) (sound_below (is_pair_sound b content) (2 * pair_count content) none (2 * k + 1) (omega arith)) in
     let even : 2 * k % 2 ≡ 0 = omega arith in
     let odd : (2 * k + 1) % 2 ≡ 1 = omega arith in
     record {
       flag_fits = first.0;
       place_fits = second.0;
-      flag = first_half (strings b h) (2 * k) (word_of h content (2 * k)) (ap (λ (n : ℕ). n == 0) even) first.1;
-      ends = second_half (strings b h) (2 * k + 1) (word_of h content (2 * k + 1)) (ap (λ (n : ℕ). n == 0) odd) second.1;
+      flag = first_half (strings b (head b)) (2 * k) (word_of b content (2 * k)) (ap (λ (n : ℕ). n == 0) even) first.1;
+      ends = second_half (strings b (head b)) (2 * k + 1) (word_of b content (2 * k + 1)) (ap (λ (n : ℕ). n == 0) odd) second.1;
     }
 
-pub owners_more : (b : List ℕ) (h : Header) (content : List ℕ) (k : ℕ) → k < pair_count content → owners_left b h content k ≡ owner_told b h content k ∷ owners_left b h content (k + 1)
-owners_more b h content k below =
+pub owners_more : (b : List ℕ) (content : List ℕ) (k : ℕ) → k < pair_count content → owners_left b content k ≡ owner_told b content k ∷ owners_left b content (k + 1)
+owners_more b content k below =
     let size : pair_count content - k ≡ suc (pair_count content - (k + 1)) = omega arith in
-    ap (λ (n : ℕ). owners_from b h content k n) size
+    ap (λ (n : ℕ). owners_from b content k n) size
 
-pub owners_end : (b : List ℕ) (h : Header) (content : List ℕ) (k : ℕ) → pair_count content ≤ k → owners_left b h content k ≡ []
-owners_end b h content k past =
+pub owners_end : (b : List ℕ) (content : List ℕ) (k : ℕ) → pair_count content ≤ k → owners_left b content k ≡ []
+owners_end b content k past =
     let size : pair_count content - k ≡ 0 = omega arith in
-    ap (λ (n : ℕ). owners_from b h content k n) size
+    ap (λ (n : ℕ). owners_from b content k n) size
 
-pub owners_length : (b : List ℕ) (h : Header) (content : List ℕ) (k : ℕ) → length (owners_left b h content k) ≡ pair_count content - k
-owners_length b h content k =
-    length-map (range_with_len k (pair_count content - k)) (owner_told b h content) ∙ length-range_with_len k (pair_count content - k)
+pub owners_length : (b : List ℕ) (content : List ℕ) (k : ℕ) → length (owners_left b content k) ≡ pair_count content - k
+owners_length b content k =
+    length-map (range_with_len k (pair_count content - k)) (owner_told b content) ∙ length-range_with_len k (pair_count content - k)
 
 -- The first owner that isn't empty
 

@@ -2,22 +2,23 @@
 -- every path what these trees have there.
 use Rattle.std.proofs.Common.{◌≡◌, ◌≢◌, ℕ, ◌^◌, ◌<◌, ◌≤◌, List, length, Option, Some, None, Result, Ok, Err, sym, ap, ◌∙◌, subst, slice_index, arith}
 use Rattle.std.specs.Option.{ok_or}
-use Rattle.jm_bytes.proofs.Choice.{same_ok}
 use Rattle.jm_bytes.proofs.WordLaws.{word-lt}
 use Rattle.jm_bytes.specs.Checks.{first_fault}
 use Rattle.jm_form.specs.declared.container.Header.{Header}
 use Rattle.jm_form.specs.Head.{header_checks, header_of, read_order}
-use Rattle.jm_form.specs.Nodes.{NodesOf}
+use Rattle.jm_form.specs.Nodes.{NodesAs, NodesOf}
 use Rattle.jm_form.specs.TreeView.{TreeItem, names_of, tree}
-use Rattle.jm_form.specs.Validity.{Stands, ValidAs}
+use Rattle.jm_form.specs.Validity.{Stands}
 use Rattle.jm_form.proofs.HeadLaws.{header_fits, header_found}
+use Rattle.jm_reader.specs.Look.{head}
+use Rattle.jm_reader.proofs.HeadLaws.{head_is, head_valid}
 use Rattle.jm_jrt.specs.declared.jrt_error.JrtError.{JrtError}
 use Rattle.jm_jrt.specs.declared.jrt_error.JrtError.TheVariants.{BadNode, NotThere}
 use Rattle.jm_jrt.specs.Stat.{owner_read, stat, stat_read}
 use Rattle.jm_jrt.specs.TreesShown.{ShowsTrees}
-use Rattle.jm_jrt.proofs.TreeCases.{stat_with_tree}
+use Rattle.jm_jrt.proofs.TreeCases.{stat_of_tree}
 use Rattle.jm_jrt.proofs.TreeContents.{HasSections}
-use Rattle.jm_jrt.proofs.TreeOwners.{owner_with_tree}
+use Rattle.jm_jrt.proofs.TreeOwners.{owner_of_tree}
 
 -- Headers whose sections have words
 
@@ -35,32 +36,22 @@ short_has b h short header = let fits = header_fits b h header in record { locat
 -- The law
 
 -- an image whose header has sections that words reach
-pub trees_with : (b : List ℕ) (resources : List (List ℕ × List ℕ)) → ((h : Header) → header_of b ≡ Ok h → HasSections h) → NodesOf b (names_of resources) → Stands b resources → ShowsTrees b resources
+pub trees_with : (b : List ℕ) (resources : List (List ℕ × List ℕ)) → HasSections (head b) → NodesOf b (names_of resources) → Stands b resources → ShowsTrees b resources
 trees_with b resources has (h, nodes) (g, valid, same) = record {
-  stats = stats;
-  owners = λ path. ap (owner_read b path) nodes.header ∙ owner_with_tree b h resources nodes valid_here stands (has h nodes.header) path;
+  stats = λ path. ap (stat_read b path) nodes.header ∙ stat_of_tree b resources nodes_here (head_valid b g valid) (g, valid, same) has path;
+  owners = λ path. ap (owner_read b path) nodes.header ∙ owner_of_tree b resources nodes_here (head_valid b g valid) (g, valid, same) has path;
 }
   where
-    valid_here : ValidAs b h
-    valid_here = subst (ValidAs b) (same_ok g h (sym valid.header ∙ nodes.header)) valid
-
-    stands : Stands b resources
-    stands = (g, valid, same)
-
-    stats : (path : List ℕ) → stat b path ≡ ok_or (tree resources path) NotThere
-    stats path = ap (stat_read b path) nodes.header ∙ stat_with_tree b h resources nodes valid_here stands (has h nodes.header) path
+    nodes_here : NodesAs b (head b) (names_of resources)
+    nodes_here = subst (λ h. NodesAs b h (names_of resources)) (sym (head_is b h nodes.header)) nodes
 
 -- of bytes
 pub trees_shown : (b : List ℕ) (resources : List (List ℕ × List ℕ)) → ((k : ℕ) → slice_index b k < 256) → NodesOf b (names_of resources) → Stands b resources → ShowsTrees b resources
-trees_shown b resources bytes nodes stands = trees_with b resources (λ h header. bytes_have b h bytes header) nodes stands
+trees_shown b resources bytes (h, nodes) stands = trees_with b resources (subst HasSections (sym (head_is b h nodes.header)) (bytes_have b h bytes nodes.header)) (h, nodes) stands
 
 -- of a file that isn't too long
 pub trees_shown_short : (b : List ℕ) (resources : List (List ℕ × List ℕ)) → length b ≤ 2 ^ 32 → NodesOf b (names_of resources) → Stands b resources → ShowsTrees b resources
-trees_shown_short b resources short nodes stands = trees_with b resources (λ h header. short_has b h short header) nodes stands
-
--- of an image whose header was read
-pub trees_read : (b : List ℕ) (h : Header) → header_of b ≡ Ok h → HasSections h → (m : List (List ℕ × List ℕ)) → Stands b m → NodesOf b (names_of m) → ShowsTrees b m
-trees_read b h read has m stands nodes = trees_with b m (λ g header. subst HasSections (same_ok h g (sym read ∙ header)) has) nodes stands
+trees_shown_short b resources short (h, nodes) stands = trees_with b resources (subst HasSections (sym (head_is b h nodes.header)) (short_has b h short nodes.header)) (h, nodes) stands
 
 -- where the trees are shown no node is bad
 pub no_bad_node : (b : List ℕ) (resources : List (List ℕ × List ℕ)) → ShowsTrees b resources → (path : List ℕ) (at : ℕ) → stat b path ≢ Err (BadNode at)

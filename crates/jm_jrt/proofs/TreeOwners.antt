@@ -6,13 +6,13 @@ use Rattle.std.specs.Map.{lookup}
 use Rattle.std.specs.Str.{bytes_eq}
 use Rattle.std.proofs.lemmas.Bool.{and_parts, cases_Bool, false≢true}
 use Rattle.jm_names.specs.Names.{is_slash}
-use Rattle.jm_form.specs.declared.container.Header.{Header}
 use Rattle.jm_form.specs.declared.trees.Holds.{Holds}
 use Rattle.jm_form.specs.declared.trees.Holds.TheVariants.{Children}
 use Rattle.jm_form.specs.Nodes.{NodesAs}
 use Rattle.jm_form.specs.Trees.{holds_of, is_package_node, node_names}
 use Rattle.jm_form.specs.TreeView.{file_of, is_link, item_of, names_of, tree}
 use Rattle.jm_form.specs.Validity.{Stands, ValidAs, look}
+use Rattle.jm_reader.specs.Look.{head}
 use Rattle.jm_jrt.specs.declared.jrt_error.JrtError.TheVariants.{NotThere}
 use Rattle.jm_jrt.specs.Stat.{full_among, is_package, owner_with, owners_of}
 use Rattle.jm_jrt.specs.TreesShown.{full_owner}
@@ -24,11 +24,11 @@ use Rattle.jm_jrt.proofs.TreeNodes.{from_listed, node_cases}
 abbrev Pairs : Type 0
 Pairs = List (List ℕ × List ℕ)
 
-with_package : (b : List ℕ) (h : Header) (path : List ℕ) → is_package path ≡ true → owner_with b h path ≡ full_among (owners_of b h (look b path))
-with_package b h path is = rw is refl
+with_package : (b : List ℕ) (path : List ℕ) → is_package path ≡ true → owner_with b path ≡ full_among (owners_of b (look b path))
+with_package b path is = rw is refl
 
-without_package : (b : List ℕ) (h : Header) (path : List ℕ) → is_package path ≡ false → owner_with b h path ≡ Err NotThere
-without_package b h path is = rw is refl
+without_package : (b : List ℕ) (path : List ℕ) → is_package path ≡ false → owner_with b path ≡ Err NotThere
+without_package b path is = rw is refl
 
 no_file_owner : (o : Option (List ℕ)) → full_owner (file_of o) ≡ Err NotThere
 no_file_owner None = refl
@@ -78,19 +78,19 @@ package_alone path is =
     looks : (rest : List ℕ) → LooksPackage (codes "/packages/" ++ rest)
     looks rest = record { no_slash = refl; no_inner = refl }
 
-pub owner_with_tree : (b : List ℕ) (h : Header) (m : Pairs) → NodesAs b h (names_of m) → ValidAs b h → Stands b m → HasSections h → (path : List ℕ) → owner_with b h path ≡ full_owner (tree m path)
-owner_with_tree b h m nodes valid stands has path =
+pub owner_of_tree : (b : List ℕ) (m : Pairs) → NodesAs b (head b) (names_of m) → ValidAs b (head b) → Stands b m → HasSections (head b) → (path : List ℕ) → owner_with b path ≡ full_owner (tree m path)
+owner_of_tree b m nodes valid stands has path =
     elim (cases_Bool (is_package path)) [
       | inl is ↦
           let alone = package_alone path is in
-          elim (node_cases b h (names_of m) path nodes (package_is_node path is)) [
+          elim (node_cases b (head b) (names_of m) path nodes (package_is_node path is)) [
             | inl there ↦
-                with_package b h path is ∙ ap (λ o. full_among (owners_of b h o)) there.found ∙ ap full_among (pairs_told b h m nodes valid stands has path there is)
+                with_package b path is ∙ ap (λ o. full_among (owners_of b o)) there.found ∙ ap full_among (pairs_told b m nodes valid stands has path there is)
                 ∙ sym (ap (λ (x : Holds). full_owner (Some (item_of x))) (package_holds (names_of m) path is))
                 ∙ sym (ap full_owner (tree_node m path alone.no_slash there.listed))
             | inr missing ↦
-                with_package b h path is ∙ ap (λ o. full_among (owners_of b h o)) missing.none
+                with_package b path is ∙ ap (λ o. full_among (owners_of b o)) missing.none
                 ∙ sym (ap full_owner (tree_none m path alone.no_slash missing.unlisted alone.no_inner (no_link_node (names_of m) path (no_package_above path is))))
           ]
-      | inr no_package ↦ without_package b h path no_package ∙ sym (no_owner m path no_package)
+      | inr no_package ↦ without_package b path no_package ∙ sym (no_owner m path no_package)
     ]

@@ -1,10 +1,7 @@
 -- The children of a folder that are still to come.
 use Rattle.std.specs.Prelude.{ℕ, ◌*◌, ◌≡◌, Bool, List, [], ◌∷◌, ◌++◌, codes, if◌then◌else◌, None}
-use Rattle.std.specs.Prelude.{Ok}
-use Rattle.jm_form.specs.declared.container.Header.{Header}
 use Rattle.jm_form.specs.declared.trees.Holds.{Holds}
 use Rattle.jm_form.specs.declared.trees.Holds.TheVariants.{Children, Owners}
-use Rattle.jm_form.specs.Head.{header_of}
 use Rattle.jm_jrt.specs.declared.child_list.ToCome.{ToCome}
 use Rattle.jm_jrt.specs.declared.child_list.ToCome.TheVariants as to_come
 use Rattle.jm_jrt.specs.Told.{is_child_sound, is_pair_sound, names_left, owners_left, pair_count}
@@ -25,20 +22,15 @@ roots_if modules packages =
     root_if modules (codes "/modules") ++ root_if packages (codes "/packages")
 
 -- what is still to come: of the roots, or of what a content tells from a word or a pair on
-abbrev pub rest_of : List ℕ → Header → ToCome → Holds
-rest_of b h (to_come.Roots modules packages) = Children (roots_if modules packages)
-rest_of b h (to_come.Words content next) = Children (names_left b h content.now next)
-rest_of b h (to_come.Pairs content next) = Owners (owners_left b h content.now next)
+abbrev pub rest_of : List ℕ → ToCome → Holds
+rest_of b (to_come.Roots modules packages) = Children (roots_if modules packages)
+rest_of b (to_come.Words content next) = Children (names_left b content.now next)
+rest_of b (to_come.Pairs content next) = Owners (owners_left b content.now next)
 
 -- the content was read and has no bad word
-abbrev pub IsRead : List ℕ → Header → ToCome → Type 0
-IsRead b h (to_come.Roots modules packages) = Unit {0}
-IsRead b h (to_come.Words content next) =
-    words_fault (is_child_sound b h content.now) (word_count content.now) ≡ None
-IsRead b h (to_come.Pairs content next) =
-    words_fault (is_pair_sound b h content.now) (2 * pair_count content.now) ≡ None
-
--- the image has this header, and what is still to come is of a content without a bad word
-pub record IsListed (b : List ℕ) (h : Header) (left : ToCome) : Type 0 where
-  pub header : header_of b ≡ Ok h
-  pub read : IsRead b h left
+abbrev pub IsRead : List ℕ → ToCome → Type 0
+IsRead b (to_come.Roots modules packages) = Unit {0}
+IsRead b (to_come.Words content next) =
+    words_fault (is_child_sound b content.now) (word_count content.now) ≡ None
+IsRead b (to_come.Pairs content next) =
+    words_fault (is_pair_sound b content.now) (2 * pair_count content.now) ≡ None

@@ -35,14 +35,14 @@ abbrev pub is_root : List ℕ → Bool
 is_root path = bytes_eq path (codes "/modules") || bytes_eq path (codes "/packages")
 
 -- what the content of a node tells, in the form of children
-abbrev pub children_of : List ℕ → Header → Sought → Result Holds JrtError
-children_of b h None = Err NotThere
-children_of b h (Some found) = children_told b h found.1
+abbrev pub children_of : List ℕ → Sought → Result Holds JrtError
+children_of b None = Err NotThere
+children_of b (Some found) = children_told b found.1
 
 -- what the content of a node tells, in the form of pairs
-abbrev pub owners_of : List ℕ → Header → Sought → Result Holds JrtError
-owners_of b h None = Err NotThere
-owners_of b h (Some found) = owners_told b h found.1
+abbrev pub owners_of : List ℕ → Sought → Result Holds JrtError
+owners_of b None = Err NotThere
+owners_of b (Some found) = owners_told b found.1
 
 -- the folder or package that was told, or the error
 abbrev pub folder : Result Holds JrtError → Result TreeItem JrtError
@@ -61,9 +61,9 @@ abbrev pub resource : List ℕ → List ℕ → Result TreeItem JrtError
 resource b path = if is_node (drop 8 path) then Err NotThere else file (look b (drop 8 path))
 
 -- what stands below `/modules/`: a folder where the path is that of a node, and else a file
-abbrev pub in_modules : List ℕ → Header → List ℕ → Sought → Result TreeItem JrtError
-in_modules b h path None = resource b path
-in_modules b h path (Some found) = folder (children_told b h found.1)
+abbrev pub in_modules : List ℕ → List ℕ → Sought → Result TreeItem JrtError
+in_modules b path None = resource b path
+in_modules b path (Some found) = folder (children_told b found.1)
 
 -- Below `/packages/`
 
@@ -83,27 +83,27 @@ abbrev pub is_package : List ℕ → Bool
 is_package path = is_package_node path && not (list_any is_slash (drop 10 path))
 
 -- what stands below `/packages/`: a package, or behind one more slash a link to one of its owners
-abbrev pub in_packages : List ℕ → Header → List ℕ → Result TreeItem JrtError
-in_packages b h path =
-    if is_package path then folder (owners_of b h (look b path))
+abbrev pub in_packages : List ℕ → List ℕ → Result TreeItem JrtError
+in_packages b path =
+    if is_package path then folder (owners_of b (look b path))
     else if is_package (before_last is_slash path)
-    then link (after_last is_slash path) (owners_of b h (look b (before_last is_slash path)))
+    then link (after_last is_slash path) (owners_of b (look b (before_last is_slash path)))
     else Err NotThere
 
 -- Paths
 
--- what stands at a path, by the image's header
-abbrev pub stat_with : List ℕ → Header → List ℕ → Result TreeItem JrtError
-stat_with b h path =
+-- what stands at a path of an image
+abbrev pub stat_with : List ℕ → List ℕ → Result TreeItem JrtError
+stat_with b path =
     if bytes_eq path (codes "/") then Ok (Folder (roots b))
-    else if is_root path then folder (children_of b h (look b path))
-    else if starts_with nat_eq path (codes "/modules/") then in_modules b h path (look b path)
-    else in_packages b h path
+    else if is_root path then folder (children_of b (look b path))
+    else if starts_with nat_eq path (codes "/modules/") then in_modules b path (look b path)
+    else in_packages b path
 
--- what stands at a path, by what was read as the header
+-- the same by what was read as the header: nothing where that is a fault
 abbrev pub stat_read : List ℕ → List ℕ → Result Header HeaderFault → Result TreeItem JrtError
 stat_read b path (Err fault) = Err NotThere
-stat_read b path (Ok h) = stat_with b h path
+stat_read b path (Ok h) = stat_with b path
 
 -- what stands at a path: nothing, an item of the trees, or a node whose content is bad at a place
 abbrev pub stat : List ℕ → List ℕ → Result TreeItem JrtError
@@ -127,16 +127,15 @@ full_among (Err error) = Err error
 full_among (Ok (Children names)) = Err NotThere
 full_among (Ok (Owners owners)) = Ok (first_full owners)
 
--- the first owner that isn't empty of the package at a path, by the image's header
-abbrev pub owner_with : List ℕ → Header → List ℕ → Result (Option (List ℕ)) JrtError
-owner_with b h path =
-    if is_package path then full_among (owners_of b h (look b path)) else Err NotThere
+-- the first owner that isn't empty of the package at a path of an image
+abbrev pub owner_with : List ℕ → List ℕ → Result (Option (List ℕ)) JrtError
+owner_with b path = if is_package path then full_among (owners_of b (look b path)) else Err NotThere
 
--- the same by what was read as the header
+-- the same by what was read as the header: nothing where that is a fault
 abbrev pub owner_read
     : List ℕ → List ℕ → Result Header HeaderFault → Result (Option (List ℕ)) JrtError
 owner_read b path (Err fault) = Err NotThere
-owner_read b path (Ok h) = owner_with b h path
+owner_read b path (Ok h) = owner_with b path
 
 -- the first owner of a package that isn't empty there; only the path of a package is there
 abbrev pub owner : List ℕ → List ℕ → Result (Option (List ℕ)) JrtError

@@ -6,7 +6,6 @@ use Rattle.std.specs.Prelude.{Option, Some, None, Result, unwrap_or, if◌then�
 use Rattle.std.specs.List.{range_with_len}
 use Rattle.jm_bytes.specs.Checks.{fault_if, first_fault, unless_fault}
 use Rattle.jm_bytes.specs.Word.{word}
-use Rattle.jm_form.specs.declared.container.Header.{Header}
 use Rattle.jm_form.specs.declared.rows.Row.{Row}
 use Rattle.jm_form.specs.declared.trees.Holds.{Holds}
 use Rattle.jm_form.specs.declared.trees.Holds.TheVariants.{Children, Owners}
@@ -15,14 +14,15 @@ use Rattle.jm_form.specs.Entries.{name_of, row_at_place, spelled_row, texts_end}
 use Rattle.jm_form.specs.Places.{strings}
 use Rattle.jm_form.specs.Rows.{blank}
 use Rattle.jm_form.specs.Texts.{text_at, text_ends}
+use Rattle.jm_reader.specs.Look.{head}
 use Rattle.jm_jrt.specs.declared.jrt_error.JrtError.{JrtError}
 use Rattle.jm_jrt.specs.declared.jrt_error.JrtError.TheVariants.{BadNode}
 
 -- Words of a content: word k stands at the place 4k
 
--- word k of a node's content, from byte 4k on
-abbrev pub word_of : Header → List ℕ → ℕ → ℕ
-word_of h content k = word h.order content (4 * k)
+-- word k of a node's content, from byte 4k on, in the byte order of the image
+abbrev pub word_of : List ℕ → List ℕ → ℕ → ℕ
+word_of b content k = word (head b).order content (4 * k)
 
 -- the content has all four bytes of word k
 abbrev pub fits : List ℕ → ℕ → Bool
@@ -47,8 +47,8 @@ words_fault is_sound n = first_fault (map (word_fault is_sound) (range_with_len 
 -- The form of children
 
 -- the row that is spelled at a place of the locations, or none where it is blank or isn't there
-abbrev pub row_told : List ℕ → Header → ℕ → Option Row
-row_told b h place = spelled_row (row_at_place b h place)
+abbrev pub row_told : List ℕ → ℕ → Option Row
+row_told b place = spelled_row (row_at_place b (head b) place)
 
 -- there is a row, and its texts end
 abbrev pub is_row_sound : List ℕ → Option Row → Bool
@@ -56,28 +56,28 @@ is_row_sound section None = false
 is_row_sound section (Some row) = texts_end section row
 
 -- word k is there and leads to a row whose texts end
-abbrev pub is_child_sound : List ℕ → Header → List ℕ → ℕ → Bool
-is_child_sound b h content k =
-    fits content k && is_row_sound (strings b h) (row_told b h (word_of h content k))
+abbrev pub is_child_sound : List ℕ → List ℕ → ℕ → Bool
+is_child_sound b content k =
+    fits content k && is_row_sound (strings b (head b)) (row_told b (word_of b content k))
 
 -- the name that the row at a place of the locations spells
-abbrev pub name_told : List ℕ → Header → ℕ → List ℕ
-name_told b h place = name_of (strings b h) (unwrap_or (row_told b h place) blank)
+abbrev pub name_told : List ℕ → ℕ → List ℕ
+name_told b place = name_of (strings b (head b)) (unwrap_or (row_told b place) blank)
 
 -- the names that so many words tell, from word k on
-abbrev pub names_from : List ℕ → Header → List ℕ → ℕ → ℕ → List (List ℕ)
-names_from b h content k n =
-    map (λ k. name_told b h (word_of h content k)) (range_with_len k n)
+abbrev pub names_from : List ℕ → List ℕ → ℕ → ℕ → List (List ℕ)
+names_from b content k n =
+    map (λ k. name_told b (word_of b content k)) (range_with_len k n)
 
 -- the names that are told from one word on
-abbrev pub names_left : List ℕ → Header → List ℕ → ℕ → List (List ℕ)
-names_left b h content next = names_from b h content next (word_count content - next)
+abbrev pub names_left : List ℕ → List ℕ → ℕ → List (List ℕ)
+names_left b content next = names_from b content next (word_count content - next)
 
 -- the children that the content of a node tells, or the place of its first bad word
-abbrev pub children_told : List ℕ → Header → List ℕ → Result Holds JrtError
-children_told b h content =
-    unless_fault (words_fault (is_child_sound b h content) (word_count content))
-    (Children (names_left b h content 0))
+abbrev pub children_told : List ℕ → List ℕ → Result Holds JrtError
+children_told b content =
+    unless_fault (words_fault (is_child_sound b content) (word_count content))
+    (Children (names_left b content 0))
 
 -- The form of pairs
 
@@ -86,27 +86,27 @@ abbrev pub is_half_sound : List ℕ → ℕ → ℕ → Bool
 is_half_sound section k n = if k % 2 == 0 then nat_lt n 2 else text_ends section n
 
 -- word k is there, and is as a word of a pair must be
-abbrev pub is_pair_sound : List ℕ → Header → List ℕ → ℕ → Bool
-is_pair_sound b h content k =
-    fits content k && is_half_sound (strings b h) k (word_of h content k)
+abbrev pub is_pair_sound : List ℕ → List ℕ → ℕ → Bool
+is_pair_sound b content k =
+    fits content k && is_half_sound (strings b (head b)) k (word_of b content k)
 
 -- the owner that pair k tells
-abbrev pub owner_told : List ℕ → Header → List ℕ → ℕ → Owner
-owner_told b h content k = record {
-  empty = word_of h content (2 * k) == 1;
-  «module» = text_at (strings b h) (word_of h content (2 * k + 1));
+abbrev pub owner_told : List ℕ → List ℕ → ℕ → Owner
+owner_told b content k = record {
+  empty = word_of b content (2 * k) == 1;
+  «module» = text_at (strings b (head b)) (word_of b content (2 * k + 1));
 }
 
 -- the owners that n pairs tell, from one on
-abbrev pub owners_from : List ℕ → Header → List ℕ → ℕ → ℕ → List Owner
-owners_from b h content k n = map (owner_told b h content) (range_with_len k n)
+abbrev pub owners_from : List ℕ → List ℕ → ℕ → ℕ → List Owner
+owners_from b content k n = map (owner_told b content) (range_with_len k n)
 
 -- the owners that are told from one pair on
-abbrev pub owners_left : List ℕ → Header → List ℕ → ℕ → List Owner
-owners_left b h content next = owners_from b h content next (pair_count content - next)
+abbrev pub owners_left : List ℕ → List ℕ → ℕ → List Owner
+owners_left b content next = owners_from b content next (pair_count content - next)
 
 -- the owners that the content of a node tells, or the place of its first bad word
-abbrev pub owners_told : List ℕ → Header → List ℕ → Result Holds JrtError
-owners_told b h content =
-    unless_fault (words_fault (is_pair_sound b h content) (2 * pair_count content))
-    (Owners (owners_left b h content 0))
+abbrev pub owners_told : List ℕ → List ℕ → Result Holds JrtError
+owners_told b content =
+    unless_fault (words_fault (is_pair_sound b content) (2 * pair_count content))
+    (Owners (owners_left b content 0))

@@ -1,8 +1,7 @@
-ghost use Rattle.std.specs.Prelude.{◌≡◌, ◌+◌, ◌*◌, ◌<◌, ◌≤◌, false, [], IfSome, IfNone, None, Ok};
-ghost use Rattle.jm_form.specs.Head.{header_of};
+ghost use Rattle.std.specs.Prelude.{◌≡◌, ◌+◌, ◌*◌, ◌<◌, ◌≤◌, false, [], IfSome, IfNone, None};
 ghost use Rattle.jm_form.specs.declared.trees.Holds.TheVariants.{Children, Owners};
 ghost use Rattle.jm_reader.specs.Walk.{IsLater};
-ghost use Rattle.jm_jrt.specs.Listed.{roots_if};
+ghost use Rattle.jm_jrt.specs.Listed.{IsRead, rest_of, roots_if};
 ghost use Rattle.jm_jrt.specs.Told.{is_child_sound, is_pair_sound};
 ghost use Rattle.jm_jrt.specs.Told.{names_left, owners_left, words_fault};
 ghost use Rattle.jm_jrt.specs.Told as told;
@@ -11,10 +10,10 @@ ghost use Rattle.jm_jrt.specs.Views.{count_of, IsFirst};
 use crate::owners::owner_at;
 use crate::rows::name_at;
 use crate::words::{pair_count, word, word_count};
-use jm_bytes::{Buf, Meter};
-use jm_form::Header;
+use jm_bytes::Meter;
 use jm_names::Pieces;
 use jm_reader::NameView;
+use jm_valid::Image;
 use std::marker::Model;
 use std::sync::ledger::Ledger;
 
@@ -29,7 +28,7 @@ pub enum Child<'a> {
 
 /// What a list's children are read from.
 #[derive(Clone, Copy)]
-enum ToCome<'a> {
+pub enum ToCome<'a> {
     /// The roots that are there.
     Roots { modules: bool, packages: bool },
     /// The words of a content, from this one on.
@@ -41,62 +40,18 @@ enum ToCome<'a> {
 /// The children of a folder that are still to come. Its content was checked when the list was made.
 #[derive(Drop)]
 pub struct ChildList<'a> {
-    buf: Buf<'a>,
-    header: Header,
+    image: Image<'a>,
     left: ToCome<'a>,
 }
 
 impl<'a> Model for ChildList<'a> {
-    ghost use Rattle.jm_jrt.specs.Listed.{IsListed, Listed, rest_of};
+    ghost use Rattle.jm_jrt.specs.Listed.{IsRead, Listed, rest_of};
 
     ghost Value = { Listed };
 
-    ghost view = { λ a. record { bytes = a.buf; rest = rest_of a.buf a.header a.left } };
+    ghost view = { λ a. record { bytes = a.image; rest = rest_of a.image a.left } };
 
-    ghost invariant = { λ a. IsListed a.buf a.header a.left };
-}
-
-/// The list of those roots of the two trees that are there.
-pub fn root_list<'a>(buf: &Buf<'a>, header: &Header, modules: bool, packages: bool) -> ChildList<'a>
-    requires { header_of buf.now ≡ Ok header.now }
-    ensures bytes { result.bytes ≡ buf.now }
-    ensures rest { result.rest ≡ Children (roots_if modules packages) }
-{
-    ChildList {
-        buf: buf.again(),
-        header: *header,
-        left: ToCome::Roots { modules, packages },
-    }
-}
-
-/// The list of the children that a content without a bad word tells.
-pub fn word_list<'a>(buf: &Buf<'a>, header: &Header, content: &'a [u8]) -> ChildList<'a>
-    requires read { header_of buf.now ≡ Ok header.now }
-    requires sound { words_fault (is_child_sound buf.now header.now content.now)
-        (told.word_count content.now) ≡ None }
-    ensures bytes { result.bytes ≡ buf.now }
-    ensures rest { result.rest ≡ Children (names_left buf.now header.now content.now 0) }
-{
-    ChildList {
-        buf: buf.again(),
-        header: *header,
-        left: ToCome::Words { content, next: 0 },
-    }
-}
-
-/// The list of the owners that a content without a bad word tells.
-pub fn pair_list<'a>(buf: &Buf<'a>, header: &Header, content: &'a [u8]) -> ChildList<'a>
-    requires read { header_of buf.now ≡ Ok header.now }
-    requires sound { words_fault (is_pair_sound buf.now header.now content.now)
-        (2 * told.pair_count content.now) ≡ None }
-    ensures bytes { result.bytes ≡ buf.now }
-    ensures rest { result.rest ≡ Owners (owners_left buf.now header.now content.now 0) }
-{
-    ChildList {
-        buf: buf.again(),
-        header: *header,
-        left: ToCome::Pairs { content, next: 0 },
-    }
+    ghost invariant = { λ a. IsRead a.image a.left };
 }
 
 /// The first of the roots that are there, and whether `/packages` follows it.
@@ -122,52 +77,48 @@ fn root_child<'a>(modules: bool, packages: bool) -> Option<(Child<'a>, bool)>
 /// The child that word `next` of a content tells, and the number of the word behind it; None
 /// exactly where no word is left.
 fn word_child<'a, R: Ledger>(
-    buf: &Buf<'a>,
-    header: &Header,
+    image: &Image<'a>,
     content: &[u8],
     next: usize,
     reads: &mut Meter<R>,
 ) -> Option<(Child<'a>, usize)>
-    requires read { header_of buf.now ≡ Ok header.now }
-    requires metered { reads.old.bytes ≡ buf.now }
-    requires sound { words_fault (is_child_sound buf.now header.now content.now)
+    requires metered { reads.old.bytes ≡ image.now }
+    requires sound { words_fault (is_child_sound image.now content.now)
         (told.word_count content.now) ≡ None }
     ensures child { IfSome result (λ r. IsFirst
-        (Children (names_left buf.now header.now content.now next)) r.0
-        (Children (names_left buf.now header.now content.now r.1))) }
+        (Children (names_left image.now content.now next)) r.0
+        (Children (names_left image.now content.now r.1))) }
     ensures end { IfNone result (told.word_count content.now ≤ next) }
     ensures reads { IsLater reads.old reads.new }
 {
     if next >= word_count(content) {
         return None;
     }
-    let name = name_at(buf, header, word(header, content, next), reads)?;
+    let name = name_at(image, word(image, content, next), reads)?;
     Some((Child::Entry(name), next + 1))
 }
 
 /// The child that pair `next` of a content tells, and the number of the pair behind it; None
 /// exactly where no pair is left.
 fn pair_child<'a, R: Ledger>(
-    buf: &Buf<'a>,
-    header: &Header,
+    image: &Image<'a>,
     content: &[u8],
     next: usize,
     reads: &mut Meter<R>,
 ) -> Option<(Child<'a>, usize)>
-    requires read { header_of buf.now ≡ Ok header.now }
-    requires metered { reads.old.bytes ≡ buf.now }
-    requires sound { words_fault (is_pair_sound buf.now header.now content.now)
+    requires metered { reads.old.bytes ≡ image.now }
+    requires sound { words_fault (is_pair_sound image.now content.now)
         (2 * told.pair_count content.now) ≡ None }
     ensures child { IfSome result (λ r. IsFirst
-        (Owners (owners_left buf.now header.now content.now next)) r.0
-        (Owners (owners_left buf.now header.now content.now r.1))) }
+        (Owners (owners_left image.now content.now next)) r.0
+        (Owners (owners_left image.now content.now r.1))) }
     ensures end { IfNone result (told.pair_count content.now ≤ next) }
     ensures reads { IsLater reads.old reads.new }
 {
     if next >= pair_count(content) {
         return None;
     }
-    let owner = owner_at(buf, header, content, next, reads);
+    let owner = owner_at(image, content, next, reads);
     let child = Child::Owner {
         empty: owner.empty,
         module: owner.module,
@@ -176,6 +127,18 @@ fn pair_child<'a, R: Ledger>(
 }
 
 impl<'a> ChildList<'a> {
+    /// The list of the roots that are there, or of what a content without a bad word tells.
+    pub(crate) fn of(image: &Image<'a>, left: ToCome<'a>) -> ChildList<'a>
+        requires { IsRead image.now left }
+        ensures bytes { result.bytes ≡ image.now }
+        ensures rest { result.rest ≡ rest_of image.now left.entry }
+    {
+        ChildList {
+            image: image.again(),
+            left,
+        }
+    }
+
     /// How many children are still to come.
     pub fn len(&self) -> usize
         ensures { result ≡ count_of self.now.rest }
@@ -206,12 +169,12 @@ impl<'a> ChildList<'a> {
                 Some(child)
             }
             ToCome::Words { content, next } => {
-                let (child, next) = word_child(&self.buf, &self.header, content, next, reads)?;
+                let (child, next) = word_child(&self.image, content, next, reads)?;
                 self.left = ToCome::Words { content, next };
                 Some(child)
             }
             ToCome::Pairs { content, next } => {
-                let (child, next) = pair_child(&self.buf, &self.header, content, next, reads)?;
+                let (child, next) = pair_child(&self.image, content, next, reads)?;
                 self.left = ToCome::Pairs { content, next };
                 Some(child)
             }

@@ -1,9 +1,9 @@
-ghost use Rattle.std.specs.Prelude.{◌≡◌, ◌<◌, ◌*◌, true, IfSome, None, Ok, is_some, option_map};
+ghost use Rattle.std.specs.Prelude.{◌≡◌, ◌<◌, ◌*◌, true, IfSome, None, is_some, option_map};
 ghost use Rattle.std.specs.List.{list_any};
 ghost use Rattle.std.specs.Str.{bytes_eq};
-ghost use Rattle.jm_form.specs.Head.{header_of};
 ghost use Rattle.jm_form.specs.Places.{strings};
 ghost use Rattle.jm_form.specs.Texts.{text_at, text_ends};
+ghost use Rattle.jm_reader.specs.Look.{head};
 ghost use Rattle.jm_reader.specs.Walk.{IsLater};
 ghost use Rattle.jm_jrt.specs.Stat.{first_full};
 ghost use Rattle.jm_jrt.specs.Told.{is_pair_sound, owner_told, owners_left, words_fault};
@@ -11,8 +11,9 @@ ghost use Rattle.jm_jrt.specs.Told as told;
 ghost use Rattle.jm_jrt.specs.Views.{owner_as};
 
 use crate::words::{pair_count, word};
-use jm_bytes::{Buf, Meter};
-use jm_form::{Header, front, text};
+use jm_bytes::Meter;
+use jm_form::{front, text};
+use jm_valid::Image;
 use std::sync::ledger::Ledger;
 
 /// A module that has a package, and whether the package is empty there.
@@ -34,43 +35,40 @@ fn text_or_empty<'a>(text: Option<&'a [u8]>) -> &'a [u8]
 
 /// The owner that pair `k` of a content without a bad word tells.
 pub fn owner_at<'a, R: Ledger>(
-    buf: &Buf<'a>,
-    header: &Header,
+    image: &Image<'a>,
     content: &[u8],
     k: usize,
     reads: &mut Meter<R>,
 ) -> Owned<'a>
-    requires read { header_of buf.now ≡ Ok header.now }
-    requires metered { reads.old.bytes ≡ buf.now }
-    requires sound { words_fault (is_pair_sound buf.now header.now content.now)
+    requires metered { reads.old.bytes ≡ image.now }
+    requires sound { words_fault (is_pair_sound image.now content.now)
         (2 * told.pair_count content.now) ≡ None }
     requires below { k < told.pair_count content.now }
-    ensures owner { owner_as result ≡ owner_told buf.now header.now content.now k }
+    ensures owner { owner_as result ≡ owner_told image.now content.now k }
     ensures reads { IsLater reads.old reads.new }
 {
-    let empty = word(header, content, 2 * k) == 1;
-    let place = word(header, content, 2 * k + 1);
-    let module = text_or_empty(text(buf, header, u64::from(place), reads));
+    let empty = word(image, content, 2 * k) == 1;
+    let place = word(image, content, 2 * k + 1);
+    let module = text_or_empty(text(&image.buf(), &image.header(), u64::from(place), reads));
     Owned { empty, module }
 }
 
 /// The text at a place of the strings, if it is this one. The byte at which it would end is looked
 /// at first, so that a long text costs little, however many pairs lead to it.
 fn text_if<'a, R: Ledger>(
-    buf: &Buf<'a>,
-    header: &Header,
+    image: &Image<'a>,
     place: u32,
     asked: &[u8],
     reads: &mut Meter<R>,
 ) -> Option<&'a [u8]>
-    requires read { header_of buf.now ≡ Ok header.now }
-    requires metered { reads.old.bytes ≡ buf.now }
-    requires ends { text_ends (strings buf.now header.now) place ≡ true }
+    requires metered { reads.old.bytes ≡ image.now }
+    requires ends { text_ends (strings image.now (head image.now)) place ≡ true }
     ensures found { is_some result
-        ≡ bytes_eq asked.now (text_at (strings buf.now header.now) place) }
+        ≡ bytes_eq asked.now (text_at (strings image.now (head image.now)) place) }
     ensures same { IfSome result (λ text. text.now ≡ asked.now) }
     ensures reads { IsLater reads.old reads.new }
 {
+    let (buf, header) = (image.buf(), image.header());
     let _size = buf.len();
     let behind = (header.strings - place) as usize;
     if asked.len() >= behind {
@@ -89,24 +87,22 @@ fn text_if<'a, R: Ledger>(
 
 /// The module that is asked for, as the image has it, if it is one of the owners.
 pub fn find_owner<'a, R: Ledger>(
-    buf: &Buf<'a>,
-    header: &Header,
+    image: &Image<'a>,
     content: &[u8],
     asked: &[u8],
     reads: &mut Meter<R>,
 ) -> Option<&'a [u8]>
-    requires read { header_of buf.now ≡ Ok header.now }
-    requires metered { reads.old.bytes ≡ buf.now }
-    requires sound { words_fault (is_pair_sound buf.now header.now content.now)
+    requires metered { reads.old.bytes ≡ image.now }
+    requires sound { words_fault (is_pair_sound image.now content.now)
         (2 * told.pair_count content.now) ≡ None }
     ensures found { is_some result ≡ list_any (λ o. bytes_eq asked.now o.module)
-        (owners_left buf.now header.now content.now 0) }
+        (owners_left image.now content.now 0) }
     ensures same { IfSome result (λ name. name.now ≡ asked.now) }
     ensures reads { IsLater reads.old reads.new }
 {
     for k in 0..pair_count(content) {
-        let place = word(header, content, 2 * k + 1);
-        let found = text_if(buf, header, place, asked, reads);
+        let place = word(image, content, 2 * k + 1);
+        let found = text_if(image, place, asked, reads);
         if found.is_some() {
             return found;
         }
@@ -116,22 +112,20 @@ pub fn find_owner<'a, R: Ledger>(
 
 /// The module of the first owner that isn't empty.
 pub fn first_full<'a, R: Ledger>(
-    buf: &Buf<'a>,
-    header: &Header,
+    image: &Image<'a>,
     content: &[u8],
     reads: &mut Meter<R>,
 ) -> Option<&'a [u8]>
-    requires read { header_of buf.now ≡ Ok header.now }
-    requires metered { reads.old.bytes ≡ buf.now }
-    requires sound { words_fault (is_pair_sound buf.now header.now content.now)
+    requires metered { reads.old.bytes ≡ image.now }
+    requires sound { words_fault (is_pair_sound image.now content.now)
         (2 * told.pair_count content.now) ≡ None }
     ensures found { option_map (λ m. m.now) result ≡ first_full
-        (owners_left buf.now header.now content.now 0) }
+        (owners_left image.now content.now 0) }
     ensures reads { IsLater reads.old reads.new }
 {
     for k in 0..pair_count(content) {
-        if word(header, content, 2 * k) != 1 {
-            return Some(owner_at(buf, header, content, k, reads).module);
+        if word(image, content, 2 * k) != 1 {
+            return Some(owner_at(image, content, k, reads).module);
         }
     }
     None

@@ -1,10 +1,9 @@
-ghost use Rattle.std.specs.Prelude.{◌≡◌, ◌≤◌, ◌+◌, ◌*◌, length, IfOk, None, Ok, option_map};
+ghost use Rattle.std.specs.Prelude.{◌≡◌, ◌≤◌, ◌+◌, ◌*◌, length, IfOk, None, option_map};
 ghost use Rattle.std.specs.List.{after_last, before_last};
 ghost use Rattle.jm_names.specs.Names.{is_slash};
 ghost use Rattle.jm_bytes.specs.Metered.{CostsAtMost, RisesAtMost};
 ghost use Rattle.jm_form.specs.declared.trees.Holds.TheVariants.{Children, Owners};
 ghost use Rattle.jm_form.specs.TreeView.{File, Link};
-ghost use Rattle.jm_form.specs.Head.{header_of};
 ghost use Rattle.jm_form.specs.Validity.{look};
 ghost use Rattle.jm_reader.specs.Walk.{IsLater};
 ghost use Rattle.jm_jrt.specs.Nodes.{IsOf, item_as, on_ok, StatCosts};
@@ -14,13 +13,13 @@ ghost use Rattle.jm_jrt.specs.Told as told;
 ghost use Rattle.jm_jrt.specs.TreesShown.{IsItemOfTrees, IsOwnerOfTrees};
 ghost use Rattle.jm_jrt.specs.Views.{held_by};
 
-use crate::child_list::{ChildList, pair_list, root_list, word_list};
+use crate::child_list::{ChildList, ToCome};
 use crate::jrt_error::JrtError;
 use crate::node::Node;
 use crate::owners::{find_owner, first_full};
 use crate::paths::{cut_last, is_package, is_root};
 use crate::words::{children_fault, owners_fault};
-use jm_bytes::{Buf, Meter, Steps};
+use jm_bytes::{Meter, Steps};
 use jm_form::Header;
 use jm_names::is_node;
 use jm_reader::find;
@@ -29,60 +28,54 @@ use std::sync::ledger::Ledger;
 
 /// The children that the content of a node tells.
 fn read_children<'a, R: Ledger>(
-    buf: &Buf<'a>,
-    header: &Header,
+    image: &Image<'a>,
     content: &'a [u8],
     reads: &mut Meter<R>,
 ) -> Result<ChildList<'a>, JrtError>
-    requires read { header_of buf.now ≡ Ok header.now }
-    requires metered { reads.old.bytes ≡ buf.now }
-    ensures rest { held_by result ≡ children_told buf.now header.now content.now }
-    ensures bytes { IfOk result (λ list. list.bytes ≡ buf.now) }
+    requires metered { reads.old.bytes ≡ image.now }
+    ensures rest { held_by result ≡ children_told image.now content.now }
+    ensures bytes { IfOk result (λ list. list.bytes ≡ image.now) }
     ensures reads { IsLater reads.old reads.new }
 {
-    match children_fault(buf, header, content, reads) {
+    match children_fault(image, content, reads) {
         Some(fault) => Err(fault),
-        None => Ok(word_list(buf, header, content)),
+        None => Ok(ChildList::of(image, ToCome::Words { content, next: 0 })),
     }
 }
 
 /// The children of the node of this name.
 fn children_at<'a, H: Ledger, R: Ledger>(
     image: &Image<'a>,
-    header: &Header,
     path: &[u8],
     hashes: &mut Steps<H>,
     reads: &mut Meter<R>,
 ) -> Result<ChildList<'a>, JrtError>
-    requires read { header_of image.now ≡ Ok header.now }
     requires metered { reads.old.bytes ≡ image.now }
     ensures rest { held_by result
-        ≡ answers.children_of image.now header.now (look image.now path.now) }
+        ≡ answers.children_of image.now (look image.now path.now) }
     ensures bytes { IfOk result (λ list. list.bytes ≡ image.now) }
     ensures hashes { RisesAtMost hashes.old hashes.new 2 }
     ensures reads { IsLater reads.old reads.new }
 {
     match find(image, path, hashes, reads) {
         None => Err(JrtError::NotThere),
-        Some(found) => read_children(&image.buf(), header, found.bytes, reads),
+        Some(found) => read_children(image, found.bytes, reads),
     }
 }
 
 /// The content of the package of this path, which has no bad word.
 fn pairs_at<'a, H: Ledger, R: Ledger>(
     image: &Image<'a>,
-    header: &Header,
     path: &[u8],
     hashes: &mut Steps<H>,
     reads: &mut Meter<R>,
 ) -> Result<&'a [u8], JrtError>
-    requires read { header_of image.now ≡ Ok header.now }
     requires metered { reads.old.bytes ≡ image.now }
     ensures owners { on_ok
-        (λ content. Owners (owners_left image.now header.now content.now 0)) result
-        ≡ answers.owners_of image.now header.now (look image.now path.now) }
+        (λ content. Owners (owners_left image.now content.now 0)) result
+        ≡ answers.owners_of image.now (look image.now path.now) }
     ensures sound { IfOk result (λ content. words_fault
-        (is_pair_sound image.now header.now content.now) (2 * told.pair_count content.now)
+        (is_pair_sound image.now content.now) (2 * told.pair_count content.now)
         ≡ None) }
     ensures hashes { RisesAtMost hashes.old hashes.new 2 }
     ensures reads { IsLater reads.old reads.new }
@@ -90,30 +83,10 @@ fn pairs_at<'a, H: Ledger, R: Ledger>(
     let Some(found) = find(image, path, hashes, reads) else {
         return Err(JrtError::NotThere);
     };
-    match owners_fault(&image.buf(), header, found.bytes, reads) {
+    match owners_fault(image, found.bytes, reads) {
         Some(fault) => Err(fault),
         None => Ok(found.bytes),
     }
-}
-
-/// The owners of the package of this path.
-fn owners_at<'a, H: Ledger, R: Ledger>(
-    image: &Image<'a>,
-    header: &Header,
-    path: &[u8],
-    hashes: &mut Steps<H>,
-    reads: &mut Meter<R>,
-) -> Result<ChildList<'a>, JrtError>
-    requires read { header_of image.now ≡ Ok header.now }
-    requires metered { reads.old.bytes ≡ image.now }
-    ensures rest { held_by result
-        ≡ answers.owners_of image.now header.now (look image.now path.now) }
-    ensures bytes { IfOk result (λ list. list.bytes ≡ image.now) }
-    ensures hashes { RisesAtMost hashes.old hashes.new 2 }
-    ensures reads { IsLater reads.old reads.new }
-{
-    let content = pairs_at(image, header, path, hashes, reads)?;
-    Ok(pair_list(&image.buf(), header, content))
 }
 
 /// The bytes of the file at a path that begins with `/modules`.
@@ -144,21 +117,19 @@ fn file_at<'a, H: Ledger, R: Ledger>(
 /// The module as the image has it, if it is an owner of the package of this path.
 fn link_at<'a, H: Ledger, R: Ledger>(
     image: &Image<'a>,
-    header: &Header,
     path: &[u8],
     asked: &[u8],
     hashes: &mut Steps<H>,
     reads: &mut Meter<R>,
 ) -> Result<&'a [u8], JrtError>
-    requires read { header_of image.now ≡ Ok header.now }
     requires metered { reads.old.bytes ≡ image.now }
     ensures link { on_ok (λ name. Link name.now) result ≡ answers.link asked.now
-        (answers.owners_of image.now header.now (look image.now path.now)) }
+        (answers.owners_of image.now (look image.now path.now)) }
     ensures hashes { RisesAtMost hashes.old hashes.new 2 }
     ensures reads { IsLater reads.old reads.new }
 {
-    let content = pairs_at(image, header, path, hashes, reads)?;
-    match find_owner(&image.buf(), header, content, asked, reads) {
+    let content = pairs_at(image, path, hashes, reads)?;
+    match find_owner(image, content, asked, reads) {
         None => Err(JrtError::NotThere),
         Some(module) => Ok(module),
     }
@@ -167,16 +138,14 @@ fn link_at<'a, H: Ledger, R: Ledger>(
 /// What stands at a path that begins with `/modules/`.
 fn in_modules<'a, H: Ledger, R: Ledger>(
     image: &Image<'a>,
-    header: &Header,
     path: &[u8],
     hashes: &mut Steps<H>,
     reads: &mut Meter<R>,
 ) -> Result<Node<'a>, JrtError>
-    requires read { header_of image.now ≡ Ok header.now }
     requires metered { reads.old.bytes ≡ image.now }
     requires long { 8 ≤ length path.now }
     ensures item { item_as result
-        ≡ answers.in_modules image.now header.now path.now (look image.now path.now) }
+        ≡ answers.in_modules image.now path.now (look image.now path.now) }
     ensures bytes { IfOk result (λ node. IsOf image.now node) }
     ensures hashes { RisesAtMost hashes.old hashes.new 4 }
     ensures cost { StatCosts result path.now reads.old reads.new }
@@ -184,7 +153,7 @@ fn in_modules<'a, H: Ledger, R: Ledger>(
     match find(image, path, hashes, reads) {
         None => Ok(Node::File(file_at(image, path, hashes, reads)?)),
         Some(found) => {
-            let list = read_children(&image.buf(), header, found.bytes, reads)?;
+            let list = read_children(image, found.bytes, reads)?;
             Ok(Node::Folder(list))
         }
     }
@@ -193,11 +162,9 @@ fn in_modules<'a, H: Ledger, R: Ledger>(
 /// The roots of the two trees that the image has.
 fn roots<'a, H: Ledger, R: Ledger>(
     image: &Image<'a>,
-    header: &Header,
     hashes: &mut Steps<H>,
     reads: &mut Meter<R>,
 ) -> ChildList<'a>
-    requires read { header_of image.now ≡ Ok header.now }
     requires metered { reads.old.bytes ≡ image.now }
     ensures rest { result.rest ≡ Children (answers.roots image.now) }
     ensures bytes { result.bytes ≡ image.now }
@@ -206,26 +173,26 @@ fn roots<'a, H: Ledger, R: Ledger>(
 {
     let modules = find(image, b"/modules", hashes, reads).is_some();
     let packages = find(image, b"/packages", hashes, reads).is_some();
-    root_list(&image.buf(), header, modules, packages)
+    ChildList::of(image, ToCome::Roots { modules, packages })
 }
 
 /// What stands at a path that isn't below `/modules/`.
 fn in_packages<'a, H: Ledger, R: Ledger>(
     image: &Image<'a>,
-    header: &Header,
     path: &[u8],
     hashes: &mut Steps<H>,
     reads: &mut Meter<R>,
 ) -> Result<Node<'a>, JrtError>
-    requires read { header_of image.now ≡ Ok header.now }
     requires metered { reads.old.bytes ≡ image.now }
-    ensures item { item_as result ≡ answers.in_packages image.now header.now path.now }
+    ensures item { item_as result ≡ answers.in_packages image.now path.now }
     ensures bytes { IfOk result (λ node. IsOf image.now node) }
     ensures hashes { RisesAtMost hashes.old hashes.new 2 }
     ensures cost { StatCosts result path.now reads.old reads.new }
 {
     if is_package(path) {
-        return Ok(Node::Folder(owners_at(image, header, path, hashes, reads)?));
+        let content = pairs_at(image, path, hashes, reads)?;
+        let left = ToCome::Pairs { content, next: 0 };
+        return Ok(Node::Folder(ChildList::of(image, left)));
     }
     let Some((package, module)) = cut_last(path) else {
         return Err(JrtError::NotThere);
@@ -233,34 +200,32 @@ fn in_packages<'a, H: Ledger, R: Ledger>(
     if !is_package(package) {
         return Err(JrtError::NotThere);
     }
-    Ok(Node::Link(link_at(image, header, package, module, hashes, reads)?))
+    Ok(Node::Link(link_at(image, package, module, hashes, reads)?))
 }
 
-/// What stands at a path, in the valid image that has this header.
+/// What stands at a path, whether or not the trees of some resources are there.
 fn stat_in<'a, H: Ledger, R: Ledger>(
     image: &Image<'a>,
-    header: &Header,
     path: &[u8],
     hashes: &mut Steps<H>,
     reads: &mut Meter<R>,
 ) -> Result<Node<'a>, JrtError>
-    requires read { header_of image.now ≡ Ok header.now }
-    requires metered { reads.old.bytes ≡ image.now }
-    ensures item { item_as result ≡ answers.stat_with image.now header.now path.now }
+    requires { reads.old.bytes ≡ image.now }
+    ensures item { item_as result ≡ answers.stat_with image.now path.now }
     ensures bytes { IfOk result (λ node. IsOf image.now node) }
     ensures hashes { RisesAtMost hashes.old hashes.new 4 }
     ensures cost { StatCosts result path.now reads.old reads.new }
 {
     if path == b"/".as_slice() {
-        return Ok(Node::Folder(roots(image, header, hashes, reads)));
+        return Ok(Node::Folder(roots(image, hashes, reads)));
     }
     if is_root(path) {
-        return Ok(Node::Folder(children_at(image, header, path, hashes, reads)?));
+        return Ok(Node::Folder(children_at(image, path, hashes, reads)?));
     }
     if path.starts_with(b"/modules/") {
-        return in_modules(image, header, path, hashes, reads);
+        return in_modules(image, path, hashes, reads);
     }
-    in_packages(image, header, path, hashes, reads)
+    in_packages(image, path, hashes, reads)
 }
 
 /// No fewer bytes than the locations or the strings have: so words reach each place in them.
@@ -289,7 +254,7 @@ pub fn stat<'a, H: Ledger, R: Ledger>(
 {
     let header = image.header();
     let _longest = longest_section(&header);
-    stat_in(image, &header, path, hashes, reads)
+    stat_in(image, path, hashes, reads)
 }
 
 /// The children of the folder at a path; `NotFolder` exactly where a file or a link stands there.
@@ -312,26 +277,24 @@ pub fn children<'a, H: Ledger, R: Ledger>(
     }
 }
 
-/// The first full owner of a package, in the valid image that has this header.
+/// The first full owner of a package, whether or not the trees of some resources are there.
 fn owner_in<'a, H: Ledger, R: Ledger>(
     image: &Image<'a>,
-    header: &Header,
     path: &[u8],
     hashes: &mut Steps<H>,
     reads: &mut Meter<R>,
 ) -> Result<Option<&'a [u8]>, JrtError>
-    requires read { header_of image.now ≡ Ok header.now }
-    requires metered { reads.old.bytes ≡ image.now }
+    requires { reads.old.bytes ≡ image.now }
     ensures owner { on_ok (λ name. option_map (λ n. n.now) name) result
-        ≡ answers.owner_with image.now header.now path.now }
+        ≡ answers.owner_with image.now path.now }
     ensures hashes { RisesAtMost hashes.old hashes.new 2 }
     ensures reads { IsLater reads.old reads.new }
 {
     if !is_package(path) {
         return Err(JrtError::NotThere);
     }
-    let content = pairs_at(image, header, path, hashes, reads)?;
-    Ok(first_full(&image.buf(), header, content, reads))
+    let content = pairs_at(image, path, hashes, reads)?;
+    Ok(first_full(image, content, reads))
 }
 
 /// The first owner, of the package at a path such as `/packages/java.lang`, for which it isn't
@@ -353,5 +316,5 @@ pub fn owner<'a, H: Ledger, R: Ledger>(
 {
     let header = image.header();
     let _longest = longest_section(&header);
-    owner_in(image, &header, path, hashes, reads)
+    owner_in(image, path, hashes, reads)
 }

@@ -10,35 +10,33 @@ pub word-requires : goal.word-requires
 word-requires g c =
     let count = c.pair_count-k-end.ensures in
     let below = c.loop-k-test.true in
-    (pair_at c.args.buf.now c.args.header.now c.args.content.now c.loop-k.k c.requires.sound (omega arith)).flag_fits
+    (pair_at c.args.image.now c.args.content.now c.loop-k.k c.requires.sound (omega arith)).flag_fits
 
 pub returns-then-word-ne1-clause-found : goal.returns-then-word-ne1-clause-found
 returns-then-word-ne1-clause-found g c =
-    let b = c.args.buf.now in
-    let h = c.args.header.now in
+    let b = c.args.image.now in
     let content = c.args.content.now in
     let k = c.loop-k.k in
     let count = c.pair_count-k-end.ensures in
     let below = c.loop-k-test.true in
-    let left : List Owner = owners_left b h content (k + 1) in
-    let here : owners_left b h content k ≡ owner_told b h content k ∷ left = owners_more b h content k (omega arith) in
-    let full : word_of h content (2 * k) == 1 ≡ false = ap (λ n. n == 1) (sym c.word.ensures) ∙ false_from_ne_true (c.word.result == 1) (λ is. c.if-word-ne1.true (eqb-true c.word.result 1 is)) in
-    sym (c.loop-k.invariant.rest ∙ ap first_full here ∙ full_here (owner_told b h content k) left full ∙ ap (λ (o : Owner). Some o.module) (sym c.owner_at.ensures.owner))
+    let left : List Owner = owners_left b content (k + 1) in
+    let here : owners_left b content k ≡ owner_told b content k ∷ left = owners_more b content k (omega arith) in
+    let full : word_of b content (2 * k) == 1 ≡ false = ap (λ n. n == 1) (sym c.word.ensures) ∙ false_from_ne_true (c.word.result == 1) (λ is. c.if-word-ne1.true (eqb-true c.word.result 1 is)) in
+    sym (c.loop-k.invariant.rest ∙ ap first_full here ∙ full_here (owner_told b content k) left full ∙ ap (λ (o : Owner). Some o.module) (sym c.owner_at.ensures.owner))
 
 pub loop-k-preserved : goal.loop-k-preserved
 loop-k-preserved g c =
-    let b = c.args.buf.now in
-    let h = c.args.header.now in
+    let b = c.args.image.now in
     let content = c.args.content.now in
     let k = c.loop-k.k in
     let count = c.pair_count-k-end.ensures in
     let below = c.loop-k-test.true in
     let loop = c.loop-k.invariant in
-    let left : List Owner = owners_left b h content (k + 1) in
-    let here : owners_left b h content k ≡ owner_told b h content k ∷ left = owners_more b h content k (omega arith) in
-    let empty : word_of h content (2 * k) == 1 ≡ true = ap (λ n. n == 1) (sym c.word.ensures ∙ c.if-word-ne1.false) in
+    let left : List Owner = owners_left b content (k + 1) in
+    let here : owners_left b content k ≡ owner_told b content k ∷ left = owners_more b content k (omega arith) in
+    let empty : word_of b content (2 * k) == 1 ≡ true = ap (λ n. n == 1) (sym c.word.ensures ∙ c.if-word-ne1.false) in
     record {
       bytes = loop.bytes;
       count = loop.count;
-      rest = loop.rest ∙ ap first_full here ∙ full_later (owner_told b h content k) left empty;
+      rest = loop.rest ∙ ap first_full here ∙ full_later (owner_told b content k) left empty;
     }

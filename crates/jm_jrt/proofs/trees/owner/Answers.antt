@@ -1,6 +1,8 @@
-use Rattle.std.proofs.Common.{sym, ap, ◌∙◌, arith}
+use Rattle.std.proofs.Common.{sym, ap, ◌∙◌, subst, arith}
+use Rattle.jm_reader.proofs.HeadLaws.{head_is}
 use Rattle.jm_jrt.specs.Stat.{owner_read}
-use Rattle.jm_jrt.proofs.TreeLaws.{trees_read}
+use Rattle.jm_jrt.proofs.TreeContents.{HasSections}
+use Rattle.jm_jrt.proofs.TreeLaws.{trees_with}
 use Rattle.jm_jrt.proofs.trees.owner.Goals as goal
 
 pub returns-clause-owner : goal.returns-clause-owner
@@ -8,7 +10,8 @@ returns-clause-owner g c = c.owner_in.ensures.owner ∙ sym (ap (owner_read c.ar
 
 pub returns-clause-trees : goal.returns-clause-trees
 returns-clause-trees g c = λ m stands nodes.
+    let b = c.args.image.now in
     let longest = c.longest_section-longest.type_inv in
     let within = c.longest_section-longest.ensures in
-    let shown = trees_read c.args.image.now c.header-header.result c.header-header.ensures.header (record { locations = omega arith; strings = omega arith }) m stands nodes in
-    c.owner_in.ensures.owner ∙ sym (ap (owner_read c.args.image.now c.args.path.now) c.header-header.ensures.header) ∙ shown.owners c.args.path.now
+    let has = subst HasSections (sym (head_is b c.header-header.result c.header-header.ensures.header)) (record { locations = omega arith; strings = omega arith }) in
+    returns-clause-owner g c ∙ (trees_with b m has nodes stands).owners c.args.path.now

@@ -6,5 +6,5 @@ abbrev pub invariant-loop-k : goal.invariant-loop-k
 invariant-loop-k g l = record {
   bytes : l.reads.bytes ≡ l.fn.reads.bytes;
   count : l.fn.reads.count ≤ l.reads.count;
-  sound : (j : ℕ) → j < l.k → is_child_sound l.ended.buf.now l.ended.header.now l.content j ≡ true;
+  sound : (j : ℕ) → j < l.k → is_child_sound l.ended.image.now l.content j ≡ true;
 }

@@ -6,5 +6,5 @@ abbrev pub invariant-loop-half : goal.invariant-loop-half
 invariant-loop-half g l = record {
   bytes : l.reads.bytes ≡ l.fn.reads.bytes;
   count : l.fn.reads.count ≤ l.reads.count;
-  sound : (j : ℕ) → j < l.half → is_pair_sound l.ended.buf.now l.ended.header.now l.content j ≡ true;
+  sound : (j : ℕ) → j < l.half → is_pair_sound l.ended.image.now l.content j ≡ true;
 }

@@ -1,4 +1,0 @@
-use Rattle.jm_jrt.proofs.child_list.root_list.Goals as goal
-
-pub invariant_of-result : goal.invariant_of-result
-invariant_of-result c = record { header = rw c.again.ensures c.requires; read = tt }
