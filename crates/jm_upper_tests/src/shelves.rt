@@ -3,6 +3,8 @@
 //! A line of a script is what it shows, a call, a path and the bytes that are added, a bar behind
 //! each of them, and the answer. The answer of `names` has a comma behind each name, that of `read`
 //! is the bytes, or `-` where there is no file, that of a write is empty, and a failure is `!`.
+//! `length` answers a number or `-`. For `part` the place and the number of bytes that are asked
+//! for, with a space between, stand where a write has its bytes; it answers as `read`.
 
 use crate::calls::shelf_of;
 use jm_bytes::{NoMemory, Text, extend};
@@ -18,6 +20,32 @@ fn tell_names(out: &mut Vec<u8>, names: &[Text]) -> Result<(), NoMemory> {
     Ok(())
 }
 
+fn tell_found(out: &mut Vec<u8>, found: Option<Text>) -> Result<(), NoMemory> {
+    match found {
+        Some(text) => extend(out, text.as_slice()),
+        None => extend(out, b"-"),
+    }
+}
+
+fn tell_length(alloc: Global, out: &mut Vec<u8>, found: Option<u64>) -> Result<(), ShelfError> {
+    match found {
+        Some(length) => extend(out, format!(in alloc; "{length}")?.as_bytes())?,
+        None => extend(out, b"-")?,
+    }
+    Ok(())
+}
+
+/// The place and the number of bytes of a part. The last place of all is `end`.
+fn part_asked(text: &str) -> (u64, usize) {
+    let (at, count) = text.split_once(' ').unwrap_or((text, ""));
+    let at = if at == "end" {
+        u64::MAX
+    } else {
+        at.parse::<u64>().unwrap_or(0)
+    };
+    (at, count.parse::<usize>().unwrap_or(usize::MAX))
+}
+
 fn tell_answer<S: Shelf>(
     alloc: Global,
     shelf: &mut S,
@@ -28,10 +56,12 @@ fn tell_answer<S: Shelf>(
 ) -> Result<(), ShelfError> {
     match call {
         "names" => tell_names(out, shelf.names(alloc, path.as_bytes())?.as_slice())?,
-        "read" => match shelf.read(alloc, path.as_bytes())? {
-            Some(text) => extend(out, text.as_slice())?,
-            None => extend(out, b"-")?,
-        },
+        "read" => tell_found(out, shelf.read(alloc, path.as_bytes())?)?,
+        "length" => tell_length(alloc, out, shelf.length(alloc, path.as_bytes())?)?,
+        "part" => {
+            let (at, count) = part_asked(bytes);
+            tell_found(out, shelf.read_part(alloc, path.as_bytes(), at, count)?)?;
+        }
         "create" => shelf.create(alloc, path.as_bytes())?,
         "finish" => shelf.finish(alloc)?,
         _ => shelf.append(alloc, path.as_bytes(), bytes.as_bytes())?,
@@ -102,17 +132,59 @@ pub const TREE: &[&str] = &[
     "no file|read|d/a/c||-",
 ];
 
-/// The first five calls fail, the fourth of them with half its bytes added.
+/// Parts of files, which others are read and made between.
+pub const PARTS: &[&str] = &[
+    "no file has no length|length|p/six||-",
+    "no file has no part|part|p/six|0 3|-",
+    "a file that isn't finished|create|p/six||",
+    "it has bytes|append|p/six|abcdef|",
+    "a file of no byte|create|p/none||",
+    "the first has its length|length|p/six||6",
+    "a part at the front|part|p/six|0 2|ab",
+    "a part in the middle|part|p/six|2 3|cde",
+    "a part before it|part|p/six|1 1|b",
+    "a part as far as the end|part|p/six|4 2|ef",
+    "a part over the end|part|p/six|4 3|ef",
+    "a part at the end|part|p/six|6 1|",
+    "a part behind the end|part|p/six|7 1|",
+    "a part at the last place of all|part|p/six|end 1|",
+    "no byte is asked for|part|p/six|2 0|",
+    "as many as there are|part|p/six|3 all|def",
+    "all of it|part|p/six|0 all|abcdef",
+    "a file of no byte has the length 0|length|p/none||0",
+    "and the empty part|part|p/none|0 3|",
+    "also behind its end|part|p/none|1 3|",
+    "no file has no length, whatever was open|length|p/no||-",
+    "the first again|part|p/six|5 1|f",
+    "bytes are added|append|p/six|gh|",
+    "they are in its length|length|p/six||8",
+    "and in a part|part|p/six|5 all|fgh",
+    "it is read whole|read|p/six||abcdefgh",
+    "a part behind that|part|p/six|1 2|bc",
+    "it is made anew|create|p/six||",
+    "with another byte|append|p/six|z|",
+    "the making of files ends|finish|||",
+    "the new one has its length|length|p/six||1",
+    "and its part|part|p/six|0 2|z",
+    "it is listed|names|p||none,six,",
+    "a part behind the list|part|p/six|0 1|z",
+];
+
+/// The first seven calls fail, the fourth of them with half its bytes added.
 const FAILING: &[&str] = &[
     "a list fails|names|d||!",
     "a read fails|read|d/a||!",
     "a create fails|create|d/a||!",
     "an append fails|append|d/a|12345|!",
     "a finish fails|finish|||!",
+    "a length fails|length|d/a||!",
+    "a part fails|part|d/a|0 2|!",
     "a list|names|d||a,",
     "half was added|read|d/a||one12",
     "the same list|names|d||a,",
     "the same read|read|d/a||one12",
+    "a length|length|d/a||5",
+    "a part|part|d/a|0 2|on",
     "a create|create|d/a||",
     "an append|append|d/a|12345|",
     "a finish|finish|||",
@@ -129,8 +201,15 @@ fn a_shelf_in_memory_keeps_files(rt: HostRuntime) -> Result<(), Fail> {
 }
 
 #[test]
+fn a_shelf_in_memory_gives_parts(rt: HostRuntime) -> Result<(), Fail> {
+    let mut shelf = shelf_of(rt.alloc(), &[], &[])?;
+    assert_eq!(rt; unlike(rt.alloc(), &mut shelf, PARTS)?, None);
+    Ok(())
+}
+
+#[test]
 fn a_shelf_in_memory_fails_the_listed_calls(rt: HostRuntime) -> Result<(), Fail> {
-    let mut shelf = shelf_of(rt.alloc(), &[("d/a", b"one")], &[0, 1, 2, 3, 4])?;
+    let mut shelf = shelf_of(rt.alloc(), &[("d/a", b"one")], &[0, 1, 2, 3, 4, 5, 6])?;
     assert_eq!(rt; unlike(rt.alloc(), &mut shelf, FAILING)?, None);
     assert_eq!(rt; shelf.file(b"d/a"), Some(b"12345".as_slice()));
     Ok(())

@@ -1,9 +1,11 @@
 //! Files, folders, links and streams of the system.
 
-use crate::shelves::{TREE, unlike};
+use crate::shelves::{PARTS, TREE, unlike};
 use crate::streams::{given_by, put_marks};
+use jm_bytes::Text;
 use jm_disk::FileShelf;
 use jm_outside::{Shelf, StdSink, StdSource};
+use std::alloc::Global;
 use std::os::unix::fs::symlink;
 use std::rt::{Env, Files};
 use std::test::Fail;
@@ -48,14 +50,19 @@ const LINKED: &[&str] = &[
     "an empty file|read|d/a/b.txt||",
     "a file in two folders|read|d/a/b/two words.txt||4444",
     "a link to a file is read|read|d/link||22",
+    "it has the file's length|length|d/link||2",
+    "and a part of it|part|d/link|1 1|2",
     "a link to a file is made anew|create|d/link||",
     "bytes are added|append|d/link|333|",
     "what the link leads to was replaced|read|d/a b||333",
     "no other file was left|names|d||a b,a/b.txt,a/b/two words.txt,link,way/two words.txt,",
     "a link to nothing is no file|read|gone/x||-",
+    "and has no length|length|gone/x||-",
     "an empty folder has no names|names|d/empty||",
     "a file in place of a folder is no fault of a read|read|d/a/b.txt/c||-",
+    "nor of a part|part|d/a/b.txt/c|0 1|-",
     "a folder in place of a file is a fault of a read|read|d/empty||!",
+    "and of a part|part|d/empty|0 1|!",
     "a file in place of a folder is a fault of a create|create|d/a/b.txt/c||!",
     "a folder in place of a file is a fault of a create|create|d/empty||!",
     "a folder that isn't there is a fault of an append|append|e/a|1|!",
@@ -104,6 +111,16 @@ const SCRIPTS: &[(&str, &[&str], Option<&str>)] = &[
         Some("device/x: neither a file nor a link to one"),
     ),
     (
+        "a folder has no length",
+        &["the folder is no file|length|d/empty||!"],
+        Some("d/empty: neither a file nor a link to one"),
+    ),
+    (
+        "a device has no part",
+        &["the device is no file|part|device/x|0 1|!"],
+        Some("device/x: neither a file nor a link to one"),
+    ),
+    (
         "a file that gives more than its length",
         &["the system tells 0|read|/proc/version||!"],
         Some("/proc/version: changed while it was read"),
@@ -127,12 +144,41 @@ fn given_up<R: Files + AllocGlobal>(rt: &R) -> Result<String, Fail> {
     Ok(format!(in alloc; "{made} {is_left} {old} {is_new}")?)
 }
 
+/// The length of the file `open`, a space, and what it has of the three bytes from its second on.
+fn open_now<R: Files + AllocGlobal>(
+    alloc: Global,
+    shelf: &mut FileShelf<'_, R>,
+) -> Result<String, Fail> {
+    let length = shelf.length(alloc, b"open")?.unwrap_or(u64::MAX);
+    let part = shelf.read_part(alloc, b"open", 1, 3)?;
+    let part = part.unwrap_or(Text::new(alloc)).into_vec();
+    let part = String::from_utf8(part)?;
+    Ok(format!(in alloc; "{length} {part}")?)
+}
+
+/// What that file has; then, when it got shorter; and when another file has its name.
+fn kept_open<R: Files + AllocGlobal>(rt: &R) -> Result<String, Fail> {
+    let alloc = rt.alloc();
+    let mut shelf = FileShelf::new(rt);
+    fs::write(rt, "open", "abcdef")?;
+    let whole = open_now(alloc, &mut shelf)?;
+    fs::write(rt, "open", "ab")?;
+    let shorter = open_now(alloc, &mut shelf)?;
+    fs::write(rt, "other", "123456")?;
+    fs::rename(rt, "other", "open")?;
+    let same = open_now(alloc, &mut shelf)?;
+    shelf.finish(alloc)?;
+    let other = open_now(alloc, &mut shelf)?;
+    Ok(format!(in alloc; "{whole}, {shorter}, {same}, {other}")?)
+}
+
 #[test]
 fn the_system_keeps_files(rt: HostRuntime) -> Result<(), Fail> {
     let id = process::id(rt.process());
     enter(&rt, id)?;
     let mut shelf = FileShelf::new(&rt);
     assert_eq!(rt; unlike(rt.alloc(), &mut shelf, TREE)?, None);
+    assert_eq!(rt; unlike(rt.alloc(), &mut shelf, PARTS)?, None);
     assert_eq!(rt; shelf.last_failure(), None);
     make_links(&rt)?;
     for (shows, script, failure) in SCRIPTS {
@@ -141,6 +187,7 @@ fn the_system_keeps_files(rt: HostRuntime) -> Result<(), Fail> {
         assert_eq!(rt; shelf.last_failure(), *failure, "{shows}");
     }
     assert_eq!(rt; given_up(&rt)?.as_str(), "55555 false 333 false");
+    assert_eq!(rt; kept_open(&rt)?.as_str(), "6 bcd, 2 b, 2 b, 6 234");
     let mut sink = StdSink::new(fs::create(&rt, "stream")?);
     assert_eq!(rt; put_marks(rt.alloc(), &mut sink)?.as_str(), "...");
     let mut source = StdSource::new(fs::open(&rt, "stream")?);
