@@ -11,9 +11,6 @@ use std::fs::OpenFile;
 use std::io::{Read, Seek, SeekFrom};
 use std::rt::Files;
 
-/// The highest place in a file of which the system knows.
-const LAST_PLACE: u64 = 9_223_372_036_854_775_807;
-
 /// A file that is open to be read in parts, and the path at which it stood when it was opened.
 #[derive(Drop)]
 pub struct PartedFile<F: Read + Seek + OpenFile + Drop> {
@@ -56,14 +53,16 @@ impl<F: Read + Seek + OpenFile + Drop> PartedFile<F> {
         Ok(self.file.metadata()?.len())
     }
 
-    /// The bytes from a place on, so many or as many as there are.
+    /// The bytes from a place on, so many or as many as the file has there now.
     pub fn part(&mut self, alloc: Global, at: u64, count: usize) -> Result<Text, FileError>
         ensures { IfOk result (λ text. length text ≤ count) }
     {
+        let rest = self.length()?.saturating_sub(at) as usize;
         let mut bytes = Vec::new(alloc);
-        if at <= LAST_PLACE {
+        // The system takes no place that is far behind the end.
+        if rest > 0 {
             self.file.seek(SeekFrom::Start(at))?;
-            read_up_to(&mut self.file, count, &mut bytes)?;
+            read_up_to(&mut self.file, count.min(rest), &mut bytes)?;
         }
         Ok(Text::from_vec(bytes))
     }
