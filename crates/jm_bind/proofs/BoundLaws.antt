@@ -1,5 +1,6 @@
 -- The modules that the graph's roots lead to are those that are in every closed set.
-use Rattle.std.proofs.Common.{◌≡◌, ℕ, zero, suc, ◌<◌, ◌↔◌, ◌⊎◌, inl, inr, Bool, false, List, [], ◌∷◌, length, Some, Contains, refl, subst, arith, take, slice_index_or}
+use Rattle.std.proofs.Common.{◌≡◌, ℕ, zero, suc, ◌<◌, ◌↔◌, ◌⊎◌, inl, inr, Bool, false, List, [], ◌∷◌, length}
+use Rattle.std.proofs.Common.{Some, Contains, refl, subst, arith, take, slice_index_or}
 use Rattle.std.specs.Prelude.{filter}
 use Rattle.std.specs.List.{range_with_len}
 use Rattle.std.proofs.lemmas.Bool.{false≢true}

@@ -1,5 +1,6 @@
 -- Checks in their order: the first fault as a rule, as a value, and over a range of numbers.
-use Rattle.std.proofs.Common.{◌≡◌, ℕ, zero, suc, ◌+◌, ◌<◌, ◌≤◌, ◌⊎◌, inl, inr, Bool, true, false, List, [], ◌∷◌, ◌++◌, map, Option, Some, None, refl, sym, ap, ◌∙◌, arith}
+use Rattle.std.proofs.Common.{◌≡◌, ℕ, zero, suc, ◌+◌, ◌<◌, ◌≤◌, ◌⊎◌, inl, inr, Bool, true, false, List, []}
+use Rattle.std.proofs.Common.{◌∷◌, ◌++◌, map, Option, Some, None, refl, sym, ap, ◌∙◌, arith}
 use Rattle.std.proofs.lemmas.List.Elements.{All-nil, All-cons, All-head, All-tail}
 use Rattle.std.specs.Prelude.{All, slice_get}
 use Rattle.std.specs.List.{range_with_len}
@@ -31,11 +32,13 @@ first_fault_is {F} (None ∷ checks) fault e =
     let rest = first_fault_is checks fault e in
     record { place = suc rest.place; found = rest.found; before = before rest.place rest.before }
   where
-    before : (place : ℕ) → ((k : ℕ) → k < place → slice_get checks k ≡ Some None) → (k : ℕ) → k < suc place → slice_get (None ∷ checks) k ≡ Some None
+    before : (place : ℕ) → ((k : ℕ) → k < place → slice_get checks k ≡ Some None) → (k : ℕ) → k < suc place
+        → slice_get (None ∷ checks) k ≡ Some None
     before place rest zero below = refl
     before place rest (suc k) below = rest k (omega arith)
 
-first_fault_place : {F : Type 0} (checks : List (Option F)) (fault : F) (place : ℕ) → slice_get checks place ≡ Some (Some fault) → ((k : ℕ) → k < place → slice_get checks k ≡ Some None) → first_fault checks ≡ Some fault
+first_fault_place : {F : Type 0} (checks : List (Option F)) (fault : F) (place : ℕ) → slice_get checks place ≡ Some (Some fault)
+    → ((k : ℕ) → k < place → slice_get checks k ≡ Some None) → first_fault checks ≡ Some fault
 first_fault_place [] fault place found before = cc
 first_fault_place (check ∷ checks) fault zero found before = rw (same_some check (Some fault) found) refl
 first_fault_place (check ∷ checks) fault (suc place) found before =
@@ -51,11 +54,13 @@ pub no_fault_head : {F : Type 0} (check : Option F) (checks : List (Option F)) �
 no_fault_head None checks e = refl
 no_fault_head (Some fault) checks e = cc
 
-pub no_fault_tail : {F : Type 0} (check : Option F) (checks : List (Option F)) → first_fault (check ∷ checks) ≡ None → first_fault checks ≡ None
+pub no_fault_tail : {F : Type 0} (check : Option F) (checks : List (Option F)) → first_fault (check ∷ checks) ≡ None
+    → first_fault checks ≡ None
 no_fault_tail None checks e = e
 no_fault_tail (Some fault) checks e = cc
 
-pub no_fault_cons : {F : Type 0} (check : Option F) (checks : List (Option F)) → check ≡ None → first_fault checks ≡ None → first_fault (check ∷ checks) ≡ None
+pub no_fault_cons : {F : Type 0} (check : Option F) (checks : List (Option F)) → check ≡ None → first_fault checks ≡ None
+    → first_fault (check ∷ checks) ≡ None
 no_fault_cons check checks here later = rw here later
 
 pub no_fault_all : {F : Type 0} (checks : List (Option F)) → first_fault checks ≡ None → All (λ check. check ≡ None) checks
@@ -66,9 +71,11 @@ no_fault_all (check ∷ checks) e =
 pub no_fault_from : {F : Type 0} (checks : List (Option F)) → All (λ check. check ≡ None) checks → first_fault checks ≡ None
 no_fault_from [] none = refl
 no_fault_from (check ∷ checks) none =
-    no_fault_cons check checks (All-head (λ check. check ≡ None) check checks none) (no_fault_from checks (All-tail (λ check. check ≡ None) check checks none))
+    no_fault_cons check checks (All-head (λ check. check ≡ None) check checks none)
+    (no_fault_from checks (All-tail (λ check. check ≡ None) check checks none))
 
-pub no_fault_at : {F : Type 0} (checks : List (Option F)) (k : ℕ) (check : Option F) → first_fault checks ≡ None → slice_get checks k ≡ Some check → check ≡ None
+pub no_fault_at : {F : Type 0} (checks : List (Option F)) (k : ℕ) (check : Option F) → first_fault checks ≡ None
+    → slice_get checks k ≡ Some check → check ≡ None
 no_fault_at [] k check e there = cc
 no_fault_at (first ∷ checks) zero check e there = sym (same_some first check there) ∙ no_fault_head first checks e
 no_fault_at (first ∷ checks) (suc k) check e there = no_fault_at checks k check (no_fault_tail first checks e) there
@@ -76,7 +83,8 @@ no_fault_at (first ∷ checks) (suc k) check e there = no_fault_at checks k chec
 -- One fault behind the other
 
 -- the fault is that of the check in front, or that of the ones behind it
-pub first_fault_cases : {F : Type 0} (check : Option F) (checks : List (Option F)) (fault : F) → first_fault (check ∷ checks) ≡ Some fault → (check ≡ Some fault) ⊎ ((check ≡ None) × (first_fault checks ≡ Some fault))
+pub first_fault_cases : {F : Type 0} (check : Option F) (checks : List (Option F)) (fault : F) → first_fault (check ∷ checks)
+    ≡ Some fault → (check ≡ Some fault) ⊎ ((check ≡ None) × (first_fault checks ≡ Some fault))
 first_fault_cases None checks fault e = inr (refl, e)
 first_fault_cases (Some found) checks fault e = inl e
 
@@ -85,14 +93,16 @@ first_fault_append_none [] ys e = refl
 first_fault_append_none (None ∷ xs) ys e = first_fault_append_none xs ys e
 first_fault_append_none (Some fault ∷ xs) ys e = cc
 
-pub first_fault_append_some : {F : Type 0} (xs ys : List (Option F)) (fault : F) → first_fault xs ≡ Some fault → first_fault (xs ++ ys) ≡ Some fault
+pub first_fault_append_some : {F : Type 0} (xs ys : List (Option F)) (fault : F) → first_fault xs ≡ Some fault
+    → first_fault (xs ++ ys) ≡ Some fault
 first_fault_append_some [] ys fault e = cc
 first_fault_append_some (None ∷ xs) ys fault e = first_fault_append_some xs ys fault e
 first_fault_append_some (Some found ∷ xs) ys fault e = e
 
 -- A check for each number of a range
 
-pub no_fault_between : {F : Type 0} (fault : ℕ → Option F) (i n : ℕ) → first_fault (map fault (range_with_len i n)) ≡ None → (j : ℕ) → i ≤ j → j < i + n → fault j ≡ None
+pub no_fault_between : {F : Type 0} (fault : ℕ → Option F) (i n : ℕ) → first_fault (map fault (range_with_len i n)) ≡ None → (j : ℕ)
+    → i ≤ j → j < i + n → fault j ≡ None
 no_fault_between fault i zero e j from to = absurd (omega arith)
 no_fault_between fault i (suc n) e j from to =
     let later = no_fault_tail (fault i) (map fault (range_with_len (i + 1) n)) e in
@@ -101,14 +111,16 @@ no_fault_between fault i (suc n) e j from to =
       | inr past ↦ no_fault_between fault (i + 1) n later j past (omega arith)
     ]
 
-pub no_fault_from_between : {F : Type 0} (fault : ℕ → Option F) (i n : ℕ) → ((j : ℕ) → i ≤ j → j < i + n → fault j ≡ None) → first_fault (map fault (range_with_len i n)) ≡ None
+pub no_fault_from_between : {F : Type 0} (fault : ℕ → Option F) (i n : ℕ) → ((j : ℕ) → i ≤ j → j < i + n → fault j ≡ None)
+    → first_fault (map fault (range_with_len i n)) ≡ None
 no_fault_from_between fault i zero none = refl
 no_fault_from_between fault i (suc n) none =
     no_fault_cons (fault i) (map fault (range_with_len (i + 1) n)) (none i (omega arith) (omega arith))
     (no_fault_from_between fault (i + 1) n (λ j from to. none j (omega arith) (omega arith)))
 
 -- the fault of the least number that has one
-pub first_fault_least : {F : Type 0} (fault : ℕ → Option F) (i n j : ℕ) (found : F) → i ≤ j → j < i + n → ((k : ℕ) → i ≤ k → k < j → fault k ≡ None) → fault j ≡ Some found → first_fault (map fault (range_with_len i n)) ≡ Some found
+pub first_fault_least : {F : Type 0} (fault : ℕ → Option F) (i n j : ℕ) (found : F) → i ≤ j → j < i + n → ((k : ℕ) → i ≤ k → k < j
+    → fault k ≡ None) → fault j ≡ Some found → first_fault (map fault (range_with_len i n)) ≡ Some found
 first_fault_least fault i zero j found from to before here = absurd (omega arith)
 first_fault_least fault i (suc n) j found from to before here =
     elim (first_or_later i j from) [
@@ -127,7 +139,8 @@ pub record IsLeastFault {F : Type 0} (fault : ℕ → Option F) (i n : ℕ) (fou
   pub here : fault number ≡ Some found
   pub before : (k : ℕ) → i ≤ k → k < number → fault k ≡ None
 
-pub first_fault_number : {F : Type 0} (fault : ℕ → Option F) (i n : ℕ) (found : F) → first_fault (map fault (range_with_len i n)) ≡ Some found → IsLeastFault fault i n found
+pub first_fault_number : {F : Type 0} (fault : ℕ → Option F) (i n : ℕ) (found : F) → first_fault (map fault (range_with_len i n))
+    ≡ Some found → IsLeastFault fault i n found
 first_fault_number fault i zero found e = cc
 first_fault_number fault i (suc n) found e =
     elim (first_fault_cases (fault i) (map fault (range_with_len (i + 1) n)) found e) [
@@ -139,6 +152,10 @@ first_fault_number fault i (suc n) found e =
             from = omega (arith, later.from);
             to = omega (arith, later.to);
             here = later.here;
-            before = λ k from to. elim (first_or_later i k from) [ inl same ↦ ap fault (sym same) ∙ both.0 | inr past ↦ later.before k past to ];
+            before = λ k from to. elim (first_or_later i k from) [
+              | inl same ↦ ap fault (sym same) ∙ both.0
+              | inr past ↦ later.before
+                  k past to
+            ];
           }
     ]

@@ -1,5 +1,6 @@
 -- A list that is cut at the first or at the last element that passes a test.
-use Rattle.std.proofs.Common.{◌≡◌, ◌+◌, ◌-◌, ◌<◌, Bool, true, false, not, List, [], ◌∷◌, ◌++◌, reverse, length, get_or, take, drop, sym, ap, inl, inr, ◌∙◌, arith}
+use Rattle.std.proofs.Common.{◌≡◌, ◌+◌, ◌-◌, ◌<◌, Bool, true, false, not, List, [], ◌∷◌, ◌++◌, reverse}
+use Rattle.std.proofs.Common.{length, get_or, take, drop, sym, ap, inl, inr, ◌∙◌, arith}
 use Rattle.std.proofs.lemmas.Bool.{cases_lt, not-false, false≢true}
 use Rattle.std.proofs.lemmas.List.{drop_more, length-reverse, get_or-reverse, take-append-drop}
 use Rattle.std.proofs.lemmas.List.Folds.{list_any_at}
@@ -23,13 +24,16 @@ module _ {X : Type 0} (p : X → Bool) where
       elim (cases_lt (suffix_len (λ x. not (p x)) xs) (length xs)) [
         | inl lt ↦ lt
         | inr past ↦
-            let fails : not (p (get_or (reverse xs) (length xs - 1 - k) d)) ≡ true = prefix_len_passes (λ x. not (p x)) (reverse xs) (length xs - 1 - k) d (omega (arith, place.1)) in
+            let fails : not (p (get_or (reverse xs) (length xs - 1 - k) d)) ≡ true = prefix_len_passes (λ x. not (p x)) (reverse xs)
+            (length xs - 1 - k) d (omega (arith, place.1)) in
             let back : length xs - 1 - (length xs - 1 - k) ≡ k = omega (arith, place.1) in
-            absurd (false≢true (sym (ap not place.2) ∙ ap (λ i. not (p (get_or xs i d))) (sym back) ∙ ap (λ x. not (p x)) (sym turned) ∙ fails))
+            absurd (false≢true (sym (ap not place.2) ∙ ap (λ i. not (p (get_or xs i d))) (sym back)
+            ∙ ap (λ x. not (p x)) (sym turned) ∙ fails))
       ]
 
   -- a list is what stands before its last element that passes, that element and what stands after
-  pub last_parts : (xs : List X) (d : X) → suffix_len (λ x. not (p x)) xs < length xs → (x : X) × (p x ≡ true) × (before_last p xs ++ x ∷ after_last p xs ≡ xs)
+  pub last_parts : (xs : List X) (d : X) → suffix_len (λ x. not (p x)) xs < length xs → (x : X) × (p x ≡ true)
+      × (before_last p xs ++ x ∷ after_last p xs ≡ xs)
   last_parts xs d within =
       let after = suffix_len (λ x. not (p x)) xs in
       let at = length xs - after - 1 in
@@ -39,7 +43,8 @@ module _ {X : Type 0} (p : X → Bool) where
       let next : length xs - after ≡ at + 1 = omega arith in (
         get_or xs at d,
         not-false _ (rw read at stops),
-        ap (λ k. take at xs ++ get_or xs at d ∷ drop k xs) next ∙ ap (λ ys. take at xs ++ ys) (sym (drop_more xs at d (omega arith))) ∙ take-append-drop at xs,
+        ap (λ k. take at xs ++ get_or xs at d ∷ drop k xs) next
+            ∙ ap (λ ys. take at xs ++ ys) (sym (drop_more xs at d (omega arith))) ∙ take-append-drop at xs,
       )
 
   -- where no element passes, nothing stands before the last one

@@ -1,7 +1,10 @@
 -- What a list contains: by cases on its head, and where it is filtered, mapped or counted out.
-use Rattle.std.proofs.Common.{◌≡◌, ℕ, zero, suc, ◌+◌, ◌-◌, ◌<◌, ◌≤◌, ◌⊎◌, inl, inr, Bool, true, false, cond, List, [], ◌∷◌, length, map, slice_get, Option, Some, None, All, Contains, refl, sym, ap, ◌∙◌, subst, arith}
+use Rattle.std.proofs.Common.{◌≡◌, ℕ, zero, suc, ◌+◌, ◌-◌, ◌<◌, ◌≤◌, ◌⊎◌, inl, inr, Bool, true, false, cond}
+use Rattle.std.proofs.Common.{List, [], ◌∷◌, length, map, slice_get, Option, Some, None, All, Contains, refl}
+use Rattle.std.proofs.Common.{sym, ap, ◌∙◌, subst, arith}
 use Rattle.std.proofs.lemmas.Bool.{false≢true}
-use Rattle.std.proofs.lemmas.List.Elements.{All-contains, All-contains_itself, All-cons, All-head, All-nil, All-tail, All-filter, filter_passes}
+use Rattle.std.proofs.lemmas.List.Elements.{All-contains, All-contains_itself, All-cons, All-head, All-nil}
+use Rattle.std.proofs.lemmas.List.Elements.{All-tail, All-filter, filter_passes}
 use Rattle.std.proofs.lemmas.List.FromFn.{length-range_with_len, get_or-range_with_len}
 use Rattle.std.proofs.lemmas.List.Folds.{list_any_at, Any-from_list_any}
 use Rattle.std.specs.List.{list_any, filter, filter_map, cons_option, range_with_len}
@@ -45,7 +48,8 @@ pub contains_filter : {X : Type 0} (p : X → Bool) (xs : List X) (x : X) → Co
 contains_filter p [] x there passes = absurd (contains_none x there)
 contains_filter {X} p (y ∷ xs) x there passes = go (p y) refl (contains_cases y xs x there) (λ later. contains_filter p xs x later passes)
   where
-    go : (b : Bool) → p y ≡ b → (y ≡ x) ⊎ Contains xs x → (Contains xs x → Contains (filter p xs) x) → Contains (cond b (y ∷ filter p xs) (filter p xs)) x
+    go : (b : Bool) → p y ≡ b → (y ≡ x) ⊎ Contains xs x → (Contains xs x → Contains (filter p xs) x)
+        → Contains (cond b (y ∷ filter p xs) (filter p xs)) x
     go true e (inl same) rest = subst (Contains (y ∷ filter p xs)) same (contains_here y (filter p xs))
     go false e (inl same) rest = absurd (false≢true (sym e ∙ ap p same ∙ passes))
     go true e (inr later) rest = contains_later y (filter p xs) x (rest later)
@@ -66,27 +70,33 @@ length_filter {X} p (x ∷ xs) = go (p x) (length_filter p xs)
 
 pub filter_none : {X : Type 0} (p : X → Bool) (xs : List X) → All (λ x. p x ≡ false) xs → filter p xs ≡ []
 filter_none p [] fails = refl
-filter_none p (x ∷ xs) fails = ap (λ b. cond b (x ∷ filter p xs) (filter p xs)) (All-head (λ y. p y ≡ false) x xs fails) ∙ filter_none p xs (All-tail (λ y. p y ≡ false) x xs fails)
+filter_none p (x ∷ xs) fails = ap (λ b. cond b (x ∷ filter p xs) (filter p xs)) (All-head (λ y. p y ≡ false) x xs fails)
+    ∙ filter_none p xs (All-tail (λ y. p y ≡ false) x xs fails)
 
 -- Filtered and mapped
 
-pub contains_filter_map : {X Y : Type 0} (f : X → Option Y) (xs : List X) (x : X) (y : Y) → Contains xs x → f x ≡ Some y → Contains (filter_map f xs) y
+pub contains_filter_map : {X Y : Type 0} (f : X → Option Y) (xs : List X) (x : X) (y : Y) → Contains xs x → f x ≡ Some y
+    → Contains (filter_map f xs) y
 contains_filter_map f [] x y there gives = absurd (contains_none x there)
-contains_filter_map {X} {Y} f (z ∷ xs) x y there gives = go (f z) refl (contains_cases z xs x there) (λ later. contains_filter_map f xs x y later gives)
+contains_filter_map {X} {Y} f (z ∷ xs) x y there gives = go (f z) refl (contains_cases z xs x there) (λ later. contains_filter_map f
+    xs x y later gives)
   where
-    go : (o : Option Y) → f z ≡ o → (z ≡ x) ⊎ Contains xs x → (Contains xs x → Contains (filter_map f xs) y) → Contains (cons_option o (filter_map f xs)) y
+    go : (o : Option Y) → f z ≡ o → (z ≡ x) ⊎ Contains xs x → (Contains xs x → Contains (filter_map f xs) y)
+        → Contains (cons_option o (filter_map f xs)) y
     go o e (inl same) rest = let is : o ≡ Some y = sym e ∙ ap f same ∙ gives in rw is (contains_here y (filter_map f xs))
     go None e (inr later) rest = rest later
     go (Some first) e (inr later) rest = contains_later first (filter_map f xs) y (rest later)
 
-pub from_filter_map : {X Y : Type 0} (f : X → Option Y) (xs : List X) (y : Y) → Contains (filter_map f xs) y → (x : X) × Contains xs x × (f x ≡ Some y)
+pub from_filter_map : {X Y : Type 0} (f : X → Option Y) (xs : List X) (y : Y) → Contains (filter_map f xs) y → (x : X)
+    × Contains xs x × (f x ≡ Some y)
 from_filter_map f [] y there = absurd (contains_none y there)
 from_filter_map {X} {Y} f (z ∷ xs) y there = go (f z) refl there (λ later. from_filter_map f xs y later)
   where
     more : (x : X) × Contains xs x × (f x ≡ Some y) → (x : X) × Contains (z ∷ xs) x × (f x ≡ Some y)
     more (x, later, gives) = (x, contains_later z xs x later, gives)
 
-    go : (o : Option Y) → f z ≡ o → Contains (cons_option o (filter_map f xs)) y → (Contains (filter_map f xs) y → (x : X) × Contains xs x × (f x ≡ Some y)) → (x : X) × Contains (z ∷ xs) x × (f x ≡ Some y)
+    go : (o : Option Y) → f z ≡ o → Contains (cons_option o (filter_map f xs)) y → (Contains (filter_map f xs) y → (x : X)
+        × Contains xs x × (f x ≡ Some y)) → (x : X) × Contains (z ∷ xs) x × (f x ≡ Some y)
     go None e there rest = more (rest there)
     go (Some first) e there rest =
         elim (contains_cases first (filter_map f xs) y there) [
@@ -95,8 +105,10 @@ from_filter_map {X} {Y} f (z ∷ xs) y there = go (f z) refl there (λ later. fr
         ]
 
 -- what holds of each element gives what holds of each that comes of one
-pub all_filter_map : {X Y : Type 0} (P : X → Type 0) (Q : Y → Type 0) (f : X → Option Y) → ((x : X) (y : Y) → P x → f x ≡ Some y → Q y) → (xs : List X) → All P xs → All Q (filter_map f xs)
-all_filter_map {X} {Y} P Q f carried xs all = all_from_contains Q (filter_map f xs) (λ y there. let from = from_filter_map f xs y there in carried from.0 y (All-contains P xs from.0 all from.1) from.2)
+pub all_filter_map : {X Y : Type 0} (P : X → Type 0) (Q : Y → Type 0) (f : X → Option Y) → ((x : X) (y : Y) → P x → f x ≡ Some y
+    → Q y) → (xs : List X) → All P xs → All Q (filter_map f xs)
+all_filter_map {X} {Y} P Q f carried xs all = all_from_contains Q (filter_map f xs)
+    (λ y there. let from = from_filter_map f xs y there in carried from.0 y (All-contains P xs from.0 all from.1) from.2)
 
 pub length_filter_map : {X Y : Type 0} (f : X → Option Y) (xs : List X) → length (filter_map f xs) ≤ length xs
 length_filter_map f [] = omega arith

@@ -1,6 +1,8 @@
 -- One word: how long it is, that it is read back, and that one of bytes has 32 bits.
-use Rattle.std.proofs.Common.{◌≡◌, ℕ, zero, suc, ◌+◌, ◌^◌, ◌<◌, List, [], ◌∷◌, ◌++◌, length, drop, sym, ap, ◌∙◌, arith, drop-drop, drop_at, slice_index}
-use Rattle.byteorder.specs.Numbers.{big_from-lt, little_from-lt, big_number-reads_back, little_number-reads_back, length-bytes_high_first, length-bytes_low_first}
+use Rattle.std.proofs.Common.{◌≡◌, ℕ, zero, suc, ◌+◌, ◌^◌, ◌<◌, List, [], ◌∷◌, ◌++◌, length, drop, sym, ap}
+use Rattle.std.proofs.Common.{◌∙◌, arith, drop-drop, drop_at, slice_index}
+use Rattle.byteorder.specs.Numbers.{big_from-lt, little_from-lt, big_number-reads_back}
+use Rattle.byteorder.specs.Numbers.{little_number-reads_back, length-bytes_high_first, length-bytes_low_first}
 use Rattle.jm_bytes.specs.Word.{word, word_bytes}
 use Rattle.jm_bytes.specs.declared.words.Order.{Order}
 use Rattle.jm_bytes.specs.declared.words.Order.TheVariants.{Little, Big}
@@ -18,7 +20,8 @@ behind : (front rest : List ℕ) (n at : ℕ) → length front ≡ n → drop (n
 behind front rest n at size = sym (drop-drop at n (front ++ rest)) ∙ ap (drop at) (drop_at front rest n size)
 
 -- behind a front of known length the places count on
-pub word_behind : (order : Order) (front rest : List ℕ) (n at : ℕ) → length front ≡ n → word order (front ++ rest) (n + at) ≡ word order rest at
+pub word_behind : (order : Order) (front rest : List ℕ) (n at : ℕ) → length front ≡ n → word order (front ++ rest) (n + at)
+    ≡ word order rest at
 word_behind Little front rest n at size = ap (λ l. word Little l 0) (behind front rest n at size)
 word_behind Big front rest n at size = ap (λ l. word Big l 0) (behind front rest n at size)
 

@@ -8,13 +8,16 @@ use Rattle.jm_class.specs.declared.class.ClassFault.TheVariants.{Magic, Version,
 use Rattle.jm_class.specs.declared.class.Class.{Class}
 use Rattle.jm_class.specs.declared.class.ReadError.{ReadError}
 use Rattle.jm_class.specs.declared.class.ReadError.TheVariants.{Fault, Memory}
-use Rattle.jm_class.specs.Classes.{SlotData, ClassData, u2, u4, magic, class_text, is_major, IsMember, IsAttribute, FitsCounted, IsClass, ReadsAs}
+use Rattle.jm_class.specs.Classes.{SlotData, ClassData, u2, u4, magic, class_text, is_major, IsMember}
+use Rattle.jm_class.specs.Classes.{IsAttribute, FitsCounted, IsClass, ReadsAs}
 use Rattle.jm_class.specs.ComputedClass.{magic_field, major_field, class_fields, value_of, class_of, fault_of, class_fault}
 use Rattle.jm_class.specs.Readings.{Outcome, ended}
 use Rattle.jm_class.specs.Views.{ReadsClass, plain}
 use Rattle.jm_class.proofs.FieldLaws.{attribute-lawful, member-lawful}
 use Rattle.jm_class.proofs.PoolLaws.{pool-lawful}
-use Rattle.jm_class.proofs.ReadingLaws.{Always, list_of-lawful, Lawful, IsBytes, said-lawful, made-lawful, checked-lawful, and_then-lawful, ended-back, ended-forth, number16-lawful, number32-lawful}
+use Rattle.jm_class.proofs.ReadingLaws.{Always, list_of-lawful, Lawful, IsBytes, said-lawful, made-lawful}
+use Rattle.jm_class.proofs.ReadingLaws.{checked-lawful, and_then-lawful, ended-back, ended-forth}
+use Rattle.jm_class.proofs.ReadingLaws.{number16-lawful, number32-lawful}
 
 pub magic-lawful : Lawful magic_field u4 (λ n. (n < 2 ^ 32) × (nat_eq n magic ≡ true))
 magic-lawful = checked-lawful (λ found. nat_eq found magic) (λ at found. Magic) _ _ _ (number32-lawful Short)
@@ -56,7 +59,18 @@ class-lawful =
       methods = methods;
       attributes = attributes;
     }) (((((((((((tt, sym (eqb-true found magic f0.1)), refl), refl), refl), refl), refl), refl), refl), refl), refl), refl)
-    (λ c e. rw (sym e.0.0.0.0.0.0.0.0.0.1, sym e.0.0.0.0.0.0.0.0.1, sym e.0.0.0.0.0.0.0.1, sym e.0.0.0.0.0.0.1, sym e.0.0.0.0.0.1, sym e.0.0.0.0.1, sym e.0.0.0.1, sym e.0.0.1, sym e.0.1, sym e.1) refl)))))))))))))
+    (λ c e. rw (
+      sym e.0.0.0.0.0.0.0.0.0.1,
+      sym e.0.0.0.0.0.0.0.0.1,
+      sym e.0.0.0.0.0.0.0.1,
+      sym e.0.0.0.0.0.0.1,
+      sym e.0.0.0.0.0.1,
+      sym e.0.0.0.0.1,
+      sym e.0.0.0.1,
+      sym e.0.0.1,
+      sym e.0.1,
+      sym e.1,
+    ) refl)))))))))))))
     (λ c fits.
     let (a, (b, (d, (p, rest)))) = fits.1 in
     record {
@@ -92,12 +106,14 @@ class-lawful =
   where
     pool_rest : List SlotData → ClassData → Type 0
     pool_rest pool c =
-        (c.access < 2 ^ 16) × ((c.this_class < 2 ^ 16) × ((c.super_class < 2 ^ 16) × (FitsCounted (λ i. i < 2 ^ 16) c.interfaces × (FitsCounted (IsMember pool false) c.fields
+        (c.access < 2 ^ 16) × ((c.this_class < 2 ^ 16) × ((c.super_class < 2 ^ 16) × (FitsCounted (λ i. i < 2 ^ 16) c.interfaces
+        × (FitsCounted (IsMember pool false) c.fields
         × (FitsCounted (IsMember pool true) c.methods × (FitsCounted (IsAttribute pool false) c.attributes × Unit {0}))))))
 
 -- The rule and its value
 
-read_class : (bytes : List ℕ) (c : ClassData) (outcome : Outcome ClassFault ClassData) → ended Rest class_fields (record { place = 0; bytes = bytes }) ≡ outcome → value_of outcome ≡ Ok c → IsBytes bytes → ReadsAs bytes c
+read_class : (bytes : List ℕ) (c : ClassData) (outcome : Outcome ClassFault ClassData)
+    → ended Rest class_fields (record { place = 0; bytes = bytes }) ≡ outcome → value_of outcome ≡ Ok c → IsBytes bytes → ReadsAs bytes c
 read_class bytes c (Ok r) is e all =
     let both = ended-back Rest class_fields class_text IsClass class-lawful (record { place = 0; bytes = bytes }) r.1 r.0 all is in
     let same : r.0 ≡ c = same_ok {E = ClassFault} r.0 c e in
@@ -131,24 +147,29 @@ no_fault-reads bytes all none = go (class_of bytes) refl none
 
 -- What the code read
 
-pub class_ok : (bytes : List ℕ) (result : Result Class ReadError) → IsBytes bytes → ReadsClass bytes result → IfOk result (λ class. ReadsAs bytes (plain class))
+pub class_ok : (bytes : List ℕ) (result : Result Class ReadError) → IsBytes bytes → ReadsClass bytes result
+    → IfOk result (λ class. ReadsAs bytes (plain class))
 class_ok bytes (Ok class) all reads = class_of-reads bytes (plain class) all reads
 class_ok bytes (Err error) all reads = tt
 
-pub class_only : (bytes : List ℕ) (result : Result Class ReadError) → ReadsClass bytes result → IfOk result (λ class. (other : ClassData) → ReadsAs bytes other → other ≡ plain class)
-class_only bytes (Ok class) reads = λ other also. same_ok {E = ClassFault} other (plain class) (sym (reads-class_of bytes other also) ∙ reads)
+pub class_only : (bytes : List ℕ) (result : Result Class ReadError) → ReadsClass bytes result
+    → IfOk result (λ class. (other : ClassData) → ReadsAs bytes other → other ≡ plain class)
+class_only bytes (Ok class) reads = λ other also. same_ok {E = ClassFault} other (plain class)
+    (sym (reads-class_of bytes other also) ∙ reads)
 class_only bytes (Err error) reads = tt
 
 pub class_no_fault : (bytes : List ℕ) (result : Result Class ReadError) → ReadsClass bytes result → OnOk result (class_fault bytes ≡ None)
 class_no_fault bytes (Ok class) reads = ap fault_of reads
 class_no_fault bytes (Err error) reads = tt
 
-pub class_refused : (bytes : List ℕ) (result : Result Class ReadError) (fault : ClassFault) → ReadsClass bytes result → result ≡ Err (Fault fault) → class_fault bytes ≡ Some fault
+pub class_refused : (bytes : List ℕ) (result : Result Class ReadError) (fault : ClassFault) → ReadsClass bytes result → result
+    ≡ Err (Fault fault) → class_fault bytes ≡ Some fault
 class_refused bytes (Ok class) fault reads is = cc
 class_refused bytes (Err Memory) fault reads is = cc
 class_refused bytes (Err (Fault found)) fault reads is = let same : found ≡ fault = cc in ap fault_of reads ∙ ap (λ f. Some f) same
 
-pub class_none : (bytes : List ℕ) (result : Result Class ReadError) (fault : ClassFault) (c : ClassData) → ReadsClass bytes result → result ≡ Err (Fault fault) → ReadsAs bytes c → ⊥
+pub class_none : (bytes : List ℕ) (result : Result Class ReadError) (fault : ClassFault) (c : ClassData) → ReadsClass bytes result
+    → result ≡ Err (Fault fault) → ReadsAs bytes c → ⊥
 class_none bytes result fault c reads is other =
     let refused = class_refused bytes result fault reads is in
     let none = reads-no_fault bytes c other in

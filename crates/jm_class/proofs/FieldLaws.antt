@@ -5,10 +5,16 @@ use Rattle.std.specs.Int.{w32}
 use Rattle.std.specs.Prelude.{is_some}
 use Rattle.jm_class.specs.declared.class.ClassFault.{ClassFault}
 use Rattle.jm_class.specs.declared.class.ClassFault.TheVariants.{Short, Index, CodeLength}
-use Rattle.jm_class.specs.Classes.{SlotData, CodeData, BodyData, Opaque, Coded, u2, u4, sized_text, rows_text, opaque_text, code_text, held_text, attribute_text, member_text, utf8_at, is_code_name, NamesText, FitsSized, IsOpaque, IsCode, IsBody, IsAttribute, IsMember}
-use Rattle.jm_class.specs.ComputedClass.{name_field, opaque_field, rows_field, code_fields, code_field, held_field, attribute_field, member_field}
+use Rattle.jm_class.specs.Classes.{SlotData, CodeData, BodyData, Opaque, Coded, u2, u4, sized_text, rows_text}
+use Rattle.jm_class.specs.Classes.{opaque_text, code_text, held_text, attribute_text, member_text, utf8_at}
+use Rattle.jm_class.specs.Classes.{is_code_name, NamesText, FitsSized, IsOpaque, IsCode, IsBody, IsAttribute}
+use Rattle.jm_class.specs.Classes.{IsMember}
+use Rattle.jm_class.specs.ComputedClass.{name_field, opaque_field, rows_field, code_fields, code_field}
+use Rattle.jm_class.specs.ComputedClass.{held_field, attribute_field, member_field}
 use Rattle.jm_class.specs.Readings.{and_then, number, whole}
-use Rattle.jm_class.proofs.ReadingLaws.{Always, Lawful, placed-lawful, sized-lawful, list_of-lawful, said-lawful, made-lawful, checked-lawful, and_then-lawful, part-lawful, number16-lawful, number32-lawful, whole-lawful}
+use Rattle.jm_class.proofs.ReadingLaws.{Always, Lawful, placed-lawful, sized-lawful, list_of-lawful}
+use Rattle.jm_class.proofs.ReadingLaws.{said-lawful, made-lawful, checked-lawful, and_then-lawful}
+use Rattle.jm_class.proofs.ReadingLaws.{part-lawful, number16-lawful, number32-lawful, whole-lawful}
 
 module _ (short : ℕ → ClassFault) where
   pub name-lawful : (pool : List SlotData) → Lawful (name_field short pool) u2 (NamesText pool)
@@ -27,8 +33,10 @@ module _ (short : ℕ → ClassFault) where
   pub rows-lawful : Lawful (rows_field short) rows_text (λ rows. (length rows / 8 < 2 ^ 16) × (length rows % 8 ≡ 0))
   rows-lawful =
       said-lawful _ rows_text _ (λ rows. (length rows / 8 < 2 ^ 16) × (length rows % 8 ≡ 0))
-      (and_then-lawful _ _ u2 _ (λ rows. length rows / 8) (λ rows. rows) Always (λ count rows. length rows ≡ 8 * count) (number16-lawful short)
-      (λ count fits. said-lawful _ _ _ _ (part-lawful short (8 * count)) (λ rows is. ((tt, omega (arith, is)), is)) (λ rows is. is.1) (λ rows is. refl)))
+      (and_then-lawful _ _ u2 _ (λ rows. length rows / 8) (λ rows. rows) Always (λ count rows. length rows ≡ 8 * count)
+      (number16-lawful short)
+      (λ count fits. said-lawful _ _ _ _ (part-lawful short (8 * count)) (λ rows is. ((tt, omega (arith, is)), is))
+      (λ rows is. is.1) (λ rows is. refl)))
       (λ rows fits. (fits.1.0, let is = fits.1.1 in omega (arith, is)))
       (λ rows fits. (tt, (fits.0, let is = fits.1 in omega (arith, is))))
       (λ rows fits. ap (λ t. u2 (length rows / 8) ++ t) (sym (append-nil rows)))
@@ -57,13 +65,17 @@ module _ (short : ℕ → ClassFault) where
 
 -- What an attribute holds
 
-pub code-lawful : (pool : List SlotData) → Lawful (code_field pool) (λ c. sized_text (code_text c)) (λ c. IsCode pool c × FitsSized (code_text c))
-code-lawful pool = placed-lawful (λ at. and_then (number Short w32) (λ size. whole Short (λ _. CodeLength at) size (code_fields (λ _. CodeLength at) pool))) _ _ (λ at.
+pub code-lawful : (pool : List SlotData) → Lawful (code_field pool) (λ c. sized_text (code_text c)) (λ c. IsCode pool c
+    × FitsSized (code_text c))
+code-lawful pool = placed-lawful (λ at. and_then (number Short w32) (λ size. whole Short (λ _. CodeLength at) size
+    (code_fields (λ _. CodeLength at) pool))) _ _ (λ at.
     said-lawful _ (λ c. sized_text (code_text c)) _ (λ c. IsCode pool c × FitsSized (code_text c))
     (and_then-lawful _ _ u4 _ (λ c. length (code_text c)) code_text Always (λ _ c. IsCode pool c) (number32-lawful Short)
-    (λ size fits. said-lawful _ _ _ _ (whole-lawful (λ _. CodeLength at) _ code_text (IsCode pool) (code_fields-lawful (λ _. CodeLength at) pool) Short size)
+    (λ size fits. said-lawful _ _ _ _ (whole-lawful (λ _. CodeLength at) _ code_text (IsCode pool)
+    (code_fields-lawful (λ _. CodeLength at) pool) Short size)
     (λ c is. ((tt, is.1), is.0)) (λ c is. (is.1, is.0.1)) (λ c is. refl)))
-    (λ c fits. (fits.1.1, fits.1.0)) (λ c fits. (tt, (fits.1, fits.0))) (λ c fits. ap (λ t. u4 (length (code_text c)) ++ t) (sym (append-nil (code_text c)))))
+    (λ c fits. (fits.1.1, fits.1.0)) (λ c fits. (tt, (fits.1, fits.0))) (λ c fits. ap (λ t. u4 (length (code_text c)) ++ t)
+    (sym (append-nil (code_text c)))))
 
 abbrev no_code : CodeData
 no_code = record { max_stack = 0; max_locals = 0; code = []; handlers = []; attributes = [] }
@@ -76,10 +88,12 @@ abbrev IsCoded : BodyData → Type 0
 IsCoded (Opaque bytes) = ⊥
 IsCoded (Coded code) = Unit {0}
 
-pub held-lawful : (pool : List SlotData) (coded : Bool) → Lawful (held_field pool coded) (λ b. sized_text (held_text b)) (λ b. IsBody pool coded b × FitsSized (held_text b))
+pub held-lawful : (pool : List SlotData) (coded : Bool) → Lawful (held_field pool coded) (λ b. sized_text (held_text b))
+    (λ b. IsBody pool coded b × FitsSized (held_text b))
 held-lawful pool false =
     said-lawful _ (λ b. sized_text (held_text b)) _ (λ b. IsBody pool false b × FitsSized (held_text b))
-    (and_then-lawful _ _ _ _ held_text _ (IsBody pool false) _ (sized-lawful Short) (λ bytes fit. made-lawful _ (Opaque bytes) (tt, refl) only))
+    (and_then-lawful _ _ _ _ held_text _ (IsBody pool false) _ (sized-lawful Short) (λ bytes fit. made-lawful _ (Opaque bytes)
+    (tt, refl) only))
     (λ b fits. (fits.0, fits.1.0)) (λ b fits. (fits.0, (fits.1, tt))) (λ b fits. append-nil (sized_text (held_text b)))
   where
     only : {bytes : List ℕ} (b : BodyData) → IsBody pool false b × (held_text b ≡ bytes) → b ≡ Opaque bytes
@@ -94,24 +108,29 @@ held-lawful pool true =
     only (Opaque other) e = absurd e.0
     only (Coded code) e = ap (λ c. Coded c) e.1
 
-    says : (b : BodyData) → IsCoded b × ((IsCode pool (code_in b) × FitsSized (code_text (code_in b))) × Unit {0}) → IsBody pool true b × FitsSized (held_text b)
+    says : (b : BodyData) → IsCoded b × ((IsCode pool (code_in b) × FitsSized (code_text (code_in b))) × Unit {0})
+        → IsBody pool true b × FitsSized (held_text b)
     says (Opaque bytes) fits = absurd fits.0
     says (Coded code) fits = fits.1.0
 
-    fits : (b : BodyData) → IsBody pool true b × FitsSized (held_text b) → IsCoded b × ((IsCode pool (code_in b) × FitsSized (code_text (code_in b))) × Unit {0})
+    fits : (b : BodyData) → IsBody pool true b × FitsSized (held_text b) → IsCoded b
+        × ((IsCode pool (code_in b) × FitsSized (code_text (code_in b))) × Unit {0})
     fits (Opaque bytes) says = absurd says.0
     fits (Coded code) says = (tt, (says, tt))
 
-    same : (b : BodyData) → IsCoded b × ((IsCode pool (code_in b) × FitsSized (code_text (code_in b))) × Unit {0}) → sized_text (code_text (code_in b)) ++ [] ≡ sized_text (held_text b)
+    same : (b : BodyData) → IsCoded b × ((IsCode pool (code_in b) × FitsSized (code_text (code_in b))) × Unit {0})
+        → sized_text (code_text (code_in b)) ++ [] ≡ sized_text (held_text b)
     same (Opaque bytes) fits = absurd fits.0
     same (Coded code) fits = append-nil (sized_text (code_text code))
 
 -- Attributes and members
 
-pub attribute-lawful : (pool : List SlotData) (in_method : Bool) → Lawful (attribute_field pool in_method) attribute_text (IsAttribute pool in_method)
+pub attribute-lawful : (pool : List SlotData) (in_method : Bool) → Lawful (attribute_field pool in_method) attribute_text
+    (IsAttribute pool in_method)
 attribute-lawful pool in_method =
     said-lawful _ attribute_text _ (IsAttribute pool in_method)
-    (and_then-lawful _ _ _ _ (λ a. a.name) _ Always (λ name a. (IsBody pool (in_method && is_code_name (utf8_at pool name)) a.body × FitsSized (held_text a.body)) × Unit {0}) (name-lawful Short pool) (λ name named.
+    (and_then-lawful _ _ _ _ (λ a. a.name) _ Always (λ name a. (IsBody pool (in_method && is_code_name (utf8_at pool name)) a.body
+    × FitsSized (held_text a.body)) × Unit {0}) (name-lawful Short pool) (λ name named.
     and_then-lawful _ _ _ _ (λ a. a.body) _ _ _ (held-lawful pool (in_method && is_code_name (utf8_at pool name))) (λ body fit.
     made-lawful _ (record { name = name; body = body }) ((tt, refl), refl) (λ a e. rw (sym e.0.1, sym e.1) refl))))
     (λ a fits. record { name = fits.1.0; body = fits.1.1.0.0; bytes = fits.1.1.0.1 })
@@ -125,7 +144,8 @@ member-lawful pool in_method =
     and_then-lawful _ _ _ _ (λ m. m.name) _ _ _ (number16-lawful Short) (λ name f2.
     and_then-lawful _ _ _ _ (λ m. m.descriptor) _ _ _ (number16-lawful Short) (λ descriptor f3.
     and_then-lawful _ _ _ _ (λ m. m.attributes) _ _ _ (list_of-lawful Short _ _ _ (attribute-lawful pool in_method)) (λ attributes f4.
-    made-lawful _ (record { access = access; name = name; descriptor = descriptor; attributes = attributes }) ((((tt, refl), refl), refl), refl)
+    made-lawful _ (record { access = access; name = name; descriptor = descriptor; attributes = attributes })
+    ((((tt, refl), refl), refl), refl)
     (λ m e. rw (sym e.0.0.0.1, sym e.0.0.1, sym e.0.1, sym e.1) refl))))))
     (λ m fits. record { access = fits.1.0; name = fits.1.1.0; descriptor = fits.1.1.1.0; attributes = fits.1.1.1.1.0 })
     (λ m fits. (tt, (fits.access, (fits.name, (fits.descriptor, (fits.attributes, tt))))))

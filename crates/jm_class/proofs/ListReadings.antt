@@ -23,7 +23,8 @@ prefixed-all {F} {A} front left =
     rw whole refl
 
 -- one item goes from what is to come to what was read
-item_moved : {F A : Type 0} (front : List A) (item : A) (outcome : Outcome F (List A)) → prefixed front (continued outcome (λ items. value (item ∷ items))) ≡ prefixed (front ++ item ∷ []) outcome
+item_moved : {F A : Type 0} (front : List A) (item : A) (outcome : Outcome F (List A))
+    → prefixed front (continued outcome (λ items. value (item ∷ items))) ≡ prefixed (front ++ item ∷ []) outcome
 item_moved front item (Ok r) =
     let moved = append_assoc front (item ∷ []) r.0 in
     rw moved refl
@@ -31,17 +32,21 @@ item_moved front item (Err fault) = refl
 
 -- So many of one kind
 
-pub counted-next : {F A : Type 0} (count k : ℕ) (reading : Reading F A) (front : List A) (left next : Left) (item : A) → k < count → reading left ≡ Ok (item, next) → prefixed front (counted (count - k) reading left) ≡ prefixed (front ++ item ∷ []) (counted (count - (k + 1)) reading next)
+pub counted-next : {F A : Type 0} (count k : ℕ) (reading : Reading F A) (front : List A) (left next : Left) (item : A) → k < count
+    → reading left ≡ Ok (item, next) → prefixed front (counted (count - k) reading left) ≡ prefixed (front ++ item ∷ [])
+    (counted (count - (k + 1)) reading next)
 counted-next count k reading front left next item more e =
     let number : count - k ≡ suc (count - (k + 1)) = omega arith in
     rw (number, e) (item_moved front item (counted (count - (k + 1)) reading next))
 
-pub counted-stop : {F A : Type 0} (count k : ℕ) (reading : Reading F A) (front : List A) (left : Left) (fault : F) → k < count → reading left ≡ Err fault → prefixed front (counted (count - k) reading left) ≡ Err fault
+pub counted-stop : {F A : Type 0} (count k : ℕ) (reading : Reading F A) (front : List A) (left : Left) (fault : F) → k < count
+    → reading left ≡ Err fault → prefixed front (counted (count - k) reading left) ≡ Err fault
 counted-stop count k reading front left fault more e =
     let number : count - k ≡ suc (count - (k + 1)) = omega arith in
     rw (number, e) refl
 
-pub counted-end : {F A : Type 0} (count k : ℕ) (reading : Reading F A) (front : List A) (left : Left) → k ≡ count → prefixed front (counted (count - k) reading left) ≡ Ok (front, left)
+pub counted-end : {F A : Type 0} (count k : ℕ) (reading : Reading F A) (front : List A) (left : Left) → k ≡ count
+    → prefixed front (counted (count - k) reading left) ≡ Ok (front, left)
 counted-end count k reading front left all =
     let number : count - k ≡ zero = omega (arith, all) in
     rw number (prefixed-all front left)
@@ -52,17 +57,21 @@ counted-end count k reading front left all =
 pub same_test : (count k : ℕ) → k < count → nat_lt 0 (count - (k + 1)) ≡ nat_lt (k + 1) count
 same_test count k more = grind (arith, nat_tests)
 
-pub slots-next : (count k : ℕ) (due : Bool) (front : List SlotData) (left next : Left) (slot : SlotData) → k < count → slot_field due (nat_lt (k + 1) count) left ≡ Ok (slot, next) → prefixed front (slots (count - k) due left) ≡ prefixed (front ++ slot ∷ []) (slots (count - (k + 1)) (is_wide_slot slot) next)
+pub slots-next : (count k : ℕ) (due : Bool) (front : List SlotData) (left next : Left) (slot : SlotData) → k < count
+    → slot_field due (nat_lt (k + 1) count) left ≡ Ok (slot, next) → prefixed front (slots (count - k) due left)
+    ≡ prefixed (front ++ slot ∷ []) (slots (count - (k + 1)) (is_wide_slot slot) next)
 slots-next count k due front left next slot more e =
     let number : count - k ≡ suc (count - (k + 1)) = omega arith in
     rw (number, same_test count k more, e) (item_moved front slot (slots (count - (k + 1)) (is_wide_slot slot) next))
 
-pub slots-stop : (count k : ℕ) (due : Bool) (front : List SlotData) (left : Left) (fault : ClassFault) → k < count → slot_field due (nat_lt (k + 1) count) left ≡ Err fault → prefixed front (slots (count - k) due left) ≡ Err fault
+pub slots-stop : (count k : ℕ) (due : Bool) (front : List SlotData) (left : Left) (fault : ClassFault) → k < count
+    → slot_field due (nat_lt (k + 1) count) left ≡ Err fault → prefixed front (slots (count - k) due left) ≡ Err fault
 slots-stop count k due front left fault more e =
     let number : count - k ≡ suc (count - (k + 1)) = omega arith in
     rw (number, same_test count k more, e) refl
 
-pub slots-end : (count k : ℕ) (due : Bool) (front : List SlotData) (left : Left) → k ≡ count → prefixed front (slots (count - k) due left) ≡ Ok (front, left)
+pub slots-end : (count k : ℕ) (due : Bool) (front : List SlotData) (left : Left) → k ≡ count
+    → prefixed front (slots (count - k) due left) ≡ Ok (front, left)
 slots-end count k due front left all =
     let number : count - k ≡ zero = omega (arith, all) in
     rw number (prefixed-all front left)

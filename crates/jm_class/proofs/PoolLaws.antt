@@ -1,5 +1,7 @@
 -- The constants of a pool are read exactly where their texts stand.
-use Rattle.std.proofs.Common.{◌≡◌, ℕ, zero, suc, ◌+◌, ◌-◌, ◌^◌, ◌<◌, inl, inr, Bool, true, false, cond, ◌||◌, List, [], ◌∷◌, ◌++◌, length, Option, Some, None, Ok, refl, sym, ap, ◌∙◌, subst, arith, append_assoc}
+use Rattle.std.proofs.Common.{◌≡◌, ℕ, zero, suc, ◌+◌, ◌-◌, ◌^◌, ◌<◌, inl, inr, Bool, true, false, cond, ◌||◌}
+use Rattle.std.proofs.Common.{List, [], ◌∷◌, ◌++◌, length, Option, Some, None, Ok, refl, sym, ap, ◌∙◌, subst}
+use Rattle.std.proofs.Common.{arith, append_assoc}
 use Rattle.std.proofs.lemmas.Bool.{eqb-true, eq-eqb, ltb-true, lt-ltb, or_right, false≢true}
 use Rattle.std.proofs.lemmas.Bool.Decides.{nat_tests}
 use Rattle.std.proofs.lemmas.List.{append-nil, nil_from_length}
@@ -8,10 +10,15 @@ use Rattle.std.specs.List.{flat_map}
 use Rattle.std.specs.Prelude.{is_some, nat_eq, nat_lt}
 use Rattle.jm_class.specs.declared.class.ClassFault.{ClassFault}
 use Rattle.jm_class.specs.declared.class.ClassFault.TheVariants.{Short, Tag, Index}
-use Rattle.jm_class.specs.Classes.{SlotData, Constant, Hole, u1, u2, joined, body_text, slot_text, pool_text, body_size, is_tag, is_wide, FitsTag, IsPoolFrom}
-use Rattle.jm_class.specs.ComputedClass.{tag_field, text_field, body_of_size, body_field, constant, slot_field, is_wide_slot, slots, pool_field}
+use Rattle.jm_class.specs.Classes.{SlotData, Constant, Hole, u1, u2, joined, body_text, slot_text, pool_text}
+use Rattle.jm_class.specs.Classes.{body_size, is_tag, is_wide, FitsTag, IsPoolFrom}
+use Rattle.jm_class.specs.ComputedClass.{tag_field, text_field, body_of_size, body_field, constant}
+use Rattle.jm_class.specs.ComputedClass.{slot_field, is_wide_slot, slots, pool_field}
 use Rattle.jm_class.specs.Readings.{Left, value, and_then, part, number}
-use Rattle.jm_class.proofs.ReadingLaws.{Always, placed-lawful, Lawful, Took, ReadBack, IsBytes, passed, bytes_behind, same_value, same_left, value-lawful, said-lawful, made-lawful, checked-lawful, and_then-lawful, part-lawful, number8-lawful, number16-lawful}
+use Rattle.jm_class.proofs.ReadingLaws.{Always, placed-lawful, Lawful, Took, ReadBack, IsBytes, passed}
+use Rattle.jm_class.proofs.ReadingLaws.{bytes_behind, same_value, same_left, value-lawful, said-lawful}
+use Rattle.jm_class.proofs.ReadingLaws.{made-lawful, checked-lawful, and_then-lawful, part-lawful}
+use Rattle.jm_class.proofs.ReadingLaws.{number8-lawful, number16-lawful}
 
 -- a Long or a Double needs one number more
 abbrev HasRoom : Bool → ℕ → Type 0
@@ -48,7 +55,8 @@ body-lawful : (tag : ℕ) → is_tag tag ≡ true → Lawful (body_field tag) (b
 body-lawful tag is = go (body_size tag) refl
   where
     fits_sized : (size : ℕ) → body_size tag ≡ Some size → (body : List ℕ) → FitsTag tag body → length body ≡ size
-    fits_sized size e body (inl fits) = let test = sized_tag tag size e in let other = eq-eqb tag 1 fits.0 in absurd (false≢true (sym test ∙ other))
+    fits_sized size e body (inl fits) =
+        let test = sized_tag tag size e in let other = eq-eqb tag 1 fits.0 in absurd (false≢true (sym test ∙ other))
     fits_sized size e body (inr same) = let both = sym same ∙ e in cc
 
     fits_text : body_size tag ≡ None → (body : List ℕ) → FitsTag tag body → length body < 2 ^ 16
@@ -96,9 +104,12 @@ IsSlot _ more _ = ⊥
 constant-lawful : (more : Bool) → Lawful (constant more) slot_text (IsSlot false more)
 constant-lawful more =
     said-lawful (λ s. u1 (tag_in s) ++ (body_text (tag_in s) (body_in s) ++ [])) slot_text _ (IsSlot false more)
-    (and_then-lawful _ _ u1 _ tag_in (λ s. body_text (tag_in s) (body_in s) ++ []) IsConstant (λ tag s. FitsTag tag (body_in s)) (tag-lawful more) (λ tag fit.
+    (and_then-lawful _ _ u1 _ tag_in (λ s. body_text (tag_in s) (body_in s) ++ []) IsConstant (λ tag s. FitsTag tag (body_in s))
+    (tag-lawful more) (λ tag fit.
     said-lawful (λ s. body_text tag (body_in s) ++ []) (λ s. body_text (tag_in s) (body_in s) ++ []) _ _
-    (and_then-lawful _ _ _ _ body_in _ _ _ (body-lawful tag fit.0.1) (λ body fits. made-lawful (λ s. (IsConstant s × (tag_in s ≡ tag)) × (body_in s ≡ body)) (Constant tag body) ((tt, refl), refl) only))
+    (and_then-lawful _ _ _ _ body_in _ _ _ (body-lawful tag fit.0.1)
+    (λ body fits. made-lawful (λ s. (IsConstant s × (tag_in s ≡ tag)) × (body_in s ≡ body)) (Constant tag body)
+    ((tt, refl), refl) only))
     (λ s fits. (fits.0, fits.1.0)) (λ s fits. (fits.0, (fits.1, tt)))
     (λ s fits. ap (λ t. body_text t (body_in s) ++ []) (sym fits.0.1))))
     says fits same
@@ -107,21 +118,25 @@ constant-lawful more =
     only (Constant tag body) e = rw (e.0.1, e.1) refl
     only Hole e = absurd e.0.0
 
-    says : (s : SlotData) → IsConstant s × ((((tag_in s < 2 ^ 8) × (is_tag (tag_in s) ≡ true)) × HasRoom more (tag_in s)) × FitsTag (tag_in s) (body_in s)) → IsSlot false more s
+    says : (s : SlotData) → IsConstant s × ((((tag_in s < 2 ^ 8) × (is_tag (tag_in s) ≡ true)) × HasRoom more (tag_in s))
+        × FitsTag (tag_in s) (body_in s)) → IsSlot false more s
     says (Constant tag body) fits = (fits.1.1, fits.1.0.1)
     says Hole fits = absurd fits.0
 
-    fits : (s : SlotData) → IsSlot false more s → IsConstant s × ((((tag_in s < 2 ^ 8) × (is_tag (tag_in s) ≡ true)) × HasRoom more (tag_in s)) × FitsTag (tag_in s) (body_in s))
+    fits : (s : SlotData) → IsSlot false more s → IsConstant s × ((((tag_in s < 2 ^ 8) × (is_tag (tag_in s) ≡ true))
+        × HasRoom more (tag_in s)) × FitsTag (tag_in s) (body_in s))
     fits (Constant tag body) is = (tt, ((known_tag tag body is.0, is.1), is.0))
     fits Hole is = absurd is
 
-    same : (s : SlotData) → IsConstant s × ((((tag_in s < 2 ^ 8) × (is_tag (tag_in s) ≡ true)) × HasRoom more (tag_in s)) × FitsTag (tag_in s) (body_in s)) → u1 (tag_in s) ++ (body_text (tag_in s) (body_in s) ++ []) ≡ slot_text s
+    same : (s : SlotData) → IsConstant s × ((((tag_in s < 2 ^ 8) × (is_tag (tag_in s) ≡ true)) × HasRoom more (tag_in s))
+        × FitsTag (tag_in s) (body_in s)) → u1 (tag_in s) ++ (body_text (tag_in s) (body_in s) ++ []) ≡ slot_text s
     same (Constant tag body) fits = refl
     same Hole fits = absurd fits.0
 
 slot-lawful : (due more : Bool) → Lawful (slot_field due more) slot_text (IsSlot due more)
 slot-lawful false more = constant-lawful more
-slot-lawful true more = said-lawful (λ _. []) slot_text (IsSlot true more) (IsSlot true more) (value-lawful (IsSlot true more) Hole tt only) (λ s is. is) (λ s is. is) same
+slot-lawful true more = said-lawful (λ _. []) slot_text (IsSlot true more) (IsSlot true more) (value-lawful (IsSlot true more) Hole
+    tt only) (λ s is. is) (λ s is. is) same
   where
     only : (s : SlotData) → IsSlot true more s → s ≡ Hole
     only Hole is = refl
@@ -143,7 +158,8 @@ due_behind false n Hole is wide = absurd is
 due_behind true n (Constant tag body) is wide = absurd is
 due_behind false n (Constant tag body) is wide = ltb-true 0 n (sym (ap (λ b. cond b (nat_lt 0 n) true) wide) ∙ is.1)
 
-pool_cons : (due more : Bool) (slot : SlotData) (slots : List SlotData) → IsSlot due more slot → IsPoolFrom (is_wide_slot slot) slots → IsPoolFrom due (slot ∷ slots)
+pool_cons : (due more : Bool) (slot : SlotData) (slots : List SlotData) → IsSlot due more slot
+    → IsPoolFrom (is_wide_slot slot) slots → IsPoolFrom due (slot ∷ slots)
 pool_cons true more Hole slots is rest = rest
 pool_cons false more Hole slots is rest = absurd is
 pool_cons true more (Constant tag body) slots is rest = absurd is
@@ -155,7 +171,8 @@ room false n slots size pool = refl
 room true n [] size pool = cc
 room true n (slot ∷ slots) size pool = lt-ltb 0 n (omega (arith, size))
 
-pool_head : (due : Bool) (n : ℕ) (slot : SlotData) (slots : List SlotData) → length slots ≡ n → IsPoolFrom due (slot ∷ slots) → IsSlot due (nat_lt 0 n) slot × IsPoolFrom (is_wide_slot slot) slots
+pool_head : (due : Bool) (n : ℕ) (slot : SlotData) (slots : List SlotData) → length slots ≡ n → IsPoolFrom due (slot ∷ slots)
+    → IsSlot due (nat_lt 0 n) slot × IsPoolFrom (is_wide_slot slot) slots
 pool_head true n Hole slots size pool = (tt, pool)
 pool_head false n Hole slots size pool = absurd pool
 pool_head true n (Constant tag body) slots size pool = absurd pool
@@ -164,34 +181,47 @@ pool_head false n (Constant tag body) slots size pool = ((pool.0, room (is_wide 
 abbrev Numbers : ℕ → Bool → List SlotData → Type 0
 Numbers n due xs = (length xs ≡ n) × IsPoolFrom due xs
 
-pub slots-lawful : (n : ℕ) (due : Bool) → (due ≡ true → 0 < n) → Lawful (slots n due) (flat_map slot_text) (λ xs. (length xs ≡ n) × IsPoolFrom due xs)
+pub slots-lawful : (n : ℕ) (due : Bool) → (due ≡ true → 0 < n) → Lawful (slots n due) (flat_map slot_text) (λ xs. (length xs ≡ n)
+    × IsPoolFrom due xs)
 slots-lawful zero true room = absurd (let none = room refl in omega (arith, none))
 slots-lawful zero false room = record {
   back = λ left next xs bytes e.
       let none = same_value {F = ClassFault} [] xs left next e in
-      record { fits = subst (Numbers 0 false) none (refl, refl); bytes = rw (sym none) (ap (λ (l : Left). l.bytes) (same_left {F = ClassFault} [] xs left next e)) };
+      record {
+        fits = subst (Numbers 0 false) none (refl, refl);
+        bytes =
+            rw (sym none) (ap (λ (l : Left). l.bytes) (same_left {F = ClassFault} [] xs left next e));
+      };
   forth = λ place xs rest fits. let none : xs ≡ [] = nil_from_length xs fits.0 in (place, rw none refl);
 }
 slots-lawful (suc n) due room = record { back = back (slots-lawful n); forth = forth (slots-lawful n) }
   where
-    back : ((d : Bool) → (d ≡ true → 0 < n) → Lawful (slots n d) (flat_map slot_text) (Numbers n d)) → (left next : Left) (xs : List SlotData) → IsBytes left.bytes → slots (suc n) due left ≡ Ok (xs, next) → Took (flat_map slot_text) (Numbers (suc n) due) left xs next
+    back : ((d : Bool) → (d ≡ true → 0 < n) → Lawful (slots n d) (flat_map slot_text) (Numbers n d))
+        → (left next : Left) (xs : List SlotData) → IsBytes left.bytes → slots (suc n) due left ≡ Ok (xs, next)
+        → Took (flat_map slot_text) (Numbers (suc n) due) left xs next
     back more left next xs bytes e =
-        let one = passed (slot_field due (nat_lt 0 n) left) (λ slot. and_then (slots n (is_wide_slot slot)) (λ slots. value (slot ∷ slots))) xs next e in
+        let one = passed (slot_field due (nat_lt 0 n) left) (λ slot. and_then (slots n (is_wide_slot slot))
+        (λ slots. value (slot ∷ slots))) xs next e in
         let two = passed (slots n (is_wide_slot one.first) one.middle) (λ slots. value (one.first ∷ slots)) xs next one.rest in
         let first = (slot-lawful due (nat_lt 0 n)).back left one.middle one.first bytes one.is in
         let behind = bytes_behind (slot_text one.first) one.middle.bytes (subst IsBytes first.bytes bytes) in
-        let rest = (more (is_wide_slot one.first) (due_behind due n one.first first.fits)).back one.middle two.middle two.first behind two.is in
+        let rest = (more (is_wide_slot one.first) (due_behind due n one.first first.fits)).back one.middle two.middle two.first
+        behind two.is in
         let same = same_value {F = ClassFault} (one.first ∷ two.first) xs two.middle next two.rest in
         let after = same_left {F = ClassFault} (one.first ∷ two.first) xs two.middle next two.rest in
         let size : suc (length two.first) ≡ suc n = ap suc rest.fits.0 in
         record {
           fits = subst (Numbers (suc n) due) same (size, pool_cons due (nat_lt 0 n) one.first two.first first.fits rest.fits.1);
           bytes =
-              first.bytes ∙ ap (λ m. slot_text one.first ++ m) (rest.bytes ∙ ap (λ (l : Left). flat_map slot_text two.first ++ l.bytes) after)
-              ∙ sym (append_assoc (slot_text one.first) (flat_map slot_text two.first) next.bytes) ∙ ap (λ xs. flat_map slot_text xs ++ next.bytes) same;
+              first.bytes ∙ ap (λ m. slot_text one.first ++ m) (rest.bytes ∙ ap (λ (l : Left). flat_map slot_text two.first
+              ++ l.bytes) after)
+              ∙ sym (append_assoc (slot_text one.first) (flat_map slot_text two.first) next.bytes)
+              ∙ ap (λ xs. flat_map slot_text xs ++ next.bytes) same;
         }
 
-    forth : ((d : Bool) → (d ≡ true → 0 < n) → Lawful (slots n d) (flat_map slot_text) (Numbers n d)) → (place : ℕ) (xs : List SlotData) (rest : List ℕ) → Numbers (suc n) due xs → ReadBack (slots (suc n) due) place (flat_map slot_text xs) xs rest
+    forth : ((d : Bool) → (d ≡ true → 0 < n) → Lawful (slots n d) (flat_map slot_text) (Numbers n d))
+        → (place : ℕ) (xs : List SlotData) (rest : List ℕ) → Numbers (suc n) due xs → ReadBack (slots (suc n) due) place
+        (flat_map slot_text xs) xs rest
     forth more place [] rest fits = absurd (omega (arith, fits.0))
     forth more place (x ∷ xs) rest fits =
         let size : length xs ≡ n = omega (arith, fits.0) in

@@ -8,13 +8,17 @@ use Rattle.jm_class.specs.Readings.{Left, Outcome}
 use Rattle.jm_class.specs.Views.{Gives}
 
 -- the error of a part is that of the whole, where the whole has the faults of the part
-pub gives_stop : {T U A B : Type 0} (part_of : T → A) (data_of : U → B) (part : Outcome ClassFault A) (all : Outcome ClassFault B) (error : ReadError) (result : Result U ReadError) (left next : Left) → IsErrAnd result (λ is. is ≡ error) → Gives part_of part (Err error) left → ((fault : ClassFault) → part ≡ Err fault → all ≡ Err fault) → Gives data_of all result next
+pub gives_stop : {T U A B : Type 0} (part_of : T → A) (data_of : U → B) (part : Outcome ClassFault A) (all : Outcome ClassFault B)
+    (error : ReadError) (result : Result U ReadError) (left next : Left) → IsErrAnd result (λ is. is ≡ error)
+    → Gives part_of part (Err error) left → ((fault : ClassFault) → part ≡ Err fault → all ≡ Err fault) → Gives data_of all result next
 gives_stop part_of data_of part all error (Ok v) left next is gives stops = absurd is
 gives_stop part_of data_of part all (Fault fault) (Err Memory) left next is gives stops = tt
-gives_stop part_of data_of part all (Fault fault) (Err (Fault other)) left next is gives stops = stops fault gives ∙ let same : fault ≡ other = cc in ap (λ f. Err f) same
+gives_stop part_of data_of part all (Fault fault) (Err (Fault other)) left next is gives stops = stops fault gives
+    ∙ let same : fault ≡ other = cc in ap (λ f. Err f) same
 gives_stop part_of data_of part all Memory (Err Memory) left next is gives stops = tt
 gives_stop part_of data_of part all Memory (Err (Fault other)) left next is gives stops = cc
 
 -- one item more, as plain data
-pub map_pushed : {T A : Type 0} (data_of : T → A) (old new : List T) (item : T) → new ≡ old ++ item ∷ [] → map data_of new ≡ map data_of old ++ data_of item ∷ []
+pub map_pushed : {T A : Type 0} (data_of : T → A) (old new : List T) (item : T) → new ≡ old ++ item ∷ [] → map data_of new
+    ≡ map data_of old ++ data_of item ∷ []
 map_pushed data_of old new item e = ap (map data_of) e ∙ map-append data_of old (item ∷ [])

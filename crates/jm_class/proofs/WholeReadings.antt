@@ -8,30 +8,37 @@ use Rattle.jm_class.specs.Classes.{SlotData, CodeData}
 use Rattle.jm_class.specs.ComputedClass.{code_fields, code_field}
 use Rattle.jm_class.specs.Readings.{Left, Reading, continued, inner_part, number, ended}
 
-pub ended-all : {F A : Type 0} (rest : ℕ → F) (reading : Reading F A) (left next : Left) (a : A) (n : ℕ) → reading left ≡ Ok (a, next) → n ≡ length next.bytes → n ≡ 0 → ended rest reading left ≡ Ok (a, next)
+pub ended-all : {F A : Type 0} (rest : ℕ → F) (reading : Reading F A) (left next : Left) (a : A) (n : ℕ) → reading left
+    ≡ Ok (a, next) → n ≡ length next.bytes → n ≡ 0 → ended rest reading left ≡ Ok (a, next)
 ended-all rest reading left next a n e size none = rw (e, eq-eqb (length next.bytes) 0 (sym size ∙ none)) refl
 
-pub ended-rest : {F A : Type 0} (rest : ℕ → F) (reading : Reading F A) (left next : Left) (a : A) (n : ℕ) → reading left ≡ Ok (a, next) → n ≡ length next.bytes → n ≢ 0 → ended rest reading left ≡ Err (rest next.place)
+pub ended-rest : {F A : Type 0} (rest : ℕ → F) (reading : Reading F A) (left next : Left) (a : A) (n : ℕ) → reading left
+    ≡ Ok (a, next) → n ≡ length next.bytes → n ≢ 0 → ended rest reading left ≡ Err (rest next.place)
 ended-rest rest reading left next a n e size some = rw (e, ne_eqb (length next.bytes) 0 (λ none. some (size ∙ none))) refl
 
-pub ended-stop : {F A : Type 0} (rest : ℕ → F) (reading : Reading F A) (left : Left) (fault : F) → reading left ≡ Err fault → ended rest reading left ≡ Err fault
+pub ended-stop : {F A : Type 0} (rest : ℕ → F) (reading : Reading F A) (left : Left) (fault : F) → reading left ≡ Err fault
+    → ended rest reading left ≡ Err fault
 ended-stop rest reading left fault e = rw e refl
 
 -- A Code
 
-module _ (pool : List SlotData) (left sized inner next : Left) (size : ℕ) (length_read : number Short w32 left ≡ Ok (size, sized)) (body_read : inner_part Short size sized ≡ Ok (inner, next)) where
-  whole_code : code_field pool left ≡ continued (ended (λ at. CodeLength left.place) (code_fields (λ at. CodeLength left.place) pool) inner) (λ a end. Ok (a, next))
+module _ (pool : List SlotData) (left sized inner next : Left) (size : ℕ) (length_read : number Short w32 left ≡ Ok (size, sized))
+    (body_read : inner_part Short size sized ≡ Ok (inner, next)) where
+  whole_code : code_field pool left ≡ continued (ended (λ at. CodeLength left.place) (code_fields (λ at. CodeLength left.place)
+      pool) inner) (λ a end. Ok (a, next))
   whole_code = rw (length_read, body_read) refl
 
   pub code-stop : (fault : ClassFault) → code_fields (λ at. CodeLength left.place) pool inner ≡ Err fault → code_field pool left ≡ Err fault
   code-stop fault e = whole_code ∙ rw e refl
 
-  pub code-rest : (code : CodeData) (end : Left) (n : ℕ) → code_fields (λ at. CodeLength left.place) pool inner ≡ Ok (code, end) → n ≡ length end.bytes → n ≢ 0 → code_field pool left ≡ Err (CodeLength left.place)
+  pub code-rest : (code : CodeData) (end : Left) (n : ℕ) → code_fields (λ at. CodeLength left.place) pool inner ≡ Ok (code, end)
+      → n ≡ length end.bytes → n ≢ 0 → code_field pool left ≡ Err (CodeLength left.place)
   code-rest code end n e size some =
       let rest = ended-rest (λ at. CodeLength left.place) (code_fields (λ at. CodeLength left.place) pool) inner end code n e size some in
       whole_code ∙ rw rest refl
 
-  pub code-all : (code : CodeData) (end : Left) (n : ℕ) → code_fields (λ at. CodeLength left.place) pool inner ≡ Ok (code, end) → n ≡ length end.bytes → n ≡ 0 → code_field pool left ≡ Ok (code, next)
+  pub code-all : (code : CodeData) (end : Left) (n : ℕ) → code_fields (λ at. CodeLength left.place) pool inner ≡ Ok (code, end)
+      → n ≡ length end.bytes → n ≡ 0 → code_field pool left ≡ Ok (code, next)
   code-all code end n e size none =
       let all = ended-all (λ at. CodeLength left.place) (code_fields (λ at. CodeLength left.place) pool) inner end code n e size none in
       whole_code ∙ rw all refl

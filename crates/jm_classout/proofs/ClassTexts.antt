@@ -1,10 +1,12 @@
 -- The text of a class as parts put one behind another, and its length.
-use Rattle.std.proofs.Common.{◌≡◌, ℕ, ◌+◌, ◌*◌, Bool, true, false, List, [], ◌∷◌, ◌++◌, length, Result, Ok, Err, OnOk, refl, sym, ◌∙◌, arith, append_assoc, length-append}
+use Rattle.std.proofs.Common.{◌≡◌, ℕ, ◌+◌, ◌*◌, Bool, true, false, List, [], ◌∷◌, ◌++◌, length, Result, Ok}
+use Rattle.std.proofs.Common.{Err, OnOk, refl, sym, ◌∙◌, arith, append_assoc, length-append}
 use Rattle.std.proofs.lemmas.List.{append-nil}
 use Rattle.std.proofs.lemmas.List.Elements.{All-nil, All-cons}
 use Rattle.std.specs.List.{flat_map}
 use Rattle.std.specs.Prelude.{All}
-use Rattle.jm_class.specs.Classes.{SlotData, Constant, Hole, ClassData, u2, joined, slot_text, member_text, attribute_text, class_text, is_wide, IsPoolFrom}
+use Rattle.jm_class.specs.Classes.{SlotData, Constant, Hole, ClassData, u2, joined, slot_text, member_text}
+use Rattle.jm_class.specs.Classes.{attribute_text, class_text, is_wide, IsPoolFrom}
 use Rattle.jm_classout.specs.Fits.{FitsSlot}
 
 -- parts put behind a text, one after another
@@ -32,7 +34,8 @@ length-numbers : (xs : List ℕ) → length (flat_map u2 xs) ≡ 2 * length xs
 length-numbers [] = refl
 length-numbers (x ∷ xs) = let more = length-numbers xs in omega (arith, more)
 
-pub class_length : (c : ClassData) → length (class_text c) ≡ 24 + length (flat_map slot_text c.pool) + 2 * length c.interfaces + length (flat_map member_text c.fields) + length (flat_map member_text c.methods) + length (flat_map attribute_text c.attributes)
+pub class_length : (c : ClassData) → length (class_text c) ≡ 24 + length (flat_map slot_text c.pool) + 2 * length c.interfaces
+    + length (flat_map member_text c.fields) + length (flat_map member_text c.methods) + length (flat_map attribute_text c.attributes)
 class_length c =
     let numbers = length-numbers c.interfaces in
     simp length-append (omega (arith, numbers))

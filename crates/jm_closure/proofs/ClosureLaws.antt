@@ -1,5 +1,6 @@
 -- The graph of what is required, what its roots lead to, and the same refusals of the same modules.
-use Rattle.std.proofs.Common.{◌≡◌, ◌≢◌, ℕ, zero, suc, ◌<◌, ◌↔◌, inl, inr, Bool, List, [], ◌∷◌, length, Some, Ok, Err, Result, All, Contains, refl, ◌∙◌, ap, arith, slice_get}
+use Rattle.std.proofs.Common.{◌≡◌, ◌≢◌, ℕ, zero, suc, ◌<◌, ◌↔◌, inl, inr, Bool, List, [], ◌∷◌, length, Some}
+use Rattle.std.proofs.Common.{Ok, Err, Result, All, Contains, refl, ◌∙◌, ap, arith, slice_get}
 use Rattle.std.proofs.lemmas.Bool.{cases_lt}
 use Rattle.std.proofs.lemmas.List.{length-map, get_or_past, get_or-map}
 use Rattle.std.proofs.lemmas.Option.{get_or_from_slice_get}
@@ -60,7 +61,10 @@ graph_of found names indexed = record {
       | inl below ↦ at found i below (λ c is.
           let one = among_from found names (required_by c) j indexed (rw (ends i c is) at edge) in
           (one.0, (c, is, one.1), one.2))
-      | inr past ↦ absurd (contains_none j (rw (get_or_past (edges_of names found) i [] (rw (length-map found (λ (c : Candidate). places_among names (required_by c))) past)) at edge))
+      | inr past ↦ absurd
+          (contains_none j
+          (rw (get_or_past (edges_of names found) i []
+          (rw (length-map found (λ (c : Candidate). places_among names (required_by c))) past)) at edge))
     ]
       where
         at : (ms : List Candidate) (i : ℕ) → i < length ms → {P : Type 0}
@@ -79,14 +83,16 @@ led_reached found names roots j indexed = (
         led.0,
         led.1,
         (root.0, root.1, root.2),
-        leads_as (HasEdge (edges_of names found)) (Requires found) (λ a b. ((graph_of found names indexed).exactly a b).0) led.0 led.1 j led.3,
+        leads_as (HasEdge (edges_of names found)) (Requires found) (λ a b. ((graph_of found names indexed).exactly a b).0) led.0
+            led.1 j led.3,
       )),
   (λ reached.
       let root = reached.2 in (
         reached.0,
         reached.1,
         among_to found names roots reached.0 root.0 indexed root.1 root.2,
-        leads_as (Requires found) (HasEdge (edges_of names found)) (λ a b. ((graph_of found names indexed).exactly a b).1) reached.0 reached.1 j reached.3,
+        leads_as (Requires found) (HasEdge (edges_of names found)) (λ a b. ((graph_of found names indexed).exactly a b).1) reached.0
+            reached.1 j reached.3,
       )),
 )
 
@@ -139,8 +145,10 @@ closes_as found roots C D (Ok places) have same (none, needs, acyclic, unsplit, 
 closes_as found roots C D (Err (refusal.NoRoot name)) have same lost = absurd (contains_none name lost.0.0)
 closes_as found roots C D (Err (refusal.Missing name by)) have same (none, lacking, lacks) = (
   have,
-  least_as (IsLacking found C) (IsLacking found D) name (lacking_as found C D (λ i. (same i).0)) (lacking_as found D C (λ i. (same i).1)) lacking,
-  least_as (Lacks found C name) (Lacks found D name) by (lacks_as found C D (λ i. (same i).0) name) (lacks_as found D C (λ i. (same i).1) name) lacks,
+  least_as (IsLacking found C) (IsLacking found D) name (lacking_as found C D (λ i. (same i).0))
+      (lacking_as found D C (λ i. (same i).1)) lacking,
+  least_as (Lacks found C name) (Lacks found D name) by (lacks_as found C D (λ i. (same i).0) name)
+      (lacks_as found D C (λ i. (same i).1) name) lacks,
 )
 closes_as found roots C D (Err (refusal.Cycle name)) have same (none, needs, cycle) = (
   have,
@@ -152,7 +160,8 @@ closes_as found roots C D (Err (refusal.SplitPackage shared first second)) have 
   (λ text lacking. needs text (lacking_as found D C (λ i. (same i).1) text lacking)),
   (λ text cycle. acyclic text (cycle_as found D C (λ i. (same i).1) text cycle)),
   record {
-    least = least_as (IsSplit found C) (IsSplit found D) shared (split_as found C D (λ i. (same i).0)) (split_as found D C (λ i. (same i).1)) split.least;
+    least = least_as (IsSplit found C) (IsSplit found D) shared (split_as found C D (λ i. (same i).0))
+        (split_as found D C (λ i. (same i).1)) split.least;
     holder = least_as (Holds found C shared) (Holds found D shared) first
         (holds_as found C D (λ i. (same i).0) shared) (holds_as found D C (λ i. (same i).1) shared) split.holder;
     another = least_as (λ name. (name ≢ first) × Holds found C shared name) (λ name. (name ≢ first) × Holds found D shared name) second

@@ -1,10 +1,13 @@
 -- Edges the other way round, rounds against the edges, and the nodes of cycles.
-use Rattle.std.proofs.Common.{◌≡◌, ◌≢◌, ℕ, suc, ◌+◌, ◌<◌, ◌≤◌, inl, inr, List, [], ◌∷◌, ◌++◌, length, All, Contains, sym, ◌∙◌, ap, subst, arith, drop, drop-cons, get_or, take, Some, length-set}
+use Rattle.std.proofs.Common.{◌≡◌, ◌≢◌, ℕ, suc, ◌+◌, ◌<◌, ◌≤◌, inl, inr, List, [], ◌∷◌, ◌++◌, length, All}
+use Rattle.std.proofs.Common.{Contains, sym, ◌∙◌, ap, subst, arith, drop, drop-cons, get_or, take, Some}
+use Rattle.std.proofs.Common.{length-set}
 use Rattle.std.proofs.lemmas.Bool.{cases_eq, cases_lt}
 use Rattle.std.proofs.lemmas.List.Elements.{All-push, Contains-push_cases}
 use Rattle.std.proofs.lemmas.List.{take_more, take-append-drop}
 use Rattle.jm_closure.specs.Cycles.{IsFirstOf, LeavesRound, Turns}
-use Rattle.jm_closure.specs.Graphs.{ends_at, round_of, with_edge, EndsWithin, HasEdge, IsReached, IsReversed, IsRound, OnCycle, RoundsRise, RoundsSoFar}
+use Rattle.jm_closure.specs.Graphs.{ends_at, round_of, with_edge, EndsWithin, HasEdge, IsReached, IsReversed}
+use Rattle.jm_closure.specs.Graphs.{IsRound, OnCycle, RoundsRise, RoundsSoFar}
 use Rattle.jm_closure.specs.Modules.{Leads}
 use Rattle.jm_closure.proofs.GraphLaws.{edge_cases, edge_kept, edge_new}
 

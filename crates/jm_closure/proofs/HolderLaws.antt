@@ -1,10 +1,13 @@
 -- Which places hold which texts, one more at a time.
-use Rattle.std.proofs.Common.{◌≡◌, ◌≢◌, ℕ, ◌+◌, ◌<◌, ◌↔◌, ◌⊎◌, inl, inr, Bool, true, false, List, [], ◌∷◌, ◌++◌, length, map, Option, Some, None, Contains, sym, ◌∙◌, ap, subst, arith, get_or, take, append_assoc, slice_get, slice_index_or}
+use Rattle.std.proofs.Common.{◌≡◌, ◌≢◌, ℕ, ◌+◌, ◌<◌, ◌↔◌, ◌⊎◌, inl, inr, Bool, true, false, List, [], ◌∷◌}
+use Rattle.std.proofs.Common.{◌++◌, length, map, Option, Some, None, Contains, sym, ◌∙◌, ap, subst, arith}
+use Rattle.std.proofs.Common.{get_or, take, append_assoc, slice_get, slice_index_or}
 use Rattle.std.proofs.lemmas.List.{take_more, map-append}
 use Rattle.std.specs.Str.{bytes_eq}
 use Rattle.std.proofs.lemmas.Slice.Eq.{bytes_eq-Decides}
 use Rattle.std.proofs.lemmas.Bool.{cases_eq, false≢true}
-use Rattle.std.proofs.lemmas.List.Elements.{Contains-push, Contains-push_cases, Contains-append_left, Contains-append_right, Contains-append_cases}
+use Rattle.std.proofs.lemmas.List.Elements.{Contains-push, Contains-push_cases, Contains-append_left}
+use Rattle.std.proofs.lemmas.List.Elements.{Contains-append_right, Contains-append_cases}
 use Rattle.jm_bytes.proofs.Choice.{chosen, same_some}
 use Rattle.jm_bytes.proofs.Members.{contains_none, contains_map, from_map}
 use Rattle.jm_closure.specs.declared.candidate.Candidate.{Candidate}
@@ -170,7 +173,8 @@ module _ (Held : ℕ → List ℕ → Type 0) where
         | inl same ↦ Contains-append_right pairs (map (λ (t : List ℕ). (n, t)) texts) (i, text)
             (subst (λ k. Contains {X = ℕ × List ℕ} (map (λ (t : List ℕ). (n, t)) texts) (k, text)) (sym same)
             (contains_map (λ (t : List ℕ). (n, t)) texts text ((its text).0 (subst (λ k. Held k text) same held.1))))
-        | inr other ↦ Contains-append_left pairs (map (λ (t : List ℕ). (n, t)) texts) (i, text) ((exact i text).1 (omega (arith, held.0), held.1))
+        | inr other ↦ Contains-append_left pairs (map (λ (t : List ℕ). (n, t)) texts) (i, text)
+            ((exact i text).1 (omega (arith, held.0), held.1))
       ]
 
   pub noted_all : (n : ℕ) (holders : List (List ℕ × ℕ)) (least : Option (List ℕ))
@@ -179,7 +183,13 @@ module _ (Held : ℕ → List ℕ → Type 0) where
   noted_all n holders least below (pairs, exact, noted) =
       least_same (IsHeldTwice (Pairs pairs)) (IsHeldTwice Held) least
       (λ text twice. (twice.0, twice.1, twice.2, ((exact twice.0 text).0 twice.3).1, ((exact twice.1 text).0 twice.4).1))
-      (λ text twice. (twice.0, twice.1, twice.2, (exact twice.0 text).1 (below twice.0 text twice.3, twice.3), (exact twice.1 text).1 (below twice.1 text twice.4, twice.4)))
+      (λ text twice. (
+        twice.0,
+        twice.1,
+        twice.2,
+        (exact twice.0 text).1 (below twice.0 text twice.3, twice.3),
+        (exact twice.1 text).1 (below twice.1 text twice.4, twice.4),
+      ))
       noted.least_twice
 
 -- one text more of a list of texts that a place holds

@@ -1,12 +1,15 @@
 -- The four refusals, from what is computed over names, marks and edges.
-use Rattle.std.proofs.Common.{◌≡◌, ℕ, zero, suc, ◌⊎◌, inl, inr, Bool, true, false, List, [], ◌∷◌, Option, Some, None, Contains, refl, sym, ◌∙◌, ap, subst, slice_get}
+use Rattle.std.proofs.Common.{◌≡◌, ℕ, zero, suc, ◌⊎◌, inl, inr, Bool, true, false, List, [], ◌∷◌, Option}
+use Rattle.std.proofs.Common.{Some, None, Contains, refl, sym, ◌∙◌, ap, subst, slice_get}
 use Rattle.std.specs.Prelude.{flat_map, filter, is_none}
 use Rattle.std.specs.Str.{bytes_eq}
 use Rattle.std.proofs.lemmas.Slice.Eq.{bytes_eq-Decides}
 use Rattle.std.proofs.lemmas.Bool.{false≢true}
 use Rattle.std.proofs.lemmas.Option.{get_or_from_slice_get}
 use Rattle.jm_bytes.proofs.Choice.{same_some}
-use Rattle.jm_bytes.proofs.Members.{contains_none, contains_here, contains_later, contains_cases, contains_filter, from_filter, contains_map, from_map, any_contains, from_any}
+use Rattle.jm_bytes.proofs.Members.{contains_none, contains_here, contains_later, contains_cases}
+use Rattle.jm_bytes.proofs.Members.{contains_filter, from_filter, contains_map, from_map, any_contains}
+use Rattle.jm_bytes.proofs.Members.{from_any}
 use Rattle.jm_bytes.proofs.SameOrder.{contains_flat_map, from_flat_map}
 use Rattle.jm_closure.specs.declared.candidate.Candidate.{Candidate}
 use Rattle.jm_closure.specs.ComputedLeast.{chosen_of, differs, holds, is_lost, is_required, least_of, names_where}

@@ -1,5 +1,7 @@
 -- The least text of a list, and of those with a property.
-use Rattle.std.proofs.Common.{◌≡◌, ℕ, suc, ◌+◌, ◌<◌, ◌⊎◌, inl, inr, Bool, true, false, cond, List, [], ◌∷◌, ◌++◌, length, map, drop, drop-cons, add-one, get_or, Option, Some, None, Contains, refl, sym, ◌∙◌, ap, subst, slice_index_or}
+use Rattle.std.proofs.Common.{◌≡◌, ℕ, suc, ◌+◌, ◌<◌, ◌⊎◌, inl, inr, Bool, true, false, cond, List, [], ◌∷◌}
+use Rattle.std.proofs.Common.{◌++◌, length, map, drop, drop-cons, add-one, get_or, Option, Some, None}
+use Rattle.std.proofs.Common.{Contains, refl, sym, ◌∙◌, ap, subst, slice_index_or}
 use Rattle.std.specs.Prelude.{filter, not, ◌&&◌, ◌||◌}
 use Rattle.std.specs.List.{list_any}
 use Rattle.std.specs.Str.{bytes_eq}
@@ -61,7 +63,8 @@ any_needed name needs i n below is b tested =
     test required = bytes_eq required name
 
     go : (s : Bool) → is_static n.flags ≡ s → (not s && bytes_eq n.name name) ≡ b
-        → list_any test (map (λ need. need.name) (cond (not s) (n ∷ filter (λ need. not (is_static need.flags)) rest) (filter (λ need. not (is_static need.flags)) rest)))
+        → list_any test (map (λ need. need.name) (cond (not s) (n ∷ filter (λ need. not (is_static need.flags)) rest)
+        (filter (λ need. not (is_static need.flags)) rest)))
         ≡ cond b true (list_any test (needed_by rest))
     go true e t = rw (sym t) refl
     go false e t = rw t (last b)

@@ -1,5 +1,6 @@
 -- A closure of modules has one answer.
-use Rattle.std.proofs.Common.{◌≡◌, ◌≢◌, ◌<◌, ℕ, zero, suc, ◌+◌, List, [], ◌∷◌, length, AllPairs, Contains, Some, Result, Ok, Err, slice_get, refl, sym, ap, ◌∙◌, subst, arith}
+use Rattle.std.proofs.Common.{◌≡◌, ◌≢◌, ◌<◌, ℕ, zero, suc, ◌+◌, List, [], ◌∷◌, length, AllPairs, Contains}
+use Rattle.std.proofs.Common.{Some, Result, Ok, Err, slice_get, refl, sym, ap, ◌∙◌, subst, arith}
 use Rattle.std.proofs.lemmas.List.Elements.{All-cons, All-contains, All-nil}
 use Rattle.std.proofs.lemmas.List.Kept.{AllPairs-cons}
 use Rattle.std.proofs.lemmas.Map.Text.{is_eq-slice_cmp}
@@ -63,21 +64,24 @@ never_both : (found : List Candidate) (i j : ℕ) → Rises found i j → Rises 
 never_both found i j one other =
     let loop = rises_on found i j i one other in
     let same : loop.first ≡ loop.second = same_some loop.first loop.second (sym loop.at ∙ loop.later) in
-    let itself : slice_cmp nat_cmp (name_of loop.second) (name_of loop.second) ≡ Less = subst (λ (c : Candidate). slice_cmp nat_cmp (name_of c) (name_of loop.second) ≡ Less) same loop.less in
+    let itself : slice_cmp nat_cmp (name_of loop.second) (name_of loop.second) ≡ Less =
+    subst (λ (c : Candidate). slice_cmp nat_cmp (name_of c) (name_of loop.second) ≡ Less) same loop.less in
     no (sym itself ∙ nat_list_cmp_total.antisymm (name_of loop.second) (name_of loop.second) ∙ ap ordering_reverse itself)
   where
     no : ◌≡◌ {A = Ordering} Less Greater → ⊥
     no is = cc
 
 -- places of which each rises to the next rise to all later ones
-chain : (found : List Candidate) (places : List ℕ) → ((k i j : ℕ) → slice_get places k ≡ Some i → slice_get places (suc k) ≡ Some j → Rises found i j) → AllPairs (Rises found) places
+chain : (found : List Candidate) (places : List ℕ) → ((k i j : ℕ) → slice_get places k ≡ Some i → slice_get places (suc k) ≡ Some j
+    → Rises found i j) → AllPairs (Rises found) places
 chain found [] next = pairs_none (Rises found)
 chain found (i ∷ []) next = AllPairs-cons (Rises found) i [] (All-nil (Rises found i)) (pairs_none (Rises found))
 chain found (i ∷ j ∷ places) next =
     let rest = chain found (j ∷ places) (λ k. next (suc k)) in
     let first = next zero i j refl refl in
     let behind = pairs_head (Rises found) j places rest in
-    AllPairs-cons (Rises found) i (j ∷ places) (All-cons (Rises found i) j places first (all_from_contains (Rises found i) places (λ k has. rises_on found i j k first (All-contains (Rises found j) places k behind has)))) rest
+    AllPairs-cons (Rises found) i (j ∷ places) (All-cons (Rises found i) j places first (all_from_contains (Rises found i) places
+    (λ k has. rises_on found i j k first (All-contains (Rises found j) places k behind has)))) rest
 
 got : (places : List ℕ) (k i : ℕ) → slice_get places k ≡ Some i → Contains places i
 got [] k i is = cc
@@ -104,17 +108,22 @@ module _ (found : List Candidate) (Chosen : ℕ → Type 0) (within : (i : ℕ) 
   -- the chosen places that rise by name are one list
   pub chosen_once : (a b : List ℕ) → AreChosen found Chosen a → AreChosen found Chosen b → a ≡ b
   chosen_once a b one other =
-      same_order (Rises found) (never_both found) a b (chosen_rise a one) (chosen_rise b other) (λ i has. (other.exactly i).1 ((one.exactly i).0 has)) (λ i has. (one.exactly i).1 ((other.exactly i).0 has))
+      same_order (Rises found) (never_both found) a b (chosen_rise a one) (chosen_rise b other) (λ i has. (other.exactly i).1
+      ((one.exactly i).0 has)) (λ i has. (one.exactly i).1 ((other.exactly i).0 has))
 
-  split_once : (shared first second shared' first' second' : List ℕ) → SplitsAt found Chosen shared first second → SplitsAt found Chosen shared' first' second' → ◌≡◌ {A = CloseError} (refusal.SplitPackage shared first second) (refusal.SplitPackage shared' first' second')
+  split_once : (shared first second shared' first' second' : List ℕ) → SplitsAt found Chosen shared first second
+      → SplitsAt found Chosen shared' first' second' → ◌≡◌ {A = CloseError} (refusal.SplitPackage shared first second)
+      (refusal.SplitPackage shared' first' second')
   split_once shared first second shared' first' second' one other =
       let same = least_once _ shared shared' one.least other.least in
       let holder = least_once (Holds found Chosen shared') first first' (rw same at one.holder) other.holder in
-      let another = least_once (λ name. (name ≢ first') × Holds found Chosen shared' name) second second' (rw (same, holder) at one.another) other.another in
+      let another = least_once (λ name. (name ≢ first') × Holds found Chosen shared' name) second second'
+      (rw (same, holder) at one.another) other.another in
       rw (same, holder, another) refl
 
   -- two answers, neither want of memory, are one
-  pub closes_once : (roots : List (List ℕ)) (a b : Result (List ℕ) CloseError) → a ≢ Err refusal.Memory → b ≢ Err refusal.Memory → Closes found roots Chosen a → Closes found roots Chosen b → a ≡ b
+  pub closes_once : (roots : List (List ℕ)) (a b : Result (List ℕ) CloseError) → a ≢ Err refusal.Memory → b ≢ Err refusal.Memory
+      → Closes found roots Chosen a → Closes found roots Chosen b → a ≡ b
   closes_once roots (Err refusal.Memory) b some other x y = absurd (some refl)
   closes_once roots a (Err refusal.Memory) some other x y = absurd (other refl)
   closes_once roots (Ok a) (Ok b) some other x y = ap Ok (chosen_once a b x.4 y.4)
@@ -123,7 +132,8 @@ module _ (found : List Candidate) (Chosen : ℕ → Type 0) (within : (i : ℕ) 
   closes_once roots (Ok a) (Err (refusal.Cycle name)) some other x y = absurd (x.2 name y.2.0)
   closes_once roots (Ok a) (Err (refusal.SplitPackage shared first second)) some other x y = absurd (x.3 shared y.3.least.0)
   closes_once roots (Err (refusal.NoRoot name)) (Ok b) some other x y = absurd (y.0 name x.0)
-  closes_once roots (Err (refusal.NoRoot name)) (Err (refusal.NoRoot name')) some other x y = ap (λ n. Err (refusal.NoRoot n)) (least_once _ name name' x y)
+  closes_once roots (Err (refusal.NoRoot name)) (Err (refusal.NoRoot name')) some other x y = ap (λ n. Err (refusal.NoRoot n))
+      (least_once _ name name' x y)
   closes_once roots (Err (refusal.NoRoot name)) (Err (refusal.Missing name' by)) some other x y = absurd (y.0 name x.0)
   closes_once roots (Err (refusal.NoRoot name)) (Err (refusal.Cycle name')) some other x y = absurd (y.0 name x.0)
   closes_once roots (Err (refusal.NoRoot name)) (Err (refusal.SplitPackage shared first second)) some other x y = absurd (y.0 name x.0)
@@ -134,20 +144,25 @@ module _ (found : List Candidate) (Chosen : ℕ → Type 0) (within : (i : ℕ) 
       let lacks = least_once _ by by' (rw same at x.2) y.2 in
       rw (same, lacks) refl
   closes_once roots (Err (refusal.Missing name by)) (Err (refusal.Cycle name')) some other x y = absurd (y.1 name x.1.0)
-  closes_once roots (Err (refusal.Missing name by)) (Err (refusal.SplitPackage shared first second)) some other x y = absurd (y.1 name x.1.0)
+  closes_once roots (Err (refusal.Missing name by)) (Err (refusal.SplitPackage shared first second)) some other x y =
+      absurd (y.1 name x.1.0)
   closes_once roots (Err (refusal.Cycle name)) (Ok b) some other x y = absurd (y.2 name x.2.0)
   closes_once roots (Err (refusal.Cycle name)) (Err (refusal.NoRoot name')) some other x y = absurd (x.0 name' y.0)
   closes_once roots (Err (refusal.Cycle name)) (Err (refusal.Missing name' by)) some other x y = absurd (x.1 name' y.1.0)
-  closes_once roots (Err (refusal.Cycle name)) (Err (refusal.Cycle name')) some other x y = ap (λ n. Err (refusal.Cycle n)) (least_once _ name name' x.2 y.2)
+  closes_once roots (Err (refusal.Cycle name)) (Err (refusal.Cycle name')) some other x y = ap (λ n. Err (refusal.Cycle n))
+      (least_once _ name name' x.2 y.2)
   closes_once roots (Err (refusal.Cycle name)) (Err (refusal.SplitPackage shared first second)) some other x y = absurd (y.2 name x.2.0)
   closes_once roots (Err (refusal.SplitPackage shared first second)) (Ok b) some other x y = absurd (y.3 shared x.3.least.0)
   closes_once roots (Err (refusal.SplitPackage shared first second)) (Err (refusal.NoRoot name)) some other x y = absurd (x.0 name y.0)
-  closes_once roots (Err (refusal.SplitPackage shared first second)) (Err (refusal.Missing name by)) some other x y = absurd (x.1 name y.1.0)
+  closes_once roots (Err (refusal.SplitPackage shared first second)) (Err (refusal.Missing name by)) some other x y =
+      absurd (x.1 name y.1.0)
   closes_once roots (Err (refusal.SplitPackage shared first second)) (Err (refusal.Cycle name)) some other x y = absurd (x.2 name y.2.0)
-  closes_once roots (Err (refusal.SplitPackage shared first second)) (Err (refusal.SplitPackage shared' first' second')) some other x y = ap Err (split_once shared first second shared' first' second' x.3 y.3)
+  closes_once roots (Err (refusal.SplitPackage shared first second)) (Err (refusal.SplitPackage shared' first' second')) some other
+      x y = ap Err (split_once shared first second shared' first' second' x.3 y.3)
 
 -- what is reached is found
-led_found : (found : List Candidate) (i : ℕ) (places : List ℕ) (j : ℕ) → i < length found → Leads (Requires found) i places j → j < length found
+led_found : (found : List Candidate) (i : ℕ) (places : List ℕ) (j : ℕ) → i < length found → Leads (Requires found) i places j
+    → j < length found
 led_found found i [] j inside same = subst (λ k. k < length found) same inside
 led_found found i (k ∷ places) j inside (required, leads) =
     led_found found k places j (within_found found k required.2.0 required.2.1) leads
@@ -157,5 +172,6 @@ reached_found found roots j (i, places, (name, rooted, named), leads) =
     led_found found i places j (within_found found i named.0 named.1) leads
 
 -- so a closure has one answer
-pub closure_once : (found : List Candidate) (roots : List (List ℕ)) (a b : Result (List ℕ) CloseError) → a ≢ Err refusal.Memory → b ≢ Err refusal.Memory → Closes found roots (Reached found roots) a → Closes found roots (Reached found roots) b → a ≡ b
+pub closure_once : (found : List Candidate) (roots : List (List ℕ)) (a b : Result (List ℕ) CloseError) → a ≢ Err refusal.Memory
+    → b ≢ Err refusal.Memory → Closes found roots (Reached found roots) a → Closes found roots (Reached found roots) b → a ≡ b
 closure_once found roots = closes_once found (Reached found roots) (reached_found found roots) roots

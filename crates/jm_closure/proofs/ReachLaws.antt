@@ -1,5 +1,8 @@
 -- What is reached in a round, step by step.
-use Rattle.std.proofs.Common.{◌≡◌, ◌≢◌, ℕ, zero, suc, ◌+◌, ◌<◌, ◌≤◌, ◌↔◌, ◌⊎◌, inl, inr, Bool, true, false, cond, List, [], ◌∷◌, ◌++◌, length, replicate, All, Contains, refl, sym, ◌∙◌, ap, subst, arith, add-one, drop, drop-cons, get_or, length-append, slice_set, get_or-set_same, get_or-set_other, length-set}
+use Rattle.std.proofs.Common.{◌≡◌, ◌≢◌, ℕ, zero, suc, ◌+◌, ◌<◌, ◌≤◌, ◌↔◌, ◌⊎◌, inl, inr, Bool, true, false}
+use Rattle.std.proofs.Common.{cond, List, [], ◌∷◌, ◌++◌, length, replicate, All, Contains, refl, sym, ◌∙◌, ap}
+use Rattle.std.proofs.Common.{subst, arith, add-one, drop, drop-cons, get_or, length-append, slice_set}
+use Rattle.std.proofs.Common.{get_or-set_same, get_or-set_other, length-set}
 use Rattle.std.specs.Prelude.{not}
 use Rattle.std.proofs.lemmas.Bool.{cases_eq, cases_lt, false≢true, eqb-true, eqb-false, ne_eqb}
 use Rattle.std.proofs.lemmas.List.{get_or-replicate, get_or_past, length-replicate}
@@ -8,7 +11,8 @@ use Rattle.std.proofs.lemmas.List.Sums.{sum_by-set}
 use Rattle.std.specs.Bool.{◌==◌}
 use Rattle.jm_bytes.proofs.Members.{all_from_contains, contains_none, contains_here, contains_later, contains_cases}
 use Rattle.jm_closure.specs.Modules.{Leads}
-use Rattle.jm_closure.specs.Graphs.{ends_at, marks_of, round_of, unreached, with_reached, with_queued, EndsWithin, HasEdge, InRound, IsMarked, IsReached, IsRound, LedFrom}
+use Rattle.jm_closure.specs.Graphs.{ends_at, marks_of, round_of, unreached, with_reached, with_queued}
+use Rattle.jm_closure.specs.Graphs.{EndsWithin, HasEdge, InRound, IsMarked, IsReached, IsRound, LedFrom}
 
 -- One step more at the end of a way
 

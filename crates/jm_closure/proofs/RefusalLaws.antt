@@ -1,5 +1,7 @@
 -- The refusals as the code meets them, and their order.
-use Rattle.std.proofs.Common.{◌≡◌, ℕ, ◌+◌, ◌<◌, inl, inr, Bool, true, false, List, [], ◌∷◌, ◌++◌, length, Some, None, Err, All, AllPairs, refl, sym, ◌∙◌, ap, subst, arith, get_or, slice_get, slice_index_or}
+use Rattle.std.proofs.Common.{◌≡◌, ℕ, ◌+◌, ◌<◌, inl, inr, Bool, true, false, List, [], ◌∷◌, ◌++◌, length}
+use Rattle.std.proofs.Common.{Some, None, Err, All, AllPairs, refl, sym, ◌∙◌, ap, subst, arith, get_or}
+use Rattle.std.proofs.Common.{slice_get, slice_index_or}
 use Rattle.std.specs.Prelude.{filter, not, IsTrue}
 use Rattle.std.specs.Str.{bytes_eq}
 use Rattle.std.specs.Cmp.Lexicographic.{slice_cmp}
@@ -24,7 +26,9 @@ use Rattle.jm_closure.specs.Graphs.{EndsWithin, HasEdge, IsMarked, OnCycle}
 use Rattle.jm_closure.specs.Least.{IsLeastOf}
 use Rattle.jm_closure.specs.Modules.{name_of, Leads, ReachesItself, Requires}
 use Rattle.jm_closure.specs.Names.{IsOrder, Precedes}
-use Rattle.jm_closure.specs.Refusals.{AreChosen, Closes, Holds, IsAcyclic, IsAtMost, IsLeast, IsOnCycle, IsSplit, NeedsFound, RefusesCycle, RefusesNeeds, RefusesSplit, RootsFound, SplitsAt}
+use Rattle.jm_closure.specs.Refusals.{AreChosen, Closes, Holds, IsAcyclic, IsAtMost, IsLeast, IsOnCycle}
+use Rattle.jm_closure.specs.Refusals.{IsSplit, NeedsFound, RefusesCycle, RefusesNeeds, RefusesSplit}
+use Rattle.jm_closure.specs.Refusals.{RootsFound, SplitsAt}
 use Rattle.jm_closure.proofs.LeastLaws.{at_most_itself}
 use Rattle.jm_closure.proofs.NameLaws.{within_found}
 

@@ -1,5 +1,6 @@
 -- Steps over a part of a class, and over the same part with other numbers.
-use Rattle.std.proofs.Common.{◌≡◌, ℕ, ◌+◌, ◌^◌, ◌<◌, true, List, [], ◌∷◌, ◌++◌, length, map, Ok, Err, refl, sym, ap, ◌∙◌, arith, append_assoc, length-append}
+use Rattle.std.proofs.Common.{◌≡◌, ℕ, ◌+◌, ◌^◌, ◌<◌, true, List, [], ◌∷◌, ◌++◌, length, map, Ok, Err, refl}
+use Rattle.std.proofs.Common.{sym, ap, ◌∙◌, arith, append_assoc, length-append}
 use Rattle.std.proofs.lemmas.List.{append-nil}
 use Rattle.std.proofs.lemmas.List.Elements.{All-nil, All-cons, All-head, All-tail}
 use Rattle.std.specs.List.{flat_map}
@@ -11,7 +12,9 @@ use Rattle.jm_poolmap.specs.Forms.{NoForm}
 use Rattle.jm_poolmap.specs.ComputedSites.{Walked, Step, step_on, steps, each, passes, notes}
 use Rattle.jm_poolmap.proofs.Following.{later}
 use Rattle.jm_compact.specs.Pieces.{Plain, Number}
-use Rattle.jm_compact.proofs.Tokens.{Token, token_text, found_from, changed, Fit, Each, IsSmall, token_text-append, changed-append, found_from-append, Fit-append, Each-left, Each-right}
+use Rattle.jm_compact.proofs.Tokens.{Token, token_text, found_from, changed, Fit, Each, IsSmall}
+use Rattle.jm_compact.proofs.Tokens.{token_text-append, changed-append, found_from-append, Fit-append}
+use Rattle.jm_compact.proofs.Tokens.{Each-left, Each-right}
 
 module _ (new : ℕ → ℕ) (small : IsSmall new) (P : ℕ → Type 0) where
   -- a walk with the sites of some tokens more
@@ -33,16 +36,28 @@ module _ (new : ℕ → ℕ) (small : IsSmall new) (P : ℕ → Type 0) where
   Carries step other text moved Holds = (walk next : Walk) → step walk ≡ Ok next → Carried other text moved Holds walk next
 
   -- the same said in other words
-  pub carries_text : (step other : Step) (text moved words changed_words : List ℕ) (Holds : Type 0) → text ≡ words → moved ≡ changed_words → Carries step other text moved Holds → Carries step other words changed_words Holds
+  pub carries_text : (step other : Step) (text moved words changed_words : List ℕ) (Holds : Type 0) → text ≡ words → moved
+      ≡ changed_words → Carries step other text moved Holds → Carries step other words changed_words Holds
   carries_text step other text moved words changed_words Holds one two law walk next e =
       let got = law walk next e in
-      record { tokens = got.tokens; fit = got.fit; content = sym one ∙ got.content; goes = got.goes; new_content = sym two ∙ got.new_content; again = got.again; holds = got.holds }
+      record {
+        tokens = got.tokens;
+        fit = got.fit;
+        content = sym one ∙ got.content;
+        goes = got.goes;
+        new_content = sym two
+            ∙ got.new_content;
+        again = got.again;
+        holds = got.holds;
+      }
 
-  pub carries_step : (step same other : Step) (text moved : List ℕ) (Holds : Type 0) → ((walk : Walk) → step walk ≡ same walk) → Carries step other text moved Holds → Carries same other text moved Holds
+  pub carries_step : (step same other : Step) (text moved : List ℕ) (Holds : Type 0) → ((walk : Walk) → step walk ≡ same walk)
+      → Carries step other text moved Holds → Carries same other text moved Holds
   carries_step step same other text moved Holds is law walk next e = law walk next (is walk ∙ e)
 
   -- what holds tells more, and which other step is the same
-  pub carries_told : (step other same : Step) (text moved : List ℕ) (Holds More : Type 0) → (Holds → More × ((w : Walk) → same w ≡ other w)) → Carries step other text moved Holds → Carries step same text moved More
+  pub carries_told : (step other same : Step) (text moved : List ℕ) (Holds More : Type 0)
+      → (Holds → More × ((w : Walk) → same w ≡ other w)) → Carries step other text moved Holds → Carries step same text moved More
   carries_told step other same text moved Holds More tells law walk next e =
       let got = law walk next e in
       record {
@@ -106,29 +121,40 @@ module _ (new : ℕ → ℕ) (small : IsSmall new) (P : ℕ → Type 0) where
   passed_both : (xs ys : List Token) (w : Walk) → passed_over ys (passed_over xs w) ≡ passed_over (xs ++ ys) w
   passed_both xs ys w =
       let sizes = ap length (token_text-append xs ys) ∙ length-append (token_text xs) (token_text ys) in
-      let place : (w.place + length (token_text xs)) + length (token_text ys) ≡ w.place + length (token_text (xs ++ ys)) = omega (arith, sizes) in
-      ap (λ f. record { found = f; place = (w.place + length (token_text xs)) + length (token_text ys) }) (append_assoc w.found (found_from w.place xs) (found_from (w.place + length (token_text xs)) ys) ∙ ap (λ f. w.found ++ f) (sym (found_from-append w.place xs ys)))
+      let place : (w.place + length (token_text xs)) + length (token_text ys) ≡ w.place + length (token_text (xs ++ ys)) =
+      omega (arith, sizes) in
+      ap (λ f. record { found = f; place = (w.place + length (token_text xs)) + length (token_text ys) })
+      (append_assoc w.found (found_from w.place xs) (found_from (w.place + length (token_text xs)) ys)
+      ∙ ap (λ f. w.found ++ f) (sym (found_from-append w.place xs ys)))
       ∙ ap (λ m. record { found = w.found ++ found_from w.place (xs ++ ys); place = m }) place
 
-  module _ (step other : Step) (following others : List Step) (text moved more more_moved : List ℕ) (Holds More : Type 0) (first : Carries step other text moved Holds) (second : Carries (steps following) (steps others) more more_moved More) where
-    joined_up : (walk next : Walk) (walked : Walked) → step walk ≡ walked → step_on walked (steps following) ≡ Ok next → Carried (steps (other ∷ others)) (text ++ more) (moved ++ more_moved) (Holds × More) walk next
+  module _ (step other : Step) (following others : List Step) (text moved more more_moved : List ℕ) (Holds More : Type 0)
+      (first : Carries step other text moved Holds) (second : Carries (steps following) (steps others) more more_moved More) where
+    joined_up : (walk next : Walk) (walked : Walked) → step walk ≡ walked → step_on walked (steps following) ≡ Ok next
+        → Carried (steps (other ∷ others)) (text ++ more) (moved ++ more_moved) (Holds × More) walk next
     joined_up walk next (Err fault) is e = cc
     joined_up walk next (Ok middle) is e = go (first walk middle is)
       where
-        go : Carried other text moved Holds walk middle → Carried (steps (other ∷ others)) (text ++ more) (moved ++ more_moved) (Holds × More) walk next
+        go : Carried other text moved Holds walk middle → Carried (steps (other ∷ others)) (text ++ more) (moved ++ more_moved)
+            (Holds × More) walk next
         go one = behind (second middle next e)
           where
-            behind : Carried (steps others) more more_moved More middle next → Carried (steps (other ∷ others)) (text ++ more) (moved ++ more_moved) (Holds × More) walk next
+            behind : Carried (steps others) more more_moved More middle next → Carried (steps (other ∷ others)) (text ++ more)
+                (moved ++ more_moved) (Holds × More) walk next
             behind two = record {
               tokens = one.tokens ++ two.tokens;
               fit = Fit-append one.tokens two.tokens one.fit two.fit;
-              content = ap (λ t. t ++ more) one.content ∙ ap (λ t. token_text one.tokens ++ t) two.content ∙ sym (token_text-append one.tokens two.tokens);
+              content = ap (λ t. t ++ more) one.content ∙ ap (λ t. token_text one.tokens ++ t) two.content
+                  ∙ sym (token_text-append one.tokens two.tokens);
               goes = two.goes ∙ ap (passed_over two.tokens) one.goes ∙ passed_both one.tokens two.tokens walk;
-              new_content = ap (λ t. t ++ more_moved) one.new_content ∙ ap (λ t. token_text (changed new one.tokens) ++ t) two.new_content ∙ sym (token_text-append (changed new one.tokens) (changed new two.tokens)) ∙ ap token_text (sym (changed-append new one.tokens two.tokens));
+              new_content = ap (λ t. t ++ more_moved) one.new_content ∙ ap (λ t. token_text (changed new one.tokens) ++ t)
+                  two.new_content ∙ sym (token_text-append (changed new one.tokens) (changed new two.tokens))
+                  ∙ ap token_text (sym (changed-append new one.tokens two.tokens));
               again = λ good w.
                   ap (λ r. step_on r (steps others)) (one.again (Each-left P one.tokens two.tokens good) w)
                   ∙ two.again (Each-right P one.tokens two.tokens good) (passed_over (changed new one.tokens) w)
-                  ∙ ap Ok (passed_both (changed new one.tokens) (changed new two.tokens) w ∙ ap (λ t. passed_over t w) (sym (changed-append new one.tokens two.tokens)));
+                  ∙ ap Ok (passed_both (changed new one.tokens) (changed new two.tokens) w
+                  ∙ ap (λ t. passed_over t w) (sym (changed-append new one.tokens two.tokens)));
               holds = λ good. (one.holds (Each-left P one.tokens two.tokens good), two.holds (Each-right P one.tokens two.tokens good));
             }
 
@@ -137,17 +163,24 @@ module _ (new : ℕ → ℕ) (small : IsSmall new) (P : ℕ → Type 0) where
 
   -- Behind n bytes that stay
 
-  pub carries_later : (n : ℕ) (step other : Step) (front text moved : List ℕ) (Holds : Type 0) → length front ≡ n → Carries step other text moved Holds → Carries (later n step) (later n other) (front ++ text) (front ++ moved) Holds
+  pub carries_later : (n : ℕ) (step other : Step) (front text moved : List ℕ) (Holds : Type 0) → length front ≡ n
+      → Carries step other text moved Holds → Carries (later n step) (later n other) (front ++ text) (front ++ moved) Holds
   carries_later n step other front text moved Holds size law walk next e = go (law (record walk { place = walk.place + n }) next e)
     where
-      shown : (tokens : List Token) (w : Walk) → passed_over tokens (record w { place = w.place + n }) ≡ passed_over (Plain front ∷ tokens) w
+      shown : (tokens : List Token) (w : Walk) → passed_over tokens (record w { place = w.place + n })
+          ≡ passed_over (Plain front ∷ tokens) w
       shown tokens w =
           let sizes = length-append front (token_text tokens) in
-          let place : (w.place + n) + length (token_text tokens) ≡ w.place + length (front ++ token_text tokens) = omega (arith, sizes, size) in
-          ap (λ m. record { found = w.found ++ found_from (w.place + m) tokens; place = (w.place + n) + length (token_text tokens) }) (sym size)
+          let place : (w.place + n) + length (token_text tokens) ≡ w.place + length (front ++ token_text tokens) =
+          omega (arith, sizes, size) in
+          ap (λ m. record {
+            found = w.found ++ found_from (w.place + m) tokens;
+            place = (w.place + n) + length (token_text tokens);
+          }) (sym size)
           ∙ ap (λ m. record { found = w.found ++ found_from (w.place + length front) tokens; place = m }) place
 
-      go : Carried other text moved Holds (record walk { place = walk.place + n }) next → Carried (later n other) (front ++ text) (front ++ moved) Holds walk next
+      go : Carried other text moved Holds (record walk { place = walk.place + n }) next → Carried (later n other) (front ++ text)
+          (front ++ moved) Holds walk next
       go got = record {
         tokens = Plain front ∷ got.tokens;
         fit = got.fit;
@@ -160,12 +193,19 @@ module _ (new : ℕ → ℕ) (small : IsSmall new) (P : ℕ → Type 0) where
 
   -- So many of one kind
 
-  module _ {A : Type 0} (step other : A → Step) (text : A → List ℕ) (move : A → A) (Fits Holds : A → Type 0) (law : (x : A) → Fits x → Carries (step x) (other (move x)) (text x) (text (move x)) (Holds (move x))) where
-    pub carries_each : (xs : List A) → All Fits xs → Carries (each step xs) (each other (map move xs)) (flat_map text xs) (flat_map text (map move xs)) (All Holds (map move xs))
+  module _ {A : Type 0} (step other : A → Step) (text : A → List ℕ) (move : A → A) (Fits Holds : A → Type 0) (law : (x : A) → Fits x
+      → Carries (step x) (other (move x)) (text x) (text (move x)) (Holds (move x))) where
+    pub carries_each : (xs : List A) → All Fits xs → Carries (each step xs) (each other (map move xs)) (flat_map text xs)
+        (flat_map text (map move xs)) (All Holds (map move xs))
     carries_each [] all = carries_nil_all
       where
         carries_nil_all : Carries (steps []) (steps []) [] [] (All Holds [])
-        carries_nil_all = carries_told (steps []) (steps []) (steps []) [] [] (Unit {0}) (All Holds []) (λ u. (All-nil Holds, λ w. refl)) carries_nil
+        carries_nil_all = carries_told (steps []) (steps []) (steps []) [] [] (Unit {0}) (All Holds [])
+            (λ u. (All-nil Holds, λ w. refl)) carries_nil
     carries_each (x ∷ xs) all =
-        carries_told (each step (x ∷ xs)) (each other (map move (x ∷ xs))) (each other (map move (x ∷ xs))) (text x ++ flat_map text xs) (text (move x) ++ flat_map text (map move xs)) (Holds (move x) × All Holds (map move xs)) (All Holds (move x ∷ map move xs)) (λ both. (All-cons Holds (move x) (map move xs) both.0 both.1, λ w. refl))
-        (carries_cons (step x) (other (move x)) (map step xs) (map other (map move xs)) (text x) (text (move x)) (flat_map text xs) (flat_map text (map move xs)) (Holds (move x)) (All Holds (map move xs)) (law x (All-head Fits x xs all)) (carries_each xs (All-tail Fits x xs all)))
+        carries_told (each step (x ∷ xs)) (each other (map move (x ∷ xs))) (each other (map move (x ∷ xs)))
+        (text x ++ flat_map text xs) (text (move x) ++ flat_map text (map move xs)) (Holds (move x) × All Holds (map move xs))
+        (All Holds (move x ∷ map move xs)) (λ both. (All-cons Holds (move x) (map move xs) both.0 both.1, λ w. refl))
+        (carries_cons (step x) (other (move x)) (map step xs) (map other (map move xs)) (text x) (text (move x)) (flat_map text xs)
+        (flat_map text (map move xs)) (Holds (move x)) (All Holds (map move xs)) (law x (All-head Fits x xs all))
+        (carries_each xs (All-tail Fits x xs all)))

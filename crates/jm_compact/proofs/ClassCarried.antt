@@ -2,7 +2,9 @@
 use Rattle.std.proofs.Common.{◌≡◌, ℕ, ◌^◌, ◌<◌, true, false, List, [], ◌∷◌, ◌++◌, length, refl, length-append}
 use Rattle.std.proofs.lemmas.List.{drop_at}
 use Rattle.std.specs.List.{flat_map}
-use Rattle.jm_class.specs.Classes.{SlotData, ClassData, u2, u4, magic, counted_text, attribute_text, member_text, pool_text, class_text, utf8_at, FitsCounted, IsAttribute, IsMember, IsClass}
+use Rattle.jm_class.specs.Classes.{SlotData, ClassData, u2, u4, magic, counted_text, attribute_text}
+use Rattle.jm_class.specs.Classes.{member_text, pool_text, class_text, utf8_at, FitsCounted, IsAttribute}
+use Rattle.jm_class.specs.Classes.{IsMember, IsClass}
 use Rattle.jm_class.proofs.ReadingLaws.{IsBytes, bytes_behind}
 use Rattle.jm_poolmap.specs.declared.forms.Place.TheVariants.{Class, Field, Method}
 use Rattle.jm_poolmap.specs.ComputedSites.{Step, steps, each, passes, notes, attribute_step, member_step}
@@ -33,7 +35,8 @@ front-is c = refl
 pub back-is : (c : ClassData) → back c ≡ behind_pool c
 back-is c = drop_at (before_pool c ++ pool_text c.pool) (behind_pool c) (pool_end c) (length-append (before_pool c) (pool_text c.pool))
 
-module _ (c : ClassData) (fits : IsClass c) (bytes : IsBytes (class_text c)) (d : List SlotData) (new : ℕ → ℕ) (small : IsSmall new) (P : ℕ → Type 0) (texts : (n : ℕ) → P n → utf8_at d (new n) ≡ utf8_at c.pool n) where
+module _ (c : ClassData) (fits : IsClass c) (bytes : IsBytes (class_text c)) (d : List SlotData) (new : ℕ → ℕ) (small : IsSmall new)
+    (P : ℕ → Type 0) (texts : (n : ℕ) → P n → utf8_at d (new n) ≡ utf8_at c.pool n) where
   abbrev pub moved : ClassData
   moved = moved_class c.pool new d c
 
@@ -61,7 +64,8 @@ module _ (c : ClassData) (fits : IsClass c) (bytes : IsBytes (class_text c)) (d 
   behind_bytes = bytes_behind (pool_text c.pool) (behind_pool c) (bytes_behind (before_pool c) (pool_text c.pool ++ behind_pool c) bytes)
 
   field_bytes : IsBytes from_fields
-  field_bytes = bytes_behind (counted_text u2 c.interfaces) from_fields (bytes_behind (u2 c.access ++ (u2 c.this_class ++ u2 c.super_class)) from_interfaces behind_bytes)
+  field_bytes = bytes_behind (counted_text u2 c.interfaces) from_fields
+      (bytes_behind (u2 c.access ++ (u2 c.this_class ++ u2 c.super_class)) from_interfaces behind_bytes)
 
   method_bytes : IsBytes from_methods
   method_bytes = bytes_behind (counted_text member_text c.fields) from_methods field_bytes
@@ -69,25 +73,47 @@ module _ (c : ClassData) (fits : IsClass c) (bytes : IsBytes (class_text c)) (d 
   attribute_bytes : IsBytes from_attributes
   attribute_bytes = bytes_behind (counted_text member_text c.methods) from_attributes method_bytes
 
-  counted_bytes : {A : Type 0} (text : A → List ℕ) (xs : List A) (rest : List ℕ) → IsBytes (counted_text text xs ++ rest) → IsBytes (flat_map text xs)
-  counted_bytes text xs rest all = front_bytes (flat_map text xs) [] (bytes_behind (u2 (length xs)) (flat_map text xs ++ []) (front_bytes (counted_text text xs) rest all))
+  counted_bytes : {A : Type 0} (text : A → List ℕ) (xs : List A) (rest : List ℕ) → IsBytes (counted_text text xs ++ rest)
+      → IsBytes (flat_map text xs)
+  counted_bytes text xs rest all = front_bytes (flat_map text xs) [] (bytes_behind (u2 (length xs)) (flat_map text xs ++ [])
+      (front_bytes (counted_text text xs) rest all))
 
   -- The parts
 
-  carries_interfaces : Carries new small P (later 2 (each (notes false) c.interfaces)) (later 2 (each (notes false) moved.interfaces)) (counted_text u2 c.interfaces) (counted_text u2 moved.interfaces) (FitsCounted (λ i. i < 2 ^ 16) moved.interfaces)
-  carries_interfaces = carries_counted c.pool d new small P texts (notes false) (notes false) u2 new (λ i. i < 2 ^ 16) (λ i. i < 2 ^ 16) one c.interfaces fits.interfaces.0 fits.interfaces.1
+  carries_interfaces : Carries new small P (later 2 (each (notes false) c.interfaces))
+      (later 2 (each (notes false) moved.interfaces)) (counted_text u2 c.interfaces) (counted_text u2 moved.interfaces)
+      (FitsCounted (λ i. i < 2 ^ 16) moved.interfaces)
+  carries_interfaces = carries_counted c.pool d new small P texts (notes false) (notes false) u2 new (λ i. i < 2 ^ 16)
+      (λ i. i < 2 ^ 16) one c.interfaces fits.interfaces.0 fits.interfaces.1
     where
       one : (i : ℕ) → i < 2 ^ 16 → Carries new small P (notes false i) (notes false (new i)) (u2 i) (u2 (new i)) (new i < 2 ^ 16)
-      one i below = carries_told new small P (notes false i) (notes false (new i)) (notes false (new i)) (u2 i) (u2 (new i)) (P i) (new i < 2 ^ 16) (λ good. (new_below c.pool d new small P texts i below, λ w. refl)) (carries_notes new small P false i below)
+      one i below = carries_told new small P (notes false i) (notes false (new i)) (notes false (new i)) (u2 i) (u2 (new i)) (P i)
+          (new i < 2 ^ 16) (λ good. (new_below c.pool d new small P texts i below, λ w. refl)) (carries_notes new small P false i below)
 
-  carries_fields : Carries new small P (later 2 (each (member_step Field c.pool) c.fields)) (later 2 (each (member_step Field d) moved.fields)) (counted_text member_text c.fields) (counted_text member_text moved.fields) (FitsCounted (IsMember d false) moved.fields)
-  carries_fields = carries_counted c.pool d new small P texts (member_step Field c.pool) (member_step Field d) member_text (moved_member c.pool new Field) (λ m. IsMember c.pool false m × IsBytes (member_text m)) (IsMember d false) (carries_member c.pool d new small P texts Field) c.fields fits.fields.0 (each_bytes member_text (IsMember c.pool false) c.fields fits.fields.1 (counted_bytes member_text c.fields from_methods field_bytes))
+  carries_fields : Carries new small P (later 2 (each (member_step Field c.pool) c.fields))
+      (later 2 (each (member_step Field d) moved.fields)) (counted_text member_text c.fields)
+      (counted_text member_text moved.fields) (FitsCounted (IsMember d false) moved.fields)
+  carries_fields = carries_counted c.pool d new small P texts (member_step Field c.pool) (member_step Field d) member_text
+      (moved_member c.pool new Field) (λ m. IsMember c.pool false m × IsBytes (member_text m)) (IsMember d false)
+      (carries_member c.pool d new small P texts Field) c.fields fits.fields.0 (each_bytes member_text (IsMember c.pool false)
+      c.fields fits.fields.1 (counted_bytes member_text c.fields from_methods field_bytes))
 
-  carries_methods : Carries new small P (later 2 (each (member_step Method c.pool) c.methods)) (later 2 (each (member_step Method d) moved.methods)) (counted_text member_text c.methods) (counted_text member_text moved.methods) (FitsCounted (IsMember d true) moved.methods)
-  carries_methods = carries_counted c.pool d new small P texts (member_step Method c.pool) (member_step Method d) member_text (moved_member c.pool new Method) (λ m. IsMember c.pool true m × IsBytes (member_text m)) (IsMember d true) (carries_member c.pool d new small P texts Method) c.methods fits.methods.0 (each_bytes member_text (IsMember c.pool true) c.methods fits.methods.1 (counted_bytes member_text c.methods from_attributes method_bytes))
+  carries_methods : Carries new small P (later 2 (each (member_step Method c.pool) c.methods))
+      (later 2 (each (member_step Method d) moved.methods)) (counted_text member_text c.methods)
+      (counted_text member_text moved.methods) (FitsCounted (IsMember d true) moved.methods)
+  carries_methods = carries_counted c.pool d new small P texts (member_step Method c.pool) (member_step Method d) member_text
+      (moved_member c.pool new Method) (λ m. IsMember c.pool true m × IsBytes (member_text m)) (IsMember d true)
+      (carries_member c.pool d new small P texts Method) c.methods fits.methods.0 (each_bytes member_text (IsMember c.pool true)
+      c.methods fits.methods.1 (counted_bytes member_text c.methods from_attributes method_bytes))
 
-  carries_attributes : Carries new small P (later 2 (each (attribute_step Class c.pool) c.attributes)) (later 2 (each (attribute_step Class d) moved.attributes)) (counted_text attribute_text c.attributes) (counted_text attribute_text moved.attributes) (FitsCounted (IsAttribute d false) moved.attributes)
-  carries_attributes = carries_counted c.pool d new small P texts (attribute_step Class c.pool) (attribute_step Class d) attribute_text (moved_attribute c.pool new Class) (λ a. IsAttribute c.pool false a × IsBytes (attribute_text a)) (IsAttribute d false) (carries_attribute c.pool d new small P texts Class) c.attributes fits.attributes.0 (each_bytes attribute_text (IsAttribute c.pool false) c.attributes fits.attributes.1 (counted_bytes attribute_text c.attributes [] attribute_bytes))
+  carries_attributes : Carries new small P (later 2 (each (attribute_step Class c.pool) c.attributes))
+      (later 2 (each (attribute_step Class d) moved.attributes)) (counted_text attribute_text c.attributes)
+      (counted_text attribute_text moved.attributes) (FitsCounted (IsAttribute d false) moved.attributes)
+  carries_attributes = carries_counted c.pool d new small P texts (attribute_step Class c.pool) (attribute_step Class d)
+      attribute_text (moved_attribute c.pool new Class) (λ a. IsAttribute c.pool false a × IsBytes (attribute_text a))
+      (IsAttribute d false) (carries_attribute c.pool d new small P texts Class) c.attributes fits.attributes.0
+      (each_bytes attribute_text (IsAttribute c.pool false) c.attributes fits.attributes.1 (counted_bytes attribute_text
+      c.attributes [] attribute_bytes))
 
   abbrev pub AttributesHold : Type 0
   AttributesHold = FitsCounted (IsAttribute d false) moved.attributes × Unit {0}
@@ -113,34 +139,57 @@ module _ (c : ClassData) (fits : IsClass c) (bytes : IsBytes (class_text c)) (d 
   abbrev new_interfaces : List ℕ
   new_interfaces = counted_text u2 moved.interfaces ++ new_fields
 
-  carries_members : Carries new small P (steps (later 2 (each (member_step Field c.pool) c.fields) ∷ later 2 (each (member_step Method c.pool) c.methods) ∷ later 2 (each (attribute_step Class c.pool) c.attributes) ∷ [])) (steps (later 2 (each (member_step Field d) moved.fields) ∷ later 2 (each (member_step Method d) moved.methods) ∷ later 2 (each (attribute_step Class d) moved.attributes) ∷ [])) from_fields new_fields FieldsHold
+  carries_members : Carries new small P (steps (later 2 (each (member_step Field c.pool) c.fields)
+      ∷ later 2 (each (member_step Method c.pool) c.methods) ∷ later 2 (each (attribute_step Class c.pool) c.attributes) ∷ []))
+      (steps (later 2 (each (member_step Field d) moved.fields) ∷ later 2 (each (member_step Method d) moved.methods)
+      ∷ later 2 (each (attribute_step Class d) moved.attributes) ∷ [])) from_fields new_fields FieldsHold
   carries_members =
-      carries_cons new small P (later 2 (each (member_step Field c.pool) c.fields)) (later 2 (each (member_step Field d) moved.fields)) (later 2 (each (member_step Method c.pool) c.methods) ∷ later 2 (each (attribute_step Class c.pool) c.attributes) ∷ []) (later 2 (each (member_step Method d) moved.methods) ∷ later 2 (each (attribute_step Class d) moved.attributes) ∷ []) (counted_text member_text c.fields) (counted_text member_text moved.fields) from_methods new_methods (FitsCounted (IsMember d false) moved.fields) MethodsHold
+      carries_cons new small P (later 2 (each (member_step Field c.pool) c.fields))
+      (later 2 (each (member_step Field d) moved.fields)) (later 2 (each (member_step Method c.pool) c.methods)
+      ∷ later 2 (each (attribute_step Class c.pool) c.attributes) ∷ []) (later 2 (each (member_step Method d) moved.methods)
+      ∷ later 2 (each (attribute_step Class d) moved.attributes) ∷ []) (counted_text member_text c.fields)
+      (counted_text member_text moved.fields) from_methods new_methods (FitsCounted (IsMember d false) moved.fields) MethodsHold
       carries_fields
-      (carries_cons new small P (later 2 (each (member_step Method c.pool) c.methods)) (later 2 (each (member_step Method d) moved.methods)) (later 2 (each (attribute_step Class c.pool) c.attributes) ∷ []) (later 2 (each (attribute_step Class d) moved.attributes) ∷ []) (counted_text member_text c.methods) (counted_text member_text moved.methods) from_attributes new_attributes (FitsCounted (IsMember d true) moved.methods) AttributesHold
+      (carries_cons new small P (later 2 (each (member_step Method c.pool) c.methods))
+      (later 2 (each (member_step Method d) moved.methods)) (later 2 (each (attribute_step Class c.pool) c.attributes) ∷ [])
+      (later 2 (each (attribute_step Class d) moved.attributes) ∷ []) (counted_text member_text c.methods)
+      (counted_text member_text moved.methods) from_attributes new_attributes (FitsCounted (IsMember d true) moved.methods)
+      AttributesHold
       carries_methods
-      (carries_cons new small P (later 2 (each (attribute_step Class c.pool) c.attributes)) (later 2 (each (attribute_step Class d) moved.attributes)) [] [] (counted_text attribute_text c.attributes) (counted_text attribute_text moved.attributes) [] [] (FitsCounted (IsAttribute d false) moved.attributes) (Unit {0})
+      (carries_cons new small P (later 2 (each (attribute_step Class c.pool) c.attributes))
+      (later 2 (each (attribute_step Class d) moved.attributes)) [] [] (counted_text attribute_text c.attributes)
+      (counted_text attribute_text moved.attributes) [] [] (FitsCounted (IsAttribute d false) moved.attributes) (Unit {0})
       carries_attributes (carries_nil new small P)))
 
   abbrev from_this : List Step
   from_this = class_parts c fits
 
-  pub carries_class : Carries new small P (steps (passes 2 ∷ class_parts c fits)) (steps (passes 2 ∷ new_parts)) (behind_pool c) (behind_pool moved) (Unit {0} × (P c.this_class × (P c.super_class × InterfacesHold)))
+  pub carries_class : Carries new small P (steps (passes 2 ∷ class_parts c fits)) (steps (passes 2 ∷ new_parts)) (behind_pool c)
+      (behind_pool moved) (Unit {0} × (P c.this_class × (P c.super_class × InterfacesHold)))
   carries_class =
-      carries_cons new small P (passes 2) (passes 2) (class_parts c fits) new_parts (u2 c.access) (u2 c.access) (u2 c.this_class ++ (u2 c.super_class ++ from_interfaces)) (u2 moved.this_class ++ (u2 moved.super_class ++ new_interfaces)) (Unit {0}) (P c.this_class × (P c.super_class × InterfacesHold))
+      carries_cons new small P (passes 2) (passes 2) (class_parts c fits) new_parts (u2 c.access) (u2 c.access) (u2 c.this_class
+      ++ (u2 c.super_class ++ from_interfaces)) (u2 moved.this_class ++ (u2 moved.super_class ++ new_interfaces)) (Unit {0})
+      (P c.this_class × (P c.super_class × InterfacesHold))
       (carries_passes new small P 2 (u2 c.access) refl)
-      (carries_cons new small P (notes false c.this_class) (notes false moved.this_class) (notes true c.super_class ∷ behind_super) (notes true moved.super_class ∷ new_behind_super) (u2 c.this_class) (u2 moved.this_class) (u2 c.super_class ++ from_interfaces) (u2 moved.super_class ++ new_interfaces) (P c.this_class) (P c.super_class × InterfacesHold)
+      (carries_cons new small P (notes false c.this_class) (notes false moved.this_class) (notes true c.super_class ∷ behind_super)
+      (notes true moved.super_class ∷ new_behind_super) (u2 c.this_class) (u2 moved.this_class) (u2 c.super_class
+      ++ from_interfaces) (u2 moved.super_class ++ new_interfaces) (P c.this_class) (P c.super_class × InterfacesHold)
       (carries_notes new small P false c.this_class fits.this_class)
-      (carries_cons new small P (notes true c.super_class) (notes true moved.super_class) behind_super new_behind_super (u2 c.super_class) (u2 moved.super_class) from_interfaces new_interfaces (P c.super_class) InterfacesHold
+      (carries_cons new small P (notes true c.super_class) (notes true moved.super_class) behind_super new_behind_super
+      (u2 c.super_class) (u2 moved.super_class) from_interfaces new_interfaces (P c.super_class) InterfacesHold
       (carries_notes new small P true c.super_class fits.super_class)
-      (carries_cons new small P (later 2 (each (notes false) c.interfaces)) (later 2 (each (notes false) moved.interfaces)) member_steps new_member_steps (counted_text u2 c.interfaces) (counted_text u2 moved.interfaces) from_fields new_fields (FitsCounted (λ i. i < 2 ^ 16) moved.interfaces) FieldsHold
+      (carries_cons new small P (later 2 (each (notes false) c.interfaces)) (later 2 (each (notes false) moved.interfaces))
+      member_steps new_member_steps (counted_text u2 c.interfaces) (counted_text u2 moved.interfaces) from_fields new_fields
+      (FitsCounted (λ i. i < 2 ^ 16) moved.interfaces) FieldsHold
       carries_interfaces carries_members)))
     where
       member_steps : List Step
-      member_steps = later 2 (each (member_step Field c.pool) c.fields) ∷ later 2 (each (member_step Method c.pool) c.methods) ∷ later 2 (each (attribute_step Class c.pool) c.attributes) ∷ []
+      member_steps = later 2 (each (member_step Field c.pool) c.fields) ∷ later 2 (each (member_step Method c.pool) c.methods)
+          ∷ later 2 (each (attribute_step Class c.pool) c.attributes) ∷ []
 
       new_member_steps : List Step
-      new_member_steps = later 2 (each (member_step Field d) moved.fields) ∷ later 2 (each (member_step Method d) moved.methods) ∷ later 2 (each (attribute_step Class d) moved.attributes) ∷ []
+      new_member_steps = later 2 (each (member_step Field d) moved.fields) ∷ later 2 (each (member_step Method d) moved.methods)
+          ∷ later 2 (each (attribute_step Class d) moved.attributes) ∷ []
 
       behind_super : List Step
       behind_super = later 2 (each (notes false) c.interfaces) ∷ member_steps

@@ -1,5 +1,7 @@
 -- What the text of a class without its other constants reads as.
-use Rattle.std.proofs.Common.{◌≡◌, ℕ, ◌+◌, ◌^◌, ◌<◌, ◌≤◌, ◌⊎◌, inl, inr, Bool, true, false, List, [], ◌∷◌, ◌++◌, length, map, Some, Ok, Err, Contains, get_or, refl, sym, ap, ◌∙◌, subst, arith, length-append}
+use Rattle.std.proofs.Common.{◌≡◌, ℕ, ◌+◌, ◌^◌, ◌<◌, ◌≤◌, ◌⊎◌, inl, inr, Bool, true, false, List, [], ◌∷◌}
+use Rattle.std.proofs.Common.{◌++◌, length, map, Some, Ok, Err, Contains, get_or, refl, sym, ap, ◌∙◌, subst}
+use Rattle.std.proofs.Common.{arith, length-append}
 use Rattle.std.proofs.lemmas.Bool.{and_from}
 use Rattle.std.specs.List.{list_all}
 use Rattle.jm_bytes.proofs.Choice.{same_some}
@@ -30,43 +32,64 @@ use Rattle.jm_compact.proofs.ClassCarried.{before_pool, behind_pool, back-is, ca
 
 -- Numbers of tokens
 
-each_found : (P : ℕ → Type 0) (tokens : List Token) (at : ℕ) → ((f : Found) → Contains (found_from at tokens) f → P f.number) → Each P tokens
+each_found : (P : ℕ → Type 0) (tokens : List Token) (at : ℕ) → ((f : Found) → Contains (found_from at tokens) f → P f.number)
+    → Each P tokens
 each_found P [] at holds = tt
 each_found P (Plain bytes ∷ tokens) at holds = each_found P tokens (at + length bytes) holds
-each_found P (Number true n ∷ tokens) at holds = (holds _ (contains_here _ (found_from (at + 2) tokens)), each_found P tokens (at + 2) (λ f there. holds f (contains_later _ (found_from (at + 2) tokens) f there)))
-each_found P (Number false n ∷ tokens) at holds = (holds _ (contains_here _ (found_from (at + 1) tokens)), each_found P tokens (at + 1) (λ f there. holds f (contains_later _ (found_from (at + 1) tokens) f there)))
+each_found P (Number true n ∷ tokens) at holds = (
+  holds _ (contains_here _ (found_from (at + 2) tokens)),
+  each_found P tokens
+      (at + 2) (λ f there. holds f (contains_later _ (found_from (at + 2) tokens) f there)),
+)
+each_found P (Number false n ∷ tokens) at holds = (
+  holds _ (contains_here _ (found_from (at + 1) tokens)),
+  each_found P tokens
+      (at + 1) (λ f there. holds f (contains_later _ (found_from (at + 1) tokens) f there)),
+)
 
 each_more : (P Q : ℕ → Type 0) → ((n : ℕ) → P n → Q n) → (tokens : List Token) → Each P tokens → Each Q tokens
 each_more P Q more [] each = tt
 each_more P Q more (Plain bytes ∷ tokens) each = each_more P Q more tokens each
 each_more P Q more (Number wide n ∷ tokens) each = (more n.1 each.0, each_more P Q more tokens each.1)
 
-numbers_changed : (new : ℕ → ℕ) (tokens : List Token) (at other : ℕ) → map (λ f. f.number) (found_from other (changed new tokens)) ≡ map new (map (λ f. f.number) (found_from at tokens))
+numbers_changed : (new : ℕ → ℕ) (tokens : List Token) (at other : ℕ) → map (λ f. f.number) (found_from other (changed new tokens))
+    ≡ map new (map (λ f. f.number) (found_from at tokens))
 numbers_changed new [] at other = refl
 numbers_changed new (Plain bytes ∷ tokens) at other = numbers_changed new tokens (at + length bytes) (other + length bytes)
 numbers_changed new (Number true n ∷ tokens) at other = ap (λ t. new n.1 ∷ t) (numbers_changed new tokens (at + 2) (other + 2))
 numbers_changed new (Number false n ∷ tokens) at other = ap (λ t. new n.1 ∷ t) (numbers_changed new tokens (at + 1) (other + 1))
 
 -- a check of each site holds with other numbers, too
-all_changed : (new : ℕ → ℕ) (test : Found → Bool) (tokens : List Token) (at other : ℕ) → ((f : Found) → Contains (found_from at tokens) f → (g : Found) → g.optional ≡ f.optional → g.number ≡ new f.number → test g ≡ true) → list_all test (found_from other (changed new tokens)) ≡ true
+all_changed : (new : ℕ → ℕ) (test : Found → Bool) (tokens : List Token) (at other : ℕ)
+    → ((f : Found) → Contains (found_from at tokens) f → (g : Found) → g.optional ≡ f.optional → g.number ≡ new f.number → test g
+    ≡ true) → list_all test (found_from other (changed new tokens)) ≡ true
 all_changed new test [] at other holds = refl
 all_changed new test (Plain bytes ∷ tokens) at other holds = all_changed new test tokens (at + length bytes) (other + length bytes) holds
-all_changed new test (Number true n ∷ tokens) at other holds = and_from (test (record { place = other; wide = true; optional = n.0; number = new n.1 })) (list_all test (found_from (other + 2) (changed new tokens))) (holds _ (contains_here _ (found_from (at + 2) tokens)) _ refl refl) (all_changed new test tokens (at + 2) (other + 2) (λ f there. holds f (contains_later _ (found_from (at + 2) tokens) f there)))
-all_changed new test (Number false n ∷ tokens) at other holds = and_from (test (record { place = other; wide = false; optional = n.0; number = new n.1 })) (list_all test (found_from (other + 1) (changed new tokens))) (holds _ (contains_here _ (found_from (at + 1) tokens)) _ refl refl) (all_changed new test tokens (at + 1) (other + 1) (λ f there. holds f (contains_later _ (found_from (at + 1) tokens) f there)))
+all_changed new test (Number true n ∷ tokens) at other holds =
+    and_from (test (record { place = other; wide = true; optional = n.0; number = new n.1 }))
+    (list_all test (found_from (other + 2) (changed new tokens))) (holds _ (contains_here _ (found_from (at + 2) tokens)) _ refl
+    refl) (all_changed new test tokens (at + 2) (other + 2) (λ f there. holds f (contains_later _ (found_from (at + 2) tokens) f there)))
+all_changed new test (Number false n ∷ tokens) at other holds =
+    and_from (test (record { place = other; wide = false; optional = n.0; number = new n.1 }))
+    (list_all test (found_from (other + 1) (changed new tokens))) (holds _ (contains_here _ (found_from (at + 1) tokens)) _ refl
+    refl) (all_changed new test tokens (at + 1) (other + 1) (λ f there. holds f (contains_later _ (found_from (at + 1) tokens) f there)))
 
 -- numbers that stay change nothing
-changed_stays : (new again : ℕ → ℕ) (tokens : List Token) → Each (λ n. again (new n) ≡ new n) tokens → changed again (changed new tokens) ≡ changed new tokens
+changed_stays : (new again : ℕ → ℕ) (tokens : List Token) → Each (λ n. again (new n) ≡ new n) tokens
+    → changed again (changed new tokens) ≡ changed new tokens
 changed_stays new again [] each = refl
 changed_stays new again (Plain bytes ∷ tokens) each = ap (λ t. Plain bytes ∷ t) (changed_stays new again tokens each)
 changed_stays new again (Number wide n ∷ tokens) each =
-    ap (λ m. Number wide (n.0, m) ∷ changed again (changed new tokens)) each.0 ∙ ap (λ t. Number wide (n.0, new n.1) ∷ t) (changed_stays new again tokens each.1)
+    ap (λ m. Number wide (n.0, m) ∷ changed again (changed new tokens)) each.0 ∙ ap (λ t. Number wide (n.0, new n.1) ∷ t)
+    (changed_stays new again tokens each.1)
 
 -- what a walk found
 found_walk : (walked : Walked) (found : List Found) → found_by walked ≡ Some found → (w : Walk) × (walked ≡ Ok w) × (w.found ≡ found)
 found_walk (Ok w) found is = (w, refl, same_some w.found found is)
 found_walk (Err fault) found is = cc
 
-module _ (c : ClassData) (fits : IsClass c) (bytes : IsBytes (class_text c)) (sites : List Site) (is_sites : sites_of c ≡ Some sites) (flags : List Bool) (tells : TellsLive c flags) where
+module _ (c : ClassData) (fits : IsClass c) (bytes : IsBytes (class_text c)) (sites : List Site) (is_sites : sites_of c
+    ≡ Some sites) (flags : List Bool) (tells : TellsLive c flags) where
   abbrev pub new : ℕ → ℕ
   new = new_number flags
 
@@ -103,7 +126,8 @@ module _ (c : ClassData) (fits : IsClass c) (bytes : IsBytes (class_text c)) (si
   from_start = class_begins c fits (record { found = []; place = 0 }) ∙ walked.1
 
   abbrev pub Holds : Type 0
-  Holds = Unit {0} × (Good c.this_class × (Good c.super_class × carried.InterfacesHold c fits bytes d new (new_number-small flags) Good good_text))
+  Holds = Unit {0} × (Good c.this_class × (Good c.super_class × carried.InterfacesHold c fits bytes d new (new_number-small flags)
+      Good good_text))
 
   pub got : Carried new (new_number-small flags) Good (steps (passes 2 ∷ new_steps)) (behind_pool c) (behind_pool m) Holds start walked.0
   got = carries_class c fits bytes d new (new_number-small flags) Good good_text start walked.0 from_start
@@ -160,7 +184,8 @@ module _ (c : ClassData) (fits : IsClass c) (bytes : IsBytes (class_text c)) (si
   -- Its sites
 
   walk_again : walk_of m ≡ Ok (passed_over new (new_number-small flags) Good new_tokens (record { found = []; place = pool_end m }))
-  walk_again = sym (class_begins m class_fits (record { found = []; place = 0 })) ∙ got.again good (record { found = []; place = pool_end m })
+  walk_again = sym (class_begins m class_fits (record { found = []; place = 0 }))
+      ∙ got.again good (record { found = []; place = pool_end m })
 
   found_again : found_in m ≡ Some (found_from (pool_end m) new_tokens)
   found_again = found_is m class_fits ∙ ap found_by walk_again
@@ -168,7 +193,8 @@ module _ (c : ClassData) (fits : IsClass c) (bytes : IsBytes (class_text c)) (si
   pub sites_again : sites_of m ≡ Some (sites_from (pool_end m) new_tokens)
   sites_again =
       judged_back m (found_from (pool_end m) new_tokens) found_again
-      (all_changed new (names_constant d) got.tokens (pool_end c) (pool_end m) (site_again c sites flags fits is_sites tells (found_from (pool_end c) got.tokens) found_there))
+      (all_changed new (names_constant d) got.tokens (pool_end c) (pool_end m) (site_again c sites flags fits is_sites tells
+      (found_from (pool_end c) got.tokens) found_there))
       whole.lower
 
   -- What it says
@@ -190,8 +216,10 @@ module _ (c : ClassData) (fits : IsClass c) (bytes : IsBytes (class_text c)) (si
       fits_new : (tokens : List Token) → Fit tokens → Fit (changed new tokens)
       fits_new [] fit = tt
       fits_new (Plain bytes ∷ tokens) fit = fits_new tokens fit
-      fits_new (Number true n ∷ tokens) fit = ((let small = new_number-small flags n.1 in let less = fit.0 in omega (arith, small, less)), fits_new tokens fit.1)
-      fits_new (Number false n ∷ tokens) fit = ((let small = new_number-small flags n.1 in let less = fit.0 in omega (arith, small, less)), fits_new tokens fit.1)
+      fits_new (Number true n ∷ tokens) fit =
+          ((let small = new_number-small flags n.1 in let less = fit.0 in omega (arith, small, less)), fits_new tokens fit.1)
+      fits_new (Number false n ∷ tokens) fit =
+          ((let small = new_number-small flags n.1 in let less = fit.0 in omega (arith, small, less)), fits_new tokens fit.1)
 
   cut_again : cut (sites_from (pool_end m) new_tokens) (pool_end m) (back m) ≡ merged [] new_tokens
   cut_again =
@@ -214,8 +242,13 @@ module _ (c : ClassData) (fits : IsClass c) (bytes : IsBytes (class_text c)) (si
   stands_again : (n : ℕ) → StandsAtSite c n → StandsAtSite m (new n)
   stands_again n (found, is, there) =
       let same : found ≡ found_from (pool_end c) got.tokens = same_some found (found_from (pool_end c) got.tokens) (sym is ∙ found_there) in
-      let here = contains_map new (map (λ f. f.number) (found_from (pool_end c) got.tokens)) n (subst (λ fs. Contains (map (λ f. f.number) fs) n) same there) in
-      (found_from (pool_end m) new_tokens, found_again, subst (λ ns. Contains ns (new n)) (sym (numbers_changed new got.tokens (pool_end c) (pool_end m))) here)
+      let here = contains_map new (map (λ f. f.number) (found_from (pool_end c) got.tokens)) n
+      (subst (λ fs. Contains (map (λ f. f.number) fs) n) same there) in (
+        found_from (pool_end m) new_tokens,
+        found_again,
+        subst (λ ns. Contains ns (new n))
+            (sym (numbers_changed new got.tokens (pool_end c) (pool_end m))) here,
+      )
 
   all_live : (place : ℕ) → place < length d → IsLive m (number_of d place)
   all_live = live_again c sites flags fits is_sites tells m refl stands_again
@@ -247,12 +280,14 @@ module _ (c : ClassData) (fits : IsClass c) (bytes : IsBytes (class_text c)) (si
     pub again_same : compact_with again (sites_from (pool_end m) new_tokens) m ≡ class_text m
     again_same =
         let place : pool_end m ≡ pool_end m + 0 = omega arith in
-        ap (λ p. before_pool c ++ (pool_text p ++ renumbered (new_number again) (sites_from (pool_end m) new_tokens) (pool_end m) (back m))) (whole.again again tells_again.size all_kept)
+        ap (λ p. before_pool c ++ (pool_text p ++ renumbered (new_number again) (sites_from (pool_end m) new_tokens) (pool_end m)
+        (back m))) (whole.again again tells_again.size all_kept)
         ∙ ap (λ t. before_pool c ++ (pool_text d ++ t))
         (ap (λ t. renumbered (new_number again) (sites_from (pool_end m) new_tokens) (pool_end m) t) new_back
         ∙ ap (λ n. renumbered (new_number again) (sites_from n new_tokens) (pool_end m) (token_text new_tokens)) place
         ∙ renumbered_tokens (new_number again) new_tokens (pool_end m) [] fit_again
-        ∙ ap token_text (changed_stays new (new_number again) got.tokens (each_more Good (λ n. new_number again (new n) ≡ new n) stays got.tokens good))
+        ∙ ap token_text (changed_stays new (new_number again) got.tokens (each_more Good (λ n. new_number again (new n) ≡ new n)
+        stays got.tokens good))
         ∙ sym got.new_content)
 
   -- Lengths
@@ -272,4 +307,5 @@ module _ (c : ClassData) (fits : IsClass c) (bytes : IsBytes (class_text c)) (si
   pub sites_in : (end : ℕ) → end ≡ pool_end c + length (back c) → AreIn sites (pool_end c) end
   sites_in end is =
       let size = ap length (back-is c ∙ got.content) in
-      subst (λ s. AreIn s (pool_end c) end) (sym sites_tokens) (tokens_in got.tokens (pool_end c) (pool_end c) end (omega arith) (omega (arith, size, is)))
+      subst (λ s. AreIn s (pool_end c) end) (sym sites_tokens) (tokens_in got.tokens (pool_end c) (pool_end c) end (omega arith)
+      (omega (arith, size, is)))

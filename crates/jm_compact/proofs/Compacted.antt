@@ -1,5 +1,7 @@
 -- The pool of kept slots of a class with sites, from what the flags tell.
-use Rattle.std.proofs.Common.{◌≡◌, ℕ, ◌^◌, ◌<◌, ◌≤◌, ◌⊎◌, inl, inr, Bool, true, false, ◌&&◌, List, [], ◌∷◌, length, map, Some, Contains, is_some, option_and_then, get_or, refl, sym, ap, ◌∙◌, subst, arith}
+use Rattle.std.proofs.Common.{◌≡◌, ℕ, ◌^◌, ◌<◌, ◌≤◌, ◌⊎◌, inl, inr, Bool, true, false, ◌&&◌, List, [], ◌∷◌}
+use Rattle.std.proofs.Common.{length, map, Some, Contains, is_some, option_and_then, get_or, refl, sym, ap}
+use Rattle.std.proofs.Common.{◌∙◌, subst, arith}
 use Rattle.std.proofs.lemmas.Bool.{or_right}
 use Rattle.std.specs.List.{list_all}
 use Rattle.std.specs.Prelude.{nat_eq}
@@ -27,11 +29,14 @@ pub record IsCompacted (old : List SlotData) (flags : List Bool) (new : List Slo
   pub ranks : (i : ℕ) → IsKept old flags i → rank_at new (new_number flags i) ≡ rank_at old i
   pub texts : (i : ℕ) → IsKept old flags i → utf8_at new (new_number flags i) ≡ utf8_at old i
   pub trees : (depth i : ℕ) → (i ≡ 0) ⊎ IsKept old flags i → tree depth new (new_number flags i) ≡ tree depth old i
-  pub leads : (i : ℕ) (between : List ℕ) (j : ℕ) → IsKept old flags i → Leads old i between j → Leads new (new_number flags i) (map (new_number flags) between) (new_number flags j)
+  pub leads : (i : ℕ) (between : List ℕ) (j : ℕ) → IsKept old flags i → Leads old i between j
+      → Leads new (new_number flags i) (map (new_number flags) between) (new_number flags j)
   pub places : (place : ℕ) → place < length new → (i : ℕ) × IsKept old flags i × (number_of new place ≡ new_number flags i)
-  pub again : (flags_again : List Bool) → length flags_again ≡ length new → ((place : ℕ) → place < length flags_again → get_or flags_again place false ≡ true) → compact_pool flags_again new ≡ new
+  pub again : (flags_again : List Bool) → length flags_again ≡ length new → ((place : ℕ) → place < length flags_again
+      → get_or flags_again place false ≡ true) → compact_pool flags_again new ≡ new
 
-pub compacted : (c : ClassData) (sites : List Site) (flags : List Bool) → IsClass c → sites_of c ≡ Some sites → TellsLive c flags → IsCompacted c.pool flags (compact_pool flags c.pool)
+pub compacted : (c : ClassData) (sites : List Site) (flags : List Bool) → IsClass c → sites_of c ≡ Some sites → TellsLive c flags
+    → IsCompacted c.pool flags (compact_pool flags c.pool)
 compacted c sites flags fits is_sites tells =
     let lower = (judged_parts c sites is_sites).lower in
     let follow = holes_follow c sites flags is_sites tells fits.pool in
@@ -52,9 +57,11 @@ compacted c sites flags fits is_sites tells =
 
 -- Sites and live constants of a class with this pool
 
-module _ (c : ClassData) (sites : List Site) (flags : List Bool) (fits : IsClass c) (is_sites : sites_of c ≡ Some sites) (tells : TellsLive c flags) where
+module _ (c : ClassData) (sites : List Site) (flags : List Bool) (fits : IsClass c) (is_sites : sites_of c ≡ Some sites)
+    (tells : TellsLive c flags) where
   -- a site with the new number passes its check
-  pub site_again : (found : List Found) → found_in c ≡ Some found → (f : Found) → Contains found f → (g : Found) → g.optional ≡ f.optional → g.number ≡ new_number flags f.number → names_constant (compact_pool flags c.pool) g ≡ true
+  pub site_again : (found : List Found) → found_in c ≡ Some found → (f : Found) → Contains found f → (g : Found) → g.optional
+      ≡ f.optional → g.number ≡ new_number flags f.number → names_constant (compact_pool flags c.pool) g ≡ true
   site_again found is f there g optional number = go (site_kept c sites flags is_sites tells found is f there)
     where
       checked : names_constant c.pool f ≡ true
@@ -71,11 +78,14 @@ module _ (c : ClassData) (sites : List Site) (flags : List Bool) (fits : IsClass
       go : (f.number ≡ 0) ⊎ IsKept c.pool flags f.number → names_constant (compact_pool flags c.pool) g ≡ true
       go (inl none) = of_none none ∙ checked
       go (inr kept_f) =
-          let ranked : is_some (rank_at (compact_pool flags c.pool) g.number) ≡ true = ap (λ n. is_some (rank_at (compact_pool flags c.pool) n)) number ∙ ap is_some (kept_rank c.pool flags f.number kept_f) ∙ ap (λ o. is_some (option_and_then rank_of o)) kept_f.is in
+          let ranked : is_some (rank_at (compact_pool flags c.pool) g.number) ≡ true =
+          ap (λ n. is_some (rank_at (compact_pool flags c.pool) n)) number
+          ∙ ap is_some (kept_rank c.pool flags f.number kept_f) ∙ ap (λ o. is_some (option_and_then rank_of o)) kept_f.is in
           or_right (g.optional && nat_eq g.number 0) (is_some (rank_at (compact_pool flags c.pool) g.number)) ranked
 
   -- who leads to a constant is kept, if it is live
-  pub start_kept : (start : ℕ) (between : List ℕ) (i : ℕ) → StandsAtSite c start → IsKept c.pool flags i → Leads c.pool start between i → IsKept c.pool flags start
+  pub start_kept : (start : ℕ) (between : List ℕ) (i : ℕ) → StandsAtSite c start → IsKept c.pool flags i
+      → Leads c.pool start between i → IsKept c.pool flags start
   start_kept start between i stands kept_i leads = go (live_kept c sites flags is_sites tells start (start, [], stands, refl)) between leads
     where
       named : (start ≡ 0) → (between : List ℕ) → Leads c.pool start between i → ⊥
@@ -93,7 +103,8 @@ module _ (c : ClassData) (sites : List Site) (flags : List Bool) (fits : IsClass
       go (inr kept_start) between leads = kept_start
 
   -- a class with this pool, at whose sites the new numbers stand: each constant is live
-  pub live_again : (other : ClassData) → other.pool ≡ compact_pool flags c.pool → ((n : ℕ) → StandsAtSite c n → StandsAtSite other (new_number flags n)) → (place : ℕ) → place < length other.pool → IsLive other (number_of other.pool place)
+  pub live_again : (other : ClassData) → other.pool ≡ compact_pool flags c.pool → ((n : ℕ) → StandsAtSite c n
+      → StandsAtSite other (new_number flags n)) → (place : ℕ) → place < length other.pool → IsLive other (number_of other.pool place)
   live_again other same stands place below = go (kept_live c sites flags is_sites tells kept_place_is.0 kept_place_is.1)
     where
       whole : IsCompacted c.pool flags other.pool
@@ -105,4 +116,9 @@ module _ (c : ClassData) (sites : List Site) (flags : List Bool) (fits : IsClass
       go : IsLive c kept_place_is.0 → IsLive other (number_of other.pool place)
       go (start, between, there, leads) =
           let kept_start = start_kept start between kept_place_is.0 there kept_place_is.1 leads in
-          subst (IsLive other) (sym kept_place_is.2) (new_number flags start, map (new_number flags) between, stands start there, whole.leads start between kept_place_is.0 kept_start leads)
+          subst (IsLive other) (sym kept_place_is.2) (
+            new_number flags start,
+            map (new_number flags) between,
+            stands start there,
+            whole.leads start between kept_place_is.0 kept_start leads,
+          )

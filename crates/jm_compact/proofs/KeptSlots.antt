@@ -1,5 +1,7 @@
 -- The slots that are kept, and the pool that they make.
-use Rattle.std.proofs.Common.{◌≡◌, ℕ, zero, suc, ◌+◌, ◌-◌, ◌<◌, ◌≤◌, Bool, true, false, cond, ◌&&◌, List, [], ◌∷◌, get_or, length, map, Some, None, option_map, option_and_then, slice_get, refl, sym, ap, ◌∙◌, subst₂, arith}
+use Rattle.std.proofs.Common.{◌≡◌, ℕ, zero, suc, ◌+◌, ◌-◌, ◌<◌, ◌≤◌, Bool, true, false, cond, ◌&&◌, List, []}
+use Rattle.std.proofs.Common.{◌∷◌, get_or, length, map, Some, None, option_map, option_and_then, slice_get}
+use Rattle.std.proofs.Common.{refl, sym, ap, ◌∙◌, subst₂, arith}
 use Rattle.std.proofs.lemmas.Bool.{eqb-true, eqb-false, ne_eqb}
 use Rattle.std.proofs.lemmas.List.{length-map}
 use Rattle.std.proofs.lemmas.Option.{slice_get-get_or, slice_get-map, slice_get_within}
@@ -22,7 +24,8 @@ pub record IsKept (pool : List SlotData) (flags : List Bool) (i : ℕ) : Type 0 
   pub up : slice_index_or flags (i - 1) false ≡ true
 
 -- a number above 0 is that of a slot
-pub slot_of_number : (pool : List SlotData) (i : ℕ) (slot : SlotData) → slot_at pool i ≡ Some slot → (0 < i) × (slice_get pool (i - 1) ≡ Some slot)
+pub slot_of_number : (pool : List SlotData) (i : ℕ) (slot : SlotData) → slot_at pool i ≡ Some slot → (0 < i)
+    × (slice_get pool (i - 1) ≡ Some slot)
 slot_of_number pool i slot is = go (nat_eq i 0) refl is
   where
     go : (b : Bool) → nat_eq i 0 ≡ b → cond b None (slice_get pool (i - 1)) ≡ Some slot → (0 < i) × (slice_get pool (i - 1) ≡ Some slot)
@@ -57,7 +60,8 @@ HolesFollow before (Constant tag body ∷ pool) (flag ∷ flags) = HolesFollow f
 
 -- Items that are kept
 
-pub kept_there : {A : Type 0} (flags : List Bool) (items : List A) (place : ℕ) (item : A) → slice_get items place ≡ Some item → get_or flags place false ≡ true → slice_get (kept flags items) (kept_before flags place) ≡ Some item
+pub kept_there : {A : Type 0} (flags : List Bool) (items : List A) (place : ℕ) (item : A) → slice_get items place ≡ Some item
+    → get_or flags place false ≡ true → slice_get (kept flags items) (kept_before flags place) ≡ Some item
 kept_there [] items place item is up = cc
 kept_there (flag ∷ flags) [] place item is up = cc
 kept_there (true ∷ flags) (x ∷ items) zero item is up = is
@@ -72,7 +76,8 @@ pub record KeptFrom {A : Type 0} (flags : List Bool) (items : List A) (place : �
   pub up : get_or flags from false ≡ true
   pub before : kept_before flags from ≡ place
 
-pub kept_from : {A : Type 0} (flags : List Bool) (items : List A) (place : ℕ) (item : A) → slice_get (kept flags items) place ≡ Some item → KeptFrom flags items place item
+pub kept_from : {A : Type 0} (flags : List Bool) (items : List A) (place : ℕ) (item : A) → slice_get (kept flags items) place
+    ≡ Some item → KeptFrom flags items place item
 kept_from [] items place item is = cc
 kept_from (flag ∷ flags) [] place item is = cc
 kept_from (true ∷ flags) (x ∷ items) zero item is = record { from = 0; is = is; up = refl; before = refl }
@@ -90,11 +95,13 @@ length-kept (true ∷ flags) (x ∷ items) = let rest = length-kept flags items 
 length-kept (false ∷ flags) (x ∷ items) = let rest = length-kept flags items in omega (arith, rest)
 
 -- all are kept
-pub kept_all : {A : Type 0} (flags : List Bool) (items : List A) → length flags ≡ length items → ((place : ℕ) → place < length flags → get_or flags place false ≡ true) → kept flags items ≡ items
+pub kept_all : {A : Type 0} (flags : List Bool) (items : List A) → length flags ≡ length items → ((place : ℕ) → place < length flags
+    → get_or flags place false ≡ true) → kept flags items ≡ items
 kept_all [] [] size all = refl
 kept_all [] (x ∷ items) size all = absurd (omega (arith, size))
 kept_all (flag ∷ flags) [] size all = absurd (omega (arith, size))
-kept_all (true ∷ flags) (x ∷ items) size all = ap (λ t. x ∷ t) (kept_all flags items (omega (arith, size)) (λ place below. all (suc place) (omega (arith, below))))
+kept_all (true ∷ flags) (x ∷ items) size all = ap (λ t. x ∷ t) (kept_all flags items (omega (arith, size))
+    (λ place below. all (suc place) (omega (arith, below))))
 kept_all (false ∷ flags) (x ∷ items) size all = let first : ◌≡◌ {A = Bool} false true = all 0 (omega arith) in cc
 
 -- The pool of kept slots
@@ -106,7 +113,8 @@ length-compact flags pool =
     omega (arith, same, less)
 
 -- it is a pool, whatever the new numbers are
-pub pool_kept : (new : ℕ → ℕ) (due before : Bool) (flags : List Bool) (pool : List SlotData) → IsPoolFrom due pool → HolesFollow before pool flags → IsPoolFrom (before && due) (map (renamed new) (kept flags pool))
+pub pool_kept : (new : ℕ → ℕ) (due before : Bool) (flags : List Bool) (pool : List SlotData) → IsPoolFrom due pool
+    → HolesFollow before pool flags → IsPoolFrom (before && due) (map (renamed new) (kept flags pool))
 pool_kept new due true [] [] is follow = is
 pool_kept new due false [] [] is follow = refl
 pool_kept new due true (flag ∷ flags) [] is follow = is
@@ -118,16 +126,20 @@ pool_kept new true true (true ∷ flags) (Hole ∷ pool) is follow = pool_kept n
 pool_kept new true true (false ∷ flags) (Hole ∷ pool) is follow = let e = follow.0 in cc
 pool_kept new true false (true ∷ flags) (Hole ∷ pool) is follow = let e = follow.0 in cc
 pool_kept new true false (false ∷ flags) (Hole ∷ pool) is follow = pool_kept new false false flags pool is follow.1
-pool_kept new false true (true ∷ flags) (Constant tag body ∷ pool) is follow = (fits_renumbered new tag body is.0, pool_kept new (is_wide tag) true flags pool is.1 follow)
-pool_kept new false false (true ∷ flags) (Constant tag body ∷ pool) is follow = (fits_renumbered new tag body is.0, pool_kept new (is_wide tag) true flags pool is.1 follow)
+pool_kept new false true (true ∷ flags) (Constant tag body ∷ pool) is follow =
+    (fits_renumbered new tag body is.0, pool_kept new (is_wide tag) true flags pool is.1 follow)
+pool_kept new false false (true ∷ flags) (Constant tag body ∷ pool) is follow =
+    (fits_renumbered new tag body is.0, pool_kept new (is_wide tag) true flags pool is.1 follow)
 pool_kept new false true (false ∷ flags) (Constant tag body ∷ pool) is follow = pool_kept new (is_wide tag) false flags pool is.1 follow
 pool_kept new false false (false ∷ flags) (Constant tag body ∷ pool) is follow = pool_kept new (is_wide tag) false flags pool is.1 follow
 
-pub kept_pool : (flags : List Bool) (pool : List SlotData) → IsPoolFrom false pool → HolesFollow false pool flags → IsPoolFrom false (compact_pool flags pool)
+pub kept_pool : (flags : List Bool) (pool : List SlotData) → IsPoolFrom false pool → HolesFollow false pool flags
+    → IsPoolFrom false (compact_pool flags pool)
 kept_pool flags pool is follow = pool_kept (new_number flags) false false flags pool is follow
 
 -- each constant of a pool fits its tag
-pub fits_at : (due : Bool) (pool : List SlotData) → IsPoolFrom due pool → (place tag : ℕ) (body : List ℕ) → slice_get pool place ≡ Some (Constant tag body) → FitsTag tag body
+pub fits_at : (due : Bool) (pool : List SlotData) → IsPoolFrom due pool → (place tag : ℕ) (body : List ℕ) → slice_get pool place
+    ≡ Some (Constant tag body) → FitsTag tag body
 fits_at due [] is place tag body there = cc
 fits_at true (Constant t b ∷ pool) is place tag body there = absurd is
 fits_at false (Hole ∷ pool) is place tag body there = absurd is
@@ -140,7 +152,8 @@ fits_at false (Constant t b ∷ pool) is zero tag body there =
 fits_at false (Constant t b ∷ pool) is (suc place) tag body there = fits_at (is_wide t) pool is.1 place tag body there
 
 -- a constant stands before a hole
-pub before_hole : (due : Bool) (pool : List SlotData) → IsPoolFrom due pool → (place : ℕ) → slice_get pool (suc place) ≡ Some Hole → (tag : ℕ) × (body : List ℕ) × (slice_get pool place ≡ Some (Constant tag body))
+pub before_hole : (due : Bool) (pool : List SlotData) → IsPoolFrom due pool → (place : ℕ) → slice_get pool (suc place) ≡ Some Hole
+    → (tag : ℕ) × (body : List ℕ) × (slice_get pool place ≡ Some (Constant tag body))
 before_hole due [] is place there = cc
 before_hole true (Constant t b ∷ pool) is place there = absurd is
 before_hole false (Hole ∷ pool) is place there = absurd is
@@ -152,7 +165,8 @@ before_hole true (Hole ∷ Constant t b ∷ pool) is zero there = cc
 before_hole true (Hole ∷ pool) is (suc place) there = before_hole false pool is place there
 
 -- the flag of a hole
-pub hole_flag : (before : Bool) (pool : List SlotData) (flags : List Bool) → HolesFollow before pool flags → (place : ℕ) → slice_get pool place ≡ Some Hole → get_or flags place false ≡ get_or (before ∷ flags) place false
+pub hole_flag : (before : Bool) (pool : List SlotData) (flags : List Bool) → HolesFollow before pool flags → (place : ℕ)
+    → slice_get pool place ≡ Some Hole → get_or flags place false ≡ get_or (before ∷ flags) place false
 hole_flag before [] flags follow place there = cc
 hole_flag before (slot ∷ pool) [] follow place there = absurd follow
 hole_flag before (Hole ∷ pool) (flag ∷ flags) follow zero there = follow.0
@@ -160,16 +174,24 @@ hole_flag before (Constant tag body ∷ pool) (flag ∷ flags) follow zero there
 hole_flag before (Hole ∷ pool) (flag ∷ flags) follow (suc place) there = hole_flag flag pool flags follow.1 place there
 hole_flag before (Constant tag body ∷ pool) (flag ∷ flags) follow (suc place) there = hole_flag flag pool flags follow place there
 
-pub flags_follow : (before : Bool) (pool : List SlotData) (flags : List Bool) → length flags ≡ length pool → ((place : ℕ) → slice_get pool place ≡ Some Hole → get_or flags place false ≡ get_or (before ∷ flags) place false) → HolesFollow before pool flags
+pub flags_follow : (before : Bool) (pool : List SlotData) (flags : List Bool) → length flags ≡ length pool
+    → ((place : ℕ) → slice_get pool place ≡ Some Hole → get_or flags place false ≡ get_or (before ∷ flags) place false)
+    → HolesFollow before pool flags
 flags_follow before [] flags size each = tt
 flags_follow before (slot ∷ pool) [] size each = absurd (omega (arith, size))
-flags_follow before (Hole ∷ pool) (flag ∷ flags) size each = (each 0 refl, flags_follow flag pool flags (omega (arith, size)) (λ place there. each (suc place) there))
-flags_follow before (Constant tag body ∷ pool) (flag ∷ flags) size each = flags_follow flag pool flags (omega (arith, size)) (λ place there. each (suc place) there)
+flags_follow before (Hole ∷ pool) (flag ∷ flags) size each = (
+  each 0 refl,
+  flags_follow flag pool flags (omega (arith, size))
+      (λ place there. each (suc place) there),
+)
+flags_follow before (Constant tag body ∷ pool) (flag ∷ flags) size each = flags_follow flag pool flags (omega (arith, size))
+    (λ place there. each (suc place) there)
 
 -- Constants in it
 
 module _ (pool : List SlotData) (flags : List Bool) where
-  pub kept_slot : (i : ℕ) (kept_i : IsKept pool flags i) → slot_at (compact_pool flags pool) (new_number flags i) ≡ Some (renamed (new_number flags) (Constant kept_i.tag kept_i.body))
+  pub kept_slot : (i : ℕ) (kept_i : IsKept pool flags i) → slot_at (compact_pool flags pool) (new_number flags i)
+      ≡ Some (renamed (new_number flags) (Constant kept_i.tag kept_i.body))
   kept_slot i kept_i =
       let there = slot_of_number pool i (Constant kept_i.tag kept_i.body) kept_i.is in
       let number : new_number flags i ≡ kept_before flags (i - 1) + 1 = (let one = new_number-some flags i there.0 in omega (arith, one)) in
@@ -187,27 +209,35 @@ module _ (pool : List SlotData) (flags : List Bool) where
       ∙ go (nat_eq kept_i.tag 1) refl
       ∙ sym (ap (option_and_then utf8_of) kept_i.is)
     where
-      go : (b : Bool) → nat_eq kept_i.tag 1 ≡ b → utf8_of (renamed (new_number flags) (Constant kept_i.tag kept_i.body)) ≡ utf8_of (Constant kept_i.tag kept_i.body)
+      go : (b : Bool) → nat_eq kept_i.tag 1 ≡ b → utf8_of (renamed (new_number flags) (Constant kept_i.tag kept_i.body))
+          ≡ utf8_of (Constant kept_i.tag kept_i.body)
       go true e =
           let same = eqb-true kept_i.tag 1 e in
-          ap (λ t. utf8_of (renamed (new_number flags) (Constant t kept_i.body))) same ∙ ap utf8_of (renamed_utf8 (new_number flags) kept_i.body) ∙ sym (ap (λ t. utf8_of (Constant t kept_i.body)) same)
+          ap (λ t. utf8_of (renamed (new_number flags) (Constant t kept_i.body))) same
+          ∙ ap utf8_of (renamed_utf8 (new_number flags) kept_i.body) ∙ sym (ap (λ t. utf8_of (Constant t kept_i.body)) same)
       go false e = rw e refl
 
   -- the constant of a place
-  abbrev pub kept_here : (place tag : ℕ) (body : List ℕ) → slice_get pool place ≡ Some (Constant tag body) → get_or flags place false ≡ true → IsKept pool flags (place + 1)
+  abbrev pub kept_here : (place tag : ℕ) (body : List ℕ) → slice_get pool place ≡ Some (Constant tag body)
+      → get_or flags place false ≡ true → IsKept pool flags (place + 1)
   kept_here place tag body is up =
       let back : (place + 1) - 1 ≡ place = omega arith in
       record { tag = tag; body = body; is = slot_at-place pool place ∙ is; up = ap (λ p. slice_index_or flags p false) back ∙ up }
 
   -- each slot of the new pool is that of a kept constant, or the hole behind one
-  pub kept_place : IsPoolFrom false pool → HolesFollow false pool flags → (place : ℕ) → place < length (compact_pool flags pool) → (i : ℕ) × IsKept pool flags i × (number_of (compact_pool flags pool) place ≡ new_number flags i)
-  kept_place is follow place below = go (get_or (kept flags pool) place Hole) (slice_get-get_or (kept flags pool) place Hole (let same = length-map (kept flags pool) (renamed (new_number flags)) in omega (arith, below, same)))
+  pub kept_place : IsPoolFrom false pool → HolesFollow false pool flags → (place : ℕ) → place < length (compact_pool flags pool)
+      → (i : ℕ) × IsKept pool flags i × (number_of (compact_pool flags pool) place ≡ new_number flags i)
+  kept_place is follow place below = go (get_or (kept flags pool) place Hole) (slice_get-get_or (kept flags pool) place Hole
+      (let same = length-map (kept flags pool) (renamed (new_number flags)) in omega (arith, below, same)))
     where
       -- the slot in the new pool
-      slot_there : (slot : SlotData) → slice_get (kept flags pool) place ≡ Some slot → slice_get (compact_pool flags pool) place ≡ Some (renamed (new_number flags) slot)
-      slot_there slot there = slice_get-map (renamed (new_number flags)) (kept flags pool) place ∙ ap (option_map (renamed (new_number flags))) there
+      slot_there : (slot : SlotData) → slice_get (kept flags pool) place ≡ Some slot → slice_get (compact_pool flags pool) place
+          ≡ Some (renamed (new_number flags) slot)
+      slot_there slot there = slice_get-map (renamed (new_number flags)) (kept flags pool) place
+          ∙ ap (option_map (renamed (new_number flags))) there
 
-      of_hole : slice_get (kept flags pool) place ≡ Some Hole → (n : ℕ) → slice_get pool n ≡ Some Hole → get_or flags n false ≡ true → kept_before flags n ≡ place → (i : ℕ) × IsKept pool flags i × (number_of (compact_pool flags pool) place ≡ new_number flags i)
+      of_hole : slice_get (kept flags pool) place ≡ Some Hole → (n : ℕ) → slice_get pool n ≡ Some Hole → get_or flags n false ≡ true
+          → kept_before flags n ≡ place → (i : ℕ) × IsKept pool flags i × (number_of (compact_pool flags pool) place ≡ new_number flags i)
       of_hole there zero is_hole up before = absurd (no_hole pool is is_hole)
       of_hole there (suc n) is_hole up before =
           let one = before_hole false pool is n is_hole in
@@ -217,7 +247,8 @@ module _ (pool : List SlotData) (flags : List Bool) where
           let more = kept_before-more flags n up_before in
           (n + 1, kept_here n one.0 one.1 one.2 up_before, omega (arith, number, new, more, before))
 
-      go : (slot : SlotData) → slice_get (kept flags pool) place ≡ Some slot → (i : ℕ) × IsKept pool flags i × (number_of (compact_pool flags pool) place ≡ new_number flags i)
+      go : (slot : SlotData) → slice_get (kept flags pool) place ≡ Some slot → (i : ℕ) × IsKept pool flags i
+          × (number_of (compact_pool flags pool) place ≡ new_number flags i)
       go (Constant tag body) there =
           let from = kept_from flags pool place (Constant tag body) there in
           let number = ap (λ o. first_number o place) (slot_there (Constant tag body) there) in

@@ -1,6 +1,8 @@
 -- Readings that see nothing but the bytes that they take: over the same bytes they give the same from
 -- any start, whatever stands behind.
-use Rattle.std.proofs.Common.{◌≡◌, ℕ, ◌+◌, ◌-◌, ◌*◌, ◌%◌, ◌^◌, ◌⊎◌, inl, inr, Bool, true, false, List, [], ◌++◌, length, take, drop, cond, Ok, Err, refl, sym, ap, ◌∙◌, arith, append_assoc, length-append}
+use Rattle.std.proofs.Common.{◌≡◌, ℕ, ◌+◌, ◌-◌, ◌*◌, ◌%◌, ◌^◌, ◌⊎◌, inl, inr, Bool, true, false, List, []}
+use Rattle.std.proofs.Common.{◌++◌, length, take, drop, cond, Ok, Err, refl, sym, ap, ◌∙◌, arith}
+use Rattle.std.proofs.Common.{append_assoc, length-append}
 use Rattle.std.proofs.lemmas.Bool.{leb-true}
 use Rattle.std.proofs.lemmas.List.{take-append-drop, length-take-le}
 use Rattle.std.specs.Int.{Width, w32, byte_len, from_be_bytes}
@@ -18,10 +20,12 @@ pub record TookLocal {A : Type 0} (reading : ℕ → Reading NoForm A) (start n 
   pub rest : List ℕ
   pub bytes : all ≡ taken ++ rest
   pub left : next ≡ record { place = start + (n + length taken); bytes = rest }
-  pub again : (other : ℕ) (more : List ℕ) → reading other (record { place = other + n; bytes = taken ++ more }) ≡ Ok (a, record { place = other + (n + length taken); bytes = more })
+  pub again : (other : ℕ) (more : List ℕ) → reading other (record { place = other + n; bytes = taken ++ more })
+      ≡ Ok (a, record { place = other + (n + length taken); bytes = more })
 
 abbrev pub IsLocal : {A : Type 0} → (ℕ → Reading NoForm A) → Type 0
-IsLocal {A} reading = (start n : ℕ) (all : List ℕ) (a : A) (next : Left) → reading start (record { place = start + n; bytes = all }) ≡ Ok (a, next) → TookLocal reading start n all a next
+IsLocal {A} reading = (start n : ℕ) (all : List ℕ) (a : A) (next : Left) → reading start (record { place = start + n; bytes = all })
+    ≡ Ok (a, next) → TookLocal reading start n all a next
 
 pub value_local : {A : Type 0} (a : A) → IsLocal (λ _. value a)
 value_local a start n all b next e =
@@ -36,12 +40,15 @@ value_local a start n all b next e =
     }
 
 pub part_local : (k : ℕ) → IsLocal (λ _. part unfit k)
-part_local k start n all a next e = go (chosen (nat_le k (length all)) (Ok (take k all, behind k (record { place = start + n; bytes = all }))) (Err tt) (Ok (a, next)) e)
+part_local k start n all a next e =
+    go (chosen (nat_le k (length all)) (Ok (take k all, behind k (record { place = start + n; bytes = all }))) (Err tt) (Ok (a, next)) e)
   where
     here : Left
     here = record { place = start + n; bytes = all }
 
-    go : ((nat_le k (length all) ≡ true) × ◌≡◌ {A = Outcome NoForm (List ℕ)} (Ok (take k all, behind k here)) (Ok (a, next))) ⊎ ((nat_le k (length all) ≡ false) × ◌≡◌ {A = Outcome NoForm (List ℕ)} (Err tt) (Ok (a, next))) → TookLocal (λ _. part unfit k) start n all a next
+    go : ((nat_le k (length all) ≡ true) × ◌≡◌ {A = Outcome NoForm (List ℕ)} (Ok (take k all, behind k here)) (Ok (a, next)))
+        ⊎ ((nat_le k (length all) ≡ false) × ◌≡◌ {A = Outcome NoForm (List ℕ)} (Err tt) (Ok (a, next)))
+        → TookLocal (λ _. part unfit k) start n all a next
     go (inr fails) = let e = fails.1 in cc
     go (inl holds) =
         let same : take k all ≡ a = same_value {F = NoForm} (take k all) a (behind k here) next holds.1 in
@@ -58,16 +65,19 @@ part_local k start n all a next e = go (chosen (nat_le k (length all)) (Ok (take
               rw place (front ∙ rw same refl);
         }
 
-pub and_then_local : {A B : Type 0} (reading : Reading NoForm A) (following : A → Reading NoForm B) → IsLocal (λ _. reading) → ((a : A) → IsLocal (λ _. following a)) → IsLocal (λ _. and_then reading following)
+pub and_then_local : {A B : Type 0} (reading : Reading NoForm A) (following : A → Reading NoForm B) → IsLocal (λ _. reading)
+    → ((a : A) → IsLocal (λ _. following a)) → IsLocal (λ _. and_then reading following)
 and_then_local {A} {B} reading following first second start n all b next e = go (passed (reading here) following b next e)
   where
     here : Left
     here = record { place = start + n; bytes = all }
 
-    both : (a : A) (middle : Left) (one : TookLocal (λ _. reading) start n all a middle) → TookLocal (λ _. following a) start (n + length one.taken) one.rest b next → TookLocal (λ _. and_then reading following) start n all b next
+    both : (a : A) (middle : Left) (one : TookLocal (λ _. reading) start n all a middle) → TookLocal (λ _. following a) start
+        (n + length one.taken) one.rest b next → TookLocal (λ _. and_then reading following) start n all b next
     both a middle one two =
         let size = length-append one.taken two.taken in
-        let place : (begin : ℕ) → begin + ((n + length one.taken) + length two.taken) ≡ begin + (n + length (one.taken ++ two.taken)) = λ begin. omega (arith, size) in
+        let place : (begin : ℕ) → begin + ((n + length one.taken) + length two.taken)
+        ≡ begin + (n + length (one.taken ++ two.taken)) = λ begin. omega (arith, size) in
         record {
           taken = one.taken ++ two.taken;
           rest = two.rest;
@@ -87,7 +97,8 @@ and_then_local {A} {B} reading following first second start n all b next e = go 
         both got.first got.middle one two
 
 pub number_local : (w : Width) → IsLocal (λ _. number unfit w)
-number_local w = and_then_local (part unfit (byte_len w)) (λ bytes. value (from_be_bytes w bytes)) (part_local (byte_len w)) (λ bytes. value_local (from_be_bytes w bytes))
+number_local w = and_then_local (part unfit (byte_len w)) (λ bytes. value (from_be_bytes w bytes)) (part_local (byte_len w))
+    (λ bytes. value_local (from_be_bytes w bytes))
 
 -- Switches
 
@@ -103,15 +114,19 @@ filling_local start n all a next e =
       again = λ other more. same other (took.taken ++ more) ∙ took.again other more;
     }
   where
-    same : (begin : ℕ) (bytes : List ℕ) → filling begin (record { place = begin + n; bytes = bytes }) ≡ part unfit ((4 - n % 4) % 4) (record { place = begin + n; bytes = bytes })
-    same begin bytes = let steps : (begin + n) - begin ≡ n = omega arith in ap (λ m. part unfit ((4 - m % 4) % 4) (record { place = begin + n; bytes = bytes })) steps
+    same : (begin : ℕ) (bytes : List ℕ) → filling begin (record { place = begin + n; bytes = bytes })
+        ≡ part unfit ((4 - n % 4) % 4) (record { place = begin + n; bytes = bytes })
+    same begin bytes =
+        let steps : (begin + n) - begin ≡ n = omega arith in
+        ap (λ m. part unfit ((4 - m % 4) % 4) (record { place = begin + n; bytes = bytes })) steps
 
 part_if_local : (test : Bool) (k : ℕ) → IsLocal (λ _ left. cond test (part unfit k left) (Err tt))
 part_if_local true k start n all a next e = part_local k start n all a next e
 part_if_local false k start n all a next e = cc
 
 pub table_local : IsLocal (λ _. table_cases)
-table_local = and_then_local (number unfit w32) _ (number_local w32) (λ low. and_then_local (number unfit w32) _ (number_local w32) (λ high. part_if_local (nat_le (from_least low) (from_least high)) (4 * (from_least high - from_least low + 1))))
+table_local = and_then_local (number unfit w32) _ (number_local w32) (λ low. and_then_local (number unfit w32) _ (number_local w32)
+    (λ high. part_if_local (nat_le (from_least low) (from_least high)) (4 * (from_least high - from_least low + 1))))
 
 pub lookup_local : IsLocal (λ _. lookup_cases)
 lookup_local = and_then_local (number unfit w32) _ (number_local w32) (λ count. part_if_local (nat_lt count (2 ^ 31)) (8 * count))

@@ -1,5 +1,8 @@
 -- What a class with sites names: constants, each of a lower rank.
-use Rattle.std.proofs.Common.{◌≡◌, ℕ, zero, suc, ◌+◌, ◌-◌, ◌^◌, ◌<◌, ◌≤◌, ◌⊎◌, inl, inr, Bool, true, false, cond, ◌&&◌, ◌||◌, List, [], ◌∷◌, ◌++◌, get_or, length, map, Option, Some, None, Contains, is_some, option_and_then, slice_get, refl, sym, ap, ap₂, ◌∙◌, subst, arith}
+use Rattle.std.proofs.Common.{◌≡◌, ℕ, zero, suc, ◌+◌, ◌-◌, ◌^◌, ◌<◌, ◌≤◌, ◌⊎◌, inl, inr, Bool, true, false}
+use Rattle.std.proofs.Common.{cond, ◌&&◌, ◌||◌, List, [], ◌∷◌, ◌++◌, get_or, length, map, Option, Some, None}
+use Rattle.std.proofs.Common.{Contains, is_some, option_and_then, slice_get, refl, sym, ap, ap₂, ◌∙◌, subst}
+use Rattle.std.proofs.Common.{arith}
 use Rattle.std.proofs.lemmas.Bool.{eqb-true}
 use Rattle.std.proofs.lemmas.Option.{slice_get_within}
 use Rattle.std.specs.Bool.{one_answer}
@@ -11,7 +14,8 @@ use Rattle.jm_class.specs.Classes.{SlotData, Constant, Hole, ClassData, IsPoolFr
 use Rattle.jm_poolmap.specs.declared.site.Found.{Found}
 use Rattle.jm_poolmap.specs.declared.site.Site.{Site}
 use Rattle.jm_poolmap.specs.Live.{Leads, IsLive, first_number, number_of, TellsLive}
-use Rattle.jm_poolmap.specs.Sites.{rank, named_by, rank_of, rank_at, is_some_below, names_lower, names_constant, judged, site_of, found_in, sites_of}
+use Rattle.jm_poolmap.specs.Sites.{rank, named_by, rank_of, rank_at, is_some_below, names_lower}
+use Rattle.jm_poolmap.specs.Sites.{names_constant, judged, site_of, found_in, sites_of}
 use Rattle.jm_poolmap.proofs.ComputedLiveLaws.{leads_on, all_at, below_found, no_hole}
 use Rattle.jm_compact.proofs.KeptSlots.{IsKept, HolesFollow, slot_of_number, number_within, before_hole, flags_follow}
 use Rattle.jm_compact.proofs.NewNumbers.{place_of}
@@ -25,14 +29,16 @@ all_from test (x ∷ xs) each = rw (each x (contains_here x xs)) (all_from test 
 
 pub slot_contained : {A : Type 0} (items : List A) (place : ℕ) (item : A) → slice_get items place ≡ Some item → Contains items item
 slot_contained [] place item is = cc
-slot_contained (first ∷ items) zero item is = let same : first ≡ item = cc in subst (Contains (first ∷ items)) same (contains_here first items)
+slot_contained (first ∷ items) zero item is =
+    let same : first ≡ item = cc in subst (Contains (first ∷ items)) same (contains_here first items)
 slot_contained (first ∷ items) (suc place) item is = contains_later first items item (slot_contained items place item is)
 
 pub contained_slot : {A : Type 0} (items : List A) (item : A) → Contains items item → (place : ℕ) × (slice_get items place ≡ Some item)
 contained_slot [] item there = absurd (contains_none item there)
 contained_slot (first ∷ items) item there = go (contains_cases first items item there) (λ later. contained_slot items item later)
   where
-    go : (first ≡ item) ⊎ Contains items item → (Contains items item → (place : ℕ) × (slice_get items place ≡ Some item)) → (place : ℕ) × (slice_get (first ∷ items) place ≡ Some item)
+    go : (first ≡ item) ⊎ Contains items item → (Contains items item → (place : ℕ) × (slice_get items place ≡ Some item))
+        → (place : ℕ) × (slice_get (first ∷ items) place ≡ Some item)
     go (inl same) rest = (0, ap (λ x. Some x) same)
     go (inr later) rest = let found = rest later in (suc found.0, found.1)
 
@@ -49,8 +55,16 @@ pub record Judged (c : ClassData) (sites : List Site) : Type 0 where
 pub judged_parts : (c : ClassData) (sites : List Site) → sites_of c ≡ Some sites → Judged c sites
 judged_parts c sites e = go (found_in c) refl e
   where
-    checked : (found : List Found) → found_in c ≡ Some found → (a b : Bool) → list_all (names_constant c.pool) found ≡ a → list_all (names_lower c.pool) c.pool ≡ b → cond (a && b) (Some (map site_of found)) None ≡ Some sites → Judged c sites
-    checked found is true true constants lower e = record { found = found; is = is; constants = constants; lower = lower; places = same_some sites (map site_of found) (sym e) }
+    checked : (found : List Found) → found_in c ≡ Some found → (a b : Bool) → list_all (names_constant c.pool) found ≡ a
+        → list_all (names_lower c.pool) c.pool ≡ b → cond (a && b) (Some (map site_of found)) None ≡ Some sites → Judged c sites
+    checked found is true true constants lower e = record {
+      found = found;
+      is = is;
+      constants = constants;
+      lower = lower;
+      places =
+          same_some sites (map site_of found) (sym e);
+    }
     checked found is true false constants lower e = cc
     checked found is false b constants lower e = cc
 
@@ -58,14 +72,17 @@ judged_parts c sites e = go (found_in c) refl e
     go None is e = cc
     go (Some found) is e = checked found is (list_all (names_constant c.pool) found) (list_all (names_lower c.pool) c.pool) refl refl e
 
-pub judged_back : (c : ClassData) (found : List Found) → found_in c ≡ Some found → list_all (names_constant c.pool) found ≡ true → list_all (names_lower c.pool) c.pool ≡ true → sites_of c ≡ Some (map site_of found)
+pub judged_back : (c : ClassData) (found : List Found) → found_in c ≡ Some found → list_all (names_constant c.pool) found ≡ true
+    → list_all (names_lower c.pool) c.pool ≡ true → sites_of c ≡ Some (map site_of found)
 judged_back c found is constants lower = rw (is, constants, lower) refl
 
 -- a number at a site
-pub site_names : (pool : List SlotData) (found : Found) → names_constant pool found ≡ true → (found.number ≡ 0) ⊎ (is_some (rank_at pool found.number) ≡ true)
+pub site_names : (pool : List SlotData) (found : Found) → names_constant pool found ≡ true → (found.number ≡ 0)
+    ⊎ (is_some (rank_at pool found.number) ≡ true)
 site_names pool found e = go found.optional (nat_eq found.number 0) refl e
   where
-    go : (a b : Bool) → nat_eq found.number 0 ≡ b → (a && b) || is_some (rank_at pool found.number) ≡ true → (found.number ≡ 0) ⊎ (is_some (rank_at pool found.number) ≡ true)
+    go : (a b : Bool) → nat_eq found.number 0 ≡ b → (a && b) || is_some (rank_at pool found.number) ≡ true → (found.number ≡ 0)
+        ⊎ (is_some (rank_at pool found.number) ≡ true)
     go true true is e = inl (eqb-true found.number 0 is)
     go true false is e = inr e
     go false b is e = inr e
@@ -73,34 +90,41 @@ site_names pool found e = go found.optional (nat_eq found.number 0) refl e
 -- Constants
 
 -- a number with a rank is that of a constant
-pub ranked_slot : (pool : List SlotData) (i : ℕ) → is_some (rank_at pool i) ≡ true → (tag : ℕ) × (body : List ℕ) × (slot_at pool i ≡ Some (Constant tag body))
+pub ranked_slot : (pool : List SlotData) (i : ℕ) → is_some (rank_at pool i) ≡ true → (tag : ℕ) × (body : List ℕ)
+    × (slot_at pool i ≡ Some (Constant tag body))
 ranked_slot pool i is = go (slot_at pool i) refl is
   where
-    go : (found : Option SlotData) → slot_at pool i ≡ found → is_some (option_and_then rank_of found) ≡ true → (tag : ℕ) × (body : List ℕ) × (slot_at pool i ≡ Some (Constant tag body))
+    go : (found : Option SlotData) → slot_at pool i ≡ found → is_some (option_and_then rank_of found) ≡ true → (tag : ℕ)
+        × (body : List ℕ) × (slot_at pool i ≡ Some (Constant tag body))
     go None e is = cc
     go (Some Hole) e is = cc
     go (Some (Constant tag body)) e is = (tag, body, e)
 
 module _ (pool : List SlotData) (lower : list_all (names_lower pool) pool ≡ true) where
   -- what a constant names is a constant of a lower rank
-  pub named_lower : (i tag : ℕ) (body : List ℕ) (k : ℕ) → slot_at pool i ≡ Some (Constant tag body) → Contains (named_by (Constant tag body)) k → (r : ℕ) × (rank_at pool k ≡ Some r) × (r < rank tag)
+  pub named_lower : (i tag : ℕ) (body : List ℕ) (k : ℕ) → slot_at pool i ≡ Some (Constant tag body)
+      → Contains (named_by (Constant tag body)) k → (r : ℕ) × (rank_at pool k ≡ Some r) × (r < rank tag)
   named_lower i tag body k is there =
       let slot = slot_of_number pool i (Constant tag body) is in
       let all = all_at (names_lower pool) pool (Constant tag body) (slot_contained pool (i - 1) (Constant tag body) slot.1) lower in
-      below_found (rank tag) (rank_at pool k) (all_at (λ index. is_some_below (rank tag) (rank_at pool index)) (named_by (Constant tag body)) k there all)
+      below_found (rank tag) (rank_at pool k) (all_at (λ index. is_some_below (rank tag) (rank_at pool index))
+      (named_by (Constant tag body)) k there all)
 
-  pub named_ranked : (i : ℕ) (slot : SlotData) (k : ℕ) → slot_at pool i ≡ Some slot → Contains (named_by slot) k → is_some (rank_at pool k) ≡ true
+  pub named_ranked : (i : ℕ) (slot : SlotData) (k : ℕ) → slot_at pool i ≡ Some slot → Contains (named_by slot) k
+      → is_some (rank_at pool k) ≡ true
   named_ranked i Hole k is there = absurd (contains_none k there)
   named_ranked i (Constant tag body) k is there = ap is_some (named_lower i tag body k is there).1
 
   -- the numbers that a constant names are those of slots
-  pub named_within : (i tag : ℕ) (body : List ℕ) (k : ℕ) → slot_at pool i ≡ Some (Constant tag body) → Contains (named_by (Constant tag body)) k → (0 < k) × (k ≤ length pool)
+  pub named_within : (i tag : ℕ) (body : List ℕ) (k : ℕ) → slot_at pool i ≡ Some (Constant tag body)
+      → Contains (named_by (Constant tag body)) k → (0 < k) × (k ≤ length pool)
   named_within i tag body k is there =
       let slot = ranked_slot pool k (named_ranked i (Constant tag body) k is there) in
       number_within pool k (Constant slot.0 slot.1) slot.2
 
   -- their new numbers fit into two bytes
-  pub named_fit : (new : ℕ → ℕ) → ((n : ℕ) → new n ≤ n) → length pool < 2 ^ 16 → (i tag : ℕ) (body : List ℕ) → slot_at pool i ≡ Some (Constant tag body) → AllFitTwo new (named_by (Constant tag body))
+  pub named_fit : (new : ℕ → ℕ) → ((n : ℕ) → new n ≤ n) → length pool < 2 ^ 16 → (i tag : ℕ) (body : List ℕ) → slot_at pool i
+      ≡ Some (Constant tag body) → AllFitTwo new (named_by (Constant tag body))
   named_fit new small size i tag body is k there =
       let within = (named_within i tag body k is there).1 in
       let less = small k in
@@ -117,23 +141,28 @@ module _ (pool : List SlotData) (lower : list_all (names_lower pool) pool ≡ tr
 
 -- Live constants
 
-same_flags : (one other : List Bool) → length one ≡ length other → ((place : ℕ) → place < length one → get_or one place false ≡ get_or other place false) → one ≡ other
+same_flags : (one other : List Bool) → length one ≡ length other → ((place : ℕ) → place < length one → get_or one place false
+    ≡ get_or other place false) → one ≡ other
 same_flags [] [] size same = refl
 same_flags [] (b ∷ other) size same = absurd (omega (arith, size))
 same_flags (a ∷ one) [] size same = absurd (omega (arith, size))
-same_flags (a ∷ one) (b ∷ other) size same = ap₂ (λ x xs. x ∷ xs) (same 0 (omega arith)) (same_flags one other (omega (arith, size)) (λ place below. same (suc place) (omega (arith, below))))
+same_flags (a ∷ one) (b ∷ other) size same = ap₂ (λ x xs. x ∷ xs) (same 0 (omega arith)) (same_flags one other (omega (arith, size))
+    (λ place below. same (suc place) (omega (arith, below))))
 
 -- the flags are determined
 pub told_once : (c : ClassData) (one other : List Bool) → TellsLive c one → TellsLive c other → one ≡ other
 told_once c one other tells also =
     same_flags one other (tells.size ∙ sym also.size)
-    (λ place below. let inside = subst (λ n. place < n) tells.size below in one_answer (get_or one place false) (get_or other place false) (tells.exactly place inside) (also.exactly place inside))
+    (λ place below.
+    let inside = subst (λ n. place < n) tells.size below in
+    one_answer (get_or one place false) (get_or other place false) (tells.exactly place inside) (also.exactly place inside))
 
 module _ (c : ClassData) (sites : List Site) (flags : List Bool) (is_sites : sites_of c ≡ Some sites) (tells : TellsLive c flags) where
   abbrev judged_is : Judged c sites
   judged_is = judged_parts c sites is_sites
 
-  number_of_constant : (i tag : ℕ) (body : List ℕ) → slot_at c.pool i ≡ Some (Constant tag body) → (i - 1 < length c.pool) × (number_of c.pool (i - 1) ≡ i)
+  number_of_constant : (i tag : ℕ) (body : List ℕ) → slot_at c.pool i ≡ Some (Constant tag body) → (i - 1 < length c.pool)
+      × (number_of c.pool (i - 1) ≡ i)
   number_of_constant i tag body is =
       let slot = slot_of_number c.pool i (Constant tag body) is in
       (slice_get_within c.pool (i - 1) (Constant tag body) slot.1, ap (λ o. first_number o (i - 1)) slot.1 ∙ place_of i slot.0)
@@ -150,7 +179,8 @@ module _ (c : ClassData) (sites : List Site) (flags : List Bool) (is_sites : sit
       at_site =
           let same = same_some found judged_is.found (sym is ∙ judged_is.is) in
           let from = from_map (λ f. f.number) found start there in
-          let checked = all_at (names_constant c.pool) found from.0 from.1 (subst (λ fs. list_all (names_constant c.pool) fs ≡ true) (sym same) judged_is.constants) in
+          let checked = all_at (names_constant c.pool) found from.0 from.1 (subst (λ fs. list_all (names_constant c.pool) fs ≡ true)
+          (sym same) judged_is.constants) in
           subst (λ n. (n ≡ 0) ⊎ (is_some (rank_at c.pool n) ≡ true)) from.2 (site_names c.pool from.0 checked)
 
       led : (start ≡ i) ⊎ (is_some (rank_at c.pool i) ≡ true) → (i ≡ 0) ⊎ (is_some (rank_at c.pool i) ≡ true)
@@ -172,11 +202,19 @@ module _ (c : ClassData) (sites : List Site) (flags : List Bool) (is_sites : sit
       go (inr ranked) = inr (ranked_kept i live ranked)
 
   -- what a kept constant names is kept
-  pub names_kept : (i : ℕ) (kept_i : IsKept c.pool flags i) (k : ℕ) → Contains (named_by (Constant kept_i.tag kept_i.body)) k → IsKept c.pool flags k
-  names_kept i kept_i k there = ranked_kept k live (named_ranked c.pool judged_is.lower i (Constant kept_i.tag kept_i.body) k kept_i.is there)
+  pub names_kept : (i : ℕ) (kept_i : IsKept c.pool flags i) (k : ℕ) → Contains (named_by (Constant kept_i.tag kept_i.body)) k
+      → IsKept c.pool flags k
+  names_kept i kept_i k there = ranked_kept k live (named_ranked c.pool judged_is.lower i (Constant kept_i.tag kept_i.body) k
+      kept_i.is there)
     where
       on : IsLive c i → IsLive c k
-      on (start, between, stands, leads) = (start, between ++ k ∷ [], stands, leads_on c.pool start between i k leads (Constant kept_i.tag kept_i.body, kept_i.is, there))
+      on (start, between, stands, leads) = (
+        start,
+        between ++ k ∷ [],
+        stands,
+        leads_on c.pool start between i k leads
+            (Constant kept_i.tag kept_i.body, kept_i.is, there),
+      )
 
       live : IsLive c k
       live = on (kept_live i kept_i)
@@ -192,13 +230,19 @@ module _ (c : ClassData) (sites : List Site) (flags : List Bool) (is_sites : sit
           let within = slice_get_within c.pool (suc place) Hole there in
           let hole = tells.exactly (suc place) within in
           let constant = tells.exactly place (omega (arith, within)) in
-          let same : number_of c.pool (suc place) ≡ number_of c.pool place = ap (λ o. first_number o (suc place)) there ∙ (let more : suc place ≡ place + 1 = omega arith in more) ∙ sym (ap (λ o. first_number o place) before.2) in
-          one_answer (get_or flags (suc place) false) (get_or flags place false) hole ((λ up. subst (IsLive c) (sym same) (constant.0 up)), (λ live. constant.1 (subst (IsLive c) same live)))
+          let same : number_of c.pool (suc place) ≡ number_of c.pool place =
+          ap (λ o. first_number o (suc place)) there ∙ (let more : suc place ≡ place + 1 = omega arith in more)
+          ∙ sym (ap (λ o. first_number o place) before.2) in
+          one_answer (get_or flags (suc place) false) (get_or flags place false) hole
+          ((λ up. subst (IsLive c) (sym same) (constant.0 up)), (λ live. constant.1 (subst (IsLive c) same live)))
 
   -- the number at a site is an optional 0 or that of a kept constant
-  pub site_kept : (found : List Found) → found_in c ≡ Some found → (f : Found) → Contains found f → (f.number ≡ 0) ⊎ IsKept c.pool flags f.number
+  pub site_kept : (found : List Found) → found_in c ≡ Some found → (f : Found) → Contains found f → (f.number ≡ 0)
+      ⊎ IsKept c.pool flags f.number
   site_kept found is f there = live_kept f.number (f.number, [], (found, is, contains_map (λ (g : Found). g.number) found f there), refl)
 
 -- where each slot's constant is live, all flags are up
-pub all_up : (c : ClassData) (flags : List Bool) → TellsLive c flags → ((place : ℕ) → place < length c.pool → IsLive c (number_of c.pool place)) → (place : ℕ) → place < length flags → get_or flags place false ≡ true
-all_up c flags tells live place below = let inside = subst (λ n. place < n) tells.size below in (tells.exactly place inside).1 (live place inside)
+pub all_up : (c : ClassData) (flags : List Bool) → TellsLive c flags → ((place : ℕ) → place < length c.pool
+    → IsLive c (number_of c.pool place)) → (place : ℕ) → place < length flags → get_or flags place false ≡ true
+all_up c flags tells live place below =
+    let inside = subst (λ n. place < n) tells.size below in (tells.exactly place inside).1 (live place inside)

@@ -1,5 +1,6 @@
 -- New numbers, by the flags of the slots.
-use Rattle.std.proofs.Common.{◌≡◌, ℕ, zero, suc, ◌+◌, ◌-◌, ◌<◌, ◌≤◌, Bool, true, false, cond, List, [], ◌∷◌, get_or, length, refl, sym, ap, ◌∙◌, arith}
+use Rattle.std.proofs.Common.{◌≡◌, ℕ, zero, suc, ◌+◌, ◌-◌, ◌<◌, ◌≤◌, Bool, true, false, cond, List, [], ◌∷◌}
+use Rattle.std.proofs.Common.{get_or, length, refl, sym, ap, ◌∙◌, arith}
 use Rattle.std.proofs.lemmas.Bool.{eqb-true, eqb-false, ne_eqb}
 use Rattle.std.specs.Prelude.{nat_eq}
 use Rattle.jm_compact.specs.Compact.{kept_before, new_number}
@@ -14,7 +15,8 @@ kept_before-small (true ∷ flags) (suc place) = let rest = kept_before-small fl
 kept_before-small (false ∷ flags) (suc place) = let rest = kept_before-small flags place in omega (arith, rest)
 
 -- a kept slot is one more in front of the next
-pub kept_before-more : (flags : List Bool) (place : ℕ) → get_or flags place false ≡ true → kept_before flags (suc place) ≡ 1 + kept_before flags place
+pub kept_before-more : (flags : List Bool) (place : ℕ) → get_or flags place false ≡ true → kept_before flags (suc place)
+    ≡ 1 + kept_before flags place
 kept_before-more [] place up = cc
 kept_before-more (true ∷ flags) zero up = refl
 kept_before-more (false ∷ flags) zero up = cc
@@ -22,7 +24,8 @@ kept_before-more (true ∷ flags) (suc place) up = let rest = kept_before-more f
 kept_before-more (false ∷ flags) (suc place) up = let rest = kept_before-more flags place up in omega (arith, rest)
 
 -- all are kept
-pub kept_before-all : (flags : List Bool) → ((place : ℕ) → place < length flags → get_or flags place false ≡ true) → (place : ℕ) → place ≤ length flags → kept_before flags place ≡ place
+pub kept_before-all : (flags : List Bool) → ((place : ℕ) → place < length flags → get_or flags place false ≡ true) → (place : ℕ)
+    → place ≤ length flags → kept_before flags place ≡ place
 kept_before-all [] all zero within = refl
 kept_before-all [] all (suc place) within = absurd (omega (arith, within))
 kept_before-all (flag ∷ flags) all zero within = refl
@@ -61,7 +64,8 @@ new_number-small flags i = go (nat_eq i 0) refl
         omega (arith, differs, small)
 
 -- numbers stay where all are kept
-pub new_number-all : (flags : List Bool) → ((place : ℕ) → place < length flags → get_or flags place false ≡ true) → (i : ℕ) → i ≤ length flags → new_number flags i ≡ i
+pub new_number-all : (flags : List Bool) → ((place : ℕ) → place < length flags → get_or flags place false ≡ true) → (i : ℕ)
+    → i ≤ length flags → new_number flags i ≡ i
 new_number-all flags all i within = go (nat_eq i 0) refl
   where
     go : (b : Bool) → nat_eq i 0 ≡ b → cond b 0 (1 + kept_before flags (i - 1)) ≡ i

@@ -17,7 +17,8 @@ module _ (sites : List Site) (i : ℕ) (none : Site) (more : i < length sites) w
   abbrev site : Site
   site = get_or sites i none
 
-  pub next_in : (at end : ℕ) → AreIn (drop i sites) at end → (at ≤ site.place) × AreIn (drop (i + 1) sites) (site.place + size site.wide) end
+  pub next_in : (at end : ℕ) → AreIn (drop i sites) at end → (at ≤ site.place) × AreIn (drop (i + 1) sites) (site.place
+      + size site.wide) end
   next_in at end within = subst (λ s. AreIn s at end) (at_drop_more (λ s. s) sites i none more) within
 
   -- the site fits into the bytes that are left
@@ -29,8 +30,12 @@ module _ (sites : List Site) (i : ℕ) (none : Site) (more : i < length sites) w
       omega (arith, here, rest, is)
 
   pub next_renumbered : (new : ℕ → ℕ) (at : ℕ) (rest : List ℕ) → renumbered new (drop i sites) at rest
-      ≡ take (site.place - at) rest ++ (to_be_bytes (width site.wide) (new (from_be_bytes (width site.wide) (take (size site.wide) (drop (site.place - at) rest)))) ++ renumbered new (drop (i + 1) sites) (site.place + size site.wide) (drop (size site.wide) (drop (site.place - at) rest)))
+      ≡ take (site.place - at) rest
+      ++ (to_be_bytes (width site.wide)
+      (new (from_be_bytes (width site.wide) (take (size site.wide) (drop (site.place - at) rest)))) ++ renumbered new
+      (drop (i + 1) sites) (site.place + size site.wide) (drop (size site.wide) (drop (site.place - at) rest)))
   next_renumbered new at rest = at_drop_more (λ s. renumbered new s at rest) sites i none more
 
-pub last_renumbered : (new : ℕ → ℕ) (sites : List Site) (i at : ℕ) (rest : List ℕ) → length sites ≤ i → renumbered new (drop i sites) at rest ≡ rest
+pub last_renumbered : (new : ℕ → ℕ) (sites : List Site) (i at : ℕ) (rest : List ℕ) → length sites ≤ i
+    → renumbered new (drop i sites) at rest ≡ rest
 last_renumbered new sites i at rest end = at_drop_all (λ s. renumbered new s at rest) sites i end ∙ append-nil rest

@@ -6,7 +6,8 @@ use Rattle.jm_class.specs.Classes.{SlotData, Constant, Hole, IsPoolFrom, is_wide
 use Rattle.jm_compact.specs.Compact.{new_number, renamed, kept, compact_pool}
 use Rattle.jm_compact.proofs.Shapes.{length-renamed}
 
-slots_shorter : (new : ℕ → ℕ) (due : Bool) (flags : List Bool) (pool : List SlotData) → IsPoolFrom due pool → length (flat_map slot_text (map (renamed new) (kept flags pool))) ≤ length (flat_map slot_text pool)
+slots_shorter : (new : ℕ → ℕ) (due : Bool) (flags : List Bool) (pool : List SlotData) → IsPoolFrom due pool
+    → length (flat_map slot_text (map (renamed new) (kept flags pool))) ≤ length (flat_map slot_text pool)
 slots_shorter new due [] pool is = omega arith
 slots_shorter new due (flag ∷ flags) [] is = omega arith
 slots_shorter new true (flag ∷ flags) (Constant tag body ∷ pool) is = absurd is
@@ -27,7 +28,8 @@ slots_shorter new false (false ∷ flags) (Constant tag body ∷ pool) is =
 pub length-pool_text : (pool : List SlotData) → length (pool_text pool) ≡ 2 + length (flat_map slot_text pool)
 length-pool_text pool = let size = ap length (append-nil (flat_map slot_text pool)) in omega (arith, size)
 
-pub pool_shorter : (flags : List Bool) (pool : List SlotData) → IsPoolFrom false pool → length (pool_text (compact_pool flags pool)) ≤ length (pool_text pool)
+pub pool_shorter : (flags : List Bool) (pool : List SlotData) → IsPoolFrom false pool → length (pool_text (compact_pool flags pool))
+    ≤ length (pool_text pool)
 pool_shorter flags pool is =
     let less = slots_shorter (new_number flags) false flags pool is in
     let one = length-pool_text (compact_pool flags pool) in

@@ -1,5 +1,6 @@
 -- A part of a class as tokens: bytes without a site, and the numbers at sites.
-use Rattle.std.proofs.Common.{◌≡◌, ℕ, suc, ◌+◌, ◌*◌, ◌^◌, ◌<◌, ◌≤◌, Bool, true, false, List, [], ◌∷◌, ◌++◌, length, Ok, refl, sym, ap, ◌∙◌, arith, append_assoc, length-append}
+use Rattle.std.proofs.Common.{◌≡◌, ℕ, suc, ◌+◌, ◌*◌, ◌^◌, ◌<◌, ◌≤◌, Bool, true, false, List, [], ◌∷◌, ◌++◌}
+use Rattle.std.proofs.Common.{length, Ok, refl, sym, ap, ◌∙◌, arith, append_assoc, length-append}
 use Rattle.std.proofs.lemmas.List.{map-append}
 use Rattle.jm_poolmap.specs.declared.site.Found.{Found}
 use Rattle.jm_poolmap.specs.declared.walk.Walk.{Walk}
@@ -61,7 +62,8 @@ pub record OverTold (form : Form) (content : List ℕ) (walk next : Walk) : Type
 
 pub text_of-append : (xs ys : List (Piece ℕ)) → text_of (xs ++ ys) ≡ text_of xs ++ text_of ys
 text_of-append [] ys = refl
-text_of-append (piece ∷ xs) ys = ap (λ t. piece_text piece ++ t) (text_of-append xs ys) ∙ sym (append_assoc (piece_text piece) (text_of xs) (text_of ys))
+text_of-append (piece ∷ xs) ys = ap (λ t. piece_text piece ++ t) (text_of-append xs ys)
+    ∙ sym (append_assoc (piece_text piece) (text_of xs) (text_of ys))
 
 pub token_text-append : (xs ys : List Token) → token_text (xs ++ ys) ≡ token_text xs ++ token_text ys
 token_text-append xs ys = ap text_of (map-append (put_for (λ n. n.1)) xs ys) ∙ text_of-append (numbered xs) (numbered ys)
@@ -73,11 +75,13 @@ changed-append new xs ys = map-append (put_for (λ n. (n.0, new n.1))) xs ys
 pub length-changed : (new : ℕ → ℕ) (tokens : List Token) → length (token_text (changed new tokens)) ≡ length (token_text tokens)
 length-changed new [] = refl
 length-changed new (Plain bytes ∷ tokens) =
-    length-append bytes (token_text (changed new tokens)) ∙ ap (λ n. length bytes + n) (length-changed new tokens) ∙ sym (length-append bytes (token_text tokens))
+    length-append bytes (token_text (changed new tokens)) ∙ ap (λ n. length bytes + n) (length-changed new tokens)
+    ∙ sym (length-append bytes (token_text tokens))
 length-changed new (Number true n ∷ tokens) = ap (λ n. suc (suc n)) (length-changed new tokens)
 length-changed new (Number false n ∷ tokens) = ap suc (length-changed new tokens)
 
-pub found_from-append : (at : ℕ) (xs ys : List Token) → found_from at (xs ++ ys) ≡ found_from at xs ++ found_from (at + length (token_text xs)) ys
+pub found_from-append : (at : ℕ) (xs ys : List Token) → found_from at (xs ++ ys) ≡ found_from at xs
+    ++ found_from (at + length (token_text xs)) ys
 found_from-append at [] ys = let here : at ≡ at + 0 = omega arith in ap (λ m. found_from m ys) here
 found_from-append at (Plain bytes ∷ xs) ys =
     let lengths = length-append bytes (token_text xs) in
@@ -85,10 +89,12 @@ found_from-append at (Plain bytes ∷ xs) ys =
     found_from-append (at + length bytes) xs ys ∙ ap (λ m. found_from (at + length bytes) xs ++ found_from m ys) place
 found_from-append at (Number true n ∷ xs) ys =
     let place : (at + 2) + length (token_text xs) ≡ at + suc (suc (length (token_text xs))) = omega arith in
-    ap (λ t. record { place = at; wide = true; optional = n.0; number = n.1 } ∷ t) (found_from-append (at + 2) xs ys ∙ ap (λ m. found_from (at + 2) xs ++ found_from m ys) place)
+    ap (λ t. record { place = at; wide = true; optional = n.0; number = n.1 } ∷ t) (found_from-append (at + 2) xs ys
+    ∙ ap (λ m. found_from (at + 2) xs ++ found_from m ys) place)
 found_from-append at (Number false n ∷ xs) ys =
     let place : (at + 1) + length (token_text xs) ≡ at + suc (length (token_text xs)) = omega arith in
-    ap (λ t. record { place = at; wide = false; optional = n.0; number = n.1 } ∷ t) (found_from-append (at + 1) xs ys ∙ ap (λ m. found_from (at + 1) xs ++ found_from m ys) place)
+    ap (λ t. record { place = at; wide = false; optional = n.0; number = n.1 } ∷ t) (found_from-append (at + 1) xs ys
+    ∙ ap (λ m. found_from (at + 1) xs ++ found_from m ys) place)
 
 pub Fit-append : (xs ys : List Token) → Fit xs → Fit ys → Fit (xs ++ ys)
 Fit-append [] ys one two = two

@@ -9,7 +9,8 @@ use Rattle.jm_poolmap.specs.declared.site.Site.{Site}
 use Rattle.jm_poolmap.specs.Live.{TellsLive}
 use Rattle.jm_poolmap.specs.Sites.{sites_of}
 use Rattle.jm_poolmap.proofs.ComputedLiveLaws.{live_known}
-use Rattle.jm_compact.specs.Compact.{IsCompact, Whole, Smaller, live_flags, flags_by, compact_with, text_by, compact_text, with_text, compact_of}
+use Rattle.jm_compact.specs.Compact.{IsCompact, Whole, Smaller, live_flags, flags_by, compact_with, text_by}
+use Rattle.jm_compact.specs.Compact.{compact_text, with_text, compact_of}
 use Rattle.jm_compact.specs.Meaning.{SaysTheSame}
 use Rattle.jm_compact.proofs.CompactClass.{m, class_fits, class_reads, sites_again, again_same, says_the_same, not_longer}
 use Rattle.jm_compact.proofs.Names.{judged_parts, told_once}
@@ -21,7 +22,8 @@ live_flags-tell c sites fits is =
     live_known c judged.found sites (live_flags c) fits judged.is is (ap (flags_by c) judged.is)
 
 -- there are no others
-pub flags_same : (c : ClassData) (sites : List Site) (flags : List Bool) → IsClass c → sites_of c ≡ Some sites → TellsLive c flags → flags ≡ live_flags c
+pub flags_same : (c : ClassData) (sites : List Site) (flags : List Bool) → IsClass c → sites_of c ≡ Some sites → TellsLive c flags
+    → flags ≡ live_flags c
 flags_same c sites flags fits is tells = told_once c flags (live_flags c) tells (live_flags-tell c sites fits is)
 
 module _ (c : ClassData) (fits : IsClass c) where
@@ -44,7 +46,8 @@ module _ (c : ClassData) (fits : IsClass c) where
 
 module _ (c : ClassData) (fits : IsClass c) (bytes : IsBytes (class_text c)) where
   pub says : (sites : List Site) → sites_of c ≡ Some sites → SaysTheSame c sites (compact_text c)
-  says sites is = says_the_same c fits bytes sites is (live_flags c) (live_flags-tell c sites fits is) (compact_text c) (compact_sites c fits sites is)
+  says sites is = says_the_same c fits bytes sites is (live_flags c) (live_flags-tell c sites fits is) (compact_text c)
+      (compact_sites c fits sites is)
 
   pub shorter : length (compact_text c) ≤ length (class_text c)
   shorter = go (sites_of c) refl
@@ -66,7 +69,8 @@ module _ (c : ClassData) (fits : IsClass c) (bytes : IsBytes (class_text c)) whe
       go (Some sites) is =
           let tells = live_flags-tell c sites fits is in
           let d : ClassData = m c fits bytes sites is (live_flags c) tells in
-          let text : compact_text c ≡ class_text d = compact_sites c fits sites is ∙ class_reads c fits bytes sites is (live_flags c) tells in
+          let text : compact_text c ≡ class_text d = compact_sites c fits sites is ∙ class_reads c fits bytes sites is
+          (live_flags c) tells in
           let fine : IsClass d = class_fits c fits bytes sites is (live_flags c) tells in
           let found = sites_again c fits bytes sites is (live_flags c) tells in
           let stays = again_same c fits bytes sites is (live_flags c) tells (live_flags d) (live_flags-tell d _ fine found) in

@@ -1,5 +1,6 @@
 -- What an extraction came to, from what its steps did.
-use Rattle.std.proofs.Common.{◌≡◌, ℕ, ◌+◌, ◌<◌, List, [], ◌∷◌, ◌++◌, drop, length, map, take, get_or, Option, None, Result, Ok, Err, IsErrAnd, refl, sym, ap, subst, ◌∙◌}
+use Rattle.std.proofs.Common.{◌≡◌, ℕ, ◌+◌, ◌<◌, List, [], ◌∷◌, ◌++◌, drop, length, map, take, get_or, Option}
+use Rattle.std.proofs.Common.{None, Result, Ok, Err, IsErrAnd, refl, sym, ap, subst, ◌∙◌}
 use Rattle.std.proofs.lemmas.List.{map-append, take-append-drop, take_more}
 use Rattle.jm_bytes.specs.Checks.{unless_fault}
 use Rattle.jm_outside.specs.declared.shelf.ShelfError.{ShelfError}
@@ -18,26 +19,32 @@ use Rattle.jm_extract.specs.Taken.{taken_as}
 
 -- One file more
 
-next_write : (dir : List ℕ) (ts : List TakenEntry) (i : ℕ) (t : TakenEntry) → i < length ts → get_or ts i t ≡ t → writes_of dir (map taken_as (take i ts)) ++ write_of dir (taken_as t) ∷ [] ≡ writes_of dir (map taken_as (take (i + 1) ts))
+next_write : (dir : List ℕ) (ts : List TakenEntry) (i : ℕ) (t : TakenEntry) → i < length ts → get_or ts i t ≡ t
+    → writes_of dir (map taken_as (take i ts)) ++ write_of dir (taken_as t) ∷ [] ≡ writes_of dir (map taken_as (take (i + 1) ts))
 next_write dir ts i t within is =
     sym (ap (λ us. writes_of dir (map taken_as us)) (take_more ts i t within)
     ∙ ap (writes_of dir) (map-append taken_as (take i ts) (get_or ts i t ∷ []))
     ∙ map-append (write_of dir) (map taken_as (take i ts)) (taken_as (get_or ts i t) ∷ [])
     ∙ ap (λ (s : TakenEntry). writes_of dir (map taken_as (take i ts)) ++ write_of dir (taken_as s) ∷ []) is)
 
-pub made_next : (dir : List ℕ) (ts : List TakenEntry) (i : ℕ) (t : TakenEntry) (old now new : Option Files) → i < length ts → get_or ts i t ≡ t → MadeAll (writes_of dir (map taken_as (take i ts))) old now → MadeAll (write_of dir (taken_as t) ∷ []) now new → MadeAll (writes_of dir (map taken_as (take (i + 1) ts))) old new
+pub made_next : (dir : List ℕ) (ts : List TakenEntry) (i : ℕ) (t : TakenEntry) (old now new : Option Files) → i < length ts
+    → get_or ts i t ≡ t → MadeAll (writes_of dir (map taken_as (take i ts))) old now → MadeAll (write_of dir (taken_as t) ∷ []) now
+    new → MadeAll (writes_of dir (map taken_as (take (i + 1) ts))) old new
 made_next dir ts i t old now new within is done made =
     subst (λ (ws : Writes). MadeAll ws old new) (next_write dir ts i t within is)
     (made_append (writes_of dir (map taken_as (take i ts))) (write_of dir (taken_as t) ∷ []) old now new done made)
 
-pub part_next : (dir : List ℕ) (ts : List TakenEntry) (i : ℕ) (t : TakenEntry) (old now new : Option Files) → i < length ts → get_or ts i t ≡ t → MadeAll (writes_of dir (map taken_as (take i ts))) old now → MadePart (write_of dir (taken_as t) ∷ []) now new → MadePart (writes_of dir (map taken_as ts)) old new
+pub part_next : (dir : List ℕ) (ts : List TakenEntry) (i : ℕ) (t : TakenEntry) (old now new : Option Files) → i < length ts
+    → get_or ts i t ≡ t → MadeAll (writes_of dir (map taken_as (take i ts))) old now → MadePart (write_of dir (taken_as t) ∷ []) now
+    new → MadePart (writes_of dir (map taken_as ts)) old new
 part_next dir ts i t old now new within is done part =
     subst (λ (ws : Writes). MadePart ws old new) whole
     (part_longer (writes_of dir (map taken_as (take (i + 1) ts))) (writes_of dir (map taken_as (drop (i + 1) ts))) old new
     (subst (λ (ws : Writes). MadePart ws old new) (next_write dir ts i t within is)
     (part_append (writes_of dir (map taken_as (take i ts))) (write_of dir (taken_as t) ∷ []) old now new done part)))
   where
-    whole : writes_of dir (map taken_as (take (i + 1) ts)) ++ writes_of dir (map taken_as (drop (i + 1) ts)) ≡ writes_of dir (map taken_as ts)
+    whole : writes_of dir (map taken_as (take (i + 1) ts)) ++ writes_of dir (map taken_as (drop (i + 1) ts))
+        ≡ writes_of dir (map taken_as ts)
     whole =
         sym (map-append (write_of dir) (map taken_as (take (i + 1) ts)) (map taken_as (drop (i + 1) ts)))
         ∙ ap (writes_of dir) (sym (map-append taken_as (take (i + 1) ts) (drop (i + 1) ts)))
@@ -50,13 +57,16 @@ breaks_off (Ok es) dir told = part_of_none (writes_of dir es) told
 breaks_off (Err refusal) dir told = refl
 
 -- no memory, before a file was changed
-pub out_of_memory : (due : Result (List Named) Refusal) (dir : List ℕ) (answer : Result ℕ ExtractStop) (told : Option Files) → IsErrAnd answer (λ is. is ≡ stop.Memory) → Extracts due dir answer told told
+pub out_of_memory : (due : Result (List Named) Refusal) (dir : List ℕ) (answer : Result ℕ ExtractStop) (told : Option Files)
+    → IsErrAnd answer (λ is. is ≡ stop.Memory) → Extracts due dir answer told told
 out_of_memory due dir (Ok count) told gives = absurd gives
 out_of_memory due dir (Err is) told gives =
     subst (λ (s : ExtractStop). Extracts due dir (Err s) told told) (sym gives) (breaks_off due dir told)
 
 -- nothing is refused and all files were made, but ending that failed
-pub not_ended : (entries : List Named) (dir : List ℕ) (answer : Result ℕ ExtractStop) (error : ShelfError) (old now new : Option Files) → ◌≡◌ {A = Option Refusal} None (refusal_of entries) → IsErrAnd answer (λ is. is ≡ stop_of error) → MadeAll (writes_of dir entries) old now → new ≡ now → Extracts (unless_refused entries) dir answer old new
+pub not_ended : (entries : List Named) (dir : List ℕ) (answer : Result ℕ ExtractStop) (error : ShelfError)
+    (old now new : Option Files) → ◌≡◌ {A = Option Refusal} None (refusal_of entries) → IsErrAnd answer (λ is. is ≡ stop_of error)
+    → MadeAll (writes_of dir entries) old now → new ≡ now → Extracts (unless_refused entries) dir answer old new
 not_ended entries dir (Ok count) error old now new free gives made same = absurd gives
 not_ended entries dir (Err is) error old now new free gives made same =
     subst (λ (s : ExtractStop). Extracts (unless_refused entries) dir (Err s) old new) (sym gives)

@@ -1,5 +1,6 @@
 -- Names whose first bytes differ as numbers stand in the order of these numbers.
-use Rattle.std.proofs.Common.{◌≡◌, ◌≢◌, ◌<◌, ◌≤◌, ℕ, zero, suc, ◌+◌, ◌*◌, ◌^◌, Bool, true, false, cond, List, [], ◌∷◌, drop, length, nat_lt, refl, sym, ap, ◌∙◌, arith}
+use Rattle.std.proofs.Common.{◌≡◌, ◌≢◌, ◌<◌, ◌≤◌, ℕ, zero, suc, ◌+◌, ◌*◌, ◌^◌, Bool, true, false, cond, List}
+use Rattle.std.proofs.Common.{[], ◌∷◌, drop, length, nat_lt, refl, sym, ap, ◌∙◌, arith}
 use Rattle.std.proofs.Math.Nat.{mul-le-mul_right}
 use Rattle.std.specs.Cmp.{ranks}
 use Rattle.std.proofs.lemmas.Bool.{ltb-false}
@@ -17,13 +18,15 @@ behind : (x : ℕ) (xs : List ℕ) → AreBytes (x ∷ xs) → AreBytes xs
 behind x xs bytes k = bytes (suc k)
 
 -- by the first byte, and then by what is behind it
-stepped : (o : Ordering) (x y n a b : ℕ) (xs ys : List ℕ) → MatchOrdering o (x < y) (x ≡ y) (y < x) → a < 256 ^ n → b < 256 ^ n → x * 256 ^ n + a < y * 256 ^ n + b → (a < b → slice_cmp nat_cmp xs ys ≡ Less) → ordering_then o (slice_cmp nat_cmp xs ys) ≡ Less
+stepped : (o : Ordering) (x y n a b : ℕ) (xs ys : List ℕ) → MatchOrdering o (x < y) (x ≡ y) (y < x) → a < 256 ^ n → b < 256 ^ n
+    → x * 256 ^ n + a < y * 256 ^ n + b → (a < b → slice_cmp nat_cmp xs ys ≡ Less) → ordering_then o (slice_cmp nat_cmp xs ys) ≡ Less
 stepped Less x y n a b xs ys is low high less rest = refl
 stepped Equal x y n a b xs ys is low high less rest = rest (omega (arith, less, ap (λ (k : ℕ). k * 256 ^ n) is))
 stepped Greater x y n a b xs ys is low high less rest =
     absurd (omega (arith, less, high, mul-le-mul_right (256 ^ n) is))
 
-front_less : (n : ℕ) (xs ys : List ℕ) → AreBytes xs → AreBytes ys → n ≤ length xs → n ≤ length ys → big_number n xs < big_number n ys → slice_cmp nat_cmp xs ys ≡ Less
+front_less : (n : ℕ) (xs ys : List ℕ) → AreBytes xs → AreBytes ys → n ≤ length xs → n ≤ length ys → big_number n xs
+    < big_number n ys → slice_cmp nat_cmp xs ys ≡ Less
 front_less zero xs ys b c long far less = absurd (omega (arith, less))
 front_less (suc n) [] ys b c long far less = absurd (omega (arith, long))
 front_less (suc n) (x ∷ xs) [] b c long far less = absurd (omega (arith, far))
@@ -36,7 +39,9 @@ front_less (suc n) (x ∷ xs) (y ∷ ys) b c long far less =
     (λ rest. front_less n xs ys (behind x xs b) (behind y ys c) (omega (arith, long)) (omega (arith, far)) rest)
 
 -- equal first bytes, and then what is behind them
-stepped_same : (o : Ordering) (x y n a b : ℕ) (xs ys : List ℕ) (rest : Ordering) → MatchOrdering o (x < y) (x ≡ y) (y < x) → a < 256 ^ n → b < 256 ^ n → x * 256 ^ n + a ≡ y * 256 ^ n + b → (a ≡ b → slice_cmp nat_cmp xs ys ≡ rest) → ordering_then o (slice_cmp nat_cmp xs ys) ≡ rest
+stepped_same : (o : Ordering) (x y n a b : ℕ) (xs ys : List ℕ) (rest : Ordering) → MatchOrdering o (x < y) (x ≡ y) (y < x)
+    → a < 256 ^ n → b < 256 ^ n → x * 256 ^ n + a ≡ y * 256 ^ n + b → (a ≡ b → slice_cmp nat_cmp xs ys ≡ rest)
+    → ordering_then o (slice_cmp nat_cmp xs ys) ≡ rest
 stepped_same Less x y n a b xs ys rest is low high same behind =
     absurd (omega (arith, same, low, mul-le-mul_right (256 ^ n) is))
 stepped_same Equal x y n a b xs ys rest is low high same behind =
@@ -44,7 +49,8 @@ stepped_same Equal x y n a b xs ys rest is low high same behind =
 stepped_same Greater x y n a b xs ys rest is low high same behind =
     absurd (omega (arith, same, high, mul-le-mul_right (256 ^ n) is))
 
-front_same : (n : ℕ) (xs ys : List ℕ) → AreBytes xs → AreBytes ys → n ≤ length xs → n ≤ length ys → big_number n xs ≡ big_number n ys → slice_cmp nat_cmp xs ys ≡ slice_cmp nat_cmp (drop n xs) (drop n ys)
+front_same : (n : ℕ) (xs ys : List ℕ) → AreBytes xs → AreBytes ys → n ≤ length xs → n ≤ length ys → big_number n xs
+    ≡ big_number n ys → slice_cmp nat_cmp xs ys ≡ slice_cmp nat_cmp (drop n xs) (drop n ys)
 front_same zero xs ys b c long far same = refl
 front_same (suc n) [] ys b c long far same = absurd (omega (arith, long))
 front_same (suc n) (x ∷ xs) [] b c long far same = absurd (omega (arith, far))
@@ -75,11 +81,14 @@ greater n xs ys are more =
     nat_list_cmp_total.antisymm xs ys ∙ ap ordering_reverse (front_less n ys xs are.other are.one are.far are.long more)
 
 -- the numbers of the first bytes decide where they differ, and else what is behind them
-stepped_number : (n : ℕ) (xs ys : List ℕ) (rest o : Ordering) → AreLong n xs ys → (rest ≢ Equal → rest ≡ slice_cmp nat_cmp (drop n xs) (drop n ys)) → ordering_then (nat_cmp (big_number n xs) (big_number n ys)) rest ≡ o → o ≢ Equal → o ≡ slice_cmp nat_cmp xs ys
+stepped_number : (n : ℕ) (xs ys : List ℕ) (rest o : Ordering) → AreLong n xs ys
+    → (rest ≢ Equal → rest ≡ slice_cmp nat_cmp (drop n xs) (drop n ys))
+    → ordering_then (nat_cmp (big_number n xs) (big_number n ys)) rest ≡ o → o ≢ Equal → o ≡ slice_cmp nat_cmp xs ys
 stepped_number n xs ys rest o are behind is some =
     go (nat_cmp (big_number n xs) (big_number n ys)) (ranks (big_number n xs) (big_number n ys)) is
   where
-    go : (r : Ordering) → MatchOrdering r (big_number n xs < big_number n ys) (big_number n xs ≡ big_number n ys) (big_number n ys < big_number n xs) → ordering_then r rest ≡ o → o ≡ slice_cmp nat_cmp xs ys
+    go : (r : Ordering) → MatchOrdering r (big_number n xs < big_number n ys) (big_number n xs ≡ big_number n ys) (big_number n ys
+        < big_number n xs) → ordering_then r rest ≡ o → o ≡ slice_cmp nat_cmp xs ys
     go Less less same = sym same ∙ sym (front_less n xs ys are.one are.other are.long are.far less)
     go Equal equal same =
         sym same ∙ behind (λ none. some (sym same ∙ none))
@@ -91,7 +100,8 @@ then_none Less = refl
 then_none Equal = refl
 then_none Greater = refl
 
-last_number : (n : ℕ) (xs ys : List ℕ) → AreLong n xs ys → nat_cmp (big_number n xs) (big_number n ys) ≢ Equal → nat_cmp (big_number n xs) (big_number n ys) ≡ slice_cmp nat_cmp xs ys
+last_number : (n : ℕ) (xs ys : List ℕ) → AreLong n xs ys → nat_cmp (big_number n xs) (big_number n ys) ≢ Equal
+    → nat_cmp (big_number n xs) (big_number n ys) ≡ slice_cmp nat_cmp xs ys
 last_number n xs ys are =
     stepped_number n xs ys Equal (nat_cmp (big_number n xs) (big_number n ys)) are
     (λ some. absurd (some refl)) (then_none (nat_cmp (big_number n xs) (big_number n ys)))
@@ -100,13 +110,21 @@ last_number n xs ys are =
 numbers_of : (name : List ℕ) (front : Front) → front ≡ front_of name → front.first ≢ 0 → (24 ≤ length name) × (front ≡ front_numbers name)
 numbers_of name front is some = go (nat_lt (length name) 24) refl is
   where
-    go : (b : Bool) → nat_lt (length name) 24 ≡ b → front ≡ cond b (record { first = 0; second = 0; third = 0 }) (front_numbers name) → (24 ≤ length name) × (front ≡ front_numbers name)
+    go : (b : Bool) → nat_lt (length name) 24 ≡ b → front ≡ cond b (record { first = 0; second = 0; third = 0 })
+        (front_numbers name) → (24 ≤ length name) × (front ≡ front_numbers name)
     go true test same = absurd (some (ap (λ (f : Front). f.first) same))
     go false test same = (ltb-false (length name) 24 test, same)
 
-by_numbers : (xs ys : List ℕ) (o : Ordering) → AreLong 24 xs ys → order_of_fronts (front_numbers xs) (front_numbers ys) ≡ o → o ≢ Equal → o ≡ slice_cmp nat_cmp xs ys
+by_numbers : (xs ys : List ℕ) (o : Ordering) → AreLong 24 xs ys → order_of_fronts (front_numbers xs) (front_numbers ys) ≡ o
+    → o ≢ Equal → o ≡ slice_cmp nat_cmp xs ys
 by_numbers xs ys o are =
-    stepped_number 8 xs ys later o (record { one = are.one; other = are.other; long = omega (arith, are.long); far = omega (arith, are.far) })
+    stepped_number 8 xs ys later o (record {
+      one = are.one;
+      other = are.other;
+      long = omega (arith, are.long);
+      far =
+          omega (arith, are.far);
+    })
     (stepped_number 8 (drop 8 xs) (drop 8 ys) last later second (last_number 8 (drop 8 (drop 8 xs)) (drop 8 (drop 8 ys)) third) refl)
   where
     last : Ordering
@@ -119,7 +137,13 @@ by_numbers xs ys o are =
     second =
         let one = length-drop 8 xs in
         let other = length-drop 8 ys in
-        record { one = behind_some 8 xs are.one; other = behind_some 8 ys are.other; long = omega (arith, one, are.long); far = omega (arith, other, are.far) }
+        record {
+          one = behind_some 8 xs are.one;
+          other = behind_some 8 ys are.other;
+          long = omega (arith, one, are.long);
+          far =
+              omega (arith, other, are.far);
+        }
 
     third : AreLong 8 (drop 8 (drop 8 xs)) (drop 8 (drop 8 ys))
     third =
@@ -127,12 +151,21 @@ by_numbers xs ys o are =
         let other = length-drop 8 ys in
         let two = length-drop 8 (drop 8 xs) in
         let next = length-drop 8 (drop 8 ys) in
-        record { one = behind_some 8 (drop 8 xs) second.one; other = behind_some 8 (drop 8 ys) second.other; long = omega (arith, one, two, are.long); far = omega (arith, other, next, are.far) }
+        record {
+          one = behind_some 8 (drop 8 xs) second.one;
+          other = behind_some 8 (drop 8 ys) second.other;
+          long =
+              omega (arith, one, two, are.long);
+          far = omega (arith, other, next, are.far);
+        }
 
 -- the fronts decide where they differ
-pub by_fronts : (name other : List ℕ) (front other_front : Front) (o : Ordering) → front ≡ front_of name → other_front ≡ front_of other → front.first ≢ 0 → other_front.first ≢ 0 → order_of_fronts front other_front ≡ o → o ≢ Equal → AreBytes name → AreBytes other → o ≡ slice_cmp nat_cmp name other
+pub by_fronts : (name other : List ℕ) (front other_front : Front) (o : Ordering) → front ≡ front_of name → other_front
+    ≡ front_of other → front.first ≢ 0 → other_front.first ≢ 0 → order_of_fronts front other_front ≡ o → o ≢ Equal → AreBytes name
+    → AreBytes other → o ≡ slice_cmp nat_cmp name other
 by_fronts name other front other_front o is also some other_some order apart bytes other_bytes =
     let one = numbers_of name front is some in
     let two = numbers_of other other_front also other_some in
     by_numbers name other o (record { one = bytes; other = other_bytes; long = one.0; far = two.0 })
-    (ap (λ (f : Front). order_of_fronts f (front_numbers other)) (sym one.1) ∙ ap (λ (f : Front). order_of_fronts front f) (sym two.1) ∙ order) apart
+    (ap (λ (f : Front). order_of_fronts f (front_numbers other)) (sym one.1) ∙ ap (λ (f : Front). order_of_fronts front f)
+    (sym two.1) ∙ order) apart

@@ -1,6 +1,7 @@
 -- Names that begin with the same bytes stand side by side in byte order, and none of them stands
 -- before these bytes.
-use Rattle.std.proofs.Common.{◌≡◌, ◌<◌, ◌≤◌, ℕ, Bool, true, false, List, [], ◌∷◌, length, map, get_or, nat_eq, nat_lt, ◌==◌, refl, sym, ap, subst, ◌∙◌, arith}
+use Rattle.std.proofs.Common.{◌≡◌, ◌<◌, ◌≤◌, ℕ, Bool, true, false, List, [], ◌∷◌, length, map, get_or, nat_eq}
+use Rattle.std.proofs.Common.{nat_lt, ◌==◌, refl, sym, ap, subst, ◌∙◌, arith}
 use Rattle.std.specs.Cmp.{ranks}
 use Rattle.std.specs.Cmp.Lexicographic.{slice_cmp}
 use Rattle.std.specs.Ordering.{MatchOrdering, is_lt, nat_cmp, ordering_then}
@@ -29,22 +30,27 @@ front_first (a ∷ front) (b ∷ name) is =
     let parts = and_parts (nat_eq a b) (starts_with nat_eq name front) is in
     go (nat_cmp b a) (ranks b a) (eqb-true a b parts.0) (front_first front name parts.1)
   where
-    go : (o : Ordering) → MatchOrdering o (b < a) (b ≡ a) (a < b) → a ≡ b → is_before name front ≡ false → is_lt (ordering_then o (slice_cmp nat_cmp name front)) ≡ false
+    go : (o : Ordering) → MatchOrdering o (b < a) (b ≡ a) (a < b) → a ≡ b → is_before name front ≡ false
+        → is_lt (ordering_then o (slice_cmp nat_cmp name front)) ≡ false
     go Less less same rest = absurd (omega (arith, less, same))
     go Equal is same rest = rest
     go Greater more same rest = refl
 
 -- what doesn't stand before it, nor behind a name that begins so, begins so
-begins_between : (front name other : List ℕ) → is_before name front ≡ false → is_before other name ≡ false → starts_with nat_eq other front ≡ true → starts_with nat_eq name front ≡ true
+begins_between : (front name other : List ℕ) → is_before name front ≡ false → is_before other name ≡ false
+    → starts_with nat_eq other front ≡ true → starts_with nat_eq name front ≡ true
 begins_between [] name other above below is = refl
 begins_between (a ∷ front) [] other above below is = absurd (false≢true (sym above))
 begins_between (a ∷ front) (b ∷ name) [] above below is = absurd (false≢true is)
 begins_between (a ∷ front) (b ∷ name) (c ∷ other) above below is =
     let parts = and_parts (nat_eq a c) (starts_with nat_eq other front) is in
-    go (nat_cmp b a) (nat_cmp c b) (ranks b a) (ranks c b) (eqb-true a c parts.0) above below (λ up down. begins_between front name other up down parts.1)
+    go (nat_cmp b a) (nat_cmp c b) (ranks b a) (ranks c b) (eqb-true a c parts.0) above below (λ up down. begins_between front name
+    other up down parts.1)
   where
-    go : (o p : Ordering) → MatchOrdering o (b < a) (b ≡ a) (a < b) → MatchOrdering p (c < b) (c ≡ b) (b < c) → a ≡ c → is_lt (ordering_then o (slice_cmp nat_cmp name front)) ≡ false → is_lt (ordering_then p (slice_cmp nat_cmp other name)) ≡ false
-        → (is_before name front ≡ false → is_before other name ≡ false → starts_with nat_eq name front ≡ true) → starts_with nat_eq (b ∷ name) (a ∷ front) ≡ true
+    go : (o p : Ordering) → MatchOrdering o (b < a) (b ≡ a) (a < b) → MatchOrdering p (c < b) (c ≡ b) (b < c) → a ≡ c
+        → is_lt (ordering_then o (slice_cmp nat_cmp name front)) ≡ false → is_lt (ordering_then p (slice_cmp nat_cmp other name)) ≡ false
+        → (is_before name front ≡ false → is_before other name ≡ false → starts_with nat_eq name front ≡ true)
+        → starts_with nat_eq (b ∷ name) (a ∷ front) ≡ true
     go Less p less two same up down rest = absurd (false≢true (sym up))
     go Equal Less is less same up down rest = absurd (false≢true (sym down))
     go Equal Equal is too same up down rest = and_from (nat_eq a b) (starts_with nat_eq name front) (eq-eqb a b (sym is)) (rest up down)
@@ -56,7 +62,8 @@ begins_between (a ∷ front) (b ∷ name) (c ∷ other) above below is =
 -- Entries
 
 -- of two entries that rise by name
-rises_at : (ts : List TakenEntry) (i j : ℕ) (d : TakenEntry) → RisesByName (map taken_as ts) → i < j → j < length ts → is_before (get_or ts i d).name (get_or ts j d).name ≡ true
+rises_at : (ts : List TakenEntry) (i j : ℕ) (d : TakenEntry) → RisesByName (map taken_as ts) → i < j → j < length ts
+    → is_before (get_or ts i d).name (get_or ts j d).name ≡ true
 rises_at ts i j d rises below within =
     let size = length-map ts taken_as in
     let one = get_or-map taken_as ts i d (taken_as d) (omega (arith, below, within)) in
@@ -66,7 +73,8 @@ rises_at ts i j d rises below within =
     (rises i j (taken_as d) below (omega (arith, within, size))))
 
 -- the names before some bytes come first
-pub parted : (ts : List TakenEntry) (front : List ℕ) → RisesByName (map taken_as ts) → IsPartitionedBy (λ (t : TakenEntry). is_before t.name front) ts
+pub parted : (ts : List TakenEntry) (front : List ℕ) → RisesByName (map taken_as ts)
+    → IsPartitionedBy (λ (t : TakenEntry). is_before t.name front) ts
 parted ts front rises i j d order within before = go (nat_lt i j) refl
   where
     go : (b : Bool) → nat_lt i j ≡ b → is_before (get_or ts i d).name front ≡ true
@@ -75,7 +83,8 @@ parted ts front rises i j d order within before = go (nat_lt i j) refl
         let same : j ≡ i = let not_below = ltb-false i j is in omega (arith, not_below, order) in
         subst (λ (k : ℕ). is_before (get_or ts k d).name front ≡ true) same before
 
-none_begins : (ts : List TakenEntry) (front : List ℕ) → ((t : TakenEntry) → Contains ts t → starts_with nat_eq t.name front ≡ true → ⊥) → begins (map taken_as ts) front ≡ false
+none_begins : (ts : List TakenEntry) (front : List ℕ) → ((t : TakenEntry) → Contains ts t → starts_with nat_eq t.name front ≡ true
+    → ⊥) → begins (map taken_as ts) front ≡ false
 none_begins ts front none =
     false_from_ne_true (begins (map taken_as ts) front) (λ is.
     let found = from_any (λ (e : Named). starts_with nat_eq e.0 front) (map taken_as ts) is in
@@ -87,18 +96,22 @@ not_before : (front name : List ℕ) → is_before name front ≡ true → start
 not_before front name before is = false≢true (sym (front_first front name is) ∙ before)
 
 abbrev pub IsPoint : List TakenEntry → List ℕ → ℕ → Type 0
-IsPoint ts front at = IsPartitionPoint (λ (t : TakenEntry). is_before t.name front ≡ true) (λ (t : TakenEntry). is_before t.name front ≡ false) ts at
+IsPoint ts front at = IsPartitionPoint (λ (t : TakenEntry). is_before t.name front ≡ true) (λ (t : TakenEntry). is_before t.name
+    front ≡ false) ts at
 
 -- all names stand before the bytes, so none begins so
-pub begins_nowhere : (ts : List TakenEntry) (front : List ℕ) (at : ℕ) → IsPoint ts front at → length ts ≤ at → begins (map taken_as ts) front ≡ false
+pub begins_nowhere : (ts : List TakenEntry) (front : List ℕ) (at : ℕ) → IsPoint ts front at → length ts ≤ at
+    → begins (map taken_as ts) front ≡ false
 begins_nowhere ts front at point all = none_begins ts front go
   where
     go : (t : TakenEntry) → Contains ts t → starts_with nat_eq t.name front ≡ true → ⊥
     go t (k, within, is) so =
-        not_before front t.name (subst (λ (s : TakenEntry). is_before s.name front ≡ true) is (point.0 k t (omega arith) (omega (arith, all, within)))) so
+        not_before front t.name (subst (λ (s : TakenEntry). is_before s.name front ≡ true) is (point.0 k t (omega arith)
+        (omega (arith, all, within)))) so
 
 -- the first name that doesn't stand before the bytes tells whether one begins so
-pub begins_at : (ts : List TakenEntry) (front : List ℕ) (at : ℕ) (t : TakenEntry) → RisesByName (map taken_as ts) → IsPoint ts front at → at < length ts → get_or ts at t ≡ t → begins (map taken_as ts) front ≡ starts_with nat_eq t.name front
+pub begins_at : (ts : List TakenEntry) (front : List ℕ) (at : ℕ) (t : TakenEntry) → RisesByName (map taken_as ts)
+    → IsPoint ts front at → at < length ts → get_or ts at t ≡ t → begins (map taken_as ts) front ≡ starts_with nat_eq t.name front
 begins_at ts front at t rises point within here = go (starts_with nat_eq t.name front) refl
   where
     above : is_before t.name front ≡ false
@@ -109,7 +122,8 @@ begins_at ts front at t rises point within here = go (starts_with nat_eq t.name 
       where
         order : (b c : Bool) → nat_lt k at ≡ b → (k == at) ≡ c → ⊥
         order true c before e =
-            not_before front s.name (subst (λ (r : TakenEntry). is_before r.name front ≡ true) is (point.0 k s (omega arith) (ltb-true k at before))) so
+            not_before front s.name (subst (λ (r : TakenEntry). is_before r.name front ≡ true) is (point.0 k s (omega arith)
+            (ltb-true k at before))) so
         order false true l same =
             let one : s ≡ t = sym is ∙ ap (λ (i : ℕ). get_or ts i s) (eqb-true k at same) ∙ get_or_default ts at s t within ∙ here in
             false≢true (sym not_so ∙ ap (λ (r : TakenEntry). starts_with nat_eq r.name front) (sym one) ∙ so)
@@ -117,9 +131,11 @@ begins_at ts front at t rises point within here = go (starts_with nat_eq t.name 
             let below : at < k = let a = ltb-false k at l in let b = eqb-false k at e in omega (arith, a, b) in
             let up : is_before t.name s.name ≡ true =
             subst (λ (r : TakenEntry). is_before t.name r.name ≡ true) is
-            (subst (λ (r : TakenEntry). is_before r.name (get_or ts k s).name ≡ true) (get_or_default ts at s t within ∙ here) (rises_at ts at k s rises below inside)) in
+            (subst (λ (r : TakenEntry). is_before r.name (get_or ts k s).name ≡ true) (get_or_default ts at s t within ∙ here)
+            (rises_at ts at k s rises below inside)) in
             false≢true (sym not_so ∙ begins_between front t.name s.name above (before_one_way t.name s.name up) so)
 
     go : (b : Bool) → starts_with nat_eq t.name front ≡ b → begins (map taken_as ts) front ≡ b
-    go true is = any_contains (λ (e : Named). starts_with nat_eq e.0 front) (map taken_as ts) (taken_as t) (contains_map taken_as ts t (at, within, here)) is
+    go true is = any_contains (λ (e : Named). starts_with nat_eq e.0 front) (map taken_as ts) (taken_as t)
+        (contains_map taken_as ts t (at, within, here)) is
     go false is = none_begins ts front (other is)

@@ -1,5 +1,6 @@
 -- A name that may stand in an image is UTF-8 once its pairs of surrogates are characters.
-use Rattle.std.proofs.Common.{◌≡◌, ℕ, ◌+◌, ◌*◌, ◌-◌, ◌/◌, ◌%◌, ◌<◌, ◌≤◌, Bool, true, false, ◌==◌, nat_lt, List, [], ◌∷◌, ◌++◌, length, refl, sym, ap, subst, ◌∙◌, arith}
+use Rattle.std.proofs.Common.{◌≡◌, ℕ, ◌+◌, ◌*◌, ◌-◌, ◌/◌, ◌%◌, ◌<◌, ◌≤◌, Bool, true, false, ◌==◌, nat_lt}
+use Rattle.std.proofs.Common.{List, [], ◌∷◌, ◌++◌, length, refl, sym, ap, subst, ◌∙◌, arith}
 use lib.Utf8.{scalar, low_scalar}
 use Rattle.std.specs.Str.{IsUtf8}
 use Rattle.std.specs.Char.{encode_utf8}
@@ -44,7 +45,8 @@ two_text a x above below high low =
     let e : encode_utf8 c ≡ a ∷ x ∷ [] = rw (first, second, front, last) refl in
     subst IsUtf8 e (IsUtf8-encode c (low_scalar c (omega (arith, above, below, high, low))))
 
-three_scalar : (a x y : ℕ) → 0xE0 ≤ a → a ≤ 0xEF → 0x80 ≤ x → x ≤ 0xBF → 0x80 ≤ y → y ≤ 0xBF → (a ≡ 0xED → x < 0xA0) → scalar (three_number a x y) ≡ true
+three_scalar : (a x y : ℕ) → 0xE0 ≤ a → a ≤ 0xEF → 0x80 ≤ x → x ≤ 0xBF → 0x80 ≤ y → y ≤ 0xBF → (a ≡ 0xED → x < 0xA0)
+    → scalar (three_number a x y) ≡ true
 three_scalar a x y above below high low more less surrogate = go (nat_lt a 0xED) (a == 0xED) refl refl
   where
     go : (b c : Bool) → nat_lt a 0xED ≡ b → (a == 0xED) ≡ c → scalar (three_number a x y) ≡ true
@@ -58,9 +60,11 @@ three_scalar a x y above below high low more less surrogate = go (nat_lt a 0xED)
     go false false l e =
         let one = ltb-false a 0xED l in
         let other = eqb-false a 0xED e in
-        above_scalar (three_number a x y) (omega (arith, one, other, high, low, more, less)) (omega (arith, below, above, high, low, more, less))
+        above_scalar (three_number a x y) (omega (arith, one, other, high, low, more, less))
+        (omega (arith, below, above, high, low, more, less))
 
-three_text : (a x y : ℕ) → 0xE0 ≤ a → a ≤ 0xEF → 0x80 ≤ x → x ≤ 0xBF → 0x80 ≤ y → y ≤ 0xBF → (a ≡ 0xE0 → 0xA0 ≤ x) → (a ≡ 0xED → x < 0xA0) → IsUtf8 (a ∷ x ∷ y ∷ [])
+three_text : (a x y : ℕ) → 0xE0 ≤ a → a ≤ 0xEF → 0x80 ≤ x → x ≤ 0xBF → 0x80 ≤ y → y ≤ 0xBF → (a ≡ 0xE0 → 0xA0 ≤ x)
+    → (a ≡ 0xED → x < 0xA0) → IsUtf8 (a ∷ x ∷ y ∷ [])
 unfolding encode_utf8
 three_text a x y above below high low more less overlong surrogate =
     let c = three_number a x y in
@@ -135,9 +139,11 @@ character_text (a ∷ x ∷ y ∷ []) rest h text =
     let second = l.low in
     let third = m.1 in
     let same : utf (a ∷ x ∷ y ∷ rest) ≡ a ∷ x ∷ y ∷ utf rest =
-    front (a == 0xED) refl l.surrogate ∙ ap (λ t. a ∷ t) (utf-byte x (y ∷ rest) (no_surrogate x second) ∙ ap (λ t. x ∷ t) (utf-byte y rest (no_surrogate y third)))
+    front (a == 0xED) refl l.surrogate ∙ ap (λ t. a ∷ t) (utf-byte x (y ∷ rest) (no_surrogate x second)
+    ∙ ap (λ t. x ∷ t) (utf-byte y rest (no_surrogate y third)))
     in
-    subst IsUtf8 (sym same) (IsUtf8-append (a ∷ x ∷ y ∷ []) (utf rest) (three_text a x y l.above l.below l.high l.low m.0 m.1 l.overlong l.surrogate) text)
+    subst IsUtf8 (sym same) (IsUtf8-append (a ∷ x ∷ y ∷ []) (utf rest) (three_text a x y l.above l.below l.high l.low m.0 m.1
+    l.overlong l.surrogate) text)
   where
     front : (b : Bool) → (a == 0xED) ≡ b → (a ≡ 0xED → x < 0xA0) → utf (a ∷ x ∷ y ∷ rest) ≡ a ∷ utf (x ∷ y ∷ rest)
     front true is low = utf-low a x (y ∷ rest) (low (eqb-true a 0xED is))
@@ -147,7 +153,8 @@ character_text (a ∷ x ∷ y ∷ b ∷ z ∷ []) rest h text = absurd (false≢
 character_text (a ∷ x ∷ y ∷ b ∷ z ∷ w ∷ []) rest h text =
     let same : utf (a ∷ x ∷ y ∷ b ∷ z ∷ w ∷ rest) ≡ four_bytes (pair_number x y z w) ++ utf rest = rw h in
     let number : (0x10000 ≤ pair_number x y z w) × (pair_number x y z w < 0x110000) = (omega arith, omega arith) in
-    subst IsUtf8 (sym same) (IsUtf8-append (four_bytes (pair_number x y z w)) (utf rest) (four_text (pair_number x y z w) number.0 number.1) text)
+    subst IsUtf8 (sym same) (IsUtf8-append (four_bytes (pair_number x y z w)) (utf rest) (four_text (pair_number x y z w) number.0
+    number.1) text)
 character_text (a ∷ x ∷ y ∷ b ∷ z ∷ w ∷ u ∷ c) rest h text = absurd (false≢true h)
 
 utf_text : (name : List ℕ) → IsText name → IsUtf8 (utf name)
@@ -167,7 +174,12 @@ sound_text name sound = go (nat_lt (text_len name) (length name)) refl
     longest = text_len-longest name
 
     go : (b : Bool) → nat_lt (text_len name) (length name) ≡ b → IsText name
-    go true less = absurd (sound (NotText (text_len name)) (λ text. longest.longest (length name) (ltb-true (text_len name) (length name) less) (omega arith) (subst IsText (sym (take_all (length name) name (omega arith))) text), longest))
+    go true less =
+        absurd (sound (NotText (text_len name)) (
+          λ text. longest.longest (length name) (ltb-true (text_len name) (length name) less)
+              (omega arith) (subst IsText (sym (take_all (length name) name (omega arith))) text),
+          longest,
+        ))
     go false more =
         let within = ltb-false (text_len name) (length name) more in
         subst IsText (take_all (text_len name) name within) longest.text

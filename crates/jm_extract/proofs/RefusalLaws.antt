@@ -21,6 +21,7 @@ unfolding refusal_of
 refused_clash es o none is =
     is ∙ alone (first_clash es) ∙ ap (λ (p : Option Refusal). first_fault (p ∷ first_clash es ∷ [])) none
 
-pub clash_decides : {E : Type 0} (es : List Named) (answer : Result (Option Refusal) E) → None ≡ first_bad_name es → IfOk answer (λ o. o ≡ first_clash es) → IfOk answer (λ o. o ≡ refusal_of es)
+pub clash_decides : {E : Type 0} (es : List Named) (answer : Result (Option Refusal) E) → None ≡ first_bad_name es
+    → IfOk answer (λ o. o ≡ first_clash es) → IfOk answer (λ o. o ≡ refusal_of es)
 clash_decides es (Ok o) none is = refused_clash es o none is
 clash_decides es (Err e) none is = tt

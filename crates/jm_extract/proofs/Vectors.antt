@@ -30,7 +30,8 @@ nodes_left_out = refl
 -- Refusals
 
 -- `-` stands before `/`
-clash_behind_another : refusal_of ((codes "/m/a", []) ∷ (codes "/m/a-b", []) ∷ (codes "/m/a/b", []) ∷ []) ≡ Some (refusal.Clash (codes "/m/a"))
+clash_behind_another : refusal_of ((codes "/m/a", []) ∷ (codes "/m/a-b", []) ∷ (codes "/m/a/b", []) ∷ [])
+    ≡ Some (refusal.Clash (codes "/m/a"))
 unfolding refusal_of
 clash_behind_another = refl
 
@@ -38,7 +39,8 @@ no_clash : refusal_of ((codes "/m/a", []) ∷ (codes "/m/ab", []) ∷ (codes "/m
 unfolding refusal_of
 no_clash = refl
 
-bad_name_first : refusal_of ((codes "/m/a", []) ∷ (codes "/m/a/b", []) ∷ (codes "/m/b//c", []) ∷ []) ≡ Some (refusal.BadName (codes "/m/b//c") EmptyPart)
+bad_name_first : refusal_of ((codes "/m/a", []) ∷ (codes "/m/a/b", []) ∷ (codes "/m/b//c", []) ∷ [])
+    ≡ Some (refusal.BadName (codes "/m/b//c") EmptyPart)
 unfolding refusal_of
 bad_name_first = refl
 
@@ -48,9 +50,11 @@ least_bad_name = refl
 
 -- Files
 
-made : written [] (writes_of (codes "out") ((codes "/m/a", codes "hi") ∷ (codes "/n/b", []) ∷ [])) ≡ (codes "out/m/a", codes "hi") ∷ (codes "out/n/b", []) ∷ []
+made : written [] (writes_of (codes "out") ((codes "/m/a", codes "hi") ∷ (codes "/n/b", []) ∷ [])) ≡ (codes "out/m/a", codes "hi")
+    ∷ (codes "out/n/b", []) ∷ []
 made = refl
 
 -- a pair of surrogates is a character of four bytes in the path
-above_ffff : write_of (codes "d") (codes "/m/" ++ 0xED ∷ 0xA0 ∷ 0xBD ∷ 0xED ∷ 0xB8 ∷ 0x80 ∷ [], []) ≡ (codes "d/m/" ++ 0xF0 ∷ 0x9F ∷ 0x98 ∷ 0x80 ∷ [], [])
+above_ffff : write_of (codes "d") (codes "/m/" ++ 0xED ∷ 0xA0 ∷ 0xBD ∷ 0xED ∷ 0xB8 ∷ 0x80 ∷ [], [])
+    ≡ (codes "d/m/" ++ 0xF0 ∷ 0x9F ∷ 0x98 ∷ 0x80 ∷ [], [])
 above_ffff = refl

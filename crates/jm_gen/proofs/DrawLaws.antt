@@ -19,12 +19,14 @@ mapped f g [] same = refl
 mapped f g (x ∷ xs) same = ap (λ y. y ∷ map f xs) (same x) ∙ ap (λ ys. g x ∷ ys) (mapped f g xs same)
 
 -- the files of a module by the draws before it are those by a seed that these draws made
-pub same_files : (dir : List ℕ) (classes seed k before : ℕ) → module_files dir classes (drawn seed before) k 0 ≡ module_files dir classes seed k before
+pub same_files : (dir : List ℕ) (classes seed k before : ℕ) → module_files dir classes (drawn seed before) k 0
+    ≡ module_files dir classes seed k before
 same_files dir classes seed k before =
     let first : before + (0 + 1) ≡ before + 1 = omega arith in
     ap (λ (d : ℕ). info_file dir k d ∷ map (λ c. class_file dir k c (drawn (drawn seed before) (0 + 2 + c))) (range_with_len 0 classes))
     (drawn-drawn seed before (0 + 1) ∙ ap (drawn seed) first)
     ∙ ap (λ fs. info_file dir k (drawn seed (before + 1)) ∷ fs)
-    (mapped (λ c. class_file dir k c (drawn (drawn seed before) (0 + 2 + c))) (λ c. class_file dir k c (drawn seed (before + 2 + c))) (range_with_len 0 classes)
+    (mapped (λ c. class_file dir k c (drawn (drawn seed before) (0 + 2 + c)))
+    (λ c. class_file dir k c (drawn seed (before + 2 + c))) (range_with_len 0 classes)
     (λ c. let on : before + (0 + 2 + c) ≡ before + 2 + c = omega arith in
     ap (class_file dir k c) (drawn-drawn seed before (0 + 2 + c) ∙ ap (drawn seed) on)))

@@ -28,22 +28,29 @@ name_next n = sym (ap (map module_name) (range_next n) ∙ map-append module_nam
 
 -- A file, and then one for each number
 
-pub made_first : (first : List ℕ × List ℕ) (f : ℕ → List ℕ × List ℕ) (old new : Option Files) → MadeAll (first ∷ []) old new → MadeAll (first ∷ map f (range_with_len 0 0)) old new
+pub made_first : (first : List ℕ × List ℕ) (f : ℕ → List ℕ × List ℕ) (old new : Option Files) → MadeAll (first ∷ []) old new
+    → MadeAll (first ∷ map f (range_with_len 0 0)) old new
 made_first first f old new made = made
 
-pub part_first : (first : List ℕ × List ℕ) (f : ℕ → List ℕ × List ℕ) (m : ℕ) (old new : Option Files) → MadePart (first ∷ []) old new → MadePart (first ∷ map f (range_with_len 0 m)) old new
+pub part_first : (first : List ℕ × List ℕ) (f : ℕ → List ℕ × List ℕ) (m : ℕ) (old new : Option Files)
+    → MadePart (first ∷ []) old new → MadePart (first ∷ map f (range_with_len 0 m)) old new
 part_first first f m old new part = part_longer (first ∷ []) (map f (range_with_len 0 m)) old new part
 
-next_file : (first : List ℕ × List ℕ) (f : ℕ → List ℕ × List ℕ) (n : ℕ) → (first ∷ map f (range_with_len 0 n)) ++ f n ∷ [] ≡ first ∷ map f (range_with_len 0 (n + 1))
+next_file : (first : List ℕ × List ℕ) (f : ℕ → List ℕ × List ℕ) (n : ℕ) → (first ∷ map f (range_with_len 0 n)) ++ f n ∷ []
+    ≡ first ∷ map f (range_with_len 0 (n + 1))
 next_file first f n =
     sym (ap (λ ks. first ∷ map f ks) (range_next n) ∙ ap (λ fs. first ∷ fs) (map-append f (range_with_len 0 n) (n ∷ [])))
 
-pub made_next : (first : List ℕ × List ℕ) (f : ℕ → List ℕ × List ℕ) (n : ℕ) (old now new : Option Files) → MadeAll (first ∷ map f (range_with_len 0 n)) old now → MadeAll (f n ∷ []) now new → MadeAll (first ∷ map f (range_with_len 0 (n + 1))) old new
+pub made_next : (first : List ℕ × List ℕ) (f : ℕ → List ℕ × List ℕ) (n : ℕ) (old now new : Option Files)
+    → MadeAll (first ∷ map f (range_with_len 0 n)) old now → MadeAll (f n ∷ []) now new
+    → MadeAll (first ∷ map f (range_with_len 0 (n + 1))) old new
 made_next first f n old now new done made =
     subst (λ (fs : Writes). MadeAll fs old new) (next_file first f n)
     (made_append (first ∷ map f (range_with_len 0 n)) (f n ∷ []) old now new done made)
 
-pub part_next : (first : List ℕ × List ℕ) (f : ℕ → List ℕ × List ℕ) (n m : ℕ) (old now new : Option Files) → n < m → MadeAll (first ∷ map f (range_with_len 0 n)) old now → MadePart (f n ∷ []) now new → MadePart (first ∷ map f (range_with_len 0 m)) old new
+pub part_next : (first : List ℕ × List ℕ) (f : ℕ → List ℕ × List ℕ) (n m : ℕ) (old now new : Option Files) → n < m
+    → MadeAll (first ∷ map f (range_with_len 0 n)) old now → MadePart (f n ∷ []) now new
+    → MadePart (first ∷ map f (range_with_len 0 m)) old new
 part_next first f n m old now new inside done part =
     subst (λ (fs : Writes). MadePart (first ∷ fs) old new)
     (sym (ap (map f) (range_split (n + 1) m (omega (arith, inside))) ∙ map-append f (range_with_len 0 (n + 1)) rest))
@@ -53,7 +60,8 @@ part_next first f n m old now new inside done part =
     rest = range_with_len (n + 1) (m - (n + 1))
 
     more : MadePart (first ∷ map f (range_with_len 0 (n + 1))) old new
-    more = subst (λ (fs : Writes). MadePart fs old new) (next_file first f n) (part_append (first ∷ map f (range_with_len 0 n)) (f n ∷ []) old now new done part)
+    more = subst (λ (fs : Writes). MadePart fs old new) (next_file first f n) (part_append (first ∷ map f (range_with_len 0 n))
+        (f n ∷ []) old now new done part)
 
 -- The files of each number
 
@@ -62,12 +70,14 @@ next_files g n =
     sym (ap (flat_map g) (range_next n) ∙ flat_map-append g (range_with_len 0 n) (n ∷ [])
     ∙ ap (λ fs. flat_map g (range_with_len 0 n) ++ fs) (append-nil (g n)))
 
-pub all_next : (g : ℕ → Writes) (n : ℕ) (old now new : Option Files) → MadeAll (flat_map g (range_with_len 0 n)) old now → MadeAll (g n) now new → MadeAll (flat_map g (range_with_len 0 (n + 1))) old new
+pub all_next : (g : ℕ → Writes) (n : ℕ) (old now new : Option Files) → MadeAll (flat_map g (range_with_len 0 n)) old now
+    → MadeAll (g n) now new → MadeAll (flat_map g (range_with_len 0 (n + 1))) old new
 all_next g n old now new done made =
     subst (λ (fs : Writes). MadeAll fs old new) (next_files g n)
     (made_append (flat_map g (range_with_len 0 n)) (g n) old now new done made)
 
-pub some_next : (g : ℕ → Writes) (n m : ℕ) (old now new : Option Files) → n < m → MadeAll (flat_map g (range_with_len 0 n)) old now → MadePart (g n) now new → MadePart (flat_map g (range_with_len 0 m)) old new
+pub some_next : (g : ℕ → Writes) (n m : ℕ) (old now new : Option Files) → n < m → MadeAll (flat_map g (range_with_len 0 n)) old now
+    → MadePart (g n) now new → MadePart (flat_map g (range_with_len 0 m)) old new
 some_next g n m old now new inside done part =
     subst (λ (fs : Writes). MadePart fs old new)
     (sym (ap (flat_map g) (range_split (n + 1) m (omega (arith, inside))) ∙ flat_map-append g (range_with_len 0 (n + 1)) rest))
@@ -77,4 +87,5 @@ some_next g n m old now new inside done part =
     rest = range_with_len (n + 1) (m - (n + 1))
 
     more : MadePart (flat_map g (range_with_len 0 (n + 1))) old new
-    more = subst (λ (fs : Writes). MadePart fs old new) (next_files g n) (part_append (flat_map g (range_with_len 0 n)) (g n) old now new done part)
+    more = subst (λ (fs : Writes). MadePart fs old new) (next_files g n) (part_append (flat_map g (range_with_len 0 n)) (g n) old
+        now new done part)

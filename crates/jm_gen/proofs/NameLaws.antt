@@ -21,7 +21,8 @@ module_ascii k = IsAscii-cons 109 (digit (k / 100) ∷ digit (k / 10) ∷ digit 
 class_ascii : (c : ℕ) → IsAscii (class_name c)
 class_ascii c =
     IsAscii-cons 67 (digit (c / 1000) ∷ digit (c / 100) ∷ digit (c / 10) ∷ digit c ∷ []) (omega arith)
-    (IsAscii-cons (digit (c / 1000)) (digit (c / 100) ∷ digit (c / 10) ∷ digit c ∷ []) (digit_ascii (c / 1000)) (three (c / 100) (c / 10) c))
+    (IsAscii-cons (digit (c / 1000)) (digit (c / 100) ∷ digit (c / 10) ∷ digit c ∷ []) (digit_ascii (c / 1000))
+    (three (c / 100) (c / 10) c))
 
 slash : IsAscii (codes "/")
 slash = ascii_all (codes "/") refl

@@ -9,7 +9,8 @@ first_draw = refl
 second_draw : drawn 0 2 ≡ 1876011003808476466
 second_draw = refl
 
-paths : map (λ f. f.0) (generated (codes "d/mods") 1 1 0) ≡ codes "d/mods/m000/module-info.class" ∷ codes "d/mods/m000/m000/p0/C0000.class" ∷ []
+paths : map (λ f. f.0) (generated (codes "d/mods") 1 1 0) ≡ codes "d/mods/m000/module-info.class"
+    ∷ codes "d/mods/m000/m000/p0/C0000.class" ∷ []
 paths = refl
 
 sizes : map (λ f. length f.1) (generated (codes "d/mods") 1 1 0) ≡ 82 ∷ 185 ∷ []

@@ -1,5 +1,7 @@
 -- Items beside the answers to them, list by list: for the map and for its callers.
-use Rattle.std.proofs.Common.{◌≡◌, ℕ, ◌+◌, ◌-◌, ◌<◌, ◌≤◌, List, [], ◌∷◌, ◌++◌, length, get_or, take, drop, take-add, map, slice_range, Result, Ok, Err, IfOk, IsOkAnd, sym, subst, ap, ◌∙◌, arith}
+use Rattle.std.proofs.Common.{◌≡◌, ℕ, ◌+◌, ◌-◌, ◌<◌, ◌≤◌, List, [], ◌∷◌, ◌++◌, length, get_or, take, drop}
+use Rattle.std.proofs.Common.{take-add, map, slice_range, Result, Ok, Err, IfOk, IsOkAnd, sym, subst, ap, ◌∙◌}
+use Rattle.std.proofs.Common.{arith}
 use Rattle.std.proofs.Math.Seq.{take-length}
 use Rattle.std.proofs.lemmas.List.{drop-drop, take_more}
 use Rattle.std.proofs.lemmas.Slice.Zip.{AllZip-map, all_zipped_more}
@@ -33,7 +35,8 @@ module _ {A B : Type 0} (R : A → B → Type 0) where
   zip_runs xs pieces from middle to some a b ys zs front back =
       let start = piece_start (length xs) pieces in
       subst (λ (l : List A). AllZip R l (ys ++ zs))
-      (range-append xs (start from) (start middle) (start to) (piece_start-mono (length xs) pieces from middle some a) (piece_start-mono (length xs) pieces middle to some b))
+      (range-append xs (start from) (start middle) (start to) (piece_start-mono (length xs) pieces from middle some a)
+      (piece_start-mono (length xs) pieces middle to some b))
       (zip_append _ _ ys zs front back)
 
   -- the same of two answers that may be errors
@@ -52,7 +55,11 @@ module _ {A B : Type 0} (R : A → B → Type 0) where
   -- all pieces are the whole list
   pub zip_whole : (xs : List A) (pieces : ℕ) → 0 < pieces → (ys : List B) → AllZip R (pieces_between xs pieces 0 pieces) ys → AllZip R xs ys
   zip_whole xs pieces some ys zipped =
-      let all : pieces_between xs pieces 0 pieces ≡ xs = rw (piece_start-first (length xs) pieces, piece_start-end (length xs) pieces some) (grind (arith, take-length {A = A})) in
+      let all : pieces_between xs pieces 0 pieces ≡ xs = rw (
+        piece_start-first (length xs) pieces,
+        piece_start-end (length xs)
+            pieces some,
+      ) (grind (arith, take-length {A = A})) in
       subst (λ (l : List A). AllZip R l ys) all zipped
 
   -- one more item with its answer
@@ -71,7 +78,8 @@ module _ {A B : Type 0} (R : A → B → Type 0) where
   zip_weaker Q (x ∷ xs) (y ∷ ys) weaker zipped = (weaker x y zipped.0, zip_weaker Q xs ys weaker zipped.1)
 
 -- for a caller of `map_halves`: each answer meets what is said of any answer to the item
-pub zipped_each : {F A B : Type 0} (g : Shared F (Bor A × Unit {0}) B) (f : F) (Q : A → B → Type 0) (xs : List A) (ys : List B) → ((x : Bor A) (b : B) → FnReturns g f (x, tt) b → Q x.now b) → AllZip (FnReturnsAt g f) xs ys → AllZip Q xs ys
+pub zipped_each : {F A B : Type 0} (g : Shared F (Bor A × Unit {0}) B) (f : F) (Q : A → B → Type 0) (xs : List A) (ys : List B)
+    → ((x : Bor A) (b : B) → FnReturns g f (x, tt) b → Q x.now b) → AllZip (FnReturnsAt g f) xs ys → AllZip Q xs ys
 zipped_each g f Q xs ys answers zipped =
     zip_weaker (FnReturnsAt g f) Q xs ys (λ x y says. subst (λ z. Q z y) says.shows (answers says.shown y says.says)) zipped
 
@@ -80,5 +88,6 @@ pub zipped_map_ok : {F A B E : Type 0} (g : Shared F (Bor A × Unit {0}) B) (f :
     → ((x : Bor A) (b : B) → FnReturns g f (x, tt) b → b ≡ v x.now) → IfOk r (λ ys. AllZip (FnReturnsAt g f) xs ys)
     → IfOk r (λ ys. ys ≡ map v xs)
 zipped_map_ok g f v xs (Ok ys) answers zipped =
-    AllZip-map v xs ys (zip_weaker (FnReturnsAt g f) (λ x y. y ≡ v x) xs ys (λ x y says. answers says.shown y says.says ∙ ap v says.shows) zipped)
+    AllZip-map v xs ys (zip_weaker (FnReturnsAt g f) (λ x y. y ≡ v x) xs ys (λ x y says. answers says.shown y says.says
+    ∙ ap v says.shows) zipped)
 zipped_map_ok g f v xs (Err e) answers zipped = tt

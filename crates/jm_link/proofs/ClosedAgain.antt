@@ -1,6 +1,8 @@
 -- The modules of a closure by themselves are the closure of their names: nothing is refused, and
 -- all of them are taken. They may have lost packages.
-use Rattle.std.proofs.Common.{◌≡◌, ◌<◌, ◌+◌, inl, inr, ℕ, zero, suc, Bool, true, false, List, [], ◌∷◌, ◌++◌, length, map, get_or, AllPairs, Contains, Some, slice_get, Ok, refl, sym, ap, subst, ◌∙◌, arith}
+use Rattle.std.proofs.Common.{◌≡◌, ◌<◌, ◌+◌, inl, inr, ℕ, zero, suc, Bool, true, false, List, [], ◌∷◌, ◌++◌}
+use Rattle.std.proofs.Common.{length, map, get_or, AllPairs, Contains, Some, slice_get, Ok, refl, sym, ap}
+use Rattle.std.proofs.Common.{subst, ◌∙◌, arith}
 use Rattle.std.proofs.lemmas.List.FromFn.{get_or-range_with_len, length-range_with_len}
 use Rattle.std.proofs.lemmas.Option.{slice_get-get_or, slice_get-map}
 use Rattle.std.specs.Cmp.Lexicographic.{slice_cmp}
@@ -8,7 +10,8 @@ use Rattle.std.specs.List.{filter_map, range_with_len}
 use Rattle.std.specs.Ordering.{is_lt, nat_cmp}
 use Rattle.std.specs.declared.cmp.Ordering.TheVariants.{Less}
 use Rattle.jm_bytes.proofs.Choice.{same_some}
-use Rattle.jm_bytes.proofs.Members.{contains_cases, contains_filter_map, contains_here, contains_later, contains_map, contains_none, contains_range, from_map, from_range}
+use Rattle.jm_bytes.proofs.Members.{contains_cases, contains_filter_map, contains_here, contains_later}
+use Rattle.jm_bytes.proofs.Members.{contains_map, contains_none, contains_range, from_map, from_range}
 use Rattle.jm_bytes.proofs.Pairs.{pairs_filter_map, pairs_map, pairs_weaker}
 use Rattle.jm_closure.specs.declared.candidate.Candidate.{Candidate}
 use Rattle.jm_closure.proofs.ReachLaws.{leads_more}
@@ -24,7 +27,8 @@ use Rattle.std.proofs.lemmas.Option.{slice_get_within}
 
 -- Places
 
-pub pairs_at : {X : Type 0} (R : X → X → Type 0) (xs : List X) → AllPairs R xs → (i j : ℕ) (x y : X) → slice_get xs i ≡ Some x → slice_get xs j ≡ Some y → i < j → R x y
+pub pairs_at : {X : Type 0} (R : X → X → Type 0) (xs : List X) → AllPairs R xs → (i j : ℕ) (x y : X) → slice_get xs i ≡ Some x
+    → slice_get xs j ≡ Some y → i < j → R x y
 pairs_at R xs pairs i j x y one other less =
     let up = pairs i j x less (slice_get_within xs j y other) in
     rw (at i x one, at j y other) at up
@@ -41,14 +45,18 @@ place_of (y ∷ xs) x there =
     ]
 
 -- an item at a place among those that some places give
-pub at_place : {X : Type 0} (xs : List X) (places : List ℕ) → ((i : ℕ) → Contains places i → i < length xs) → (k : ℕ) (x : X) → slice_get (filter_map (slice_get xs) places) k ≡ Some x → (i : ℕ) × (slice_get places k ≡ Some i) × (slice_get xs i ≡ Some x)
+pub at_place : {X : Type 0} (xs : List X) (places : List ℕ) → ((i : ℕ) → Contains places i → i < length xs) → (k : ℕ) (x : X)
+    → slice_get (filter_map (slice_get xs) places) k ≡ Some x → (i : ℕ) × (slice_get places k ≡ Some i) × (slice_get xs i ≡ Some x)
 at_place xs [] inside k x is = cc
-at_place {X = X} xs (p ∷ places) inside k x is = go k (rw held.1 at is) (λ l later. at_place xs places (λ i among. inside i (contains_later p places i among)) l x later)
+at_place {X = X} xs (p ∷ places) inside k x is = go k (rw held.1 at is) (λ l later. at_place xs places
+    (λ i among. inside i (contains_later p places i among)) l x later)
   where
     held : (y : X) × (slice_get xs p ≡ Some y)
     held = element_at xs p (inside p (contains_here p places))
 
-    go : (k : ℕ) → slice_get (held.0 ∷ filter_map (slice_get xs) places) k ≡ Some x → ((l : ℕ) → slice_get (filter_map (slice_get xs) places) l ≡ Some x → (i : ℕ) × (slice_get places l ≡ Some i) × (slice_get xs i ≡ Some x)) → (i : ℕ) × (slice_get (p ∷ places) k ≡ Some i) × (slice_get xs i ≡ Some x)
+    go : (k : ℕ) → slice_get (held.0 ∷ filter_map (slice_get xs) places) k ≡ Some x
+        → ((l : ℕ) → slice_get (filter_map (slice_get xs) places) l ≡ Some x → (i : ℕ) × (slice_get places l ≡ Some i)
+        × (slice_get xs i ≡ Some x)) → (i : ℕ) × (slice_get (p ∷ places) k ≡ Some i) × (slice_get xs i ≡ Some x)
     go zero first behind = (p, refl, held.1 ∙ first)
     go (suc k) later behind = behind k later
 
@@ -56,28 +64,34 @@ range_at : (n k i : ℕ) → slice_get (range_with_len 0 n) k ≡ Some i → i �
 range_at n k i is =
     let inside = slice_get_within (range_with_len 0 n) k i is in
     let long = length-range_with_len 0 n in
-    same_some i k (sym is ∙ slice_get-get_or (range_with_len 0 n) k 0 inside ∙ ap Some (get_or-range_with_len 0 n k 0 (omega (arith, inside, long)) ∙ omega arith))
+    same_some i k (sym is ∙ slice_get-get_or (range_with_len 0 n) k 0 inside
+    ∙ ap Some (get_or-range_with_len 0 n k 0 (omega (arith, inside, long)) ∙ omega arith))
 
 -- What follows from a chosen module is chosen
-pub chosen_further : (bind : Bool) (found : List Candidate) (roots : List (List ℕ)) (i j : ℕ) → Chosen bind found roots i → Requires found i j → Chosen bind found roots j
+pub chosen_further : (bind : Bool) (found : List Candidate) (roots : List (List ℕ)) (i j : ℕ) → Chosen bind found roots i
+    → Requires found i j → Chosen bind found roots j
 chosen_further true found roots i j bound requires = λ places closed. closed.required i j (bound places closed) requires
-chosen_further false found roots i j (from, places, root, leads) requires = (from, places ++ j ∷ [], root, leads_more (Requires found) from places i j leads requires)
+chosen_further false found roots i j (from, places, root, leads) requires =
+    (from, places ++ j ∷ [], root, leads_more (Requires found) from places i j leads requires)
 
 -- a root is chosen
 root_chosen : (bind : Bool) (found : List Candidate) (roots : List (List ℕ)) (i : ℕ) → IsRoot found roots i → Chosen bind found roots i
 root_chosen true found roots i root = λ places closed. closed.rooted i root
 root_chosen false found roots i root = (i, [], root, refl)
 
-module _ (found : List Candidate) (Taken : ℕ → Type 0) (places : List ℕ) (chosen : AreChosen found Taken places) (inside : (i : ℕ) → Contains places i → i < length found) where
+module _ (found : List Candidate) (Taken : ℕ → Type 0) (places : List ℕ) (chosen : AreChosen found Taken places) (inside : (i : ℕ)
+    → Contains places i → i < length found) where
   abbrev pub taken : List Candidate
   taken = filter_map (slice_get found) places
 
   pub taken_rise : AllPairs Before taken
   taken_rise =
-      pairs_filter_map (λ i j. (a b : Candidate) → slice_get found i ≡ Some a → slice_get found j ≡ Some b → slice_cmp nat_cmp (name_of a) (name_of b) ≡ Less) Before (slice_get found)
+      pairs_filter_map (λ i j. (a b : Candidate) → slice_get found i ≡ Some a → slice_get found j ≡ Some b
+      → slice_cmp nat_cmp (name_of a) (name_of b) ≡ Less) Before (slice_get found)
       (λ i j less a b one other. ap is_lt (less a b one other)) places (places_by_name found Taken places chosen inside)
 
-  module _ (again : Candidate → Candidate) (same : (c : Candidate) → (again c).descriptor ≡ c.descriptor) (fewer : (c : Candidate) → Contains taken c → (shared : List ℕ) → Contains (again c).packages shared → Contains c.packages shared) where
+  module _ (again : Candidate → Candidate) (same : (c : Candidate) → (again c).descriptor ≡ c.descriptor) (fewer : (c : Candidate)
+      → Contains taken c → (shared : List ℕ) → Contains (again c).packages shared → Contains c.packages shared) where
     abbrev pub found_again : List Candidate
     found_again = map again taken
 
@@ -110,9 +124,11 @@ module _ (found : List Candidate) (Taken : ℕ → Type 0) (places : List ℕ) (
         }
 
     found_there : (c : Candidate) → Contains taken c → IsFound found_again (name_of c)
-    found_there c among = subst (Contains (map name_of found_again)) (name_same c) (contains_map name_of found_again (again c) (contains_map again taken c among))
+    found_there c among = subst (Contains (map name_of found_again)) (name_same c) (contains_map name_of found_again (again c)
+        (contains_map again taken c among))
 
-    requires_same : (k : ℕ) (c : Candidate) (w : WasTaken k c) (name : List ℕ) → Contains (required_by c) name → Contains (required_by w.candidate) name
+    requires_same : (k : ℕ) (c : Candidate) (w : WasTaken k c) (name : List ℕ) → Contains (required_by c) name
+        → Contains (required_by w.candidate) name
     requires_same k c w name has =
         subst (λ d. Contains (needed_by d.needs) name) (same w.candidate) (subst (λ e. Contains (required_by e) name) (sym w.here) has)
 
@@ -136,10 +152,20 @@ module _ (found : List Candidate) (Taken : ℕ → Type 0) (places : List ℕ) (
           to = other.place;
           at = one.at;
           next = other.at;
-          requires = (name, (one.candidate, one.is, requires_same k c one name has), (other.candidate, other.is, named_same l d other name named));
+          requires = (
+            name,
+            (one.candidate, one.is, requires_same k c one name has),
+            (
+              other.candidate,
+              other.is,
+              named_same l d
+                  other name named,
+            ),
+          );
         }
 
-    was_led : (k l : ℕ) (ks : List ℕ) → Leads (Requires found_again) k ks l → (i : ℕ) → slice_get places k ≡ Some i → (is : List ℕ) × (j : ℕ) × (slice_get places l ≡ Some j) × Leads (Requires found) i is j
+    was_led : (k l : ℕ) (ks : List ℕ) → Leads (Requires found_again) k ks l → (i : ℕ) → slice_get places k ≡ Some i → (is : List ℕ)
+        × (j : ℕ) × (slice_get places l ≡ Some j) × Leads (Requires found) i is j
     was_led k l [] here i at = ([], i, subst (λ m. slice_get places m ≡ Some i) here at, refl)
     was_led k l (m ∷ ks) (step, rest) i at =
         let one = was_step k m step in
@@ -165,7 +191,8 @@ module _ (found : List Candidate) (Taken : ℕ → Type 0) (places : List ℕ) (
                   let from = from_map name_of found name is_found in
                   let at = place_of found from.0 from.1 in
                   let taken_too = further w.place at.0 w.closed (name, (w.candidate, w.is, required), (from.0, at.1, from.2)) in
-                  lost (subst (IsFound found_again) from.2 (found_there from.0 (contains_filter_map (slice_get found) places at.0 from.0 ((chosen.exactly at.0).1 taken_too) at.1))),
+                  lost (subst (IsFound found_again) from.2 (found_there from.0 (contains_filter_map (slice_get found) places at.0
+                  from.0 ((chosen.exactly at.0).1 taken_too) at.1))),
             ),
           )
 
@@ -176,13 +203,33 @@ module _ (found : List Candidate) (Taken : ℕ → Type 0) (places : List ℕ) (
           let later = was_led l k ks leads one.to one.next in
           let from : one.from ≡ w.place = same_some one.from w.place (sym one.at ∙ w.at) in
           let back : later.1 ≡ w.place = same_some later.1 w.place (sym later.2 ∙ w.at) in
-          acyclic (name_of w.candidate) (w.place, w.closed, (w.candidate, w.is, refl), (one.to, later.0, subst (λ f. Requires found f one.to) from one.requires, subst (Leads (Requires found) one.to later.0) back later.3))
+          acyclic (name_of w.candidate) (
+            w.place,
+            w.closed,
+            (w.candidate, w.is, refl),
+            (
+              one.to,
+              later.0,
+              subst (λ f. Requires found f one.to) from one.requires,
+              subst (Leads (Requires found) one.to
+                  later.0) back later.3,
+            ),
+          )
 
       held_before : (shared name : List ℕ) → Holds found_again Again shared name → Holds found Taken shared name
       held_before shared name (k, also, (c, at, named), (d, too, has)) =
           let w = was k c at in
-          let one : d ≡ again w.candidate = same_some d (again w.candidate) (sym too ∙ at ∙ ap Some (sym w.here)) in
-          (w.place, w.closed, (w.candidate, w.is, named_same k c w name named), (w.candidate, w.is, fewer w.candidate w.among shared (subst (λ e. Contains e.packages shared) one has)))
+          let one : d ≡ again w.candidate = same_some d (again w.candidate) (sym too ∙ at ∙ ap Some (sym w.here)) in (
+            w.place,
+            w.closed,
+            (w.candidate, w.is, named_same k c w name named),
+            (
+              w.candidate,
+              w.is,
+              fewer w.candidate w.among shared
+                  (subst (λ e. Contains e.packages shared) one has),
+            ),
+          )
 
       pub unsplit_again : IsUnsplit found Taken → IsUnsplit found_again Again
       unsplit_again unsplit shared (name, (other, differ, one, two)) =
@@ -190,7 +237,8 @@ module _ (found : List Candidate) (Taken : ℕ → Type 0) (places : List ℕ) (
 
     -- All are chosen
 
-    module _ (roots : List (List ℕ)) (rooted : (c : Candidate) → Contains taken c → Contains roots (name_of c)) (only : (name : List ℕ) → Contains roots name → (c : Candidate) × Contains taken c × (name_of c ≡ name)) (bind : Bool) where
+    module _ (roots : List (List ℕ)) (rooted : (c : Candidate) → Contains taken c → Contains roots (name_of c))
+        (only : (name : List ℕ) → Contains roots name → (c : Candidate) × Contains taken c × (name_of c ≡ name)) (bind : Bool) where
       abbrev Again : ℕ → Type 0
       Again = Chosen bind found_again roots
 
@@ -203,7 +251,16 @@ module _ (found : List Candidate) (Taken : ℕ → Type 0) (places : List ℕ) (
       all_again k less =
           let held = element_at found_again k less in
           let w = was k held.0 held.1 in
-          root_chosen bind found_again roots k (name_of w.candidate, rooted w.candidate w.among, (held.0, held.1, ap name_of (sym w.here) ∙ name_same w.candidate))
+          root_chosen bind found_again roots k (
+            name_of w.candidate,
+            rooted w.candidate w.among,
+            (
+              held.0,
+              held.1,
+              ap name_of
+                  (sym w.here) ∙ name_same w.candidate,
+            ),
+          )
 
       abbrev pub all_places : List ℕ
       all_places = range_with_len 0 (length found_again)
@@ -212,7 +269,8 @@ module _ (found : List Candidate) (Taken : ℕ → Type 0) (places : List ℕ) (
       chosen_again = record {
         exactly = λ i. (
           λ has. let within = from_range 0 (length found_again) i has in all_again i (omega (arith, within.1)),
-          λ also. let within = chosen_below bind found_again roots i also in contains_range 0 (length found_again) i (omega arith) (omega (arith, within)),
+          λ also. let within = chosen_below bind found_again roots i also in
+              contains_range 0 (length found_again) i (omega arith) (omega (arith, within)),
         );
         rising = λ k i j a b at next one other.
             let first : i ≡ k = range_at (length found_again) k i at in
@@ -223,7 +281,15 @@ module _ (found : List Candidate) (Taken : ℕ → Type 0) (places : List ℕ) (
           rise : AllPairs Before found_again
           rise =
               pairs_map Before again taken
-              (pairs_weaker Before (λ c d. Before (again c) (again d)) (λ c d before. rw (name_same c, name_same d) before) taken taken_rise)
+              (pairs_weaker Before (λ c d. Before (again c) (again d)) (λ c d before. rw (name_same c, name_same d) before) taken
+              taken_rise)
 
-      pub closes_again : NeedsFound found Taken → IsAcyclic found Taken → IsUnsplit found Taken → ((i j : ℕ) → Taken i → Requires found i j → Taken j) → Closes found_again roots Again (Ok all_places)
-      closes_again needs acyclic unsplit further = (roots_again, needs_again Again needs further, acyclic_again Again acyclic, unsplit_again Again unsplit, chosen_again)
+      pub closes_again : NeedsFound found Taken → IsAcyclic found Taken → IsUnsplit found Taken
+          → ((i j : ℕ) → Taken i → Requires found i j → Taken j) → Closes found_again roots Again (Ok all_places)
+      closes_again needs acyclic unsplit further = (
+        roots_again,
+        needs_again Again needs further,
+        acyclic_again Again acyclic,
+        unsplit_again Again unsplit,
+        chosen_again,
+      )

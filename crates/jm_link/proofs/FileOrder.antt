@@ -1,5 +1,6 @@
 -- Names of resources in the order in which they are linked: by module, and then by path.
-use Rattle.std.proofs.Common.{◌≡◌, ◌≢◌, ◌⊎◌, inl, inr, ℕ, Bool, true, false, cond, List, [], ◌∷◌, ◌++◌, All, AllPairs, Contains, refl, sym, ap, subst, ◌∙◌}
+use Rattle.std.proofs.Common.{◌≡◌, ◌≢◌, ◌⊎◌, inl, inr, ℕ, Bool, true, false, cond, List, [], ◌∷◌, ◌++◌, All}
+use Rattle.std.proofs.Common.{AllPairs, Contains, refl, sym, ap, subst, ◌∙◌}
 use Rattle.std.proofs.lemmas.Bool.{false≢true}
 use Rattle.std.proofs.lemmas.List.Elements.{All-contains, All-head, All-nil, All-tail}
 use Rattle.std.proofs.lemmas.List.Kept.{AllPairs-cons}
@@ -48,7 +49,14 @@ module _ (m k p q : List ℕ) (whole : list_any is_slash m ≡ false) (other : l
   modules_first before = inl (rw (module_again m p whole, module_again k q other) before)
 
   pub paths_first : m ≡ k → is_before p q ≡ true → IsFirst (file_name m p) (file_name k q)
-  paths_first same before = inr (module_again m p whole ∙ same ∙ sym (module_again k q other), rw (path_again m p whole, path_again k q other) before)
+  paths_first same before = inr (
+    module_again m p whole ∙ same ∙ sym (module_again k q other),
+    rw (
+      path_again m p whole,
+      path_again
+          k q other,
+    ) before,
+  )
 
 pub before_front : (front p q : List ℕ) → is_before (front ++ p) (front ++ q) ≡ is_before p q
 before_front [] p q = refl
@@ -58,7 +66,9 @@ before_front (b ∷ front) p q =
 
 -- Lists joined end to end
 
-module _ {X : Type 0} (P : X → Type 0) (S : X → X → Type 0) (R : Written → Written → Type 0) (f : X → List Written) (inside : (x : X) → P x → AllPairs R (f x)) (across : (x y : X) → P x → P y → S x y → (a b : Written) → Contains (f x) a → Contains (f y) b → R a b) where
+module _ {X : Type 0} (P : X → Type 0) (S : X → X → Type 0) (R : Written → Written → Type 0) (f : X → List Written)
+    (inside : (x : X) → P x → AllPairs R (f x)) (across : (x y : X) → P x → P y → S x y → (a b : Written) → Contains (f x) a
+    → Contains (f y) b → R a b) where
   pub pairs_joined : (xs : List X) → All P xs → AllPairs S xs → AllPairs R (flat_map f xs)
   pairs_joined [] all pairs = pairs_none R
   pairs_joined (x ∷ xs) all pairs =
@@ -67,7 +77,8 @@ module _ {X : Type 0} (P : X → Type 0) (S : X → X → Type 0) (R : Written �
       pairs_append R (f x) (flat_map f xs) (inside x here) (pairs_joined xs later (pairs_tail S x xs pairs))
       (λ a b there too.
       let from = from_flat_map f xs b too in
-      across x from.0 here (All-contains P xs from.0 later from.1) (All-contains (S x) xs from.0 (pairs_head S x xs pairs) from.1) a b there from.2)
+      across x from.0 here (All-contains P xs from.0 later from.1) (All-contains (S x) xs from.0 (pairs_head S x xs pairs) from.1) a
+      b there from.2)
 
 -- Names that are sorted
 

@@ -26,7 +26,8 @@ use Rattle.jm_link.proofs.OnceLaws.{among_once}
 use Rattle.jm_link.proofs.RelinkedLaws.{IsMade, links_to}
 
 -- a link of an image has one answer
-pub image_once : (b : List ℕ) (asked : Request) (one other : Result LinkedImage Refusal) → ImageLinksTo b asked one → ImageLinksTo b asked other → one ≡ other
+pub image_once : (b : List ℕ) (asked : Request) (one other : Result LinkedImage Refusal) → ImageLinksTo b asked one
+    → ImageLinksTo b asked other → one ≡ other
 image_once b asked one other (seen, shows, is) (seen', shows', is') =
     let same = modules_once b seen seen' shows shows' in
     by seen' one other (subst (λ m. IsImageTo asked m one) same is) is'
@@ -78,13 +79,15 @@ module _ (b : List ℕ) (asked : Request) (relinks : Relinks b asked) where
 
     infos : (c : Candidate) → Contains cs c → (content : List ℕ) × Contains made.left (info_entry (closure.name_of c), content)
     infos c there =
-        let named = subst (λ (rs : List Written). Contains (names_of rs) (info_entry (closure.name_of c))) left_is (relinks.infos (closure.name_of c) (takes c there)) in
+        let named = subst (λ (rs : List Written). Contains (names_of rs) (info_entry (closure.name_of c))) left_is
+        (relinks.infos (closure.name_of c) (takes c there)) in
         let has = from_map (λ (r : Written). r.0) made.left (info_entry (closure.name_of c)) named in
         (has.0.1, subst (λ n. Contains made.left (n, has.0.1)) has.2 has.1)
 
     comes : ImageLinksTo b asked (Ok image)
     comes =
-        links_to b first asked found from.gathered image made relinks.unordered (taken_within first from.found from.gathered image made) from.of stands infos
+        links_to b first asked found from.gathered image made relinks.unordered (taken_within first from.found from.gathered image
+        made) from.of stands infos
         (λ c there. (relinks.roots (closure.name_of c)).1 (takes c there))
         (λ name has. taken_by name ((relinks.roots name).0 has))
         relinks.order relinks.plugins
@@ -105,7 +108,8 @@ module _ (b : List ℕ) (asked : Request) (relinks : Relinks b asked) where
       not_both same = cc
 
 -- relinking gives an image back
-pub given_back : (b : List ℕ) (asked : Request) (path : List ℕ) (answer : Result Summary LinkStop) (old new : ShelfSeen) → ImageLinks b asked path answer old new → GivesBack b asked path answer old.told new.told
+pub given_back : (b : List ℕ) (asked : Request) (path : List ℕ) (answer : Result Summary LinkStop) (old new : ShelfSeen)
+    → ImageLinks b asked path answer old new → GivesBack b asked path answer old.told new.told
 given_back b asked path (Ok summary) old new (image, links, is, stands) = λ relinks.
     subst (λ x. Holds old.told path x new.told) (same_bytes b asked relinks image links.0) stands.holds
 given_back b asked path (Err (stop.Refused refusal)) old new (links, is) = λ relinks.

@@ -1,6 +1,8 @@
 -- The modules of an image as what a link is made of: their names differ, their resources are no
 -- nodes and differ too, and what a link of them does, from what its steps did.
-use Rattle.std.proofs.Common.{◌⊎◌, ◌≡◌, ◌≢◌, ◌<◌, ℕ, suc, Bool, true, false, not, List, [], ◌∷◌, ◌++◌, length, map, All, AllPairs, Contains, Option, Some, None, option_map, slice_get, Result, Ok, Err, refl, sym, ap, subst, ◌∙◌, arith}
+use Rattle.std.proofs.Common.{◌⊎◌, ◌≡◌, ◌≢◌, ◌<◌, ℕ, suc, Bool, true, false, not, List, [], ◌∷◌, ◌++◌, length}
+use Rattle.std.proofs.Common.{map, All, AllPairs, Contains, Option, Some, None, option_map, slice_get, Result}
+use Rattle.std.proofs.Common.{Ok, Err, refl, sym, ap, subst, ◌∙◌, arith}
 use Rattle.std.proofs.lemmas.List.Elements.{All-contains, All-cons, All-map, All-nil}
 use Rattle.std.proofs.lemmas.Option.{slice_get-map}
 use Rattle.std.specs.List.{filter_map, flat_map, zip}
@@ -50,14 +52,17 @@ use Rattle.jm_bytes.proofs.ByteOrderLaws.{before_less, before_other}
 
 -- Two lists of modules that were seen
 
-module _ (b : List ℕ) (modules : ImageModules) (seen : List SeenModule) (visible : IsVisibleIn (resources_of b) seen) (holds : HoldsModules modules seen) where
+module _ (b : List ℕ) (modules : ImageModules) (seen : List SeenModule) (visible : IsVisibleIn (resources_of b) seen)
+    (holds : HoldsModules modules seen) where
   abbrev found : List Candidate
   found = modules.candidates
 
-  pub image_places : (roots : List (List ℕ)) (bind : Bool) (places : List ℕ) → ClosesWith bind found roots (Ok places) → ArePlaces modules places
+  pub image_places : (roots : List (List ℕ)) (bind : Bool) (places : List ℕ) → ClosesWith bind found roots (Ok places)
+      → ArePlaces modules places
   image_places roots bind places closes = record {
     within = all_from_contains (λ place. place < length found) places (chosen_within found roots bind places closes);
-    rising = chosen_rise found roots bind places closes (λ i j c e one other less. before_less (closure.name_of c) (closure.name_of e) (before_at found (candidates_rise b modules seen visible holds) i j c e one other less));
+    rising = chosen_rise found roots bind places closes (λ i j c e one other less. before_less (closure.name_of c)
+        (closure.name_of e) (before_at found (candidates_rise b modules seen visible holds) i j c e one other less));
   }
 
   -- What is gathered
@@ -79,7 +84,9 @@ module _ (b : List ℕ) (modules : ImageModules) (seen : List SeenModule) (visib
   from_named [] = refl
   from_named (p ∷ places) = go (slice_get seen p) refl (from_named places)
     where
-      go : (o : Option SeenModule) → slice_get seen p ≡ o → flat_map resources_named (filter_map (slice_get (map named seen)) places) ≡ resources_seen seen places → flat_map resources_named (filter_map (slice_get (map named seen)) (p ∷ places)) ≡ resources_seen seen (p ∷ places)
+      go : (o : Option SeenModule) → slice_get seen p ≡ o → flat_map resources_named (filter_map (slice_get (map named seen))
+          places) ≡ resources_seen seen places → flat_map resources_named (filter_map (slice_get (map named seen)) (p ∷ places))
+          ≡ resources_seen seen (p ∷ places)
       go None is rest = rw (slice_get-map named seen p, is) rest
       go (Some s) is rest = rw (slice_get-map named seen p, is) (ap (λ rs. seen_resources s ++ rs) rest)
 
@@ -109,27 +116,32 @@ module _ (b : List ℕ) where
   seen_free : (s : SeenModule) → Seen s → (r : Written) → Contains (seen_resources s) r → is_node r.0 ≡ false
   seen_free s is r there =
       let from = from_map (resource_of (name_of s)) s.files r there in
-      ap (λ (p : Written). is_node p.0) (sym from.2) ∙ no_node (entries_of b) (file_name (name_of s) from.0.0, from.0.1) ((is.files.each from.0.0 from.0.1).0 from.1)
+      ap (λ (p : Written). is_node p.0) (sym from.2) ∙ no_node (entries_of b) (file_name (name_of s) from.0.0, from.0.1)
+      ((is.files.each from.0.0 from.0.1).0 from.1)
 
   own_apart : (s : SeenModule) → Seen s → AllPairs Differ (seen_resources s)
   own_apart s is =
       pairs_map Differ (resource_of (name_of s)) s.files
       (pairs_weaker (λ (e f : Named). is_before e.0 f.0 ≡ true) (λ e f. Differ (resource_of (name_of s) e) (resource_of (name_of s) f))
-      (λ e f before same. before_other f.0 (subst (λ (p : List ℕ). is_before p f.0 ≡ true) (names_tell (name_of s) (name_of s) e.0 f.0 is.info.whole is.info.whole same).1 before))
+      (λ e f before same. before_other f.0 (subst (λ (p : List ℕ). is_before p f.0 ≡ true) (names_tell (name_of s) (name_of s) e.0
+      f.0 is.info.whole is.info.whole same).1 before))
       s.files is.files.rising)
 
-  two_apart : (s t : SeenModule) → Seen s → Seen t → name_of s ≢ name_of t → (e f : Written) → Contains (seen_resources s) e → Contains (seen_resources t) f → Differ e f
+  two_apart : (s t : SeenModule) → Seen s → Seen t → name_of s ≢ name_of t → (e f : Written) → Contains (seen_resources s) e
+      → Contains (seen_resources t) f → Differ e f
   two_apart s t one other apart e f there too same =
       let first = from_map (resource_of (name_of s)) s.files e there in
       let second = from_map (resource_of (name_of t)) t.files f too in
-      let names : file_name (name_of s) first.0.0 ≡ file_name (name_of t) second.0.0 = ap (λ (p : Written). p.0) first.2 ∙ same ∙ sym (ap (λ (p : Written). p.0) second.2) in
+      let names : file_name (name_of s) first.0.0 ≡ file_name (name_of t) second.0.0 = ap (λ (p : Written). p.0) first.2 ∙ same
+      ∙ sym (ap (λ (p : Written). p.0) second.2) in
       apart (names_tell (name_of s) (name_of t) first.0.0 second.0.0 one.info.whole other.info.whole names).0
 
   all_free : (ss : List SeenModule) → All Seen ss → All (λ (r : Written). is_node r.0 ≡ false) (flat_map seen_resources ss)
   all_free ss each = all_from_contains (λ (r : Written). is_node r.0 ≡ false) (flat_map seen_resources ss)
       (λ r there. let from = from_flat_map seen_resources ss r there in seen_free from.0 (All-contains Seen ss from.0 each from.1) r from.2)
 
-  apart_all : (ss : List SeenModule) → All Seen ss → AllPairs (λ (s t : SeenModule). name_of s ≢ name_of t) ss → AllPairs Differ (flat_map seen_resources ss)
+  apart_all : (ss : List SeenModule) → All Seen ss → AllPairs (λ (s t : SeenModule). name_of s ≢ name_of t) ss
+      → AllPairs Differ (flat_map seen_resources ss)
   apart_all [] each apart = pairs_none Differ
   apart_all (s ∷ ss) each apart =
       let later : All Seen ss = λ i d inside. each (suc i) d (omega arith) in
@@ -139,9 +151,12 @@ module _ (b : List ℕ) where
       (apart_all ss later (pairs_tail (λ (t u : SeenModule). name_of t ≢ name_of u) s ss apart))
       (λ e f there too.
       let from = from_flat_map seen_resources ss f too in
-      two_apart s from.0 is (All-contains Seen ss from.0 later from.1) (All-contains (λ t. name_of s ≢ name_of t) ss from.0 others from.1) e f there from.2)
+      two_apart s from.0 is (All-contains Seen ss from.0 later from.1) (All-contains (λ t. name_of s ≢ name_of t) ss from.0 others
+      from.1) e f there from.2)
 
-module _ (b : List ℕ) (modules : ImageModules) (seen : List SeenModule) (visible : IsVisibleIn (resources_of b) seen) (holds : HoldsModules modules seen) (roots : List (List ℕ)) (bind : Bool) (places : List ℕ) (closes : ClosesWith bind modules.candidates roots (Ok places)) where
+module _ (b : List ℕ) (modules : ImageModules) (seen : List SeenModule) (visible : IsVisibleIn (resources_of b) seen)
+    (holds : HoldsModules modules seen) (roots : List (List ℕ)) (bind : Bool) (places : List ℕ)
+    (closes : ClosesWith bind modules.candidates roots (Ok places)) where
   abbrev Is : SeenModule → Type 0
   Is = IsSeenIn (resources_of b)
 
@@ -154,30 +169,36 @@ module _ (b : List ℕ) (modules : ImageModules) (seen : List SeenModule) (visib
       All-contains Is seen s visible.each (got seen from.0 s from.2))
 
   candidate_at : (p : ℕ) (s : SeenModule) → slice_get seen p ≡ Some s → slice_get modules.candidates p ≡ Some s.candidate
-  candidate_at p s is = ap (λ cs. slice_get cs p) holds.candidates ∙ slice_get-map (λ (t : SeenModule). t.candidate) seen p ∙ ap (option_map (λ (t : SeenModule). t.candidate)) is
+  candidate_at p s is = ap (λ cs. slice_get cs p) holds.candidates ∙ slice_get-map (λ (t : SeenModule). t.candidate) seen p
+      ∙ ap (option_map (λ (t : SeenModule). t.candidate)) is
 
   chosen_apart : AllPairs (λ (s t : SeenModule). name_of s ≢ name_of t) chosen
   chosen_apart =
       pairs_filter_map (λ (p q : ℕ). p ≢ q) (λ (s t : SeenModule). name_of s ≢ name_of t) (slice_get seen)
-      (λ p q other s t one two same. other (image_names_differ b modules seen visible holds p q (name_of s) (s.candidate, candidate_at p s one, refl) (t.candidate, candidate_at q t two, sym same)))
+      (λ p q other s t one two same. other (image_names_differ b modules seen visible holds p q (name_of s)
+      (s.candidate, candidate_at p s one, refl) (t.candidate, candidate_at q t two, sym same)))
       places (chosen_differ modules.candidates roots bind places closes)
 
   pub image_free : All (λ name. is_node name ≡ false) (names_of (gathered modules places))
   image_free =
-      subst (λ (rs : List Written). All (λ name. is_node name ≡ false) (names_of rs)) (sym (gathered_is b modules seen visible holds places))
+      subst (λ (rs : List Written). All (λ name. is_node name ≡ false) (names_of rs))
+      (sym (gathered_is b modules seen visible holds places))
       (All-map (λ name. is_node name ≡ false) (λ (r : Written). r.0) (resources_seen seen places) (all_free b chosen all_chosen))
 
   pub image_apart : AllPairs (λ (m n : List ℕ). m ≢ n) (names_of (gathered modules places))
   image_apart =
-      subst (λ (rs : List Written). AllPairs (λ (m n : List ℕ). m ≢ n) (names_of rs)) (sym (gathered_is b modules seen visible holds places))
+      subst (λ (rs : List Written). AllPairs (λ (m n : List ℕ). m ≢ n) (names_of rs))
+      (sym (gathered_is b modules seen visible holds places))
       (pairs_map (λ (m n : List ℕ). m ≢ n) (λ (r : Written). r.0) (resources_seen seen places) (apart_all b chosen all_chosen chosen_apart))
 
 -- Names that were checked
 
-none_here : (r : Named) (rs : List Named) → gathering.first_bad_name (r ∷ rs) ≡ None → (name_fault r.0 ≡ None) × (gathering.first_bad_name rs ≡ None)
+none_here : (r : Named) (rs : List Named) → gathering.first_bad_name (r ∷ rs) ≡ None → (name_fault r.0 ≡ None)
+    × (gathering.first_bad_name rs ≡ None)
 none_here r rs none = go (name_fault r.0) refl none
   where
-    go : (o : Option NameFault) → name_fault r.0 ≡ o → first_fault (option_map (λ fault. gather.BadName r.0 fault) o ∷ map gathering.name_refusal rs) ≡ None → (name_fault r.0 ≡ None) × (gathering.first_bad_name rs ≡ None)
+    go : (o : Option NameFault) → name_fault r.0 ≡ o → first_fault (option_map (λ fault. gather.BadName r.0 fault) o
+        ∷ map gathering.name_refusal rs) ≡ None → (name_fault r.0 ≡ None) × (gathering.first_bad_name rs ≡ None)
     go None is none = (is, none)
     go (Some fault) is none = cc
 
@@ -193,30 +214,39 @@ none_bad (r ∷ rs) none =
     let here = none_here r rs none in
     rw here.0 (none_bad rs here.1)
 
-same_bad : (rs : List Named) (name : List ℕ) (fault : NameFault) → gathering.first_bad_name rs ≡ Some (gather.BadName name fault) → first_bad_name rs ≡ Some (refusal.BadName name fault)
+same_bad : (rs : List Named) (name : List ℕ) (fault : NameFault) → gathering.first_bad_name rs ≡ Some (gather.BadName name fault)
+    → first_bad_name rs ≡ Some (refusal.BadName name fault)
 same_bad [] name fault is = cc
 same_bad (r ∷ rs) name fault is = go (name_fault r.0) refl is (same_bad rs name fault)
   where
-    go : (o : Option NameFault) → name_fault r.0 ≡ o → first_fault (option_map (λ fault. gather.BadName r.0 fault) o ∷ map gathering.name_refusal rs) ≡ Some (gather.BadName name fault) → (gathering.first_bad_name rs ≡ Some (gather.BadName name fault) → first_bad_name rs ≡ Some (refusal.BadName name fault)) → first_bad_name (r ∷ rs) ≡ Some (refusal.BadName name fault)
+    go : (o : Option NameFault) → name_fault r.0 ≡ o → first_fault (option_map (λ fault. gather.BadName r.0 fault) o
+        ∷ map gathering.name_refusal rs) ≡ Some (gather.BadName name fault)
+        → (gathering.first_bad_name rs ≡ Some (gather.BadName name fault) → first_bad_name rs ≡ Some (refusal.BadName name fault))
+        → first_bad_name (r ∷ rs) ≡ Some (refusal.BadName name fault)
     go None none is later = rw none (later is)
     go (Some f) some is later = rw some (same f (same_some (gather.BadName r.0 f) (gather.BadName name fault) is))
       where
-        same : (f : NameFault) → gather.BadName r.0 f ≡ gather.BadName name fault → ◌≡◌ {A = Option Refusal} (Some (refusal.BadName r.0 f)) (Some (refusal.BadName name fault))
+        same : (f : NameFault) → gather.BadName r.0 f ≡ gather.BadName name fault
+            → ◌≡◌ {A = Option Refusal} (Some (refusal.BadName r.0 f)) (Some (refusal.BadName name fault))
         same f e = cc
 
 -- The steps of a link from an image
 
 -- the image shows no modules
-pub unseen : (b : List ℕ) (asked : Request) (error : RelinkError) → FindsModules b (Err error) → (r : Refusal) → image_refusal error ≡ Some r → ImageComesTo b asked (Err r)
+pub unseen : (b : List ℕ) (asked : Request) (error : RelinkError) → FindsModules b (Err error) → (r : Refusal) → image_refusal error
+    ≡ Some r → ImageComesTo b asked (Err r)
 unseen b asked (relink.BadInfo name fault) is r same = ((Err (relink.BadInfo name fault), is, same), tt)
 unseen b asked (relink.Foreign name) is r same = ((Err (relink.Foreign name), is, same), tt)
 unseen b asked relink.Memory is r same = cc
 
-module _ (b : List ℕ) (asked : Request) (modules : ImageModules) (seen : List SeenModule) (shows : ModulesOf b (Ok seen)) (holds : HoldsModules modules seen) where
+module _ (b : List ℕ) (asked : Request) (modules : ImageModules) (seen : List SeenModule) (shows : ModulesOf b (Ok seen))
+    (holds : HoldsModules modules seen) where
   -- no closure was had
-  pub unclosed : (r : Refusal) → (reserved modules.candidates ≡ Some r) ⊎ IsRefusedAmong modules.candidates asked.roots asked.bind r → ImageComesTo b asked (Err r)
+  pub unclosed : (r : Refusal) → (reserved modules.candidates ≡ Some r) ⊎ IsRefusedAmong modules.candidates asked.roots asked.bind r
+      → ImageComesTo b asked (Err r)
   unclosed r why =
-      let same = subst (λ (cs : List Candidate). (reserved cs ≡ Some r) ⊎ IsRefusedAmong cs asked.roots asked.bind r) holds.candidates why in
+      let same = subst (λ (cs : List Candidate). (reserved cs ≡ Some r) ⊎ IsRefusedAmong cs asked.roots asked.bind r)
+      holds.candidates why in
       ((Ok seen, shows, refused_among asked (seen_candidates seen) (resources_seen seen) r same), tt)
 
   module _ (places : List ℕ) (closed : ClosesAmong modules.candidates asked.roots asked.bind (Ok places)) where
@@ -227,14 +257,17 @@ module _ (b : List ℕ) (asked : Request) (modules : ImageModules) (seen : List 
     is = gathered_is b modules seen (visible_in b seen shows) holds places
 
     -- a name is unfit
-    pub unfit : (error : GatherError) → GathersAll (gathered modules places) (Err error) → (r : Refusal) → gathering_refusal error ≡ Some r → ImageComesTo b asked (Err r)
+    pub unfit : (error : GatherError) → GathersAll (gathered modules places) (Err error) → (r : Refusal) → gathering_refusal error
+        ≡ Some r → ImageComesTo b asked (Err r)
     unfit (gather.BadName name fault) gathers r same =
-        let bad = same_bad (resources_seen seen places) name fault (subst (λ (rs : List Named). gathering.first_bad_name rs ≡ Some (gather.BadName name fault)) is gathers) ∙ same in
+        let bad = same_bad (resources_seen seen places) name fault (subst (λ (rs : List Named). gathering.first_bad_name rs
+        ≡ Some (gather.BadName name fault)) is gathers) ∙ same in
         ((Ok seen, shows, among_to asked (seen_candidates seen) (resources_seen seen) places as_seen (Err r) (rw bad refl)), tt)
     unfit gather.Memory gathers r same = cc
 
     -- the resources were gathered
-    pub gathered_to : (pool : List Written) → GathersAll (gathered modules places) (Ok pool) → (r : Result LinkedImage Refusal) → PoolComesTo asked (length places) pool r → ImageComesTo b asked r
+    pub gathered_to : (pool : List Written) → GathersAll (gathered modules places) (Ok pool) → (r : Result LinkedImage Refusal)
+        → PoolComesTo asked (length places) pool r → ImageComesTo b asked r
     gathered_to pool (none, same) r (comes, laid) =
         let fit = none_bad (resources_seen seen places) (subst (λ (rs : List Named). gathering.first_bad_name rs ≡ None) is none) in
         let plugged = rw (same, is) at comes in

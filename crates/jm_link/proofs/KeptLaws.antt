@@ -1,6 +1,7 @@
 -- What plug-ins leave that have no order: resources that were there, in their order, and what each
 -- descriptor says.
-use Rattle.std.proofs.Common.{◌≡◌, ℕ, inl, inr, Bool, true, List, [], ◌∷◌, All, AllPairs, Contains, filter, codes, Result, Ok, Err, refl, sym, ap, subst, ◌∙◌, nat_eq, not, suc, arith}
+use Rattle.std.proofs.Common.{◌≡◌, ℕ, inl, inr, Bool, true, List, [], ◌∷◌, All, AllPairs, Contains, filter}
+use Rattle.std.proofs.Common.{codes, Result, Ok, Err, refl, sym, ap, subst, ◌∙◌, nat_eq, not, suc, arith}
 use Rattle.std.proofs.lemmas.Bool.{false≢true}
 use Rattle.std.proofs.lemmas.List.Kept.{AllPairs-cons, AllPairs-filter}
 use Rattle.std.specs.List.{ends_with}
@@ -36,11 +37,13 @@ pub record IsKept (old : List Written) (r : Written) : Type 0 where
   pub name : was.0 ≡ r.0
   pub says : (d : Descriptor) → Says was.1 d → Says r.1 d
 
-followed_ok : {A B : Type 0} (r : Result A ApplyError) (next : A → Result B ApplyError) (b : B) → followed r next ≡ Ok b → (a : A) × (r ≡ Ok a) × (next a ≡ Ok b)
+followed_ok : {A B : Type 0} (r : Result A ApplyError) (next : A → Result B ApplyError) (b : B) → followed r next ≡ Ok b → (a : A)
+    × (r ≡ Ok a) × (next a ≡ Ok b)
 followed_ok (Ok a) next b is = (a, refl, is)
 followed_ok (Err refusal) next b is = cc
 
-remade_ok : (text : ClassData → List ℕ) (name : List ℕ) (r : Result ClassData ClassFault) (q : Written) → remade text name r ≡ Ok q → (c : ClassData) × (r ≡ Ok c) × ((name, text c) ≡ q)
+remade_ok : (text : ClassData → List ℕ) (name : List ℕ) (r : Result ClassData ClassFault) (q : Written) → remade text name r ≡ Ok q
+    → (c : ClassData) × (r ≡ Ok c) × ((name, text c) ≡ q)
 remade_ok text name (Ok c) q is = (c, refl, same_ok {E = ApplyError} (name, text c) q is)
 remade_ok text name (Err fault) q is = cc
 
@@ -60,14 +63,24 @@ module _ (R : List ℕ → List ℕ → Type 0) where
     pub order : Ordered old → Ordered new
 
   same_kept : (rs : List Written) → AreKept rs rs
-  same_kept rs = record { each = λ r there. record { was = r; there = there; name = refl; says = λ d says. says }; order = λ ordered. ordered }
+  same_kept rs = record {
+    each = λ r there. record { was = r; there = there; name = refl; says = λ d says. says };
+    order =
+        λ ordered. ordered;
+  }
 
   further : (one two three : List Written) → AreKept one two → AreKept two three → AreKept one three
   further one two three first second = record {
     each = λ r there.
         let after = second.each r there in
         let before = first.each after.was after.there in
-        record { was = before.was; there = before.there; name = before.name ∙ after.name; says = λ d says. after.says d (before.says d says) };
+        record {
+          was = before.was;
+          there = before.there;
+          name = before.name ∙ after.name;
+          says =
+              λ d says. after.says d (before.says d says);
+        };
     order = λ ordered. second.order (first.order ordered);
   }
 
@@ -78,32 +91,46 @@ module _ (R : List ℕ → List ℕ → Type 0) where
   }
 
   -- one more in front
-  more_kept : (p q : Written) (old new : List Written) → p.0 ≡ q.0 → ((d : Descriptor) → Says p.1 d → Says q.1 d) → AreKept old new → AreKept (p ∷ old) (q ∷ new)
+  more_kept : (p q : Written) (old new : List Written) → p.0 ≡ q.0 → ((d : Descriptor) → Says p.1 d → Says q.1 d) → AreKept old new
+      → AreKept (p ∷ old) (q ∷ new)
   more_kept p q old new name says kept = record {
     each = λ r there.
         elim (contains_cases q new r there) [
-          | inl same ↦ record { was = p; there = contains_here p old; name = name ∙ ap (λ (x : Written). x.0) same; says = λ d was. subst (λ (x : Written). Says x.1 d) same (says d was) }
-          | inr later ↦ let one = kept.each r later in record { was = one.was; there = contains_later p old one.was one.there; name = one.name; says = one.says }
+          | inl same ↦ record {
+            was = p;
+            there = contains_here p old;
+            name = name ∙ ap (λ (x : Written). x.0) same;
+            says =
+                λ d was. subst (λ (x : Written). Says x.1 d) same (says d was);
+          }
+          | inr later ↦
+              let one = kept.each r later in
+              record { was = one.was; there = contains_later p old one.was one.there; name = one.name; says = one.says }
         ];
     order = λ ordered.
         AllPairs-cons (λ (e f : Written). R e.0 f.0) q new
         (all_from_contains (λ (f : Written). R q.0 f.0) new
         (λ f there.
         let one = kept.each f there in
-        let before = All-contains (λ (g : Written). R p.0 g.0) old one.was (pairs_head (λ (e g : Written). R e.0 g.0) p old ordered) one.there in
+        let before = All-contains (λ (g : Written). R p.0 g.0) old one.was (pairs_head (λ (e g : Written). R e.0 g.0) p old ordered)
+        one.there in
         subst (λ n. R q.0 n) one.name (subst (λ n. R n one.was.0) name before)))
         (kept.order (pairs_tail (λ (e g : Written). R e.0 g.0) p old ordered));
   }
 
   -- classes of another text
 
-  module _ (takes : List ℕ → Bool) (text : List ℕ → ClassData → List ℕ) (keeps : (name : List ℕ) (c : ClassData) (d : Descriptor) → IsClass c → info_of c ≡ Ok d → Says (text name c) d) where
+  module _ (takes : List ℕ → Bool) (text : List ℕ → ClassData → List ℕ) (keeps : (name : List ℕ) (c : ClassData) (d : Descriptor)
+      → IsClass c → info_of c ≡ Ok d → Says (text name c) d) where
     remade_one : (p q : Written) → remade_pair takes text p ≡ Ok q → (p.0 ≡ q.0) × ((d : Descriptor) → Says p.1 d → Says q.1 d)
     remade_one p q is =
         elim (chosen (takes p.0) (remade (text p.0) p.0 (class_of p.1)) (Ok p) (Ok q) is) [
           | inl class ↦
-              let made = remade_ok (text p.0) p.0 (class_of p.1) q class.1 in
-              (ap (λ (x : Written). x.0) made.2, λ d was. subst (λ (x : Written). Says x.1 d) made.2 (let says = class_says p.1 made.0 d made.1 was in keeps p.0 made.0 d says.0 says.1))
+              let made = remade_ok (text p.0) p.0 (class_of p.1) q class.1 in (
+                ap (λ (x : Written). x.0) made.2,
+                λ d was. subst (λ (x : Written). Says x.1 d) made.2
+                    (let says = class_says p.1 made.0 d made.1 was in keeps p.0 made.0 d says.0 says.1),
+              )
           | inr other ↦
               let same = same_ok {E = ApplyError} p q other.1 in
               (ap (λ (x : Written). x.0) same, λ d was. subst (λ (x : Written). Says x.1 d) same was)
@@ -112,10 +139,12 @@ module _ (R : List ℕ → List ℕ → Type 0) where
     remade_all : (old new : List Written) → remade_pairs takes text old ≡ Ok new → AreKept old new
     remade_all [] new is = subst (AreKept []) (same_ok {E = ApplyError} [] new is) (same_kept [])
     remade_all (p ∷ old) new is =
-        let one = followed_ok (remade_pair takes text p) (λ first. followed (remade_pairs takes text old) (λ behind. Ok (first ∷ behind))) new is in
+        let one = followed_ok (remade_pair takes text p) (λ first. followed (remade_pairs takes text old)
+        (λ behind. Ok (first ∷ behind))) new is in
         let rest = followed_ok (remade_pairs takes text old) (λ behind. Ok (one.0 ∷ behind)) new one.2 in
         let same = remade_one p one.0 one.1 in
-        subst (AreKept (p ∷ old)) (same_ok {E = ApplyError} (one.0 ∷ rest.0) new rest.2) (more_kept p one.0 old rest.0 same.0 same.1 (remade_all old rest.0 rest.1))
+        subst (AreKept (p ∷ old)) (same_ok {E = ApplyError} (one.0 ∷ rest.0) new rest.2) (more_kept p one.0 old rest.0 same.0 same.1
+        (remade_all old rest.0 rest.1))
 
   acted : (one : Plugin) (old new : List Written) → leaves_order one ≡ true → act one old ≡ Ok new → AreKept old new
   acted (plugin.Exclude patterns) old new leaves is =
@@ -123,9 +152,11 @@ module _ (R : List ℕ → List ℕ → Type 0) where
   acted (plugin.Order patterns) old new leaves is = absurd (false≢true leaves)
   acted plugin.Strip old new leaves is = remade_all is_class (λ name. stripped_text) (λ name. stripped_says) old new is
   acted plugin.Compact old new leaves is = remade_all is_class (λ name. compact_text) (λ name. compacted_says) old new is
-  acted plugin.Packages old new leaves is = remade_all is_descriptor (listing_text (names_of old)) (λ name. packaged_says (packages_of (names_of old) (module_of name))) old new is
+  acted plugin.Packages old new leaves is = remade_all is_descriptor (listing_text (names_of old))
+      (λ name. packaged_says (packages_of (names_of old) (module_of name))) old new is
 
-  pub applied : (plugins : List Plugin) (old new : List Written) → All (λ one. leaves_order one ≡ true) plugins → apply plugins old ≡ Ok new → AreKept old new
+  pub applied : (plugins : List Plugin) (old new : List Written) → All (λ one. leaves_order one ≡ true) plugins → apply plugins old
+      ≡ Ok new → AreKept old new
   applied [] old new leave is = subst (AreKept old) (same_ok {E = ApplyError} old new is) (same_kept old)
   applied (one ∷ later) old new leave is =
       let first = followed_ok (act one old) (apply later) new is in

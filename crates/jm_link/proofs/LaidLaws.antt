@@ -1,5 +1,7 @@
 -- The image of resources that nothing refuses is what their layout is.
-use Rattle.std.proofs.Common.{◌≡◌, ◌≢◌, ℕ, false, List, [], ◌∷◌, ◌++◌, ◌≤◌, get_or, length, length-append, All, AllPairs, Option, Some, None, is_none, option_and_then, option_map, refl, sym, ap, subst, ◌∙◌, arith}
+use Rattle.std.proofs.Common.{◌≡◌, ◌≢◌, ℕ, false, List, [], ◌∷◌, ◌++◌, ◌≤◌, get_or, length, length-append}
+use Rattle.std.proofs.Common.{All, AllPairs, Option, Some, None, is_none, option_and_then, option_map, refl}
+use Rattle.std.proofs.Common.{sym, ap, subst, ◌∙◌, arith}
 use Rattle.std.proofs.lemmas.Bool.{ltb-false}
 use Rattle.std.proofs.lemmas.List.{get_or_append_left, get_or_default}
 use Rattle.std.specs.Prelude.{nat_lt, slice_index}
@@ -31,7 +33,8 @@ served_apart names slots words given serves i j d before inside same =
     let first = get_or_default names i d [] (omega arith) in
     let second = get_or_default names j d [] inside in
     let led : Some (slice_index given i) ≡ Some (slice_index given j) =
-    sym (serves.led i (omega arith)) ∙ ap (λ name. slot_of slots name (redirect_of (slice_index words (bucket_of slots name)))) (sym first ∙ same ∙ second) ∙ serves.led j inside in
+    sym (serves.led i (omega arith)) ∙ ap (λ name. slot_of slots name (redirect_of (slice_index words (bucket_of slots name))))
+    (sym first ∙ same ∙ second) ∙ serves.led j inside in
     serves.apart i j 0 before (omega (arith, serves.given_length)) (same_some (slice_index given i) (slice_index given j) led)
 
 pairs_front : {X : Type 0} (R : X → X → Type 0) (xs ys : List X) → AllPairs R (xs ++ ys) → AllPairs R xs
@@ -59,28 +62,32 @@ behind_clash order resources =
 module _ (order : Order) (resources : List Written) (free : layout_refusal order resources ≡ None) where
   -- no name is that of another's folder
   apart : first_clash (names_of resources) ≡ None
-  apart = mapped_none (λ name. refusal.Clash name) (first_clash (names_of resources)) (no_fault_head (option_map (λ name. refusal.Clash name) (first_clash (names_of resources))) (behind_clash order resources) free)
+  apart = mapped_none (λ name. refusal.Clash name) (first_clash (names_of resources))
+      (no_fault_head (option_map (λ name. refusal.Clash name) (first_clash (names_of resources))) (behind_clash order resources) free)
 
   -- the image by the table is within the limit
   within : option_and_then (size_refusal order resources) (layout_table resources) ≡ None
   within =
       no_fault_head (option_and_then (size_refusal order resources) (layout_table resources)) []
       (no_fault_tail (fault_if (is_none (layout_table resources)) (refusal.NoTable 64)) (behind_table order resources)
-      (no_fault_tail (fault_if (nat_lt entry_limit (length (all_sized resources))) (refusal.TooMany (length (all_sized resources)))) (behind_count order resources)
+      (no_fault_tail (fault_if (nat_lt entry_limit (length (all_sized resources))) (refusal.TooMany (length (all_sized resources))))
+      (behind_count order resources)
       (no_fault_tail (option_map (λ name. refusal.Clash name) (first_clash (names_of resources))) (behind_clash order resources) free)))
 
   has_table : is_none (layout_table resources) ≡ false
   has_table =
       fault_if_none (is_none (layout_table resources)) (refusal.NoTable 64)
       (no_fault_head (fault_if (is_none (layout_table resources)) (refusal.NoTable 64)) (behind_table order resources)
-      (no_fault_tail (fault_if (nat_lt entry_limit (length (all_sized resources))) (refusal.TooMany (length (all_sized resources)))) (behind_count order resources)
+      (no_fault_tail (fault_if (nat_lt entry_limit (length (all_sized resources))) (refusal.TooMany (length (all_sized resources))))
+      (behind_count order resources)
       (no_fault_tail (option_map (λ name. refusal.Clash name) (first_clash (names_of resources))) (behind_clash order resources) free)))
 
   -- the image by a table is within the limit
   small : (table : GreedyTable) → layout_table resources ≡ Some table → length (layout_with order resources table) ≤ image_limit
   small table is =
       ltb-false image_limit (length (layout_with order resources table))
-      (fault_if_none (nat_lt image_limit (length (layout_with order resources table))) (refusal.TooLarge (large_number order resources table))
+      (fault_if_none (nat_lt image_limit (length (layout_with order resources table)))
+      (refusal.TooLarge (large_number order resources table))
       (sym (ap (option_and_then (size_refusal order resources)) is) ∙ within))
 
   -- what has a table within the limit has names that differ
@@ -91,13 +98,24 @@ module _ (order : Order) (resources : List Written) (free : layout_refusal order
       let limit = small table is in
       let served = found.served (omega (arith, size, limit)) in
       pairs_front (λ (m n : List ℕ). m ≢ n) (names_of resources) (node_names (names_of resources))
-      (subst (AllPairs (λ (m n : List ℕ). m ≢ n)) (all_names_are resources) (served_apart (all_names resources) table.length _ table.slots served.serves))
+      (subst (AllPairs (λ (m n : List ℕ). m ≢ n)) (all_names_are resources) (served_apart (all_names resources) table.length _
+      table.slots served.serves))
 
-  pub laid_free : (modules : ℕ) → All IsSound (names_of resources) → All (λ name. is_node name ≡ false) (names_of resources) → IsLaidOut order resources (image_with order modules resources).bytes
+  pub laid_free : (modules : ℕ) → All IsSound (names_of resources) → All (λ name. is_node name ≡ false) (names_of resources)
+      → IsLaidOut order resources (image_with order modules resources).bytes
   laid_free modules sound plain = go (layout_table resources) refl has_table
     where
-      go : (o : Option GreedyTable) → layout_table resources ≡ o → is_none o ≡ false → IsLaidOut order resources (image_with order modules resources).bytes
+      go : (o : Option GreedyTable) → layout_table resources ≡ o → is_none o ≡ false
+          → IsLaidOut order resources (image_with order modules resources).bytes
       go None is some = cc
       go (Some table) is some =
-          let can : CanLay resources = record { differ = apart_with table is; plain = record { sound = sound; resources = plain; apart = apart } } in
+          let can : CanLay resources = record {
+            differ = apart_with table is;
+            plain = record {
+              sound = sound;
+              resources =
+                  plain;
+              apart = apart;
+            };
+          } in
           rw is (laid_out order resources (layout_with order resources table) can (rw is refl) (small table is))

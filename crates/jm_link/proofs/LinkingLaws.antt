@@ -1,5 +1,7 @@
 -- What a link does, from what its steps did.
-use Rattle.std.proofs.Common.{◌≡◌, ◌≢◌, ◌⊎◌, ◌<◌, ◌∙◌, inl, inr, ℕ, suc, Bool, true, false, List, [], ◌∷◌, length, map, All, AllPairs, Option, Some, None, Result, Ok, Err, refl, sym, ap, subst}
+use Rattle.std.proofs.Common.{◌≡◌, ◌≢◌, ◌⊎◌, ◌<◌, ◌∙◌, inl, inr, ℕ, suc, Bool, true, false, List, [], ◌∷◌}
+use Rattle.std.proofs.Common.{length, map, All, AllPairs, Option, Some, None, Result, Ok, Err, refl, sym, ap}
+use Rattle.std.proofs.Common.{subst}
 use Rattle.std.proofs.lemmas.List.Elements.{All-contains, All-map}
 use Rattle.jm_bytes.proofs.Members.{all_from_contains, contains_map}
 use Rattle.jm_bytes.specs.Checks.{first_fault}
@@ -34,7 +36,8 @@ use Rattle.jm_link.specs.declared.linking.Summary.{Summary}
 use Rattle.jm_link.specs.declared.resources.ResourceFile.{ResourceFile}
 use Rattle.jm_link.specs.Chosen.{Chosen, reserved}
 use Rattle.jm_link.specs.Closing.{ClosesAmong, ClosesWith, IsRefusedAmong}
-use Rattle.jm_link.specs.Linked.{IsGatheredTo, LinkedImage, LinksAmong, PlugsTo, Request, image_with, laid_out, layout_refusal, path_refusal_as, plugging_refusal}
+use Rattle.jm_link.specs.Linked.{IsGatheredTo, LinkedImage, LinksAmong, PlugsTo, Request, image_with}
+use Rattle.jm_link.specs.Linked.{laid_out, layout_refusal, path_refusal_as, plugging_refusal}
 use Rattle.jm_link.specs.Links.{BreaksOff, ComesTo, IsLaid, LinksBy, PoolComesTo, TellsNothing}
 use Rattle.jm_link.specs.ResourceFiles.{file_names, pair_of}
 use Rattle.jm_link.specs.Resources.{AreFit, link_files, resources_in, resources_of}
@@ -47,28 +50,40 @@ use Rattle.jm_link.proofs.ListedLaws.{files_there, visible_lists}
 use Rattle.jm_link.proofs.ResourcesApart.{file_names_apart}
 
 -- a failed link of results that are others' too
-breaks_as : (One Other : Result LinkedImage Refusal → Type 0) (path : List ℕ) (old new : ShelfSeen) → ((r : Result LinkedImage Refusal) → One r → Other r) → BreaksOff One path old new → BreaksOff Other path old new
+breaks_as : (One Other : Result LinkedImage Refusal → Type 0) (path : List ℕ) (old new : ShelfSeen)
+    → ((r : Result LinkedImage Refusal) → One r → Other r) → BreaksOff One path old new → BreaksOff Other path old new
 breaks_as One Other path old new same (inl files) = inl files
 breaks_as One Other path old new same (inr (image, comes, part)) = inr (image, same (Ok image) comes, part)
 
 -- the same of results that are others' too, and where the same isn't there
-pub links_as : (One Other : Result LinkedImage Refusal → Type 0) (Absent Missing : Type 0) (path : List ℕ) (answer : Result Summary LinkStop) (old new : ShelfSeen) → ((r : Result LinkedImage Refusal) → One r → Other r) → (Absent → Missing) → LinksBy One Absent path answer old new → LinksBy Other Missing path answer old new
-links_as One Other Absent Missing path (Ok summary) old new same absent (image, comes, is, stands) = (image, same (Ok image) comes, is, stands)
+pub links_as : (One Other : Result LinkedImage Refusal → Type 0) (Absent Missing : Type 0) (path : List ℕ)
+    (answer : Result Summary LinkStop) (old new : ShelfSeen) → ((r : Result LinkedImage Refusal) → One r → Other r)
+    → (Absent → Missing) → LinksBy One Absent path answer old new → LinksBy Other Missing path answer old new
+links_as One Other Absent Missing path (Ok summary) old new same absent (image, comes, is, stands) =
+    (image, same (Ok image) comes, is, stands)
 links_as One Other Absent Missing path (Err (stop.Refused refusal)) old new same absent (comes, files) = (same (Err refusal) comes, files)
 links_as One Other Absent Missing path (Err (stop.NotThere listed)) old new same absent (none, files) = (absent none, files)
-links_as One Other Absent Missing path (Err stop.Outside) old new same absent (breaks, failed) = (breaks_as One Other path old new same breaks, failed)
+links_as One Other Absent Missing path (Err stop.Outside) old new same absent (breaks, failed) =
+    (breaks_as One Other path old new same breaks, failed)
 links_as One Other Absent Missing path (Err stop.Memory) old new same absent breaks = breaks_as One Other path old new same breaks
 
 -- the same from before some calls that changed no file, none of which failed
-module _ (Comes : Result LinkedImage Refusal → Type 0) (Absent : Type 0) (path : List ℕ) (first old new : ShelfSeen) (files : old.told ≡ first.told) (kept : old.faults ≡ first.faults) where
+module _ (Comes : Result LinkedImage Refusal → Type 0) (Absent : Type 0) (path : List ℕ) (first old new : ShelfSeen)
+    (files : old.told ≡ first.told) (kept : old.faults ≡ first.faults) where
   breaks_sooner : BreaksOff Comes path old new → BreaksOff Comes path first new
   breaks_sooner (inl same) = inl (same ∙ files)
-  breaks_sooner (inr (image, comes, part)) = inr (image, comes, subst (λ (told : Option Files). HoldsPart told path image.bytes new.told) files part)
+  breaks_sooner (inr (image, comes, part)) = inr (
+    image,
+    comes,
+    subst (λ (told : Option Files). HoldsPart told path image.bytes
+        new.told) files part,
+  )
 
   failed_sooner : ShelfFailed old new → ShelfFailed first new
   failed_sooner = subst (λ (n : ℕ). Rose n new.faults) kept
 
-  pub links_sooner : (answer : Result Summary LinkStop) → LinksBy Comes Absent path answer old new → LinksBy Comes Absent path answer first new
+  pub links_sooner : (answer : Result Summary LinkStop) → LinksBy Comes Absent path answer old new
+      → LinksBy Comes Absent path answer first new
   links_sooner (Ok summary) (image, comes, is, stands) = (
     image,
     comes,
@@ -86,23 +101,27 @@ module _ (Comes : Result LinkedImage Refusal → Type 0) (Absent : Type 0) (path
 
 -- A step that ended the work
 
-module _ (Comes : Result LinkedImage Refusal → Type 0) (Absent : Type 0) (path : List ℕ) (old new : ShelfSeen) (same : new.told ≡ old.told) where
+module _ (Comes : Result LinkedImage Refusal → Type 0) (Absent : Type 0) (path : List ℕ) (old new : ShelfSeen) (same : new.told
+    ≡ old.told) where
   -- with its answer, having read nothing
-  pub ended : (Refuses : Refusal → Type 0) (given : LinkStop) → StepStops Refuses ⊥ ⊥ given → ((r : Refusal) → Refuses r → Comes (Err r)) → LinksBy Comes Absent path (Err given) old new
+  pub ended : (Refuses : Refusal → Type 0) (given : LinkStop) → StepStops Refuses ⊥ ⊥ given → ((r : Refusal) → Refuses r
+      → Comes (Err r)) → LinksBy Comes Absent path (Err given) old new
   ended Refuses (stop.Refused r) is comes = (comes r is, same)
   ended Refuses (stop.NotThere listed) is comes = absurd is
   ended Refuses stop.Outside is comes = absurd is
   ended Refuses stop.Memory is comes = inl same
 
   -- with the refusal that its error is, or without memory
-  pub refused : (o : Option Refusal) → ((r : Refusal) → o ≡ Some r → Comes (Err r)) → LinksBy Comes Absent path (Err (stop_of_refusal o)) old new
+  pub refused : (o : Option Refusal) → ((r : Refusal) → o ≡ Some r → Comes (Err r))
+      → LinksBy Comes Absent path (Err (stop_of_refusal o)) old new
   refused (Some r) comes = (comes r refl, same)
   refused None comes = inl same
 
 -- The image of resources
 
 -- names stay fit under plug-ins
-pub fit_left : (plugins : List Plugin) (before left : List Written) → Applies plugins before (Ok left) → AreFit (names_of before) → AreFit (names_of left)
+pub fit_left : (plugins : List Plugin) (before left : List Written) → Applies plugins before (Ok left) → AreFit (names_of before)
+    → AreFit (names_of left)
 fit_left plugins before left applies fit =
     let is = sym (applies_only plugins before (Ok left) applies) in
     record {
@@ -112,13 +131,17 @@ fit_left plugins before left applies fit =
     }
 
 -- what plug-ins left, where memory was found
-pub left_is : (plugins : List Plugin) (before left : List Written) → (◌≡◌ {A = Result (List Written) ApplyError} (Ok left) (Err plugging.Memory)) ⊎ Applies plugins before (Ok left) → Applies plugins before (Ok left)
+pub left_is : (plugins : List Plugin) (before left : List Written)
+    → (◌≡◌ {A = Result (List Written) ApplyError} (Ok left) (Err plugging.Memory)) ⊎ Applies plugins before (Ok left)
+    → Applies plugins before (Ok left)
 left_is plugins before left (inl never) = cc
 left_is plugins before left (inr applies) = applies
 
 module _ (asked : Request) (modules : ℕ) (before : List Written) where
   -- the plug-ins are refused
-  pub unplugged : (error : ApplyError) → (◌≡◌ {A = Result (List Written) ApplyError} (Err error) (Err plugging.Memory)) ⊎ Applies asked.plugins before (Err error) → (r : Refusal) → plugging_refusal error ≡ Some r → PoolComesTo asked modules before (Err r)
+  pub unplugged : (error : ApplyError) → (◌≡◌ {A = Result (List Written) ApplyError} (Err error) (Err plugging.Memory))
+      ⊎ Applies asked.plugins before (Err error) → (r : Refusal) → plugging_refusal error ≡ Some r
+      → PoolComesTo asked modules before (Err r)
   unplugged (plugging.BadClass name fault) (inl never) r is = cc
   unplugged plugging.Memory (inl memory) r is = cc
   unplugged error (inr applies) r is = ((Err error, applies, is), tt)
@@ -131,19 +154,23 @@ module _ (asked : Request) (modules : ℕ) (before : List Written) where
     laid None is = laid_free order resources is modules fit.sound fit.plain
     laid (Some refusal) is = tt
 
-    comes_to : (refused : Option Refusal) → layout_refusal order resources ≡ refused → PoolComesTo asked modules before (laid_out order modules resources refused)
+    comes_to : (refused : Option Refusal) → layout_refusal order resources ≡ refused
+        → PoolComesTo asked modules before (laid_out order modules resources refused)
     comes_to refused is = (plugged refused is, laid refused is)
       where
-        plugged : (refused : Option Refusal) → layout_refusal order resources ≡ refused → PlugsTo asked modules before (laid_out order modules resources refused)
+        plugged : (refused : Option Refusal) → layout_refusal order resources ≡ refused
+            → PlugsTo asked modules before (laid_out order modules resources refused)
         plugged refused is = (Ok resources, left, rw is refl)
 
     abbrev image : LinkedImage
     image = image_with order modules resources
 
-    part_written : (path : List ℕ) (old new : ShelfSeen) → WritesPart order modules resources path old new → BreaksOff (PoolComesTo asked modules before) path old new
+    part_written : (path : List ℕ) (old new : ShelfSeen) → WritesPart order modules resources path old new
+        → BreaksOff (PoolComesTo asked modules before) path old new
     part_written path old new part = inr (image, comes_to None part.free, part.part)
 
-    pub image_written : (path : List ℕ) (answer : Result Summary LinkStop) (old new : ShelfSeen) → WritesImage order modules resources path answer old new → LinksBy (PoolComesTo asked modules before) ⊥ path answer old new
+    pub image_written : (path : List ℕ) (answer : Result Summary LinkStop) (old new : ShelfSeen)
+        → WritesImage order modules resources path answer old new → LinksBy (PoolComesTo asked modules before) ⊥ path answer old new
     image_written path (Ok summary) old new (none, is, stands) = (image, comes_to None none, is, stands)
     image_written path (Err (stop.Refused given)) old new (is, files) = (comes_to (Some given) is, files)
     image_written path (Err (stop.NotThere listed)) old new never = absurd never
@@ -154,16 +181,19 @@ module _ (asked : Request) (modules : ℕ) (before : List Written) where
 -- The closure
 
 module _ (asked : Request) (found : List Candidate) (resources : List ℕ → List Written) where
-  chosen_as : (bind : Bool) (closed : Result (List ℕ) CloseError) → ClosesWith bind found asked.roots closed → Closes found asked.roots (Chosen bind found asked.roots) closed
+  chosen_as : (bind : Bool) (closed : Result (List ℕ) CloseError) → ClosesWith bind found asked.roots closed
+      → Closes found asked.roots (Chosen bind found asked.roots) closed
   chosen_as true closed closes = closes
   chosen_as false closed closes = closes
 
   -- the closure was had
-  pub among_to : (places : List ℕ) → ClosesAmong found asked.roots asked.bind (Ok places) → (r : Result LinkedImage Refusal) → IsGatheredTo asked (length places) (resources places) (first_bad_name (resources places)) r → LinksAmong asked found resources r
+  pub among_to : (places : List ℕ) → ClosesAmong found asked.roots asked.bind (Ok places) → (r : Result LinkedImage Refusal)
+      → IsGatheredTo asked (length places) (resources places) (first_bad_name (resources places)) r → LinksAmong asked found resources r
   among_to places (free, closes) r comes = rw free (Ok places, chosen_as asked.bind (Ok places) closes, comes)
 
   -- a reserved name, or the refusal of the closure
-  pub refused_among : (given : Refusal) → (reserved found ≡ Some given) ⊎ IsRefusedAmong found asked.roots asked.bind given → LinksAmong asked found resources (Err given)
+  pub refused_among : (given : Refusal) → (reserved found ≡ Some given) ⊎ IsRefusedAmong found asked.roots asked.bind given
+      → LinksAmong asked found resources (Err given)
   refused_among given (inl is) = rw is refl
   refused_among given (inr refused) =
       rw refused.free (Err refused.error, chosen_as asked.bind (Err refused.error) refused.closes, refused.refusal)
@@ -183,10 +213,13 @@ candidates_length [] = refl
 candidates_length (m ∷ ms) = ap suc (candidates_length ms)
 
 -- the path shows no modules
-pub unseen : (directories : List (List ℕ)) (asked : Request) (given : PathStop) (path : List ℕ) (old new : ShelfSeen) → new.told ≡ old.told → Shows old.told (λ files. ShowsModules files directories (Err given)) → (given ≡ path_stop.Outside → ShelfFailed old new) → LinksBy (ComesTo old.told directories asked) (TellsNothing old.told) path (Err (stop_of_path given)) old new
+pub unseen : (directories : List (List ℕ)) (asked : Request) (given : PathStop) (path : List ℕ) (old new : ShelfSeen) → new.told
+    ≡ old.told → Shows old.told (λ files. ShowsModules files directories (Err given)) → (given ≡ path_stop.Outside
+    → ShelfFailed old new) → LinksBy (ComesTo old.told directories asked) (TellsNothing old.told) path (Err (stop_of_path given)) old new
 unseen directories asked (path_stop.Refused r) path old new same shows failed = (go old.told shows, same)
   where
-    go : (t : Option Files) → Shows t (λ files. ShowsModules files directories (Err (path_stop.Refused r))) → ComesTo t directories asked (Err (path_refusal_as r))
+    go : (t : Option Files) → Shows t (λ files. ShowsModules files directories (Err (path_stop.Refused r)))
+        → ComesTo t directories asked (Err (path_refusal_as r))
     go None shows = tt
     go (Some files) shows = rw shows (refl, tt)
 unseen directories asked (path_stop.NotThere listed) path old new same shows failed = (shows, same)
@@ -195,15 +228,18 @@ unseen directories asked path_stop.Memory path old new same shows failed = inl s
 
 module _ (told : Option Files) (directories : List (List ℕ)) (asked : Request) where
   module _ (found : List VisibleModule) (shows : Shows told (λ files. ShowsModules files directories (Ok found))) where
-    found_to : (r : Result LinkedImage Refusal) → ((files : Files) → told ≡ Some files → LinksAmong asked (candidates found) (resources_in files found) r × IsLaid asked.order r) → ComesTo told directories asked r
+    found_to : (r : Result LinkedImage Refusal) → ((files : Files) → told ≡ Some files → LinksAmong asked (candidates found)
+        (resources_in files found) r × IsLaid asked.order r) → ComesTo told directories asked r
     found_to r comes = go told shows comes
       where
-        go : (t : Option Files) → Shows t (λ files. ShowsModules files directories (Ok found)) → ((files : Files) → t ≡ Some files → LinksAmong asked (candidates found) (resources_in files found) r × IsLaid asked.order r) → ComesTo t directories asked r
+        go : (t : Option Files) → Shows t (λ files. ShowsModules files directories (Ok found)) → ((files : Files) → t ≡ Some files
+            → LinksAmong asked (candidates found) (resources_in files found) r × IsLaid asked.order r) → ComesTo t directories asked r
         go None shows comes = tt
         go (Some files) (free, is) comes = let both = comes files refl in (rw (free, sym is) both.0, both.1)
 
     -- no closure was had
-    pub unclosed : (r : Refusal) → (reserved (candidates found) ≡ Some r) ⊎ IsRefusedAmong (candidates found) asked.roots asked.bind r → ComesTo told directories asked (Err r)
+    pub unclosed : (r : Refusal) → (reserved (candidates found) ≡ Some r) ⊎ IsRefusedAmong (candidates found) asked.roots asked.bind
+        r → ComesTo told directories asked (Err r)
     unclosed r why = found_to (Err r) (λ files is. (refused_among asked (candidates found) (resources_in files found) r why, tt))
 
     module _ (places : List ℕ) (closes : ClosesAmong (candidates found) asked.roots asked.bind (Ok places)) where
@@ -212,17 +248,27 @@ module _ (told : Option Files) (directories : List (List ℕ)) (asked : Request)
 
       -- a name is unfit
       pub unfit : (r : Refusal) → first_bad_name names ≡ Some r → ComesTo told directories asked (Err r)
-      unfit r is = found_to (Err r) (λ files shown. (among_to asked (candidates found) (resources_in files found) places closes (Err r) (rw (bad_name files names, is) refl), tt))
+      unfit r is = found_to (Err r) (λ files shown. (
+        among_to asked (candidates found) (resources_in files found) places closes
+            (Err r) (rw (bad_name files names, is) refl),
+        tt,
+      ))
 
       -- the files were read
-      pub read_to : first_bad_name names ≡ None → (read : List Written) → Shows told (λ files. read ≡ resources_of files names) → (r : Result LinkedImage Refusal) → PoolComesTo asked (length places) read r → ComesTo told directories asked r
+      pub read_to : first_bad_name names ≡ None → (read : List Written) → Shows told (λ files. read ≡ resources_of files names)
+          → (r : Result LinkedImage Refusal) → PoolComesTo asked (length places) read r → ComesTo told directories asked r
       read_to fit read is r (comes, laid) =
           found_to r (λ files shown.
-          let same = subst (λ t. Shows t (λ files. read ≡ resources_of files names)) shown is in
-          (among_to asked (candidates found) (resources_in files found) places closes r (rw (bad_name files names, fit, sym same) comes), laid))
+          let same = subst (λ t. Shows t (λ files. read ≡ resources_of files names)) shown is in (
+            among_to asked (candidates found) (resources_in files found) places closes r (rw (bad_name files names, fit, sym same)
+                comes),
+            laid,
+          ))
 
 -- reading ended the work
-pub unread : (Comes : Result LinkedImage Refusal → Type 0) (path : List ℕ) (given : LinkStop) (old new : ShelfSeen) → new.told ≡ old.told → StepStops (λ r. ⊥) (TellsNothing old.told) (Unit {0}) given → (given ≡ stop.Outside → ShelfFailed old new) → LinksBy Comes (TellsNothing old.told) path (Err given) old new
+pub unread : (Comes : Result LinkedImage Refusal → Type 0) (path : List ℕ) (given : LinkStop) (old new : ShelfSeen) → new.told
+    ≡ old.told → StepStops (λ r. ⊥) (TellsNothing old.told) (Unit {0}) given → (given ≡ stop.Outside → ShelfFailed old new)
+    → LinksBy Comes (TellsNothing old.told) path (Err given) old new
 unread Comes path (stop.Refused r) old new same is failed = absurd is
 unread Comes path (stop.NotThere listed) old new same is failed = (is, same)
 unread Comes path stop.Outside old new same is failed = (inl same, failed refl)
@@ -235,23 +281,31 @@ none_absent told never = absurd never
 -- Files that are linked
 
 -- their names are fit
-pub files_fit : (found : List VisibleModule) (places : List ℕ) (fs : List ResourceFile) → map pair_of fs ≡ link_files found places → AreVisible found → reserved (candidates found) ≡ None → All (λ p. p < length found) places → AllPairs (λ p q. p ≢ q) places → All (λ f. IsSound f.name) fs → AreFit (file_names fs)
+pub files_fit : (found : List VisibleModule) (places : List ℕ) (fs : List ResourceFile) → map pair_of fs ≡ link_files found places
+    → AreVisible found → reserved (candidates found) ≡ None → All (λ p. p < length found) places → AllPairs (λ p q. p ≢ q) places
+    → All (λ f. IsSound f.name) fs → AreFit (file_names fs)
 files_fit found places fs is visible free within apart sound = record {
   differ = file_names_apart found places fs is visible.texts visible.differ within apart;
   sound = All-map IsSound (λ f. f.name) fs sound;
-  plain = All-map (λ name. is_node name ≡ false) (λ f. f.name) fs (plain (subst (All (λ f. is_node f.0 ≡ false)) (sym is) (files_free found places visible.texts free)));
+  plain = All-map (λ name. is_node name ≡ false) (λ f. f.name) fs (plain (subst (All (λ f. is_node f.0 ≡ false)) (sym is)
+      (files_free found places visible.texts free)));
 }
   where
     plain : All (λ f. is_node f.0 ≡ false) (map pair_of fs) → All (λ f. is_node f.name ≡ false) fs
-    plain all = all_from_contains (λ f. is_node f.name ≡ false) fs (λ f there. All-contains (λ g. is_node g.0 ≡ false) (map pair_of fs) (pair_of f) all (contains_map pair_of fs f there))
+    plain all = all_from_contains (λ f. is_node f.name ≡ false) fs (λ f there. All-contains (λ g. is_node g.0 ≡ false)
+        (map pair_of fs) (pair_of f) all (contains_map pair_of fs f there))
 
-pub named_there : (told : Option Files) (fs : List ResourceFile) (found : List VisibleModule) (places : List ℕ) → map pair_of fs ≡ link_files found places → Shows told (λ files. ListsItsFiles files found) → Shows told (λ files. All (λ f. file files f.path ≢ None) fs)
+pub named_there : (told : Option Files) (fs : List ResourceFile) (found : List VisibleModule) (places : List ℕ) → map pair_of fs
+    ≡ link_files found places → Shows told (λ files. ListsItsFiles files found)
+    → Shows told (λ files. All (λ f. file files f.path ≢ None) fs)
 named_there None fs found places is lists = tt
 named_there (Some files) fs found places is lists =
     let all = subst (All (λ f. file files f.1 ≢ None)) (sym is) (files_there files found places lists) in
-    all_from_contains (λ f. file files f.path ≢ None) fs (λ f there. All-contains (λ g. file files g.1 ≢ None) (map pair_of fs) (pair_of f) all (contains_map pair_of fs f there))
+    all_from_contains (λ f. file files f.path ≢ None) fs (λ f there. All-contains (λ g. file files g.1 ≢ None) (map pair_of fs)
+    (pair_of f) all (contains_map pair_of fs f there))
 
 -- visible modules list their files
-pub shown_lists : (told : Option Files) (directories : List (List ℕ)) (found : List VisibleModule) → Shows told (λ files. ShowsModules files directories (Ok found)) → Shows told (λ files. ListsItsFiles files found)
+pub shown_lists : (told : Option Files) (directories : List (List ℕ)) (found : List VisibleModule)
+    → Shows told (λ files. ShowsModules files directories (Ok found)) → Shows told (λ files. ListsItsFiles files found)
 shown_lists None directories found shows = tt
 shown_lists (Some files) directories found (free, is) = subst (ListsItsFiles files) (sym is) (visible_lists files directories)

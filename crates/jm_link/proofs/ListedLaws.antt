@@ -15,7 +15,8 @@ use Rattle.jm_link.proofs.FileLaws.{file_from}
 use Rattle.jm_bytes.proofs.SameOrder.{from_flat_map}
 use Rattle.jm_modpath.proofs.StepLaws.{from_unhidden, listed_there}
 
-listed_in : (files : Files) (folder : List ℕ) (said : Result Descriptor DescriptorFault) (m : VisibleModule) → module_of files folder said ≡ Some m → m.files ≡ names_below m.folder files
+listed_in : (files : Files) (folder : List ℕ) (said : Result Descriptor DescriptorFault) (m : VisibleModule)
+    → module_of files folder said ≡ Some m → m.files ≡ names_below m.folder files
 listed_in files folder (Err fault) m is = cc
 listed_in files folder (Ok d) m is = subst (λ (k : VisibleModule). k.files ≡ names_below k.folder files) (same_some _ m is) refl
 
@@ -27,7 +28,8 @@ visible_lists files directories m there =
     listed_in files (inside one.0 folder.0) (folder_info files (inside one.0 folder.0)) m folder.2
 
 -- each file that is taken is there
-pub files_there : (files : Files) (found : List VisibleModule) (places : List ℕ) → ListsItsFiles files found → All (λ f. file files f.1 ≢ None) (link_files found places)
+pub files_there : (files : Files) (found : List VisibleModule) (places : List ℕ) → ListsItsFiles files found
+    → All (λ f. file files f.1 ≢ None) (link_files found places)
 files_there files found places lists = all_from_contains (λ f. file files f.1 ≢ None) (link_files found places) go
   where
     go : (f : Named) → Contains (link_files found places) f → file files f.1 ≢ None

@@ -1,6 +1,7 @@
 -- A link that made an image, wherever it took its modules from: what it was made of, and that the
 -- image is what the layout of its resources is.
-use Rattle.std.proofs.Common.{◌≡◌, ◌<◌, ℕ, false, List, All, Contains, slice_get, length, map, Option, Some, None, Result, Ok, Err, refl, sym, ap, subst, ◌∙◌, codes}
+use Rattle.std.proofs.Common.{◌≡◌, ◌<◌, ℕ, false, List, All, Contains, slice_get, length, map, Option, Some}
+use Rattle.std.proofs.Common.{None, Result, Ok, Err, refl, sym, ap, subst, ◌∙◌, codes}
 use Rattle.std.proofs.lemmas.List.{map-id}
 use Rattle.std.proofs.lemmas.List.Elements.{All-map}
 use Rattle.jm_bytes.proofs.Choice.{same_ok}
@@ -37,7 +38,8 @@ use Rattle.jm_link.proofs.ShownResources.{image_resources, path_resources}
 
 -- What it was made of
 
-module _ (asked : Request) (found : List Candidate) (gathered : List ℕ → List Written) (image : LinkedImage) (made : IsMade asked found gathered image) where
+module _ (asked : Request) (found : List Candidate) (gathered : List ℕ → List Written) (image : LinkedImage)
+    (made : IsMade asked found gathered image) where
   pub taken_within : (i : ℕ) → Contains made.places i → i < length found
   taken_within i there = chosen_below asked.bind found asked.roots i ((made.closes.4.exactly i).0 there)
 
@@ -54,19 +56,24 @@ pub record IsMadeFrom (source : Source) (asked : Request) (image : LinkedImage) 
   pub made : IsMade asked found gathered image
   pub of : AreOf (modules_taken asked found gathered image made) (gathered made.places)
 
-path_links : (files : Files) (directories : List (List ℕ)) (asked : Request) (o : Option PathRefusal) (image : LinkedImage) → IsPathTo files directories asked o (Ok image) → LinksAmong asked (candidates (visible files directories)) (resources_in files (visible files directories)) (Ok image)
+path_links : (files : Files) (directories : List (List ℕ)) (asked : Request) (o : Option PathRefusal) (image : LinkedImage)
+    → IsPathTo files directories asked o (Ok image) → LinksAmong asked (candidates (visible files directories))
+    (resources_in files (visible files directories)) (Ok image)
 path_links files directories asked None linked is = is
 path_links files directories asked (Some given) linked is = cc
 
-image_links : (asked : Request) (m : Result (List SeenModule) RelinkError) (image : LinkedImage) → IsImageTo asked m (Ok image) → (ss : List SeenModule) × (m ≡ Ok ss) × LinksAmong asked (seen_candidates ss) (resources_seen ss) (Ok image)
+image_links : (asked : Request) (m : Result (List SeenModule) RelinkError) (image : LinkedImage) → IsImageTo asked m (Ok image)
+    → (ss : List SeenModule) × (m ≡ Ok ss) × LinksAmong asked (seen_candidates ss) (resources_seen ss) (Ok image)
 image_links asked (Ok ss) linked is = (ss, refl, is)
 image_links asked (Err error) linked is = absurd is
 
-seen_once : (b : List ℕ) (ss : List SeenModule) → ModulesOf b (Ok ss) → (others : List Candidate) → Shows (Image b) others → others ≡ seen_candidates ss
+seen_once : (b : List ℕ) (ss : List SeenModule) → ModulesOf b (Ok ss) → (others : List Candidate) → Shows (Image b) others → others
+    ≡ seen_candidates ss
 seen_once b ss shows others (ss', shows', is) =
     is ∙ ap seen_candidates (same_ok {E = RelinkError} ss' ss (modules_once b (Ok ss') (Ok ss) shows' shows))
 
-from_seen : (b : List ℕ) (asked : Request) (image : LinkedImage) → HoldsBytes (Image b) → (ss : List SeenModule) → ModulesOf b (Ok ss) → LinksAmong asked (seen_candidates ss) (resources_seen ss) (Ok image) → IsMadeFrom (Image b) asked image
+from_seen : (b : List ℕ) (asked : Request) (image : LinkedImage) → HoldsBytes (Image b) → (ss : List SeenModule)
+    → ModulesOf b (Ok ss) → LinksAmong asked (seen_candidates ss) (resources_seen ss) (Ok image) → IsMadeFrom (Image b) asked image
 from_seen b asked image holds ss shows links =
     let found = seen_candidates ss in
     let made = made_parts asked found (resources_seen ss) image links in
@@ -76,10 +83,12 @@ from_seen b asked image holds ss shows links =
       once = seen_once b ss shows;
       gathered = resources_seen ss;
       made = made;
-      of = image_resources b holds ss (visible_in b ss shows) (Chosen asked.bind found asked.roots) made.places made.closes.4 (taken_within asked found (resources_seen ss) image made);
+      of = image_resources b holds ss (visible_in b ss shows) (Chosen asked.bind found asked.roots) made.places made.closes.4
+          (taken_within asked found (resources_seen ss) image made);
     }
 
-pub made_from : (source : Source) (asked : Request) (image : LinkedImage) → HoldsBytes source → LinksFrom source asked (Ok image) → IsMadeFrom source asked image
+pub made_from : (source : Source) (asked : Request) (image : LinkedImage) → HoldsBytes source → LinksFrom source asked (Ok image)
+    → IsMadeFrom source asked image
 made_from (ModulePath files directories) asked image holds linked =
     let found = candidates (visible files directories) in
     let gathered = resources_in files (visible files directories) in
@@ -90,7 +99,8 @@ made_from (ModulePath files directories) asked image holds linked =
       once = λ others shown. shown;
       gathered = gathered;
       made = made;
-      of = path_resources files directories holds (Chosen asked.bind found asked.roots) made.places made.closes.4 (taken_within asked found gathered image made);
+      of = path_resources files directories holds (Chosen asked.bind found asked.roots) made.places made.closes.4
+          (taken_within asked found gathered image made);
     }
 made_from (Image b) asked image holds linked =
     let links = image_links asked linked.0 image linked.2 in
@@ -115,7 +125,9 @@ module _ (source : Source) (asked : Request) (image : LinkedImage) (from : IsMad
       let among = got from.found at.0 c at.2 in
       let free = free_names from.found made.free in
       ap is_node of.name
-      ∙ no_node (closure.name_of c) of.path (from.of.whole c of.among) (other_name from.found (codes "modules") c free.0 among) (other_name from.found (codes "packages") c free.1 among)))
+      ∙ no_node (closure.name_of c)
+      of.path (from.of.whole c of.among) (other_name from.found (codes "modules") c free.0 among)
+      (other_name from.found (codes "packages") c free.1 among)))
 
   sound : All IsSound (names_of before)
   sound = All-map IsSound (λ (r : Written). r.0) before
@@ -129,5 +141,6 @@ module _ (source : Source) (asked : Request) (image : LinkedImage) (from : IsMad
       (names_kept (λ name. is_node name ≡ false) asked.plugins before made.left made.plugged plain))
 
 -- an image that was linked is what the layout of its resources is
-pub linked_laid : (source : Source) (asked : Request) (image : LinkedImage) → HoldsBytes source → LinksFrom source asked (Ok image) → IsLaid asked.order (Ok image)
+pub linked_laid : (source : Source) (asked : Request) (image : LinkedImage) → HoldsBytes source → LinksFrom source asked (Ok image)
+    → IsLaid asked.order (Ok image)
 linked_laid source asked image holds linked = made_laid source asked image (made_from source asked image holds linked)

@@ -15,7 +15,8 @@ use Rattle.jm_plugins.specs.ComputedPlugins.{apply}
 use Rattle.jm_plugins.proofs.ComputedPluginsLaws.{applies_only}
 use Rattle.jm_texts.specs.declared.refusal.Refusal.{Refusal}
 use Rattle.jm_link.specs.Chosen.{Chosen, reserved}
-use Rattle.jm_link.specs.Linked.{IsClosedTo, IsFoundTo, IsGatheredTo, IsLinkedOf, IsPathTo, IsPluggedTo, LinkedImage, LinksAmong, LinksTo, PlugsTo, Request}
+use Rattle.jm_link.specs.Linked.{IsClosedTo, IsFoundTo, IsGatheredTo, IsLinkedOf, IsPathTo, IsPluggedTo}
+use Rattle.jm_link.specs.Linked.{LinkedImage, LinksAmong, LinksTo, PlugsTo, Request}
 use Rattle.jm_link.specs.Resources.{resources_in}
 use Rattle.jm_texts.specs.NameRefusals.{first_bad_name}
 use Rattle.jm_link.proofs.ChosenLaws.{chosen_below}
@@ -23,7 +24,8 @@ use Rattle.jm_link.proofs.ChosenLaws.{chosen_below}
 abbrev Answer : Type 0
 Answer = Result LinkedImage Refusal
 
-plugged_once : (order : Order) (modules : ℕ) (plugged : Result (List Written) ApplyError) (a b : Answer) → IsPluggedTo order modules plugged a → IsPluggedTo order modules plugged b → a ≡ b
+plugged_once : (order : Order) (modules : ℕ) (plugged : Result (List Written) ApplyError) (a b : Answer)
+    → IsPluggedTo order modules plugged a → IsPluggedTo order modules plugged b → a ≡ b
 plugged_once order modules (Ok resources) a b one other = one ∙ sym other
 plugged_once order modules (Err error) (Ok image) b one other = absurd one
 plugged_once order modules (Err error) (Err refusal) (Ok image) one other = absurd other
@@ -31,16 +33,20 @@ plugged_once order modules (Err error) (Err refusal) (Err refusal') one other =
     rw (same_some refusal refusal' (sym one ∙ other)) refl
 
 -- what is laid out is what the plug-ins are computed to leave
-pub plugs_computed : (asked : Request) (modules : ℕ) (resources : List Written) (r : Answer) → PlugsTo asked modules resources r → IsPluggedTo asked.order modules (apply asked.plugins resources) r
+pub plugs_computed : (asked : Request) (modules : ℕ) (resources : List Written) (r : Answer) → PlugsTo asked modules resources r
+    → IsPluggedTo asked.order modules (apply asked.plugins resources) r
 plugs_computed asked modules resources r (left, applies, is) =
     subst (λ o. IsPluggedTo asked.order modules o r) (applies_only asked.plugins resources left applies) is
 
-gathered_once : (asked : Request) (modules : ℕ) (resources : List Written) (bad : Option Refusal) (a b : Answer) → IsGatheredTo asked modules resources bad a → IsGatheredTo asked modules resources bad b → a ≡ b
+gathered_once : (asked : Request) (modules : ℕ) (resources : List Written) (bad : Option Refusal) (a b : Answer)
+    → IsGatheredTo asked modules resources bad a → IsGatheredTo asked modules resources bad b → a ≡ b
 gathered_once asked modules resources (Some refusal) a b one other = one ∙ sym other
 gathered_once asked modules resources None a b one other =
-    plugged_once asked.order modules (apply asked.plugins resources) a b (plugs_computed asked modules resources a one) (plugs_computed asked modules resources b other)
+    plugged_once asked.order modules (apply asked.plugins resources) a b (plugs_computed asked modules resources a one)
+    (plugs_computed asked modules resources b other)
 
-closed_once : (asked : Request) (resources : List ℕ → List Written) (closed : Result (List ℕ) CloseError) (a b : Answer) → IsClosedTo asked resources closed a → IsClosedTo asked resources closed b → a ≡ b
+closed_once : (asked : Request) (resources : List ℕ → List Written) (closed : Result (List ℕ) CloseError) (a b : Answer)
+    → IsClosedTo asked resources closed a → IsClosedTo asked resources closed b → a ≡ b
 closed_once asked resources (Ok places) a b one other =
     gathered_once asked (length places) (resources places) (first_bad_name (resources places)) a b one other
 closed_once asked resources (Err error) (Ok image) b one other = absurd one
@@ -49,7 +55,8 @@ closed_once asked resources (Err error) (Err refusal) (Err refusal') one other =
     rw (same_some refusal refusal' (sym one ∙ other)) refl
 
 -- what is closed isn't want of memory
-closed_some : (asked : Request) (resources : List ℕ → List Written) (closed : Result (List ℕ) CloseError) (a : Answer) → IsClosedTo asked resources closed a → closed ≢ Err closing.Memory
+closed_some : (asked : Request) (resources : List ℕ → List Written) (closed : Result (List ℕ) CloseError) (a : Answer)
+    → IsClosedTo asked resources closed a → closed ≢ Err closing.Memory
 closed_some asked resources (Ok places) a is memory = cc
 closed_some asked resources (Err error) (Ok image) is memory = absurd is
 closed_some asked resources (Err (closing.NoRoot name)) (Err refusal) is memory = cc
@@ -61,26 +68,32 @@ closed_some asked resources (Err closing.Memory) (Err refusal) is memory = none 
     none : ◌≡◌ {A = Option Refusal} None (Some refusal) → ⊥
     none same = cc
 
-linked_once : (asked : Request) (found : List Candidate) (resources : List ℕ → List Written) (a b : Answer) → IsLinkedOf asked found resources a → IsLinkedOf asked found resources b → a ≡ b
+linked_once : (asked : Request) (found : List Candidate) (resources : List ℕ → List Written) (a b : Answer)
+    → IsLinkedOf asked found resources a → IsLinkedOf asked found resources b → a ≡ b
 linked_once asked found resources a b (closed, closes, is) (closed', closes', is') =
-    let same = closes_once found (Chosen asked.bind found asked.roots) (chosen_below asked.bind found asked.roots) asked.roots closed closed' (closed_some asked resources closed a is) (closed_some asked resources closed' b is') closes closes' in
+    let same = closes_once found (Chosen asked.bind found asked.roots) (chosen_below asked.bind found asked.roots) asked.roots
+    closed closed' (closed_some asked resources closed a is) (closed_some asked resources closed' b is') closes closes' in
     closed_once asked resources closed' a b (subst (λ c. IsClosedTo asked resources c a) same is) is'
 
-found_once : (asked : Request) (found : List Candidate) (resources : List ℕ → List Written) (taken : Option Refusal) (a b : Answer) → IsFoundTo asked found resources taken a → IsFoundTo asked found resources taken b → a ≡ b
+found_once : (asked : Request) (found : List Candidate) (resources : List ℕ → List Written) (taken : Option Refusal) (a b : Answer)
+    → IsFoundTo asked found resources taken a → IsFoundTo asked found resources taken b → a ≡ b
 found_once asked found resources (Some refusal) a b one other = one ∙ sym other
 found_once asked found resources None a b one other = linked_once asked found resources a b one other
 
 -- what a link of modules comes to is one answer, whatever shows them
-pub among_once : (asked : Request) (found : List Candidate) (resources : List ℕ → List Written) (a b : Answer) → LinksAmong asked found resources a → LinksAmong asked found resources b → a ≡ b
+pub among_once : (asked : Request) (found : List Candidate) (resources : List ℕ → List Written) (a b : Answer)
+    → LinksAmong asked found resources a → LinksAmong asked found resources b → a ≡ b
 among_once asked found resources a b one other = found_once asked found resources (reserved found) a b one other
 
-path_once : (files : Files) (directories : List (List ℕ)) (asked : Request) (given : Option PathRefusal) (a b : Answer) → IsPathTo files directories asked given a → IsPathTo files directories asked given b → a ≡ b
+path_once : (files : Files) (directories : List (List ℕ)) (asked : Request) (given : Option PathRefusal) (a b : Answer)
+    → IsPathTo files directories asked given a → IsPathTo files directories asked given b → a ≡ b
 path_once files directories asked (Some given) a b one other = one ∙ sym other
 path_once files directories asked None a b one other =
     let found = visible files directories in
     among_once asked (candidates found) (resources_in files found) a b one other
 
 -- the rule of a link has one answer
-pub links_once : (files : Files) (directories : List (List ℕ)) (asked : Request) (a b : Answer) → LinksTo files directories asked a → LinksTo files directories asked b → a ≡ b
+pub links_once : (files : Files) (directories : List (List ℕ)) (asked : Request) (a b : Answer) → LinksTo files directories asked a
+    → LinksTo files directories asked b → a ≡ b
 links_once files directories asked a b one other =
     path_once files directories asked (path_refusal files directories) a b one other

@@ -1,5 +1,8 @@
 -- Relinking an image gives it back.
-use Rattle.std.proofs.Common.{◌≡◌, ◌≢◌, ◌<◌, ◌↔◌, ℕ, suc, ◌+◌, Bool, true, false, List, [], ◌∷◌, ◌++◌, append_assoc, length, length-append, map, All, AllPairs, Contains, IsPermutation, Option, Some, None, option_map, slice_get, Result, Ok, Err, refl, sym, ap, subst, ◌∙◌, codes}
+use Rattle.std.proofs.Common.{◌≡◌, ◌≢◌, ◌<◌, ◌↔◌, ℕ, suc, ◌+◌, Bool, true, false, List, [], ◌∷◌, ◌++◌}
+use Rattle.std.proofs.Common.{append_assoc, length, length-append, map, All, AllPairs, Contains}
+use Rattle.std.proofs.Common.{IsPermutation, Option, Some, None, option_map, slice_get, Result, Ok, Err, refl}
+use Rattle.std.proofs.Common.{sym, ap, subst, ◌∙◌, codes}
 use Rattle.std.proofs.lemmas.Bool.{false≢true}
 use Rattle.std.proofs.lemmas.List.{length-map}
 use Rattle.std.proofs.lemmas.List.FromFn.{length-range_with_len}
@@ -10,7 +13,8 @@ use Rattle.std.specs.List.{filter_map, flat_map, range_with_len}
 use Rattle.std.specs.Str.{bytes_eq}
 use Rattle.jm_bytes.proofs.Choice.{same_ok}
 use Rattle.jm_bytes.proofs.CheckLaws.{no_fault_all, no_fault_from}
-use Rattle.jm_bytes.proofs.Members.{all_from_contains, any_contains, contains_here, contains_later, contains_map, from_any, from_filter_map, from_map}
+use Rattle.jm_bytes.proofs.Members.{all_from_contains, any_contains, contains_here, contains_later}
+use Rattle.jm_bytes.proofs.Members.{contains_map, from_any, from_filter_map, from_map}
 use Rattle.jm_bytes.proofs.SameOrder.{mapped_twice}
 use Rattle.jm_bytes.specs.declared.words.Order.{Order}
 use Rattle.jm_closure.specs.declared.candidate.Candidate.{Candidate}
@@ -32,7 +36,8 @@ use Rattle.jm_texts.specs.declared.refusal.Refusal.{Refusal}
 use Rattle.jm_texts.specs.declared.refusal.Refusal.TheVariants as refusal
 use Rattle.jm_link.specs.Chosen.{Chosen, is_called, reserved}
 use Rattle.jm_link.specs.ImageLinked.{ImageLinksTo, resources_seen, seen_candidates, seen_resources}
-use Rattle.jm_link.specs.Linked.{IsClosedTo, IsFoundTo, IsGatheredTo, IsLinkedOf, IsPluggedTo, LinkedImage, LinksAmong, PlugsTo, Request, image_with, laid_out, layout_refusal}
+use Rattle.jm_link.specs.Linked.{IsClosedTo, IsFoundTo, IsGatheredTo, IsLinkedOf, IsPluggedTo, LinkedImage}
+use Rattle.jm_link.specs.Linked.{LinksAmong, PlugsTo, Request, image_with, laid_out, layout_refusal}
 use Rattle.jm_link.specs.Relinked.{leaves_order}
 use Rattle.jm_texts.specs.NameRefusals.{first_bad_name, name_refusal}
 use Rattle.jm_link.proofs.ClosedAgain.{chosen_further, closes_again, found_again, taken}
@@ -55,27 +60,36 @@ pub record IsMade (asked : Request) (found : List Candidate) (gathered : List �
   pub fits : layout_refusal asked.order left ≡ None
   pub is : image ≡ image_with asked.order (length places) left
 
-laid_parts : (order : Order) (modules : ℕ) (left : List Written) (o : Option Refusal) (image : LinkedImage) → ◌≡◌ {A = Result LinkedImage Refusal} (Ok image) (laid_out order modules left o) → (o ≡ None) × (image ≡ image_with order modules left)
+laid_parts : (order : Order) (modules : ℕ) (left : List Written) (o : Option Refusal) (image : LinkedImage)
+    → ◌≡◌ {A = Result LinkedImage Refusal} (Ok image) (laid_out order modules left o) → (o ≡ None) × (image ≡ image_with order modules left)
 laid_parts order modules left None image is = (refl, same_ok {E = Refusal} image (image_with order modules left) is)
 laid_parts order modules left (Some refusal) image is = cc
 
-plugged_parts : (order : Order) (modules : ℕ) (r : Result (List Written) ApplyError) (image : LinkedImage) → IsPluggedTo order modules r (Ok image) → (left : List Written) × (r ≡ Ok left) × (layout_refusal order left ≡ None) × (image ≡ image_with order modules left)
-plugged_parts order modules (Ok left) image is = let parts = laid_parts order modules left (layout_refusal order left) image is in (left, refl, parts.0, parts.1)
+plugged_parts : (order : Order) (modules : ℕ) (r : Result (List Written) ApplyError) (image : LinkedImage)
+    → IsPluggedTo order modules r (Ok image) → (left : List Written) × (r ≡ Ok left) × (layout_refusal order left ≡ None)
+    × (image ≡ image_with order modules left)
+plugged_parts order modules (Ok left) image is =
+    let parts = laid_parts order modules left (layout_refusal order left) image is in (left, refl, parts.0, parts.1)
 plugged_parts order modules (Err error) image is = absurd is
 
-gathered_parts : (asked : Request) (modules : ℕ) (rs : List Written) (o : Option Refusal) (image : LinkedImage) → IsGatheredTo asked modules rs o (Ok image) → (o ≡ None) × IsPluggedTo asked.order modules (apply asked.plugins rs) (Ok image)
+gathered_parts : (asked : Request) (modules : ℕ) (rs : List Written) (o : Option Refusal) (image : LinkedImage)
+    → IsGatheredTo asked modules rs o (Ok image) → (o ≡ None) × IsPluggedTo asked.order modules (apply asked.plugins rs) (Ok image)
 gathered_parts asked modules rs None image is = (refl, plugs_computed asked modules rs (Ok image) is)
 gathered_parts asked modules rs (Some refusal) image is = cc
 
-closed_parts : (asked : Request) (gathered : List ℕ → List Written) (closed : Result (List ℕ) CloseError) (image : LinkedImage) → IsClosedTo asked gathered closed (Ok image) → (places : List ℕ) × (closed ≡ Ok places) × IsGatheredTo asked (length places) (gathered places) (first_bad_name (gathered places)) (Ok image)
+closed_parts : (asked : Request) (gathered : List ℕ → List Written) (closed : Result (List ℕ) CloseError) (image : LinkedImage)
+    → IsClosedTo asked gathered closed (Ok image) → (places : List ℕ) × (closed ≡ Ok places) × IsGatheredTo asked (length places)
+    (gathered places) (first_bad_name (gathered places)) (Ok image)
 closed_parts asked gathered (Ok places) image is = (places, refl, is)
 closed_parts asked gathered (Err error) image is = absurd is
 
-found_parts : (asked : Request) (found : List Candidate) (gathered : List ℕ → List Written) (o : Option Refusal) (image : LinkedImage) → IsFoundTo asked found gathered o (Ok image) → (o ≡ None) × IsLinkedOf asked found gathered (Ok image)
+found_parts : (asked : Request) (found : List Candidate) (gathered : List ℕ → List Written) (o : Option Refusal)
+    (image : LinkedImage) → IsFoundTo asked found gathered o (Ok image) → (o ≡ None) × IsLinkedOf asked found gathered (Ok image)
 found_parts asked found gathered None image is = (refl, is)
 found_parts asked found gathered (Some refusal) image is = cc
 
-pub made_parts : (asked : Request) (found : List Candidate) (gathered : List ℕ → List Written) (image : LinkedImage) → LinksAmong asked found gathered (Ok image) → IsMade asked found gathered image
+pub made_parts : (asked : Request) (found : List Candidate) (gathered : List ℕ → List Written) (image : LinkedImage)
+    → LinksAmong asked found gathered (Ok image) → IsMade asked found gathered image
 made_parts asked found gathered image is =
     let first = found_parts asked found gathered (reserved found) image is in
     let closed = closed_parts asked gathered first.1.0 image first.1.2 in
@@ -99,35 +113,44 @@ module _ (b : List ℕ) (rs : List Written) (stands : Stands b rs) where
   moved = subst (λ h. IsPermutation (resources (entries_with b h)) rs) (sym stands.1.header) stands.2
 
   pub held : (r : Written) → Contains (resources_of b) r ↔ Contains rs r
-  held r = (λ there. Contains-permutation (resources_of b) rs r moved there, λ there. Contains-permutation rs (resources_of b) r (IsPermutation-sym (resources_of b) rs moved) there)
+  held r = (
+    λ there. Contains-permutation (resources_of b) rs r moved there,
+    λ there. Contains-permutation rs (resources_of b) r
+        (IsPermutation-sym (resources_of b) rs moved) there,
+  )
 
   pub names_apart : AllPairs (λ (e f : Written). e.0 ≢ f.0) rs
   names_apart = differ_moved (λ (r : Written). r.0) (resources_of b) rs moved (resources_differ b)
 
 -- No name is refused
 
-called_some : (found : List Candidate) (name : List ℕ) → is_called found name ≡ true → (c : Candidate) × Contains found c × (closure.name_of c ≡ name)
+called_some : (found : List Candidate) (name : List ℕ) → is_called found name ≡ true → (c : Candidate) × Contains found c
+    × (closure.name_of c ≡ name)
 called_some found name is =
     let one = from_any (λ (c : Candidate). bytes_eq name (closure.name_of c)) found is in
     (one.0, one.1, sym ((bytes_eq-Decides name (closure.name_of one.0)).0 one.2))
 
-uncalled : (found others : List Candidate) → ((c : Candidate) → Contains others c → (d : Candidate) × Contains found d × (closure.name_of d ≡ closure.name_of c)) → (name : List ℕ) → is_called found name ≡ false → is_called others name ≡ false
+uncalled : (found others : List Candidate) → ((c : Candidate) → Contains others c → (d : Candidate) × Contains found d
+    × (closure.name_of d ≡ closure.name_of c)) → (name : List ℕ) → is_called found name ≡ false → is_called others name ≡ false
 uncalled found others from name none = go (is_called others name) refl
   where
     go : (b : Bool) → is_called others name ≡ b → b ≡ false
     go true is =
         let one = called_some others name is in
         let before = from one.0 one.1 in
-        absurd (false≢true (sym none ∙ any_contains (λ (c : Candidate). bytes_eq name (closure.name_of c)) found before.0 before.1 ((bytes_eq-Decides name (closure.name_of before.0)).1 (sym (before.2 ∙ one.2)))))
+        absurd (false≢true (sym none ∙ any_contains (λ (c : Candidate). bytes_eq name (closure.name_of c)) found before.0 before.1
+        ((bytes_eq-Decides name (closure.name_of before.0)).1 (sym (before.2 ∙ one.2)))))
     go false is = refl
 
-free_again : (found others : List Candidate) → ((c : Candidate) → Contains others c → (d : Candidate) × Contains found d × (closure.name_of d ≡ closure.name_of c)) → reserved found ≡ None → reserved others ≡ None
+free_again : (found others : List Candidate) → ((c : Candidate) → Contains others c → (d : Candidate) × Contains found d
+    × (closure.name_of d ≡ closure.name_of c)) → reserved found ≡ None → reserved others ≡ None
 free_again found others from free =
     let none = free_names found free in
     rw (uncalled found others from (codes "modules") none.0, uncalled found others from (codes "packages") none.1) refl
 
 good_name : (rs : List Written) (r : Written) → first_bad_name rs ≡ None → Contains rs r → name_refusal r ≡ None
-good_name rs r none there = All-contains (λ o. o ≡ None) (map name_refusal rs) (name_refusal r) (no_fault_all (map name_refusal rs) none) (contains_map name_refusal rs r there)
+good_name rs r none there = All-contains (λ o. o ≡ None) (map name_refusal rs) (name_refusal r) (no_fault_all (map name_refusal rs)
+    none) (contains_map name_refusal rs r there)
 
 sound_again : (old new : List Written) → AreKept IsFirstOrOne old new → first_bad_name old ≡ None → first_bad_name new ≡ None
 sound_again old new kept none =
@@ -136,7 +159,8 @@ sound_again old new kept none =
     (λ o there.
     let from = from_map name_refusal new o there in
     let one = kept.each from.0 from.1 in
-    sym from.2 ∙ ap (λ n. option_map (λ fault. refusal.BadName n fault) (name_fault n)) (sym one.name) ∙ good_name old one.was none one.there))
+    sym from.2 ∙ ap (λ n. option_map (λ fault. refusal.BadName n fault) (name_fault n)) (sym one.name)
+    ∙ good_name old one.was none one.there))
 
 -- All of a list, by its places
 
@@ -148,10 +172,13 @@ all_from : {X : Type 0} (front xs : List X) → filter_map (slice_get (front ++ 
 all_from front [] = refl
 all_from front (x ∷ xs) =
     let place : length (front ++ x ∷ []) ≡ length front + 1 = length-append front (x ∷ []) in
-    let rest = ap (λ ys. filter_map (slice_get ys) (range_with_len (length (front ++ x ∷ [])) (length xs))) (sym (append_assoc front (x ∷ []) xs)) ∙ all_from (front ++ x ∷ []) xs in
-    rw (in_middle front x xs) (ap (λ ys. x ∷ ys) (ap (λ n. filter_map (slice_get (front ++ x ∷ xs)) (range_with_len n (length xs))) (sym place) ∙ rest))
+    let rest = ap (λ ys. filter_map (slice_get ys) (range_with_len (length (front ++ x ∷ [])) (length xs)))
+    (sym (append_assoc front (x ∷ []) xs)) ∙ all_from (front ++ x ∷ []) xs in
+    rw (in_middle front x xs) (ap (λ ys. x ∷ ys) (ap (λ n. filter_map (slice_get (front ++ x ∷ xs)) (range_with_len n (length xs)))
+    (sym place) ∙ rest))
 
-count_taken : {X : Type 0} (xs : List X) (places : List ℕ) → ((i : ℕ) → Contains places i → i < length xs) → length (filter_map (slice_get xs) places) ≡ length places
+count_taken : {X : Type 0} (xs : List X) (places : List ℕ) → ((i : ℕ) → Contains places i → i < length xs)
+    → length (filter_map (slice_get xs) places) ≡ length places
 count_taken xs [] within = refl
 count_taken xs (p ∷ places) within =
     let held = element_at xs p (within p (contains_here p places)) in
@@ -159,14 +186,19 @@ count_taken xs (p ∷ places) within =
 
 -- Once more
 
-module _ (b : List ℕ) (first asked : Request) (found : List Candidate) (gathered : List ℕ → List Written) (image : LinkedImage) (made : IsMade first found gathered image) (unordered : All (λ one. leaves_order one ≡ true) first.plugins) (within : (i : ℕ) → Contains made.places i → i < length found) where
+module _ (b : List ℕ) (first asked : Request) (found : List Candidate) (gathered : List ℕ → List Written) (image : LinkedImage)
+    (made : IsMade first found gathered image) (unordered : All (λ one. leaves_order one ≡ true) first.plugins) (within : (i : ℕ)
+    → Contains made.places i → i < length found) where
   abbrev Taken : ℕ → Type 0
   Taken = Chosen first.bind found first.roots
 
   abbrev cs : List Candidate
   cs = taken found Taken made.places made.closes.4 within
 
-  module _ (of : AreOf cs (gathered made.places)) (stands : Stands b made.left) (infos : (c : Candidate) → Contains cs c → (content : List ℕ) × Contains made.left (info_entry (closure.name_of c), content)) (rooted : (c : Candidate) → Contains cs c → Contains asked.roots (closure.name_of c)) (only : (name : List ℕ) → Contains asked.roots name → (c : Candidate) × Contains cs c × (closure.name_of c ≡ name)) (order : asked.order ≡ first.order) (plugins : asked.plugins ≡ []) where
+  module _ (of : AreOf cs (gathered made.places)) (stands : Stands b made.left) (infos : (c : Candidate) → Contains cs c
+      → (content : List ℕ) × Contains made.left (info_entry (closure.name_of c), content)) (rooted : (c : Candidate) → Contains cs c
+      → Contains asked.roots (closure.name_of c)) (only : (name : List ℕ) → Contains asked.roots name → (c : Candidate)
+      × Contains cs c × (closure.name_of c ≡ name)) (order : asked.order ≡ first.order) (plugins : asked.plugins ≡ []) where
     kept : AreKept IsFirstOrOne (gathered made.places) made.left
     kept = applied IsFirstOrOne first.plugins (gathered made.places) made.left unordered made.plugged
 
@@ -193,7 +225,8 @@ module _ (b : List ℕ) (first asked : Request) (found : List Candidate) (gather
 
     closes : Closes others asked.roots (Chosen asked.bind others asked.roots) (Ok all)
     closes =
-        closes_again found Taken made.places made.closes.4 within again (λ c. refl) (only_packages cs made.left are apart) asked.roots rooted only asked.bind
+        closes_again found Taken made.places made.closes.4 within again (λ c. refl) (only_packages cs made.left are apart)
+        asked.roots rooted only asked.bind
         made.closes.1 made.closes.2 made.closes.3 (λ i j has requires. chosen_further first.bind found first.roots i j has requires)
 
     free : reserved others ≡ None
@@ -207,12 +240,14 @@ module _ (b : List ℕ) (first asked : Request) (found : List Candidate) (gather
     long = length-map cs (see cs made.left are apart) ∙ sym (length-map cs again)
 
     gathered_again : resources_seen ss all ≡ made.left
-    gathered_again = ap (λ n. resources_seen ss (range_with_len 0 n)) (sym long) ∙ ap (flat_map seen_resources) (all_from [] ss) ∙ resources_again cs made.left are apart
+    gathered_again = ap (λ n. resources_seen ss (range_with_len 0 n)) (sym long) ∙ ap (flat_map seen_resources) (all_from [] ss)
+        ∙ resources_again cs made.left are apart
 
     count : length all ≡ length made.places
     count = length-range_with_len 0 (length others) ∙ length-map cs again ∙ count_taken found made.places within
 
-    laid_again : ◌≡◌ {A = Result LinkedImage Refusal} (Ok image) (laid_out asked.order (length all) made.left (layout_refusal asked.order made.left))
+    laid_again : ◌≡◌ {A = Result LinkedImage Refusal} (Ok image) (laid_out asked.order (length all) made.left
+        (layout_refusal asked.order made.left))
     laid_again =
         ap (λ x. Ok x) made.is
         ∙ sym (ap (λ o. laid_out o (length all) made.left (layout_refusal o made.left)) order
@@ -225,7 +260,8 @@ module _ (b : List ℕ) (first asked : Request) (found : List Candidate) (gather
     gathered_to : IsGatheredTo asked (length all) (resources_seen ss all) (first_bad_name (resources_seen ss all)) (Ok image)
     gathered_to =
         subst (λ rs. IsGatheredTo asked (length all) rs (first_bad_name rs) (Ok image)) (sym gathered_again)
-        (subst (λ o. IsGatheredTo asked (length all) made.left o (Ok image)) (sym (sound_again (gathered made.places) made.left kept made.sound)) plugged_again)
+        (subst (λ o. IsGatheredTo asked (length all) made.left o (Ok image)) (sym (sound_again (gathered made.places) made.left kept
+        made.sound)) plugged_again)
 
     links_again : LinksAmong asked (seen_candidates ss) (resources_seen ss) (Ok image)
     links_again =

@@ -19,7 +19,8 @@ use Rattle.jm_modpath.proofs.TextCuts.{inside_is_text}
 -- Names
 
 -- texts of one resource name in one module are one
-pub name_tells : («module» path other : List ℕ) → IsUtf8 path → IsUtf8 other → resource_name «module» path ≡ resource_name «module» other → path ≡ other
+pub name_tells : («module» path other : List ℕ) → IsUtf8 path → IsUtf8 other → resource_name «module» path
+    ≡ resource_name «module» other → path ≡ other
 name_tells «module» path other text too same =
     let front : (47 ∷ «module») ++ 47 ∷ modified path ≡ (47 ∷ «module») ++ 47 ∷ modified other = same in
     let rest = append_cancel_left (47 ∷ «module») (47 ∷ modified path) (47 ∷ modified other) front in
@@ -31,7 +32,8 @@ pub files_differ : (m : VisibleModule) → HasTexts m → AllPairs Differ (map (
 files_differ m has =
     pairs_map Differ (file_of m) m.files
     (pairs_among (λ (path other : List ℕ). path ≢ other) (λ path other. Differ (file_of m path) (file_of m other)) m.files
-    (λ path other there too apart same. apart (name_tells (name_of m) path other (All-contains IsUtf8 m.files path has.files there) (All-contains IsUtf8 m.files other has.files too) same))
+    (λ path other there too apart same. apart (name_tells (name_of m) path other (All-contains IsUtf8 m.files path has.files there)
+    (All-contains IsUtf8 m.files other has.files too) same))
     has.differ)
 
 -- their paths are text

@@ -1,5 +1,7 @@
 -- The names of all files that are linked differ, where the modules' names do.
-use Rattle.std.proofs.Common.{◌≡◌, ◌≢◌, ℕ, ◌<◌, Bool, true, false, ◌&&◌, List, [], ◌∷◌, ◌++◌, length, map, All, AllPairs, Contains, Some, option_map, slice_get, refl, sym, ap, subst, ◌∙◌, suc, arith}
+use Rattle.std.proofs.Common.{◌≡◌, ◌≢◌, ℕ, ◌<◌, Bool, true, false, ◌&&◌, List, [], ◌∷◌, ◌++◌, length, map}
+use Rattle.std.proofs.Common.{All, AllPairs, Contains, Some, option_map, slice_get, refl, sym, ap, subst, ◌∙◌}
+use Rattle.std.proofs.Common.{suc, arith}
 use Rattle.std.proofs.lemmas.Bool.{false≢true}
 use Rattle.std.proofs.lemmas.List.{append_cancel_left}
 use Rattle.std.proofs.lemmas.List.Elements.{All-contains}
@@ -47,7 +49,8 @@ cut_same (b ∷ n) [] x y one other same = let is : 47 ≡ b = cc in absurd (no_
 cut_same (b ∷ n) (c ∷ m) x y one other same =
     let first : b ≡ c = cc in
     let rest : n ++ 47 ∷ x ≡ m ++ 47 ∷ y = cc in
-    let names = cut_same n m x y (both_last (is_legal_byte b) (list_all is_legal_byte n) one) (both_last (is_legal_byte c) (list_all is_legal_byte m) other) rest in
+    let names = cut_same n m x y (both_last (is_legal_byte b) (list_all is_legal_byte n) one) (both_last (is_legal_byte c)
+    (list_all is_legal_byte m) other) rest in
     cc
 
 -- Files
@@ -58,13 +61,16 @@ own_apart m has =
     (by_name_rises (map (file_of m) m.files) (files_differ m has))
 
 -- files of modules with two names
-two_apart : (m k : VisibleModule) → HasTexts m → HasTexts k → name_of m ≢ name_of k → (e f : Named) → Contains (module_files m) e → Contains (module_files k) f → Differ e f
+two_apart : (m k : VisibleModule) → HasTexts m → HasTexts k → name_of m ≢ name_of k → (e f : Named) → Contains (module_files m) e
+    → Contains (module_files k) f → Differ e f
 two_apart m k one other apart e f there too same =
     let first = from_map (file_of m) m.files e (from_by_name (map (file_of m) m.files) e there) in
     let second = from_map (file_of k) k.files f (from_by_name (map (file_of k) k.files) f too) in
-    let names : resource_name (name_of m) first.0 ≡ resource_name (name_of k) second.0 = ap (λ (p : Named). p.0) first.2 ∙ same ∙ sym (ap (λ (p : Named). p.0) second.2) in
+    let names : resource_name (name_of m) first.0 ≡ resource_name (name_of k) second.0 = ap (λ (p : Named). p.0) first.2 ∙ same
+    ∙ sym (ap (λ (p : Named). p.0) second.2) in
     let rest = append_cancel_left (47 ∷ []) (name_of m ++ 47 ∷ modified first.0) (name_of k ++ 47 ∷ modified second.0) names in
-    apart (cut_same (name_of m) (name_of k) (modified first.0) (modified second.0) (legal_bytes (name_of m) one.legal) (legal_bytes (name_of k) other.legal) rest)
+    apart (cut_same (name_of m) (name_of k) (modified first.0) (modified second.0) (legal_bytes (name_of m) one.legal)
+    (legal_bytes (name_of k) other.legal) rest)
 
 modules_apart : (ms : List VisibleModule) → All HasTexts ms → Differing ms → AllPairs Differ (flat_map module_files ms)
 modules_apart [] texts apart = pairs_none Differ
@@ -76,10 +82,12 @@ modules_apart (m ∷ ms) texts apart =
     (modules_apart ms later (pairs_tail (λ k l. name_of k ≢ name_of l) m ms apart))
     (λ e f there too.
     let from = from_flat_map module_files ms f too in
-    two_apart m from.0 has (All-contains HasTexts ms from.0 later from.1) (All-contains (λ k. name_of m ≢ name_of k) ms from.0 others from.1) e f there from.2)
+    two_apart m from.0 has (All-contains HasTexts ms from.0 later from.1) (All-contains (λ k. name_of m ≢ name_of k) ms from.0
+    others from.1) e f there from.2)
 
 -- modules at places that differ
-chosen_apart : (found : List VisibleModule) (places : List ℕ) → NamesDiffer (candidates found) → AllPairs (λ p q. p ≢ q) places → Differing (filter_map (slice_get found) places)
+chosen_apart : (found : List VisibleModule) (places : List ℕ) → NamesDiffer (candidates found) → AllPairs (λ p q. p ≢ q) places
+    → Differing (filter_map (slice_get found) places)
 chosen_apart found places differ apart =
     pairs_filter_map (λ (p q : ℕ). p ≢ q) (λ m k. name_of m ≢ name_of k) (slice_get found)
     (λ p q other m k one two same. other (differ p q (name_of m) (m.candidate, at p m one, refl) (k.candidate, at q k two, sym same)))
@@ -93,11 +101,15 @@ names_of_files [] = refl
 names_of_files (f ∷ fs) = ap (λ ns. f.name ∷ ns) (names_of_files fs)
 
 -- all names differ
-pub link_names_apart : (found : List VisibleModule) (places : List ℕ) → All HasTexts found → NamesDiffer (candidates found) → All (λ p. p < length found) places → AllPairs (λ p q. p ≢ q) places → AllPairs (λ a b. a ≢ b) (names_of (link_files found places))
+pub link_names_apart : (found : List VisibleModule) (places : List ℕ) → All HasTexts found → NamesDiffer (candidates found)
+    → All (λ p. p < length found) places → AllPairs (λ p q. p ≢ q) places → AllPairs (λ a b. a ≢ b) (names_of (link_files found places))
 link_names_apart found places texts differ within apart =
     pairs_map (λ (a b : List ℕ). a ≢ b) (λ (e : Named). e.0) (link_files found places)
     (modules_apart (filter_map (slice_get found) places) (all_chosen found places texts within) (chosen_apart found places differ apart))
 
-pub file_names_apart : (found : List VisibleModule) (places : List ℕ) (fs : List ResourceFile) → map pair_of fs ≡ link_files found places → All HasTexts found → NamesDiffer (candidates found) → All (λ p. p < length found) places → AllPairs (λ p q. p ≢ q) places → AllPairs (λ a b. a ≢ b) (file_names fs)
+pub file_names_apart : (found : List VisibleModule) (places : List ℕ) (fs : List ResourceFile) → map pair_of fs
+    ≡ link_files found places → All HasTexts found → NamesDiffer (candidates found) → All (λ p. p < length found) places
+    → AllPairs (λ p q. p ≢ q) places → AllPairs (λ a b. a ≢ b) (file_names fs)
 file_names_apart found places fs is texts differ within apart =
-    subst (AllPairs (λ (a b : List ℕ). a ≢ b)) (sym (ap names_of is) ∙ names_of_files fs) (link_names_apart found places texts differ within apart)
+    subst (AllPairs (λ (a b : List ℕ). a ≢ b)) (sym (ap names_of is) ∙ names_of_files fs) (link_names_apart found places texts
+    differ within apart)

@@ -1,6 +1,8 @@
 -- What the class of a module says stays as it is when its debug information is left out or a list
 -- of its packages is added, and such a class isn't compacted.
-use Rattle.std.proofs.Common.{◌≡◌, ℕ, inl, inr, Bool, true, false, cond, List, [], ◌∷◌, Contains, Option, Some, None, Result, Ok, Err, refl, sym, ap, subst, ◌∙◌, filter, codes, length, map, nat_eq, not}
+use Rattle.std.proofs.Common.{◌≡◌, ℕ, inl, inr, Bool, true, false, cond, List, [], ◌∷◌, Contains, Option}
+use Rattle.std.proofs.Common.{Some, None, Result, Ok, Err, refl, sym, ap, subst, ◌∙◌, filter, codes, length}
+use Rattle.std.proofs.Common.{map, nat_eq, not}
 use Rattle.std.proofs.lemmas.Bool.{false≢true}
 use Rattle.std.proofs.lemmas.Slice.Eq.{bytes_eq-Decides}
 use Rattle.std.specs.List.{cons_option, filter_map}
@@ -19,7 +21,9 @@ use Rattle.jm_modinfo.specs.declared.faults.DescriptorFault.{DescriptorFault}
 use Rattle.jm_modinfo.specs.declared.faults.DescriptorFault.TheVariants as kind
 use Rattle.jm_modinfo.specs.declared.faults.InfoFault.{InfoFault}
 use Rattle.jm_modinfo.specs.declared.faults.InfoFault.TheVariants.{Name, NotModule, OldVersion, Rest, Short}
-use Rattle.jm_modinfo.specs.ComputedInfo.{body_info, index_field, info_of, main_of, module_field, named_field, names_field, need_field, only_body, opened_field, provides_field, short_number, value_of, version_field, with_body, with_info}
+use Rattle.jm_modinfo.specs.ComputedInfo.{body_info, index_field, info_of, main_of, module_field, named_field}
+use Rattle.jm_modinfo.specs.ComputedInfo.{names_field, need_field, only_body, opened_field, provides_field}
+use Rattle.jm_modinfo.specs.ComputedInfo.{short_number, value_of, version_field, with_body, with_info}
 use Rattle.jm_modinfo.specs.Constants.{is_legal, named_at}
 use Rattle.jm_modinfo.specs.declared.constants.Kind.TheVariants as kind_of
 use Rattle.jm_class.specs.Readings.{Left, Outcome, Reading, and_then, continued, ended, list_of, value}
@@ -31,7 +35,8 @@ use Rattle.jm_packages.proofs.PackagedLaws.{packaged-class, packaged-info}
 use Rattle.jm_plugins.specs.ComputedPlugins.{stripped_text}
 use Rattle.jm_poolmap.specs.declared.forms.Place.TheVariants.{Class, Field, Method}
 use Rattle.jm_poolmap.specs.declared.walk.Walk.{Walk}
-use Rattle.jm_poolmap.specs.ComputedSites.{Step, Walked, attribute_step, back_step, each, found_by, front_step, member_step, passes, step_on, steps, walk_of}
+use Rattle.jm_poolmap.specs.ComputedSites.{Step, Walked, attribute_step, back_step, each, found_by}
+use Rattle.jm_poolmap.specs.ComputedSites.{front_step, member_step, passes, step_on, steps, walk_of}
 use Rattle.jm_poolmap.specs.Sites.{found_in, judged}
 use Rattle.jm_poolmap.proofs.ComputedSitesLaws.{found_is}
 use Rattle.jm_strip.specs.Strip.{debug_names, is_among, stays, strip}
@@ -46,25 +51,30 @@ pub record Says (bytes : List ℕ) (d : Descriptor) : Type 0 where
 -- Without debug information
 
 -- an attribute that doesn't stay hasn't this name
-left_out : (name : List ℕ) → is_among (debug_names false) (Some name) ≡ false → (o : Option (List ℕ)) → not (is_among (debug_names false) o) ≡ false → is_named name o ≡ false
+left_out : (name : List ℕ) → is_among (debug_names false) (Some name) ≡ false → (o : Option (List ℕ))
+    → not (is_among (debug_names false) o) ≡ false → is_named name o ≡ false
 left_out name other None gone = absurd (false≢true (sym gone))
 left_out name other (Some text) gone = go (bytes_eq text name) refl
   where
     go : (b : Bool) → bytes_eq text name ≡ b → b ≡ false
     go true same =
-        let kept : is_among (debug_names false) (Some text) ≡ false = ap (λ t. is_among (debug_names false) (Some t)) ((bytes_eq-Decides text name).0 same) ∙ other in
+        let kept : is_among (debug_names false) (Some text) ≡ false = ap (λ t. is_among (debug_names false) (Some t))
+        ((bytes_eq-Decides text name).0 same) ∙ other in
         absurd (false≢true (sym gone ∙ ap not kept))
     go false same = refl
 
 -- attributes of a name that isn't that of one with debug information stay
-kept_bodies : (pool : List SlotData) (name : List ℕ) → is_among (debug_names false) (Some name) ≡ false → (attributes : List AttributeData) → bodies pool name (filter (λ a. stays false pool a.name) attributes) ≡ bodies pool name attributes
+kept_bodies : (pool : List SlotData) (name : List ℕ) → is_among (debug_names false) (Some name) ≡ false
+    → (attributes : List AttributeData) → bodies pool name (filter (λ a. stays false pool a.name) attributes) ≡ bodies pool name attributes
 kept_bodies pool name other [] = refl
 kept_bodies pool name other (a ∷ rest) = go (stays false pool a.name) refl (kept_bodies pool name other rest)
   where
     none : stays false pool a.name ≡ false → bytes_named pool name a ≡ None
     none gone = ap (λ b. cond b (plain_bytes a.body) None) (left_out name other (utf8_at pool a.name) gone)
 
-    go : (b : Bool) → stays false pool a.name ≡ b → bodies pool name (filter (λ a. stays false pool a.name) rest) ≡ bodies pool name rest → filter_map (bytes_named pool name) (cond b (a ∷ filter (λ a. stays false pool a.name) rest) (filter (λ a. stays false pool a.name) rest)) ≡ bodies pool name (a ∷ rest)
+    go : (b : Bool) → stays false pool a.name ≡ b → bodies pool name (filter (λ a. stays false pool a.name) rest)
+        ≡ bodies pool name rest → filter_map (bytes_named pool name) (cond b (a ∷ filter (λ a. stays false pool a.name) rest)
+        (filter (λ a. stays false pool a.name) rest)) ≡ bodies pool name (a ∷ rest)
     go true is behind = ap (cons_option (bytes_named pool name a)) behind
     go false is behind = behind ∙ sym (ap (λ o. cons_option o (bodies pool name rest)) (none is))
 
@@ -89,7 +99,8 @@ stripped_says c d fits is = record {
 
 -- With a list of packages
 
-pub packaged_says : (packages : List (List ℕ)) (c : ClassData) (d : Descriptor) → IsClass c → info_of c ≡ Ok d → Says (packages_text packages c) d
+pub packaged_says : (packages : List (List ℕ)) (c : ClassData) (d : Descriptor) → IsClass c → info_of c ≡ Ok d
+    → Says (packages_text packages c) d
 packaged_says packages c d fits is = record {
   class = packaged packages c;
   reads = record { well_formed = packaged-class packages c fits; text = refl };
@@ -130,24 +141,29 @@ plain_so : (b : BodyData) (bytes : List ℕ) → plain_bytes b ≡ Some bytes �
 plain_so (Opaque own) bytes is = cc
 plain_so (Coded code) bytes is = cc
 
-body_of : (pool : List SlotData) (modules : List (List ℕ)) (main : Result (Option (List ℕ)) InfoFault) (d : Descriptor) → with_body pool (only_body modules) main ≡ Ok d → (body : List ℕ) × (modules ≡ body ∷ [])
+body_of : (pool : List SlotData) (modules : List (List ℕ)) (main : Result (Option (List ℕ)) InfoFault) (d : Descriptor)
+    → with_body pool (only_body modules) main ≡ Ok d → (body : List ℕ) × (modules ≡ body ∷ [])
 body_of pool [] main d is = cc
 body_of pool (body ∷ []) main d is = (body, refl)
 body_of pool (body ∷ other ∷ more) main d is = cc
 
 -- the parts of a class that says something
-info_parts : (flagged old : Bool) (major : ℕ) (said : Result Descriptor InfoFault) (d : Descriptor) → (if not flagged then Err NotModule else if old then Err (OldVersion major) else said) ≡ Ok d → said ≡ Ok d
+info_parts : (flagged old : Bool) (major : ℕ) (said : Result Descriptor InfoFault) (d : Descriptor)
+    → (if not flagged then Err NotModule else if old then Err (OldVersion major) else said) ≡ Ok d → said ≡ Ok d
 info_parts false old major said d is = cc
 info_parts true true major said d is = cc
 info_parts true false major said d is = is
 
-pub said_body : (c : ClassData) (d : Descriptor) → info_of c ≡ Ok d → with_body c.pool (only_body (module_bodies c)) (main_of c.pool (main_bodies c)) ≡ Ok d
-said_body c d is = info_parts (is_module c.access) (nat_lt c.major 53) c.major (with_body c.pool (only_body (module_bodies c)) (main_of c.pool (main_bodies c))) d is
+pub said_body : (c : ClassData) (d : Descriptor) → info_of c ≡ Ok d → with_body c.pool (only_body (module_bodies c))
+    (main_of c.pool (main_bodies c)) ≡ Ok d
+said_body c d is = info_parts (is_module c.access) (nat_lt c.major 53) c.major (with_body c.pool (only_body (module_bodies c))
+    (main_of c.pool (main_bodies c))) d is
 
 has_module : (c : ClassData) (d : Descriptor) → info_of c ≡ Ok d → HasModule c
 has_module c d is =
     let only = body_of c.pool (module_bodies c) (main_of c.pool (main_bodies c)) d (said_body c d is) in
-    let from = from_filter_map (bytes_named c.pool (codes "Module")) c.attributes only.0 (subst (λ bs. Contains bs only.0) (sym only.1) (contains_here only.0 [])) in
+    let from = from_filter_map (bytes_named c.pool (codes "Module")) c.attributes only.0 (subst (λ bs. Contains bs only.0)
+    (sym only.1) (contains_here only.0 [])) in
     let a = from.0 in
     elim (chosen (is_named (codes "Module") (utf8_at c.pool a.name)) (plain_bytes a.body) None (Some only.0) from.2) [
       | inl named ↦ record {
@@ -160,7 +176,8 @@ has_module c d is =
       | inr none ↦ cc
     ]
 
-unlisted_fails : (pool : List SlotData) (a : AttributeData) (bytes : List ℕ) → utf8_at pool a.name ≡ Some (codes "Module") → a.body ≡ Opaque bytes → Fails (attribute_step Class pool a)
+unlisted_fails : (pool : List SlotData) (a : AttributeData) (bytes : List ℕ) → utf8_at pool a.name ≡ Some (codes "Module") → a.body
+    ≡ Opaque bytes → Fails (attribute_step Class pool a)
 unlisted_fails pool a bytes name body walk = rw (body, name) refl
 
 sixth : {X : Type 0} (a b c d e f : X) → Contains (a ∷ b ∷ c ∷ d ∷ e ∷ f ∷ []) f
@@ -171,9 +188,11 @@ sixth a b c d e f =
 back_fails : (c : ClassData) → HasModule c → Fails (back_step c)
 back_fails c has =
     one_fails
-    (passes 2 ∷ each (member_step Field c.pool) c.fields ∷ passes 2 ∷ each (member_step Method c.pool) c.methods ∷ passes 2 ∷ each (attribute_step Class c.pool) c.attributes ∷ [])
+    (passes 2 ∷ each (member_step Field c.pool) c.fields ∷ passes 2 ∷ each (member_step Method c.pool) c.methods ∷ passes 2
+    ∷ each (attribute_step Class c.pool) c.attributes ∷ [])
     (each (attribute_step Class c.pool) c.attributes)
-    (sixth (passes 2) (each (member_step Field c.pool) c.fields) (passes 2) (each (member_step Method c.pool) c.methods) (passes 2) (each (attribute_step Class c.pool) c.attributes))
+    (sixth (passes 2) (each (member_step Field c.pool) c.fields) (passes 2) (each (member_step Method c.pool) c.methods) (passes 2)
+    (each (attribute_step Class c.pool) c.attributes))
     (one_fails (map (attribute_step Class c.pool) c.attributes) (attribute_step Class c.pool has.attribute)
     (contains_map (attribute_step Class c.pool) c.attributes has.attribute has.there)
     (unlisted_fails c.pool has.attribute has.bytes has.name has.body))
@@ -221,7 +240,8 @@ says_info content d says = ap info_with (reads-class_of content says.class says.
 
 -- The name that is said is legal
 
-continued_ok : {F A B : Type 0} (o : Outcome F A) (next : A → Reading F B) (r : B × Left) → continued o next ≡ Ok r → (a : A × Left) × (o ≡ Ok a) × (next a.0 a.1 ≡ Ok r)
+continued_ok : {F A B : Type 0} (o : Outcome F A) (next : A → Reading F B) (r : B × Left) → continued o next ≡ Ok r → (a : A × Left)
+    × (o ≡ Ok a) × (next a.0 a.1 ≡ Ok r)
 continued_ok (Ok a) next r is = (a, refl, is)
 continued_ok (Err fault) next r is = cc
 
@@ -229,7 +249,8 @@ continued_ok (Err fault) next r is = cc
 record Gives {F A : Type 0} (P : A → Type 0) (reading : Reading F A) : Type 0 where
   gives : (left : Left) (r : A × Left) → reading left ≡ Ok r → P r.0
 
-gives_then : {F A B : Type 0} (Q : A → Type 0) (P : B → Type 0) (first : Reading F A) (next : A → Reading F B) → Gives Q first → ((a : A) → Q a → Gives P (next a)) → Gives P (and_then first next)
+gives_then : {F A B : Type 0} (Q : A → Type 0) (P : B → Type 0) (first : Reading F A) (next : A → Reading F B) → Gives Q first
+    → ((a : A) → Q a → Gives P (next a)) → Gives P (and_then first next)
 gives_then Q P first next one two = record {
   gives = λ left r is.
       let read = continued_ok (first left) next r is in
@@ -245,7 +266,8 @@ gives_value {F} P a holds = record { gives = λ left r is. subst (λ (x : _ × L
 gives_named : (pool : List SlotData) → Gives (λ name. is_legal name ≡ true) (named_field pool kind_of.Module)
 gives_named pool = record {
   gives = λ left r is.
-      let read = continued_ok (index_field (named_at pool kind_of.Module) left) (λ a next. cond (is_legal a) (Ok (a, next)) (Err (Name left.place))) r is in
+      let read = continued_ok (index_field (named_at pool kind_of.Module) left) (λ a next. cond (is_legal a) (Ok (a, next))
+      (Err (Name left.place))) r is in
       elim (chosen (is_legal read.0.0) (Ok (read.0.0, read.0.1)) (Err (Name left.place)) (Ok r) read.2) [
         | inl passes ↦ subst (λ (x : List ℕ × Left). is_legal x.0 ≡ true) (same_ok {E = InfoFault} (read.0.0, read.0.1) r passes.1) passes.0
         | inr fails ↦ cc
@@ -275,14 +297,17 @@ body_legal : (pool : List SlotData) (body : List ℕ) (d : Descriptor) → body_
 body_legal pool body d is =
     let left : Left = record { place = 0; bytes = body } in
     let end = value_ok (ended Rest (module_field pool) left) d is in
-    let read = continued_ok (module_field pool left) (λ a next. cond (nat_eq (length next.bytes) 0) (Ok (a, next)) (Err (Rest next.place))) end.0 end.1 in
+    let read = continued_ok (module_field pool left) (λ a next. cond (nat_eq (length next.bytes) 0) (Ok (a, next))
+    (Err (Rest next.place))) end.0 end.1 in
     let legal = (gives_legal pool).gives left read.0 read.1 in
     elim (chosen (nat_eq (length read.0.1.bytes) 0) (Ok (read.0.0, read.0.1)) (Err (Rest read.0.1.place)) (Ok end.0) read.2) [
-      | inl passes ↦ subst IsLegal (ap (λ (x : Descriptor × Left). x.0) (same_ok {E = InfoFault} (read.0.0, read.0.1) end.0 passes.1) ∙ end.2) legal
+      | inl passes ↦ subst IsLegal (ap (λ (x : Descriptor × Left). x.0) (same_ok {E = InfoFault} (read.0.0, read.0.1) end.0
+          passes.1) ∙ end.2) legal
       | inr fails ↦ cc
     ]
 
-name_from : (info : Result Descriptor InfoFault) (main : Result (Option (List ℕ)) InfoFault) (d : Descriptor) → with_info info main ≡ Ok d → ((e : Descriptor) → info ≡ Ok e → IsLegal e) → IsLegal d
+name_from : (info : Result Descriptor InfoFault) (main : Result (Option (List ℕ)) InfoFault) (d : Descriptor) → with_info info main
+    ≡ Ok d → ((e : Descriptor) → info ≡ Ok e → IsLegal e) → IsLegal d
 name_from (Ok e) (Ok main) d is legal = subst IsLegal (same_ok {E = InfoFault} (record e { main = main }) d is) (legal e refl)
 name_from (Ok e) (Err fault) d is legal = cc
 name_from (Err fault) main d is legal = cc
@@ -292,5 +317,6 @@ said_legal bytes d says =
     let c = says.class in
     let main = main_of c.pool (main_bodies c) in
     let only = body_of c.pool (module_bodies c) main d (said_body c d says.info) in
-    let whole : with_info (body_info c.pool only.0) main ≡ Ok d = ap (λ bs. with_body c.pool (only_body bs) main) (sym only.1) ∙ said_body c d says.info in
+    let whole : with_info (body_info c.pool only.0) main ≡ Ok d = ap (λ bs. with_body c.pool (only_body bs) main) (sym only.1)
+    ∙ said_body c d says.info in
     name_from (body_info c.pool only.0) main d whole (λ e is. body_legal c.pool only.0 e is)

@@ -1,6 +1,7 @@
 -- The modules that the resources of some modules show, where the descriptor of each stands among
 -- them: these modules, with the same descriptors, and only packages that they had.
-use Rattle.std.proofs.Common.{◌≡◌, ◌≢◌, ◌↔◌, inl, inr, ℕ, true, false, cond, List, map, All, AllPairs, Contains, Option, Some, None, Ok, refl, sym, ap, subst, ◌∙◌}
+use Rattle.std.proofs.Common.{◌≡◌, ◌≢◌, ◌↔◌, inl, inr, ℕ, true, false, cond, List, map, All, AllPairs}
+use Rattle.std.proofs.Common.{Contains, Option, Some, None, Ok, refl, sym, ap, subst, ◌∙◌}
 use Rattle.std.proofs.lemmas.Slice.Eq.{bytes_eq-Decides}
 use Rattle.std.specs.List.{filter_map, flat_map, list_any}
 use Rattle.std.specs.Prelude.{IsTrue}
@@ -76,11 +77,17 @@ module _ (cs : List Candidate) (rs : List Written) (are : AreOf cs rs) (differ :
   strict i j d before inside = are.order i j d before inside (differ i j d before inside)
 
   -- a resource with the name of a module's file is that module's
-  pub own : (c : Candidate) → Contains cs c → (r : Written) → Contains rs r → (path : List ℕ) → r.0 ≡ file_name (closure.name_of c) path → (of : IsOf cs r) × (of.candidate ≡ c) × (of.path ≡ path)
+  pub own : (c : Candidate) → Contains cs c → (r : Written) → Contains rs r → (path : List ℕ) → r.0 ≡ file_name (closure.name_of c)
+      path → (of : IsOf cs r) × (of.candidate ≡ c) × (of.path ≡ path)
   own c there r among path is =
       let of = are.each r among in
-      let names = names_tell (closure.name_of of.candidate) (closure.name_of c) of.path path (are.whole of.candidate of.among) (are.whole c there) (sym of.name ∙ is) in
-      (of, one_of closure.name_of cs of.candidate c (pairs_weaker Before (λ a b. closure.name_of a ≢ closure.name_of b) (λ a b before. before_apart (closure.name_of a) (closure.name_of b) before) cs are.rising) of.among there names.0, names.1)
+      let names = names_tell (closure.name_of of.candidate) (closure.name_of c) of.path path (are.whole of.candidate of.among)
+      (are.whole c there) (sym of.name ∙ is) in (
+        of,
+        one_of closure.name_of cs of.candidate c (pairs_weaker Before (λ a b. closure.name_of a ≢ closure.name_of b)
+            (λ a b before. before_apart (closure.name_of a) (closure.name_of b) before) cs are.rising) of.among there names.0,
+        names.1,
+      )
 
   -- The files of a module
 
@@ -97,23 +104,32 @@ module _ (cs : List Candidate) (rs : List Written) (are : AreOf cs rs) (differ :
         | inr fails ↦ cc
       ]
 
-  files_from : (c : Candidate) (path content : List ℕ) → Contains (files_of c) (path, content) → Contains rs (file_name (closure.name_of c) path, content)
+  files_from : (c : Candidate) (path content : List ℕ) → Contains (files_of c) (path, content)
+      → Contains rs (file_name (closure.name_of c) path, content)
   files_from c path content there =
       let from = from_filter_map (file_in (closure.name_of c)) rs (path, content) there in
       let r = from.0 in
       let is = file_is (closure.name_of c) r (path, content) from.2 in
       let of = are.each r from.1 in
       let whole = are.whole of.candidate of.among in
-      let named : closure.name_of of.candidate ≡ closure.name_of c = sym (module_again (closure.name_of of.candidate) of.path whole) ∙ sym (ap module_of of.name) ∙ is.0 in
-      let placed : of.path ≡ path = sym (path_again (closure.name_of of.candidate) of.path whole) ∙ sym (ap path_of of.name) ∙ ap (λ (f : Named). f.0) is.1 in
-      let name : r.0 ≡ file_name (closure.name_of c) path = of.name ∙ ap (λ n. file_name n of.path) named ∙ ap (file_name (closure.name_of c)) placed in
+      let named : closure.name_of of.candidate ≡ closure.name_of c = sym (module_again (closure.name_of of.candidate) of.path whole)
+      ∙ sym (ap module_of of.name) ∙ is.0 in
+      let placed : of.path ≡ path = sym (path_again (closure.name_of of.candidate) of.path whole) ∙ sym (ap path_of of.name)
+      ∙ ap (λ (f : Named). f.0) is.1 in
+      let name : r.0 ≡ file_name (closure.name_of c) path = of.name ∙ ap (λ n. file_name n of.path) named
+      ∙ ap (file_name (closure.name_of c)) placed in
       subst (Contains rs) (ap (λ n. (n, r.1)) name ∙ ap (λ (f : Named). (file_name (closure.name_of c) path, f.1)) is.1) from.1
 
-  files_there : (c : Candidate) → Contains cs c → (path content : List ℕ) → Contains rs (file_name (closure.name_of c) path, content) → Contains (files_of c) (path, content)
+  files_there : (c : Candidate) → Contains cs c → (path content : List ℕ)
+      → Contains rs (file_name (closure.name_of c) path, content) → Contains (files_of c) (path, content)
   files_there c among path content there =
       let whole = are.whole c among in
       contains_filter_map (file_in (closure.name_of c)) rs (file_name (closure.name_of c) path, content) (path, content) there
-      (rw (module_again (closure.name_of c) path whole, path_again (closure.name_of c) path whole, (bytes_eq-Decides (closure.name_of c) (closure.name_of c)).1 refl) refl)
+      (rw (
+        module_again (closure.name_of c) path whole,
+        path_again (closure.name_of c) path whole,
+        (bytes_eq-Decides (closure.name_of c) (closure.name_of c)).1 refl,
+      ) refl)
 
   files_rise : (c : Candidate) → RisesByName (files_of c)
   files_rise c =
@@ -123,7 +139,8 @@ module _ (cs : List Candidate) (rs : List Written) (are : AreOf cs rs) (differ :
       let also = file_is (closure.name_of c) q f other in
       elim first [
         | inl lesser ↦ absurd (before_apart (module_of r.0) (module_of q.0) lesser (is.0 ∙ sym also.0))
-        | inr same ↦ subst (λ (n : List ℕ). is_before e.0 n ≡ true) (ap (λ (x : Named). x.0) also.1) (subst (λ (n : List ℕ). is_before n (path_of q.0) ≡ true) (ap (λ (x : Named). x.0) is.1) same.1)
+        | inr same ↦ subst (λ (n : List ℕ). is_before e.0 n ≡ true) (ap (λ (x : Named). x.0) also.1)
+            (subst (λ (n : List ℕ). is_before n (path_of q.0) ≡ true) (ap (λ (x : Named). x.0) is.1) same.1)
       ])
       rs strict
 
@@ -139,10 +156,12 @@ module _ (cs : List Candidate) (rs : List Written) (are : AreOf cs rs) (differ :
   seen = map see cs
 
   -- its packages are packages of the module
-  pub only_packages : (c : Candidate) → Contains cs c → (shared : List ℕ) → Contains (see c).candidate.packages shared → Contains c.packages shared
+  pub only_packages : (c : Candidate) → Contains cs c → (shared : List ℕ) → Contains (see c).candidate.packages shared
+      → Contains c.packages shared
   only_packages c among shared there =
       let names = map (λ (f : Named). file_name (closure.name_of c) f.0) (files_of c) in
-      let back = from_rising (filter_map named_package names) shared (subst (λ ps. Contains ps shared) (sym (class_packages_are names)) there) in
+      let back = from_rising (filter_map named_package names) shared (subst (λ ps. Contains ps shared)
+      (sym (class_packages_are names)) there) in
       let from = from_filter_map named_package names shared back in
       let file = from_map (λ (f : Named). file_name (closure.name_of c) f.0) (files_of c) from.0 from.1 in
       let r = files_from c file.0.0 file.0.1 file.1 in
@@ -202,14 +221,16 @@ module _ (cs : List Candidate) (rs : List Written) (are : AreOf cs rs) (differ :
       (contains_flat_map seen_resources seen (see c) (file_name (closure.name_of c) of.path, r.1) (contains_map see cs c of.among)
       (contains_map (resource_of (closure.name_of c)) (files_of c) (of.path, r.1) file)))
     where
-      back : (c : Candidate) (s : SeenModule) → see c ≡ s → (r : Written) (f : Named) → Contains s.files f → resource_of (name_of s) f ≡ r → Contains rs r
+      back : (c : Candidate) (s : SeenModule) → see c ≡ s → (r : Written) (f : Named) → Contains s.files f
+          → resource_of (name_of s) f ≡ r → Contains rs r
       back c s is r f there made =
           subst (Contains rs) (ap (λ (t : SeenModule). resource_of (name_of t) f) is ∙ made)
           (files_from c f.0 f.1 (subst (λ (t : SeenModule). Contains t.files f) (sym is) there))
 
   -- In an image
 
-  module _ (infos : (c : Candidate) → Contains cs c → (content : List ℕ) × Contains rs (info_entry (closure.name_of c), content)) (held : List Named) (same : (r : Written) → Contains held r ↔ Contains rs r) where
+  module _ (infos : (c : Candidate) → Contains cs c → (content : List ℕ) × Contains rs (info_entry (closure.name_of c), content))
+      (held : List Named) (same : (r : Written) → Contains held r ↔ Contains rs r) where
     seen_is : (c : Candidate) → Contains cs c → IsSeenIn held (see c)
     seen_is c among =
         let info = infos c among in
@@ -238,5 +259,6 @@ module _ (cs : List Candidate) (rs : List Written) (are : AreOf cs rs) (differ :
       all = λ m content info.
           let of = are.each (info_entry m, content) ((same (info_entry m, content)).0 info.there) in
           let names = names_tell m (closure.name_of of.candidate) info_name of.path info.whole (are.whole of.candidate of.among) of.name in
-          subst (Contains (map name_of seen)) (sym names.0) (contains_map name_of seen (see of.candidate) (contains_map see cs of.candidate of.among));
+          subst (Contains (map name_of seen)) (sym names.0) (contains_map name_of seen
+          (see of.candidate) (contains_map see cs of.candidate of.among));
     }

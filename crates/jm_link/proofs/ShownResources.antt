@@ -1,6 +1,8 @@
 -- What a module path and an image hand to a link are resources of their modules, by module and then
 -- by path.
-use Rattle.std.proofs.Common.{◌≡◌, ◌≢◌, ◌<◌, ℕ, zero, suc, Bool, true, false, ◌&&◌, cond, List, [], ◌∷◌, ◌++◌, drop, filter, length, map, take, All, AllPairs, Contains, Some, option_map, slice_get, Result, Ok, Err, refl, sym, ap, subst, ◌∙◌, not}
+use Rattle.std.proofs.Common.{◌≡◌, ◌≢◌, ◌<◌, ℕ, zero, suc, Bool, true, false, ◌&&◌, cond, List, [], ◌∷◌, ◌++◌}
+use Rattle.std.proofs.Common.{drop, filter, length, map, take, All, AllPairs, Contains, Some, option_map}
+use Rattle.std.proofs.Common.{slice_get, Result, Ok, Err, refl, sym, ap, subst, ◌∙◌, not}
 use Rattle.std.proofs.lemmas.Bool.{false≢true}
 use Rattle.std.proofs.lemmas.Option.{slice_get-map}
 use Rattle.std.proofs.lemmas.List.Elements.{All-contains, All-cons, All-head, All-nil, All-tail}
@@ -10,7 +12,8 @@ use Rattle.std.specs.Ordering.{is_lt, nat_cmp}
 use Rattle.std.specs.Prelude.{nat_lt}
 use Rattle.std.specs.declared.cmp.Ordering.TheVariants.{Less}
 use Rattle.jm_bytes.proofs.Choice.{same_some}
-use Rattle.jm_bytes.proofs.Members.{all_from_contains, contains_filter_map, contains_map, contains_none, from_filter, from_filter_map, from_map}
+use Rattle.jm_bytes.proofs.Members.{all_from_contains, contains_filter_map, contains_map, contains_none}
+use Rattle.jm_bytes.proofs.Members.{from_filter, from_filter_map, from_map}
 use Rattle.jm_bytes.proofs.Pairs.{pairs_among, pairs_filter_map, pairs_map, pairs_weaker}
 use Rattle.jm_bytes.proofs.SameOrder.{from_flat_map}
 use Rattle.jm_closure.specs.declared.candidate.Candidate.{Candidate}
@@ -28,7 +31,9 @@ use Rattle.jm_modinfo.specs.declared.faults.DescriptorFault.{DescriptorFault}
 use Rattle.jm_modpath.specs.declared.visible.VisibleModule.{VisibleModule}
 use Rattle.jm_bytes.specs.ByteOrder.{is_before}
 use Rattle.jm_modpath.specs.Finding.{named_package}
-use Rattle.jm_modpath.specs.Modules.{bytes_at, candidates, folder_info, folders_in, info_name, info_path, inside, module_in, module_of, module_with, modules_in, resource_name, visible}
+use Rattle.jm_modpath.specs.Modules.{bytes_at, candidates, folder_info, folders_in, info_name, info_path}
+use Rattle.jm_modpath.specs.Modules.{inside, module_in, module_of, module_with, modules_in, resource_name}
+use Rattle.jm_modpath.specs.Modules.{visible}
 use Rattle.jm_modpath.specs.Modules as shelf
 use Rattle.jm_modpath.proofs.PackageLaws.{class_packages_are}
 use Rattle.jm_modpath.proofs.StepLaws.{from_unhidden}
@@ -65,15 +70,20 @@ modified_back [] form low is = is
 modified_back (a ∷ []) form low is = is
 modified_back (a ∷ x ∷ []) form low is = is
 modified_back (a ∷ x ∷ y ∷ []) form low is = is
-modified_back (a ∷ x ∷ y ∷ z ∷ text) form low is = go (is_four a x y z) refl form low is (λ rest fine same. modified_back (x ∷ y ∷ z ∷ text) rest fine same)
+modified_back (a ∷ x ∷ y ∷ z ∷ text) form low is = go (is_four a x y z) refl form low is (λ rest fine same. modified_back (x ∷ y ∷ z
+    ∷ text) rest fine same)
   where
-    go : (b : Bool) → is_four a x y z ≡ b → (form : List ℕ) → list_all (λ b. nat_lt b 128) form ≡ true → cond b (pair_bytes (four_number a x y z) ++ modified text) (a ∷ modified (x ∷ y ∷ z ∷ text)) ≡ form → ((rest : List ℕ) → list_all (λ b. nat_lt b 128) rest ≡ true → modified (x ∷ y ∷ z ∷ text) ≡ rest → x ∷ y ∷ z ∷ text ≡ rest) → a ∷ x ∷ y ∷ z ∷ text ≡ form
+    go : (b : Bool) → is_four a x y z ≡ b → (form : List ℕ) → list_all (λ b. nat_lt b 128) form ≡ true
+        → cond b (pair_bytes (four_number a x y z) ++ modified text) (a ∷ modified (x ∷ y ∷ z ∷ text)) ≡ form
+        → ((rest : List ℕ) → list_all (λ b. nat_lt b 128) rest ≡ true → modified (x ∷ y ∷ z ∷ text) ≡ rest → x ∷ y ∷ z ∷ text
+        ≡ rest) → a ∷ x ∷ y ∷ z ∷ text ≡ form
     go true four form low is back = absurd (false≢true (ap (list_all (λ b. nat_lt b 128)) is ∙ low))
     go false four [] low is back = cc
     go false four (c ∷ form) low is back =
         let head : a ≡ c = cc in
         let rest : modified (x ∷ y ∷ z ∷ text) ≡ form = cc in
-        ap (λ d. d ∷ x ∷ y ∷ z ∷ text) head ∙ ap (λ t. c ∷ t) (back form (later (nat_lt c 128) (list_all (λ b. nat_lt b 128) form) low) rest)
+        ap (λ d. d ∷ x ∷ y ∷ z ∷ text) head ∙ ap (λ t. c ∷ t) (back form (later (nat_lt c 128) (list_all (λ b. nat_lt b 128) form)
+        low) rest)
       where
         later : (u v : Bool) → (u && v) ≡ true → v ≡ true
         later true v h = h
@@ -91,10 +101,16 @@ module _ (files : Files) (directories : List (List ℕ)) (bytes : (path : List �
     says : Says (bytes_at files (info_path m.folder)) descriptor
     is : module_with m.folder descriptor (names_below m.folder files) ≡ m
 
-  shown_by : (folder : List ℕ) (r : Result Descriptor DescriptorFault) (m : VisibleModule) → folder_info files folder ≡ r → module_of files folder r ≡ Some m → IsShown m
+  shown_by : (folder : List ℕ) (r : Result Descriptor DescriptorFault) (m : VisibleModule) → folder_info files folder ≡ r
+      → module_of files folder r ≡ Some m → IsShown m
   shown_by folder (Ok d) m info is =
       let same = same_some (module_with folder d (names_below folder files)) m is in
-      subst IsShown same (record { descriptor = d; says = says_from (bytes_at files (info_path folder)) d (bytes (info_path folder)) info; is = refl })
+      subst IsShown same (record {
+        descriptor = d;
+        says = says_from (bytes_at files (info_path folder)) d (bytes (info_path folder))
+            info;
+        is = refl;
+      })
   shown_by folder (Err fault) m info is = cc
 
   shown : (m : VisibleModule) → Contains ms m → IsShown m
@@ -109,16 +125,21 @@ module _ (files : Files) (directories : List (List ℕ)) (bytes : (path : List �
   shown_whole : (m : VisibleModule) → Contains ms m → list_any is_slash (shelf.name_of m) ≡ false
   shown_whole m there =
       let is = shown m there in
-      subst (λ n. list_any is_slash n ≡ false) (sym (named_said m is)) (legal_plain is.descriptor.name (said_legal (bytes_at files (info_path m.folder)) is.descriptor is.says))
+      subst (λ n. list_any is_slash n ≡ false) (sym (named_said m is)) (legal_plain is.descriptor.name
+      (said_legal (bytes_at files (info_path m.folder)) is.descriptor is.says))
 
-  shown_package : (m : VisibleModule) → IsShown m → (path shared : List ℕ) → Contains m.files path → named_package (resource_name (shelf.name_of m) path) ≡ Some shared → Contains m.candidate.packages shared
+  shown_package : (m : VisibleModule) → IsShown m → (path shared : List ℕ) → Contains m.files path
+      → named_package (resource_name (shelf.name_of m) path) ≡ Some shared → Contains m.candidate.packages shared
   shown_package m is path shared there has =
       let listed : Contains (names_below m.folder files) path = subst (λ (k : VisibleModule). Contains k.files path) (sym is.is) there in
       let names = map (resource_name is.descriptor.name) (names_below m.folder files) in
-      let own : named_package (resource_name is.descriptor.name path) ≡ Some shared = ap (λ n. named_package (resource_name n path)) (sym (named_said m is)) ∙ has in
+      let own : named_package (resource_name is.descriptor.name path) ≡ Some shared = ap (λ n. named_package (resource_name n path))
+      (sym (named_said m is)) ∙ has in
       let among = contains_rising (filter_map named_package names) shared
-      (contains_filter_map named_package names (resource_name is.descriptor.name path) shared (contains_map (resource_name is.descriptor.name) (names_below m.folder files) path listed) own) in
-      subst (λ (k : VisibleModule). Contains k.candidate.packages shared) is.is (subst (λ ps. Contains ps shared) (class_packages_are names) among)
+      (contains_filter_map named_package names (resource_name is.descriptor.name path) shared
+      (contains_map (resource_name is.descriptor.name) (names_below m.folder files) path listed) own) in
+      subst (λ (k : VisibleModule). Contains k.candidate.packages shared) is.is (subst (λ ps. Contains ps shared)
+      (class_packages_are names) among)
 
   shown_says : (m : VisibleModule) → IsShown m → Says (bytes_at files (info_path m.folder)) m.candidate.descriptor
   shown_says m is = subst (Says (bytes_at files (info_path m.folder))) (ap (λ (k : VisibleModule). k.candidate.descriptor) is.is) is.says
@@ -136,12 +157,16 @@ module _ (files : Files) (directories : List (List ℕ)) (bytes : (path : List �
       let two = from_map (file_of m) m.files f (from_by_name (map (file_of m) m.files) f too) in
       let first : file_name n (modified one.0) ≡ e.0 = ap (λ (x : Named). x.0) one.2 in
       let second : file_name n (modified two.0) ≡ f.0 = ap (λ (x : Named). x.0) two.2 in
-      let before : is_before (file_name n (modified one.0)) (file_name n (modified two.0)) ≡ true = subst (λ x. is_before (file_name n (modified one.0)) x ≡ true) (sym second) (subst (λ x. is_before x f.0 ≡ true) (sym first) (sorted differ)) in
+      let before : is_before (file_name n (modified one.0)) (file_name n (modified two.0)) ≡ true =
+      subst (λ x. is_before (file_name n (modified one.0)) x ≡ true) (sym second) (subst (λ x. is_before x f.0 ≡ true)
+      (sym first) (sorted differ)) in
       subst (λ x. IsFirst x f.0) first (subst (IsFirst (file_name n (modified one.0))) second
-      (paths_first n n (modified one.0) (modified two.0) whole whole refl (sym (behind_front n (modified one.0) (modified two.0)) ∙ before))))
+      (paths_first n n (modified one.0) (modified two.0) whole whole refl (sym (behind_front n (modified one.0) (modified two.0))
+      ∙ before))))
       (by_name_sorted (map (file_of m) m.files))
 
-  module _ (Taken : ℕ → Type 0) (places : List ℕ) (chosen : AreChosen (candidates ms) Taken places) (within : (i : ℕ) → Contains places i → i < length (candidates ms)) where
+  module _ (Taken : ℕ → Type 0) (places : List ℕ) (chosen : AreChosen (candidates ms) Taken places) (within : (i : ℕ)
+      → Contains places i → i < length (candidates ms)) where
     abbrev cs : List Candidate
     cs = taken (candidates ms) Taken places chosen within
 
@@ -152,22 +177,28 @@ module _ (files : Files) (directories : List (List ℕ)) (bytes : (path : List �
     candidate_at i m is = slice_get-map (λ (k : VisibleModule). k.candidate) ms i ∙ ap (option_map (λ (k : VisibleModule). k.candidate)) is
 
     modules_there : All (Contains ms) modules
-    modules_there = all_from_contains (Contains ms) modules (λ m there. let from = from_filter_map (slice_get ms) places m there in got ms from.0 m from.2)
+    modules_there = all_from_contains (Contains ms) modules
+        (λ m there. let from = from_filter_map (slice_get ms) places m there in got ms from.0 m from.2)
 
     modules_rise : AllPairs (λ (m k : VisibleModule). is_before (shelf.name_of m) (shelf.name_of k) ≡ true) modules
     modules_rise =
-        pairs_filter_map (λ i j. (a b : Candidate) → slice_get (candidates ms) i ≡ Some a → slice_get (candidates ms) j ≡ Some b → slice_cmp nat_cmp (closure.name_of a) (closure.name_of b) ≡ Less) (λ (m k : VisibleModule). is_before (shelf.name_of m) (shelf.name_of k) ≡ true) (slice_get ms)
+        pairs_filter_map (λ i j. (a b : Candidate) → slice_get (candidates ms) i ≡ Some a → slice_get (candidates ms) j ≡ Some b
+        → slice_cmp nat_cmp (closure.name_of a) (closure.name_of b) ≡ Less) (λ (m k : VisibleModule). is_before
+        (shelf.name_of m) (shelf.name_of k) ≡ true) (slice_get ms)
         (λ i j less m k one other. ap is_lt (less m.candidate k.candidate (candidate_at i m one) (candidate_at j k other)))
         places (places_by_name (candidates ms) Taken places chosen within)
 
     files_sorted : AllPairs Comes (link_files ms places)
     files_sorted =
-        pairs_joined (Contains ms) (λ (m k : VisibleModule). is_before (shelf.name_of m) (shelf.name_of k) ≡ true) Comes module_files module_sorted
+        pairs_joined (Contains ms) (λ (m k : VisibleModule). is_before (shelf.name_of m) (shelf.name_of k) ≡ true) Comes
+        module_files module_sorted
         (λ m k one other before e f there too differ.
         let first = from_map (file_of m) m.files e (from_by_name (map (file_of m) m.files) e there) in
         let second = from_map (file_of k) k.files f (from_by_name (map (file_of k) k.files) f too) in
-        subst (λ (x : Named). IsFirst x.0 f.0) first.2 (subst (λ (x : Named). IsFirst (file_name (shelf.name_of m) (modified first.0)) x.0) second.2
-        (modules_first (shelf.name_of m) (shelf.name_of k) (modified first.0) (modified second.0) (shown_whole m one) (shown_whole k other) before)))
+        subst (λ (x : Named). IsFirst x.0 f.0) first.2
+        (subst (λ (x : Named). IsFirst (file_name (shelf.name_of m) (modified first.0)) x.0) second.2
+        (modules_first (shelf.name_of m) (shelf.name_of k) (modified first.0) (modified second.0) (shown_whole m one)
+        (shown_whole k other) before)))
         modules modules_there modules_rise
 
     pub path_resources : AreOf cs (resources_in files ms places)
@@ -184,7 +215,8 @@ module _ (files : Files) (directories : List (List ℕ)) (bytes : (path : List �
           let at = from_filter_map (slice_get ms) places m holder.1 in
           let is = shown m (got ms at.0 m at.2) in
           let file = from_map (file_of m) m.files from.0 (from_by_name (map (file_of m) m.files) from.0 holder.2) in
-          let same : (resource_name (shelf.name_of m) file.0, bytes_at files (inside m.folder file.0)) ≡ r = ap (λ (f : Named). (f.0, bytes_at files f.1)) file.2 ∙ from.2 in
+          let same : (resource_name (shelf.name_of m) file.0, bytes_at files (inside m.folder file.0)) ≡ r =
+          ap (λ (f : Named). (f.0, bytes_at files f.1)) file.2 ∙ from.2 in
           record {
             candidate = m.candidate;
             path = modified file.0;
@@ -209,9 +241,11 @@ bytes_drop (suc n) (x ∷ xs) all = bytes_drop n xs (All-tail (λ b. b < 256) x 
 bytes_take : (n : ℕ) (xs : List ℕ) → IsBytes xs → IsBytes (take n xs)
 bytes_take zero xs all = All-nil (λ b. b < 256)
 bytes_take (suc n) [] all = All-nil (λ b. b < 256)
-bytes_take (suc n) (x ∷ xs) all = All-cons (λ b. b < 256) x (take n xs) (All-head (λ b. b < 256) x xs all) (bytes_take n xs (All-tail (λ b. b < 256) x xs all))
+bytes_take (suc n) (x ∷ xs) all = All-cons (λ b. b < 256) x (take n xs) (All-head (λ b. b < 256) x xs all)
+    (bytes_take n xs (All-tail (λ b. b < 256) x xs all))
 
-content_with : (b : List ℕ) (header : Result Header HeaderFault) (r : Written) → IsBytes b → Contains (resources (entries_with b header)) r → IsBytes r.1
+content_with : (b : List ℕ) (header : Result Header HeaderFault) (r : Written) → IsBytes b
+    → Contains (resources (entries_with b header)) r → IsBytes r.1
 content_with b (Err fault) r bytes there = absurd (contains_none r there)
 content_with b (Ok h) r bytes there =
     let from = from_map (λ (e : Entry). (e.name, e.content)) (filter (λ (e : Entry). not (is_node e.name)) (entries b h)) r there in
@@ -220,9 +254,12 @@ content_with b (Ok h) r bytes there =
     let at = from_filter_map (entry_at b h) (slots h) from.0 spelled.0 in
     let row = mapped_some (entry_of b h at.0) (row_at b h at.0) from.0 at.2 in
     subst (λ (x : Written). IsBytes x.1) from.2 (subst (λ (e : Entry). IsBytes e.content) row.2
-    (bytes_take row.0.size (drop row.0.offset (contents b h)) (bytes_drop row.0.offset (contents b h) (bytes_drop (index_length h) b bytes))))
+    (bytes_take row.0.size (drop row.0.offset (contents b h)) (bytes_drop row.0.offset (contents b h) (bytes_drop (index_length h) b
+    bytes))))
 
-module _ (b : List ℕ) (bytes : All (λ byte. byte < 256) b) (ss : List SeenModule) (visible : IsVisibleIn (image.resources_of b) ss) (Taken : ℕ → Type 0) (places : List ℕ) (chosen : AreChosen (seen_candidates ss) Taken places) (within : (i : ℕ) → Contains places i → i < length (seen_candidates ss)) where
+module _ (b : List ℕ) (bytes : All (λ byte. byte < 256) b) (ss : List SeenModule) (visible : IsVisibleIn (image.resources_of b) ss)
+    (Taken : ℕ → Type 0) (places : List ℕ) (chosen : AreChosen (seen_candidates ss) Taken places) (within : (i : ℕ)
+    → Contains places i → i < length (seen_candidates ss)) where
   abbrev image_cs : List Candidate
   image_cs = taken (seen_candidates ss) Taken places chosen within
 
@@ -239,25 +276,31 @@ module _ (b : List ℕ) (bytes : All (λ byte. byte < 256) b) (ss : List SeenMod
   is_seen s there = All-contains Is ss s visible.each there
 
   all_picked : All Is picked
-  all_picked = all_from_contains Is picked (λ s there. let from = from_filter_map (slice_get ss) places s there in is_seen s (got ss from.0 s from.2))
+  all_picked = all_from_contains Is picked
+      (λ s there. let from = from_filter_map (slice_get ss) places s there in is_seen s (got ss from.0 s from.2))
 
   picked_rise : AllPairs (λ (s t : SeenModule). is_before (name_of s) (name_of t) ≡ true) picked
   picked_rise =
-      pairs_filter_map (λ i j. (a d : Candidate) → slice_get (seen_candidates ss) i ≡ Some a → slice_get (seen_candidates ss) j ≡ Some d → slice_cmp nat_cmp (closure.name_of a) (closure.name_of d) ≡ Less) (λ (s t : SeenModule). is_before (name_of s) (name_of t) ≡ true) (slice_get ss)
+      pairs_filter_map (λ i j. (a d : Candidate) → slice_get (seen_candidates ss) i ≡ Some a → slice_get (seen_candidates ss) j
+      ≡ Some d → slice_cmp nat_cmp (closure.name_of a) (closure.name_of d) ≡ Less) (λ (s t : SeenModule). is_before (name_of s)
+      (name_of t) ≡ true) (slice_get ss)
       (λ i j less s t one other. ap is_lt (less s.candidate t.candidate (seen_at i s one) (seen_at j t other)))
       places (places_by_name (seen_candidates ss) Taken places chosen within)
 
-  seen_package : (s : SeenModule) → Is s → (f : Named) (shared : List ℕ) → Contains s.files f → named_package (file_name (name_of s) f.0) ≡ Some shared → Contains s.candidate.packages shared
+  seen_package : (s : SeenModule) → Is s → (f : Named) (shared : List ℕ) → Contains s.files f
+      → named_package (file_name (name_of s) f.0) ≡ Some shared → Contains s.candidate.packages shared
   seen_package s is f shared there has =
       let names = map (λ (g : Named). file_name (name_of s) g.0) s.files in
       let among = contains_rising (filter_map named_package names) shared
-      (contains_filter_map named_package names (file_name (name_of s) f.0) shared (contains_map (λ (g : Named). file_name (name_of s) g.0) s.files f there) has) in
+      (contains_filter_map named_package names (file_name (name_of s) f.0) shared
+      (contains_map (λ (g : Named). file_name (name_of s) g.0) s.files f there) has) in
       subst (λ ps. Contains ps shared) (class_packages_are names ∙ sym is.packages) among
 
   seen_says : (s : SeenModule) → Is s → (f : Named) → Contains s.files f → f.0 ≡ info_name → Says f.1 s.candidate.descriptor
   seen_says s is f there named =
       let here = (is.files.each f.0 f.1).0 there in
-      let same = one_content (image.resources_of b) (file_name (name_of s) f.0) (info_entry (name_of s)) f.1 is.content (resources_differ b) here is.info.there (ap (file_name (name_of s)) named) in
+      let same = one_content (image.resources_of b) (file_name (name_of s) f.0) (info_entry (name_of s)) f.1 is.content
+      (resources_differ b) here is.info.there (ap (file_name (name_of s)) named) in
       let content = content_with b (header_of b) (info_entry (name_of s), is.content) bytes is.info.there in
       subst (λ c. Says c s.candidate.descriptor) (sym same) (says_from is.content s.candidate.descriptor content is.says)
 

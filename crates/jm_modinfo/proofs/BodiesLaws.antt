@@ -14,10 +14,13 @@ module _ (pool : List SlotData) (name : List ℕ) (xs : List Attribute) where
     bodies-more : among (drop i xs) ≡ among (item ∷ drop (i + 1) xs)
     bodies-more = at_drop_more among xs i item more ∙ ap (λ x. among (x ∷ drop (i + 1) xs)) (sym is)
 
-    pub bodies-next : bytes_named pool name (attribute_of item) ≡ None → bodies pool name (map attribute_of (drop (i + 1) xs)) ≡ bodies pool name (map attribute_of (drop i xs))
+    pub bodies-next : bytes_named pool name (attribute_of item) ≡ None → bodies pool name (map attribute_of (drop (i + 1) xs))
+        ≡ bodies pool name (map attribute_of (drop i xs))
     bodies-next none = sym (bodies-more ∙ rw none refl)
 
-  pub bodies-found : (behind : List Attribute) (i : ℕ) (item : Attribute) (bytes : List ℕ) → i < length xs → item ≡ get_or xs i item → bytes_named pool name (attribute_of item) ≡ Some bytes → behind ≡ drop (i + 1) xs → bodies pool name (map attribute_of (drop i xs)) ≡ bytes ∷ bodies pool name (map attribute_of behind)
+  pub bodies-found : (behind : List Attribute) (i : ℕ) (item : Attribute) (bytes : List ℕ) → i < length xs → item ≡ get_or xs i item
+      → bytes_named pool name (attribute_of item) ≡ Some bytes → behind ≡ drop (i + 1) xs
+      → bodies pool name (map attribute_of (drop i xs)) ≡ bytes ∷ bodies pool name (map attribute_of behind)
   bodies-found behind i item bytes more is found rest = bodies-more i item more is ∙ rw (found, rest) refl
 
   pub bodies-all : (i : ℕ) → length xs ≤ i → bodies pool name (map attribute_of (drop i xs)) ≡ []

@@ -1,6 +1,7 @@
 -- The descriptor that `info_of` computes is the one that `InfoOf` rules, and its fault is the first
 -- one of the checks.
-use Rattle.std.proofs.Common.{◌≡◌, ◌≢◌, ℕ, ◌^◌, ◌<◌, ◌≤◌, Bool, true, false, List, [], ◌∷◌, Option, Some, None, Result, Ok, Err, refl, sym, ap, ◌∙◌}
+use Rattle.std.proofs.Common.{◌≡◌, ◌≢◌, ℕ, ◌^◌, ◌<◌, ◌≤◌, Bool, true, false, List, [], ◌∷◌, Option, Some}
+use Rattle.std.proofs.Common.{None, Result, Ok, Err, refl, sym, ap, ◌∙◌}
 use Rattle.std.proofs.lemmas.Bool.{ne_eqb, le-ltb}
 use Rattle.std.proofs.lemmas.Nat.{from_be_bytes-to_be_bytes_2}
 use Rattle.std.specs.Prelude.{not, is_some, bit_and, nat_lt, option_and_then, if◌then◌else◌, IfOk, OnOk, IfNone}
@@ -23,14 +24,18 @@ use Rattle.jm_modinfo.specs.Views.{Answers}
 
 -- The first fault
 
-checks-of : (pool : List SlotData) (flagged old : Bool) (major : ℕ) (bodies : List (List ℕ)) (main : Result (Option (List ℕ)) InfoFault) → first_fault (fault_if (not flagged) NotModule ∷ fault_if old (OldVersion major) ∷ fault_of (only_body bodies) ∷ body_fault pool bodies ∷ fault_of main ∷ []) ≡ fault_of (if not flagged then Err NotModule else if old then Err (OldVersion major) else with_body pool (only_body bodies) main)
+checks-of : (pool : List SlotData) (flagged old : Bool) (major : ℕ) (bodies : List (List ℕ)) (main : Result (Option (List ℕ))
+    InfoFault) → first_fault (fault_if (not flagged) NotModule ∷ fault_if old (OldVersion major) ∷ fault_of (only_body bodies)
+    ∷ body_fault pool bodies ∷ fault_of main ∷ []) ≡ fault_of (if not flagged then Err NotModule else if old then Err
+    (OldVersion major) else with_body pool (only_body bodies) main)
 checks-of pool false old major bodies main = refl
 checks-of pool true true major bodies main = refl
 checks-of pool true false major [] main = refl
 checks-of pool true false major (body ∷ other ∷ more) main = refl
 checks-of pool true false major (body ∷ []) main = go (body_info pool body) refl main
   where
-    go : (info : Result Descriptor InfoFault) → body_info pool body ≡ info → (main : Result (Option (List ℕ)) InfoFault) → first_fault (fault_of (body_info pool body) ∷ fault_of main ∷ []) ≡ fault_of (with_body pool (Ok body) main)
+    go : (info : Result Descriptor InfoFault) → body_info pool body ≡ info → (main : Result (Option (List ℕ)) InfoFault)
+        → first_fault (fault_of (body_info pool body) ∷ fault_of main ∷ []) ≡ fault_of (with_body pool (Ok body) main)
     go (Err fault) is main = rw is refl
     go (Ok d) is (Err fault) = rw is refl
     go (Ok d) is (Ok main) = rw is refl
@@ -49,7 +54,9 @@ one_body [] body e = cc
 one_body (one ∷ []) body e = let same = same_ok {E = InfoFault} one body e in ap (λ (x : List ℕ). x ∷ []) same
 one_body (one ∷ other ∷ more) body e = cc
 
-pub parts-info : (c : ClassData) (d : Descriptor) (main : Option (List ℕ)) (body : List ℕ) → bit_and c.access 0x8000 ≢ 0 → 53 ≤ c.major → only_body (module_bodies c) ≡ Ok body → IsModuleBody c.pool d body → IsMain c.pool (main_bodies c) main → InfoOf c (record d { main = main })
+pub parts-info : (c : ClassData) (d : Descriptor) (main : Option (List ℕ)) (body : List ℕ) → bit_and c.access 0x8000 ≢ 0
+    → 53 ≤ c.major → only_body (module_bodies c) ≡ Ok body → IsModuleBody c.pool d body → IsMain c.pool (main_bodies c) main
+    → InfoOf c (record d { main = main })
 parts-info c d main body access major only says is = record {
   access = flagged c.access access;
   major = major;
@@ -60,10 +67,12 @@ parts-info c d main body access major only says is = record {
 }
 
 -- the attribute of the one main class
-pub main-found : (pool : List SlotData) (all behind : List (List ℕ)) (body text : List ℕ) → all ≡ body ∷ behind → behind ≡ [] → Some text ≡ option_and_then (named_at pool Class) (number_in body) → main_of pool all ≡ Ok (Some text)
+pub main-found : (pool : List SlotData) (all behind : List (List ℕ)) (body text : List ℕ) → all ≡ body ∷ behind → behind ≡ []
+    → Some text ≡ option_and_then (named_at pool Class) (number_in body) → main_of pool all ≡ Ok (Some text)
 main-found pool all behind body text is none found = rw (is, none, sym found) refl
 
-pub main-said : (pool : List SlotData) (all behind : List (List ℕ)) (body text : List ℕ) → all ≡ body ∷ behind → behind ≡ [] → IsIndex (named_at pool Class) text body → IsMain pool all (Some text)
+pub main-said : (pool : List SlotData) (all behind : List (List ℕ)) (body text : List ℕ) → all ≡ body ∷ behind → behind ≡ []
+    → IsIndex (named_at pool Class) text body → IsMain pool all (Some text)
 main-said pool all behind body text is none says = rw (is, none) (text, refl, says)
 
 pub none_there : {A : Type 0} {P : Type 0} (found : Option A) → is_some found ≡ false → IfNone found P → P
@@ -75,15 +84,19 @@ none_there (Some a) e holds = cc
 number_back : (n : ℕ) → n < 2 ^ 16 → number_in (u2 n) ≡ Some n
 number_back n below = ap (λ (m : ℕ). Some m) (from_be_bytes-to_be_bytes_2 n below)
 
-said-main : (pool : List SlotData) (bodies : List (List ℕ)) (main : Option (List ℕ)) → IsMain pool bodies main → main_of pool bodies ≡ Ok main
+said-main : (pool : List SlotData) (bodies : List (List ℕ)) (main : Option (List ℕ)) → IsMain pool bodies main → main_of pool bodies
+    ≡ Ok main
 said-main pool [] main is = ap (λ (m : Option (List ℕ)). Ok m) (sym is)
 said-main pool (body ∷ []) main (text, is, (index, found, (below, bytes))) =
     let number : number_in body ≡ Some index = ap number_in bytes ∙ number_back index below in
-    let named : option_and_then (named_at pool Class) (number_in body) ≡ Some text = ap (option_and_then (named_at pool Class)) number ∙ found in
+    let named : option_and_then (named_at pool Class) (number_in body) ≡ Some text = ap (option_and_then (named_at pool Class))
+    number ∙ found in
     ap main_named named ∙ ap (λ (m : Option (List ℕ)). Ok m) (sym is)
 said-main pool (body ∷ other ∷ more) main is = absurd is
 
-with_parts : (c : ClassData) (d : Descriptor) (body : List ℕ) → is_module c.access ≡ true → nat_lt c.major 53 ≡ false → module_bodies c ≡ body ∷ [] → body_info c.pool body ≡ Ok (record d { main = None }) → main_of c.pool (main_bodies c) ≡ Ok d.main → info_of c ≡ Ok d
+with_parts : (c : ClassData) (d : Descriptor) (body : List ℕ) → is_module c.access ≡ true → nat_lt c.major 53 ≡ false
+    → module_bodies c ≡ body ∷ [] → body_info c.pool body ≡ Ok (record d { main = None }) → main_of c.pool (main_bodies c)
+    ≡ Ok d.main → info_of c ≡ Ok d
 with_parts c d body access major only info main = rw (access, major, only, info, main) refl
 
 -- what the rule says is computed
@@ -95,24 +108,29 @@ info-computed c d info =
 
 -- What the code answered
 
-pub described_only : (c : ClassData) (result : Result Descriptor InfoError) → Answers (λ d. d) (info_of c) result → IfOk result (λ d. (other : Descriptor) → InfoOf c other → other ≡ d)
+pub described_only : (c : ClassData) (result : Result Descriptor InfoError) → Answers (λ d. d) (info_of c) result
+    → IfOk result (λ d. (other : Descriptor) → InfoOf c other → other ≡ d)
 described_only c (Ok d) is = λ other info. same_ok {E = InfoFault} other d (sym (info-computed c other info) ∙ is)
 described_only c (Err error) is = tt
 
-pub described_sound : (c : ClassData) (result : Result Descriptor InfoError) → Answers (λ d. d) (info_of c) result → OnOk result (info_fault c ≡ None)
+pub described_sound : (c : ClassData) (result : Result Descriptor InfoError) → Answers (λ d. d) (info_of c) result
+    → OnOk result (info_fault c ≡ None)
 described_sound c (Ok d) is = info_fault-of c ∙ ap fault_of is
 described_sound c (Err error) is = tt
 
-pub described_fault : (c : ClassData) (result : Result Descriptor InfoError) (fault : InfoFault) → Answers (λ d. d) (info_of c) result → result ≡ Err (Fault fault) → info_fault c ≡ Some fault
+pub described_fault : (c : ClassData) (result : Result Descriptor InfoError) (fault : InfoFault)
+    → Answers (λ d. d) (info_of c) result → result ≡ Err (Fault fault) → info_fault c ≡ Some fault
 described_fault c (Ok d) fault is refused = cc
 described_fault c (Err Memory) fault is refused = cc
-described_fault c (Err (Fault found)) fault is refused = let same : found ≡ fault = cc in info_fault-of c ∙ ap fault_of is ∙ ap (λ f. Some f) same
+described_fault c (Err (Fault found)) fault is refused =
+    let same : found ≡ fault = cc in info_fault-of c ∙ ap fault_of is ∙ ap (λ f. Some f) same
 
 -- a class with a descriptor has no fault
 pub info-no_fault : (c : ClassData) (d : Descriptor) → InfoOf c d → info_fault c ≡ None
 info-no_fault c d info = info_fault-of c ∙ ap fault_of (info-computed c d info)
 
-pub described_none : (c : ClassData) (result : Result Descriptor InfoError) (fault : InfoFault) (d : Descriptor) → Answers (λ d. d) (info_of c) result → result ≡ Err (Fault fault) → InfoOf c d → ⊥
+pub described_none : (c : ClassData) (result : Result Descriptor InfoError) (fault : InfoFault) (d : Descriptor)
+    → Answers (λ d. d) (info_of c) result → result ≡ Err (Fault fault) → InfoOf c d → ⊥
 described_none c result fault d is refused info =
     let both = sym (info-no_fault c d info) ∙ described_fault c result fault is refused in
     cc

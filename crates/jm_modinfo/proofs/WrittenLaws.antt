@@ -1,6 +1,8 @@
 -- The class of a module that only requires others is well formed, and its descriptor has its name
 -- and its needs.
-use Rattle.std.proofs.Common.{◌≡◌, ℕ, suc, ◌+◌, ◌-◌, ◌*◌, ◌^◌, ◌<◌, ◌≤◌, inl, inr, true, false, List, [], ◌∷◌, ◌++◌, length, Some, Result, Ok, Err, OnOk, IfOk, refl, sym, ap, ◌∙◌, subst, arith, append_assoc, length-append}
+use Rattle.std.proofs.Common.{◌≡◌, ℕ, suc, ◌+◌, ◌-◌, ◌*◌, ◌^◌, ◌<◌, ◌≤◌, inl, inr, true, false, List, [], ◌∷◌}
+use Rattle.std.proofs.Common.{◌++◌, length, Some, Result, Ok, Err, OnOk, IfOk, refl, sym, ap, ◌∙◌, subst}
+use Rattle.std.proofs.Common.{arith, append_assoc, length-append}
 use Rattle.std.proofs.lemmas.Bool.{ne_eqb}
 use Rattle.std.proofs.lemmas.List.{append-nil}
 use Rattle.std.proofs.lemmas.List.Elements.{All-nil, All-cons, All-head, All-tail}
@@ -11,7 +13,8 @@ use Rattle.jm_modinfo.specs.Constants.{named_by, named_at}
 use Rattle.jm_modinfo.specs.declared.constants.Kind.TheVariants.{Module}
 use Rattle.jm_modinfo.specs.declared.descriptor.Need.{Need}
 use Rattle.jm_modinfo.specs.Descriptors.{Each, IsNeed, InfoOf}
-use Rattle.jm_modinfo.specs.Written.{utf8, IsName, IsWritable, need_slots, info_pool, needs_text, info_body, info_class, info_text, plain_descriptor}
+use Rattle.jm_modinfo.specs.Written.{utf8, IsName, IsWritable, need_slots, info_pool, needs_text, info_body}
+use Rattle.jm_modinfo.specs.Written.{info_class, info_text, plain_descriptor}
 
 -- Well formed
 
@@ -38,7 +41,8 @@ length-body needs =
     let all = length-append (needs_text 7 needs) (u2 0 ++ (u2 0 ++ (u2 0 ++ (u2 0 ++ [])))) in
     omega (arith, own, all)
 
-pub info_class-fits : (name : List ℕ) (needs : List Need) → IsName name → All IsWritable needs → length needs ≤ 1000 → IsClass (info_class name needs)
+pub info_class-fits : (name : List ℕ) (needs : List Need) → IsName name → All IsWritable needs → length needs ≤ 1000
+    → IsClass (info_class name needs)
 info_class-fits name needs named all count = record {
   minor = omega arith;
   major = (omega arith, omega arith);
@@ -69,21 +73,27 @@ slot_behind pool n = let same : suc n - 1 ≡ n = omega arith in
     let test : nat_eq (suc n) 0 ≡ false = ne_eqb (suc n) 0 (λ e. absurd (omega (arith, e))) in
     rw (test, same) refl
 
-slot_there : (pool front rest : List SlotData) (slot : SlotData) (number : ℕ) → pool ≡ front ++ slot ∷ rest → number ≡ suc (length front) → slot_at pool number ≡ Some slot
-slot_there pool front rest slot number is at = ap (λ p. slot_at p number) is ∙ ap (slot_at (front ++ slot ∷ rest)) at ∙ slot_behind (front ++ slot ∷ rest) (length front) ∙ at_front front rest slot
+slot_there : (pool front rest : List SlotData) (slot : SlotData) (number : ℕ) → pool ≡ front ++ slot ∷ rest → number
+    ≡ suc (length front) → slot_at pool number ≡ Some slot
+slot_there pool front rest slot number is at = ap (λ p. slot_at p number) is ∙ ap (slot_at (front ++ slot ∷ rest)) at
+    ∙ slot_behind (front ++ slot ∷ rest) (length front) ∙ at_front front rest slot
 
 -- the name of each need and its Module constant stand at these numbers
 abbrev Placed : List SlotData → ℕ → List Need → Type 0
 Placed pool number [] = Unit {0}
 Placed pool number (n ∷ needs) =
-    (slot_at pool number ≡ Some (utf8 n.name)) × (slot_at pool (number + 1) ≡ Some (Constant 19 (u2 number))) × Placed pool (number + 2) needs
+    (slot_at pool number ≡ Some (utf8 n.name)) × (slot_at pool (number + 1) ≡ Some (Constant 19 (u2 number)))
+    × Placed pool (number + 2) needs
 
-placed : (pool front : List SlotData) (number : ℕ) (needs : List Need) → pool ≡ front ++ need_slots number needs → number ≡ suc (length front) → Placed pool number needs
+placed : (pool front : List SlotData) (number : ℕ) (needs : List Need) → pool ≡ front ++ need_slots number needs → number
+    ≡ suc (length front) → Placed pool number needs
 placed pool front number [] is at = tt
 placed pool front number (n ∷ needs) is at =
     let rest = need_slots (number + 2) needs in
-    let one : pool ≡ (front ++ utf8 n.name ∷ []) ++ Constant 19 (u2 number) ∷ rest = is ∙ sym (append_assoc front (utf8 n.name ∷ []) (Constant 19 (u2 number) ∷ rest)) in
-    let both : pool ≡ (front ++ utf8 n.name ∷ Constant 19 (u2 number) ∷ []) ++ rest = is ∙ sym (append_assoc front (utf8 n.name ∷ Constant 19 (u2 number) ∷ []) rest) in
+    let one : pool ≡ (front ++ utf8 n.name ∷ []) ++ Constant 19 (u2 number) ∷ rest = is
+    ∙ sym (append_assoc front (utf8 n.name ∷ []) (Constant 19 (u2 number) ∷ rest)) in
+    let both : pool ≡ (front ++ utf8 n.name ∷ Constant 19 (u2 number) ∷ []) ++ rest = is
+    ∙ sym (append_assoc front (utf8 n.name ∷ Constant 19 (u2 number) ∷ []) rest) in
     let size_one = length-append front (utf8 n.name ∷ []) in
     let size_both = length-append front (utf8 n.name ∷ Constant 19 (u2 number) ∷ []) in (
       slot_there pool front (Constant 19 (u2 number) ∷ rest) (utf8 n.name) number is at,
@@ -94,14 +104,16 @@ placed pool front number (n ∷ needs) is at =
 utf8_there : (pool : List SlotData) (number : ℕ) (text : List ℕ) → slot_at pool number ≡ Some (utf8 text) → utf8_at pool number ≡ Some text
 utf8_there pool number text is = rw is refl
 
-module_there : (pool : List SlotData) (index number : ℕ) (text : List ℕ) → number < 2 ^ 16 → slot_at pool index ≡ Some (Constant 19 (u2 number)) → utf8_at pool number ≡ Some text → named_at pool Module index ≡ Some text
+module_there : (pool : List SlotData) (index number : ℕ) (text : List ℕ) → number < 2 ^ 16 → slot_at pool index
+    ≡ Some (Constant 19 (u2 number)) → utf8_at pool number ≡ Some text → named_at pool Module index ≡ Some text
 module_there pool index number text below is named =
     ap (option_and_then (named_by pool Module)) is
     ∙ ap (λ (n : ℕ). utf8_at pool n) (from_be_bytes-to_be_bytes_2 number below) ∙ named
 
 -- The fields of the needs
 
-needs-said : (pool : List SlotData) (number : ℕ) (needs : List Need) → All IsWritable needs → All (λ n. n.flags < 2 ^ 16) needs → Placed pool number needs → number + 1 + 2 * length needs < 2 ^ 16 → Each (IsNeed pool) needs (needs_text (number + 1) needs)
+needs-said : (pool : List SlotData) (number : ℕ) (needs : List Need) → All IsWritable needs → All (λ n. n.flags < 2 ^ 16) needs
+    → Placed pool number needs → number + 1 + 2 * length needs < 2 ^ 16 → Each (IsNeed pool) needs (needs_text (number + 1) needs)
 needs-said pool number [] all flags there below = refl
 needs-said pool number (n ∷ needs) all flags (name, constant, rest) below =
     let first = All-head IsWritable n needs all in
@@ -109,7 +121,8 @@ needs-said pool number (n ∷ needs) all flags (name, constant, rest) below =
     let index : number + 1 < 2 ^ 16 = omega (arith, below) in
     let next : number + 1 + 2 ≡ number + 2 + 1 = omega arith in
     let none = append-nil (needs_text (number + 1 + 2) needs) in
-    let more = needs-said pool (number + 2) needs (All-tail IsWritable n needs all) (All-tail (λ n. n.flags < 2 ^ 16) n needs flags) rest (omega (arith, below)) in (
+    let more = needs-said pool (number + 2) needs (All-tail IsWritable n needs all) (All-tail (λ n. n.flags < 2 ^ 16) n needs flags)
+    rest (omega (arith, below)) in (
       u2 (number + 1) ++ (u2 n.flags ++ u2 0),
       needs_text (number + 1 + 2) needs ++ [],
       refl,
@@ -117,13 +130,32 @@ needs-said pool number (n ∷ needs) all flags (name, constant, rest) below =
         u2 (number + 1),
         u2 n.flags ++ u2 0,
         refl,
-        (first.name.0, (number + 1, module_there pool (number + 1) number n.name small constant (utf8_there pool number n.name name), (index, refl))),
-        (u2 n.flags, u2 0, refl, (All-head (λ n. n.flags < 2 ^ 16) n needs flags, refl), (0, ap (λ v. Some v) (sym first.version), (omega arith, refl))),
+        (
+          first.name.0,
+          (
+            number + 1,
+            module_there pool (number + 1) number n.name small constant (utf8_there pool number n.name
+                name),
+            (index, refl),
+          ),
+        ),
+        (
+          u2 n.flags,
+          u2 0,
+          refl,
+          (All-head (λ n. n.flags < 2 ^ 16) n needs flags, refl),
+          (
+            0,
+            ap (λ v. Some v) (sym first.version),
+            (omega arith, refl),
+          ),
+        ),
       ),
       subst (Each (IsNeed pool) needs) (sym (none ∙ ap (λ m. needs_text m needs) next)) more,
     )
 
-pub info_class-info : (name : List ℕ) (needs : List Need) → IsName name → All IsWritable needs → All (λ n. n.flags < 2 ^ 16) needs → length needs ≤ 1000 → InfoOf (info_class name needs) (plain_descriptor name needs)
+pub info_class-info : (name : List ℕ) (needs : List Need) → IsName name → All IsWritable needs → All (λ n. n.flags < 2 ^ 16) needs
+    → length needs ≤ 1000 → InfoOf (info_class name needs) (plain_descriptor name needs)
 info_class-info name needs named all flags count =
     let pool = info_pool name needs in
     let there = placed pool (utf8 _ ∷ Constant 7 _ ∷ utf8 _ ∷ utf8 name ∷ Constant 19 (u2 4) ∷ []) 6 needs refl refl in
@@ -152,7 +184,14 @@ info_class-info name needs named all flags count =
               u2 (length needs) ++ needs_text 7 needs,
               _,
               refl,
-              (u2 (length needs), needs_text 7 needs, refl, (omega (arith, count), refl), needs-said pool 6 needs all flags there (omega (arith, count))),
+              (
+                u2 (length needs),
+                needs_text 7 needs,
+                refl,
+                (omega (arith, count), refl),
+                needs-said pool 6 needs all flags there
+                    (omega (arith, count)),
+              ),
               (
                 u2 0,
                 _,
@@ -181,7 +220,8 @@ info_class-info name needs named all flags count =
 
 -- What was written
 
-pub written_ok : {E : Type 0} (name : List ℕ) (needs : List Need) (result : Result (List ℕ) E) → IsClass (info_class name needs) → IfOk result (λ text. text ≡ info_text name needs) → IfOk result (λ text. ReadsAs text (info_class name needs))
+pub written_ok : {E : Type 0} (name : List ℕ) (needs : List Need) (result : Result (List ℕ) E) → IsClass (info_class name needs)
+    → IfOk result (λ text. text ≡ info_text name needs) → IfOk result (λ text. ReadsAs text (info_class name needs))
 written_ok name needs (Ok text) fits is = record { well_formed = fits; text = sym is }
 written_ok name needs (Err error) fits is = tt
 

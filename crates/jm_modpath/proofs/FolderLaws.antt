@@ -1,5 +1,7 @@
 -- Rising names: where those of a folder lie.
-use Rattle.std.proofs.Common.{◌≡◌, ℕ, zero, suc, ◌+◌, ◌<◌, ◌==◌, Bool, true, false, cond, IsTrue, IsFalse, List, [], ◌∷◌, ◌++◌, take, drop, append-nil, length, get_or, All, AllPairs, ◌≢◌, ◌∙◌, Option, Some, None, refl, sym, ap, arith}
+use Rattle.std.proofs.Common.{◌≡◌, ℕ, zero, suc, ◌+◌, ◌<◌, ◌==◌, Bool, true, false, cond, IsTrue, IsFalse}
+use Rattle.std.proofs.Common.{List, [], ◌∷◌, ◌++◌, take, drop, append-nil, length, get_or, All, AllPairs, ◌≢◌}
+use Rattle.std.proofs.Common.{◌∙◌, Option, Some, None, refl, sym, ap, arith}
 use Rattle.std.proofs.lemmas.Bool.{false≢true}
 use Rattle.std.proofs.lemmas.Bool.Decides.{nat_tests}
 use Rattle.std.proofs.lemmas.List.{get_or-take, get_or-drop, length-take, length-drop}
@@ -19,7 +21,8 @@ use Rattle.jm_outside.proofs.Names.{front_of}
 
 -- Rising texts
 
-above : (n : List ℕ) (ns : List (List ℕ)) (i : ℕ) (d : List ℕ) → AllByRecursion (λ m. slice_cmp nat_cmp n m ≡ Less) ns → i < length ns → slice_cmp nat_cmp n (get_or ns i d) ≡ Less
+above : (n : List ℕ) (ns : List (List ℕ)) (i : ℕ) (d : List ℕ) → AllByRecursion (λ m. slice_cmp nat_cmp n m ≡ Less) ns
+    → i < length ns → slice_cmp nat_cmp n (get_or ns i d) ≡ Less
 above n [] i d all below = absurd (omega arith)
 above n (m ∷ ns) zero d all below = all.0
 above n (m ∷ ns) (suc i) d all below = above n ns i d all.1 (omega arith)
@@ -56,7 +59,8 @@ pub not_before : (folder name : List ℕ) → IsTrue (is_before name (folder ++ 
 not_before [] [] before = refl
 not_before [] (c ∷ name) before = go (nat_cmp c 47) refl before
   where
-    go : (o : Ordering) → nat_cmp c 47 ≡ o → is_lt (ordering_then o (slice_cmp nat_cmp name [])) ≡ true → cond (47 == c) (Some name) None ≡ None
+    go : (o : Ordering) → nat_cmp c 47 ≡ o → is_lt (ordering_then o (slice_cmp nat_cmp name [])) ≡ true
+        → cond (47 == c) (Some name) None ≡ None
     go Less is h = grind (arith, nat_tests)
     go Equal is h = absurd (never name h)
       where
@@ -70,7 +74,9 @@ not_before (b ∷ folder) (c ∷ name) before = go (nat_cmp c b) refl before (λ
     other : (nat_cmp c b ≡ Less) → (b == c) ≡ false
     other is = grind (arith, nat_tests)
 
-    go : (o : Ordering) → nat_cmp c b ≡ o → is_lt (ordering_then o (slice_cmp nat_cmp name (folder ++ 47 ∷ []))) ≡ true → (IsTrue (is_before name (folder ++ 47 ∷ [])) → after_front (folder ++ 47 ∷ []) name ≡ None) → cond (b == c) (after_front (folder ++ 47 ∷ []) name) None ≡ None
+    go : (o : Ordering) → nat_cmp c b ≡ o → is_lt (ordering_then o (slice_cmp nat_cmp name (folder ++ 47 ∷ []))) ≡ true
+        → (IsTrue (is_before name (folder ++ 47 ∷ [])) → after_front (folder ++ 47 ∷ []) name ≡ None)
+        → cond (b == c) (after_front (folder ++ 47 ∷ []) name) None ≡ None
     go Less is h rest = rw (other is) refl
     go Equal is h rest = either (b == c) (rest h)
       where
@@ -84,7 +90,8 @@ pub not_behind : (folder name : List ℕ) → IsFalse (is_before name (folder ++
 not_behind [] [] behind = refl
 not_behind [] (c ∷ name) behind = go (nat_cmp c 48) refl behind
   where
-    go : (o : Ordering) → nat_cmp c 48 ≡ o → is_lt (ordering_then o (slice_cmp nat_cmp name [])) ≡ false → cond (47 == c) (Some name) None ≡ None
+    go : (o : Ordering) → nat_cmp c 48 ≡ o → is_lt (ordering_then o (slice_cmp nat_cmp name [])) ≡ false
+        → cond (47 == c) (Some name) None ≡ None
     go Less is h = absurd (false≢true (sym h))
     go Equal is h = grind (arith, nat_tests)
     go Greater is h = grind (arith, nat_tests)
@@ -94,7 +101,9 @@ not_behind (b ∷ folder) (c ∷ name) behind = go (nat_cmp c b) refl behind (λ
     other : (nat_cmp c b ≡ Greater) → (b == c) ≡ false
     other is = grind (arith, nat_tests)
 
-    go : (o : Ordering) → nat_cmp c b ≡ o → is_lt (ordering_then o (slice_cmp nat_cmp name (folder ++ 48 ∷ []))) ≡ false → (IsFalse (is_before name (folder ++ 48 ∷ [])) → after_front (folder ++ 47 ∷ []) name ≡ None) → cond (b == c) (after_front (folder ++ 47 ∷ []) name) None ≡ None
+    go : (o : Ordering) → nat_cmp c b ≡ o → is_lt (ordering_then o (slice_cmp nat_cmp name (folder ++ 48 ∷ []))) ≡ false
+        → (IsFalse (is_before name (folder ++ 48 ∷ [])) → after_front (folder ++ 47 ∷ []) name ≡ None)
+        → cond (b == c) (after_front (folder ++ 47 ∷ []) name) None ≡ None
     go Less is h rest = absurd (false≢true (sym h))
     go Equal is h rest = either (b == c) (rest h)
       where
@@ -104,7 +113,9 @@ not_behind (b ∷ folder) (c ∷ name) behind = go (nat_cmp c b) refl behind (λ
     go Greater is h rest = rw (other is) refl
 
 -- names whose front has none of a folder, and whose back has none
-pub within_part : (folder : List ℕ) (names before part behind : List (List ℕ)) → names ≡ before ++ (part ++ behind) → All (λ n. IsTrue (is_before n (folder ++ 47 ∷ []))) before → All (λ n. IsFalse (is_before n (folder ++ 48 ∷ []))) behind → names_within folder part ≡ names_within folder names
+pub within_part : (folder : List ℕ) (names before part behind : List (List ℕ)) → names ≡ before ++ (part ++ behind)
+    → All (λ n. IsTrue (is_before n (folder ++ 47 ∷ []))) before → All (λ n. IsFalse (is_before n (folder ++ 48 ∷ []))) behind
+    → names_within folder part ≡ names_within folder names
 within_part folder names before part behind is front back =
     let f = after_front (folder ++ 47 ∷ []) in
     let first = none_of f _ (not_before folder) before front in

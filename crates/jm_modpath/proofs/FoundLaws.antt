@@ -1,5 +1,7 @@
 -- Modules that are found: one more, and their names as those of candidates.
-use Rattle.std.proofs.Common.{◌≡◌, ◌≢◌, ℕ, zero, suc, ◌<◌, inl, inr, Bool, true, false, ◌||◌, cond, List, [], ◌∷◌, ◌++◌, length, get_or, Contains, Option, Some, None, option_map, slice_get, refl, sym, ap, ◌∙◌, arith}
+use Rattle.std.proofs.Common.{◌≡◌, ◌≢◌, ℕ, zero, suc, ◌<◌, inl, inr, Bool, true, false, ◌||◌, cond, List, []}
+use Rattle.std.proofs.Common.{◌∷◌, ◌++◌, length, get_or, Contains, Option, Some, None, option_map, slice_get}
+use Rattle.std.proofs.Common.{refl, sym, ap, ◌∙◌, arith}
 use Rattle.std.proofs.lemmas.Bool.{cases_order, false≢true}
 use Rattle.std.proofs.lemmas.List.Elements.{All-nil, All-cons, All-append}
 use Rattle.std.proofs.lemmas.List.Folds.{list_any-append}
@@ -34,7 +36,8 @@ last_or true = refl
 last_or false = refl
 
 -- one module more, whose name is new
-pub holds_more : (ms : List VisibleModule) (m : VisibleModule) (names more : List (List ℕ × ℕ)) (place : ℕ) → Holds ms names → is_named ms (name_of m) ≡ false → HasTexts m → Puts names more (name_of m) place → Holds (ms ++ m ∷ []) more
+pub holds_more : (ms : List VisibleModule) (m : VisibleModule) (names more : List (List ℕ × ℕ)) (place : ℕ) → Holds ms names
+    → is_named ms (name_of m) ≡ false → HasTexts m → Puts names more (name_of m) place → Holds (ms ++ m ∷ []) more
 holds_more ms m names more place holds new texts puts = record {
   knows = λ name.
       ap is_some (puts name) ∙ some_if (bytes_eq name (name_of m)) place (place_in names name)
@@ -54,7 +57,8 @@ holds_more ms m names more place holds new texts puts = record {
         elim (contains_cases m [] l last) [
           | inl is ↦
               let one : name_of m ≡ name_of k = ap name_of is ∙ sym same in
-              absurd (false≢true (sym new ∙ any_contains (λ n. bytes_eq (name_of m) (name_of n)) ms k there ((bytes_eq-Decides (name_of m) (name_of k)).1 one)))
+              absurd (false≢true (sym new ∙ any_contains (λ n. bytes_eq (name_of m) (name_of n)) ms k there
+              ((bytes_eq-Decides (name_of m) (name_of k)).1 one)))
           | inr none ↦ contains_none l none
         ]
 
@@ -68,15 +72,18 @@ got [] i x d is = cc
 got (y ∷ xs) zero x d is = (omega arith, same_some y x is)
 got (y ∷ xs) (suc i) x d is = let rest = got xs i x d is in (omega (arith, rest.0), rest.1)
 
-named_at : (ms : List VisibleModule) (i : ℕ) (name : List ℕ) → HasName (candidates ms) i name → (m : VisibleModule) × (slice_get ms i ≡ Some m) × (name_of m ≡ name)
+named_at : (ms : List VisibleModule) (i : ℕ) (name : List ℕ) → HasName (candidates ms) i name → (m : VisibleModule)
+    × (slice_get ms i ≡ Some m) × (name_of m ≡ name)
 named_at ms i name has = go (slice_get ms i) refl
   where
     go : (o : Option VisibleModule) → slice_get ms i ≡ o → (m : VisibleModule) × (slice_get ms i ≡ Some m) × (name_of m ≡ name)
     go None is =
-        let none = sym (slice_get-map (λ (m : VisibleModule). m.candidate) ms i ∙ ap (option_map (λ (m : VisibleModule). m.candidate)) is) ∙ has.1 in
+        let none = sym (slice_get-map (λ (m : VisibleModule). m.candidate) ms i
+        ∙ ap (option_map (λ (m : VisibleModule). m.candidate)) is) ∙ has.1 in
         cc
     go (Some m) is =
-        let same = same_some m.candidate has.0 (sym (slice_get-map (λ (m : VisibleModule). m.candidate) ms i ∙ ap (option_map (λ (m : VisibleModule). m.candidate)) is) ∙ has.1) in
+        let same = same_some m.candidate has.0 (sym (slice_get-map (λ (m : VisibleModule). m.candidate) ms i
+        ∙ ap (option_map (λ (m : VisibleModule). m.candidate)) is) ∙ has.1) in
         (m, is, ap (λ (c : Candidate). c.descriptor.name) same ∙ has.2)
 
 pub names_differ : (ms : List VisibleModule) → Differing ms → NamesDiffer (candidates ms)

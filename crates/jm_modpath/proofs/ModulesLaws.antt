@@ -24,7 +24,8 @@ as_long (c ∷ cs) [] long = cc
 as_long (c ∷ cs) (f ∷ fs) long = ap suc (as_long cs fs (omega (arith, long)))
 
 -- the module at a place is that of both lists
-pub at_both : (cs : List Candidate) (fs : List ModuleFolder) (i : ℕ) (c : Candidate) (f : ModuleFolder) → length cs ≡ length fs → i < length cs → c ≡ get_or cs i c → f ≡ get_or fs i f → slice_get (modules_with cs fs) i ≡ Some (module_with_folder (c, f))
+pub at_both : (cs : List Candidate) (fs : List ModuleFolder) (i : ℕ) (c : Candidate) (f : ModuleFolder) → length cs ≡ length fs
+    → i < length cs → c ≡ get_or cs i c → f ≡ get_or fs i f → slice_get (modules_with cs fs) i ≡ Some (module_with_folder (c, f))
 at_both [] fs i c f long inside one other = absurd (omega (arith, inside))
 at_both (d ∷ cs) [] i c f long inside one other = cc
 at_both (d ∷ cs) (g ∷ fs) zero c f long inside one other = rw (one, other) refl

@@ -1,5 +1,8 @@
 -- The steps that look for modules: what each comes to, from what its calls answered.
-use Rattle.std.proofs.Common.{◌≡◌, ℕ, ◌+◌, ◌<◌, Bool, true, false, cond, ◌&&◌, not, List, [], ◌∷◌, ◌++◌, append_assoc, length, drop, get_or, IsUtf8, Contains, Option, Some, None, unwrap_or, option_and_then, Result, Ok, Err, refl, sym, ap, ◌∙◌, subst, filter_map, inl, inr}
+use Rattle.std.proofs.Common.{◌≡◌, ℕ, ◌+◌, ◌<◌, Bool, true, false, cond, ◌&&◌, not, List, [], ◌∷◌, ◌++◌}
+use Rattle.std.proofs.Common.{append_assoc, length, drop, get_or, IsUtf8, Contains, Option, Some, None}
+use Rattle.std.proofs.Common.{unwrap_or, option_and_then, Result, Ok, Err, refl, sym, ap, ◌∙◌, subst}
+use Rattle.std.proofs.Common.{filter_map, inl, inr}
 use Rattle.std.proofs.lemmas.Bool.{eqb-true, false≢true}
 use Rattle.std.proofs.lemmas.List.{drop_more}
 use Rattle.std.proofs.lemmas.Str.{IsUtf8-from_ascii}
@@ -22,7 +25,8 @@ use Rattle.jm_modpath.specs.declared.refusal.PathStop.{PathStop}
 use Rattle.jm_modpath.specs.declared.refusal.PathStop.TheVariants as stop
 use Rattle.jm_modpath.specs.declared.refusal.PathRefusal.{PathRefusal}
 use Rattle.jm_modpath.specs.declared.visible.VisibleModule.{VisibleModule}
-use Rattle.jm_modpath.specs.Finding.{Comes, added_due, folder_due, folders_among, folders_due, info_due, names_within, refused_at, shown_due}
+use Rattle.jm_modpath.specs.Finding.{Comes, added_due, folder_due, folders_among, folders_due, info_due}
+use Rattle.jm_modpath.specs.Finding.{names_within, refused_at, shown_due}
 use Rattle.jm_modpath.specs.Modules.{folder_info, folder_with_info, info_in, info_name, info_path, inside, is_named, name_of, unhidden}
 use Rattle.jm_form.proofs.RisingLaws.{from_rising}
 
@@ -31,7 +35,8 @@ info_is_text = IsUtf8-from_ascii info_name (ascii_all info_name refl)
 
 -- Steps
 
-pub comes_weaker : {A : Type 0} {P Q : Type 0} (due : Result A PathRefusal) (r : Result A PathStop) → (P → Q) → Comes P due r → Comes Q due r
+pub comes_weaker : {A : Type 0} {P Q : Type 0} (due : Result A PathRefusal) (r : Result A PathStop) → (P → Q) → Comes P due r
+    → Comes Q due r
 comes_weaker due (Ok x) more h = h
 comes_weaker due (Err (stop.Refused e)) more h = h
 comes_weaker due (Err (stop.NotThere path)) more h = more h
@@ -39,11 +44,13 @@ comes_weaker due (Err stop.Outside) more h = h
 comes_weaker due (Err stop.Memory) more h = h
 
 -- a step that went on, and what came of the next one
-pub comes_next : {A B : Type 0} (due : Result A PathRefusal) (next : A → Result B PathRefusal) (x : A) (r : Result B PathStop) → due ≡ Ok x → Comes ⊥ (next x) r → Comes ⊥ (followed due next) r
+pub comes_next : {A B : Type 0} (due : Result A PathRefusal) (next : A → Result B PathRefusal) (x : A) (r : Result B PathStop) → due
+    ≡ Ok x → Comes ⊥ (next x) r → Comes ⊥ (followed due next) r
 comes_next due next x r is h = rw is h
 
 -- a step that ended the work
-pub comes_ended : {A B : Type 0} (due : Result A PathRefusal) (next : A → Result B PathRefusal) (e : PathStop) → Comes ⊥ due (Err e) → Comes ⊥ (followed due next) (Err e)
+pub comes_ended : {A B : Type 0} (due : Result A PathRefusal) (next : A → Result B PathRefusal) (e : PathStop) → Comes ⊥ due (Err e)
+    → Comes ⊥ (followed due next) (Err e)
 comes_ended due next (stop.Refused r) h = rw h refl
 comes_ended due next (stop.NotThere path) h = h
 comes_ended due next stop.Outside h = tt
@@ -55,13 +62,16 @@ pub told_more : (told : Option Files) (P Q : Files → Type 0) → ((files : Fil
 told_more None P Q more h = tt
 told_more (Some files) P Q more h = more files h
 
-pub told_both : (told : Option Files) (P Q R : Files → Type 0) → ((files : Files) → P files → Q files → R files) → Shows told P → Shows told Q → Shows told R
+pub told_both : (told : Option Files) (P Q R : Files → Type 0) → ((files : Files) → P files → Q files → R files) → Shows told P
+    → Shows told Q → Shows told R
 told_both None P Q R more h k = tt
 told_both (Some files) P Q R more h k = more files h k
 
 -- The file of a folder
 
-pub read_told : (told : Option Files) (folder path bytes : List ℕ) (r : Result Descriptor PathStop) → path ≡ info_path folder → Shows told (λ files. Some bytes ≡ file files path) → Comes ⊥ (refused_at path (info_in bytes)) r → Shows told (λ files. Comes (file files (info_path folder) ≡ None) (info_due folder (folder_info files folder)) r)
+pub read_told : (told : Option Files) (folder path bytes : List ℕ) (r : Result Descriptor PathStop) → path ≡ info_path folder
+    → Shows told (λ files. Some bytes ≡ file files path) → Comes ⊥ (refused_at path (info_in bytes)) r
+    → Shows told (λ files. Comes (file files (info_path folder) ≡ None) (info_due folder (folder_info files folder)) r)
 read_told told folder path bytes r is read comes =
     told_more told _ _
     (λ files found.
@@ -82,85 +92,112 @@ folder_is name folder found = go (list_any is_slash name) refl found
     go : (b : Bool) → list_any is_slash name ≡ b → folder_with_info name ≡ Some folder → name ≡ folder ++ 47 ∷ info_name
     go true has h =
         let cut = first_parts is_slash name 0 has in
-        let both = parts (not (is_empty (before_first is_slash name))) (bytes_eq (after_first is_slash name) info_name) (before_first is_slash name) (rw has at h) in
+        let both = parts (not (is_empty (before_first is_slash name))) (bytes_eq (after_first is_slash name) info_name)
+        (before_first is_slash name) (rw has at h) in
         let last = (bytes_eq-Decides (after_first is_slash name) info_name).0 both.1 in
-        sym cut.2 ∙ ap (λ f. f ++ cut.0 ∷ after_first is_slash name) both.0 ∙ ap (λ x. folder ++ x ∷ after_first is_slash name) (eqb-true cut.0 47 cut.1) ∙ ap (λ rest. folder ++ 47 ∷ rest) last
+        sym cut.2 ∙ ap (λ f. f ++ cut.0 ∷ after_first is_slash name) both.0 ∙ ap (λ x. folder ++ x ∷ after_first is_slash name)
+        (eqb-true cut.0 47 cut.1) ∙ ap (λ rest. folder ++ 47 ∷ rest) last
     go false has h =
         let nothing : ◌≡◌ {A = Option (List ℕ)} None (Some folder) = rw has at h in
         cc
 
 -- a file that is listed is there
-pub listed_there : (files : Files) (directory name : List ℕ) → Contains (names_below directory files) name → file files (inside directory name) ≡ None → ⊥
+pub listed_there : (files : Files) (directory name : List ℕ) → Contains (names_below directory files) name
+    → file files (inside directory name) ≡ None → ⊥
 listed_there files directory name listed none =
     let found = any_contains (bytes_eq name) (names_below directory files) name listed ((bytes_eq-Decides name name).1 refl) in
     false≢true (sym (ap is_some none) ∙ sym (names_below-exact directory name files) ∙ found)
 
-pub info_there : (files : Files) (directory folder : List ℕ) → Contains (folders_among (names_below directory files)) folder → file files (info_path (inside directory folder)) ≡ None → ⊥
+pub info_there : (files : Files) (directory folder : List ℕ) → Contains (folders_among (names_below directory files)) folder
+    → file files (info_path (inside directory folder)) ≡ None → ⊥
 info_there files directory folder listed none =
-    let from = from_filter_map folder_with_info (names_below directory files) folder (from_rising (filter_map folder_with_info (names_below directory files)) folder listed) in
+    let from = from_filter_map folder_with_info (names_below directory files) folder
+    (from_rising (filter_map folder_with_info (names_below directory files)) folder listed) in
     let name = folder_is from.0 folder from.2 in
-    let path : info_path (inside directory folder) ≡ inside directory (folder ++ 47 ∷ info_name) = append_assoc directory (47 ∷ folder) (47 ∷ info_name) in
+    let path : info_path (inside directory folder) ≡ inside directory (folder ++ 47 ∷ info_name) =
+    append_assoc directory (47 ∷ folder) (47 ∷ info_name) in
     listed_there files directory (folder ++ 47 ∷ info_name) (subst (Contains (names_below directory files)) name from.1) (rw path at none)
 
 -- the names below a folder of a directory
-pub below_within : (files : Files) (directory folder : List ℕ) → names_below (inside directory folder) files ≡ names_within folder (names_below directory files)
+pub below_within : (files : Files) (directory folder : List ℕ) → names_below (inside directory folder) files
+    ≡ names_within folder (names_below directory files)
 below_within [] directory folder = refl
 below_within (f ∷ files) directory folder =
     let join = after_front-join (directory ++ 47 ∷ []) (folder ++ 47 ∷ []) f.0 in
-    let front : inside directory folder ++ 47 ∷ [] ≡ (directory ++ 47 ∷ []) ++ (folder ++ 47 ∷ []) = append_assoc directory (47 ∷ folder) (47 ∷ []) ∙ sym (append_assoc directory (47 ∷ []) (folder ++ 47 ∷ [])) in
+    let front : inside directory folder ++ 47 ∷ [] ≡ (directory ++ 47 ∷ []) ++ (folder ++ 47 ∷ []) =
+    append_assoc directory (47 ∷ folder) (47 ∷ []) ∙ sym (append_assoc directory (47 ∷ []) (folder ++ 47 ∷ [])) in
     rw (ap (λ a. after_front a f.0) front ∙ join, below_within files directory folder) (go (after_front (directory ++ 47 ∷ []) f.0))
   where
-    go : (o : Option (List ℕ)) → cons_option (option_and_then (after_front (folder ++ 47 ∷ [])) o) (names_within folder (names_below directory files)) ≡ names_within folder (cons_option o (names_below directory files))
+    go : (o : Option (List ℕ)) → cons_option (option_and_then (after_front (folder ++ 47 ∷ [])) o)
+        (names_within folder (names_below directory files)) ≡ names_within folder (cons_option o (names_below directory files))
     go None = refl
     go (Some name) = refl
 
 -- A folder
 
-pub folder_shown : (told : Option Files) (directory folder path : List ℕ) (names : List (List ℕ)) (earlier : List VisibleModule) (d : Descriptor) (r : Result VisibleModule PathStop) → path ≡ inside directory folder
-    → Shows told (λ files. names ≡ names_below directory files) → Shows told (λ files. Comes (file files (info_path path) ≡ None) (info_due path (folder_info files path)) (Ok d))
-    → Comes ⊥ (shown_due directory earlier path d (names_within folder names)) r → Shows told (λ files. Comes ⊥ (folder_due files directory earlier folder) r)
+pub folder_shown : (told : Option Files) (directory folder path : List ℕ) (names : List (List ℕ)) (earlier : List VisibleModule)
+    (d : Descriptor) (r : Result VisibleModule PathStop) → path ≡ inside directory folder
+    → Shows told (λ files. names ≡ names_below directory files) → Shows told (λ files. Comes (file files (info_path path) ≡ None)
+    (info_due path (folder_info files path)) (Ok d))
+    → Comes ⊥ (shown_due directory earlier path d (names_within folder names)) r
+    → Shows told (λ files. Comes ⊥ (folder_due files directory earlier folder) r)
 folder_shown told directory folder path names earlier d r is listed read shown =
     told_both told _ _ _
     (λ files named info.
     let paths = ap (names_within folder) named ∙ sym (below_within files directory folder) in
-    comes_next (info_due (inside directory folder) (folder_info files (inside directory folder))) (λ e. shown_due directory earlier (inside directory folder) e (names_below (inside directory folder) files)) d r
+    comes_next (info_due (inside directory folder) (folder_info files (inside directory folder))) (λ e. shown_due directory earlier
+    (inside directory folder) e (names_below (inside directory folder) files)) d r
     (rw is at info)
     (rw (is, paths) at shown))
     listed read
 
-pub folder_ended : (told : Option Files) (directory folder path : List ℕ) (names : List (List ℕ)) (earlier : List VisibleModule) (e : PathStop) → path ≡ inside directory folder → Contains (folders_among names) folder
-    → Shows told (λ files. names ≡ names_below directory files) → Shows told (λ files. Comes (file files (info_path path) ≡ None) (info_due path (folder_info files path)) (Err e))
+pub folder_ended : (told : Option Files) (directory folder path : List ℕ) (names : List (List ℕ)) (earlier : List VisibleModule)
+    (e : PathStop) → path ≡ inside directory folder → Contains (folders_among names) folder
+    → Shows told (λ files. names ≡ names_below directory files) → Shows told (λ files. Comes (file files (info_path path) ≡ None)
+    (info_due path (folder_info files path)) (Err e))
     → Shows told (λ files. Comes ⊥ (folder_due files directory earlier folder) (Err e))
 folder_ended told directory folder path names earlier e is among listed read =
     told_both told _ _ _
     (λ files named info.
     let none : file files (info_path path) ≡ None → ⊥ = λ h. info_there files directory folder (rw named at among) (rw is at h) in
-    comes_ended (info_due (inside directory folder) (folder_info files (inside directory folder))) (λ d. shown_due directory earlier (inside directory folder) d (names_below (inside directory folder) files)) e
-    (subst (λ p. Comes ⊥ (info_due p (folder_info files p)) (Err e)) is (comes_weaker {A = Descriptor} (info_due path (folder_info files path)) (Err e) none info)))
+    comes_ended (info_due (inside directory folder) (folder_info files (inside directory folder))) (λ d. shown_due directory earlier
+    (inside directory folder) d (names_below (inside directory folder) files)) e
+    (subst (λ p. Comes ⊥ (info_due p (folder_info files p)) (Err e)) is (comes_weaker {A = Descriptor}
+    (info_due path (folder_info files path)) (Err e) none info)))
     listed read
 
-pub read_none : (told : Option Files) (folder path : List ℕ) → path ≡ info_path folder → Shows told (λ files. None ≡ file files path) → Shows told (λ files. file files (info_path folder) ≡ None)
+pub read_none : (told : Option Files) (folder path : List ℕ) → path ≡ info_path folder
+    → Shows told (λ files. None ≡ file files path) → Shows told (λ files. file files (info_path folder) ≡ None)
 read_none told folder path is read = told_more told _ _ (λ files found. ap (file files) (sym is) ∙ sym found) read
 
 -- The folders of a directory
 
 -- one folder more
-pub folders_next : (files : Files) (directory : List ℕ) (folders : List (List ℕ)) (i : ℕ) (folder : List ℕ) (earlier more : List VisibleModule) → i < length folders → folder ≡ get_or folders i folder → Comes ⊥ (added_due files directory earlier folder) (Ok more) → folders_due files directory more (drop (i + 1) folders) ≡ folders_due files directory earlier (drop i folders)
+pub folders_next : (files : Files) (directory : List ℕ) (folders : List (List ℕ)) (i : ℕ) (folder : List ℕ)
+    (earlier more : List VisibleModule) → i < length folders → folder ≡ get_or folders i folder
+    → Comes ⊥ (added_due files directory earlier folder) (Ok more) → folders_due files directory more (drop (i + 1) folders)
+    ≡ folders_due files directory earlier (drop i folders)
 folders_next files directory folders i folder earlier more below is comes =
     rw (drop_more folders i folder below, ← is, comes) refl
 
 -- the folder that ends the work
-pub folders_ended : (files : Files) (directory : List ℕ) (folders : List (List ℕ)) (i : ℕ) (folder : List ℕ) (earlier : List VisibleModule) (e : PathStop) → i < length folders → folder ≡ get_or folders i folder → Comes ⊥ (added_due files directory earlier folder) (Err e) → Comes ⊥ (folders_due files directory earlier (drop i folders)) (Err e)
+pub folders_ended : (files : Files) (directory : List ℕ) (folders : List (List ℕ)) (i : ℕ) (folder : List ℕ)
+    (earlier : List VisibleModule) (e : PathStop) → i < length folders → folder ≡ get_or folders i folder
+    → Comes ⊥ (added_due files directory earlier folder) (Err e) → Comes ⊥ (folders_due files directory earlier (drop i folders)) (Err e)
 folders_ended files directory folders i folder earlier e below is comes =
-    subst (λ left. Comes ⊥ (folders_due files directory earlier left) (Err e)) (sym (drop_more folders i folder below ∙ ap (λ f. f ∷ drop (i + 1) folders) (sym is)))
+    subst (λ left. Comes ⊥ (folders_due files directory earlier left) (Err e)) (sym (drop_more folders i folder below
+    ∙ ap (λ f. f ∷ drop (i + 1) folders) (sym is)))
     (comes_ended (added_due files directory earlier folder) (λ ms. folders_due files directory ms (drop (i + 1) folders)) e comes)
 
 -- a module that is not hidden is one of those that were found
 pub from_unhidden : (earlier ms : List VisibleModule) (m : VisibleModule) → Contains (unhidden earlier ms) m → Contains ms m
 from_unhidden earlier [] m there = there
-from_unhidden earlier (k ∷ ms) m there = go (is_named earlier (name_of k)) there (from_unhidden earlier ms m) (from_unhidden (earlier ++ k ∷ []) ms m)
+from_unhidden earlier (k ∷ ms) m there = go (is_named earlier (name_of k)) there (from_unhidden earlier ms m)
+    (from_unhidden (earlier ++ k ∷ []) ms m)
   where
-    go : (hidden : Bool) → Contains (cond hidden (unhidden earlier ms) (k ∷ unhidden (earlier ++ k ∷ []) ms)) m → (Contains (unhidden earlier ms) m → Contains ms m) → (Contains (unhidden (earlier ++ k ∷ []) ms) m → Contains ms m) → Contains (k ∷ ms) m
+    go : (hidden : Bool) → Contains (cond hidden (unhidden earlier ms) (k ∷ unhidden (earlier ++ k ∷ []) ms)) m
+        → (Contains (unhidden earlier ms) m → Contains ms m) → (Contains (unhidden (earlier ++ k ∷ []) ms) m → Contains ms m)
+        → Contains (k ∷ ms) m
     go true there one other = contains_later k ms m (one there)
     go false there one other = elim (contains_cases k (unhidden (earlier ++ k ∷ []) ms) m there) [
       | inl same ↦ subst (Contains (k ∷ ms)) same (contains_here k ms)

@@ -1,12 +1,15 @@
 -- What is cut out of a text at a slash is text, and what is put together with a slash.
-use Rattle.std.proofs.Common.{◌≡◌, ℕ, suc, ◌+◌, ◌<◌, ◌||◌, ap, ◌∙◌, Bool, true, false, List, [], ◌∷◌, ◌++◌, take, drop, length, length-append, get_or, cond, All, IsUtf8, Option, Some, None, Result, Ok, Err, IfOk, refl, sym, subst, arith, rules, lit<}
+use Rattle.std.proofs.Common.{◌≡◌, ℕ, suc, ◌+◌, ◌<◌, ◌||◌, ap, ◌∙◌, Bool, true, false, List, [], ◌∷◌, ◌++◌}
+use Rattle.std.proofs.Common.{take, drop, length, length-append, get_or, cond, All, IsUtf8, Option, Some}
+use Rattle.std.proofs.Common.{None, Result, Ok, Err, IfOk, refl, sym, subst, arith, rules, lit<}
 use Rattle.std.specs.List.{list_any, before_first, filter_map, position_or_len}
 use Rattle.std.specs.Str.{IsCharBoundary}
 use Rattle.std.proofs.lemmas.Bool.{eqb-true}
 use Rattle.std.proofs.lemmas.List.{take_at, drop_at, take_more}
 use Rattle.std.proofs.lemmas.List.Elements.{filter_map-append}
 use Rattle.std.proofs.lemmas.List.Sums.{passes_at_first}
-use Rattle.std.proofs.lemmas.Str.{IsCharBoundary-before_ascii, IsCharBoundary-from_take, IsUtf8-append, IsUtf8-drop, IsUtf8-encode, IsUtf8-take, encode_ascii}
+use Rattle.std.proofs.lemmas.Str.{IsCharBoundary-before_ascii, IsCharBoundary-from_take, IsUtf8-append}
+use Rattle.std.proofs.lemmas.Str.{IsUtf8-drop, IsUtf8-encode, IsUtf8-take, encode_ascii}
 use Rattle.jm_bytes.proofs.Firsts.{position_below}
 use Rattle.jm_bytes.proofs.Members.{all_filter_map}
 use Rattle.jm_names.specs.Names.{is_slash}
@@ -46,7 +49,8 @@ inside_is_text folder name first last = IsUtf8-append folder (47 ∷ name) first
 
 behind_is_text : (a b : List ℕ) → IsUtf8 a → IsUtf8 (a ++ b) → IsUtf8 b
 behind_is_text a b front whole =
-    let cut : IsCharBoundary (a ++ b) (length a) = IsCharBoundary-from_take (a ++ b) (length a) whole (omega (arith, length-append a b)) (rw (take_at a b (length a) refl) front) in
+    let cut : IsCharBoundary (a ++ b) (length a) = IsCharBoundary-from_take (a ++ b) (length a) whole
+    (omega (arith, length-append a b)) (rw (take_at a b (length a) refl) front) in
     let rest : IsUtf8 (drop (length a) (a ++ b)) = IsUtf8-drop (a ++ b) (length a) whole cut in
     rw (drop_at a b (length a) refl) at rest
 
@@ -59,16 +63,19 @@ within_is_text folder names is all =
     names all
 
 -- an answer whose texts are known to be text
-pub texts_of : {E : Type 0} (r : Result (List (List ℕ)) E) (texts : List (List ℕ)) → IfOk r (λ found. found ≡ texts) → All IsUtf8 texts → IfOk r (All IsUtf8)
+pub texts_of : {E : Type 0} (r : Result (List (List ℕ)) E) (texts : List (List ℕ)) → IfOk r (λ found. found ≡ texts)
+    → All IsUtf8 texts → IfOk r (All IsUtf8)
 texts_of (Ok found) texts is all = rw is all
 texts_of (Err e) texts is all = tt
 
 -- the folders among names are text
 pub folders_are_text : (names : List (List ℕ)) → All IsUtf8 names → All IsUtf8 (folders_among names)
-folders_are_text names all = rising_all IsUtf8 (filter_map folder_with_info names) (all_filter_map IsUtf8 IsUtf8 folder_with_info (λ name folder own h. folder_is_text name folder own h) names all)
+folders_are_text names all = rising_all IsUtf8 (filter_map folder_with_info names) (all_filter_map IsUtf8 IsUtf8 folder_with_info
+    (λ name folder own h. folder_is_text name folder own h) names all)
 
 -- a list that grows with what a function gives of each item
-pub grown : {X Y : Type 0} (f : X → Option Y) (xs : List X) (i : ℕ) (x : X) (old new : List Y) → i < length xs → x ≡ get_or xs i x → new ≡ old ++ filter_map f (x ∷ []) → old ≡ filter_map f (take i xs) → new ≡ filter_map f (take (i + 1) xs)
+pub grown : {X Y : Type 0} (f : X → Option Y) (xs : List X) (i : ℕ) (x : X) (old new : List Y) → i < length xs → x ≡ get_or xs i x
+    → new ≡ old ++ filter_map f (x ∷ []) → old ≡ filter_map f (take i xs) → new ≡ filter_map f (take (i + 1) xs)
 grown f xs i x old new below is put so_far =
     rw (put, so_far, take_more xs i x below, ← is) (sym (filter_map-append f (take i xs) (x ∷ [])))
 

@@ -14,9 +14,11 @@ module _ (p : ℕ → Bool) where
 
   pub first_place : (xs : List ℕ) (k : ℕ) → NoneBefore (Passes p xs) 0 (length xs) k → p (get_or xs k 0) ≡ true → position_or_len p xs ≡ k
   first_place xs k first here =
-      position_or_len_is p xs k 0 (omega (arith, first.high)) (λ j below. false_from_ne_true (p (get_or xs j 0)) (first.before j (omega arith) below)) (λ _. here)
+      position_or_len_is p xs k 0 (omega (arith, first.high)) (λ j below. false_from_ne_true (p (get_or xs j 0))
+      (first.before j (omega arith) below)) (λ _. here)
 
-  pub last_place : (xs : List ℕ) (k : ℕ) → NoneAfter (Passes p xs) 0 (length xs) k → p (get_or xs k 0) ≡ true → suffix_len (λ x. not (p x)) xs ≡ length xs - (k + 1)
+  pub last_place : (xs : List ℕ) (k : ℕ) → NoneAfter (Passes p xs) 0 (length xs) k → p (get_or xs k 0) ≡ true
+      → suffix_len (λ x. not (p x)) xs ≡ length xs - (k + 1)
   last_place xs k last here =
       let next : k + 1 - 1 ≡ k = omega arith in
       suffix_len_is (λ x. not (p x)) xs (k + 1) 0 (omega (arith, last.high))

@@ -11,7 +11,8 @@ character_some [] h = absurd (false≢true h)
 character_some (a ∷ c) h = omega arith
 
 -- one more character
-pub IsText-more : (bytes : List ℕ) (at n : ℕ) → IsText (take at bytes) → is_character (take n (drop at bytes)) ≡ true → IsText (take (at + n) bytes)
+pub IsText-more : (bytes : List ℕ) (at n : ℕ) → IsText (take at bytes) → is_character (take n (drop at bytes)) ≡ true
+    → IsText (take (at + n) bytes)
 IsText-more bytes at n text h = (
   text.0 ++ take n (drop at bytes) ∷ [],
   list_all-append is_character text.0 (take n (drop at bytes) ∷ []) ∙ rw (text.1, h),
@@ -20,7 +21,8 @@ IsText-more bytes at n text h = (
 )
 
 -- one character and a run after it
-pub IsText-cons : (bytes : List ℕ) (n m : ℕ) → is_character (take n bytes) ≡ true → IsText (take m (drop n bytes)) → IsText (take (n + m) bytes)
+pub IsText-cons : (bytes : List ℕ) (n m : ℕ) → is_character (take n bytes) ≡ true → IsText (take m (drop n bytes))
+    → IsText (take (n + m) bytes)
 IsText-cons bytes n m h text = (
   take n bytes ∷ text.0,
   rw (h, text.1),

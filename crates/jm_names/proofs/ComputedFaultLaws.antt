@@ -1,5 +1,6 @@
 -- The fault that is computed is the first that holds.
-use Rattle.std.proofs.Common.{◌≡◌, ℕ, zero, suc, ◌<◌, Bool, true, not, inl, inr, List, length, Option, Some, None, refl, sym, ap, ◌∙◌, subst, arith}
+use Rattle.std.proofs.Common.{◌≡◌, ℕ, zero, suc, ◌<◌, Bool, true, not, inl, inr, List, length, Option, Some}
+use Rattle.std.proofs.Common.{None, refl, sym, ap, ◌∙◌, subst, arith}
 use Rattle.std.specs.Prelude.{nat_lt, slice_get}
 use Rattle.std.specs.List.{list_any}
 use Rattle.std.proofs.lemmas.Bool.{ltb-true, lt-ltb, cases_lt, not-true}
@@ -19,7 +20,8 @@ use Rattle.jm_names.proofs.ComputedTextLaws.{text_len-longest}
 
 -- a name whose longest text is shorter is no text
 no_text : (name : List ℕ) → text_len name < length name → ¬ IsText name
-no_text name short text = (text_len-longest name).longest (length name) short (omega arith) (subst IsText (sym (take_all (length name) name (omega arith))) text)
+no_text name short text = (text_len-longest name).longest (length name) short (omega arith)
+    (subst IsText (sym (take_all (length name) name (omega arith))) text)
 
 -- a name that is no text has a shorter longest text
 shorter_text : (name : List ℕ) → (¬ IsText name) → text_len name < length name
@@ -41,22 +43,28 @@ check_found name TooLong fails = ap (λ c. Some c) (fault_if_true (nat_lt 4096 (
 check_found name (NotText at) fails =
     let same : text_len name ≡ at = IsLongestText-unique name (text_len name) at (text_len-longest name) fails.1 in
     let short = lt-ltb (text_len name) (length name) (shorter_text name fails.0) in
-    ap (λ c. Some c) (fault_if_true (nat_lt (text_len name) (length name)) (NotText (text_len name)) short ∙ ap (λ k. Some (NotText k)) same)
+    ap (λ c. Some c) (fault_if_true (nat_lt (text_len name) (length name)) (NotText (text_len name)) short
+    ∙ ap (λ k. Some (NotText k)) same)
 
 -- what is found at a place is a fault that holds, and the place is its own
-one_check : (name : List ℕ) (k : ℕ) (found : Bool) (own fault : NameFault) → (found ≡ true → Fails name own) → rank own ≡ k → Some (fault_if found own) ≡ Some (Some fault) → (rank fault ≡ k) × Fails name fault
+one_check : (name : List ℕ) (k : ℕ) (found : Bool) (own fault : NameFault) → (found ≡ true → Fails name own) → rank own ≡ k
+    → Some (fault_if found own) ≡ Some (Some fault) → (rank fault ≡ k) × Fails name fault
 one_check name k found own fault holds place there =
     let both = fault_if_some found own fault (same_some (fault_if found own) (Some fault) there) in
     subst (λ f. (rank f ≡ k) × Fails name f) both.1 (place, holds both.0)
 
-check_holds : (name : List ℕ) (k : ℕ) (fault : NameFault) → slice_get (name_checks name) k ≡ Some (Some fault) → (rank fault ≡ k) × Fails name fault
-check_holds name zero fault there = one_check name 0 (not (has_module name)) Empty fault (λ found. not-true (has_module name) found) refl there
+check_holds : (name : List ℕ) (k : ℕ) (fault : NameFault) → slice_get (name_checks name) k ≡ Some (Some fault) → (rank fault ≡ k)
+    × Fails name fault
+check_holds name zero fault there = one_check name 0 (not (has_module name)) Empty fault (λ found. not-true (has_module name) found)
+    refl there
 check_holds name (suc zero) fault there = one_check name 1 (list_any is_empty (parts name)) EmptyPart fault (λ found. found) refl there
 check_holds name (suc (suc zero)) fault there = one_check name 2 (list_any is_dots (parts name)) Dots fault (λ found. found) refl there
 check_holds name (suc (suc (suc zero))) fault there = one_check name 3 (list_any is_zero name) Zero fault (λ found. found) refl there
-check_holds name (suc (suc (suc (suc zero)))) fault there = one_check name 4 (nat_lt 4096 (length name)) TooLong fault (λ found. ltb-true 4096 (length name) found) refl there
+check_holds name (suc (suc (suc (suc zero)))) fault there = one_check name 4 (nat_lt 4096 (length name)) TooLong fault
+    (λ found. ltb-true 4096 (length name) found) refl there
 check_holds name (suc (suc (suc (suc (suc zero))))) fault there =
-    one_check name 5 (nat_lt (text_len name) (length name)) (NotText (text_len name)) fault (λ found. (no_text name (ltb-true (text_len name) (length name) found), text_len-longest name)) refl there
+    one_check name 5 (nat_lt (text_len name) (length name)) (NotText (text_len name)) fault
+    (λ found. (no_text name (ltb-true (text_len name) (length name) found), text_len-longest name)) refl there
 check_holds name (suc (suc (suc (suc (suc (suc k)))))) fault there = cc
 
 -- The rules and the value

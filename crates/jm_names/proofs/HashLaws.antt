@@ -20,7 +20,8 @@ pub hash-lt : (seed : ℕ) (name : List ℕ) → hash seed name < 2 ^ 31
 hash-lt seed name = omega arith
 
 -- a byte meets the low byte of a state alone
-step-low : (s b : ℕ) → b < 256 → bit_xor (s * 0x01000193 % 2 ^ 32) b ≡ s * 0x01000193 / 256 % 2 ^ 24 * 256 + bit_xor (s * 0x01000193 % 256) b
+step-low : (s b : ℕ) → b < 256 → bit_xor (s * 0x01000193 % 2 ^ 32) b ≡ s * 0x01000193 / 256 % 2 ^ 24 * 256
+    + bit_xor (s * 0x01000193 % 256) b
 step-low s b byte =
     let high = s * 0x01000193 / 256 % 2 ^ 24 in
     let low = s * 0x01000193 % 256 in
@@ -29,11 +30,13 @@ step-low s b byte =
     ap₂ (λ x y. bit_xor x y) parts alone ∙ xor_block 8 high 0 low b (omega arith) byte ∙ ap (λ n. n * 256 + bit_xor low b) (xor_zero_r high)
 
 -- the sums of the law below, in which each product counts as one number
-uppers : (s x y over0 over1 u q : ℕ) → x + over1 * 2 ^ 24 ≡ u * 0x01000193 + q → y + over0 * 2 ^ 24 ≡ q → (s + x * 256) % 2 ^ 32 ≡ ((s + y * 256) % 2 ^ 32 + u * 0x01000193 * 256) % 2 ^ 32
+uppers : (s x y over0 over1 u q : ℕ) → x + over1 * 2 ^ 24 ≡ u * 0x01000193 + q → y + over0 * 2 ^ 24 ≡ q → (s + x * 256) % 2 ^ 32
+    ≡ ((s + y * 256) % 2 ^ 32 + u * 0x01000193 * 256) % 2 ^ 32
 uppers s x y over0 over1 u q is1 is0 = omega (arith, is1, is0)
 
 -- one step of the law below, where n is the factor of the bytes behind it
-upper-step : (s u l n : ℕ) → (s + (u * 256 + l) * 0x01000193 / 256 % 2 ^ 24 * 256 * n) % 2 ^ 32 ≡ ((s + l * 0x01000193 / 256 % 2 ^ 24 * 256 * n) % 2 ^ 32 + u * 256 * (n * 0x01000193)) % 2 ^ 32
+upper-step : (s u l n : ℕ) → (s + (u * 256 + l) * 0x01000193 / 256 % 2 ^ 24 * 256 * n) % 2 ^ 32
+    ≡ ((s + l * 0x01000193 / 256 % 2 ^ 24 * 256 * n) % 2 ^ 32 + u * 256 * (n * 0x01000193)) % 2 ^ 32
 upper-step s u l n =
     let q = l * 0x01000193 / 256 in
     let all = (u * 256 + l) * 0x01000193 / 256 in
@@ -45,7 +48,8 @@ upper-step s u l n =
 
 -- From two states with the same low byte: their upper parts pass a text as a factor, which is that
 -- of all its steps. So what a text does to a low byte alone tells what it does to each such state.
-pub state_after-low : (u l : ℕ) (text : List ℕ) → u < 2 ^ 24 → l < 256 → All (λ b. b < 256) text → state_after (u * 256 + l) text ≡ (state_after l text + u * 256 * 0x01000193 ^ length text) % 2 ^ 32
+pub state_after-low : (u l : ℕ) (text : List ℕ) → u < 2 ^ 24 → l < 256 → All (λ b. b < 256) text → state_after (u * 256 + l) text
+    ≡ (state_after l text + u * 256 * 0x01000193 ^ length text) % 2 ^ 32
 state_after-low u l [] upper low bytes = omega arith
 state_after-low u l (b ∷ text) upper low bytes =
     let state = u * 256 + l in

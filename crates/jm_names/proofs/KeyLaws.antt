@@ -31,6 +31,7 @@ module _ {X : Type 0} (key : X → List ℕ) where
   -- keys that differ do so in any order
   pub differ_moved : (xs ys : List X) → IsPermutation xs ys → AllPairs (λ x y. key x ≢ key y) xs → AllPairs (λ x y. key x ≢ key y) ys
   differ_moved xs ys moved differ i j d before inside =
-      let apart = IsDistinct-from_apart same_key xs (λ k l e front below. not_same (get_or xs k e) (get_or xs l e) (differ k l e front below)) in
+      let apart = IsDistinct-from_apart same_key xs (λ k l e front below. not_same (get_or xs k e) (get_or xs l e)
+      (differ k l e front below)) in
       let still = IsDistinct-IsPermutation same_key same_flips xs ys moved apart in
       same_not (get_or ys i d) (get_or ys j d) (apart_from_distinct same_key ys i j d still before inside)

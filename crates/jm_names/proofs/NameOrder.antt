@@ -1,5 +1,7 @@
 -- Named contents that rise by name: there is one such list of the same pairs.
-use Rattle.std.proofs.Common.{◌≡◌, ◌≢◌, ◌⊎◌, inl, inr, Bool, true, false, cond, IsTrue, List, [], ◌∷◌, map, get_or, All, AllPairs, Contains, IsPermutation, refl, sym, ap, ◌∙◌, subst, arith, Bor}
+use Rattle.std.proofs.Common.{◌≡◌, ◌≢◌, ◌⊎◌, inl, inr, Bool, true, false, cond, IsTrue, List, [], ◌∷◌, map}
+use Rattle.std.proofs.Common.{get_or, All, AllPairs, Contains, IsPermutation, refl, sym, ap, ◌∙◌, subst}
+use Rattle.std.proofs.Common.{arith, Bor}
 use Rattle.std.proofs.lemmas.Bool.{false≢true}
 use Rattle.std.proofs.lemmas.Fn.{always_returns_same}
 use Rattle.std.proofs.lemmas.List.Elements.{All-nil, All-cons, All-contains}
@@ -26,7 +28,8 @@ contains_placed e [] g (inl same) = subst (Contains (e ∷ [])) same (contains_h
 contains_placed e [] g (inr later) = absurd (contains_none g later)
 contains_placed e (f ∷ es) g there = go (is_before f.0 e.0) there (λ among. contains_placed e es g among)
   where
-    go : (b : Bool) → (e ≡ g) ⊎ Contains (f ∷ es) g → ((e ≡ g) ⊎ Contains es g → Contains (placed e es) g) → Contains (cond b (f ∷ placed e es) (e ∷ f ∷ es)) g
+    go : (b : Bool) → (e ≡ g) ⊎ Contains (f ∷ es) g → ((e ≡ g) ⊎ Contains es g → Contains (placed e es) g)
+        → Contains (cond b (f ∷ placed e es) (e ∷ f ∷ es)) g
     go false (inl same) rest = subst (Contains (e ∷ f ∷ es)) same (contains_here e (f ∷ es))
     go false (inr later) rest = contains_later e (f ∷ es) g later
     go true (inl same) rest = contains_later f (placed e es) g (rest (inl same))
@@ -40,7 +43,8 @@ pub from_placed : (e : Named) (es : List Named) (g : Named) → Contains (placed
 from_placed e [] g there = contains_cases e [] g there
 from_placed e (f ∷ es) g there = go (is_before f.0 e.0) there (λ among. from_placed e es g among)
   where
-    go : (b : Bool) → Contains (cond b (f ∷ placed e es) (e ∷ f ∷ es)) g → (Contains (placed e es) g → (e ≡ g) ⊎ Contains es g) → (e ≡ g) ⊎ Contains (f ∷ es) g
+    go : (b : Bool) → Contains (cond b (f ∷ placed e es) (e ∷ f ∷ es)) g → (Contains (placed e es) g → (e ≡ g) ⊎ Contains es g)
+        → (e ≡ g) ⊎ Contains (f ∷ es) g
     go false there rest = contains_cases e (f ∷ es) g there
     go true there rest =
         elim (contains_cases f (placed e es) g there) [
@@ -107,7 +111,8 @@ pub by_name_rises : (es : List Named) → AllPairs Differ es → RisesByName (by
 by_name_rises [] differ = pairs_none Before
 by_name_rises (e ∷ es) differ =
     placed_rises e (by_name es)
-    (all_from_contains (Differ e) (by_name es) (λ g there. All-contains (Differ e) es g (pairs_head Differ e es differ) (from_by_name es g there)))
+    (all_from_contains (Differ e) (by_name es) (λ g there. All-contains (Differ e) es g (pairs_head Differ e es differ)
+    (from_by_name es g there)))
     (by_name_rises es (pairs_tail Differ e es differ))
 
 -- There is one such list
@@ -120,7 +125,8 @@ behind_first e g es rises there =
       | inr later ↦ inr (All-contains (Before e) es g (pairs_head Before e es rises) later)
     ]
 
-first_same : (e f : Named) (es fs : List Named) → RisesByName (e ∷ es) → RisesByName (f ∷ fs) → Contains (f ∷ fs) e → Contains (e ∷ es) f → e ≡ f
+first_same : (e f : Named) (es fs : List Named) → RisesByName (e ∷ es) → RisesByName (f ∷ fs) → Contains (f ∷ fs) e
+    → Contains (e ∷ es) f → e ≡ f
 first_same e f es fs up down there back =
     elim (behind_first e f es up back) [
       | inl same ↦ same
@@ -132,7 +138,8 @@ first_same e f es fs up down there back =
     ]
 
 -- what both contain, and isn't the first of both, the rests contain
-later_too : (e f : Named) (es fs : List Named) → e ≡ f → RisesByName (e ∷ es) → ((g : Named) → Contains (e ∷ es) g → Contains (f ∷ fs) g) → (g : Named) → Contains es g → Contains fs g
+later_too : (e f : Named) (es fs : List Named) → e ≡ f → RisesByName (e ∷ es) → ((g : Named) → Contains (e ∷ es) g
+    → Contains (f ∷ fs) g) → (g : Named) → Contains es g → Contains fs g
 later_too e f es fs same rises also g there =
     elim (contains_cases f fs g (also g (contains_later e es g there))) [
       | inl first ↦
@@ -142,7 +149,8 @@ later_too e f es fs same rises also g there =
       | inr later ↦ later
     ]
 
-pub rising_same : (es fs : List Named) → RisesByName es → RisesByName fs → ((g : Named) → Contains es g → Contains fs g) → ((g : Named) → Contains fs g → Contains es g) → es ≡ fs
+pub rising_same : (es fs : List Named) → RisesByName es → RisesByName fs → ((g : Named) → Contains es g → Contains fs g)
+    → ((g : Named) → Contains fs g → Contains es g) → es ≡ fs
 rising_same [] [] up down also back = refl
 rising_same [] (f ∷ fs) up down also back = absurd (contains_none f (back f (contains_here f fs)))
 rising_same (e ∷ es) [] up down also back = absurd (contains_none e (also e (contains_here e es)))
@@ -160,7 +168,8 @@ rising_same (e ∷ es) (f ∷ fs) up down also back =
 pub sorted_by_name : (es fs : List Named) → IsPermutation es fs → NeverFalls fs → AllPairs Differ es → fs ≡ by_name es
 sorted_by_name es fs moved sorted differ =
     let still = differ_moved (λ (e : Named). e.0) es fs moved differ in
-    let rises : RisesByName fs = λ i j d before inside. before_or (get_or fs i d).0 (get_or fs j d).0 (still i j d before inside) (sorted i j d before inside) in
+    let rises : RisesByName fs = λ i j d before inside. before_or (get_or fs i d).0 (get_or fs j d).0 (still i j d before inside)
+    (sorted i j d before inside) in
     rising_same fs (by_name es) rises (by_name_rises es differ)
     (λ g there. contains_by_name es g (Contains-permutation fs es g (IsPermutation-sym es fs moved) there))
     (λ g there. Contains-permutation es fs g moved (from_by_name es g there))
@@ -172,14 +181,20 @@ module _ {T : Type 0} (pair : T → Named) where
   name_cmp s t = slice_cmp nat_cmp (pair s).0 (pair t).0
 
   -- what a sort by the names says, where each call compares two names
-  pub names_sorted : {F : Type 0} {g : Mut F (Bor T × (Bor T × Unit {0})) Ordering} {f : F} (ts : List T) → ((lt : T → T → Bool) → IsStrictWeakOrder lt → ComparesAs g lt f → IsSortedBy lt ts) → ((a : Bor T × (Bor T × Unit {0})) (r : Ordering) (f' : F) → Called g f a r f' → (r ≡ name_cmp a.0.now a.1.0.now) × (f' ≡ f)) → NeverFalls (map pair ts)
+  pub names_sorted : {F : Type 0} {g : Mut F (Bor T × (Bor T × Unit {0})) Ordering} {f : F} (ts : List T)
+      → ((lt : T → T → Bool) → IsStrictWeakOrder lt → ComparesAs g lt f → IsSortedBy lt ts)
+      → ((a : Bor T × (Bor T × Unit {0})) (r : Ordering) (f' : F) → Called g f a r f' → (r ≡ name_cmp a.0.now a.1.0.now) × (f' ≡ f))
+      → NeverFalls (map pair ts)
   names_sorted {g = g} {f = f} ts sorted compares =
       let order = ranks_by nat_list_cmp_total (λ (t : T). (pair t).0) in
-      let up = sorted (λ s t. is_lt (name_cmp s t)) order (always_returns_same g (λ a r. is_lt r ≡ is_lt (name_cmp a.0.now a.1.0.now)) f (λ a r f' k. (ap is_lt (compares a r f' k).0, (compares a r f' k).1))) in
-      pairs_map (λ (e f : Named). is_before f.0 e.0 ≡ false) pair ts (λ i j d before inside. sorted_far (λ s t. is_lt (name_cmp s t)) order ts up i j d (omega arith) inside)
+      let up = sorted (λ s t. is_lt (name_cmp s t)) order (always_returns_same g (λ a r. is_lt r
+      ≡ is_lt (name_cmp a.0.now a.1.0.now)) f (λ a r f' k. (ap is_lt (compares a r f' k).0, (compares a r f' k).1))) in
+      pairs_map (λ (e f : Named). is_before f.0 e.0 ≡ false) pair ts (λ i j d before inside. sorted_far
+      (λ s t. is_lt (name_cmp s t)) order ts up i j d (omega arith) inside)
 
   -- items whose names differ, sorted
-  pub items_sorted : (es : List Named) (ts us : List T) → map pair ts ≡ es → IsPermutation ts us → NeverFalls (map pair us) → AllPairs Differ es → map pair us ≡ by_name es
+  pub items_sorted : (es : List Named) (ts us : List T) → map pair ts ≡ es → IsPermutation ts us → NeverFalls (map pair us)
+      → AllPairs Differ es → map pair us ≡ by_name es
   items_sorted es ts us is moved sorted differ =
       let still : IsPermutation es (map pair us) = subst (λ gs. IsPermutation gs (map pair us)) is (IsPermutation-map pair ts us moved) in
       sorted_by_name es (map pair us) still sorted differ

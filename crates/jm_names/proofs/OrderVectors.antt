@@ -17,5 +17,6 @@ not_before_itself = refl
 above_ascii : is_before (codes "z") (0xC3 ∷ 0xA9 ∷ []) ≡ true
 above_ascii = refl
 
-three_by_name : by_name ((codes "/m/b", codes "2") ∷ (codes "/m/a/b", codes "1") ∷ (codes "/m/a", codes "0") ∷ []) ≡ (codes "/m/a", codes "0") ∷ (codes "/m/a/b", codes "1") ∷ (codes "/m/b", codes "2") ∷ []
+three_by_name : by_name ((codes "/m/b", codes "2") ∷ (codes "/m/a/b", codes "1") ∷ (codes "/m/a", codes "0") ∷ [])
+    ≡ (codes "/m/a", codes "0") ∷ (codes "/m/a/b", codes "1") ∷ (codes "/m/b", codes "2") ∷ []
 three_by_name = refl

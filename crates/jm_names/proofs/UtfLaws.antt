@@ -1,5 +1,6 @@
 -- The two forms of UTF-8 lead to one another.
-use Rattle.std.proofs.Common.{◌≡◌, ℕ, ◌+◌, ◌-◌, ◌/◌, ◌%◌, ◌<◌, ◌≤◌, Bool, true, false, ◌==◌, ◌&&◌, nat_lt, nat_le, List, [], ◌∷◌, ◌++◌, ◌⊎◌, refl, sym, ap, ◌∙◌, inl, inr, arith}
+use Rattle.std.proofs.Common.{◌≡◌, ℕ, ◌+◌, ◌-◌, ◌/◌, ◌%◌, ◌<◌, ◌≤◌, Bool, true, false, ◌==◌, ◌&&◌, nat_lt}
+use Rattle.std.proofs.Common.{nat_le, List, [], ◌∷◌, ◌++◌, ◌⊎◌, refl, sym, ap, ◌∙◌, inl, inr, arith}
 use lib.Utf8.{scalar, scalars, scalar_cases}
 use Rattle.std.specs.Str.{IsUtf8, encode_utf8_all}
 use Rattle.std.specs.Char.{encode_utf8}
@@ -36,16 +37,20 @@ utf-low a x (y ∷ b ∷ z ∷ w ∷ name) h =
     let none : is_pair a x y b z w ≡ false = grind (arith, nat_tests) in rw none
 
 -- the number of a character of four bytes is read back
-four_number-bytes : (c : ℕ) → c < 0x110000 → four_number (0xF0 + c / 0x40000) (0x80 + c / 0x1000 % 64) (0x80 + c / 64 % 64) (0x80 + c % 64) ≡ c
+four_number-bytes : (c : ℕ) → c < 0x110000 → four_number (0xF0 + c / 0x40000) (0x80 + c / 0x1000 % 64) (0x80 + c / 64 % 64)
+    (0x80 + c % 64) ≡ c
 four_number-bytes c h = omega arith
 
-is_four-bytes : (c : ℕ) → 0x10000 ≤ c → c < 0x110000 → is_four (0xF0 + c / 0x40000) (0x80 + c / 0x1000 % 64) (0x80 + c / 64 % 64) (0x80 + c % 64) ≡ true
+is_four-bytes : (c : ℕ) → 0x10000 ≤ c → c < 0x110000 → is_four (0xF0 + c / 0x40000) (0x80 + c / 0x1000 % 64) (0x80 + c / 64 % 64)
+    (0x80 + c % 64) ≡ true
 is_four-bytes c l h = grind (arith, nat_tests)
 
-pair_number-bytes : (u : ℕ) → u < 0x100000 → pair_number (0xA0 + u / 0x10000) (0x80 + u / 0x400 % 64) (0xB0 + u / 64 % 16) (0x80 + u % 64) ≡ 0x10000 + u
+pair_number-bytes : (u : ℕ) → u < 0x100000 → pair_number (0xA0 + u / 0x10000) (0x80 + u / 0x400 % 64) (0xB0 + u / 64 % 16)
+    (0x80 + u % 64) ≡ 0x10000 + u
 pair_number-bytes u h = omega arith
 
-is_pair-bytes : (u : ℕ) → u < 0x100000 → is_pair 0xED (0xA0 + u / 0x10000) (0x80 + u / 0x400 % 64) 0xED (0xB0 + u / 64 % 16) (0x80 + u % 64) ≡ true
+is_pair-bytes : (u : ℕ) → u < 0x100000 → is_pair 0xED (0xA0 + u / 0x10000) (0x80 + u / 0x400 % 64) 0xED (0xB0 + u / 64 % 16)
+    (0x80 + u % 64) ≡ true
 is_pair-bytes u h = grind (arith, nat_tests)
 
 -- the three bytes of a surrogate, in numbers
@@ -101,8 +106,10 @@ stays_two a x rest h k = record {
 
 stays_three : (a x y : ℕ) (rest : List ℕ) → a < 0xF0 → x < 0xC0 → y < 0xC0 → (a ≡ 0xED → x < 0xA0) → Stays (a ∷ x ∷ y ∷ []) rest
 stays_three a x y rest h k l e = record {
-  to_modified = modified-byte a (x ∷ y ∷ rest) h ∙ ap (λ t. a ∷ t) (modified-byte x (y ∷ rest) (omega arith) ∙ ap (λ t. x ∷ t) (modified-byte y rest (omega arith)));
-  to_utf = front ∙ ap (λ t. a ∷ t) (utf-byte x (y ∷ rest) (grind (arith, nat_tests)) ∙ ap (λ t. x ∷ t) (utf-byte y rest (grind (arith, nat_tests))));
+  to_modified = modified-byte a (x ∷ y ∷ rest) h ∙ ap (λ t. a ∷ t) (modified-byte x (y ∷ rest) (omega arith)
+      ∙ ap (λ t. x ∷ t) (modified-byte y rest (omega arith)));
+  to_utf = front ∙ ap (λ t. a ∷ t) (utf-byte x (y ∷ rest) (grind (arith, nat_tests))
+      ∙ ap (λ t. x ∷ t) (utf-byte y rest (grind (arith, nat_tests))));
 }
   where
     front : utf (a ∷ x ∷ y ∷ rest) ≡ a ∷ utf (x ∷ y ∷ rest)
@@ -122,7 +129,8 @@ utf-pair : (c : ℕ) (rest : List ℕ) → 0x10000 ≤ c → c < 0x110000 → ut
 utf-pair c rest l h =
     let below : c - 0x10000 < 0x100000 = omega arith in
     let test = is_pair-bytes (c - 0x10000) below in
-    let same : pair_number (0xA0 + (c - 0x10000) / 0x10000) (0x80 + (c - 0x10000) / 0x400 % 64) (0xB0 + (c - 0x10000) / 64 % 16) (0x80 + (c - 0x10000) % 64) ≡ c = pair_number-bytes (c - 0x10000) below ∙ omega arith in
+    let same : pair_number (0xA0 + (c - 0x10000) / 0x10000) (0x80 + (c - 0x10000) / 0x400 % 64) (0xB0 + (c - 0x10000) / 64 % 16)
+    (0x80 + (c - 0x10000) % 64) ≡ c = pair_number-bytes (c - 0x10000) below ∙ omega arith in
     rw (test, same)
 
 -- a character of UTF-8, by the number of its bytes
@@ -142,18 +150,22 @@ utf-char c rest s = go (nat_lt c 0x80) (nat_lt c 0x800) (nat_lt c 0x10000) refl 
     second : 224 + c / 4096 ≡ 0xED → 128 + c / 64 % 64 < 0xA0
     second e = elim bounds [ inl low ↦ omega arith | inr above ↦ absurd (omega (arith, above.0)) ]
 
-    go : (one two three : Bool) → nat_lt c 0x80 ≡ one → nat_lt c 0x800 ≡ two → nat_lt c 0x10000 ≡ three → utf (modified (encode_utf8 c ++ rest)) ≡ encode_utf8 c ++ utf (modified rest)
+    go : (one two three : Bool) → nat_lt c 0x80 ≡ one → nat_lt c 0x800 ≡ two → nat_lt c 0x10000 ≡ three
+        → utf (modified (encode_utf8 c ++ rest)) ≡ encode_utf8 c ++ utf (modified rest)
     go true two three a b d =
         let e : encode_utf8 c ≡ c ∷ [] = rw a in
         rw e (back (c ∷ []) (stays_one c rest (ltb-true c 0x80 a)) (stays_one c (modified rest) (ltb-true c 0x80 a)))
     go false true three a b d =
         let e : encode_utf8 c ≡ (192 + c / 64) ∷ (128 + c % 64) ∷ [] = rw (a, b) in
         let l = ltb-true c 0x800 b in
-        rw e (back ((192 + c / 64) ∷ (128 + c % 64) ∷ []) (stays_two (192 + c / 64) (128 + c % 64) rest (omega arith) (omega arith)) (stays_two (192 + c / 64) (128 + c % 64) (modified rest) (omega arith) (omega arith)))
+        rw e (back ((192 + c / 64) ∷ (128 + c % 64) ∷ []) (stays_two (192 + c / 64) (128 + c % 64) rest (omega arith) (omega arith))
+        (stays_two (192 + c / 64) (128 + c % 64) (modified rest) (omega arith) (omega arith)))
     go false false true a b d =
         let e : encode_utf8 c ≡ (224 + c / 4096) ∷ (128 + c / 64 % 64) ∷ (128 + c % 64) ∷ [] = rw (a, b, d) in
         let l = ltb-true c 0x10000 d in
-        rw e (back ((224 + c / 4096) ∷ (128 + c / 64 % 64) ∷ (128 + c % 64) ∷ []) (stays_three (224 + c / 4096) (128 + c / 64 % 64) (128 + c % 64) rest (omega arith) (omega arith) (omega arith) second) (stays_three (224 + c / 4096) (128 + c / 64 % 64) (128 + c % 64) (modified rest) (omega arith) (omega arith) (omega arith) second))
+        rw e (back ((224 + c / 4096) ∷ (128 + c / 64 % 64) ∷ (128 + c % 64) ∷ []) (stays_three (224 + c / 4096) (128 + c / 64 % 64)
+        (128 + c % 64) rest (omega arith) (omega arith) (omega arith) second) (stays_three (224 + c / 4096) (128 + c / 64 % 64)
+        (128 + c % 64) (modified rest) (omega arith) (omega arith) (omega arith) second))
     go false false false a b d =
         let e : encode_utf8 c ≡ four_bytes c = rw (a, b, d) in
         let l = ltb-false c 0x10000 d in

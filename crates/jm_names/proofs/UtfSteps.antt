@@ -1,17 +1,21 @@
 -- One step of the reading of a name as UTF-8.
-use Rattle.std.proofs.Common.{◌≡◌, ℕ, ◌-◌, ◌<◌, ◌≤◌, Bool, true, false, List, [], ◌∷◌, ◌++◌, length, take, drop, slice_index_or, refl, ap, ◌∙◌, arith}
+use Rattle.std.proofs.Common.{◌≡◌, ℕ, ◌-◌, ◌<◌, ◌≤◌, Bool, true, false, List, [], ◌∷◌, ◌++◌, length, take}
+use Rattle.std.proofs.Common.{drop, slice_index_or, refl, ap, ◌∙◌, arith}
 use Rattle.std.proofs.Math.Seq.{take-length}
 use Rattle.jm_names.specs.UtfForms.{four_bytes, is_pair, pair_number, utf, FirstStays}
 
 -- whether six bytes in front are a pair, and the number of its character
 abbrev pub pair_in_front : List ℕ → Bool
-pair_in_front bytes = is_pair (slice_index_or bytes 0 0) (slice_index_or bytes 1 0) (slice_index_or bytes 2 0) (slice_index_or bytes 3 0) (slice_index_or bytes 4 0) (slice_index_or bytes 5 0)
+pair_in_front bytes = is_pair (slice_index_or bytes 0 0) (slice_index_or bytes 1 0) (slice_index_or bytes 2 0)
+    (slice_index_or bytes 3 0) (slice_index_or bytes 4 0) (slice_index_or bytes 5 0)
 
 abbrev pub number_in_front : List ℕ → ℕ
-number_in_front bytes = pair_number (slice_index_or bytes 1 0) (slice_index_or bytes 2 0) (slice_index_or bytes 4 0) (slice_index_or bytes 5 0)
+number_in_front bytes = pair_number (slice_index_or bytes 1 0) (slice_index_or bytes 2 0) (slice_index_or bytes 4 0)
+    (slice_index_or bytes 5 0)
 
 -- a pair in front becomes its character
-pub utf_pair : (bytes : List ℕ) (number : ℕ) → 6 ≤ length bytes → pair_in_front bytes ≡ true → number ≡ number_in_front bytes → utf bytes ≡ four_bytes number ++ utf (take (length bytes - 6) (drop 6 bytes))
+pub utf_pair : (bytes : List ℕ) (number : ℕ) → 6 ≤ length bytes → pair_in_front bytes ≡ true → number ≡ number_in_front bytes
+    → utf bytes ≡ four_bytes number ++ utf (take (length bytes - 6) (drop 6 bytes))
 utf_pair (a ∷ x ∷ y ∷ b ∷ z ∷ w ∷ name) number six h e =
     let all : take (length (a ∷ x ∷ y ∷ b ∷ z ∷ w ∷ name) - 6) name ≡ name = ap (λ n. take n name) (omega (arith)) ∙ take-length name in
     rw (all, h, e)

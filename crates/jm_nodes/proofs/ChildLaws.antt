@@ -1,5 +1,7 @@
 -- The children of modules and folders are those of the table.
-use Rattle.std.proofs.Common.{◌≡◌, ℕ, suc, ◌+◌, ◌-◌, ◌<◌, ◌⊎◌, inl, inr, Bool, true, false, cond, not, ◌||◌, List, [], ◌∷◌, ◌++◌, length, map, take, drop, get_or, Contains, refl, sym, ap, ◌∙◌, subst, append_assoc, arith}
+use Rattle.std.proofs.Common.{◌≡◌, ℕ, suc, ◌+◌, ◌-◌, ◌<◌, ◌⊎◌, inl, inr, Bool, true, false, cond, not, ◌||◌}
+use Rattle.std.proofs.Common.{List, [], ◌∷◌, ◌++◌, length, map, take, drop, get_or, Contains, refl, sym, ap}
+use Rattle.std.proofs.Common.{◌∙◌, subst, append_assoc, arith}
 use Rattle.std.specs.Prelude.{codes, filter}
 use Rattle.std.specs.List.{before_last, flat_map, list_any, suffix_len}
 use Rattle.std.specs.Str.{bytes_eq}
@@ -12,7 +14,8 @@ use Rattle.std.proofs.lemmas.List.Folds.{list_any_at}
 use Rattle.std.proofs.lemmas.List.Kept.{AllPairs-filter}
 use Rattle.std.proofs.lemmas.List.Sums.{suffix_len_is}
 use Rattle.std.proofs.lemmas.Slice.Eq.{bytes_eq-Decides}
-use Rattle.jm_bytes.proofs.Members.{any_contains, contains_filter, contains_here, contains_later, contains_map, from_any, from_filter, from_map}
+use Rattle.jm_bytes.proofs.Members.{any_contains, contains_filter, contains_here, contains_later}
+use Rattle.jm_bytes.proofs.Members.{contains_map, from_any, from_filter, from_map}
 use Rattle.jm_bytes.proofs.Pairs.{pairs_among, pairs_map}
 use Rattle.jm_bytes.proofs.SameOrder.{mapped_twice, same_order}
 use Rattle.jm_names.specs.Names.{is_slash}
@@ -42,7 +45,13 @@ last_slash (b ∷ text) some =
       | inl later ↦
           let rest = last_slash text later in
           record { front = b ∷ rest.front; after = rest.after; whole = ap (λ t. b ∷ t) rest.whole; plain = rest.plain }
-      | inr none ↦ record { front = []; after = text; whole = ap (λ x. x ∷ text) (eqb-true b 47 (here (is_slash b) (list_any is_slash text) some none)); plain = none }
+      | inr none ↦ record {
+        front = [];
+        after = text;
+        whole =
+            ap (λ x. x ∷ text) (eqb-true b 47 (here (is_slash b) (list_any is_slash text) some none));
+        plain = none;
+      }
     ]
   where
     here : (a c : Bool) → (a || c) ≡ true → c ≡ false → a ≡ true
@@ -58,7 +67,8 @@ before_last_slash front after plain =
     let read = get_or-append_right front (47 ∷ after) (length front) k 0 refl (omega arith) in
     let place : k - length front ≡ suc (k - length front - 1) = omega arith in
     ap not (ap is_slash (read ∙ ap (λ n. get_or (47 ∷ after) n 0) place) ∙ fails (k - length front - 1) (omega arith)))
-    (λ _. let next : length front + 1 - 1 ≡ length front = omega arith in ap (λ n. not (is_slash (get_or text n 0))) next ∙ ap (λ x. not (is_slash x)) (get_or_at front 47 after 0 (length front) refl))
+    (λ _. let next : length front + 1 - 1 ≡ length front = omega arith in
+    ap (λ n. not (is_slash (get_or text n 0))) next ∙ ap (λ x. not (is_slash x)) (get_or_at front 47 after 0 (length front) refl))
     in
     let at : length text - suffix_len (λ x. not (is_slash x)) text - 1 ≡ length front = omega arith in
     ap (λ n. take n text) at ∙ take_at front (47 ∷ after) (length front) refl
@@ -71,7 +81,8 @@ before_last_slash front after plain =
         ]
 
 -- what is put in front of a text is put in front of what stands before its last slash
-pub before_last_behind : (front text : List ℕ) → list_any is_slash text ≡ true → before_last is_slash (front ++ text) ≡ front ++ before_last is_slash text
+pub before_last_behind : (front text : List ℕ) → list_any is_slash text ≡ true → before_last is_slash (front ++ text)
+    ≡ front ++ before_last is_slash text
 before_last_behind front text some =
     let last = last_slash text some in
     ap (λ t. before_last is_slash (front ++ t)) last.whole
@@ -83,30 +94,36 @@ before_last_behind front text some =
 
 pub map_same : {X Y : Type 0} (f g : X → Y) (xs : List X) → ((x : X) → Contains xs x → f x ≡ g x) → map f xs ≡ map g xs
 map_same f g [] same = refl
-map_same f g (x ∷ xs) same = ap (λ y. y ∷ map f xs) (same x (contains_here x xs)) ∙ ap (λ ys. g x ∷ ys) (map_same f g xs (λ y there. same y (contains_later x xs y there)))
+map_same f g (x ∷ xs) same = ap (λ y. y ∷ map f xs) (same x (contains_here x xs))
+    ∙ ap (λ ys. g x ∷ ys) (map_same f g xs (λ y there. same y (contains_later x xs y there)))
 
 abbrev place : Filing → List ℕ
 place child = codes "/modules" ++ child.name
 
 module _ (names listed risen : List (List ℕ)) (table : List Filing) (cut : (name : List ℕ) → Contains names name → IsCut name)
-    (same_names : SameElements names listed) (same_fronts : SameElements (flat_map fronts names) risen) (files : FilesAll (child_filings listed risen) table) where
+    (same_names : SameElements names listed) (same_fronts : SameElements (flat_map fronts names) risen)
+    (files : FilesAll (child_filings listed risen) table) where
   pub child_cases : (child : Filing) → Contains table child
-      → ((name : List ℕ) × Contains names name × (child_filing false name ≡ child)) ⊎ ((front : List ℕ) × Contains (flat_map fronts names) front × (child_filing true front ≡ child))
+      → ((name : List ℕ) × Contains names name × (child_filing false name ≡ child))
+      ⊎ ((front : List ℕ) × Contains (flat_map fronts names) front × (child_filing true front ≡ child))
   child_cases child there =
       elim (Contains-append_cases (map (child_filing false) listed) (map (child_filing true) risen) child (files.same.only child there)) [
-        | inl resource ↦ let from = from_map (child_filing false) listed child resource in inl (from.0, same_names.only from.0 from.1, from.2)
+        | inl resource ↦
+            let from = from_map (child_filing false) listed child resource in inl (from.0, same_names.only from.0 from.1, from.2)
         | inr folder ↦ let from = from_map (child_filing true) risen child folder in inr (from.0, same_fronts.only from.0 from.1, from.2)
       ]
 
   pub resource_filed : (name : List ℕ) → Contains names name → Contains table (child_filing false name)
   resource_filed name there =
       files.same.has (child_filing false name)
-      (Contains-append_left (map (child_filing false) listed) (map (child_filing true) risen) (child_filing false name) (contains_map (child_filing false) listed name (same_names.has name there)))
+      (Contains-append_left (map (child_filing false) listed) (map (child_filing true) risen) (child_filing false name)
+      (contains_map (child_filing false) listed name (same_names.has name there)))
 
   pub folder_filed : (front : List ℕ) → Contains (flat_map fronts names) front → Contains table (child_filing true front)
   folder_filed front there =
       files.same.has (child_filing true front)
-      (Contains-append_right (map (child_filing false) listed) (map (child_filing true) risen) (child_filing true front) (contains_map (child_filing true) risen front (same_fronts.has front there)))
+      (Contains-append_right (map (child_filing false) listed) (map (child_filing true) risen) (child_filing true front)
+      (contains_map (child_filing true) risen front (same_fronts.has front there)))
 
   -- all begin with a slash
   name_slash : (name : List ℕ) → Contains names name → list_any is_slash name ≡ true
@@ -119,14 +136,18 @@ module _ (names listed risen : List (List ℕ)) (table : List Filing) (cut : (na
         | inr of_folder ↦ ap (list_any is_slash) of_folder.2
       ]
 
-  child_slash : (child : Filing) → Contains table child → (list_any is_slash child.name ≡ true) × (child.under ≡ before_last is_slash child.name)
+  child_slash : (child : Filing) → Contains table child → (list_any is_slash child.name ≡ true)
+      × (child.under ≡ before_last is_slash child.name)
   child_slash child there =
       elim (child_cases child there) [
-        | inl resource ↦ subst (λ (c : Filing). (list_any is_slash c.name ≡ true) × (c.under ≡ before_last is_slash c.name)) resource.2 (name_slash resource.0 resource.1, refl)
-        | inr folder ↦ subst (λ (c : Filing). (list_any is_slash c.name ≡ true) × (c.under ≡ before_last is_slash c.name)) folder.2 (front_slash folder.0 folder.1, refl)
+        | inl resource ↦ subst (λ (c : Filing). (list_any is_slash c.name ≡ true) × (c.under ≡ before_last is_slash c.name))
+            resource.2 (name_slash resource.0 resource.1, refl)
+        | inr folder ↦ subst (λ (c : Filing). (list_any is_slash c.name ≡ true) × (c.under ≡ before_last is_slash c.name)) folder.2
+            (front_slash folder.0 folder.1, refl)
       ]
 
-  child_at : (front name : List ℕ) → list_any is_slash name ≡ true → is_child (codes "/modules" ++ front) (codes "/modules" ++ name) ≡ bytes_eq front (before_last is_slash name)
+  child_at : (front name : List ℕ) → list_any is_slash name ≡ true → is_child (codes "/modules" ++ front) (codes "/modules" ++ name)
+      ≡ bytes_eq front (before_last is_slash name)
   child_at front name some = ap (bytes_eq (codes "/modules" ++ front)) (before_last_behind (codes "/modules") name some)
 
   place_there : (child : Filing) → Contains table child → Contains (tree_places names) (place child)
@@ -135,17 +156,21 @@ module _ (names listed risen : List (List ℕ)) (table : List Filing) (cut : (na
       (elim (child_cases child there) [
         | inl resource ↦
             subst (λ (c : Filing). Contains (inner_nodes names ++ map tree_place names) (place c)) resource.2
-            (Contains-append_right (inner_nodes names) (map tree_place names) (tree_place resource.0) (contains_map tree_place names resource.0 resource.1))
+            (Contains-append_right (inner_nodes names) (map tree_place names) (tree_place resource.0) (contains_map tree_place names
+            resource.0 resource.1))
         | inr folder ↦
             subst (λ (c : Filing). Contains (inner_nodes names ++ map tree_place names) (place c)) folder.2
-            (Contains-append_left (inner_nodes names) (map tree_place names) (codes "/modules" ++ folder.0) (inner_there names cut folder.0 folder.1))
+            (Contains-append_left (inner_nodes names) (map tree_place names) (codes "/modules" ++ folder.0)
+            (inner_there names cut folder.0 folder.1))
       ])
 
   place_from : (x : List ℕ) → Contains (tree_places names) x → (child : Filing) × Contains table child × (place child ≡ x)
   place_from x there =
-      elim (Contains-append_cases (inner_nodes names) (map tree_place names) x (from_rising (inner_nodes names ++ map tree_place names) x there)) [
+      elim (Contains-append_cases (inner_nodes names) (map tree_place names) x
+      (from_rising (inner_nodes names ++ map tree_place names) x there)) [
         | inl inner ↦ let from = inner_from names cut x inner in (child_filing true from.0, folder_filed from.0 from.1, from.2)
-        | inr resource ↦ let from = from_map tree_place names x resource in (child_filing false from.0, resource_filed from.0 from.1, from.2)
+        | inr resource ↦
+            let from = from_map tree_place names x resource in (child_filing false from.0, resource_filed from.0 from.1, from.2)
       ]
 
   module _ (apart : (name : List ℕ) → Contains names name → Contains (flat_map fronts names) name → ⊥) (front : List ℕ) where
@@ -158,12 +183,14 @@ module _ (names listed risen : List (List ℕ)) (table : List Filing) (cut : (na
               elim (child_cases b in_b) [
                 | inl other ↦ false≢true (ap (λ (f : Filing). f.mark) other.2 ∙ mark)
                 | inr folder ↦
-                    let one : resource.0 ≡ folder.0 = ap (λ (f : Filing). f.name) resource.2 ∙ same ∙ sym (ap (λ (f : Filing). f.name) folder.2) in
+                    let one : resource.0 ≡ folder.0 = ap (λ (f : Filing). f.name) resource.2 ∙ same
+                    ∙ sym (ap (λ (f : Filing). f.name) folder.2) in
                     apart resource.0 resource.1 (subst (Contains (flat_map fronts names)) (sym one) folder.1)
               ]
         ]
 
-    rises : (a b : Filing) → Contains (filed_under front table) a → Contains (filed_under front table) b → filing_cmp a b ≡ Less → Before (place a) (place b)
+    rises : (a b : Filing) → Contains (filed_under front table) a → Contains (filed_under front table) b → filing_cmp a b ≡ Less
+        → Before (place a) (place b)
     rises a b in_a in_b less =
         let left = filed_from front table a in_a in
         let right = filed_from front table b in_b in
@@ -174,11 +201,13 @@ module _ (names listed risen : List (List ℕ)) (table : List Filing) (cut : (na
 
     places : map place (filed_under front table) ≡ filter (is_child (codes "/modules" ++ front)) (tree_places names)
     places =
-        same_order Before (strict nat_list_cmp_total) (map place (filed_under front table)) (filter (is_child (codes "/modules" ++ front)) (tree_places names))
+        same_order Before (strict nat_list_cmp_total) (map place (filed_under front table))
+        (filter (is_child (codes "/modules" ++ front)) (tree_places names))
         (pairs_map Before place (filed_under front table)
         (pairs_among (λ a b. filing_cmp a b ≡ Less) (λ a b. Before (place a) (place b)) (filed_under front table) rises
         (AllPairs-filter (λ a b. filing_cmp a b ≡ Less) (λ (f : Filing). bytes_eq f.under front) table files.ordered)))
-        (AllPairs-filter Before (is_child (codes "/modules" ++ front)) (tree_places names) (rising_rises (inner_nodes names ++ map tree_place names)))
+        (AllPairs-filter Before (is_child (codes "/modules" ++ front)) (tree_places names)
+        (rising_rises (inner_nodes names ++ map tree_place names)))
         (λ x there.
         let from = from_map place (filed_under front table) x there in
         let under = filed_from front table from.0 from.1 in
@@ -190,7 +219,8 @@ module _ (names listed risen : List (List ℕ)) (table : List Filing) (cut : (na
         let passed = from_filter (is_child (codes "/modules" ++ front)) (tree_places names) x there in
         let from = place_from x passed.0 in
         let slash = child_slash from.0 from.1 in
-        let test : bytes_eq front (before_last is_slash from.0.name) ≡ true = sym (child_at front from.0.name slash.0) ∙ ap (is_child (codes "/modules" ++ front)) from.2 ∙ passed.1 in
+        let test : bytes_eq front (before_last is_slash from.0.name) ≡ true = sym (child_at front from.0.name slash.0)
+        ∙ ap (is_child (codes "/modules" ++ front)) from.2 ∙ passed.1 in
         let is : front ≡ from.0.under = (bytes_eq-Decides front (before_last is_slash from.0.name)).0 test ∙ sym slash.1 in
         subst (Contains (map place (filed_under front table))) from.2
         (contains_map place (filed_under front table) from.0
@@ -207,23 +237,27 @@ module _ (names listed risen : List (List ℕ)) (table : List Filing) (cut : (na
               ap (λ b. cond b (place child) child.name) (sym (ap (λ (f : Filing). f.mark) resource.2))
               ∙ ap (λ b. cond b (drop 8 (place child)) (place child)) (sym known)
           | inr folder ↦
-              let none : list_any (λ name. bytes_eq (place child) (tree_place name)) names ≡ false = no_resource child folder.0 folder.1 folder.2 in
+              let none : list_any (λ name. bytes_eq (place child) (tree_place name)) names ≡ false = no_resource child folder.0
+              folder.1 folder.2 in
               ap (λ b. cond b (place child) child.name) (sym (ap (λ (f : Filing). f.mark) folder.2))
               ∙ ap (λ b. cond b (drop 8 (place child)) (place child)) (sym none)
         ]
       where
-        no_resource : (child : Filing) (inner : List ℕ) → Contains (flat_map fronts names) inner → child_filing true inner ≡ child → list_any (λ name. bytes_eq (place child) (tree_place name)) names ≡ false
+        no_resource : (child : Filing) (inner : List ℕ) → Contains (flat_map fronts names) inner → child_filing true inner ≡ child
+            → list_any (λ name. bytes_eq (place child) (tree_place name)) names ≡ false
         no_resource child inner there is =
             elim (cases_Bool (list_any (λ name. bytes_eq (place child) (tree_place name)) names)) [
               | inl some ↦
                   let name = from_any (λ name. bytes_eq (place child) (tree_place name)) names some in
-                  let same : inner ≡ name.0 = ap (λ (f : Filing). f.name) is ∙ ap (drop 8) ((bytes_eq-Decides (place child) (tree_place name.0)).0 name.2) in
+                  let same : inner ≡ name.0 = ap (λ (f : Filing). f.name) is
+                  ∙ ap (drop 8) ((bytes_eq-Decides (place child) (tree_place name.0)).0 name.2) in
                   absurd (apart name.0 name.1 (subst (Contains (flat_map fronts names)) same there))
               | inr none ↦ none
             ]
 
     pub children_same : children_of table front ≡ children names (codes "/modules" ++ front)
     children_same =
-        map_same entry_of (λ child. entry_name names (place child)) (filed_under front table) (λ child there. entry child (filed_from front table child there).0)
+        map_same entry_of (λ child. entry_name names (place child)) (filed_under front table) (λ child there. entry child
+        (filed_from front table child there).0)
         ∙ sym (mapped_twice (entry_name names) place (filed_under front table))
         ∙ ap (map (entry_name names)) places

@@ -1,5 +1,6 @@
 -- The least name that is also that of another's folder is the first that is a front.
-use Rattle.std.proofs.Common.{◌≡◌, ℕ, inl, inr, Bool, true, cond, List, [], ◌∷◌, ◌++◌, drop, Some, None, Contains, refl, sym, ap, ◌∙◌, subst, slice_get}
+use Rattle.std.proofs.Common.{◌≡◌, ℕ, inl, inr, Bool, true, cond, List, [], ◌∷◌, ◌++◌, drop, Some, None}
+use Rattle.std.proofs.Common.{Contains, refl, sym, ap, ◌∙◌, subst, slice_get}
 use Rattle.std.specs.Prelude.{filter}
 use Rattle.std.specs.Cmp.{both_ways}
 use Rattle.std.specs.List.{find, flat_map, list_any}
@@ -31,14 +32,16 @@ filter_rising p texts =
     (λ x there. let from = from_filter p texts x there in contains_filter p (rising texts) x (contains_rising texts x from.0) from.1)
     (λ x there. let from = from_filter p (rising texts) x there in contains_filter p texts x (from_rising texts x from.0) from.1)
 
-module _ (names risen : List (List ℕ)) (cut : (name : List ℕ) → Contains names name → IsCut name) (same_fronts : SameElements (flat_map fronts names) risen) where
+module _ (names risen : List (List ℕ)) (cut : (name : List ℕ) → Contains names name → IsCut name) (same_fronts : SameElements
+    (flat_map fronts names) risen) where
   front_from : (name : List ℕ) → is_among name risen ≡ true → Contains (flat_map fronts names) name
   front_from name some =
       let one = from_any (λ front. bytes_eq front name) risen some in
       same_fronts.only name (subst (Contains risen) ((bytes_eq-Decides one.0 name).0 one.2) one.1)
 
   front_to : (name : List ℕ) → Contains (flat_map fronts names) name → is_among name risen ≡ true
-  front_to name there = any_contains (λ front. bytes_eq front name) risen name (same_fronts.has name there) ((bytes_eq-Decides name name).1 refl)
+  front_to name there = any_contains (λ front. bytes_eq front name) risen name (same_fronts.has name there)
+      ((bytes_eq-Decides name name).1 refl)
 
   -- a name that is a front is that of a folder
   is_folder_same : (name : List ℕ) → Contains names name → is_among name risen ≡ is_folder names name
@@ -49,20 +52,26 @@ module _ (names risen : List (List ℕ)) (cut : (name : List ℕ) → Contains n
         | inl of_module ↦
             let one = cut name there in
             let same : 47 ∷ module_of name ++ 47 ∷ path_of name ≡ 47 ∷ module_of of_module.0 = sym one.whole ∙ of_module.2 in
-            absurd (false≢true (sym (cut of_module.0 of_module.1).plain ∙ ap (λ t. list_any is_slash (drop 1 t)) (sym same) ∙ any_behind (module_of name) (path_of name)))
-        | inr of_folder ↦ any_contains (λ folder. bytes_eq name (folder_name folder)) (folders names) of_folder.0 of_folder.1 ((bytes_eq-Decides name (folder_name of_folder.0)).1 of_folder.2)
+            absurd (false≢true (sym (cut of_module.0 of_module.1).plain ∙ ap (λ t. list_any is_slash (drop 1 t)) (sym same)
+            ∙ any_behind (module_of name) (path_of name)))
+        | inr of_folder ↦ any_contains (λ folder. bytes_eq name (folder_name folder)) (folders names) of_folder.0 of_folder.1
+            ((bytes_eq-Decides name (folder_name of_folder.0)).1 of_folder.2)
       ])
       (λ some.
       let one = from_any (λ folder. bytes_eq name (folder_name folder)) (folders names) some in
-      front_to name (subst (Contains (flat_map fronts names)) (sym ((bytes_eq-Decides name (folder_name one.0)).0 one.2)) (front_there_of names cut one.0 one.1)))
+      front_to name (subst (Contains (flat_map fronts names)) (sym ((bytes_eq-Decides name (folder_name one.0)).0 one.2))
+      (front_there_of names cut one.0 one.1)))
 
   pub clash_found : find (λ name. is_among name risen) (rising names) ≡ first_clash names
   clash_found =
-      find_same (λ name. is_among name risen) (is_folder names) (rising names) (λ name there. is_folder_same name (from_rising names name there))
+      find_same (λ name. is_among name risen) (is_folder names) (rising names) (λ name there. is_folder_same name
+      (from_rising names name there))
       ∙ sym (first_found (is_folder names) (rising names))
       ∙ ap (λ texts. slice_get texts 0) (filter_rising (is_folder names) names)
 
   -- where no name is found, none is a front
-  pub apart_from : find (λ name. is_among name risen) (rising names) ≡ None → (name : List ℕ) → Contains names name → Contains (flat_map fronts names) name → ⊥
+  pub apart_from : find (λ name. is_among name risen) (rising names) ≡ None → (name : List ℕ) → Contains names name
+      → Contains (flat_map fronts names) name → ⊥
   apart_from none name there front =
-      false≢true (sym (find_nowhere (λ name. is_among name risen) (rising names) none name (contains_rising names name there)) ∙ front_to name front)
+      false≢true (sym (find_nowhere (λ name. is_among name risen) (rising names) none name (contains_rising names name there))
+      ∙ front_to name front)

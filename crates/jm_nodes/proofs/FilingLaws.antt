@@ -1,5 +1,6 @@
 -- What is filed, as code holds it and as plain data.
-use Rattle.std.proofs.Common.{◌≡◌, ℕ, ◌+◌, ◌<◌, ◌≤◌, ◌⊎◌, inl, inr, Bool, true, false, ◌&&◌, List, length, map, take, drop, get_or, Contains, refl, sym, ap, ◌∙◌, subst, arith}
+use Rattle.std.proofs.Common.{◌≡◌, ℕ, ◌+◌, ◌<◌, ◌≤◌, ◌⊎◌, inl, inr, Bool, true, false, ◌&&◌, List, length}
+use Rattle.std.proofs.Common.{map, take, drop, get_or, Contains, refl, sym, ap, ◌∙◌, subst, arith}
 use Rattle.std.proofs.lemmas.Bool.{cases_lt, false≢true}
 use Rattle.std.proofs.lemmas.List.{get_or-drop, get_or-map, length-drop, length-map}
 use Rattle.std.proofs.lemmas.Map.Lookups.{exact_bytes}
@@ -39,7 +40,8 @@ both_equal Greater b e = absurd (false≢true (ap is_eq e))
 
 pub filing_exact : (a b : Filing) → filing_cmp a b ≡ Equal → a ≡ b
 filing_exact a b e =
-    let outer = both_equal (slice_cmp nat_cmp a.under b.under) (ordering_then (slice_cmp nat_cmp a.name b.name) (bool_cmp a.mark b.mark)) e in
+    let outer = both_equal (slice_cmp nat_cmp a.under b.under) (ordering_then (slice_cmp nat_cmp a.name b.name)
+    (bool_cmp a.mark b.mark)) e in
     let inner = both_equal (slice_cmp nat_cmp a.name b.name) (bool_cmp a.mark b.mark) outer.1 in
     λ i. record {
       under = exact_bytes a.under b.under outer.0 i;
@@ -53,10 +55,13 @@ bool_ties false false = refl
 bool_ties true false = refl
 bool_ties false true = refl
 
-pub filed_ties : (x y : Filed) → (bytes_eq x.under.now y.under.now && (bytes_eq x.name.now y.name.now && beq x.mark y.mark)) ≡ eq_by_cmp (on filing_of filing_cmp) x y
+pub filed_ties : (x y : Filed) → (bytes_eq x.under.now y.under.now && (bytes_eq x.name.now y.name.now && beq x.mark y.mark))
+    ≡ eq_by_cmp (on filing_of filing_cmp) x y
 filed_ties x y =
-    both_tied _ _ (slice_cmp nat_cmp x.under.now y.under.now) (ordering_then (slice_cmp nat_cmp x.name.now y.name.now) (bool_cmp x.mark y.mark)) (texts_ties x.under.now y.under.now)
-    (both_tied _ _ (slice_cmp nat_cmp x.name.now y.name.now) (bool_cmp x.mark y.mark) (texts_ties x.name.now y.name.now) (bool_ties x.mark y.mark))
+    both_tied _ _ (slice_cmp nat_cmp x.under.now y.under.now) (ordering_then (slice_cmp nat_cmp x.name.now y.name.now)
+    (bool_cmp x.mark y.mark)) (texts_ties x.under.now y.under.now)
+    (both_tied _ _ (slice_cmp nat_cmp x.name.now y.name.now) (bool_cmp x.mark y.mark) (texts_ties x.name.now y.name.now)
+    (bool_ties x.mark y.mark))
 
 -- What is filed under a text stands together
 
@@ -71,7 +76,8 @@ not_greater Equal b e = refl
 not_greater Greater b e = absurd (false≢true (ap is_lt e))
 
 -- what isn't above a lesser text is lesser
-lesser_before : (a b text : List ℕ) → is_gt (slice_cmp nat_cmp a b) ≡ false → is_lt (slice_cmp nat_cmp b text) ≡ true → is_lt (slice_cmp nat_cmp a text) ≡ true
+lesser_before : (a b text : List ℕ) → is_gt (slice_cmp nat_cmp a b) ≡ false → is_lt (slice_cmp nat_cmp b text) ≡ true
+    → is_lt (slice_cmp nat_cmp a text) ≡ true
 lesser_before a b text up less = go (slice_cmp nat_cmp a b) refl
   where
     go : (c : Ordering) → slice_cmp nat_cmp a b ≡ c → is_lt (slice_cmp nat_cmp a text) ≡ true
@@ -80,7 +86,8 @@ lesser_before a b text up less = go (slice_cmp nat_cmp a b) refl
     go Greater e = absurd (false≢true (sym up ∙ ap is_gt e))
 
 -- between the text and itself there is only the text
-same_before : (a b text : List ℕ) → is_gt (slice_cmp nat_cmp a b) ≡ false → is_lt (slice_cmp nat_cmp a text) ≡ false → bytes_eq b text ≡ true → bytes_eq a text ≡ true
+same_before : (a b text : List ℕ) → is_gt (slice_cmp nat_cmp a b) ≡ false → is_lt (slice_cmp nat_cmp a text) ≡ false
+    → bytes_eq b text ≡ true → bytes_eq a text ≡ true
 same_before a b text up least same = go (slice_cmp nat_cmp a b) refl
   where
     is : b ≡ text
@@ -92,12 +99,14 @@ same_before a b text up least same = go (slice_cmp nat_cmp a b) refl
     go Greater e = absurd (false≢true (sym up ∙ ap is_gt e))
 
 module _ (table : List Filed) (text : List ℕ) (up : IsFiledInOrder (map filing_of table)) where
-  flat : (i j : ℕ) (d : Filed) → i < j → j < length table → is_gt (slice_cmp nat_cmp (get_or table i d).under.now (get_or table j d).under.now) ≡ false
+  flat : (i j : ℕ) (d : Filed) → i < j → j < length table
+      → is_gt (slice_cmp nat_cmp (get_or table i d).under.now (get_or table j d).under.now) ≡ false
   flat i j d before below =
       let a = get_or table i d in
       let b = get_or table j d in
       let less = up i j (filing_of d) before (omega (arith, length-map table filing_of)) in
-      not_greater (slice_cmp nat_cmp a.under.now b.under.now) (ordering_then (slice_cmp nat_cmp a.name.now b.name.now) (bool_cmp a.mark b.mark))
+      not_greater (slice_cmp nat_cmp a.under.now b.under.now) (ordering_then (slice_cmp nat_cmp a.name.now b.name.now)
+      (bool_cmp a.mark b.mark))
       (rw (get_or-map filing_of table i d (filing_of d) (omega arith), get_or-map filing_of table j d (filing_of d) below) at less)
 
   pub lesser_parted : IsPartitionedBy (λ (f : Filed). is_lt (slice_cmp nat_cmp f.under.now text)) table
@@ -107,7 +116,8 @@ module _ (table : List Filed) (text : List ℕ) (up : IsFiledInOrder (map filing
         | inr not_before ↦ let same : i ≡ j = omega arith in rw same less
       ]
 
-  pub same_parted : (at : ℕ) → at ≤ length table → AllWithin (λ (f : Filed). is_lt (slice_cmp nat_cmp f.under.now text) ≡ false) table at (length table)
+  pub same_parted : (at : ℕ) → at ≤ length table → AllWithin (λ (f : Filed). is_lt (slice_cmp nat_cmp f.under.now text) ≡ false)
+      table at (length table)
       → IsPartitionedBy (λ (f : Filed). bytes_eq f.under.now text) (drop at table)
   same_parted at within least i j d le below same =
       let long = length-drop at table in
@@ -123,8 +133,10 @@ module _ (table : List Filed) (text : List ℕ) (up : IsFiledInOrder (map filing
       ]
 
   pub cut_out : (at len : ℕ) → at ≤ length table
-      → IsPartitionPoint (λ (f : Filed). is_lt (slice_cmp nat_cmp f.under.now text) ≡ true) (λ (f : Filed). is_lt (slice_cmp nat_cmp f.under.now text) ≡ false) table at
-      → len ≤ length (drop at table) → IsPartitionPoint (λ (f : Filed). bytes_eq f.under.now text ≡ true) (λ (f : Filed). bytes_eq f.under.now text ≡ false) (drop at table) len
+      → IsPartitionPoint (λ (f : Filed). is_lt (slice_cmp nat_cmp f.under.now text) ≡ true)
+      (λ (f : Filed). is_lt (slice_cmp nat_cmp f.under.now text) ≡ false) table at
+      → len ≤ length (drop at table) → IsPartitionPoint (λ (f : Filed). bytes_eq f.under.now text ≡ true)
+      (λ (f : Filed). bytes_eq f.under.now text ≡ false) (drop at table) len
       → map filing_of (take len (drop at table)) ≡ filed_under text (map filing_of table)
   cut_out at len within first inside second =
       let test : Filed → Bool = λ f. bytes_eq f.under.now text in
@@ -143,16 +155,20 @@ module _ (table : List Filed) (text : List ℕ) (up : IsFiledInOrder (map filing
 
 -- Members
 
-pub filed_from : (front : List ℕ) (filings : List Filing) (filing : Filing) → Contains (filed_under front filings) filing → Contains filings filing × (filing.under ≡ front)
+pub filed_from : (front : List ℕ) (filings : List Filing) (filing : Filing) → Contains (filed_under front filings) filing
+    → Contains filings filing × (filing.under ≡ front)
 filed_from front filings filing there =
     let from = from_filter (λ (f : Filing). bytes_eq f.under front) filings filing there in
     (from.0, (bytes_eq-Decides filing.under front).0 from.1)
 
-pub filed_there : (front : List ℕ) (filings : List Filing) (filing : Filing) → Contains filings filing → filing.under ≡ front → Contains (filed_under front filings) filing
-filed_there front filings filing there is = contains_filter (λ (f : Filing). bytes_eq f.under front) filings filing there ((bytes_eq-Decides filing.under front).1 is)
+pub filed_there : (front : List ℕ) (filings : List Filing) (filing : Filing) → Contains filings filing → filing.under ≡ front
+    → Contains (filed_under front filings) filing
+filed_there front filings filing there is = contains_filter (λ (f : Filing). bytes_eq f.under front) filings filing there
+    ((bytes_eq-Decides filing.under front).1 is)
 
 pub is_filed_there : (filing : Filing) (filings : List Filing) → Contains filings filing → is_filed filing filings ≡ true
-is_filed_there filing filings there = any_contains (λ other. is_eq (filing_cmp other filing)) filings filing there (ap is_eq (tied_itself filing_total filing))
+is_filed_there filing filings there = any_contains (λ other. is_eq (filing_cmp other filing)) filings filing there
+    (ap is_eq (tied_itself filing_total filing))
 
 pub is_filed_from : (filing : Filing) (filings : List Filing) → is_filed filing filings ≡ true → Contains filings filing
 is_filed_from filing filings some =
@@ -160,7 +176,8 @@ is_filed_from filing filings some =
     subst (Contains filings) (filing_exact one.0 filing ((Equal-is (filing_cmp one.0 filing)).0 one.2)) one.1
 
 -- of two that are filed under one text the first has the lesser name, or the same one without the mark
-pub filed_before : (a b : Filing) → a.under ≡ b.under → filing_cmp a b ≡ Less → (slice_cmp nat_cmp a.name b.name ≡ Less) ⊎ ((a.name ≡ b.name) × (a.mark ≡ false) × (b.mark ≡ true))
+pub filed_before : (a b : Filing) → a.under ≡ b.under → filing_cmp a b ≡ Less → (slice_cmp nat_cmp a.name b.name ≡ Less)
+    ⊎ ((a.name ≡ b.name) × (a.mark ≡ false) × (b.mark ≡ true))
 filed_before a b same less = go (slice_cmp nat_cmp a.name b.name) refl
   where
     level : slice_cmp nat_cmp a.under b.under ≡ Equal
@@ -175,7 +192,8 @@ filed_before a b same less = go (slice_cmp nat_cmp a.name b.name) refl
     marked true false e = absurd (false≢true (ap is_lt e))
     marked true true e = absurd (false≢true (ap is_lt e))
 
-    go : (o : Ordering) → slice_cmp nat_cmp a.name b.name ≡ o → (slice_cmp nat_cmp a.name b.name ≡ Less) ⊎ ((a.name ≡ b.name) × (a.mark ≡ false) × (b.mark ≡ true))
+    go : (o : Ordering) → slice_cmp nat_cmp a.name b.name ≡ o → (slice_cmp nat_cmp a.name b.name ≡ Less)
+        ⊎ ((a.name ≡ b.name) × (a.mark ≡ false) × (b.mark ≡ true))
     go Less e = inl e
     go Equal e =
         let by_mark = marked a.mark b.mark (ap (λ o. ordering_then o (bool_cmp a.mark b.mark)) (sym e) ∙ behind) in

@@ -1,5 +1,6 @@
 -- Modules and folders as fronts of sound names, and the folders that are packages.
-use Rattle.std.proofs.Common.{◌≡◌, ℕ, ◌⊎◌, inl, inr, Bool, true, false, cond, not, ◌&&◌, List, ◌∷◌, ◌++◌, map, drop, Some, None, Contains, refl, sym, ap, ◌∙◌, subst}
+use Rattle.std.proofs.Common.{◌≡◌, ℕ, ◌⊎◌, inl, inr, Bool, true, false, cond, not, ◌&&◌, List, ◌∷◌, ◌++◌, map}
+use Rattle.std.proofs.Common.{drop, Some, None, Contains, refl, sym, ap, ◌∙◌, subst}
 use Rattle.std.specs.Prelude.{codes}
 use Rattle.std.specs.List.{flat_map, list_any}
 use Rattle.std.proofs.lemmas.Bool.{false≢true}
@@ -9,7 +10,9 @@ use Rattle.jm_bytes.proofs.Members.{contains_filter, contains_filter_map, contai
 use Rattle.jm_bytes.proofs.SameOrder.{contains_flat_map, from_flat_map}
 use Rattle.jm_names.specs.Names.{is_slash}
 use Rattle.jm_form.specs.Rising.{rising}
-use Rattle.jm_form.specs.Trees.{folder_name, folder_node, folders, folders_of, fronts, inner_nodes, is_meta, module_node, module_of, modules, package_folders, package_of, packages, path_of, ModuleFolder}
+use Rattle.jm_form.specs.Trees.{folder_name, folder_node, folders, folders_of, fronts, inner_nodes, is_meta}
+use Rattle.jm_form.specs.Trees.{module_node, module_of, modules, package_folders, package_of, packages}
+use Rattle.jm_form.specs.Trees.{path_of, ModuleFolder}
 use Rattle.jm_nodes.specs.FrontTrees.{called_all, folders_among, package_folder, Folder}
 use Rattle.jm_nodes.specs.Order.{SameElements}
 use Rattle.jm_form.proofs.RisingLaws.{contains_rising, from_rising, rising_same}
@@ -41,7 +44,8 @@ from_folders names folder there =
       front = subst (Contains (fronts (path_of one.0))) (ap (λ (f : ModuleFolder). f.path) front.2) front.1;
     }
 
-pub folder_there : (names : Texts) (name inner : List ℕ) → Contains names name → Contains (fronts (path_of name)) inner → Contains (folders names) (record { «module» = module_of name; path = inner })
+pub folder_there : (names : Texts) (name inner : List ℕ) → Contains names name → Contains (fronts (path_of name)) inner
+    → Contains (folders names) (record { «module» = module_of name; path = inner })
 folder_there names name inner there front =
     let made : List ℕ → ModuleFolder = λ text. record { «module» = module_of name; path = text } in
     contains_flat_map folders_of names name (made inner) there (contains_map made (fronts (path_of name)) inner front)
@@ -67,18 +71,25 @@ module _ (names : Texts) (cut : (name : List ℕ) → Contains names name → Is
 
   -- a front is that of a module or of a folder
   pub front_of : (front : List ℕ) → Contains (flat_map fronts names) front
-      → ((name : List ℕ) × Contains names name × (front ≡ 47 ∷ module_of name)) ⊎ ((folder : ModuleFolder) × Contains (folders names) folder × (front ≡ folder_name folder))
+      → ((name : List ℕ) × Contains names name × (front ≡ 47 ∷ module_of name)) ⊎ ((folder : ModuleFolder)
+      × Contains (folders names) folder × (front ≡ folder_name folder))
   front_of front there =
       let from = from_flat_map fronts names front there in
       let whole = (cut from.0 from.1).whole in
-      elim (front_cases (module_of from.0) (path_of from.0) front (cut from.0 from.1).plain (cut from.0 from.1).begins (subst (λ n. Contains (fronts n) front) whole from.2)) [
+      elim (front_cases (module_of from.0) (path_of from.0) front (cut from.0 from.1).plain (cut from.0 from.1).begins
+      (subst (λ n. Contains (fronts n) front) whole from.2)) [
         | inl is ↦ inl (from.0, from.1, is)
-        | inr inner ↦ inr (record { «module» = module_of from.0; path = inner.0 }, folder_there names from.0 inner.0 from.1 inner.1, inner.2)
+        | inr inner ↦ inr (
+          record { «module» = module_of from.0; path = inner.0 },
+          folder_there names from.0 inner.0 from.1 inner.1,
+          inner.2,
+        )
       ]
 
   -- The nodes of modules and folders
 
-  pub inner_from : (x : List ℕ) → Contains (inner_nodes names) x → (front : List ℕ) × Contains (flat_map fronts names) front × (codes "/modules" ++ front ≡ x)
+  pub inner_from : (x : List ℕ) → Contains (inner_nodes names) x → (front : List ℕ) × Contains (flat_map fronts names) front
+      × (codes "/modules" ++ front ≡ x)
   inner_from x there =
       elim (Contains-append_cases (map module_node (modules names)) (map folder_node (folders names)) x there) [
         | inl of_module ↦
@@ -96,7 +107,8 @@ module _ (names : Texts) (cut : (name : List ℕ) → Contains names name → Is
         | inl of_module ↦
             subst (λ f. Contains (inner_nodes names) (codes "/modules" ++ f)) (sym of_module.2)
             (Contains-append_left (map module_node (modules names)) (map folder_node (folders names)) (module_node (module_of of_module.0))
-            (contains_map module_node (modules names) (module_of of_module.0) (contains_rising (map module_of names) (module_of of_module.0) (contains_map module_of names of_module.0 of_module.1))))
+            (contains_map module_node (modules names) (module_of of_module.0) (contains_rising (map module_of names)
+            (module_of of_module.0) (contains_map module_of names of_module.0 of_module.1))))
         | inr of_folder ↦
             subst (λ f. Contains (inner_nodes names) (codes "/modules" ++ f)) (sym of_folder.2)
             (Contains-append_right (map module_node (modules names)) (map folder_node (folders names)) (folder_node of_folder.0)
@@ -112,7 +124,8 @@ module _ (names : Texts) (cut : (name : List ℕ) → Contains names name → Is
       let home = module_again folder.module folder.path plain in
       rw (any_behind folder.module folder.path, path, home) refl
 
-  pub package_there : (folder : ModuleFolder) → Contains (package_folders names) folder → package_folder (folder_name folder) ≡ Some (Found folder)
+  pub package_there : (folder : ModuleFolder) → Contains (package_folders names) folder → package_folder (folder_name folder)
+      ≡ Some (Found folder)
   package_there folder there =
       let among = from_filter (λ (f : ModuleFolder). not (is_meta f.path)) (folders names) folder there in
       found_at folder (module_plain folder among.0) ∙ ap (λ b. cond b (Some (Found folder)) None) among.1
@@ -122,8 +135,14 @@ module _ (names : Texts) (cut : (name : List ℕ) → Contains names name → Is
   package_from front found there gives =
       elim (front_of front there) [
         | inl of_module ↦
-            let plain : list_any is_slash (drop 1 front) ≡ false = ap (λ f. list_any is_slash (drop 1 f)) of_module.2 ∙ (cut of_module.0 of_module.1).plain in
-            absurd (none_some (list_any is_slash (drop 1 front)) (not (is_meta (path_of front))) (record { front = front; «module» = module_of front; path = path_of front }) plain gives)
+            let plain : list_any is_slash (drop 1 front) ≡ false = ap (λ f. list_any is_slash (drop 1 f)) of_module.2
+            ∙ (cut of_module.0 of_module.1).plain in
+            absurd (none_some (list_any is_slash (drop 1 front)) (not (is_meta (path_of front))) (record {
+              front = front;
+              «module» =
+                  module_of front;
+              path = path_of front;
+            }) plain gives)
         | inr of_folder ↦
             let folder = of_folder.0 in
             let at = sym (found_at folder (module_plain folder of_folder.1)) ∙ ap package_folder (sym of_folder.2) ∙ gives in
@@ -140,17 +159,23 @@ module _ (names : Texts) (cut : (name : List ℕ) → Contains names name → Is
       taken false made e = absurd (cc)
 
   -- the packages, from the fronts
-  pub packages_same : (risen : Texts) → SameElements (flat_map fronts names) risen → packages names ≡ rising (called_all (folders_among risen))
+  pub packages_same : (risen : Texts) → SameElements (flat_map fronts names) risen → packages names
+      ≡ rising (called_all (folders_among risen))
   packages_same risen same =
       rising_same (map package_of (package_folders names)) (called_all (folders_among risen))
       (λ called there.
       let folder = from_map package_of (package_folders names) called there in
       let among = from_filter (λ (f : ModuleFolder). not (is_meta f.path)) (folders names) folder.0 folder.1 in
-      let found = contains_filter_map package_folder risen (folder_name folder.0) (Found folder.0) (same.has (folder_name folder.0) (front_there_of folder.0 among.0)) (package_there folder.0 folder.1) in
-      subst (Contains (called_all (folders_among risen))) folder.2 (contains_map (λ (f : Folder). package_of (record { «module» = f.module; path = f.path })) (folders_among risen) (Found folder.0) found))
+      let found = contains_filter_map package_folder risen (folder_name folder.0) (Found folder.0) (same.has (folder_name folder.0)
+      (front_there_of folder.0 among.0)) (package_there folder.0 folder.1) in
+      subst (Contains (called_all (folders_among risen))) folder.2
+      (contains_map (λ (f : Folder). package_of (record { «module» = f.module; path = f.path })) (folders_among risen)
+      (Found folder.0) found))
       (λ called there.
-      let found = from_map (λ (f : Folder). package_of (record { «module» = f.module; path = f.path })) (folders_among risen) called there in
+      let found = from_map (λ (f : Folder). package_of (record { «module» = f.module; path = f.path })) (folders_among risen) called
+      there in
       let front = from_filter_map package_folder risen found.0 found.1 in
       let folder = package_from front.0 found.0 (same.only front.0 front.1) front.2 in
-      subst (Contains (map package_of (package_folders names))) (ap (λ (f : Folder). package_of (record { «module» = f.module; path = f.path })) folder.2 ∙ found.2)
+      subst (Contains (map package_of (package_folders names)))
+      (ap (λ (f : Folder). package_of (record { «module» = f.module; path = f.path })) folder.2 ∙ found.2)
       (contains_map package_of (package_folders names) folder.0 folder.1))

@@ -1,11 +1,15 @@
 -- The fronts of names, one name after another.
-use Rattle.std.proofs.Common.{◌≡◌, ℕ, ◌+◌, ◌-◌, ◌<◌, ◌≤◌, inl, inr, Bool, true, false, cond, ◌&&◌, List, [], ◌∷◌, ◌++◌, length, map, take, get_or, Contains, refl, sym, ap, ◌∙◌, subst, arith, slice_index_or, Bor}
+use Rattle.std.proofs.Common.{◌≡◌, ℕ, ◌+◌, ◌-◌, ◌<◌, ◌≤◌, inl, inr, Bool, true, false, cond, ◌&&◌, List, []}
+use Rattle.std.proofs.Common.{◌∷◌, ◌++◌, length, map, take, get_or, Contains, refl, sym, ap, ◌∙◌, subst}
+use Rattle.std.proofs.Common.{arith, slice_index_or, Bor}
 use Rattle.std.specs.Prelude.{filter, nat_lt}
 use Rattle.std.specs.List.{flat_map, range_with_len}
 use Rattle.std.proofs.lemmas.Bool.{cases_lt, lt-ltb, ltb-true}
 use Rattle.std.proofs.lemmas.List.{append_assoc, get_or-map, get_or-take, length-map, length-take-le, map-append, take-take}
-use Rattle.std.proofs.lemmas.List.Elements.{filter-append, Contains-get_or, Contains-append_left, Contains-append_right, Contains-append_cases}
-use Rattle.jm_bytes.proofs.Members.{contains_cases, contains_filter, contains_here, contains_map, contains_none, contains_range, from_filter, from_map, from_range}
+use Rattle.std.proofs.lemmas.List.Elements.{filter-append, Contains-get_or, Contains-append_left}
+use Rattle.std.proofs.lemmas.List.Elements.{Contains-append_right, Contains-append_cases}
+use Rattle.jm_bytes.proofs.Members.{contains_cases, contains_filter, contains_here, contains_map}
+use Rattle.jm_bytes.proofs.Members.{contains_none, contains_range, from_filter, from_map, from_range}
 use Rattle.jm_bytes.proofs.Pairs.{range_more}
 use Rattle.jm_bytes.proofs.SameOrder.{contains_flat_map, from_flat_map}
 use Rattle.jm_names.specs.Names.{is_slash}
@@ -34,13 +38,16 @@ second true b e = e
 second false true e = refl
 second false false e = e
 
-pub between_there : (start count : ℕ) (name : List ℕ) (at : ℕ) → start ≤ at → at < start + count → 0 < at → is_slash (slice_index_or name at 0) ≡ true → Contains (fronts_between start count name) (take at name)
+pub between_there : (start count : ℕ) (name : List ℕ) (at : ℕ) → start ≤ at → at < start + count → 0 < at
+    → is_slash (slice_index_or name at 0) ≡ true → Contains (fronts_between start count name) (take at name)
 between_there start count name at low high some slash =
     contains_map (λ n. take n name) _ at
-    (contains_filter (λ n. nat_lt 0 n && is_slash (slice_index_or name n 0)) (range_with_len start count) at (contains_range start count at low high)
+    (contains_filter (λ n. nat_lt 0 n && is_slash (slice_index_or name n 0)) (range_with_len start count) at
+    (contains_range start count at low high)
     (both (nat_lt 0 at) (is_slash (slice_index_or name at 0)) (lt-ltb 0 at some) slash))
 
-pub from_between : (start count : ℕ) (name front : List ℕ) → start + count ≤ length name → Contains (fronts_between start count name) front → (at : ℕ) × IsFrontAt name front at
+pub from_between : (start count : ℕ) (name front : List ℕ) → start + count ≤ length name
+    → Contains (fronts_between start count name) front → (at : ℕ) × IsFrontAt name front at
 from_between start count name front fits there =
     let taken = from_map (λ n. take n name) _ front there in
     let passed = from_filter (λ n. nat_lt 0 n && is_slash (slice_index_or name n 0)) (range_with_len start count) taken.0 taken.1 in
@@ -54,7 +61,8 @@ from_between start count name front fits there =
       },
     )
 
-pub front_there : (name : List ℕ) (at : ℕ) → 0 < at → at < length name → is_slash (slice_index_or name at 0) ≡ true → Contains (fronts name) (take at name)
+pub front_there : (name : List ℕ) (at : ℕ) → 0 < at → at < length name → is_slash (slice_index_or name at 0) ≡ true
+    → Contains (fronts name) (take at name)
 front_there name at some within slash = between_there 0 (length name) name at (omega arith) (omega arith) some slash
 
 pub from_front : (name front : List ℕ) → Contains (fronts name) front → (at : ℕ) × IsFrontAt name front at
@@ -75,7 +83,8 @@ between_more start count name =
     alone false = refl
 
 pub put_next : (start at : ℕ) (name : List ℕ) (old before after : List (List ℕ)) → start ≤ at
-    → before ≡ old ++ fronts_between start (at - start) name → after ≡ before ++ front_alone at name → after ≡ old ++ fronts_between start (at + 1 - start) name
+    → before ≡ old ++ fronts_between start (at - start) name → after ≡ before ++ front_alone at name → after
+    ≡ old ++ fronts_between start (at + 1 - start) name
 put_next start at name old before after le was is =
     let place : start + (at - start) ≡ at = omega arith in
     let count : at - start + 1 ≡ at + 1 - start = omega arith in
@@ -84,16 +93,20 @@ put_next start at name old before after le was is =
     ∙ ap (λ l. old ++ l) (sym (between_more start (at - start) name)) ∙ ap (λ n. old ++ fronts_between start n name) count
 
 -- names with the same front have the same fronts of lesser lengths
-pub same_fronts : (start : ℕ) (name other : List ℕ) (known : List (List ℕ)) → start ≤ length name → start ≤ length other → take start name ≡ take start other
+pub same_fronts : (start : ℕ) (name other : List ℕ) (known : List (List ℕ)) → start ≤ length name → start ≤ length other
+    → take start name ≡ take start other
     → ((front : List ℕ) → Contains (fronts other) front → Contains known front) → IsKnownBelow start name known
 same_fronts start name other known inside fits same there at some below slash =
-    let byte : slice_index_or name at 0 ≡ slice_index_or other at 0 = sym (get_or-take start name at 0 below) ∙ ap (λ l. get_or l at 0) same ∙ get_or-take start other at 0 below in
-    let front : take at name ≡ take at other = sym (take-take at start name (omega arith)) ∙ ap (take at) same ∙ take-take at start other (omega arith) in
+    let byte : slice_index_or name at 0 ≡ slice_index_or other at 0 = sym (get_or-take start name at 0 below)
+    ∙ ap (λ l. get_or l at 0) same ∙ get_or-take start other at 0 below in
+    let front : take at name ≡ take at other = sym (take-take at start name (omega arith)) ∙ ap (take at) same
+    ∙ take-take at start other (omega arith) in
     subst (Contains known) (sym front) (there (take at other) (front_there other at some (omega arith) (ap is_slash (sym byte) ∙ slash)))
 
 -- those of the name before are known
 pub before_known : (names : List (Bor (List ℕ))) (place start : ℕ) (d : Bor (List ℕ)) → 0 < place → place < length names
-    → start ≤ length (get_or names place d).now → start ≤ length (get_or names (place - 1) d).now → take start (get_or names place d).now ≡ take start (get_or names (place - 1) d).now
+    → start ≤ length (get_or names place d).now → start ≤ length (get_or names (place - 1) d).now
+    → take start (get_or names place d).now ≡ take start (get_or names (place - 1) d).now
     → IsKnownBelow start (get_or (map (λ name. name.now) names) place []) (flat_map fronts (take place (map (λ name. name.now) names)))
 before_known names place start d some below inside fits same =
     let plain : List (List ℕ) = map (λ name. name.now) names in
@@ -102,7 +115,8 @@ before_known names place start d some below inside fits same =
     let long = length-map names (λ (name : Bor (List ℕ)). name.now) in
     let cut = length-take-le place plain (omega arith) in
     let other : Contains (take place plain) (get_or names (place - 1) d).now =
-    subst (Contains (take place plain)) (get_or-take place plain (place - 1) [] (omega arith) ∙ there) (Contains-get_or (take place plain) (place - 1) [] (omega arith))
+    subst (Contains (take place plain)) (get_or-take place plain (place - 1) [] (omega arith) ∙ there)
+    (Contains-get_or (take place plain) (place - 1) [] (omega arith))
     in
     rw here
     (same_fronts start (get_or names place d).now (get_or names (place - 1) d).now (flat_map fronts (take place plain)) inside fits same
@@ -143,6 +157,8 @@ fronts_next done name start listed inside same known = record {
         let at = from_front name front there in
         subst (Contains (listed ++ more)) (sym at.1.is)
         (elim (cases_lt at.0 start) [
-          | inl below ↦ Contains-append_left listed more (take at.0 name) (same.has (take at.0 name) (known at.0 at.1.some below at.1.slash))
-          | inr behind ↦ Contains-append_right listed more (take at.0 name) (between_there start (length name - start) name at.0 behind (omega (arith, at.1.within)) at.1.some at.1.slash)
+          | inl below ↦ Contains-append_left listed more (take at.0 name) (same.has (take at.0 name) (known at.0 at.1.some below
+              at.1.slash))
+          | inr behind ↦ Contains-append_right listed more (take at.0 name) (between_there start (length name - start) name at.0
+              behind (omega (arith, at.1.within)) at.1.some at.1.slash)
         ])

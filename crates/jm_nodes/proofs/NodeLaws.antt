@@ -10,11 +10,13 @@ use Rattle.jm_bytes.proofs.Members.{all_from_contains, contains_cases, contains_
 use Rattle.jm_bytes.proofs.Pairs.{pairs_append, pairs_map}
 use Rattle.jm_bytes.proofs.SameOrder.{mapped_twice}
 use Rattle.jm_form.specs.Rising.{rising}
-use Rattle.jm_form.specs.Trees.{fronts, holds_of, inner_nodes, module_of, node_names, package_folders, package_node, package_nodes, package_of, packages, tree_nodes}
+use Rattle.jm_form.specs.Trees.{fronts, holds_of, inner_nodes, module_of, node_names, package_folders}
+use Rattle.jm_form.specs.Trees.{package_node, package_nodes, package_of, packages, tree_nodes}
 use Rattle.jm_form.specs.declared.trees.Holds.TheVariants.{Children, Owners}
 use Rattle.jm_form.specs.declared.trees.TreeNode.{TreeNode}
 use Rattle.jm_nodes.specs.Filings.{FilesAll, Filing}
-use Rattle.jm_nodes.specs.FrontTrees.{called_all, child_filings, folders_among, front_node, owners_node, package_filings, packages_node, rising_nodes, IsMadeOf}
+use Rattle.jm_nodes.specs.FrontTrees.{called_all, child_filings, folders_among, front_node, owners_node}
+use Rattle.jm_nodes.specs.FrontTrees.{package_filings, packages_node, rising_nodes, IsMadeOf}
 use Rattle.jm_nodes.specs.Order.{IsRising, SameElements}
 use Rattle.jm_nodes.proofs.ChildLaws.{children_same, map_same}
 use Rattle.jm_nodes.proofs.FolderLaws.{front_of, inner_from, inner_there, packages_same}
@@ -28,7 +30,8 @@ Texts = List (List ℕ)
 abbrev below_modules : List ℕ → List ℕ
 below_modules front = codes "/modules" ++ front
 
-module _ (names risen : Texts) (cut : (name : List ℕ) → Contains names name → IsCut name) (up : IsRising risen) (same_fronts : SameElements (flat_map fronts names) risen) where
+module _ (names risen : Texts) (cut : (name : List ℕ) → Contains names name → IsCut name) (up : IsRising risen)
+    (same_fronts : SameElements (flat_map fronts names) risen) where
   -- the names of all nodes, rising
   abbrev pub all : Texts
   all = codes "/modules" ∷ map below_modules risen ++ codes "/packages" ∷ package_nodes names
@@ -60,7 +63,8 @@ module _ (names risen : Texts) (cut : (name : List ℕ) → Contains names name 
         | inr later ↦ of_packages (codes "/modules") refl (λ called. refl) x later
       ])
     where
-      of_packages : (text : List ℕ) → Before text (codes "/packages") → ((called : List ℕ) → Before text (package_node called)) → (x : List ℕ) → Contains (codes "/packages" ∷ package_nodes names) x → Before text x
+      of_packages : (text : List ℕ) → Before text (codes "/packages") → ((called : List ℕ) → Before text (package_node called))
+          → (x : List ℕ) → Contains (codes "/packages" ∷ package_nodes names) x → Before text x
       of_packages text first each x there =
           elim (contains_cases (codes "/packages") (package_nodes names) x there) [
             | inl same ↦ subst (Before text) same first
@@ -71,7 +75,8 @@ module _ (names risen : Texts) (cut : (name : List ℕ) → Contains names name 
   rises =
       AllPairs-cons Before (codes "/modules") (map below_modules risen ++ codes "/packages" ∷ package_nodes names) before_all
       (pairs_append Before (map below_modules risen) (codes "/packages" ∷ package_nodes names) (pairs_map Before below_modules risen up)
-      (AllPairs-cons Before (codes "/packages") (package_nodes names) before_packages (pairs_map Before package_node (packages names) (rising_rises (map package_of (package_folders names)))))
+      (AllPairs-cons Before (codes "/packages") (package_nodes names) before_packages (pairs_map Before package_node
+      (packages names) (rising_rises (map package_of (package_folders names)))))
       (λ x y in_front behind.
       let from = from_map below_modules risen x in_front in
       subst (λ t. Before t y) from.2
@@ -84,35 +89,44 @@ module _ (names risen : Texts) (cut : (name : List ℕ) → Contains names name 
   same = record {
     has = λ x there.
         elim (contains_cases (codes "/modules") (codes "/packages" ∷ inner_nodes names ++ package_nodes names) x there) [
-          | inl is ↦ subst (Contains all) is (contains_here (codes "/modules") (map below_modules risen ++ codes "/packages" ∷ package_nodes names))
+          | inl is ↦ subst (Contains all) is (contains_here (codes "/modules") (map below_modules risen ++ codes "/packages"
+              ∷ package_nodes names))
           | inr rest ↦
               contains_later (codes "/modules") (map below_modules risen ++ codes "/packages" ∷ package_nodes names) x
               (elim (contains_cases (codes "/packages") (inner_nodes names ++ package_nodes names) x rest) [
-                | inl is ↦ Contains-append_right (map below_modules risen) (codes "/packages" ∷ package_nodes names) x (subst (Contains (codes "/packages" ∷ package_nodes names)) is (contains_here (codes "/packages") (package_nodes names)))
+                | inl is ↦ Contains-append_right (map below_modules risen) (codes "/packages" ∷ package_nodes names) x
+                    (subst (Contains (codes "/packages" ∷ package_nodes names)) is (contains_here (codes "/packages")
+                    (package_nodes names)))
                 | inr later ↦
                     elim (Contains-append_cases (inner_nodes names) (package_nodes names) x later) [
                       | inl inner ↦
                           let from = inner_from names cut x inner in
                           Contains-append_left (map below_modules risen) (codes "/packages" ∷ package_nodes names) x
-                          (subst (Contains (map below_modules risen)) from.2 (contains_map below_modules risen from.0 (same_fronts.has from.0 from.1)))
-                      | inr called ↦ Contains-append_right (map below_modules risen) (codes "/packages" ∷ package_nodes names) x (contains_later (codes "/packages") (package_nodes names) x called)
+                          (subst (Contains (map below_modules risen)) from.2 (contains_map below_modules risen from.0
+                          (same_fronts.has from.0 from.1)))
+                      | inr called ↦ Contains-append_right (map below_modules risen) (codes "/packages" ∷ package_nodes names) x
+                          (contains_later (codes "/packages") (package_nodes names) x called)
                     ]
               ])
         ];
     only = λ x there.
         elim (contains_cases (codes "/modules") (map below_modules risen ++ codes "/packages" ∷ package_nodes names) x there) [
-          | inl is ↦ subst (Contains stated) is (contains_here (codes "/modules") (codes "/packages" ∷ inner_nodes names ++ package_nodes names))
+          | inl is ↦ subst (Contains stated) is (contains_here (codes "/modules") (codes "/packages" ∷ inner_nodes names
+              ++ package_nodes names))
           | inr rest ↦
               contains_later (codes "/modules") (codes "/packages" ∷ inner_nodes names ++ package_nodes names) x
               (elim (Contains-append_cases (map below_modules risen) (codes "/packages" ∷ package_nodes names) x rest) [
                 | inl inner ↦
                     let from = from_map below_modules risen x inner in
                     contains_later (codes "/packages") (inner_nodes names ++ package_nodes names) x
-                    (Contains-append_left (inner_nodes names) (package_nodes names) x (subst (Contains (inner_nodes names)) from.2 (inner_there names cut from.0 (same_fronts.only from.0 from.1))))
+                    (Contains-append_left (inner_nodes names) (package_nodes names) x (subst (Contains (inner_nodes names)) from.2
+                    (inner_there names cut from.0 (same_fronts.only from.0 from.1))))
                 | inr later ↦
                     elim (contains_cases (codes "/packages") (package_nodes names) x later) [
-                      | inl is ↦ subst (Contains (codes "/packages" ∷ inner_nodes names ++ package_nodes names)) is (contains_here (codes "/packages") (inner_nodes names ++ package_nodes names))
-                      | inr called ↦ contains_later (codes "/packages") (inner_nodes names ++ package_nodes names) x (Contains-append_right (inner_nodes names) (package_nodes names) x called)
+                      | inl is ↦ subst (Contains (codes "/packages" ∷ inner_nodes names ++ package_nodes names)) is
+                          (contains_here (codes "/packages") (inner_nodes names ++ package_nodes names))
+                      | inr called ↦ contains_later (codes "/packages") (inner_nodes names ++ package_nodes names) x
+                          (Contains-append_right (inner_nodes names) (package_nodes names) x called)
                     ]
               ])
         ];
@@ -134,8 +148,10 @@ abbrev node_of : Texts → List ℕ → TreeNode
 node_of names node = record { name = node; holds = holds_of names node }
 
 module _ (names listed risen : Texts) (table owned : List Filing) (cut : (name : List ℕ) → Contains names name → IsCut name)
-    (same_names : SameElements names listed) (same_fronts : SameElements (flat_map fronts names) risen) (files : FilesAll (child_filings listed risen) table)
-    (own : FilesAll (package_filings table (folders_among risen)) owned) (apart : (name : List ℕ) → Contains names name → Contains (flat_map fronts names) name → ⊥) where
+    (same_names : SameElements names listed) (same_fronts : SameElements (flat_map fronts names) risen)
+    (files : FilesAll (child_filings listed risen) table)
+    (own : FilesAll (package_filings table (folders_among risen)) owned) (apart : (name : List ℕ) → Contains names name
+    → Contains (flat_map fronts names) name → ⊥) where
   front_same : (front : List ℕ) → node_of names (below_modules front) ≡ front_node table front
   front_same front = λ i. record {
     name = below_modules front;
@@ -148,11 +164,14 @@ module _ (names listed risen : Texts) (table owned : List Filing) (cut : (name :
     holds = Owners (sym (owners_same names listed risen table owned cut same_names same_fronts files own called) i);
   }
 
-  pub made_same : (up : IsRising risen) → map (node_of names) (all names risen cut up same_fronts) ≡ rising_nodes table risen owned (rising (called_all (folders_among risen)))
+  pub made_same : (up : IsRising risen) → map (node_of names) (all names risen cut up same_fronts) ≡ rising_nodes table risen owned
+      (rising (called_all (folders_among risen)))
   made_same up =
       let node = node_of names in
-      let fronts_done = mapped_twice node below_modules risen ∙ map_same (λ front. node (below_modules front)) (front_node table) risen (λ front there. front_same front) in
-      let owners_done = mapped_twice node package_node (packages names) ∙ map_same (λ called. node (package_node called)) (owners_node owned) (packages names) (λ called there. owners_node_same called) in
+      let fronts_done = mapped_twice node below_modules risen ∙ map_same (λ front. node (below_modules front)) (front_node table)
+      risen (λ front there. front_same front) in
+      let owners_done = mapped_twice node package_node (packages names) ∙ map_same (λ called. node (package_node called))
+      (owners_node owned) (packages names) (λ called there. owners_node_same called) in
       let named = packages_same names cut risen same_fronts in
       ap (λ (n : TreeNode). n ∷ map node (map below_modules risen ++ codes "/packages" ∷ package_nodes names)) (front_same [])
       ∙ ap (λ ns. front_node table [] ∷ ns)
@@ -163,7 +182,8 @@ module _ (names listed risen : Texts) (table owned : List Filing) (cut : (name :
 -- the nodes are those of the definition
 pub nodes_same : (names listed risen : Texts) (nodes : List TreeNode) → ((name : List ℕ) → Contains names name → IsCut name)
     → IsRising risen → SameElements names listed → SameElements (flat_map fronts names) risen
-    → ((name : List ℕ) → Contains names name → Contains (flat_map fronts names) name → ⊥) → IsMadeOf listed risen nodes → nodes ≡ tree_nodes names
+    → ((name : List ℕ) → Contains names name → Contains (flat_map fronts names) name → ⊥) → IsMadeOf listed risen nodes → nodes
+    ≡ tree_nodes names
 nodes_same names listed risen nodes cut up same_names same_fronts apart made =
     made.made
     ∙ ap reverse (sym (made_same names listed risen made.table made.owned cut same_names same_fronts made.children made.owners apart up))

@@ -1,8 +1,11 @@
 -- A sound name is a slash, its module, a slash and its path; what its fronts are.
-use Rattle.std.proofs.Common.{◌≡◌, ℕ, zero, suc, ◌+◌, ◌-◌, ◌<◌, ◌≤◌, ◌⊎◌, inl, inr, Bool, true, false, cond, not, ◌||◌, List, [], ◌∷◌, ◌++◌, length, take, drop, get_or, Contains, refl, sym, ap, ◌∙◌, subst, append_assoc, arith, slice_index_or}
+use Rattle.std.proofs.Common.{◌≡◌, ℕ, zero, suc, ◌+◌, ◌-◌, ◌<◌, ◌≤◌, ◌⊎◌, inl, inr, Bool, true, false, cond}
+use Rattle.std.proofs.Common.{not, ◌||◌, List, [], ◌∷◌, ◌++◌, length, take, drop, get_or, Contains, refl, sym}
+use Rattle.std.proofs.Common.{ap, ◌∙◌, subst, append_assoc, arith, slice_index_or}
 use Rattle.std.specs.List.{after_first, before_first, list_any, onto_first, position_or_len, slice_split}
 use Rattle.std.proofs.lemmas.Bool.{and_parts, cases_order, eqb-true, false≢true}
-use Rattle.std.proofs.lemmas.List.{append_cancel_left, get_or-append-add, get_or-take, get_or_append_left, get_or_at, length-append, length-take-le, take-append-drop, take_at}
+use Rattle.std.proofs.lemmas.List.{append_cancel_left, get_or-append-add, get_or-take, get_or_append_left}
+use Rattle.std.proofs.lemmas.List.{get_or_at, length-append, length-take-le, take-append-drop, take_at}
 use Rattle.std.proofs.lemmas.List.Folds.{list_any_at}
 use Rattle.std.proofs.lemmas.List.Sums.{prefix_len_passes}
 use Rattle.jm_bytes.proofs.Cuts.{first_parts}
@@ -32,7 +35,8 @@ before_slash text rest plain =
     let long = length-append text (47 ∷ rest) in
     before_first_at is_slash (text ++ 47 ∷ rest) (length text) 0 (omega arith)
     (λ k below passes.
-    false≢true (sym plain ∙ list_any_at is_slash text k 0 below (ap is_slash (sym (get_or_append_left text (47 ∷ rest) 0 k below)) ∙ passes)))
+    false≢true (sym plain ∙ list_any_at is_slash text k 0 below (ap is_slash (sym (get_or_append_left text (47 ∷ rest) 0 k below))
+    ∙ passes)))
     (ap is_slash (get_or_at text 47 rest 0 (length text) refl))
     ∙ take_at text (47 ∷ rest) (length text) refl
 
@@ -81,7 +85,8 @@ empty_later (b ∷ text) rest = go (is_slash b) (empty_later text rest)
     longer [] some = some
     longer (other ∷ others) some = some
 
-    go : (c : Bool) → list_any is_empty (drop 1 pieces) ≡ true → list_any is_empty (drop 1 (cond c ([] ∷ pieces) (onto_first b pieces))) ≡ true
+    go : (c : Bool) → list_any is_empty (drop 1 pieces) ≡ true
+        → list_any is_empty (drop 1 (cond c ([] ∷ pieces) (onto_first b pieces))) ≡ true
     go true some = later_any pieces some
     go false some = longer pieces some
 
@@ -95,9 +100,11 @@ sound_cut (b ∷ rest) sound = record {
   whole = is;
   plain = none_before is_slash rest tests.1;
   begins = λ later path.
-      let split : rest ≡ before_first is_slash rest ++ 47 ∷ 47 ∷ later = ap (drop 1) is ∙ ap (λ p. before_first is_slash rest ++ 47 ∷ p) path in
+      let split : rest ≡ before_first is_slash rest ++ 47 ∷ 47 ∷ later = ap (drop 1) is ∙ ap (λ p. before_first is_slash rest ++ 47
+      ∷ p) path in
       sound EmptyPart
-      (later_any (slice_split is_slash rest) (ap (λ r. list_any is_empty (drop 1 (slice_split is_slash r))) split ∙ empty_later (before_first is_slash rest) later));
+      (later_any (slice_split is_slash rest) (ap (λ r. list_any is_empty (drop 1 (slice_split is_slash r))) split
+      ∙ empty_later (before_first is_slash rest) later));
 }
   where
     tests : (is_slash b ≡ true) × (list_any is_slash rest ≡ true)
@@ -115,17 +122,20 @@ pub module_front : (text path : List ℕ) → Contains (fronts (47 ∷ text ++ 4
 module_front text path =
     let long = length-append text (47 ∷ path) in
     subst (Contains (fronts (47 ∷ text ++ 47 ∷ path))) (ap (λ t. 47 ∷ t) (take_at text (47 ∷ path) (length text) refl))
-    (front_there (47 ∷ text ++ 47 ∷ path) (suc (length text)) (omega arith) (omega arith) (ap is_slash (get_or_at text 47 path 0 (length text) refl)))
+    (front_there (47 ∷ text ++ 47 ∷ path) (suc (length text)) (omega arith) (omega arith)
+    (ap is_slash (get_or_at text 47 path 0 (length text) refl)))
 
 -- a name behind its first slash, up to a length of its path
 taken_behind : (text path : List ℕ) (k : ℕ) → k ≤ length path → take (length text + suc k) (text ++ 47 ∷ path) ≡ text ++ 47 ∷ take k path
 taken_behind text path k within =
-    let split : text ++ 47 ∷ path ≡ (text ++ 47 ∷ take k path) ++ drop k path = ap (λ p. text ++ 47 ∷ p) (sym (take-append-drop k path)) ∙ sym (append_assoc text (47 ∷ take k path) (drop k path)) in
+    let split : text ++ 47 ∷ path ≡ (text ++ 47 ∷ take k path) ++ drop k path =
+    ap (λ p. text ++ 47 ∷ p) (sym (take-append-drop k path)) ∙ sym (append_assoc text (47 ∷ take k path) (drop k path)) in
     let long = length-append text (47 ∷ take k path) in
     let front = length-take-le k path within in
     ap (take (length text + suc k)) split ∙ take_at (text ++ 47 ∷ take k path) (drop k path) (length text + suc k) (omega arith)
 
-pub folder_front : (text path front : List ℕ) → Contains (fronts path) front → Contains (fronts (47 ∷ text ++ 47 ∷ path)) (47 ∷ text ++ 47 ∷ front)
+pub folder_front : (text path front : List ℕ) → Contains (fronts path) front → Contains (fronts (47 ∷ text ++ 47 ∷ path)) (47 ∷ text
+    ++ 47 ∷ front)
 folder_front text path front there =
     let from = from_front path front there in
     let k = from.0 in
@@ -151,18 +161,23 @@ front_cases text path front plain begins there =
         first [] other some mark = omega arith
         first (b ∷ p) other some mark = other p (ap (λ x. x ∷ p) (eqb-true b 47 mark))
 
-    at_place : (at : ℕ) → 0 < at → at < length (47 ∷ text ++ 47 ∷ path) → is_slash (slice_index_or (47 ∷ text ++ 47 ∷ path) at 0) ≡ true → front ≡ take at (47 ∷ text ++ 47 ∷ path)
+    at_place : (at : ℕ) → 0 < at → at < length (47 ∷ text ++ 47 ∷ path) → is_slash (slice_index_or (47 ∷ text ++ 47 ∷ path) at 0)
+        ≡ true → front ≡ take at (47 ∷ text ++ 47 ∷ path)
         → (front ≡ 47 ∷ text) ⊎ ((inner : List ℕ) × Contains (fronts path) inner × (front ≡ 47 ∷ text ++ 47 ∷ inner))
     at_place zero some within slash is = absurd (omega arith)
     at_place (suc j) some within slash is =
         let long = length-append text (47 ∷ path) in
         elim (cases_order j (length text)) [
-          | inr (inl less) ↦ absurd (false≢true (sym plain ∙ list_any_at is_slash text j 0 less (ap is_slash (sym (get_or_append_left text (47 ∷ path) 0 j less)) ∙ slash)))
-          | inl same ↦ inl (is ∙ ap (λ n. 47 ∷ take n (text ++ 47 ∷ path)) same ∙ ap (λ t. 47 ∷ t) (take_at text (47 ∷ path) (length text) refl))
+          | inr (inl less) ↦ absurd (false≢true (sym plain ∙ list_any_at is_slash text j 0 less
+              (ap is_slash (sym (get_or_append_left text (47 ∷ path) 0 j less)) ∙ slash)))
+          | inl same ↦ inl (is ∙ ap (λ n. 47 ∷ take n (text ++ 47 ∷ path)) same
+              ∙ ap (λ t. 47 ∷ t) (take_at text (47 ∷ path) (length text) refl))
           | inr (inr more) ↦
               let k = j - length text - 1 in
               let place : j ≡ length text + suc k = omega arith in
-              let read : is_slash (slice_index_or path k 0) ≡ true = ap is_slash (sym (get_or-append-add text (47 ∷ path) (suc k) 0)) ∙ ap (λ n. is_slash (slice_index_or (text ++ 47 ∷ path) n 0)) (sym place) ∙ slash in
+              let read : is_slash (slice_index_or path k 0) ≡ true =
+              ap is_slash (sym (get_or-append-add text (47 ∷ path) (suc k) 0))
+              ∙ ap (λ n. is_slash (slice_index_or (text ++ 47 ∷ path) n 0)) (sym place) ∙ slash in
               let below : k < length path = omega arith in
               inr (
                 take k path,

@@ -46,7 +46,12 @@ bare_folder = refl
 abbrev owned : List Filing
 owned =
     map (package_filing table)
-    (record { front = codes "/a/p.q"; «module» = codes "a"; path = codes "p.q" } ∷ record { front = codes "/a/p/q"; «module» = codes "a"; path = codes "p/q" } ∷ [])
+    (record { front = codes "/a/p.q"; «module» = codes "a"; path = codes "p.q" } ∷ record {
+      front = codes "/a/p/q";
+      «module» =
+          codes "a";
+      path = codes "p/q";
+    } ∷ [])
 
 one_owner : owners_of owned (codes "p.q") ≡ record { empty = false; «module» = codes "a" } ∷ []
 one_owner = refl

@@ -50,7 +50,8 @@ written-append files (x ∷ xs) ys = written-append (put files x.0 x.1) xs ys
 pub made_append : (xs ys : Writes) (old now new : Option Files) → MadeAll xs old now → MadeAll ys now new → MadeAll (xs ++ ys) old new
 made_append xs ys old now new first second = second ∙ ap (option_map (λ files. written files ys)) first ∙ go old
   where
-    go : (told : Option Files) → option_map (λ files. written files ys) (option_map (λ files. written files xs) told) ≡ option_map (λ files. written files (xs ++ ys)) told
+    go : (told : Option Files) → option_map (λ files. written files ys) (option_map (λ files. written files xs) told)
+        ≡ option_map (λ files. written files (xs ++ ys)) told
     go None = refl
     go (Some files) = ap (λ (f : Files). Some f) (sym (written-append files xs ys))
 

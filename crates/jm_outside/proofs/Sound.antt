@@ -1,5 +1,7 @@
 -- Files that rise by their paths, each of which is text, stay so; and so do the names below a folder.
-use Rattle.std.proofs.Common.{◌≡◌, ℕ, List, [], ◌∷◌, ◌++◌, Option, Some, None, refl, sym, ◌∙◌, ap, All, IsUtf8, lit<, drop, length, length-append, arith, rules, Result, Ok, Err, OnOk, OnErr}
+use Rattle.std.proofs.Common.{◌≡◌, ℕ, List, [], ◌∷◌, ◌++◌, Option, Some, None, refl, sym, ◌∙◌, ap, All}
+use Rattle.std.proofs.Common.{IsUtf8, lit<, drop, length, length-append, arith, rules, Result, Ok, Err, OnOk}
+use Rattle.std.proofs.Common.{OnErr}
 use Rattle.std.specs.Ordering.{nat_cmp, match_ordering, ordering_reverse}
 use Rattle.std.specs.declared.cmp.Ordering.{Ordering}
 use Rattle.std.specs.declared.cmp.Ordering.TheVariants.{Less, Equal, Greater}
@@ -15,16 +17,20 @@ use Rattle.jm_outside.specs.Files.{Files, Rising, paths, put, after_front, names
 use Rattle.jm_outside.proofs.Names.{front_of}
 
 -- a text below another is below all that rise above that
-below_all : (path p : List ℕ) (ps : List (List ℕ)) → slice_cmp nat_cmp path p ≡ Less → AllByRecursion (λ q. slice_cmp nat_cmp p q ≡ Less) ps → AllByRecursion (λ q. slice_cmp nat_cmp path q ≡ Less) ps
+below_all : (path p : List ℕ) (ps : List (List ℕ)) → slice_cmp nat_cmp path p ≡ Less → AllByRecursion (λ q. slice_cmp nat_cmp p q
+    ≡ Less) ps → AllByRecursion (λ q. slice_cmp nat_cmp path q ≡ Less) ps
 below_all path p [] below all = tt
 below_all path p (q ∷ ps) below all = (nat_list_cmp_total.trans path p q below all.0, below_all path p ps below all.1)
 
 -- what is below all paths stays so where another path above it comes in
-below_put : (p path bytes : List ℕ) (files : Files) → slice_cmp nat_cmp p path ≡ Less → AllByRecursion (λ q. slice_cmp nat_cmp p q ≡ Less) (paths files) → AllByRecursion (λ q. slice_cmp nat_cmp p q ≡ Less) (paths (put files path bytes))
+below_put : (p path bytes : List ℕ) (files : Files) → slice_cmp nat_cmp p path ≡ Less → AllByRecursion (λ q. slice_cmp nat_cmp p q
+    ≡ Less) (paths files) → AllByRecursion (λ q. slice_cmp nat_cmp p q ≡ Less) (paths (put files path bytes))
 below_put p path bytes [] below all = (below, tt)
 below_put p path bytes (f ∷ files) below all = go (slice_cmp nat_cmp path f.0) (below_put p path bytes files below all.1)
   where
-    go : (o : Ordering) → AllByRecursion (λ q. slice_cmp nat_cmp p q ≡ Less) (paths (put files path bytes)) → AllByRecursion (λ q. slice_cmp nat_cmp p q ≡ Less) (paths (match_ordering o ((path, bytes) ∷ f ∷ files) ((f.0, bytes) ∷ files) (f ∷ put files path bytes)))
+    go : (o : Ordering) → AllByRecursion (λ q. slice_cmp nat_cmp p q ≡ Less) (paths (put files path bytes))
+        → AllByRecursion (λ q. slice_cmp nat_cmp p q ≡ Less) (paths (match_ordering o ((path, bytes) ∷ f ∷ files) ((f.0, bytes)
+        ∷ files) (f ∷ put files path bytes)))
     go Less later = (below, all)
     go Equal later = all
     go Greater later = (all.0, later)
@@ -37,16 +43,20 @@ unfolding IsStrictlySortedBy
 rising_put [] path bytes rising = (tt, tt)
 rising_put (f ∷ files) path bytes rising = go (slice_cmp nat_cmp path f.0) refl (rising_put files path bytes rising.1)
   where
-    go : (o : Ordering) → slice_cmp nat_cmp path f.0 ≡ o → Rising (paths (put files path bytes)) → Rising (paths (match_ordering o ((path, bytes) ∷ f ∷ files) ((f.0, bytes) ∷ files) (f ∷ put files path bytes)))
+    go : (o : Ordering) → slice_cmp nat_cmp path f.0 ≡ o → Rising (paths (put files path bytes))
+        → Rising (paths (match_ordering o ((path, bytes) ∷ f ∷ files) ((f.0, bytes) ∷ files) (f ∷ put files path bytes)))
     go Less h later = ((h, below_all path f.0 (paths files) h rising.0), rising)
     go Equal h later = rising
     go Greater h later = (below_put f.0 path bytes files (turned path f.0 h) rising.0, later)
 
-pub all_put : (P : List ℕ → Type 0) (files : Files) (path bytes : List ℕ) → P path → All P (paths files) → All P (paths (put files path bytes))
+pub all_put : (P : List ℕ → Type 0) (files : Files) (path bytes : List ℕ) → P path → All P (paths files)
+    → All P (paths (put files path bytes))
 all_put P [] path bytes this all = All-cons P path [] this (All-nil P)
-all_put P (f ∷ files) path bytes this all = go (slice_cmp nat_cmp path f.0) (all_put P files path bytes this (All-tail P f.0 (paths files) all))
+all_put P (f ∷ files) path bytes this all = go (slice_cmp nat_cmp path f.0) (all_put P files path bytes this
+    (All-tail P f.0 (paths files) all))
   where
-    go : (o : Ordering) → All P (paths (put files path bytes)) → All P (paths (match_ordering o ((path, bytes) ∷ f ∷ files) ((f.0, bytes) ∷ files) (f ∷ put files path bytes)))
+    go : (o : Ordering) → All P (paths (put files path bytes))
+        → All P (paths (match_ordering o ((path, bytes) ∷ f ∷ files) ((f.0, bytes) ∷ files) (f ∷ put files path bytes)))
     go Less later = All-cons P path (paths (f ∷ files)) this all
     go Equal later = all
     go Greater later = All-cons P f.0 (paths (put files path bytes)) (All-head P f.0 (paths files) all) later
@@ -61,8 +71,13 @@ unfolding IsStrictlySortedBy
 none_kept files none = rw none (record { rising = tt; texts = All-nil (λ p. ∥ IsUtf8 p ∥₁) })
 
 -- the same after a change that may find no memory
-pub kept_after : {T E : Type 0} (r : Result T E) (old new : Files) (path bytes : List ℕ) → IsUtf8 path → OnOk r (new ≡ put old path bytes) → OnErr r (new ≡ old) → Keeps old → Keeps new
-kept_after (Ok x) old new path bytes text ok err kept = rw ok (record { rising = rising_put old path bytes kept.rising; texts = all_put (λ p. ∥ IsUtf8 p ∥₁) old path bytes ∣ text ∣₁ kept.texts })
+pub kept_after : {T E : Type 0} (r : Result T E) (old new : Files) (path bytes : List ℕ) → IsUtf8 path
+    → OnOk r (new ≡ put old path bytes) → OnErr r (new ≡ old) → Keeps old → Keeps new
+kept_after (Ok x) old new path bytes text ok err kept = rw ok (record {
+  rising = rising_put old path bytes kept.rising;
+  texts =
+      all_put (λ p. ∥ IsUtf8 p ∥₁) old path bytes ∣ text ∣₁ kept.texts;
+})
 kept_after (Err e) old new path bytes text ok err kept = rw err kept
 
 -- a common front leaves the order as it is
@@ -77,11 +92,13 @@ same_front (x ∷ front) a b = rw (level x) (same_front front a b)
 abbrev behind : List ℕ → Files → List (List ℕ)
 behind front files = filter_map (λ f. after_front front f.0) files
 
-below_names : (front r : List ℕ) (files : Files) → AllByRecursion (λ q. slice_cmp nat_cmp (front ++ r) q ≡ Less) (paths files) → AllByRecursion (λ q. slice_cmp nat_cmp r q ≡ Less) (behind front files)
+below_names : (front r : List ℕ) (files : Files) → AllByRecursion (λ q. slice_cmp nat_cmp (front ++ r) q ≡ Less) (paths files)
+    → AllByRecursion (λ q. slice_cmp nat_cmp r q ≡ Less) (behind front files)
 below_names front r [] all = tt
 below_names front r (f ∷ files) all = go (after_front front f.0) refl (below_names front r files all.1)
   where
-    go : (o : Option (List ℕ)) → after_front front f.0 ≡ o → AllByRecursion (λ q. slice_cmp nat_cmp r q ≡ Less) (behind front files) → AllByRecursion (λ q. slice_cmp nat_cmp r q ≡ Less) (cons_option o (behind front files))
+    go : (o : Option (List ℕ)) → after_front front f.0 ≡ o → AllByRecursion (λ q. slice_cmp nat_cmp r q ≡ Less) (behind front files)
+        → AllByRecursion (λ q. slice_cmp nat_cmp r q ≡ Less) (cons_option o (behind front files))
     go None is later = later
     go (Some s) is later =
         let path : f.0 ≡ front ++ s = front_of front f.0 s is in
@@ -101,15 +118,18 @@ rising_names front (f ∷ files) rising = go (after_front front f.0) refl (risin
 
 text_behind : (a b : List ℕ) → IsUtf8 a → IsUtf8 (a ++ b) → IsUtf8 b
 text_behind a b front whole =
-    let cut : IsCharBoundary (a ++ b) (length a) = IsCharBoundary-from_take (a ++ b) (length a) whole (omega (arith, length-append a b)) (rw (take_at a b (length a) refl) front) in
+    let cut : IsCharBoundary (a ++ b) (length a) = IsCharBoundary-from_take (a ++ b) (length a) whole
+    (omega (arith, length-append a b)) (rw (take_at a b (length a) refl) front) in
     let rest : IsUtf8 (drop (length a) (a ++ b)) = IsUtf8-drop (a ++ b) (length a) whole cut in
     rw (drop_at a b (length a) refl) at rest
 
 texts_behind : (front : List ℕ) (files : Files) → IsUtf8 front → All (λ p. ∥ IsUtf8 p ∥₁) (paths files) → All IsUtf8 (behind front files)
 texts_behind front [] text all = All-nil IsUtf8
-texts_behind front (f ∷ files) text all = go (after_front front f.0) refl (texts_behind front files text (All-tail (λ p. ∥ IsUtf8 p ∥₁) f.0 (paths files) all))
+texts_behind front (f ∷ files) text all = go (after_front front f.0) refl (texts_behind front files text
+    (All-tail (λ p. ∥ IsUtf8 p ∥₁) f.0 (paths files) all))
   where
-    go : (o : Option (List ℕ)) → after_front front f.0 ≡ o → All IsUtf8 (behind front files) → All IsUtf8 (cons_option o (behind front files))
+    go : (o : Option (List ℕ)) → after_front front f.0 ≡ o → All IsUtf8 (behind front files)
+        → All IsUtf8 (cons_option o (behind front files))
     go None is later = later
     go (Some s) is later =
         let path : f.0 ≡ front ++ s = front_of front f.0 s is in

@@ -1,10 +1,14 @@
 -- What stands in a pool still does with more constants behind it, and so a class of it is well
 -- formed still.
-use Rattle.std.proofs.Common.{◌≡◌, ℕ, zero, suc, ◌-◌, Bool, true, false, cond, ◌&&◌, List, [], ◌∷◌, ◌++◌, Option, Some, None, refl, sym, ap, ◌∙◌, subst}
+use Rattle.std.proofs.Common.{◌≡◌, ℕ, zero, suc, ◌-◌, Bool, true, false, cond, ◌&&◌, List, [], ◌∷◌, ◌++◌}
+use Rattle.std.proofs.Common.{Option, Some, None, refl, sym, ap, ◌∙◌, subst}
 use Rattle.std.proofs.lemmas.Bool.{false≢true}
 use Rattle.std.proofs.lemmas.List.Elements.{All-weaker}
 use Rattle.std.specs.Prelude.{is_some, nat_eq, slice_get, option_and_then}
-use Rattle.jm_class.specs.Classes.{SlotData, Constant, Hole, OpaqueData, CodeData, BodyData, Opaque, Coded, AttributeData, MemberData, slot_at, utf8_of, utf8_at, is_wide, IsPoolFrom, NamesText, FitsCounted, is_code_name, IsOpaque, IsCode, IsBody, IsAttribute, IsMember}
+use Rattle.jm_class.specs.Classes.{SlotData, Constant, Hole, OpaqueData, CodeData, BodyData, Opaque, Coded}
+use Rattle.jm_class.specs.Classes.{AttributeData, MemberData, slot_at, utf8_of, utf8_at, is_wide, IsPoolFrom}
+use Rattle.jm_class.specs.Classes.{NamesText, FitsCounted, is_code_name, IsOpaque, IsCode, IsBody}
+use Rattle.jm_class.specs.Classes.{IsAttribute, IsMember}
 
 get_stays : {X : Type 0} (xs ys : List X) (i : ℕ) (x : X) → slice_get xs i ≡ Some x → slice_get (xs ++ ys) i ≡ Some x
 get_stays [] ys i x is = cc
@@ -20,7 +24,8 @@ pool_longer false (Constant tag body ∷ pool) more is later = (is.0, pool_longe
 pool_longer false (Hole ∷ pool) more is later = absurd is
 
 -- what a number finds through an option, if the option finds the same
-then_stays : {X Y : Type 0} (f : X → Option Y) (old new : Option X) (y : Y) → ((x : X) → old ≡ Some x → new ≡ Some x) → option_and_then f old ≡ Some y → option_and_then f new ≡ Some y
+then_stays : {X Y : Type 0} (f : X → Option Y) (old new : Option X) (y : Y) → ((x : X) → old ≡ Some x → new ≡ Some x)
+    → option_and_then f old ≡ Some y → option_and_then f new ≡ Some y
 then_stays f None new y same is = cc
 then_stays f (Some x) new y same is = ap (option_and_then f) (same x refl) ∙ is
 
@@ -28,7 +33,8 @@ module _ (pool more : List SlotData) where
   pub slot_stays : (index : ℕ) (slot : SlotData) → slot_at pool index ≡ Some slot → slot_at (pool ++ more) index ≡ Some slot
   slot_stays index slot is = go (nat_eq index 0) is
     where
-      go : (b : Bool) → cond b None (slice_get pool (index - 1)) ≡ Some slot → cond b None (slice_get (pool ++ more) (index - 1)) ≡ Some slot
+      go : (b : Bool) → cond b None (slice_get pool (index - 1)) ≡ Some slot → cond b None (slice_get (pool ++ more) (index - 1))
+          ≡ Some slot
       go true same = cc
       go false same = get_stays pool more (index - 1) slot same
 
@@ -79,8 +85,17 @@ module _ (pool more : List SlotData) where
     access = is.access;
     name = is.name;
     descriptor = is.descriptor;
-    attributes = (is.attributes.0, All-weaker (IsAttribute pool in_method) (IsAttribute (pool ++ more) in_method) (attribute_stays in_method) m.attributes is.attributes.1);
+    attributes = (
+      is.attributes.0,
+      All-weaker (IsAttribute pool in_method) (IsAttribute (pool ++ more) in_method)
+          (attribute_stays in_method) m.attributes is.attributes.1,
+    );
   }
 
-  pub members_stay : (in_method : Bool) (ms : List MemberData) → FitsCounted (IsMember pool in_method) ms → FitsCounted (IsMember (pool ++ more) in_method) ms
-  members_stay in_method ms is = (is.0, All-weaker (IsMember pool in_method) (IsMember (pool ++ more) in_method) (member_stays in_method) ms is.1)
+  pub members_stay : (in_method : Bool) (ms : List MemberData) → FitsCounted (IsMember pool in_method) ms
+      → FitsCounted (IsMember (pool ++ more) in_method) ms
+  members_stay in_method ms is = (
+    is.0,
+    All-weaker (IsMember pool in_method) (IsMember (pool ++ more) in_method)
+        (member_stays in_method) ms is.1,
+  )

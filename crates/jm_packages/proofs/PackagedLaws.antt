@@ -1,6 +1,8 @@
 -- The class of a module that names its packages is well formed, says the same descriptor, and
 -- takes no second list.
-use Rattle.std.proofs.Common.{◌≡◌, ℕ, zero, suc, ◌+◌, ◌-◌, ◌*◌, ◌<◌, ◌≤◌, inl, inr, Bool, true, false, not, cond, ◌&&◌, ◌||◌, List, [], ◌∷◌, ◌++◌, length, Some, None, Ok, codes, refl, ap, ◌∙◌, arith, length-append}
+use Rattle.std.proofs.Common.{◌≡◌, ℕ, zero, suc, ◌+◌, ◌-◌, ◌*◌, ◌<◌, ◌≤◌, inl, inr, Bool, true, false, not}
+use Rattle.std.proofs.Common.{cond, ◌&&◌, ◌||◌, List, [], ◌∷◌, ◌++◌, length, Some, None, Ok, codes, refl, ap}
+use Rattle.std.proofs.Common.{◌∙◌, arith, length-append}
 use Rattle.std.proofs.lemmas.Bool.{and_parts, ltb-true, leb-true, false≢true, ne_eqb}
 use Rattle.std.proofs.lemmas.List.{append-nil}
 use Rattle.std.proofs.lemmas.List.Elements.{All-append, All-cons, All-head, All-nil, All-tail, All-weaker, filter_map-append}
@@ -15,7 +17,9 @@ use Rattle.jm_modinfo.specs.ComputedInfo.{info_of}
 use Rattle.jm_modinfo.specs.Descriptors.{bodies, bytes_named, is_named, module_bodies, main_bodies, plain_bytes}
 use Rattle.jm_modinfo.specs.Flags.{is_module}
 use Rattle.jm_modinfo.specs.Written.{utf8, numbers_text}
-use Rattle.jm_packages.specs.Packages.{attribute_name, package_slots, added_slots, packages_attribute, with_packages, has_packages, has_room, takes_none, takes_packages, packaged}
+use Rattle.jm_packages.specs.Packages.{attribute_name, package_slots, added_slots, packages_attribute}
+use Rattle.jm_packages.specs.Packages.{with_packages, has_packages, has_room, takes_none, takes_packages}
+use Rattle.jm_packages.specs.Packages.{packaged}
 use Rattle.jm_packages.proofs.MorePool.{pool_longer, attribute_stays, members_stay, text_stays}
 use Rattle.jm_packages.proofs.MoreInfo.{info_by, info_stays}
 
@@ -29,7 +33,8 @@ pub record Room (packages : List (List ℕ)) (c : ClassData) : Type 0 where
 pub room : (packages : List (List ℕ)) (c : ClassData) → takes_packages packages c ≡ true → Room packages c
 room packages c takes =
     let parts = and_parts (is_module c.access && not (has_packages c)) (has_room packages c) takes in
-    let fits = and_parts (nat_le (length c.pool + 1 + 2 * length packages) 65534 && nat_lt (length c.attributes) 65535) (list_all (λ p. nat_le (length p) 65535) packages) parts.1 in
+    let fits = and_parts (nat_le (length c.pool + 1 + 2 * length packages) 65534 && nat_lt (length c.attributes) 65535)
+    (list_all (λ p. nat_le (length p) 65535) packages) parts.1 in
     let rest = and_parts (nat_le (length c.pool + 1 + 2 * length packages) 65534) (nat_lt (length c.attributes) 65535) fits.0 in
     record {
       slots = leb-true (length c.pool + 1 + 2 * length packages) 65534 rest.0;
@@ -39,7 +44,8 @@ room packages c takes =
 
 -- Well formed
 
-slots_fit : (number : ℕ) (packages : List (List ℕ)) → list_all (λ p. nat_le (length p) 65535) packages ≡ true → IsPoolFrom false (package_slots number packages)
+slots_fit : (number : ℕ) (packages : List (List ℕ)) → list_all (λ p. nat_le (length p) 65535) packages ≡ true
+    → IsPoolFrom false (package_slots number packages)
 slots_fit number [] each = refl
 slots_fit number (p ∷ packages) each =
     let parts = and_parts (nat_le (length p) 65535) (list_all (λ p. nat_le (length p) 65535) packages) each in
@@ -55,7 +61,8 @@ length-numbers number zero = refl
 length-numbers number (suc count) = let rest = length-numbers (number + 2) count in omega (arith, rest)
 
 -- the name of the attribute stands behind the pool
-pub name_there : (pool : List SlotData) (packages : List (List ℕ)) → utf8_at (pool ++ added_slots (length pool + 1) packages) (length pool + 1) ≡ Some attribute_name
+pub name_there : (pool : List SlotData) (packages : List (List ℕ)) → utf8_at (pool ++ added_slots (length pool + 1) packages)
+    (length pool + 1) ≡ Some attribute_name
 name_there pool packages =
     let name = utf8 attribute_name in
     let rest = package_slots (length pool + 1 + 1) packages in
@@ -65,9 +72,11 @@ name_there pool packages =
     let place : length pool + 1 - 1 ≡ length pool = omega arith in
     ap (λ b. option_and_then utf8_of (cond b None (slice_get all (length pool + 1 - 1)))) test
     ∙ ap (λ k. option_and_then utf8_of (slice_get all k)) place
-    ∙ ap (option_and_then utf8_of) (slice_get-get_or all (length pool) name (omega (arith, long)) ∙ ap (λ s. Some s) (get_or-append_seam pool name rest name))
+    ∙ ap (option_and_then utf8_of) (slice_get-get_or all (length pool) name (omega (arith, long))
+    ∙ ap (λ s. Some s) (get_or-append_seam pool name rest name))
 
-attribute_fits : (pool : List SlotData) (packages : List (List ℕ)) → length pool + 1 + 2 * length packages ≤ 65534 → IsAttribute (pool ++ added_slots (length pool + 1) packages) false (packages_attribute (length pool + 1) packages)
+attribute_fits : (pool : List SlotData) (packages : List (List ℕ)) → length pool + 1 + 2 * length packages ≤ 65534
+    → IsAttribute (pool ++ added_slots (length pool + 1) packages) false (packages_attribute (length pool + 1) packages)
 attribute_fits pool packages fits =
     let size = length-numbers (length pool + 1 + 2) (length packages) in record {
       name = (omega (arith, fits), ap is_some (name_there pool packages));
@@ -75,7 +84,8 @@ attribute_fits pool packages fits =
       bytes = omega (arith, fits, size);
     }
 
-pub with-class : (packages : List (List ℕ)) (c : ClassData) → takes_packages packages c ≡ true → IsClass c → IsClass (with_packages packages c)
+pub with-class : (packages : List (List ℕ)) (c : ClassData) → takes_packages packages c ≡ true → IsClass c
+    → IsClass (with_packages packages c)
 with-class packages c takes is =
     let has = room packages c takes in
     let more = added_slots (length c.pool + 1) packages in
@@ -98,13 +108,16 @@ with-class packages c takes is =
       attributes = (
         omega (arith, many, few),
         All-append (IsAttribute (c.pool ++ more) false) c.attributes (own ∷ [])
-            (All-weaker (IsAttribute c.pool false) (IsAttribute (c.pool ++ more) false) (attribute_stays c.pool more false) c.attributes is.attributes.1)
-            (All-cons (IsAttribute (c.pool ++ more) false) own [] (attribute_fits c.pool packages slots) (All-nil (IsAttribute (c.pool ++ more) false))),
+            (All-weaker (IsAttribute c.pool false) (IsAttribute (c.pool ++ more) false) (attribute_stays c.pool more false)
+            c.attributes is.attributes.1)
+            (All-cons (IsAttribute (c.pool ++ more) false) own [] (attribute_fits c.pool packages slots)
+            (All-nil (IsAttribute (c.pool ++ more) false))),
       );
     }
 
 -- either the class takes the list, or it stays
-pub packaged_cases : (P : ClassData → Type 0) (packages : List (List ℕ)) (c : ClassData) → (takes_packages packages c ≡ true → P (with_packages packages c)) → (takes_packages packages c ≡ false → P c) → P (packaged packages c)
+pub packaged_cases : (P : ClassData → Type 0) (packages : List (List ℕ)) (c : ClassData) → (takes_packages packages c ≡ true
+    → P (with_packages packages c)) → (takes_packages packages c ≡ false → P c) → P (packaged packages c)
 packaged_cases P packages c takes stays = go (takes_packages packages c) refl
   where
     go : (b : Bool) → takes_packages packages c ≡ b → P (cond b (with_packages packages c) c)
@@ -122,7 +135,8 @@ listed packages c =
     let own = packages_attribute (length c.pool + 1) packages in
     let test = λ (a : AttributeData). is_named attribute_name (utf8_at all a.name) in
     let here : test own ≡ true = ap (is_named attribute_name) (name_there c.pool packages) in
-    list_any-append test c.attributes (own ∷ []) ∙ ap (λ b. list_any test c.attributes || (b || false)) here ∙ or_true (list_any test c.attributes)
+    list_any-append test c.attributes (own ∷ []) ∙ ap (λ b. list_any test c.attributes || (b || false)) here
+    ∙ or_true (list_any test c.attributes)
   where
     or_true : (b : Bool) → (b || true) ≡ true
     or_true true = refl
@@ -130,7 +144,8 @@ listed packages c =
 
 -- a class that has a list takes no other one
 pub listed_stays : (packages : List (List ℕ)) (c : ClassData) → has_packages c ≡ true → packaged packages c ≡ c
-listed_stays packages c has = ap (λ b. cond b (with_packages packages c) c) (none (is_module c.access) (has_packages c) (has_room packages c) has)
+listed_stays packages c has = ap (λ b. cond b (with_packages packages c) c) (none (is_module c.access) (has_packages c)
+    (has_room packages c) has)
   where
     none : (flagged named fits : Bool) → named ≡ true → ((flagged && not named) && fits) ≡ false
     none true true fits there = refl
@@ -140,7 +155,8 @@ listed_stays packages c has = ap (λ b. cond b (with_packages packages c) c) (no
 
 -- one that is no module's takes none either
 pub none_stays : (packages : List (List ℕ)) (c : ClassData) → takes_none c ≡ true → packaged packages c ≡ c
-none_stays packages c none = ap (λ b. cond b (with_packages packages c) c) (go (is_module c.access) (has_packages c) (has_room packages c) none)
+none_stays packages c none = ap (λ b. cond b (with_packages packages c) c) (go (is_module c.access) (has_packages c)
+    (has_room packages c) none)
   where
     go : (flagged named fits : Bool) → (not flagged || named) ≡ true → ((flagged && not named) && fits) ≡ false
     go true true fits none = refl
@@ -163,16 +179,19 @@ module _ (packages : List (List ℕ)) (c : ClassData) (is : IsClass c) where
   abbrev own : AttributeData
   own = packages_attribute (length c.pool + 1) packages
 
-  same_bodies : (name : List ℕ) (attributes : List AttributeData) → All (IsAttribute c.pool false) attributes → bodies (c.pool ++ more) name attributes ≡ bodies c.pool name attributes
+  same_bodies : (name : List ℕ) (attributes : List AttributeData) → All (IsAttribute c.pool false) attributes
+      → bodies (c.pool ++ more) name attributes ≡ bodies c.pool name attributes
   same_bodies name [] all = refl
   same_bodies name (a ∷ attributes) all =
       let first = text_stays c.pool more a.name (All-head (IsAttribute c.pool false) a attributes all).name.1 in
       ap (λ o. cons_option (cond (is_named name o) (plain_bytes a.body) None) (bodies (c.pool ++ more) name attributes)) first
       ∙ ap (cons_option (bytes_named c.pool name a)) (same_bodies name attributes (All-tail (IsAttribute c.pool false) a attributes all))
 
-  bodies_with : (name : List ℕ) → is_named name (Some attribute_name) ≡ false → bodies (c.pool ++ more) name (c.attributes ++ own ∷ []) ≡ bodies c.pool name c.attributes
+  bodies_with : (name : List ℕ) → is_named name (Some attribute_name) ≡ false → bodies (c.pool ++ more) name (c.attributes ++ own
+      ∷ []) ≡ bodies c.pool name c.attributes
   bodies_with name other =
-      let named : is_named name (utf8_at (c.pool ++ more) (length c.pool + 1)) ≡ false = ap (is_named name) (name_there c.pool packages) ∙ other in
+      let named : is_named name (utf8_at (c.pool ++ more) (length c.pool + 1)) ≡ false =
+      ap (is_named name) (name_there c.pool packages) ∙ other in
       let none : bytes_named (c.pool ++ more) name own ≡ None = ap (λ b. cond b (plain_bytes own.body) None) named in
       filter_map-append (bytes_named (c.pool ++ more) name) c.attributes (own ∷ [])
       ∙ ap (λ o. bodies (c.pool ++ more) name c.attributes ++ cons_option o []) none
@@ -186,5 +205,7 @@ module _ (packages : List (List ℕ)) (c : ClassData) (is : IsClass c) where
       ∙ info_stays c.pool more c (module_bodies c) (main_bodies c) d says
 
 -- what the class of a module says, it says with the list too
-pub packaged-info : (packages : List (List ℕ)) (c : ClassData) (d : Descriptor) → IsClass c → info_of c ≡ Ok d → info_of (packaged packages c) ≡ Ok d
-packaged-info packages c d is says = packaged_cases (λ k. info_of k ≡ Ok d) packages c (λ takes. with-info packages c is d says) (λ stays. says)
+pub packaged-info : (packages : List (List ℕ)) (c : ClassData) (d : Descriptor) → IsClass c → info_of c ≡ Ok d
+    → info_of (packaged packages c) ≡ Ok d
+packaged-info packages c d is says = packaged_cases (λ k. info_of k ≡ Ok d) packages c (λ takes. with-info packages c is d says)
+    (λ stays. says)

@@ -24,11 +24,21 @@ abbrev file : AttributeData
 file = record { name = 1; body = Opaque (0 ∷ 1 ∷ []) }
 
 -- the constants 2 to 6 are the attribute's name, and each package with its constant
-named : packaged (codes "a" ∷ codes "a/b" ∷ []) (class 32768 source (file ∷ [])) ≡ class 32768 (source ++ Constant 1 (codes "ModulePackages") ∷ Constant 1 (codes "a") ∷ Constant 20 (0 ∷ 3 ∷ []) ∷ Constant 1 (codes "a/b") ∷ Constant 20 (0 ∷ 5 ∷ []) ∷ []) (file ∷ record { name = 2; body = Opaque (0 ∷ 2 ∷ 0 ∷ 4 ∷ 0 ∷ 6 ∷ []) } ∷ [])
+named : packaged (codes "a" ∷ codes "a/b" ∷ []) (class 32768 source (file ∷ []))
+    ≡ class 32768 (source ++ Constant 1 (codes "ModulePackages") ∷ Constant 1 (codes "a") ∷ Constant 20 (0 ∷ 3 ∷ [])
+    ∷ Constant 1 (codes "a/b") ∷ Constant 20 (0 ∷ 5 ∷ []) ∷ []) (file ∷ record {
+      name = 2;
+      body =
+          Opaque (0 ∷ 2 ∷ 0 ∷ 4 ∷ 0 ∷ 6 ∷ []);
+    } ∷ [])
 named = refl
 
 -- no package
-empty : packaged [] (class 32768 [] []) ≡ class 32768 (Constant 1 (codes "ModulePackages") ∷ []) (record { name = 1; body = Opaque (0 ∷ 0 ∷ []) } ∷ [])
+empty : packaged [] (class 32768 [] []) ≡ class 32768 (Constant 1 (codes "ModulePackages") ∷ []) (record {
+  name = 1;
+  body =
+      Opaque (0 ∷ 0 ∷ []);
+} ∷ [])
 empty = refl
 
 -- a class that is no module's stays
@@ -36,5 +46,6 @@ other : packaged (codes "a" ∷ []) (class 33 source (file ∷ [])) ≡ class 33
 other = refl
 
 -- one with a list stays
-again : packaged (codes "a" ∷ []) (class 32768 (Constant 1 (codes "ModulePackages") ∷ []) (file ∷ [])) ≡ class 32768 (Constant 1 (codes "ModulePackages") ∷ []) (file ∷ [])
+again : packaged (codes "a" ∷ []) (class 32768 (Constant 1 (codes "ModulePackages") ∷ []) (file ∷ []))
+    ≡ class 32768 (Constant 1 (codes "ModulePackages") ∷ []) (file ∷ [])
 again = refl

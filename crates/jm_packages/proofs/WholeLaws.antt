@@ -9,7 +9,8 @@ use Rattle.jm_modinfo.specs.ComputedInfo.{info_of}
 use Rattle.jm_packages.specs.Packages.{packaged, packages_text, takes_none, PackagesTo, Stays}
 use Rattle.jm_packages.proofs.PackagedLaws.{none_stays, packaged-class, packaged-info, packaged_once}
 
-module _ (packages : List (List ℕ)) (bytes text : List ℕ) (class : ClassData) (reads : ReadsAs bytes class) (is : text ≡ packages_text packages class) where
+module _ (packages : List (List ℕ)) (bytes text : List ℕ) (class : ClassData) (reads : ReadsAs bytes class) (is : text
+    ≡ packages_text packages class) where
   pub packages_to : PackagesTo packages bytes text
   packages_to = record { class = class; reads = reads; is = is }
 
@@ -23,7 +24,8 @@ module _ (packages : List (List ℕ)) (bytes text : List ℕ) (class : ClassData
   made_is c made other back = reads_once text (packaged packages c) made (packages_read c other) back
 
   pub packages_say : (c made : ClassData) (d : Descriptor) → ReadsAs bytes c → ReadsAs text made → info_of c ≡ Ok d → info_of made ≡ Ok d
-  packages_say c made d other back says = subst (λ k. info_of k ≡ Ok d) (made_is c made other back) (packaged-info packages c d other.well_formed says)
+  packages_say c made d other back says = subst (λ k. info_of k ≡ Ok d) (made_is c made other back) (packaged-info packages c d
+      other.well_formed says)
 
   pub packages_again : (made : ClassData) → ReadsAs text made → packages_text packages made ≡ text
   packages_again made back =
@@ -33,8 +35,11 @@ module _ (packages : List (List ℕ)) (bytes text : List ℕ) (class : ClassData
 -- Bytes that stay
 
 pub class_stays : (bytes : List ℕ) (class : ClassData) → ReadsAs bytes class → (takes_none class ≡ true) ↔ Stays bytes
-class_stays bytes class reads =
-    (λ none. record { class = class; reads = reads; none = none }, λ stays. ap takes_none (reads_once bytes class stays.class reads stays.reads) ∙ stays.none)
+class_stays bytes class reads = (
+  λ none. record { class = class; reads = reads; none = none },
+  λ stays. ap takes_none (reads_once bytes class stays.class reads
+      stays.reads) ∙ stays.none,
+)
 
 pub fault_stays : (bytes : List ℕ) (fault : ClassFault) → class_fault bytes ≡ Some fault → Stays bytes → ⊥
 fault_stays bytes fault found stays =

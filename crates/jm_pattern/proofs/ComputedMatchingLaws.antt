@@ -1,5 +1,6 @@
 -- The value that is computed is true exactly where the signs match.
-use Rattle.std.proofs.Common.{◌≡◌, ◌≢◌, ◌==◌, ◌↔◌, IsTrue, ◌++◌, ◌∷◌, ◌⊎◌, inl, inr, [], ℕ, Bool, true, false, cond, List, All, Contains, refl, sym, ap, subst}
+use Rattle.std.proofs.Common.{◌≡◌, ◌≢◌, ◌==◌, ◌↔◌, IsTrue, ◌++◌, ◌∷◌, ◌⊎◌, inl, inr, [], ℕ, Bool, true, false}
+use Rattle.std.proofs.Common.{cond, List, All, Contains, refl, sym, ap, subst}
 use Rattle.std.proofs.lemmas.Bool.{eqb-true, eqb-false, eq-eqb, ne_eqb, false≢true}
 use Rattle.std.proofs.lemmas.List.Elements.{All-nil, All-cons, All-head, All-tail}
 use Rattle.jm_bytes.proofs.Members.{contains_none, contains_here, contains_later, contains_cases, any_contains, from_any}
@@ -26,7 +27,8 @@ run-left (b ∷ run) rest own =
     let whole = b ∷ (run ++ rest) in
     let later = run-left run rest (All-tail (λ b. b ≢ 47) b run own) in
     let other = ne_eqb b 47 (All-head (λ b. b ≢ 47) b run own) in
-    subst (λ slash. Contains (whole ∷ cond slash [] (behind_run (run ++ rest))) rest) (sym other) (contains_later whole (behind_run (run ++ rest)) rest later)
+    subst (λ slash. Contains (whole ∷ cond slash [] (behind_run (run ++ rest))) rest) (sym other)
+    (contains_later whole (behind_run (run ++ rest)) rest later)
 
 left-run : (sign : Sign) (run rest : List ℕ) → StandsFor sign run → Contains (left_by sign (run ++ rest)) rest
 left-run AnyRun run rest own = any-left run rest
@@ -41,7 +43,8 @@ match-matches (sign ∷ signs) name (run, rest, is, own, more) =
 
 -- From the value to the rule
 
-one-more : (sign : Sign) (b : ℕ) (name rest : List ℕ) → ((run : List ℕ) → StandsFor sign run → StandsFor sign (b ∷ run)) → Leaves sign name rest → Leaves sign (b ∷ name) rest
+one-more : (sign : Sign) (b : ℕ) (name rest : List ℕ) → ((run : List ℕ) → StandsFor sign run → StandsFor sign (b ∷ run))
+    → Leaves sign name rest → Leaves sign (b ∷ name) rest
 one-more sign b name rest longer (run, is, own) = (b ∷ run, ap (λ x. b ∷ x) is, longer run own)
 
 left-any : (name rest : List ℕ) → Contains (behind_any name) rest → Leaves AnyRun name rest
@@ -62,9 +65,11 @@ left-slash_free [] rest there =
       | inl same ↦ ([], same, All-nil (λ b. b ≢ 47))
       | inr later ↦ absurd (contains_none rest later)
     ]
-left-slash_free (b ∷ name) rest there = go (b == 47) refl (contains_cases (b ∷ name) (cond (b == 47) [] (behind_run name)) rest there) (left-slash_free name rest)
+left-slash_free (b ∷ name) rest there = go (b == 47) refl (contains_cases (b ∷ name) (cond (b == 47) [] (behind_run name)) rest
+    there) (left-slash_free name rest)
   where
-    go : (slash : Bool) → b == 47 ≡ slash → (b ∷ name ≡ rest) ⊎ Contains (cond slash [] (behind_run name)) rest → (Contains (behind_run name) rest → Leaves Run name rest) → Leaves Run (b ∷ name) rest
+    go : (slash : Bool) → b == 47 ≡ slash → (b ∷ name ≡ rest) ⊎ Contains (cond slash [] (behind_run name)) rest
+        → (Contains (behind_run name) rest → Leaves Run name rest) → Leaves Run (b ∷ name) rest
     go slash e (inl same) more = ([], same, All-nil (λ b. b ≢ 47))
     go true e (inr later) more = absurd (contains_none rest later)
     go false e (inr later) more = one-more Run b name rest (λ run own. All-cons (λ b. b ≢ 47) b run (eqb-false b 47 e) own) (more later)

@@ -1,5 +1,7 @@
 -- The signs that are computed are those that the text reads as.
-use Rattle.std.proofs.Common.{◌≡◌, ◌≢◌, ◌==◌, ◌+◌, ◌-◌, ◌++◌, ◌∷◌, ◌&&◌, inl, inr, [], ℕ, Bool, true, false, cond, List, Result, Ok, Err, length, length-append, append_assoc, refl, sym, ap, ◌∙◌, subst, arith}
+use Rattle.std.proofs.Common.{◌≡◌, ◌≢◌, ◌==◌, ◌+◌, ◌-◌, ◌++◌, ◌∷◌, ◌&&◌, inl, inr, [], ℕ, Bool, true, false}
+use Rattle.std.proofs.Common.{cond, List, Result, Ok, Err, length, length-append, append_assoc, refl, sym, ap}
+use Rattle.std.proofs.Common.{◌∙◌, subst, arith}
 use Rattle.std.proofs.lemmas.Bool.{eqb-true, eqb-false, eq-eqb, and_parts, and_from, false≢true}
 use Rattle.jm_bytes.proofs.Choice.{chosen, same_err, same_ok}
 use Rattle.jm_pattern.specs.Reading.{BeginsWith, Spells, Reads, EndsEscaped}
@@ -34,7 +36,8 @@ signs_from-reads at text (sign ∷ signs) reads =
 single_spelled : (b : ℕ) (rest : List ℕ) → b ≢ 92 → (b ≡ 42 → ¬ BeginsWith 42 rest) → Spells (sign_of b) (b ∷ []) rest
 single_spelled b rest other alone = go (b == 42) refl (b == 63) refl
   where
-    go : (star : Bool) → b == 42 ≡ star → (question : Bool) → b == 63 ≡ question → Spells (cond star Run (cond question One (Byte b))) (b ∷ []) rest
+    go : (star : Bool) → b == 42 ≡ star → (question : Bool) → b == 63 ≡ question
+        → Spells (cond star Run (cond question One (Byte b))) (b ∷ []) rest
     go true e question f = let same = eqb-true b 42 e in (ap (λ x. x ∷ []) same, alone same)
     go false e true f = ap (λ x. x ∷ []) (eqb-true b 63 f)
     go false e false f = inr (refl, (eqb-false b 42 e, eqb-false b 63 f, other))
@@ -46,12 +49,15 @@ no_pair b c text e first second = false≢true (sym e ∙ and_from (b == 42) (c 
 two_stars : (b c : ℕ) → b == 42 && c == 42 ≡ true → b ∷ c ∷ [] ≡ 42 ∷ 42 ∷ []
 two_stars b c e = let stars = and_parts (b == 42) (c == 42) e in rw (eqb-true b 42 stars.0, eqb-true c 42 stars.1) refl
 
-given_rest : {A : Type 0} (front : List A) (given : Result (List A) PatternError) (all : List A) → with_front front given ≡ Ok all → (rest : List A) × (given ≡ Ok rest) × (front ++ rest ≡ all)
+given_rest : {A : Type 0} (front : List A) (given : Result (List A) PatternError) (all : List A) → with_front front given ≡ Ok all
+    → (rest : List A) × (given ≡ Ok rest) × (front ++ rest ≡ all)
 given_rest front (Ok rest) all e = (rest, refl, same_ok (front ++ rest) all e)
 given_rest front (Err fault) all e = cc
 
 -- one sign in front of what reads
-one_more : (sign : Sign) (front rest : List ℕ) (given : Result (List Sign) PatternError) (signs : List Sign) → Spells sign front rest → with_front (sign ∷ []) given ≡ Ok signs → ((more : List Sign) → given ≡ Ok more → Reads rest more) → Reads (front ++ rest) signs
+one_more : (sign : Sign) (front rest : List ℕ) (given : Result (List Sign) PatternError) (signs : List Sign)
+    → Spells sign front rest → with_front (sign ∷ []) given ≡ Ok signs → ((more : List Sign) → given ≡ Ok more → Reads rest more)
+    → Reads (front ++ rest) signs
 one_more sign front rest given signs spells e reads =
     let more = given_rest (sign ∷ []) given signs e in
     subst (Reads (front ++ rest)) more.2 (front, rest, refl, spells, reads more.0 more.1)
@@ -66,15 +72,20 @@ reads-signs_from at (b ∷ []) signs e =
           (b ∷ [], [], refl, single_spelled b [] (eqb-false b 92 h.0) (λ same. λ none. none), refl)
     ]
 reads-signs_from at (b ∷ c ∷ text) signs e =
-    let two : (more : List Sign) → signs_from (at + 2) text ≡ Ok more → Reads text more = λ more read. reads-signs_from (at + 2) text more read in
-    let one : (more : List Sign) → signs_from (at + 1) (c ∷ text) ≡ Ok more → Reads (c ∷ text) more = λ more read. reads-signs_from (at + 1) (c ∷ text) more read in
+    let two : (more : List Sign) → signs_from (at + 2) text ≡ Ok more → Reads text more = λ more read. reads-signs_from (at + 2)
+    text more read in
+    let one : (more : List Sign) → signs_from (at + 1) (c ∷ text) ≡ Ok more → Reads (c ∷ text) more = λ more read. reads-signs_from
+    (at + 1) (c ∷ text) more read in
     elim (chosen (b == 92) (with_front (Byte c ∷ []) (signs_from (at + 2) text)) _ (Ok signs) e) [
-      | inl h ↦ one_more (Byte c) (b ∷ c ∷ []) text (signs_from (at + 2) text) signs (inl (ap (λ x. x ∷ c ∷ []) (eqb-true b 92 h.0))) h.1 two
+      | inl h ↦ one_more (Byte c) (b ∷ c ∷ []) text (signs_from (at + 2) text) signs
+          (inl (ap (λ x. x ∷ c ∷ []) (eqb-true b 92 h.0))) h.1 two
       | inr h ↦
-          elim (chosen (b == 42 && c == 42) (with_front (AnyRun ∷ []) (signs_from (at + 2) text)) (with_front (sign_of b ∷ []) (signs_from (at + 1) (c ∷ text))) (Ok signs) h.1) [
+          elim (chosen (b == 42 && c == 42) (with_front (AnyRun ∷ []) (signs_from (at + 2) text)) (with_front (sign_of b ∷ [])
+          (signs_from (at + 1) (c ∷ text))) (Ok signs) h.1) [
             | inl k ↦ one_more AnyRun (b ∷ c ∷ []) text (signs_from (at + 2) text) signs (two_stars b c k.0) k.1 two
             | inr k ↦
-                one_more (sign_of b) (b ∷ []) (c ∷ text) (signs_from (at + 1) (c ∷ text)) signs (single_spelled b (c ∷ text) (eqb-false b 92 h.0) (no_pair b c text k.0)) k.1 one
+                one_more (sign_of b) (b ∷ []) (c ∷ text) (signs_from (at + 1) (c ∷ text)) signs (single_spelled b (c ∷ text)
+                (eqb-false b 92 h.0) (no_pair b c text k.0)) k.1 one
           ]
     ]
 
@@ -95,7 +106,8 @@ spells_more Run front (x ∷ xs) spells = spells
 spells_more One front xs spells = spells
 spells_more (Byte b) front xs spells = spells
 
-read_escaped : (at : ℕ) (front : List ℕ) (signs : List Sign) → Reads front signs → signs_from at (front ++ 92 ∷ []) ≡ Err (BadEscape (at + length front))
+read_escaped : (at : ℕ) (front : List ℕ) (signs : List Sign) → Reads front signs → signs_from at (front ++ 92 ∷ [])
+    ≡ Err (BadEscape (at + length front))
 read_escaped at front [] reads = let place : at + 0 ≡ at = omega arith in rw (reads, place) refl
 read_escaped at front (sign ∷ signs) reads =
     let own = reads.0 in
@@ -113,7 +125,8 @@ pub signs_from-escaped : (at : ℕ) (text : List ℕ) (k : ℕ) → EndsEscaped 
 signs_from-escaped at text k ends =
     ap (signs_from at) ends.whole ∙ read_escaped at ends.front ends.signs ends.reads ∙ ap (λ n. Err (BadEscape (at + n))) (sym ends.place)
 
-given_fault : {A : Type 0} (front : List A) (given : Result (List A) PatternError) (fault : PatternError) → with_front front given ≡ Err fault → given ≡ Err fault
+given_fault : {A : Type 0} (front : List A) (given : Result (List A) PatternError) (fault : PatternError) → with_front front given
+    ≡ Err fault → given ≡ Err fault
 given_fault front (Ok rest) fault e = cc
 given_fault front (Err own) fault e = e
 
@@ -123,7 +136,9 @@ pub record Escaped (at : ℕ) (text : List ℕ) (fault : PatternError) : Type 0 
   pub ends : EndsEscaped text place
   pub is : fault ≡ BadEscape (at + place)
 
-one_escaped : (at n : ℕ) (sign : Sign) (front rest : List ℕ) (given : Result (List Sign) PatternError) (fault : PatternError) → Spells sign front rest → n ≡ length front → with_front (sign ∷ []) given ≡ Err fault → (given ≡ Err fault → Escaped (at + n) rest fault) → Escaped at (front ++ rest) fault
+one_escaped : (at n : ℕ) (sign : Sign) (front rest : List ℕ) (given : Result (List Sign) PatternError) (fault : PatternError)
+    → Spells sign front rest → n ≡ length front → with_front (sign ∷ []) given ≡ Err fault
+    → (given ≡ Err fault → Escaped (at + n) rest fault) → Escaped at (front ++ rest) fault
 one_escaped at n sign front rest given fault spells count e escaped =
     let more = escaped (given_fault (sign ∷ []) given fault e) in
     let ends = more.ends in
@@ -135,7 +150,13 @@ one_escaped at n sign front rest given fault spells count e escaped =
         front = front ++ ends.front;
         signs = sign ∷ ends.signs;
         whole = ap (λ xs. front ++ xs) ends.whole ∙ sym (append_assoc front ends.front (92 ∷ []));
-        reads = (front, ends.front, refl, spells_less sign front ends.front (92 ∷ []) (subst (Spells sign front) ends.whole spells), ends.reads);
+        reads = (
+          front,
+          ends.front,
+          refl,
+          spells_less sign front ends.front (92 ∷ []) (subst (Spells sign front) ends.whole spells),
+          ends.reads,
+        );
         place = sum;
       };
       is = more.is ∙ ap (λ k. BadEscape k) place;
@@ -156,13 +177,17 @@ escaped-signs_from at (b ∷ []) fault e =
     ]
 escaped-signs_from at (b ∷ c ∷ text) fault e =
     let two : signs_from (at + 2) text ≡ Err fault → Escaped (at + 2) text fault = λ read. escaped-signs_from (at + 2) text fault read in
-    let one : signs_from (at + 1) (c ∷ text) ≡ Err fault → Escaped (at + 1) (c ∷ text) fault = λ read. escaped-signs_from (at + 1) (c ∷ text) fault read in
+    let one : signs_from (at + 1) (c ∷ text) ≡ Err fault → Escaped (at + 1) (c ∷ text) fault = λ read. escaped-signs_from (at + 1)
+    (c ∷ text) fault read in
     elim (chosen (b == 92) (with_front (Byte c ∷ []) (signs_from (at + 2) text)) _ (Err fault) e) [
-      | inl h ↦ one_escaped at 2 (Byte c) (b ∷ c ∷ []) text (signs_from (at + 2) text) fault (inl (ap (λ x. x ∷ c ∷ []) (eqb-true b 92 h.0))) refl h.1 two
+      | inl h ↦ one_escaped at 2 (Byte c) (b ∷ c ∷ []) text (signs_from (at + 2) text) fault
+          (inl (ap (λ x. x ∷ c ∷ []) (eqb-true b 92 h.0))) refl h.1 two
       | inr h ↦
-          elim (chosen (b == 42 && c == 42) (with_front (AnyRun ∷ []) (signs_from (at + 2) text)) (with_front (sign_of b ∷ []) (signs_from (at + 1) (c ∷ text))) (Err fault) h.1) [
+          elim (chosen (b == 42 && c == 42) (with_front (AnyRun ∷ []) (signs_from (at + 2) text)) (with_front (sign_of b ∷ [])
+          (signs_from (at + 1) (c ∷ text))) (Err fault) h.1) [
             | inl k ↦ one_escaped at 2 AnyRun (b ∷ c ∷ []) text (signs_from (at + 2) text) fault (two_stars b c k.0) refl k.1 two
             | inr k ↦
-                one_escaped at 1 (sign_of b) (b ∷ []) (c ∷ text) (signs_from (at + 1) (c ∷ text)) fault (single_spelled b (c ∷ text) (eqb-false b 92 h.0) (no_pair b c text k.0)) refl k.1 one
+                one_escaped at 1 (sign_of b) (b ∷ []) (c ∷ text) (signs_from (at + 1) (c ∷ text)) fault (single_spelled b (c ∷ text)
+                (eqb-false b 92 h.0) (no_pair b c text k.0)) refl k.1 one
           ]
     ]

@@ -1,5 +1,7 @@
 -- The first item of a list, and the items behind it.
-use Rattle.std.proofs.Common.{◌≡◌, ◌≢◌, ◌+◌, ◌++◌, ◌∷◌, ◌<◌, [], ℕ, Bool, true, false, List, Option, Some, None, Result, Ok, refl, sym, ap, ◌∙◌, arith, append_assoc, eqb, cond, length-append, length, Bor, IfSome, unwrap_or, option_map}
+use Rattle.std.proofs.Common.{◌≡◌, ◌≢◌, ◌+◌, ◌++◌, ◌∷◌, ◌<◌, [], ℕ, Bool, true, false, List, Option, Some}
+use Rattle.std.proofs.Common.{None, Result, Ok, refl, sym, ap, ◌∙◌, arith, append_assoc, eqb, cond}
+use Rattle.std.proofs.Common.{length-append, length, Bor, IfSome, unwrap_or, option_map}
 use Rattle.std.proofs.lemmas.Bool.{ne_eqb}
 use Rattle.jm_bytes.specs.Results.{UnlessMemory}
 use Rattle.jm_pattern.specs.ComputedReading.{with_front}
@@ -28,9 +30,11 @@ items-some : (text : List ℕ) → items_of text ≢ []
 items-some [] = λ e. cc
 items-some (b ∷ []) = choice-some (eqb b 44) ([] ∷ [] ∷ []) ((b ∷ []) ∷ []) (λ e. cc) (λ e. cc)
 items-some (b ∷ c ∷ text) =
-    choice-some (eqb b 92) (onto_first (b ∷ c ∷ []) (items_of text)) (cond (eqb b 44) ([] ∷ items_of (c ∷ text)) (onto_first (b ∷ []) (items_of (c ∷ text))))
+    choice-some (eqb b 92) (onto_first (b ∷ c ∷ []) (items_of text)) (cond (eqb b 44) ([] ∷ items_of (c ∷ text))
+    (onto_first (b ∷ []) (items_of (c ∷ text))))
     (onto-some (b ∷ c ∷ []) (items_of text))
-    (choice-some (eqb b 44) ([] ∷ items_of (c ∷ text)) (onto_first (b ∷ []) (items_of (c ∷ text))) (λ e. cc) (onto-some (b ∷ []) (items_of (c ∷ text))))
+    (choice-some (eqb b 44) ([] ∷ items_of (c ∷ text)) (onto_first (b ∷ []) (items_of (c ∷ text))) (λ e. cc)
+    (onto-some (b ∷ []) (items_of (c ∷ text))))
 
 onto-none : (items : List (List ℕ)) → items ≢ [] → onto_first [] items ≡ items
 onto-none [] h = absurd (h refl)
@@ -61,15 +65,21 @@ goes-at_end [] e = (92 ∷ [], refl, refl)
 goes-at_end (b ∷ text) e = absurd (omega arith)
 
 -- one pattern further
-pub list-further : (whole : Result (List (List Sign)) PatternError) (patterns : List (List Sign)) (left : Option (List ℕ)) (text item : List ℕ) (behind : Option (List ℕ)) (number : ℕ) (pattern : List Sign) → whole ≡ with_front patterns (patterns_from (length patterns) (items_behind left)) → left ≡ Some text → items_of text ≡ item ∷ items_behind behind → number ≡ length patterns → UnlessMemory Memory (Ok pattern) (item_pattern number item) → whole ≡ with_front (patterns ++ pattern ∷ []) (patterns_from (length (patterns ++ pattern ∷ [])) (items_behind behind))
+pub list-further : (whole : Result (List (List Sign)) PatternError) (patterns : List (List Sign)) (left : Option (List ℕ))
+    (text item : List ℕ) (behind : Option (List ℕ)) (number : ℕ) (pattern : List Sign) → whole
+    ≡ with_front patterns (patterns_from (length patterns) (items_behind left)) → left ≡ Some text → items_of text
+    ≡ item ∷ items_behind behind → number ≡ length patterns → UnlessMemory Memory (Ok pattern) (item_pattern number item) → whole
+    ≡ with_front (patterns ++ pattern ∷ []) (patterns_from (length (patterns ++ pattern ∷ [])) (items_behind behind))
 list-further whole patterns left text item behind number pattern e is items count read =
     let one : item_pattern (length patterns) item ≡ Ok pattern = rw count at (given-ok pattern (item_pattern number item) read) in
     let more : length (patterns ++ pattern ∷ []) ≡ length patterns + 1 = omega (arith, length-append patterns (pattern ∷ [])) in
     let here : items_behind left ≡ item ∷ items_behind behind = ap items_behind is ∙ items in
     let next = patterns_from (length patterns + 1) (items_behind behind) in
-    rw more (e ∙ ap (λ x. with_front patterns (patterns_from (length patterns) x)) here ∙ ap (λ x. with_front patterns (with_first x next)) one ∙ read-on patterns pattern next)
+    rw more (e ∙ ap (λ x. with_front patterns (patterns_from (length patterns) x)) here
+    ∙ ap (λ x. with_front patterns (with_first x next)) one ∙ read-on patterns pattern next)
 
 -- what is left of the list gets shorter
-pub less-left : (behind : Option (Bor (List ℕ))) (n : ℕ) → IfSome behind (λ rest. length rest.now < n) → unwrap_or (option_map (λ rest. length rest.now + 1) behind) 0 < n + 1
+pub less-left : (behind : Option (Bor (List ℕ))) (n : ℕ) → IfSome behind (λ rest. length rest.now < n)
+    → unwrap_or (option_map (λ rest. length rest.now + 1) behind) 0 < n + 1
 less-left None n h = omega arith
 less-left (Some rest) n h = omega arith

@@ -1,5 +1,6 @@
 -- The first sign of a text, by its first bytes.
-use Rattle.std.proofs.Common.{◌≡◌, ◌≢◌, ◌+◌, ◌-◌, ◌<◌, ◌≤◌, ◌++◌, ◌∷◌, [], ℕ, List, Result, Ok, Err, length, refl, sym, ap, ◌∙◌, arith, append_assoc, eqb, ◌&&◌, true, false, Bool, inl, inr}
+use Rattle.std.proofs.Common.{◌≡◌, ◌≢◌, ◌+◌, ◌-◌, ◌<◌, ◌≤◌, ◌++◌, ◌∷◌, [], ℕ, List, Result, Ok, Err, length}
+use Rattle.std.proofs.Common.{refl, sym, ap, ◌∙◌, arith, append_assoc, eqb, ◌&&◌, true, false, Bool, inl, inr}
 use Rattle.std.proofs.lemmas.Bool.Decides.{nat_tests}
 use Rattle.std.proofs.lemmas.Bool.{ne_eqb}
 use Rattle.jm_bytes.specs.Results.{UnlessMemory}
@@ -16,7 +17,8 @@ place-behind : (at k : ℕ) (text rest : List ℕ) → length text ≡ length re
 place-behind at k text rest e = omega arith
 
 -- a byte that isn't a `\` and makes no pair with the next
-single-pair : (at b c : ℕ) (text : List ℕ) (pair : Bool) → eqb b 92 ≡ false → (eqb b 42 && eqb c 42) ≡ pair → pair ≡ false → signs_from at (b ∷ c ∷ text) ≡ with_front (sign_of b ∷ []) (signs_from (at + 1) (c ∷ text))
+single-pair : (at b c : ℕ) (text : List ℕ) (pair : Bool) → eqb b 92 ≡ false → (eqb b 42 && eqb c 42) ≡ pair → pair ≡ false
+    → signs_from at (b ∷ c ∷ text) ≡ with_front (sign_of b ∷ []) (signs_from (at + 1) (c ∷ text))
 single-pair at b c text pair e1 e2 e3 = rw (e1, e2, e3) refl
 
 no-pair : (b c : ℕ) (text : List ℕ) → (b ≡ 42 → ¬ BeginsWith 42 (c ∷ text)) → (eqb b 42 && eqb c 42) ≡ false
@@ -30,11 +32,13 @@ no-pair b c text k = go (eqb b 42) refl (eqb c 42) refl
         let then-star : c ≡ 42 = grind (arith, nat_tests) in
         absurd (k is-star then-star)
 
-pub reads-single : (at b : ℕ) (text : List ℕ) → b ≢ 92 → (b ≡ 42 → ¬ BeginsWith 42 text) → signs_from at (b ∷ text) ≡ with_front (sign_of b ∷ []) (signs_from (at + 1) text)
+pub reads-single : (at b : ℕ) (text : List ℕ) → b ≢ 92 → (b ≡ 42 → ¬ BeginsWith 42 text) → signs_from at (b ∷ text)
+    ≡ with_front (sign_of b ∷ []) (signs_from (at + 1) text)
 reads-single at b [] h k = rw (ne_eqb b 92 h) refl
 reads-single at b (c ∷ text) h k = single-pair at b c text false (ne_eqb b 92 h) (no-pair b c text k) refl
 
-pub first-single : (whole : List ℕ) (b : ℕ) (text : List ℕ) (sign : Sign) → whole ≡ b ∷ text → b ≢ 92 → (b ≡ 42 → ¬ BeginsWith 42 text) → sign_of b ≡ sign → ReadsFirst whole sign text
+pub first-single : (whole : List ℕ) (b : ℕ) (text : List ℕ) (sign : Sign) → whole ≡ b ∷ text → b ≢ 92
+    → (b ≡ 42 → ¬ BeginsWith 42 text) → sign_of b ≡ sign → ReadsFirst whole sign text
 first-single whole b text sign e h k same at =
     rw (e, place-behind at 1 (b ∷ text) text (omega arith)) (rw same at (reads-single at b text h k))
 
@@ -65,16 +69,20 @@ first-byte whole text b e h1 h2 h3 =
     first-single whole b text (Byte b) e h1 (λ e. absurd (h2 e)) (rw (ne_eqb b 42 h2, ne_eqb b 63 h3) refl)
 
 -- a `\` at the end
-pub escape-at_end : (whole text : List ℕ) (b : ℕ) → whole ≡ b ∷ text → b ≡ 92 → length text ≡ 0 → (at : ℕ) → signs_from at whole ≡ Err (BadEscape at)
+pub escape-at_end : (whole text : List ℕ) (b : ℕ) → whole ≡ b ∷ text → b ≡ 92 → length text ≡ 0 → (at : ℕ) → signs_from at whole
+    ≡ Err (BadEscape at)
 escape-at_end whole [] b e1 e2 e3 at = let e : whole ≡ 92 ∷ [] = cc in rw e refl
 escape-at_end whole (c ∷ text) b e1 e2 e3 at = absurd (omega arith)
 
 -- what was read before what is left, one further
-pub read-on : {A : Type 0} (first : List A) (sign : A) (given : Result (List A) PatternError) → with_front first (with_front (sign ∷ []) given) ≡ with_front (first ++ sign ∷ []) given
+pub read-on : {A : Type 0} (first : List A) (sign : A) (given : Result (List A) PatternError)
+    → with_front first (with_front (sign ∷ []) given) ≡ with_front (first ++ sign ∷ []) given
 read-on first sign (Ok signs) = ap (λ x. Ok x) (sym (append_assoc first (sign ∷ []) signs))
 read-on first sign (Err fault) = refl
 
-pub reads-further : (text : List ℕ) (signs : List Sign) (left : List ℕ) (sign : Sign) (rest : List ℕ) → length left ≤ length text → signs_from 0 text ≡ with_front signs (signs_from (length text - length left) left) → length rest < length left → ReadsFirst left sign rest → signs_from 0 text ≡ with_front (signs ++ sign ∷ []) (signs_from (length text - length rest) rest)
+pub reads-further : (text : List ℕ) (signs : List Sign) (left : List ℕ) (sign : Sign) (rest : List ℕ) → length left ≤ length text
+    → signs_from 0 text ≡ with_front signs (signs_from (length text - length left) left) → length rest < length left
+    → ReadsFirst left sign rest → signs_from 0 text ≡ with_front (signs ++ sign ∷ []) (signs_from (length text - length rest) rest)
 reads-further text signs left sign rest h e shorter first =
     let place : (length text - length left) + (length left - length rest) ≡ length text - length rest = omega arith in
     let here = rw place at (first (length text - length left)) in

@@ -34,13 +34,15 @@ pub any-matches : MatchesAll (AnyRun ∷ [])
 any-matches name = (name, [], sym (append-nil name), tt, refl)
 
 -- the same, of what a text reads as
-pub plain-read : (text : List ℕ) (signs : List Sign) → All IsPlain text → UnlessMemory Memory (Ok signs) (signs_from 0 text) → MatchesOnly signs text
+pub plain-read : (text : List ℕ) (signs : List Sign) → All IsPlain text → UnlessMemory Memory (Ok signs) (signs_from 0 text)
+    → MatchesOnly signs text
 plain-read text signs h read =
     let whole = sym (given-ok signs (signs_from 0 text) read) ∙ plain-signs 0 text h in
     let same : signs ≡ map (λ b. Byte b) text = cc in
     rw same (plain-matches text)
 
-pub any-read : (text : List ℕ) (signs : List Sign) → text ≡ 42 ∷ 42 ∷ [] → UnlessMemory Memory (Ok signs) (signs_from 0 text) → MatchesAll signs
+pub any-read : (text : List ℕ) (signs : List Sign) → text ≡ 42 ∷ 42 ∷ [] → UnlessMemory Memory (Ok signs) (signs_from 0 text)
+    → MatchesAll signs
 any-read text signs h read =
     let whole = rw h at (given-ok signs (signs_from 0 text) read) in
     let same : signs ≡ AnyRun ∷ [] = cc in

@@ -4,14 +4,17 @@ use Rattle.std.proofs.lemmas.Bool.{eqb-false}
 use Rattle.std.proofs.lemmas.List.Elements.{All-nil, All-cons, All-head}
 use Rattle.jm_pattern.specs.Matching.{StandsFor, Match}
 use Rattle.jm_pattern.specs.MatchingSteps.{Leads, IsFixed, BeginsFixed, AtRun, AtAny, behind_line}
-use Rattle.jm_pattern.proofs.Runs.{InRun, any-empty, run-empty, any-longer, run-longer, any-shorter, run-shorter, any-absorbs, run-absorbs, any-absorbs_before, any-fixed, any-run, run-fixed, fixed-on}
+use Rattle.jm_pattern.proofs.Runs.{InRun, any-empty, run-empty, any-longer, run-longer, any-shorter}
+use Rattle.jm_pattern.proofs.Runs.{run-shorter, any-absorbs, run-absorbs, any-absorbs_before, any-fixed}
+use Rattle.jm_pattern.proofs.Runs.{any-run, run-fixed, fixed-on}
 use Rattle.jm_pattern.specs.declared.signs.Sign.{Sign}
 use Rattle.jm_pattern.specs.declared.signs.Sign.TheVariants.{AnyRun, Run, One, Byte}
 
 pub leads-here : (p : List Sign) (n : List ℕ) → Leads p n p n
 leads-here p n = record { back = λ m. m; on = λ m. m; run = λ m. m; any = λ m. m }
 
-pub leads-further : (p : List Sign) (n : List ℕ) (q : List Sign) (o : List ℕ) (r : List Sign) (t : List ℕ) → Leads p n q o → Leads q o r t → Leads p n r t
+pub leads-further : (p : List Sign) (n : List ℕ) (q : List Sign) (o : List ℕ) (r : List Sign) (t : List ℕ) → Leads p n q o
+    → Leads q o r t → Leads p n r t
 leads-further p n q o r t first second = record {
   back = λ m. first.back (second.back m);
   on = λ m. second.on (first.on m);
@@ -97,18 +100,23 @@ leads-any_line p n =
     }
 
 -- the same, of a name and signs that begin so
-pub leads-one : (signs : List Sign) (name : List ℕ) (s : Sign) (p : List Sign) (b : ℕ) (n : List ℕ) → signs ≡ s ∷ p → name ≡ b ∷ n → BeginsFixed signs → StandsFor s (b ∷ []) → Leads signs name p n
+pub leads-one : (signs : List Sign) (name : List ℕ) (s : Sign) (p : List Sign) (b : ℕ) (n : List ℕ) → signs ≡ s ∷ p → name ≡ b ∷ n
+    → BeginsFixed signs → StandsFor s (b ∷ []) → Leads signs name p n
 leads-one signs name s p b n e1 e2 f h = rw (e1, e2) (leads-fixed s p b n (rw e1 at f) h)
 
-pub none-one : (signs : List Sign) (name : List ℕ) (s : Sign) (p : List Sign) (b : ℕ) (n : List ℕ) → signs ≡ s ∷ p → name ≡ b ∷ n → BeginsFixed signs → ¬ StandsFor s (b ∷ []) → ¬ Match signs name
+pub none-one : (signs : List Sign) (name : List ℕ) (s : Sign) (p : List Sign) (b : ℕ) (n : List ℕ) → signs ≡ s ∷ p → name ≡ b ∷ n
+    → BeginsFixed signs → ¬ StandsFor s (b ∷ []) → ¬ Match signs name
 none-one signs name s p b n e1 e2 f h m = h (fixed-on s p b n (rw e1 at f) (rw (e1, e2) at m)).0
 
 -- a `*` at a byte that it may take, behind which nothing matches here, and at one that it may not
-pub leads-run_on : (p : List Sign) (n rest : List ℕ) (b : ℕ) (after : List ℕ) → Leads (Run ∷ p) n (Run ∷ p) rest → rest ≡ b ∷ after → ¬ Match p rest → StandsFor Run (b ∷ []) → Leads (Run ∷ p) n (Run ∷ p) after
+pub leads-run_on : (p : List Sign) (n rest : List ℕ) (b : ℕ) (after : List ℕ) → Leads (Run ∷ p) n (Run ∷ p) rest → rest ≡ b ∷ after
+    → ¬ Match p rest → StandsFor Run (b ∷ []) → Leads (Run ∷ p) n (Run ∷ p) after
 leads-run_on p n rest b after l e not_here h =
-    leads-further (Run ∷ p) n (Run ∷ p) (b ∷ after) (Run ∷ p) after (rw e at l) (leads-run_byte p b after (rw e at not_here) (All-head InRun b [] h))
+    leads-further (Run ∷ p) n (Run ∷ p) (b ∷ after) (Run ∷ p) after (rw e at l) (leads-run_byte p b after (rw e at not_here)
+    (All-head InRun b [] h))
 
-pub none-run_on : (p : List Sign) (n rest : List ℕ) (b : ℕ) (after : List ℕ) → Leads (Run ∷ p) n (Run ∷ p) rest → rest ≡ b ∷ after → ¬ Match p rest → ¬ StandsFor Run (b ∷ []) → ¬ Match (Run ∷ p) n
+pub none-run_on : (p : List Sign) (n rest : List ℕ) (b : ℕ) (after : List ℕ) → Leads (Run ∷ p) n (Run ∷ p) rest → rest ≡ b ∷ after
+    → ¬ Match p rest → ¬ StandsFor Run (b ∷ []) → ¬ Match (Run ∷ p) n
 none-run_on p n rest b after l e not_here h m =
     h (All-cons InRun b [] (run-shorter p b after (rw e at not_here) (rw e at (l.on m))).0 (All-nil InRun))
 
@@ -125,22 +133,27 @@ leads-next_line p (b ∷ n) not_here = go (b == 47) refl (leads-next_line p n)
     byte : Leads (AnyRun ∷ p) (b ∷ n) (AnyRun ∷ p) n
     byte = leads-any_byte p b n (λ m. not_here (run-empty p (b ∷ n) m))
 
-    go : (slash : Bool) → b == 47 ≡ slash → (¬ Match (Run ∷ p) n → Leads (AnyRun ∷ p) n (AnyRun ∷ p) (behind_line n)) → Leads (AnyRun ∷ p) (b ∷ n) (AnyRun ∷ p) (cond slash n (behind_line n))
+    go : (slash : Bool) → b == 47 ≡ slash → (¬ Match (Run ∷ p) n → Leads (AnyRun ∷ p) n (AnyRun ∷ p) (behind_line n))
+        → Leads (AnyRun ∷ p) (b ∷ n) (AnyRun ∷ p) (cond slash n (behind_line n))
     go true e more = byte
     go false e more =
-        leads-further (AnyRun ∷ p) (b ∷ n) (AnyRun ∷ p) n (AnyRun ∷ p) (behind_line n) byte (more (λ m. not_here (run-longer p b n (eqb-false b 47 e) m)))
+        leads-further (AnyRun ∷ p) (b ∷ n) (AnyRun ∷ p) n (AnyRun ∷ p) (behind_line n) byte
+        (more (λ m. not_here (run-longer p b n (eqb-false b 47 e) m)))
 
 -- the same, a line after others
-pub leads-line_on : (p : List Sign) (n rest after : List ℕ) → Leads (AnyRun ∷ p) n (AnyRun ∷ p) rest → ¬ Match (Run ∷ p) rest → after ≡ behind_line rest → Leads (AnyRun ∷ p) n (AnyRun ∷ p) after
+pub leads-line_on : (p : List Sign) (n rest after : List ℕ) → Leads (AnyRun ∷ p) n (AnyRun ∷ p) rest → ¬ Match (Run ∷ p) rest
+    → after ≡ behind_line rest → Leads (AnyRun ∷ p) n (AnyRun ∷ p) after
 leads-line_on p n rest after l not_here e =
     leads-further (AnyRun ∷ p) n (AnyRun ∷ p) rest (AnyRun ∷ p) after l (rw e (leads-next_line p rest not_here))
 
 -- and there is no other line
-pub none-line_on : (p : List Sign) (n rest : List ℕ) → Leads (AnyRun ∷ p) n (AnyRun ∷ p) rest → ¬ Match (Run ∷ p) rest → All InRun rest → ¬ Match (AnyRun ∷ p) n
+pub none-line_on : (p : List Sign) (n rest : List ℕ) → Leads (AnyRun ∷ p) n (AnyRun ∷ p) rest → ¬ Match (Run ∷ p) rest
+    → All InRun rest → ¬ Match (AnyRun ∷ p) n
 none-line_on p n rest l not_here a m = not_here (any-run p rest a (l.on m))
 
 -- the sign behind a segment is a `**`
-pub leads-past_any : (p : List Sign) (n : List ℕ) (q : List Sign) (o : List ℕ) (s : Sign) (behind r : List Sign) (t : List ℕ) → Leads p n q o → AtAny q o → q ≡ s ∷ behind → Leads (AnyRun ∷ behind) o r t → Leads p n r t
+pub leads-past_any : (p : List Sign) (n : List ℕ) (q : List Sign) (o : List ℕ) (s : Sign) (behind r : List Sign) (t : List ℕ)
+    → Leads p n q o → AtAny q o → q ≡ s ∷ behind → Leads (AnyRun ∷ behind) o r t → Leads p n r t
 leads-past_any p n q o s behind r t l e same next =
     let first : s ≡ AnyRun = rw same at e in
     leads-further p n (AnyRun ∷ behind) o r t (rw (same, first) at l) next

@@ -34,7 +34,8 @@ pub places_all : (n : List ℕ) → over_lines line_places n ≡ length n + 1
 places_all [] = refl
 places_all (b ∷ n) = go (b == 47) (places_all n)
   where
-    go : (slash : Bool) → line_places n + over_later line_places n ≡ length n + 1 → cond slash 1 (1 + line_places n) + cond slash (line_places n + over_later line_places n) (over_later line_places n) ≡ suc (length n) + 1
+    go : (slash : Bool) → line_places n + over_later line_places n ≡ length n + 1 → cond slash 1 (1 + line_places n)
+        + cond slash (line_places n + over_later line_places n) (over_later line_places n) ≡ suc (length n) + 1
     go true more = omega (arith, more)
     go false more = omega (arith, more)
 
@@ -54,7 +55,9 @@ later_add : (f g : List ℕ → ℕ) (n : List ℕ) → over_later (λ m. f m + 
 later_add f g [] = refl
 later_add f g (b ∷ n) = go (b == 47) (later_add f g n)
   where
-    go : (slash : Bool) → over_later (λ m. f m + g m) n ≡ over_later f n + over_later g n → cond slash (f n + g n + over_later (λ m. f m + g m) n) (over_later (λ m. f m + g m) n) ≡ cond slash (f n + over_later f n) (over_later f n) + cond slash (g n + over_later g n) (over_later g n)
+    go : (slash : Bool) → over_later (λ m. f m + g m) n ≡ over_later f n + over_later g n
+        → cond slash (f n + g n + over_later (λ m. f m + g m) n) (over_later (λ m. f m + g m) n) ≡ cond slash (f n + over_later f n)
+        (over_later f n) + cond slash (g n + over_later g n) (over_later g n)
     go true more = omega (arith, more)
     go false more = more
 
@@ -74,11 +77,14 @@ line_later : (f : List ℕ → ℕ) (n : List ℕ) → over_lines (λ m. f (behi
 line_later f [] = omega arith
 line_later f (b ∷ n) = go (b == 47) (line_later f n)
   where
-    go : (slash : Bool) → over_lines (λ m. f (behind_line m)) n ≡ over_later f n + f [] → f (cond slash n (behind_line n)) + cond slash (f (behind_line n) + over_later (λ m. f (behind_line m)) n) (over_later (λ m. f (behind_line m)) n) ≡ cond slash (f n + over_later f n) (over_later f n) + f []
+    go : (slash : Bool) → over_lines (λ m. f (behind_line m)) n ≡ over_later f n + f [] → f (cond slash n (behind_line n))
+        + cond slash (f (behind_line n) + over_later (λ m. f (behind_line m)) n) (over_later (λ m. f (behind_line m)) n)
+        ≡ cond slash (f n + over_later f n) (over_later f n) + f []
     go true more = omega (arith, more)
     go false more = more
 
-pub lines_later : (f : List ℕ → ℕ) (j : ℕ) (n : List ℕ) → ((m : List ℕ) → f [] ≤ f m) → over_lines (λ m. f (lines_on j m)) n ≤ over_lines f n
+pub lines_later : (f : List ℕ → ℕ) (j : ℕ) (n : List ℕ) → ((m : List ℕ) → f [] ≤ f m) → over_lines (λ m. f (lines_on j m)) n
+    ≤ over_lines f n
 lines_later f zero n least = le_refl (over_lines f n)
 lines_later f (suc j) n least =
     let first = lines_later (λ m. f (behind_line m)) j n (λ m. least (behind_line m)) in
@@ -89,6 +95,7 @@ pub first_line : (f : List ℕ → ℕ) (n : List ℕ) → ¬ All InRun n → ov
 first_line f [] slash = absurd (slash (All-nil InRun))
 first_line f (b ∷ n) slash = go (b == 47) refl (first_line f n)
   where
-    go : (x : Bool) → b == 47 ≡ x → (¬ All InRun n → over_lines f n ≡ f n + over_lines f (behind_line n)) → f (b ∷ n) + cond x (f n + over_later f n) (over_later f n) ≡ f (b ∷ n) + over_lines f (cond x n (behind_line n))
+    go : (x : Bool) → b == 47 ≡ x → (¬ All InRun n → over_lines f n ≡ f n + over_lines f (behind_line n))
+        → f (b ∷ n) + cond x (f n + over_later f n) (over_later f n) ≡ f (b ∷ n) + over_lines f (cond x n (behind_line n))
     go true e more = refl
     go false e more = let later = more (λ a. slash (All-cons InRun b n (eqb-false b 47 e) a)) in omega (arith, later)

@@ -1,5 +1,7 @@
 -- Patterns and lists of patterns, as they are computed, by the rules.
-use Rattle.std.proofs.Common.{◌≡◌, ◌≢◌, ◌⊎◌, ◌<◌, ◌+◌, inl, inr, [], ◌∷◌, ℕ, zero, suc, Bool, true, false, cond, List, Some, Result, Ok, Err, IfErr, slice_get, refl, sym, ap, ◌∙◌, subst, arith}
+use Rattle.std.proofs.Common.{◌≡◌, ◌≢◌, ◌⊎◌, ◌<◌, ◌+◌, inl, inr, [], ◌∷◌, ℕ, zero, suc, Bool, true, false}
+use Rattle.std.proofs.Common.{cond, List, Some, Result, Ok, Err, IfErr, slice_get, refl, sym, ap, ◌∙◌, subst}
+use Rattle.std.proofs.Common.{arith}
 use Rattle.std.specs.List.{AllZip}
 use Rattle.jm_bytes.specs.Results.{UnlessMemory}
 use Rattle.jm_bytes.proofs.Choice.{same_err, same_ok, same_some}
@@ -30,7 +32,8 @@ pub parsed_reads : (text : List ℕ) (signs : List Sign) → UnlessMemory Memory
 parsed_reads text signs (inl none) = cc
 parsed_reads text signs (inr read) = reads-signs_from 0 text signs (sym read)
 
-pub parsed_fault : (text : List ℕ) (result : Result (List Sign) PatternError) → UnlessMemory Memory result (pattern_of text) → IfErr result (λ fault. (fault ≡ Memory) ⊎ IsFaultOf text fault)
+pub parsed_fault : (text : List ℕ) (result : Result (List Sign) PatternError) → UnlessMemory Memory result (pattern_of text)
+    → IfErr result (λ fault. (fault ≡ Memory) ⊎ IsFaultOf text fault)
 parsed_fault text (Ok signs) unless = tt
 parsed_fault text (Err fault) (inl none) = inl (same_err fault Memory none)
 parsed_fault text (Err fault) (inr read) = inr (pattern_fault text fault (sym read))
@@ -53,24 +56,28 @@ item_fault number item fault e = go (is_refused item) refl e
     behind (Prefix n) fine is = absurd is
     behind Memory fine is = is
 
-    go : (b : Bool) → is_refused item ≡ b → cond b (Err (Prefix number)) (pattern_of (without_glob item)) ≡ Err fault → IsItemFault number item fault
+    go : (b : Bool) → is_refused item ≡ b → cond b (Err (Prefix number)) (pattern_of (without_glob item)) ≡ Err fault
+        → IsItemFault number item fault
     go true refused e = subst (IsItemFault number item) (same_err (Prefix number) fault e) (refl, refused)
     go false fine e = behind fault fine (pattern_fault (without_glob item) fault e)
 
 -- a first item and the rest give a list, or the fault of one of them
-first_given : {A : Type 0} (first : Result A PatternError) (rest : Result (List A) PatternError) (all : List A) → with_first first rest ≡ Ok all → (x : A) × (xs : List A) × (first ≡ Ok x) × (rest ≡ Ok xs) × (x ∷ xs ≡ all)
+first_given : {A : Type 0} (first : Result A PatternError) (rest : Result (List A) PatternError) (all : List A)
+    → with_first first rest ≡ Ok all → (x : A) × (xs : List A) × (first ≡ Ok x) × (rest ≡ Ok xs) × (x ∷ xs ≡ all)
 first_given (Ok x) (Ok xs) all e = (x, xs, refl, refl, same_ok (x ∷ xs) all e)
 first_given (Ok x) (Err fault) all e = cc
 first_given (Err fault) rest all e = cc
 
-pub items_read : (number : ℕ) (items : List (List ℕ)) (patterns : List (List Sign)) → patterns_from number items ≡ Ok patterns → AllZip ItemReads items patterns
+pub items_read : (number : ℕ) (items : List (List ℕ)) (patterns : List (List Sign)) → patterns_from number items ≡ Ok patterns
+    → AllZip ItemReads items patterns
 items_read number [] patterns e = subst (AllZip ItemReads []) (same_ok [] patterns e) tt
 items_read number (item ∷ items) patterns e =
     let given = first_given (item_pattern number item) (patterns_from (number + 1) items) patterns e in
     subst (AllZip ItemReads (item ∷ items)) given.4
     (item_reads number item given.0 given.2, items_read (number + 1) items given.1 given.3)
 
-here : (number : ℕ) (item : List ℕ) (items : List (List ℕ)) (fault : PatternError) → IsItemFault number item fault → IsFirstItemFault number (item ∷ items) fault
+here : (number : ℕ) (item : List ℕ) (items : List (List ℕ)) (fault : PatternError) → IsItemFault number item fault
+    → IsFirstItemFault number (item ∷ items) fault
 here number item items fault faulty =
     let at : number ≡ number + 0 = omega arith in
     record {
@@ -81,7 +88,8 @@ here number item items fault faulty =
       faulty = subst (λ n. IsItemFault n item fault) at faulty;
     }
 
-later : (number : ℕ) (item : List ℕ) (items : List (List ℕ)) (signs : List Sign) (fault : PatternError) → ItemReads item signs → IsFirstItemFault (number + 1) items fault → IsFirstItemFault number (item ∷ items) fault
+later : (number : ℕ) (item : List ℕ) (items : List (List ℕ)) (signs : List Sign) (fault : PatternError) → ItemReads item signs
+    → IsFirstItemFault (number + 1) items fault → IsFirstItemFault number (item ∷ items) fault
 later number item items signs fault reads first =
     let at : number + 1 + first.place ≡ number + suc first.place = omega arith in
     record {
@@ -92,11 +100,13 @@ later number item items signs fault reads first =
       faulty = subst (λ n. IsItemFault n first.item fault) at first.faulty;
     }
   where
-    go : (k : ℕ) (other : List ℕ) → k < suc first.place → slice_get (item ∷ items) k ≡ Some other → (given : List Sign) × ItemReads other given
+    go : (k : ℕ) (other : List ℕ) → k < suc first.place → slice_get (item ∷ items) k ≡ Some other → (given : List Sign)
+        × ItemReads other given
     go zero other below is = (signs, subst (λ i. ItemReads i signs) (same_some item other is) reads)
     go (suc k) other below is = first.before k other (omega (arith, below)) is
 
-pub items_fault : (number : ℕ) (items : List (List ℕ)) (fault : PatternError) → patterns_from number items ≡ Err fault → IsFirstItemFault number items fault
+pub items_fault : (number : ℕ) (items : List (List ℕ)) (fault : PatternError) → patterns_from number items ≡ Err fault
+    → IsFirstItemFault number items fault
 items_fault number [] fault e = cc
 items_fault number (item ∷ items) fault e = go (item_pattern number item) refl e (λ rest. items_fault (number + 1) items fault rest)
   where
@@ -104,15 +114,20 @@ items_fault number (item ∷ items) fault e = go (item_pattern number item) refl
     behind (Ok rest) signs e = cc
     behind (Err own) signs e = e
 
-    go : (o : Result (List Sign) PatternError) → item_pattern number item ≡ o → with_first o (patterns_from (number + 1) items) ≡ Err fault → (patterns_from (number + 1) items ≡ Err fault → IsFirstItemFault (number + 1) items fault) → IsFirstItemFault number (item ∷ items) fault
-    go (Ok signs) is e rest = later number item items signs fault (item_reads number item signs is) (rest (behind (patterns_from (number + 1) items) signs e))
+    go : (o : Result (List Sign) PatternError) → item_pattern number item ≡ o → with_first o (patterns_from (number + 1) items)
+        ≡ Err fault → (patterns_from (number + 1) items ≡ Err fault → IsFirstItemFault (number + 1) items fault)
+        → IsFirstItemFault number (item ∷ items) fault
+    go (Ok signs) is e rest = later number item items signs fault (item_reads number item signs is)
+        (rest (behind (patterns_from (number + 1) items) signs e))
     go (Err own) is e rest = here number item items fault (item_fault number item fault (is ∙ ap (λ f. Err f) (same_err own fault e)))
 
-pub list_reads : (text : List ℕ) (patterns : List (List Sign)) → UnlessMemory Memory (Ok patterns) (list_of text) → AllZip ItemReads (items_of text) patterns
+pub list_reads : (text : List ℕ) (patterns : List (List Sign)) → UnlessMemory Memory (Ok patterns) (list_of text)
+    → AllZip ItemReads (items_of text) patterns
 list_reads text patterns (inl none) = cc
 list_reads text patterns (inr read) = items_read 0 (items_of text) patterns (sym read)
 
-pub list_fault : (text : List ℕ) (result : Result (List (List Sign)) PatternError) → UnlessMemory Memory result (list_of text) → IfErr result (λ fault. (fault ≡ Memory) ⊎ IsListFault text fault)
+pub list_fault : (text : List ℕ) (result : Result (List (List Sign)) PatternError) → UnlessMemory Memory result (list_of text)
+    → IfErr result (λ fault. (fault ≡ Memory) ⊎ IsListFault text fault)
 list_fault text (Ok patterns) unless = tt
 list_fault text (Err fault) (inl none) = inl (same_err fault Memory none)
 list_fault text (Err fault) (inr read) = inr (items_fault 0 (items_of text) fault (sym read))

@@ -33,7 +33,8 @@ any-first p b n (c ∷ run) rest e not_here m = (run, rest, cc, tt, m)
 pub any-shorter : (p : List Sign) (b : ℕ) (n : List ℕ) → ¬ Match p (b ∷ n) → Match (AnyRun ∷ p) (b ∷ n) → Match (AnyRun ∷ p) n
 any-shorter p b n not_here m = any-first p b n m.0 m.1 m.2 not_here m.4
 
-run-first : (p : List Sign) (b : ℕ) (n run rest : List ℕ) → b ∷ n ≡ run ++ rest → All InRun run → ¬ Match p (b ∷ n) → Match p rest → (b ≢ 47) × Match (Run ∷ p) n
+run-first : (p : List Sign) (b : ℕ) (n run rest : List ℕ) → b ∷ n ≡ run ++ rest → All InRun run → ¬ Match p (b ∷ n) → Match p rest
+    → (b ≢ 47) × Match (Run ∷ p) n
 run-first p b n [] rest e a not_here m = absurd (not_here (rw e m))
 run-first p b n (c ∷ run) rest e a not_here m =
     let same : b ≡ c = cc in
@@ -72,8 +73,14 @@ any-absorbs s p n m =
 -- a `*` takes what a `*` behind it stands for, and a `**` takes what a `*` before it does
 pub run-absorbs : (p : List Sign) (n : List ℕ) → Match (Run ∷ Run ∷ p) n → Match (Run ∷ p) n
 run-absorbs p n m =
-    let inner = m.4 in
-    (m.0 ++ inner.0, inner.1, m.2 ∙ ap (λ x. m.0 ++ x) inner.2 ∙ sym (append_assoc m.0 inner.0 inner.1), All-append InRun m.0 inner.0 m.3 inner.3, inner.4)
+    let inner = m.4 in (
+      m.0 ++ inner.0,
+      inner.1,
+      m.2 ∙ ap (λ x. m.0 ++ x) inner.2 ∙ sym (append_assoc m.0 inner.0 inner.1),
+      All-append InRun m.0
+          inner.0 m.3 inner.3,
+      inner.4,
+    )
 
 pub any-absorbs_before : (p : List Sign) (n : List ℕ) → Match (Run ∷ AnyRun ∷ p) n → Match (AnyRun ∷ p) n
 any-absorbs_before p n m =
@@ -101,7 +108,8 @@ any-fixed_at p b c n (d ∷ run) rest e m =
     let tail : n ≡ run ++ c ∷ rest = cc in
     (run ++ c ∷ [], rest, tail ∙ sym (append_assoc run (c ∷ []) rest), tt, m)
 
-run-fixed_at : (p : List Sign) (b c : ℕ) (n run rest : List ℕ) → b ∷ n ≡ run ++ c ∷ rest → All InRun run → (b ≢ 47 → c ≢ 47) → Match p rest → Match (Run ∷ p) n
+run-fixed_at : (p : List Sign) (b c : ℕ) (n run rest : List ℕ) → b ∷ n ≡ run ++ c ∷ rest → All InRun run → (b ≢ 47 → c ≢ 47)
+    → Match p rest → Match (Run ∷ p) n
 run-fixed_at p b c n [] rest e a h m = ([], rest, cc, All-nil InRun, m)
 run-fixed_at p b c n (d ∷ run) rest e a h m =
     let tail : n ≡ run ++ c ∷ rest = cc in
@@ -115,11 +123,13 @@ any-fixed s p b n f m =
     let one = one_of s inner.0 f inner.3 in
     any-fixed_at p b one.0 n m.0 inner.1 (m.2 ∙ ap (λ x. m.0 ++ x) (inner.2 ∙ ap (λ x. x ++ inner.1) one.1)) inner.4
 
-pub run-fixed : (s : Sign) (p : List Sign) (b : ℕ) (n : List ℕ) → IsFixed s → StandsFor s (b ∷ []) → Match (Run ∷ s ∷ p) (b ∷ n) → Match (Run ∷ p) n
+pub run-fixed : (s : Sign) (p : List Sign) (b : ℕ) (n : List ℕ) → IsFixed s → StandsFor s (b ∷ []) → Match (Run ∷ s ∷ p) (b ∷ n)
+    → Match (Run ∷ p) n
 run-fixed s p b n f h m =
     let inner = m.4 in
     let one = one_of s inner.0 f inner.3 in
-    run-fixed_at p b one.0 n m.0 inner.1 (m.2 ∙ ap (λ x. m.0 ++ x) (inner.2 ∙ ap (λ x. x ++ inner.1) one.1)) m.3 (in_run s b one.0 f h one.2) inner.4
+    run-fixed_at p b one.0 n m.0 inner.1 (m.2 ∙ ap (λ x. m.0 ++ x) (inner.2 ∙ ap (λ x. x ++ inner.1) one.1)) m.3
+    (in_run s b one.0 f h one.2) inner.4
 
 -- a sign for one byte matches the first byte and leaves the rest, or doesn't match
 pub fixed-on : (s : Sign) (p : List Sign) (b : ℕ) (n : List ℕ) → IsFixed s → Match (s ∷ p) (b ∷ n) → StandsFor s (b ∷ []) × Match p n

@@ -1,10 +1,12 @@
 -- What a search costs: one step of it, a try of a segment, and all tries over the lines of a name.
-use Rattle.std.proofs.Common.{◌≡◌, ◌≢◌, ◌≤◌, ◌+◌, ◌-◌, ◌*◌, ◌∷◌, ◌==◌, [], ℕ, suc, Bool, true, false, cond, List, Option, None, Some, IfNone, length, refl, ap, arith}
+use Rattle.std.proofs.Common.{◌≡◌, ◌≢◌, ◌≤◌, ◌+◌, ◌-◌, ◌*◌, ◌∷◌, ◌==◌, [], ℕ, suc, Bool, true, false, cond}
+use Rattle.std.proofs.Common.{List, Option, None, Some, IfNone, length, refl, ap, arith}
 use Rattle.std.proofs.lemmas.Bool.{ne_eqb, eqb-false}
 use Rattle.jm_pattern.specs.Matching.{StandsFor}
 use Rattle.jm_pattern.specs.MatchingSteps.{NoLonger, TakesByte, IsFixed, BeginsFixed, AtRun, AtAny, behind_line}
 use Rattle.jm_pattern.specs.MatchingCosts.{line_places, block_length, behind_segment, segment_cost}
-use Rattle.jm_pattern.proofs.LineSums.{over_lines, lines_on, places_some, places_all, places_most, behind_line-shorter, lines_add, later_none, lines_later}
+use Rattle.jm_pattern.proofs.LineSums.{over_lines, lines_on, places_some, places_all, places_most}
+use Rattle.jm_pattern.proofs.LineSums.{behind_line-shorter, lines_add, later_none, lines_later}
 use Rattle.jm_pattern.specs.declared.signs.Sign.{Sign}
 use Rattle.jm_pattern.specs.declared.signs.Sign.TheVariants.{AnyRun, Run, One, Byte}
 
@@ -28,18 +30,21 @@ cost-byte k (Run ∷ p) b n h = rw (ne_eqb b 47 h) (omega (arith, cost-byte (lin
 cost-byte k (One ∷ p) b n h = omega (arith, cost-byte k p b n h)
 cost-byte k (Byte c ∷ p) b n h = rw (ne_eqb b 47 h) (go (c == 47) (cost-byte k p b n h))
   where
-    go : (slash : Bool) → segment_cost k p n ≤ segment_cost k p (b ∷ n) → k + segment_cost k p (cond slash (behind_line n) n) ≤ k + segment_cost k p (cond slash (behind_line n) (b ∷ n))
+    go : (slash : Bool) → segment_cost k p n ≤ segment_cost k p (b ∷ n) → k + segment_cost k p (cond slash (behind_line n) n) ≤ k
+        + segment_cost k p (cond slash (behind_line n) (b ∷ n))
     go true more = omega arith
     go false more = omega (arith, more)
 
 -- a sign for one byte that takes a byte
-cost-taken : (k : ℕ) (s : Sign) (p : List Sign) (b : ℕ) (n : List ℕ) → IsFixed s → StandsFor s (b ∷ []) → segment_cost k p n + k ≤ segment_cost k (s ∷ p) (b ∷ n)
+cost-taken : (k : ℕ) (s : Sign) (p : List Sign) (b : ℕ) (n : List ℕ) → IsFixed s → StandsFor s (b ∷ []) → segment_cost k p n + k
+    ≤ segment_cost k (s ∷ p) (b ∷ n)
 cost-taken k AnyRun p b n f h = absurd f
 cost-taken k Run p b n f h = absurd f
 cost-taken k One p b n f h = let other : b ≢ 47 = λ e. h.1 cc in omega (arith, cost-byte k p b n other)
 cost-taken k (Byte c) p b n f h = let same : b ≡ c = cc in rw (← same) (go (b == 47) refl)
   where
-    go : (slash : Bool) → b == 47 ≡ slash → segment_cost k p n + k ≤ k + segment_cost k p (cond slash (cond slash n (behind_line n)) (b ∷ n))
+    go : (slash : Bool) → b == 47 ≡ slash → segment_cost k p n + k ≤ k + segment_cost k p (cond slash (cond slash n (behind_line n))
+        (b ∷ n))
     go true e = omega arith
     go false e = omega (arith, cost-byte k p b n (eqb-false b 47 e))
 
@@ -54,7 +59,8 @@ pub cost-try : (p : List Sign) (n : List ℕ) → block_length p + 1 ≤ segment
 cost-try p n = omega (arith, places_some n, cost-block (line_places n) p n (places_some n))
 
 -- a step that takes a byte and a sign, of what was left
-pub cost-takes : (k : ℕ) (signs : List Sign) (name : List ℕ) (p : List Sign) (n : List ℕ) → BeginsFixed signs → TakesByte signs name p n → segment_cost k p n + k ≤ segment_cost k signs name
+pub cost-takes : (k : ℕ) (signs : List Sign) (name : List ℕ) (p : List Sign) (n : List ℕ) → BeginsFixed signs
+    → TakesByte signs name p n → segment_cost k p n + k ≤ segment_cost k signs name
 cost-takes k signs name p n f t = rw (t.signs_are, t.name_is) (cost-taken k t.sign p t.byte n (rw t.signs_are at f) t.stands)
 
 pub block-begins : (signs : List Sign) → BeginsFixed signs → 1 ≤ block_length signs
@@ -64,34 +70,40 @@ block-begins (Run ∷ p) f = absurd f
 block-begins (One ∷ p) f = omega arith
 block-begins (Byte b ∷ p) f = omega arith
 
-block-fixed : (s : Sign) (p : List Sign) → IsFixed s → (block_length (s ∷ p) ≡ 1 + block_length p) × (behind_segment (s ∷ p) ≡ behind_segment p)
+block-fixed : (s : Sign) (p : List Sign) → IsFixed s → (block_length (s ∷ p) ≡ 1 + block_length p) × (behind_segment (s ∷ p)
+    ≡ behind_segment p)
 block-fixed AnyRun p f = absurd f
 block-fixed Run p f = absurd f
 block-fixed One p f = (refl, refl)
 block-fixed (Byte b) p f = (refl, refl)
 
-pub block-takes : (signs : List Sign) (name : List ℕ) (p : List Sign) (n : List ℕ) → BeginsFixed signs → TakesByte signs name p n → (block_length signs ≡ 1 + block_length p) × (behind_segment signs ≡ behind_segment p)
+pub block-takes : (signs : List Sign) (name : List ℕ) (p : List Sign) (n : List ℕ) → BeginsFixed signs → TakesByte signs name p n
+    → (block_length signs ≡ 1 + block_length p) × (behind_segment signs ≡ behind_segment p)
 block-takes signs name p n f t = rw t.signs_are (block-fixed t.sign p (rw t.signs_are at f))
 
 -- what is left grows no longer
-pub shorter-takes : (signs : List Sign) (name : List ℕ) (q : List Sign) (o : List ℕ) (p : List Sign) (n : List ℕ) → NoLonger signs name q o → TakesByte q o p n → NoLonger signs name p n
+pub shorter-takes : (signs : List Sign) (name : List ℕ) (q : List Sign) (o : List ℕ) (p : List Sign) (n : List ℕ)
+    → NoLonger signs name q o → TakesByte q o p n → NoLonger signs name p n
 shorter-takes signs name q o p n l t = record {
   in_signs = omega (arith, l.in_signs, ap length t.signs_are);
   in_name = omega (arith, l.in_name, ap length t.name_is);
 }
 
-pub shorter-further : (signs : List Sign) (name : List ℕ) (q : List Sign) (o : List ℕ) (p : List Sign) (n : List ℕ) → NoLonger signs name q o → NoLonger q o p n → NoLonger signs name p n
+pub shorter-further : (signs : List Sign) (name : List ℕ) (q : List Sign) (o : List ℕ) (p : List Sign) (n : List ℕ)
+    → NoLonger signs name q o → NoLonger q o p n → NoLonger signs name p n
 shorter-further signs name q o p n l m = record {
   in_signs = omega (arith, l.in_signs, m.in_signs);
   in_name = omega (arith, l.in_name, m.in_name);
 }
 
 -- a byte that is no `/` stands in the first line
-pub line-byte : (name : List ℕ) (b : ℕ) (n : List ℕ) → name ≡ b ∷ n → b ≢ 47 → (behind_line name ≡ behind_line n) × (line_places name ≡ 1 + line_places n)
+pub line-byte : (name : List ℕ) (b : ℕ) (n : List ℕ) → name ≡ b ∷ n → b ≢ 47 → (behind_line name ≡ behind_line n)
+    × (line_places name ≡ 1 + line_places n)
 line-byte name b n e h = rw (e, ne_eqb b 47 h) (refl, refl)
 
 -- a `*` that takes a byte
-pub cost-run_byte : (p : List Sign) (b : ℕ) (n : List ℕ) → b ≢ 47 → segment_cost 0 (Run ∷ p) n + block_length p + 1 ≤ segment_cost 0 (Run ∷ p) (b ∷ n)
+pub cost-run_byte : (p : List Sign) (b : ℕ) (n : List ℕ) → b ≢ 47 → segment_cost 0 (Run ∷ p) n + block_length p + 1
+    ≤ segment_cost 0 (Run ∷ p) (b ∷ n)
 cost-run_byte p b n h = rw (ne_eqb b 47 h) (omega (arith, cost-byte (line_places n) p b n h, cost-place (line_places n) p (b ∷ n)))
 
 -- at a run the places of the block before it don't count
@@ -115,12 +127,14 @@ cost-least k j (Run ∷ p) n h = omega (arith, places_some n, cost-least 1 (line
 cost-least k j (One ∷ p) n h = omega (arith, h, cost-least k j p n h)
 cost-least k j (Byte b ∷ p) n h = go (b == 47) (λ m. cost-least k j p m h)
   where
-    go : (slash : Bool) → ((m : List ℕ) → segment_cost k p [] ≤ segment_cost j p m) → k + segment_cost k p (cond slash [] []) ≤ j + segment_cost j p (cond slash (behind_line n) n)
+    go : (slash : Bool) → ((m : List ℕ) → segment_cost k p [] ≤ segment_cost j p m) → k + segment_cost k p (cond slash [] []) ≤ j
+        + segment_cost j p (cond slash (behind_line n) n)
     go true more = omega (arith, h, more (behind_line n))
     go false more = omega (arith, h, more n)
 
 -- one try of a segment, at so much for each sign
-pub cost-most : (most k : ℕ) (p : List Sign) (n : List ℕ) → k ≤ most → length n + 1 ≤ most → segment_cost k p n + length (behind_segment p) * most ≤ length p * most
+pub cost-most : (most k : ℕ) (p : List Sign) (n : List ℕ) → k ≤ most → length n + 1 ≤ most → segment_cost k p n
+    + length (behind_segment p) * most ≤ length p * most
 cost-most most k [] n h l = omega arith
 cost-most most k (AnyRun ∷ p) n h l = omega arith
 cost-most most k (Run ∷ p) n h l = omega (arith, l, places_most n, cost-most most (line_places n) p n (omega (arith, l, places_most n)) l)
@@ -134,26 +148,53 @@ cost-most most k (Byte b ∷ p) n h l =
     go false = l
 
 -- the tries of a segment from each line on
-tries-most : (most j : ℕ) (p : List Sign) (n : List ℕ) → length n + 1 ≤ most → over_lines (λ m. segment_cost (line_places m) p (lines_on j m)) n + length (behind_segment p) * most ≤ length p * most
+tries-most : (most j : ℕ) (p : List Sign) (n : List ℕ) → length n + 1 ≤ most
+    → over_lines (λ m. segment_cost (line_places m) p (lines_on j m)) n + length (behind_segment p) * most ≤ length p * most
 tries-most most j [] n l = omega (arith, later_none n)
 tries-most most j (AnyRun ∷ p) n l = omega (arith, later_none n)
 tries-most most j (Run ∷ p) n l =
     let cost : List ℕ → ℕ = λ m. line_places m + segment_cost (line_places m) p m in
     let least : (m : List ℕ) → cost [] ≤ cost m = λ m. omega (arith, places_some m, cost-least 1 (line_places m) p m (places_some m)) in
-    omega (arith, l, lines_later cost j n least, lines_add line_places (λ m. segment_cost (line_places m) p m) n, places_all n, tries-most most 0 p n l)
+    omega (
+      arith,
+      l,
+      lines_later cost j n least,
+      lines_add line_places (λ m. segment_cost (line_places m) p m) n,
+      places_all n,
+      tries-most most 0 p n l,
+    )
 tries-most most j (One ∷ p) n l =
     omega (arith, l, lines_add line_places (λ m. segment_cost (line_places m) p (lines_on j m)) n, places_all n, tries-most most j p n l)
 tries-most most j (Byte b ∷ p) n l = go (b == 47) (λ i. tries-most most i p n l)
   where
-    go : (slash : Bool) → ((i : ℕ) → over_lines (λ m. segment_cost (line_places m) p (lines_on i m)) n + length (behind_segment p) * most ≤ length p * most) → over_lines (λ m. line_places m + segment_cost (line_places m) p (cond slash (behind_line (lines_on j m)) (lines_on j m))) n + length (behind_segment p) * most ≤ suc (length p) * most
-    go true more = omega (arith, l, lines_add line_places (λ m. segment_cost (line_places m) p (lines_on (suc j) m)) n, places_all n, more (suc j))
+    go : (slash : Bool) → ((i : ℕ) → over_lines (λ m. segment_cost (line_places m) p (lines_on i m)) n + length (behind_segment p) *
+        most ≤ length p * most) → over_lines (λ m. line_places m + segment_cost (line_places m) p
+        (cond slash (behind_line (lines_on j m)) (lines_on j m))) n + length (behind_segment p) * most ≤ suc (length p) * most
+    go true more = omega (
+      arith,
+      l,
+      lines_add line_places (λ m. segment_cost (line_places m) p (lines_on (suc j) m)) n,
+      places_all
+          n,
+      more (suc j),
+    )
     go false more = omega (arith, l, lines_add line_places (λ m. segment_cost (line_places m) p (lines_on j m)) n, places_all n, more j)
 
 -- a try behind a `*` in each line, and the way to the next line
 abbrev pub line_cost : List Sign → List ℕ → ℕ
 line_cost p n = line_places n + segment_cost 0 (Run ∷ p) n
 
-pub search-most : (most : ℕ) (p : List Sign) (n : List ℕ) → 2 * (length n + 1) ≤ most → over_lines (line_cost p) n + length (behind_segment p) * most ≤ (length p + 1) * most
+pub search-most : (most : ℕ) (p : List Sign) (n : List ℕ) → 2 * (length n + 1) ≤ most → over_lines (line_cost p) n
+    + length (behind_segment p) * most ≤ (length p + 1) * most
 search-most most p n l =
-    let tries : over_lines (λ m. segment_cost (line_places m) p m) n + length (behind_segment p) * most ≤ length p * most = tries-most most 0 p n (omega (arith, l)) in
-    omega (arith, l, tries, places_all n, lines_add line_places (segment_cost 0 (Run ∷ p)) n, lines_add line_places (λ m. segment_cost (line_places m) p m) n)
+    let tries : over_lines (λ m. segment_cost (line_places m) p m) n + length (behind_segment p) * most ≤ length p * most =
+    tries-most most 0 p n (omega (arith, l)) in
+    omega (
+      arith,
+      l,
+      tries,
+      places_all n,
+      lines_add line_places (segment_cost 0 (Run ∷ p)) n,
+      lines_add line_places
+          (λ m. segment_cost (line_places m) p m) n,
+    )

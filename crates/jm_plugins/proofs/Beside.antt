@@ -1,5 +1,6 @@
 -- What is answered for the places of a list, beside the elements of the list.
-use Rattle.std.proofs.Common.{◌≡◌, ℕ, List, [], ◌∷◌, ◌++◌, Bool, true, false, cond, Some, length, map, slice_get, Result, Ok, Err, IfOk, refl, sym, ap, subst, ◌∙◌, append_assoc}
+use Rattle.std.proofs.Common.{◌≡◌, ℕ, List, [], ◌∷◌, ◌++◌, Bool, true, false, cond, Some, length, map}
+use Rattle.std.proofs.Common.{slice_get, Result, Ok, Err, IfOk, refl, sym, ap, subst, ◌∙◌, append_assoc}
 use Rattle.std.proofs.lemmas.Slice.Zip.{AllZip-map}
 use Rattle.std.proofs.lemmas.List.{length_push}
 use Rattle.std.specs.Borrow.{Bor}
@@ -15,18 +16,22 @@ module _ {A : Type 0} where
   at_front [] rest x = refl
   at_front (y ∷ front) rest x = at_front front rest x
 
-  beside : {B : Type 0} (R : A → B → Type 0) (all front rest : List A) (ys : List B) → all ≡ front ++ rest → AllZip (λ place y. (x : A) → slice_get all place ≡ Some x → R x y) (range_with_len (length front) (length rest)) ys → AllZip R rest ys
+  beside : {B : Type 0} (R : A → B → Type 0) (all front rest : List A) (ys : List B) → all ≡ front ++ rest
+      → AllZip (λ place y. (x : A) → slice_get all place ≡ Some x → R x y) (range_with_len (length front) (length rest)) ys
+      → AllZip R rest ys
   beside R all front [] [] is zipped = tt
   beside R all front [] (y ∷ ys) is zipped = absurd zipped
   beside R all front (x ∷ rest) [] is zipped = absurd zipped
   beside {B} R all front (x ∷ rest) (y ∷ ys) is zipped =
       let there : slice_get all (length front) ≡ Some x = ap (λ l. slice_get l (length front)) is ∙ at_front front rest x in
       let on : all ≡ (front ++ x ∷ []) ++ rest = is ∙ sym (append_assoc front (x ∷ []) rest) in
-      let next = subst (λ k. AllZip (λ place (z : B). (w : A) → slice_get all place ≡ Some w → R w z) (range_with_len k (length rest)) ys) (sym (length_push front x)) zipped.1 in
+      let next = subst (λ k. AllZip (λ place (z : B). (w : A) → slice_get all place ≡ Some w → R w z)
+      (range_with_len k (length rest)) ys) (sym (length_push front x)) zipped.1 in
       (zipped.0 x there, beside R all (front ++ x ∷ []) rest ys on next)
 
   -- what holds of the element at each place holds beside the elements
-  pub beside_all : {B : Type 0} (R : A → B → Type 0) (xs : List A) (ys : List B) → AllZip (λ place y. (x : A) → slice_get xs place ≡ Some x → R x y) (range_with_len 0 (length xs)) ys → AllZip R xs ys
+  pub beside_all : {B : Type 0} (R : A → B → Type 0) (xs : List A) (ys : List B) → AllZip (λ place y. (x : A) → slice_get xs place
+      ≡ Some x → R x y) (range_with_len 0 (length xs)) ys → AllZip R xs ys
   beside_all R xs ys zipped = beside R xs [] xs ys refl zipped
 
   -- flags that are the answers of a test keep what passes
@@ -34,17 +39,23 @@ module _ {A : Type 0} where
   flagged_filter test [] = refl
   flagged_filter test (x ∷ xs) = go (test x) (flagged_filter test xs)
     where
-      go : (b : Bool) → flagged_items (map test xs) xs ≡ filter test xs → flagged_items (b ∷ map test xs) (x ∷ xs) ≡ cond b (x ∷ filter test xs) (filter test xs)
+      go : (b : Bool) → flagged_items (map test xs) xs ≡ filter test xs → flagged_items (b ∷ map test xs) (x ∷ xs)
+          ≡ cond b (x ∷ filter test xs) (filter test xs)
       go true rest = ap (λ l. x ∷ l) rest
       go false rest = rest
 
 -- the same of an answer that may be an error
-pub each_ok : {F A B E : Type 0} (g : Shared F (Bor A × Unit {0}) B) (f : F) (Q : A → B → Type 0) (xs : List A) (r : Result (List B) E) → ((x : Bor A) (b : B) → FnReturns g f (x, tt) b → Q x.now b) → IfOk r (λ ys. AllZip (FnReturnsAt g f) xs ys) → IfOk r (λ ys. AllZip Q xs ys)
+pub each_ok : {F A B E : Type 0} (g : Shared F (Bor A × Unit {0}) B) (f : F) (Q : A → B → Type 0) (xs : List A)
+    (r : Result (List B) E) → ((x : Bor A) (b : B) → FnReturns g f (x, tt) b → Q x.now b)
+    → IfOk r (λ ys. AllZip (FnReturnsAt g f) xs ys) → IfOk r (λ ys. AllZip Q xs ys)
 each_ok g f Q xs (Ok ys) answers zipped = zipped_each g f Q xs ys answers zipped
 each_ok g f Q xs (Err e) answers zipped = tt
 
 -- answers that are a function of the element at each place
-pub mapped_ok : {A B E : Type 0} (v : A → B) (xs : List A) (places : List ℕ) (r : Result (List B) E) → places ≡ range_with_len 0 (length xs) → IfOk r (λ ys. AllZip (λ place y. (x : A) → slice_get xs place ≡ Some x → y ≡ v x) places ys) → IfOk r (λ ys. ys ≡ map v xs)
+pub mapped_ok : {A B E : Type 0} (v : A → B) (xs : List A) (places : List ℕ) (r : Result (List B) E) → places
+    ≡ range_with_len 0 (length xs) → IfOk r (λ ys. AllZip (λ place y. (x : A) → slice_get xs place ≡ Some x → y ≡ v x) places ys)
+    → IfOk r (λ ys. ys ≡ map v xs)
 mapped_ok v xs places (Ok ys) all zipped =
-    AllZip-map v xs ys (beside_all (λ x y. y ≡ v x) xs ys (subst (λ ks. AllZip (λ place y. (x : _) → slice_get xs place ≡ Some x → y ≡ v x) ks ys) all zipped))
+    AllZip-map v xs ys (beside_all (λ x y. y ≡ v x) xs ys (subst (λ ks. AllZip (λ place y. (x : _) → slice_get xs place ≡ Some x
+    → y ≡ v x) ks ys) all zipped))
 mapped_ok v xs places (Err e) all zipped = tt

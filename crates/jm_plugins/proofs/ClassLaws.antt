@@ -1,5 +1,7 @@
 -- Classes made anew, put at their places one after another, are the pairs with these texts.
-use Rattle.std.proofs.Common.{◌≡◌, ℕ, zero, suc, ◌+◌, ◌<◌, inl, inr, List, [], ◌∷◌, ◌++◌, Bool, true, false, cond, Result, Ok, Err, IfOk, Some, All, length, drop, ◌≤◌, get_or, slice_get, refl, sym, ap, subst, ◌∙◌, arith, append_assoc, append-nil}
+use Rattle.std.proofs.Common.{◌≡◌, ℕ, zero, suc, ◌+◌, ◌<◌, inl, inr, List, [], ◌∷◌, ◌++◌, Bool, true, false}
+use Rattle.std.proofs.Common.{cond, Result, Ok, Err, IfOk, Some, All, length, drop, ◌≤◌, get_or, slice_get}
+use Rattle.std.proofs.Common.{refl, sym, ap, subst, ◌∙◌, arith, append_assoc, append-nil}
 use Rattle.std.proofs.lemmas.Bool.{false≢true}
 use Rattle.std.proofs.lemmas.List.{length_push, drop_more, drop_all}
 use Rattle.std.proofs.lemmas.Option.{get_or_from_slice_get}
@@ -27,11 +29,13 @@ use Rattle.jm_plugins.proofs.Beside.{at_front}
 
 -- Pairs with other bytes at a place
 
-replaced : (done rest : List (List ℕ × List ℕ)) (pair : List ℕ × List ℕ) (text : List ℕ) → with_bytes_at (done ++ pair ∷ rest) (length done) text ≡ done ++ (pair.0, text) ∷ rest
+replaced : (done rest : List (List ℕ × List ℕ)) (pair : List ℕ × List ℕ) (text : List ℕ) → with_bytes_at (done ++ pair ∷ rest)
+    (length done) text ≡ done ++ (pair.0, text) ∷ rest
 replaced [] rest pair text = ap (λ l. (pair.0, text) ∷ l) (zipped rest)
 replaced (p ∷ done) rest pair text = ap (λ l. p ∷ l) (replaced done rest pair text)
 
-name_there : (done rest : List (List ℕ × List ℕ)) (pair : List ℕ × List ℕ) → get_or (names_of (done ++ pair ∷ rest)) (length done) [] ≡ pair.0
+name_there : (done rest : List (List ℕ × List ℕ)) (pair : List ℕ × List ℕ) → get_or (names_of (done ++ pair ∷ rest)) (length done)
+    [] ≡ pair.0
 name_there [] rest pair = refl
 name_there (p ∷ done) rest pair = name_there done rest pair
 
@@ -42,46 +46,61 @@ as_many (p ∷ pairs) (suc place) text = ap suc (as_many pairs place text)
 
 -- Places of classes
 
-places_within : (takes : List ℕ → Bool) (at : ℕ) (pairs : List (List ℕ × List ℕ)) → All (λ place. place < at + length pairs) (class_places takes at pairs)
+places_within : (takes : List ℕ → Bool) (at : ℕ) (pairs : List (List ℕ × List ℕ)) → All (λ place. place < at + length pairs)
+    (class_places takes at pairs)
 places_within takes at [] = All-nil (λ place. place < at + 0)
-places_within takes at (pair ∷ pairs) = go (takes pair.0) (All-weaker (λ place. place < at + 1 + length pairs) (λ place. place < at + length (pair ∷ pairs)) (λ place below. omega arith) (class_places takes (at + 1) pairs) (places_within takes (at + 1) pairs))
+places_within takes at (pair ∷ pairs) = go (takes pair.0) (All-weaker (λ place. place < at + 1 + length pairs) (λ place. place < at
+    + length (pair ∷ pairs)) (λ place below. omega arith) (class_places takes (at + 1) pairs) (places_within takes (at + 1) pairs))
   where
-    go : (b : Bool) → All (λ place. place < at + length (pair ∷ pairs)) (class_places takes (at + 1) pairs) → All (λ place. place < at + length (pair ∷ pairs)) (cond b (at ∷ class_places takes (at + 1) pairs) (class_places takes (at + 1) pairs))
+    go : (b : Bool) → All (λ place. place < at + length (pair ∷ pairs)) (class_places takes (at + 1) pairs)
+        → All (λ place. place < at + length (pair ∷ pairs)) (cond b (at ∷ class_places takes (at + 1) pairs)
+        (class_places takes (at + 1) pairs))
     go true rest = All-cons (λ place. place < at + length (pair ∷ pairs)) at (class_places takes (at + 1) pairs) (omega arith) rest
     go false rest = rest
 
-pub classes_within : (takes : List ℕ → Bool) (pairs : List (List ℕ × List ℕ)) → All (λ place. place < length pairs) (class_places takes 0 pairs)
+pub classes_within : (takes : List ℕ → Bool) (pairs : List (List ℕ × List ℕ)) → All (λ place. place < length pairs)
+    (class_places takes 0 pairs)
 classes_within takes pairs =
     let none : 0 + length pairs ≡ length pairs = omega arith in
     subst (λ n. All (λ place. place < n) (class_places takes 0 pairs)) none (places_within takes 0 pairs)
 
 -- the classes behind a place, with one place more at the front
-module _ (takes : List ℕ → Bool) (pairs : List (List ℕ × List ℕ)) (place : ℕ) (pair : List ℕ × List ℕ) (there : slice_get pairs place ≡ Some pair) (below : place < length pairs) where
+module _ (takes : List ℕ → Bool) (pairs : List (List ℕ × List ℕ)) (place : ℕ) (pair : List ℕ × List ℕ)
+    (there : slice_get pairs place ≡ Some pair) (below : place < length pairs) where
   one_more : class_places takes place (drop place pairs) ≡ class_places takes place (pair ∷ drop (place + 1) pairs)
-  one_more = ap (class_places takes place) (drop_more pairs place pair below ∙ ap (λ p. p ∷ drop (place + 1) pairs) (get_or_from_slice_get pairs place pair pair there))
+  one_more = ap (class_places takes place) (drop_more pairs place pair below ∙ ap (λ p. p ∷ drop (place + 1) pairs)
+      (get_or_from_slice_get pairs place pair pair there))
 
-  pub class_next : (found all : List ℕ) → takes pair.0 ≡ true → found ++ class_places takes place (drop place pairs) ≡ all → (found ++ place ∷ []) ++ class_places takes (place + 1) (drop (place + 1) pairs) ≡ all
+  pub class_next : (found all : List ℕ) → takes pair.0 ≡ true → found ++ class_places takes place (drop place pairs) ≡ all
+      → (found ++ place ∷ []) ++ class_places takes (place + 1) (drop (place + 1) pairs) ≡ all
   class_next found all named so_far =
-      let here = one_more ∙ ap (λ b. cond b (place ∷ class_places takes (place + 1) (drop (place + 1) pairs)) (class_places takes (place + 1) (drop (place + 1) pairs))) named in
+      let here = one_more ∙ ap (λ b. cond b (place ∷ class_places takes (place + 1) (drop (place + 1) pairs))
+      (class_places takes (place + 1) (drop (place + 1) pairs))) named in
       append_assoc found (place ∷ []) (class_places takes (place + 1) (drop (place + 1) pairs)) ∙ ap (λ l. found ++ l) (sym here) ∙ so_far
 
-  pub other_next : (found all : List ℕ) → takes pair.0 ≡ false → found ++ class_places takes place (drop place pairs) ≡ all → found ++ class_places takes (place + 1) (drop (place + 1) pairs) ≡ all
+  pub other_next : (found all : List ℕ) → takes pair.0 ≡ false → found ++ class_places takes place (drop place pairs) ≡ all
+      → found ++ class_places takes (place + 1) (drop (place + 1) pairs) ≡ all
   other_next found all named so_far =
-      let here = one_more ∙ ap (λ b. cond b (place ∷ class_places takes (place + 1) (drop (place + 1) pairs)) (class_places takes (place + 1) (drop (place + 1) pairs))) named in
+      let here = one_more ∙ ap (λ b. cond b (place ∷ class_places takes (place + 1) (drop (place + 1) pairs))
+      (class_places takes (place + 1) (drop (place + 1) pairs))) named in
       ap (λ l. found ++ l) (sym here) ∙ so_far
 
 -- no place is behind the last
-pub classes_all : (takes : List ℕ → Bool) (pairs : List (List ℕ × List ℕ)) (place : ℕ) (found all : List ℕ) → length pairs ≤ place → found ++ class_places takes place (drop place pairs) ≡ all → found ≡ all
-classes_all takes pairs place found all past so_far = sym (append-nil found) ∙ ap (λ l. found ++ class_places takes place l) (sym (drop_all place pairs past)) ∙ so_far
+pub classes_all : (takes : List ℕ → Bool) (pairs : List (List ℕ × List ℕ)) (place : ℕ) (found all : List ℕ) → length pairs ≤ place
+    → found ++ class_places takes place (drop place pairs) ≡ all → found ≡ all
+classes_all takes pairs place found all past so_far = sym (append-nil found) ∙ ap (λ l. found ++ class_places takes place l)
+    (sym (drop_all place pairs past)) ∙ so_far
 
 -- classes made anew are at places of the pool
-pub remade_within : (text : List ℕ → ClassData → List ℕ) (n : ℕ) (all : List (List ℕ × List ℕ)) (places : List ℕ) (outs : List Remade) → AllZip (IsRemade text all) places outs → All (λ place. place < n) places → All (λ one. one.place < n) outs
+pub remade_within : (text : List ℕ → ClassData → List ℕ) (n : ℕ) (all : List (List ℕ × List ℕ)) (places : List ℕ)
+    (outs : List Remade) → AllZip (IsRemade text all) places outs → All (λ place. place < n) places → All (λ one. one.place < n) outs
 remade_within text n all [] [] zipped within = All-nil (λ one. one.place < n)
 remade_within text n all [] (one ∷ outs) zipped within = absurd zipped
 remade_within text n all (place ∷ places) [] zipped within = absurd zipped
 remade_within text n all (place ∷ places) (one ∷ outs) zipped within =
     let own : place < n = within 0 0 (omega arith) in
-    All-cons (λ z. z.place < n) one outs (rw zipped.0.0 own) (remade_within text n all places outs zipped.1 (λ k d below. within (suc k) d (omega arith)))
+    All-cons (λ z. z.place < n) one outs (rw zipped.0.0 own) (remade_within text n all places outs zipped.1
+    (λ k d below. within (suc k) d (omega arith)))
 
 -- What is said of one text
 
@@ -103,7 +122,8 @@ strips_as bytes (Err read_error.Memory) given fails = tt
 
 pub packages_as : (packages : List (List ℕ)) (bytes : List ℕ) (result : Result (List ℕ) ReadError)
     → IfOk result (λ text. PackagesTo packages bytes text)
-    → ((fault : ClassFault) → result ≡ Err (read_error.Fault fault) → class_fault bytes ≡ Some fault) → RemadeAs (packages_text packages) bytes result
+    → ((fault : ClassFault) → result ≡ Err (read_error.Fault fault) → class_fault bytes ≡ Some fault)
+    → RemadeAs (packages_text packages) bytes result
 packages_as packages bytes (Ok text) given fails =
     (given.class, reads-class_of bytes given.class given.reads, given.is)
 packages_as packages bytes (Err (read_error.Fault fault)) given fails = fault_computed bytes fault (fails fault refl)
@@ -124,52 +144,76 @@ compacts_as bytes (Err read_error.Memory) given = tt
 
 -- All of them
 
-joined : (done : List (List ℕ × List ℕ)) (first : List ℕ × List ℕ) (o : Result (List (List ℕ × List ℕ)) ApplyError) → followed o (λ xs. Ok ((done ++ first ∷ []) ++ xs)) ≡ followed (followed o (λ xs. Ok (first ∷ xs))) (λ ys. Ok (done ++ ys))
+joined : (done : List (List ℕ × List ℕ)) (first : List ℕ × List ℕ) (o : Result (List (List ℕ × List ℕ)) ApplyError)
+    → followed o (λ xs. Ok ((done ++ first ∷ []) ++ xs)) ≡ followed (followed o (λ xs. Ok (first ∷ xs))) (λ ys. Ok (done ++ ys))
 joined done first (Ok xs) = ap (λ l. Ok l) (append_assoc done (first ∷ []) xs)
 joined done first (Err refusal) = refl
 
 module _ (takes : List ℕ → Bool) (text : List ℕ → ClassData → List ℕ) where
   -- a first pair that is given, and then what the rest comes to
-  onward : (done rest : List (List ℕ × List ℕ)) (pair first : List ℕ × List ℕ) (outs : List Remade) → remade_pair takes text pair ≡ Ok first → UnlessMemory Memory (put_remade outs ((done ++ first ∷ []) ++ rest)) (followed (remade_pairs takes text rest) (λ xs. Ok ((done ++ first ∷ []) ++ xs))) → UnlessMemory Memory (put_remade outs (done ++ first ∷ rest)) (followed (remade_pairs takes text (pair ∷ rest)) (λ ys. Ok (done ++ ys)))
+  onward : (done rest : List (List ℕ × List ℕ)) (pair first : List ℕ × List ℕ) (outs : List Remade) → remade_pair takes text pair
+      ≡ Ok first → UnlessMemory Memory (put_remade outs ((done ++ first ∷ []) ++ rest)) (followed (remade_pairs takes text rest)
+      (λ xs. Ok ((done ++ first ∷ []) ++ xs))) → UnlessMemory Memory (put_remade outs (done ++ first ∷ rest))
+      (followed (remade_pairs takes text (pair ∷ rest)) (λ ys. Ok (done ++ ys)))
   onward done rest pair first outs is so_far =
       let place : (done ++ first ∷ []) ++ rest ≡ done ++ first ∷ rest = append_assoc done (first ∷ []) rest in
-      let whole : followed (remade_pairs takes text (pair ∷ rest)) (λ ys. Ok (done ++ ys)) ≡ followed (followed (remade_pairs takes text rest) (λ xs. Ok (first ∷ xs))) (λ ys. Ok (done ++ ys)) = ap (λ o. followed (followed o (λ one. followed (remade_pairs takes text rest) (λ xs. Ok (one ∷ xs)))) (λ ys. Ok (done ++ ys))) is in
+      let whole : followed (remade_pairs takes text (pair ∷ rest)) (λ ys. Ok (done ++ ys))
+      ≡ followed (followed (remade_pairs takes text rest) (λ xs. Ok (first ∷ xs))) (λ ys. Ok (done ++ ys)) =
+      ap (λ o. followed (followed o (λ one. followed (remade_pairs takes text rest) (λ xs. Ok (one ∷ xs))))
+      (λ ys. Ok (done ++ ys))) is in
       rw (whole, sym (joined done first (remade_pairs takes text rest)), sym place) so_far
 
-  put_is : (all front done rest : List (List ℕ × List ℕ)) (outs : List Remade) → all ≡ front ++ rest → length done ≡ length front → AllZip (IsRemade text all) (class_places takes (length front) rest) outs → UnlessMemory Memory (put_remade outs (done ++ rest)) (followed (remade_pairs takes text rest) (λ ys. Ok (done ++ ys)))
+  put_is : (all front done rest : List (List ℕ × List ℕ)) (outs : List Remade) → all ≡ front ++ rest → length done ≡ length front
+      → AllZip (IsRemade text all) (class_places takes (length front) rest) outs
+      → UnlessMemory Memory (put_remade outs (done ++ rest)) (followed (remade_pairs takes text rest) (λ ys. Ok (done ++ ys)))
   put_is all front done [] [] is level zipped = inr refl
   put_is all front done [] (one ∷ outs) is level zipped = absurd zipped
-  put_is all front done (pair ∷ rest) outs is level zipped = go (takes pair.0) refl outs zipped (λ first later beside. put_is all (front ++ pair ∷ []) (done ++ first ∷ []) rest later (is ∙ sym (append_assoc front (pair ∷ []) rest)) (length_push done first ∙ ap (λ n. n + 1) level ∙ sym (length_push front pair)) (subst (λ n. AllZip (IsRemade text all) (class_places takes n rest) later) (sym (length_push front pair)) beside))
+  put_is all front done (pair ∷ rest) outs is level zipped = go (takes pair.0) refl outs zipped (λ first later beside. put_is all
+      (front ++ pair ∷ []) (done ++ first ∷ []) rest later (is ∙ sym (append_assoc front (pair ∷ []) rest)) (length_push done first
+      ∙ ap (λ n. n + 1) level ∙ sym (length_push front pair)) (subst (λ n. AllZip (IsRemade text all) (class_places takes n rest)
+      later) (sym (length_push front pair)) beside))
     where
       there : slice_get all (length front) ≡ Some pair
       there = ap (λ l. slice_get l (length front)) is ∙ at_front front rest pair
 
       Onward : Type 0
-      Onward = (first : List ℕ × List ℕ) (later : List Remade) → AllZip (IsRemade text all) (class_places takes (length front + 1) rest) later → UnlessMemory Memory (put_remade later ((done ++ first ∷ []) ++ rest)) (followed (remade_pairs takes text rest) (λ xs. Ok ((done ++ first ∷ []) ++ xs)))
+      Onward = (first : List ℕ × List ℕ) (later : List Remade) → AllZip (IsRemade text all) (class_places takes (length front + 1)
+          rest) later → UnlessMemory Memory (put_remade later ((done ++ first ∷ []) ++ rest))
+          (followed (remade_pairs takes text rest) (λ xs. Ok ((done ++ first ∷ []) ++ xs)))
 
-      one_class : (one : Remade) (later : List Remade) (o : Result (List ℕ) ReadError) → takes pair.0 ≡ true → RemadeAs (text pair.0) pair.1 o → AllZip (IsRemade text all) (class_places takes (length front + 1) rest) later → Onward → UnlessMemory Memory (put_one (length done) o (put_remade later) (done ++ pair ∷ rest)) (followed (remade_pairs takes text (pair ∷ rest)) (λ ys. Ok (done ++ ys)))
+      one_class : (one : Remade) (later : List Remade) (o : Result (List ℕ) ReadError) → takes pair.0 ≡ true
+          → RemadeAs (text pair.0) pair.1 o → AllZip (IsRemade text all) (class_places takes (length front + 1) rest) later → Onward
+          → UnlessMemory Memory (put_one (length done) o (put_remade later) (done ++ pair ∷ rest))
+          (followed (remade_pairs takes text (pair ∷ rest)) (λ ys. Ok (done ++ ys)))
       one_class one later (Ok made) named own_text beside on =
           let own : remade_pair takes text pair ≡ Ok (pair.0, made) = rw (named, own_text.1, own_text.2) refl in
           rw (replaced done rest pair made) (onward done rest pair (pair.0, made) later own (on (pair.0, made) later beside))
       one_class one later (Err (read_error.Fault fault)) named own_text beside on =
           let own : remade_pair takes text pair ≡ Err (BadClass pair.0 fault) = rw (named, own_text) refl in
-          inr (ap (λ name. Err (BadClass name fault)) (name_there done rest pair) ∙ sym (ap (λ o. followed (followed o (λ first. followed (remade_pairs takes text rest) (λ xs. Ok (first ∷ xs)))) (λ ys. Ok (done ++ ys))) own))
+          inr (ap (λ name. Err (BadClass name fault)) (name_there done rest pair)
+          ∙ sym (ap (λ o. followed (followed o (λ first. followed (remade_pairs takes text rest) (λ xs. Ok (first ∷ xs))))
+          (λ ys. Ok (done ++ ys))) own))
       one_class one later (Err read_error.Memory) named own_text beside on = inl refl
 
-      go : (b : Bool) → takes pair.0 ≡ b → (outs : List Remade) → AllZip (IsRemade text all) (class_places takes (length front) (pair ∷ rest)) outs → Onward → UnlessMemory Memory (put_remade outs (done ++ pair ∷ rest)) (followed (remade_pairs takes text (pair ∷ rest)) (λ ys. Ok (done ++ ys)))
+      go : (b : Bool) → takes pair.0 ≡ b → (outs : List Remade) → AllZip (IsRemade text all) (class_places takes (length front)
+          (pair ∷ rest)) outs → Onward → UnlessMemory Memory (put_remade outs (done ++ pair ∷ rest))
+          (followed (remade_pairs takes text (pair ∷ rest)) (λ ys. Ok (done ++ ys)))
       go false named outs zipped on =
           let own : remade_pair takes text pair ≡ Ok pair = rw named refl in
           onward done rest pair pair outs own (on pair outs (rw named at zipped))
       go true named [] zipped on = let none = rw named at zipped in absurd none
       go true named (one ∷ later) zipped on =
-          let beside : AllZip (IsRemade text all) (length front ∷ class_places takes (length front + 1) rest) (one ∷ later) = rw named at zipped in
+          let beside : AllZip (IsRemade text all) (length front ∷ class_places takes (length front + 1) rest) (one ∷ later) =
+          rw named at zipped in
           let own_text = beside.0.2 pair there in
           let place : one.place ≡ length done = beside.0.0 ∙ sym level in
           rw place (one_class one later one.outcome named own_text beside.1 on)
 
   -- put at their places, they are the pairs with these texts
-  pub put_all : (pairs : List (List ℕ × List ℕ)) (outs : List Remade) → AllZip (IsRemade text pairs) (class_places takes 0 pairs) outs → UnlessMemory Memory (put_remade outs pairs) (remade_pairs takes text pairs)
-  put_all pairs outs zipped = subst (λ o. UnlessMemory Memory (put_remade outs pairs) o) (plain (remade_pairs takes text pairs)) (put_is pairs [] [] pairs outs refl refl zipped)
+  pub put_all : (pairs : List (List ℕ × List ℕ)) (outs : List Remade) → AllZip (IsRemade text pairs) (class_places takes 0 pairs)
+      outs → UnlessMemory Memory (put_remade outs pairs) (remade_pairs takes text pairs)
+  put_all pairs outs zipped = subst (λ o. UnlessMemory Memory (put_remade outs pairs) o) (plain (remade_pairs takes text pairs))
+      (put_is pairs [] [] pairs outs refl refl zipped)
     where
       plain : (o : Result (List (List ℕ × List ℕ)) ApplyError) → followed o (λ ys. Ok ys) ≡ o
       plain (Ok ys) = refl
@@ -181,15 +225,21 @@ module _ (takes : List ℕ → Bool) (text : List ℕ → ClassData → List ℕ
   abbrev Read : List ℕ × List ℕ → Type 0
   Read pair = takes pair.0 ≡ true → ReadsByRule pair.1
 
-  read_from : (all front rest : List (List ℕ × List ℕ)) (outs : List Remade) → all ≡ front ++ rest → AllZip (IsRemade text all) (class_places takes (length front) rest) outs → TakenRead takes rest
+  read_from : (all front rest : List (List ℕ × List ℕ)) (outs : List Remade) → all ≡ front ++ rest
+      → AllZip (IsRemade text all) (class_places takes (length front) rest) outs → TakenRead takes rest
   read_from all front [] outs is zipped = All-nil Read
-  read_from all front (pair ∷ rest) outs is zipped = go (takes pair.0) refl outs zipped (λ later beside. read_from all (front ++ pair ∷ []) rest later (is ∙ sym (append_assoc front (pair ∷ []) rest)) (subst (λ n. AllZip (IsRemade text all) (class_places takes n rest) later) (sym (length_push front pair)) beside))
+  read_from all front (pair ∷ rest) outs is zipped = go (takes pair.0) refl outs zipped (λ later beside. read_from all
+      (front ++ pair ∷ []) rest later (is ∙ sym (append_assoc front (pair ∷ []) rest))
+      (subst (λ n. AllZip (IsRemade text all) (class_places takes n rest) later) (sym (length_push front pair)) beside))
     where
       there : slice_get all (length front) ≡ Some pair
       there = ap (λ l. slice_get l (length front)) is ∙ at_front front rest pair
 
-      go : (b : Bool) → takes pair.0 ≡ b → (outs : List Remade) → AllZip (IsRemade text all) (cond b (length front ∷ class_places takes (length front + 1) rest) (class_places takes (length front + 1) rest)) outs
-          → ((later : List Remade) → AllZip (IsRemade text all) (class_places takes (length front + 1) rest) later → TakenRead takes rest) → TakenRead takes (pair ∷ rest)
+      go : (b : Bool) → takes pair.0 ≡ b → (outs : List Remade)
+          → AllZip (IsRemade text all) (cond b (length front ∷ class_places takes (length front + 1) rest)
+          (class_places takes (length front + 1) rest)) outs
+          → ((later : List Remade) → AllZip (IsRemade text all) (class_places takes (length front + 1) rest) later
+          → TakenRead takes rest) → TakenRead takes (pair ∷ rest)
       go false not_taken outs zipped on =
           All-cons Read pair rest (λ taken. absurd (false≢true (sym not_taken ∙ taken))) (on outs zipped)
       go true taken [] zipped on = absurd zipped
@@ -197,7 +247,8 @@ module _ (takes : List ℕ → Bool) (text : List ℕ → ClassData → List ℕ
           All-cons Read pair rest (λ also. zipped.0.1 pair there) (on later zipped.1)
 
   -- those that were made anew all read by the rule
-  pub taken_read : (pairs : List (List ℕ × List ℕ)) (outs : List Remade) → AllZip (IsRemade text pairs) (class_places takes 0 pairs) outs → TakenRead takes pairs
+  pub taken_read : (pairs : List (List ℕ × List ℕ)) (outs : List Remade) → AllZip (IsRemade text pairs) (class_places takes 0 pairs)
+      outs → TakenRead takes pairs
   taken_read pairs outs zipped = read_from pairs [] pairs outs refl zipped
 
 -- Texts that are the same
@@ -211,7 +262,8 @@ module _ (takes : List ℕ → Bool) (text other : List ℕ → ClassData → Li
   same_pair : (pair : List ℕ × List ℕ) → Same pair → remade_pair takes text pair ≡ remade_pair takes other pair
   same_pair pair same = go (takes pair.0) refl (class_of pair.1) refl
     where
-      go : (b : Bool) → takes pair.0 ≡ b → (r : Result ClassData ClassFault) → class_of pair.1 ≡ r → cond b (remade (text pair.0) pair.0 r) (Ok pair) ≡ cond b (remade (other pair.0) pair.0 r) (Ok pair)
+      go : (b : Bool) → takes pair.0 ≡ b → (r : Result ClassData ClassFault) → class_of pair.1 ≡ r
+          → cond b (remade (text pair.0) pair.0 r) (Ok pair) ≡ cond b (remade (other pair.0) pair.0 r) (Ok pair)
       go false is r reads = refl
       go true is (Ok c) reads = ap (λ t. Ok (pair.0, t)) (same is c reads)
       go true is (Err fault) reads = refl
@@ -219,37 +271,48 @@ module _ (takes : List ℕ → Bool) (text other : List ℕ → ClassData → Li
   pub same_texts : (pairs : List (List ℕ × List ℕ)) → All Same pairs → remade_pairs takes text pairs ≡ remade_pairs takes other pairs
   same_texts [] same = refl
   same_texts (pair ∷ pairs) same =
-      ap (λ o. followed o (λ first. followed (remade_pairs takes text pairs) (λ rest. Ok (first ∷ rest)))) (same_pair pair (All-head Same pair pairs same))
-      ∙ ap (λ o. followed (remade_pair takes other pair) (λ first. followed o (λ rest. Ok (first ∷ rest)))) (same_texts pairs (All-tail Same pair pairs same))
+      ap (λ o. followed o (λ first. followed (remade_pairs takes text pairs) (λ rest. Ok (first ∷ rest))))
+      (same_pair pair (All-head Same pair pairs same))
+      ∙ ap (λ o. followed (remade_pair takes other pair) (λ first. followed o (λ rest. Ok (first ∷ rest))))
+      (same_texts pairs (All-tail Same pair pairs same))
 
 -- One after another
 
 -- one more is put
-pub put_more : (one : Remade) (later : List Remade) (pairs new : List (List ℕ × List ℕ)) (text : List ℕ) (all : Result (List (List ℕ × List ℕ)) ApplyError) → one.outcome ≡ Ok text → new ≡ with_bytes_at pairs one.place text → all ≡ put_remade (one ∷ later) pairs → all ≡ put_remade later new
+pub put_more : (one : Remade) (later : List Remade) (pairs new : List (List ℕ × List ℕ)) (text : List ℕ)
+    (all : Result (List (List ℕ × List ℕ)) ApplyError) → one.outcome ≡ Ok text → new ≡ with_bytes_at pairs one.place text → all
+    ≡ put_remade (one ∷ later) pairs → all ≡ put_remade later new
 put_more one later pairs new text all given is so_far =
     so_far ∙ ap (λ o. put_one one.place o (put_remade later) pairs) given ∙ ap (put_remade later) (sym is)
 
-pub within_more : (one : Remade) (later : List Remade) (pairs new : List (List ℕ × List ℕ)) (text : List ℕ) → new ≡ with_bytes_at pairs one.place text → All (λ z. z.place < length pairs) (one ∷ later) → All (λ z. z.place < length new) later
+pub within_more : (one : Remade) (later : List Remade) (pairs new : List (List ℕ × List ℕ)) (text : List ℕ) → new
+    ≡ with_bytes_at pairs one.place text → All (λ z. z.place < length pairs) (one ∷ later) → All (λ z. z.place < length new) later
 within_more one later pairs new text is within =
     let level : length new ≡ length pairs = ap length is ∙ as_many pairs one.place text in
     rw level (All-tail (λ z. z.place < length pairs) one later within)
 
 -- all were put
-pub put_none : (left : List Remade) (count : ℕ) (pairs : List (List ℕ × List ℕ)) (all : Result (List (List ℕ × List ℕ)) ApplyError) → length left ≡ count → count ≡ 0 → all ≡ put_remade left pairs → UnlessMemory Memory (Ok pairs) all
+pub put_none : (left : List Remade) (count : ℕ) (pairs : List (List ℕ × List ℕ)) (all : Result (List (List ℕ × List ℕ)) ApplyError)
+    → length left ≡ count → count ≡ 0 → all ≡ put_remade left pairs → UnlessMemory Memory (Ok pairs) all
 put_none [] count pairs all long none so_far = inr (sym so_far)
 put_none (one ∷ left) count pairs all long none so_far = absurd (omega (arith, long, none))
 
 -- the first that was refused decides
-pub put_refused : (one : Remade) (later : List Remade) (pairs : List (List ℕ × List ℕ)) (error : ReadError) (refusal : ApplyError) (all : Result (List (List ℕ × List ℕ)) ApplyError) → one.outcome ≡ Err error → Refuses pairs one.place error refusal → all ≡ put_remade (one ∷ later) pairs → UnlessMemory Memory (Err refusal) all
-put_refused one later pairs error refusal all is refuses so_far = go error (so_far ∙ ap (λ o. put_one one.place o (put_remade later) pairs) is) refuses
+pub put_refused : (one : Remade) (later : List Remade) (pairs : List (List ℕ × List ℕ)) (error : ReadError) (refusal : ApplyError)
+    (all : Result (List (List ℕ × List ℕ)) ApplyError) → one.outcome ≡ Err error → Refuses pairs one.place error refusal → all
+    ≡ put_remade (one ∷ later) pairs → UnlessMemory Memory (Err refusal) all
+put_refused one later pairs error refusal all is refuses so_far =
+    go error (so_far ∙ ap (λ o. put_one one.place o (put_remade later) pairs) is) refuses
   where
-    go : (e : ReadError) → all ≡ put_one one.place (Err e) (put_remade later) pairs → Refuses pairs one.place e refusal → UnlessMemory Memory (Err refusal) all
+    go : (e : ReadError) → all ≡ put_one one.place (Err e) (put_remade later) pairs → Refuses pairs one.place e refusal
+        → UnlessMemory Memory (Err refusal) all
     go (read_error.Fault fault) due (inl none) = inl (ap (λ r. Err r) none)
     go (read_error.Fault fault) due (inr same) = inr (ap (λ r. Err r) same ∙ sym due)
     go read_error.Memory due none = inl (ap (λ r. Err r) none)
 
 -- what is given unless memory is wanted, of a value that is so given itself
-pub unless_then : {A : Type 0} (result middle due : Result A ApplyError) → UnlessMemory Memory result middle → UnlessMemory Memory middle due → UnlessMemory Memory result due
+pub unless_then : {A : Type 0} (result middle due : Result A ApplyError) → UnlessMemory Memory result middle
+    → UnlessMemory Memory middle due → UnlessMemory Memory result due
 unless_then result middle due (inl none) second = inl none
 unless_then result middle due (inr same) (inl none) = inl (same ∙ none)
 unless_then result middle due (inr same) (inr is) = inr (same ∙ is)

@@ -1,5 +1,7 @@
 -- What plug-ins make by the rules is what is computed, and nothing else.
-use Rattle.std.proofs.Common.{◌≡◌, ◌⊎◌, ℕ, ◌+◌, ◌<◌, ◌≤◌, inl, inr, Bool, true, false, cond, List, [], ◌∷◌, ◌++◌, All, drop, length, get_or, Some, Result, Ok, Err, refl, sym, ap, subst, ◌∙◌}
+use Rattle.std.proofs.Common.{◌≡◌, ◌⊎◌, ℕ, ◌+◌, ◌<◌, ◌≤◌, inl, inr, Bool, true, false, cond, List, [], ◌∷◌}
+use Rattle.std.proofs.Common.{◌++◌, All, drop, length, get_or, Some, Result, Ok, Err, refl, sym, ap, subst}
+use Rattle.std.proofs.Common.{◌∙◌}
 use Rattle.std.proofs.lemmas.Bool.{false≢true}
 use Rattle.std.proofs.lemmas.List.{drop_all, drop_more}
 use Rattle.std.proofs.lemmas.List.Elements.{All-nil, All-cons, All-head, All-tail}
@@ -33,7 +35,9 @@ module _ (takes : List ℕ → Bool) (IsRight : List ℕ → ClassData → List 
   Read pair = takes pair.0 ≡ true → ReadsByRule pair.1
 
   -- a first pair that is made anew, and what the rest comes to
-  one_more : (pair first : List ℕ × List ℕ) (pairs : Pairs) → IsMadeAnew takes IsRight pair first → Reads pair → (rest : Result Pairs ApplyError) → AreMadeAnew takes IsRight pairs rest → AreMadeAnew takes IsRight (pair ∷ pairs) (followed rest (λ made. Ok (first ∷ made)))
+  one_more : (pair first : List ℕ × List ℕ) (pairs : Pairs) → IsMadeAnew takes IsRight pair first → Reads pair
+      → (rest : Result Pairs ApplyError) → AreMadeAnew takes IsRight pairs rest → AreMadeAnew takes IsRight (pair ∷ pairs)
+      (followed rest (λ made. Ok (first ∷ made)))
   one_more pair first pairs own reads (Ok made) later = (own, later)
   one_more pair first pairs own reads (Err (BadClass name fault)) later = record {
     before = pair ∷ later.before;
@@ -47,7 +51,8 @@ module _ (takes : List ℕ → Bool) (IsRight : List ℕ → ClassData → List 
   one_more pair first pairs own reads (Err Memory) later = absurd later
 
   -- what is computed is by the rule, where the computed texts are right
-  pub made_anew : ((name : List ℕ) (c : ClassData) → IsClass c → IsRight name c (text name c)) → (pairs : Pairs) → TakenRead takes pairs → AreMadeAnew takes IsRight pairs (remade_pairs takes text pairs)
+  pub made_anew : ((name : List ℕ) (c : ClassData) → IsClass c → IsRight name c (text name c)) → (pairs : Pairs)
+      → TakenRead takes pairs → AreMadeAnew takes IsRight pairs (remade_pairs takes text pairs)
   made_anew right [] read = tt
   made_anew right (pair ∷ pairs) read =
       go (takes pair.0) refl (class_of pair.1) refl (remade_pairs takes text pairs) (made_anew right pairs (All-tail Read pair pairs read))
@@ -55,13 +60,16 @@ module _ (takes : List ℕ → Bool) (IsRight : List ℕ → ClassData → List 
       own : Read pair
       own = All-head Read pair pairs read
 
-      go : (b : Bool) → takes pair.0 ≡ b → (r : Result ClassData ClassFault) → class_of pair.1 ≡ r → (rest : Result Pairs ApplyError) → AreMadeAnew takes IsRight pairs rest
-          → AreMadeAnew takes IsRight (pair ∷ pairs) (followed (cond b (remade (text pair.0) pair.0 r) (Ok pair)) (λ first. followed rest (λ made. Ok (first ∷ made))))
+      go : (b : Bool) → takes pair.0 ≡ b → (r : Result ClassData ClassFault) → class_of pair.1 ≡ r
+          → (rest : Result Pairs ApplyError) → AreMadeAnew takes IsRight pairs rest
+          → AreMadeAnew takes IsRight (pair ∷ pairs) (followed (cond b (remade (text pair.0) pair.0 r) (Ok pair))
+          (λ first. followed rest (λ made. Ok (first ∷ made))))
       go false is r computed rest later =
           one_more pair pair pairs (Untaken is refl) (λ taken. absurd (false≢true (sym is ∙ taken))) rest later
       go true is (Ok c) computed rest later =
           let reads = own is c computed in
-          one_more pair (pair.0, text pair.0 c) pairs (Taken is c reads (text pair.0 c) (right pair.0 c reads.well_formed) refl) (λ taken. (c, reads)) rest later
+          one_more pair (pair.0, text pair.0 c) pairs (Taken is c reads (text pair.0 c) (right pair.0 c reads.well_formed) refl)
+          (λ taken. (c, reads)) rest later
       go true is (Err fault) computed rest later = record {
         before = [];
         bytes = pair.1;
@@ -95,26 +103,32 @@ module _ (takes : List ℕ → Bool) (IsRight : List ℕ → ClassData → List 
     pair_read : (pair : List ℕ × List ℕ) → Reads pair → (first : List ℕ × List ℕ) × (remade_pair takes text pair ≡ Ok first)
     pair_read pair reads = go (takes pair.0) refl
       where
-        go : (b : Bool) → takes pair.0 ≡ b → (first : List ℕ × List ℕ) × (cond b (remade (text pair.0) pair.0 (class_of pair.1)) (Ok pair) ≡ Ok first)
+        go : (b : Bool) → takes pair.0 ≡ b → (first : List ℕ × List ℕ) × (cond b (remade (text pair.0) pair.0 (class_of pair.1))
+            (Ok pair) ≡ Ok first)
         go false is = (pair, refl)
         go true is =
             let own = reads is in
             ((pair.0, text pair.0 own.0), ap (remade (text pair.0) pair.0) (reads-class_of pair.1 own.0 own.1))
 
-    bad_only : (before behind : Pairs) (name bytes : List ℕ) (fault : ClassFault) → All Reads before → takes name ≡ true → class_fault bytes ≡ Some fault → remade_pairs takes text (before ++ (name, bytes) ∷ behind) ≡ Err (BadClass name fault)
+    bad_only : (before behind : Pairs) (name bytes : List ℕ) (fault : ClassFault) → All Reads before → takes name ≡ true
+        → class_fault bytes ≡ Some fault → remade_pairs takes text (before ++ (name, bytes) ∷ behind) ≡ Err (BadClass name fault)
     bad_only [] behind name bytes fault read taken bad =
         ap (onward behind)
-        (ap (λ b. cond b (remade (text name) name (class_of bytes)) (Ok (name, bytes))) taken ∙ ap (remade (text name) name) (fault_computed bytes fault bad))
+        (ap (λ b. cond b (remade (text name) name (class_of bytes)) (Ok (name, bytes))) taken
+        ∙ ap (remade (text name) name) (fault_computed bytes fault bad))
     bad_only (pair ∷ before) behind name bytes fault read taken bad =
         let first = pair_read pair (All-head Reads pair before read) in
         ap (onward (before ++ (name, bytes) ∷ behind)) first.1
-        ∙ ap (λ o. followed o (λ rest. Ok (first.0 ∷ rest))) (bad_only before behind name bytes fault (All-tail Reads pair before read) taken bad)
+        ∙ ap (λ o. followed o (λ rest. Ok (first.0 ∷ rest))) (bad_only before behind name bytes fault (All-tail Reads pair before
+        read) taken bad)
 
     -- what is by the rule is computed, where no other texts are right
-    pub anew_only : (pairs : Pairs) (result : Result Pairs ApplyError) → AreMadeAnew takes IsRight pairs result → result ≡ remade_pairs takes text pairs
+    pub anew_only : (pairs : Pairs) (result : Result Pairs ApplyError) → AreMadeAnew takes IsRight pairs result → result
+        ≡ remade_pairs takes text pairs
     anew_only pairs (Ok made) are = sym (pairs_only pairs made are)
     anew_only pairs (Err (BadClass name fault)) are =
-        sym (subst (λ ps. remade_pairs takes text ps ≡ Err (BadClass name fault)) (sym are.is) (bad_only are.before are.behind name are.bytes fault are.read are.taken are.bad))
+        sym (subst (λ ps. remade_pairs takes text ps ≡ Err (BadClass name fault)) (sym are.is) (bad_only are.before are.behind name
+        are.bytes fault are.read are.taken are.bad))
     anew_only pairs (Err Memory) are = absurd are
 
 -- One plug-in
@@ -135,7 +149,8 @@ makes_computed plugin.Strip pairs read =
 makes_computed plugin.Compact pairs read =
     made_anew is_class (λ name. IsCompact) (λ name. compact_text) (λ name. rule) pairs read
 makes_computed plugin.Packages pairs read =
-    made_anew is_descriptor (λ name c text. text ≡ listing_text (names_of pairs) name c) (listing_text (names_of pairs)) (λ name c fits. refl) pairs read
+    made_anew is_descriptor (λ name c text. text ≡ listing_text (names_of pairs) name c) (listing_text (names_of pairs))
+    (λ name c fits. refl) pairs read
 
 pub makes_only : (one : Plugin) (pairs : Pairs) (result : Result Pairs ApplyError) → Makes one pairs result → result ≡ act one pairs
 makes_only (plugin.Exclude patterns) pairs result is = is
@@ -145,22 +160,26 @@ makes_only plugin.Strip pairs result are =
 makes_only plugin.Compact pairs result are =
     anew_only is_class (λ name. IsCompact) (λ name. compact_text) (λ name c own fits is. rule_only c fits own is) pairs result are
 makes_only plugin.Packages pairs result are =
-    anew_only is_descriptor (λ name c text. text ≡ listing_text (names_of pairs) name c) (listing_text (names_of pairs)) (λ name c own fits is. is) pairs result are
+    anew_only is_descriptor (λ name c text. text ≡ listing_text (names_of pairs) name c) (listing_text (names_of pairs))
+    (λ name c own fits is. is) pairs result are
 
 -- what is computed unless memory is wanted is by the rule
-pub makes_unless : (one : Plugin) (pairs : Pairs) (result : Result Pairs ApplyError) → UnlessMemory Memory result (act one pairs) → (result ≡ Err Memory) ⊎ TakenBy one pairs → (result ≡ Err Memory) ⊎ Makes one pairs result
+pub makes_unless : (one : Plugin) (pairs : Pairs) (result : Result Pairs ApplyError) → UnlessMemory Memory result (act one pairs)
+    → (result ≡ Err Memory) ⊎ TakenBy one pairs → (result ≡ Err Memory) ⊎ Makes one pairs result
 makes_unless one pairs result (inl none) read = inl none
 makes_unless one pairs result (inr is) (inl none) = inl none
 makes_unless one pairs result (inr is) (inr read) = inr (subst (Makes one pairs) (sym is) (makes_computed one pairs read))
 
 -- One after another
 
-goes_only : (later : List Plugin) (result : Result Pairs ApplyError) → ((pairs : Pairs) → Applies later pairs result → result ≡ apply later pairs) → (made : Result Pairs ApplyError) → GoesOn (Applies later) made result → result ≡ followed made (apply later)
+goes_only : (later : List Plugin) (result : Result Pairs ApplyError) → ((pairs : Pairs) → Applies later pairs result → result
+    ≡ apply later pairs) → (made : Result Pairs ApplyError) → GoesOn (Applies later) made result → result ≡ followed made (apply later)
 goes_only later result only (Ok made) on = only made on
 goes_only later result only (Err refusal) on = on
 
 -- what plug-ins make by the rule is what is computed
-pub applies_only : (plugins : List Plugin) (pairs : Pairs) (result : Result Pairs ApplyError) → Applies plugins pairs result → result ≡ apply plugins pairs
+pub applies_only : (plugins : List Plugin) (pairs : Pairs) (result : Result Pairs ApplyError) → Applies plugins pairs result
+    → result ≡ apply plugins pairs
 applies_only [] pairs result is = is
 applies_only (one ∷ later) pairs result (made, makes, on) =
     goes_only later result (λ others. applies_only later others result) made on
@@ -168,18 +187,24 @@ applies_only (one ∷ later) pairs result (made, makes, on) =
 
 -- Plug-ins that have acted, up to a number
 
-module _ (plugins : List Plugin) (first : Pairs) (number : ℕ) (pairs : Pairs) (so_far : (result : Result Pairs ApplyError) → Applies (drop number plugins) pairs result → Applies plugins first result) where
+module _ (plugins : List Plugin) (first : Pairs) (number : ℕ) (pairs : Pairs) (so_far : (result : Result Pairs ApplyError)
+    → Applies (drop number plugins) pairs result → Applies plugins first result) where
   -- the next one, and those behind it
-  next_applies : (one : Plugin) (made result : Result Pairs ApplyError) → number < length plugins → one ≡ get_or plugins number one → Makes one pairs made → GoesOn (Applies (drop (number + 1) plugins)) made result → Applies plugins first result
+  next_applies : (one : Plugin) (made result : Result Pairs ApplyError) → number < length plugins → one ≡ get_or plugins number one
+      → Makes one pairs made → GoesOn (Applies (drop (number + 1) plugins)) made result → Applies plugins first result
   next_applies one made result below is makes on =
       let all = drop_more plugins number one below ∙ ap (λ (p : Plugin). p ∷ drop (number + 1) plugins) (sym is) in
       so_far result (subst (λ ps. Applies ps pairs result) (sym all) (made, makes, on))
 
-  pub one_acted : (one : Plugin) (made : Pairs) → number < length plugins → one ≡ get_or plugins number one → (◌≡◌ {A = Result Pairs ApplyError} (Ok made) (Err Memory)) ⊎ Makes one pairs (Ok made) → (result : Result Pairs ApplyError) → Applies (drop (number + 1) plugins) made result → Applies plugins first result
+  pub one_acted : (one : Plugin) (made : Pairs) → number < length plugins → one ≡ get_or plugins number one
+      → (◌≡◌ {A = Result Pairs ApplyError} (Ok made) (Err Memory)) ⊎ Makes one pairs (Ok made) → (result : Result Pairs ApplyError)
+      → Applies (drop (number + 1) plugins) made result → Applies plugins first result
   one_acted one made below is (inl never) result later = cc
   one_acted one made below is (inr makes) result later = next_applies one (Ok made) result below is makes later
 
-  pub one_refused : (one : Plugin) (refusal : ApplyError) → number < length plugins → one ≡ get_or plugins number one → (◌≡◌ {A = Result Pairs ApplyError} (Err refusal) (Err Memory)) ⊎ Makes one pairs (Err refusal) → (◌≡◌ {A = Result Pairs ApplyError} (Err refusal) (Err Memory)) ⊎ Applies plugins first (Err refusal)
+  pub one_refused : (one : Plugin) (refusal : ApplyError) → number < length plugins → one ≡ get_or plugins number one
+      → (◌≡◌ {A = Result Pairs ApplyError} (Err refusal) (Err Memory)) ⊎ Makes one pairs (Err refusal)
+      → (◌≡◌ {A = Result Pairs ApplyError} (Err refusal) (Err Memory)) ⊎ Applies plugins first (Err refusal)
   one_refused one refusal below is (inl memory) = inl memory
   one_refused one refusal below is (inr makes) = inr (next_applies one (Err refusal) (Err refusal) below is makes refl)
 

@@ -1,6 +1,7 @@
 -- Plug-ins give no resource a new name: what holds of each name still does, and names that differ
 -- still differ.
-use Rattle.std.proofs.Common.{◌≡◌, ◌≢◌, ℕ, List, [], ◌∷◌, Bool, true, false, cond, not, All, AllPairs, Result, Ok, Err, refl, sym, ap, subst, ◌∙◌}
+use Rattle.std.proofs.Common.{◌≡◌, ◌≢◌, ℕ, List, [], ◌∷◌, Bool, true, false, cond, not, All, AllPairs, Result}
+use Rattle.std.proofs.Common.{Ok, Err, refl, sym, ap, subst, ◌∙◌}
 use Rattle.std.proofs.lemmas.Bool.{false≢true}
 use Rattle.std.proofs.lemmas.List.{map-append}
 use Rattle.std.proofs.lemmas.List.Elements.{All-append, All-contains, All-filter, filter_passes}
@@ -27,15 +28,19 @@ use Rattle.jm_plugins.specs.Plugins.{is_class}
 
 -- Names of what a plug-in leaves
 
-pub names_filter : (test : List ℕ → Bool) (pairs : List (List ℕ × List ℕ)) → names_of (filter (λ pair. test pair.0) pairs) ≡ filter test (names_of pairs)
+pub names_filter : (test : List ℕ → Bool) (pairs : List (List ℕ × List ℕ)) → names_of (filter (λ pair. test pair.0) pairs)
+    ≡ filter test (names_of pairs)
 names_filter test [] = refl
 names_filter test (pair ∷ pairs) = go (test pair.0) (names_filter test pairs)
   where
-    go : (b : Bool) → names_of (filter (λ p. test p.0) pairs) ≡ filter test (names_of pairs) → names_of (cond b (pair ∷ filter (λ p. test p.0) pairs) (filter (λ p. test p.0) pairs)) ≡ cond b (pair.0 ∷ filter test (names_of pairs)) (filter test (names_of pairs))
+    go : (b : Bool) → names_of (filter (λ p. test p.0) pairs) ≡ filter test (names_of pairs)
+        → names_of (cond b (pair ∷ filter (λ p. test p.0) pairs) (filter (λ p. test p.0) pairs))
+        ≡ cond b (pair.0 ∷ filter test (names_of pairs)) (filter test (names_of pairs))
     go true rest = ap (λ l. pair.0 ∷ l) rest
     go false rest = rest
 
-name_remade : (takes : List ℕ → Bool) (text : List ℕ → ClassData → List ℕ) (pair first : List ℕ × List ℕ) → remade_pair takes text pair ≡ Ok first → first.0 ≡ pair.0
+name_remade : (takes : List ℕ → Bool) (text : List ℕ → ClassData → List ℕ) (pair first : List ℕ × List ℕ)
+    → remade_pair takes text pair ≡ Ok first → first.0 ≡ pair.0
 name_remade takes text pair first is = go (takes pair.0) (class_of pair.1) is
   where
     go : (b : Bool) (r : Result ClassData ClassFault) → cond b (remade (text pair.0) pair.0 r) (Ok pair) ≡ Ok first → first.0 ≡ pair.0
@@ -43,19 +48,27 @@ name_remade takes text pair first is = go (takes pair.0) (class_of pair.1) is
     go true (Ok c) same = ap (λ (p : List ℕ × List ℕ). p.0) (sym (same_ok (pair.0, text pair.0 c) first same))
     go true (Err fault) same = cc
 
-names_remade : (takes : List ℕ → Bool) (text : List ℕ → ClassData → List ℕ) (pairs left : List (List ℕ × List ℕ)) → remade_pairs takes text pairs ≡ Ok left → names_of left ≡ names_of pairs
+names_remade : (takes : List ℕ → Bool) (text : List ℕ → ClassData → List ℕ) (pairs left : List (List ℕ × List ℕ))
+    → remade_pairs takes text pairs ≡ Ok left → names_of left ≡ names_of pairs
 names_remade takes text [] left is = ap names_of (sym (same_ok [] left is))
-names_remade takes text (pair ∷ pairs) left is = go (remade_pair takes text pair) (remade_pairs takes text pairs) refl refl is (λ rest gives. names_remade takes text pairs rest gives)
+names_remade takes text (pair ∷ pairs) left is = go (remade_pair takes text pair) (remade_pairs takes text pairs) refl refl is
+    (λ rest gives. names_remade takes text pairs rest gives)
   where
-    go : (o : Result (List ℕ × List ℕ) ApplyError) (r : Result (List (List ℕ × List ℕ)) ApplyError) → remade_pair takes text pair ≡ o → remade_pairs takes text pairs ≡ r → followed o (λ first. followed r (λ rest. Ok (first ∷ rest))) ≡ Ok left → ((rest : List (List ℕ × List ℕ)) → remade_pairs takes text pairs ≡ Ok rest → names_of rest ≡ names_of pairs) → names_of left ≡ pair.0 ∷ names_of pairs
+    go : (o : Result (List ℕ × List ℕ) ApplyError) (r : Result (List (List ℕ × List ℕ)) ApplyError) → remade_pair takes text pair
+        ≡ o → remade_pairs takes text pairs ≡ r → followed o (λ first. followed r (λ rest. Ok (first ∷ rest))) ≡ Ok left
+        → ((rest : List (List ℕ × List ℕ)) → remade_pairs takes text pairs ≡ Ok rest → names_of rest ≡ names_of pairs)
+        → names_of left ≡ pair.0 ∷ names_of pairs
     go (Ok first) (Ok rest) one others same later =
-        ap names_of (sym (same_ok (first ∷ rest) left same)) ∙ ap (λ name. name ∷ names_of rest) (name_remade takes text pair first one) ∙ ap (λ l. pair.0 ∷ l) (later rest others)
+        ap names_of (sym (same_ok (first ∷ rest) left same)) ∙ ap (λ name. name ∷ names_of rest) (name_remade takes text pair first
+        one) ∙ ap (λ l. pair.0 ∷ l) (later rest others)
     go (Ok first) (Err refusal) one others same later = cc
     go (Err refusal) r one others same later = cc
 
 -- What is said of a list of names, where it stays true of fewer of them and of them in another order
 
-module _ (Says : List (List ℕ) → Type 0) (fewer : (test : List ℕ → Bool) (names : List (List ℕ)) → Says names → Says (filter test names)) (turned : (patterns : List (List Sign)) (pairs : List (List ℕ × List ℕ)) → Says (names_of pairs) → Says (names_of (ordered patterns pairs))) where
+module _ (Says : List (List ℕ) → Type 0) (fewer : (test : List ℕ → Bool) (names : List (List ℕ)) → Says names
+    → Says (filter test names)) (turned : (patterns : List (List Sign)) (pairs : List (List ℕ × List ℕ)) → Says (names_of pairs)
+    → Says (names_of (ordered patterns pairs))) where
   acted_on : (one : Plugin) (pairs left : List (List ℕ × List ℕ)) → act one pairs ≡ Ok left → Says (names_of pairs) → Says (names_of left)
   acted_on (plugin.Exclude patterns) pairs left is says =
       let test = λ (name : List ℕ). not (matches_any patterns name) in
@@ -65,13 +78,17 @@ module _ (Says : List (List ℕ) → Type 0) (fewer : (test : List ℕ → Bool)
       subst (λ l. Says (names_of l)) (same_ok (ordered patterns pairs) left is) (turned patterns pairs says)
   acted_on plugin.Strip pairs left is says = subst Says (sym (names_remade is_class (λ name. stripped_text) pairs left is)) says
   acted_on plugin.Compact pairs left is says = subst Says (sym (names_remade is_class (λ name. compact_text) pairs left is)) says
-  acted_on plugin.Packages pairs left is says = subst Says (sym (names_remade is_descriptor (listing_text (names_of pairs)) pairs left is)) says
+  acted_on plugin.Packages pairs left is says = subst Says (sym (names_remade is_descriptor (listing_text (names_of pairs)) pairs
+      left is)) says
 
-  applied_to : (plugins : List Plugin) (before after : List (List ℕ × List ℕ)) → apply plugins before ≡ Ok after → Says (names_of before) → Says (names_of after)
+  applied_to : (plugins : List Plugin) (before after : List (List ℕ × List ℕ)) → apply plugins before ≡ Ok after
+      → Says (names_of before) → Says (names_of after)
   applied_to [] before after is says = subst (λ l. Says (names_of l)) (same_ok before after is) says
   applied_to (one ∷ later) before after is says = go (act one before) refl is (λ left gives. applied_to later left after gives)
     where
-      go : (o : Result (List (List ℕ × List ℕ)) ApplyError) → act one before ≡ o → followed o (apply later) ≡ Ok after → ((left : List (List ℕ × List ℕ)) → apply later left ≡ Ok after → Says (names_of left) → Says (names_of after)) → Says (names_of after)
+      go : (o : Result (List (List ℕ × List ℕ)) ApplyError) → act one before ≡ o → followed o (apply later) ≡ Ok after
+          → ((left : List (List ℕ × List ℕ)) → apply later left ≡ Ok after → Says (names_of left) → Says (names_of after))
+          → Says (names_of after)
       go (Ok left) acts rest onward = onward left rest (acted_on one before left acts says)
       go (Err refusal) acts rest onward = cc
 
@@ -81,7 +98,8 @@ module _ (P : List ℕ → Type 0) where
   all_fewer : (test : List ℕ → Bool) (names : List (List ℕ)) → All P names → All P (filter test names)
   all_fewer test names all = All-filter test P names all
 
-  all_turned : (patterns : List (List Sign)) (pairs : List (List ℕ × List ℕ)) → All P (names_of pairs) → All P (names_of (ordered patterns pairs))
+  all_turned : (patterns : List (List Sign)) (pairs : List (List ℕ × List ℕ)) → All P (names_of pairs)
+      → All P (names_of (ordered patterns pairs))
   all_turned [] pairs all = all
   all_turned (pattern ∷ patterns) pairs all =
       let test = λ (name : List ℕ). not (matches pattern name) in
@@ -93,7 +111,8 @@ module _ (P : List ℕ → Type 0) where
       (All-append P (names_of front) (names_of (ordered patterns behind)) first (all_turned patterns behind others))
 
   -- what holds of each name still does
-  pub names_kept : (plugins : List Plugin) (before after : List (List ℕ × List ℕ)) → apply plugins before ≡ Ok after → All P (names_of before) → All P (names_of after)
+  pub names_kept : (plugins : List Plugin) (before after : List (List ℕ × List ℕ)) → apply plugins before ≡ Ok after
+      → All P (names_of before) → All P (names_of after)
   names_kept = applied_to (All P) all_fewer all_turned
 
 -- Names that differ
@@ -101,23 +120,29 @@ module _ (P : List ℕ → Type 0) where
 abbrev Differ : List (List ℕ) → Type 0
 Differ names = AllPairs (λ one other. one ≢ other) names
 
-differ_turned : (patterns : List (List Sign)) (pairs : List (List ℕ × List ℕ)) → Differ (names_of pairs) → Differ (names_of (ordered patterns pairs))
+differ_turned : (patterns : List (List Sign)) (pairs : List (List ℕ × List ℕ)) → Differ (names_of pairs)
+    → Differ (names_of (ordered patterns pairs))
 differ_turned [] pairs differ = differ
 differ_turned (pattern ∷ patterns) pairs differ =
     let test = λ (name : List ℕ). not (matches pattern name) in
     let front = filter (λ (pair : List ℕ × List ℕ). matches pattern pair.0) pairs in
     let behind = filter (λ (pair : List ℕ × List ℕ). not (matches pattern pair.0)) pairs in
-    let first = subst Differ (sym (names_filter (matches pattern) pairs)) (AllPairs-filter (λ one other. one ≢ other) (matches pattern) (names_of pairs) differ) in
+    let first = subst Differ (sym (names_filter (matches pattern) pairs)) (AllPairs-filter (λ one other. one ≢ other)
+    (matches pattern) (names_of pairs) differ) in
     let others = subst Differ (sym (names_filter test pairs)) (AllPairs-filter (λ one other. one ≢ other) test (names_of pairs) differ) in
-    let match = subst (All (λ name. matches pattern name ≡ true)) (sym (names_filter (matches pattern) pairs)) (filter_passes (matches pattern) (names_of pairs)) in
-    let none = all_turned (λ name. test name ≡ true) patterns behind (subst (All (λ name. test name ≡ true)) (sym (names_filter test pairs)) (filter_passes test (names_of pairs))) in
+    let match = subst (All (λ name. matches pattern name ≡ true)) (sym (names_filter (matches pattern) pairs))
+    (filter_passes (matches pattern) (names_of pairs)) in
+    let none = all_turned (λ name. test name ≡ true) patterns behind (subst (All (λ name. test name ≡ true))
+    (sym (names_filter test pairs)) (filter_passes test (names_of pairs))) in
     subst Differ (sym (map-append (λ (pair : List ℕ × List ℕ). pair.0) front (ordered patterns behind)))
-    (pairs_append (λ one other. one ≢ other) (names_of front) (names_of (ordered patterns behind)) first (differ_turned patterns behind others)
+    (pairs_append (λ one other. one ≢ other) (names_of front) (names_of (ordered patterns behind)) first
+    (differ_turned patterns behind others)
     (λ one other here there same.
     let matched = All-contains (λ name. matches pattern name ≡ true) (names_of front) one match here in
     let unmatched = All-contains (λ name. test name ≡ true) (names_of (ordered patterns behind)) other none there in
     false≢true (sym (ap not matched) ∙ ap test same ∙ unmatched)))
 
 -- names that differ still do
-pub names_differ : (plugins : List Plugin) (before after : List (List ℕ × List ℕ)) → apply plugins before ≡ Ok after → AllPairs (λ one other. one ≢ other) (names_of before) → AllPairs (λ one other. one ≢ other) (names_of after)
+pub names_differ : (plugins : List Plugin) (before after : List (List ℕ × List ℕ)) → apply plugins before ≡ Ok after
+    → AllPairs (λ one other. one ≢ other) (names_of before) → AllPairs (λ one other. one ≢ other) (names_of after)
 names_differ = applied_to Differ (λ test names differ. AllPairs-filter (λ one other. one ≢ other) test names differ) differ_turned

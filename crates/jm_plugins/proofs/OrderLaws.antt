@@ -1,5 +1,6 @@
 -- Pairs sorted by the number of the first pattern that matches are the pairs pattern by pattern.
-use Rattle.std.proofs.Common.{◌≡◌, ◌==◌, ℕ, suc, ◌+◌, ◌≤◌, List, [], ◌∷◌, ◌++◌, Bool, true, false, cond, not, All, AllPairs, get_or, length, ◌<◌, refl, sym, ap, ◌∙◌, arith}
+use Rattle.std.proofs.Common.{◌≡◌, ◌==◌, ℕ, suc, ◌+◌, ◌≤◌, List, [], ◌∷◌, ◌++◌, Bool, true, false, cond, not}
+use Rattle.std.proofs.Common.{All, AllPairs, get_or, length, ◌<◌, refl, sym, ap, ◌∙◌, arith}
 use Rattle.std.proofs.lemmas.Bool.Decides.{nat_tests}
 use Rattle.std.proofs.lemmas.List.Elements.{All-head, All-tail, All-nil, All-cons}
 use Rattle.std.proofs.lemmas.List.Kept.{AllPairs-cons}
@@ -25,7 +26,8 @@ module _ {X : Type 0} where
 
   filter_each : (p : X → Bool) (xs : List X) → All (λ x. p x ≡ true) xs → filter p xs ≡ xs
   filter_each p [] each = refl
-  filter_each p (x ∷ xs) each = rw (All-head (λ z. p z ≡ true) x xs each) (ap (λ l. x ∷ l) (filter_each p xs (All-tail (λ z. p z ≡ true) x xs each)))
+  filter_each p (x ∷ xs) each = rw (All-head (λ z. p z ≡ true) x xs each)
+      (ap (λ l. x ∷ l) (filter_each p xs (All-tail (λ z. p z ≡ true) x xs each)))
 
   -- tests with the same answers
   pub filter_alike : (p q : X → Bool) → ((x : X) → p x ≡ q x) → (xs : List X) → filter p xs ≡ filter q xs
@@ -36,12 +38,14 @@ module _ {X : Type 0} where
   filter_both p q r both [] = refl
   filter_both p q r both (x ∷ xs) = go (q x) refl (filter_both p q r both xs)
     where
-      go : (b : Bool) → q x ≡ b → filter p (filter q xs) ≡ filter r xs → filter p (cond b (x ∷ filter q xs) (filter q xs)) ≡ cond (r x) (x ∷ filter r xs) (filter r xs)
+      go : (b : Bool) → q x ≡ b → filter p (filter q xs) ≡ filter r xs → filter p (cond b (x ∷ filter q xs) (filter q xs))
+          ≡ cond (r x) (x ∷ filter r xs) (filter r xs)
       go true is rest = rw (sym (both x), is, rest) refl
       go false is rest = rw (sym (both x), is, rest) refl
 
   -- where nothing that passes comes behind what doesn't, the list is what passes and then the rest
-  parted : (p q : X → Bool) → ((x : X) → q x ≡ not (p x)) → (xs : List X) → AllPairs (λ x y. p y ≡ true → p x ≡ true) xs → xs ≡ filter p xs ++ filter q xs
+  parted : (p q : X → Bool) → ((x : X) → q x ≡ not (p x)) → (xs : List X) → AllPairs (λ x y. p y ≡ true → p x ≡ true) xs → xs
+      ≡ filter p xs ++ filter q xs
   parted p q other [] falls = refl
   parted p q other (x ∷ xs) falls = go (p x) refl (parted p q other xs (pairs_tail (λ a b. p b ≡ true → p a ≡ true) x xs falls))
     where
@@ -52,7 +56,8 @@ module _ {X : Type 0} where
           false_there true here up = let no = up here in cc
           false_there false here up = here
 
-      go : (b : Bool) → p x ≡ b → xs ≡ filter p xs ++ filter q xs → x ∷ xs ≡ cond (p x) (x ∷ filter p xs) (filter p xs) ++ cond (q x) (x ∷ filter q xs) (filter q xs)
+      go : (b : Bool) → p x ≡ b → xs ≡ filter p xs ++ filter q xs → x ∷ xs ≡ cond (p x) (x ∷ filter p xs) (filter p xs)
+          ++ cond (q x) (x ∷ filter q xs) (filter q xs)
       go true is rest = rw (other x, is) (ap (λ l. x ∷ l) rest)
       go false is rest =
           let mine = filter_none p xs (none is) in
@@ -60,7 +65,8 @@ module _ {X : Type 0} where
           rw (other x, is, mine, others) refl
 
   -- a relation among what passes
-  rises_among : (R S : X → X → Type 0) (q : X → Bool) → ((x y : X) → q x ≡ true → q y ≡ true → R x y → S x y) → (xs : List X) → AllPairs R xs → AllPairs S (filter q xs)
+  rises_among : (R S : X → X → Type 0) (q : X → Bool) → ((x y : X) → q x ≡ true → q y ≡ true → R x y → S x y) → (xs : List X)
+      → AllPairs R xs → AllPairs S (filter q xs)
   rises_among R S q among [] pairs = pairs_none S
   rises_among R S q among (x ∷ xs) pairs = go (q x) refl (rises_among R S q among xs (pairs_tail R x xs pairs))
     where
@@ -91,14 +97,16 @@ first_test p ps name = go (matches p name) refl
     go true is = rw (rank_first p ps name is, is) refl
     go false is = rw (rank_later p ps name is, is) (grind (arith, nat_tests))
 
-later_test : (p : List Sign) (ps : List (List Sign)) (i : ℕ) (name : List ℕ) → cond (not (matches p name)) (rank ps name == i) false ≡ (rank (p ∷ ps) name == suc i)
+later_test : (p : List Sign) (ps : List (List Sign)) (i : ℕ) (name : List ℕ) → cond (not (matches p name)) (rank ps name == i) false
+    ≡ (rank (p ∷ ps) name == suc i)
 later_test p ps i name = go (matches p name) refl
   where
     go : (b : Bool) → matches p name ≡ b → cond (not (matches p name)) (rank ps name == i) false ≡ (rank (p ∷ ps) name == suc i)
     go true is = rw (rank_first p ps name is, is) (grind (arith, nat_tests))
     go false is = rw (rank_later p ps name is, is) (grind (arith, nat_tests))
 
-above : (p : List Sign) (ps : List (List Sign)) (one other : List ℕ) → rank (p ∷ ps) one ≤ rank (p ∷ ps) other → matches p other ≡ true → matches p one ≡ true
+above : (p : List Sign) (ps : List (List Sign)) (one other : List ℕ) → rank (p ∷ ps) one ≤ rank (p ∷ ps) other → matches p other
+    ≡ true → matches p one ≡ true
 above p ps one other up is = go (matches p one) refl
   where
     go : (b : Bool) → matches p one ≡ b → matches p one ≡ true
@@ -108,7 +116,8 @@ above p ps one other up is = go (matches p one) refl
         let some = rank_later p ps one here in
         absurd (omega (arith, up, none, some))
 
-among : (p : List Sign) (ps : List (List Sign)) (one other : List ℕ) → not (matches p one) ≡ true → not (matches p other) ≡ true → rank (p ∷ ps) one ≤ rank (p ∷ ps) other → rank ps one ≤ rank ps other
+among : (p : List Sign) (ps : List (List Sign)) (one other : List ℕ) → not (matches p one) ≡ true → not (matches p other) ≡ true
+    → rank (p ∷ ps) one ≤ rank (p ∷ ps) other → rank ps one ≤ rank ps other
 among p ps one other here there up =
     let first = rank_later p ps one (turned (matches p one) here) in
     let second = rank_later p ps other (turned (matches p other) there) in
@@ -120,22 +129,32 @@ among p ps one other here there up =
 
 -- pairs whose ranks don't fall, those of each rank as they stand in a list, are that list pattern by
 -- pattern
-pub ordered_is : (patterns : List (List Sign)) (sorted pairs : List (List ℕ × List ℕ)) → AllPairs (λ one later. rank patterns one.0 ≤ rank patterns later.0) sorted
-    → ((i : ℕ) → filter (λ pair. rank patterns pair.0 == i) sorted ≡ filter (λ pair. rank patterns pair.0 == i) pairs) → sorted ≡ ordered patterns pairs
-ordered_is [] sorted pairs rises same = sym (filter_all (λ pair. true) (λ pair. refl) sorted) ∙ same 0 ∙ filter_all (λ pair. true) (λ pair. refl) pairs
+pub ordered_is : (patterns : List (List Sign)) (sorted pairs : List (List ℕ × List ℕ)) → AllPairs (λ one later. rank patterns one.0
+    ≤ rank patterns later.0) sorted
+    → ((i : ℕ) → filter (λ pair. rank patterns pair.0 == i) sorted ≡ filter (λ pair. rank patterns pair.0 == i) pairs) → sorted
+    ≡ ordered patterns pairs
+ordered_is [] sorted pairs rises same = sym (filter_all (λ pair. true) (λ pair. refl) sorted) ∙ same 0
+    ∙ filter_all (λ pair. true) (λ pair. refl) pairs
 ordered_is (p ∷ ps) sorted pairs rises same =
     let here = λ (pair : List ℕ × List ℕ). matches p pair.0 in
     let there = λ (pair : List ℕ × List ℕ). not (matches p pair.0) in
     let zeroth = λ (pair : List ℕ × List ℕ). rank (p ∷ ps) pair.0 == 0 in
-    let whole = parted here there (λ pair. refl) sorted (pairs_weaker (λ one later. rank (p ∷ ps) one.0 ≤ rank (p ∷ ps) later.0) (λ one later. matches p later.0 ≡ true → matches p one.0 ≡ true) (λ one later up. above p ps one.0 later.0 up) sorted rises) in
+    let whole = parted here there (λ pair. refl) sorted (pairs_weaker (λ one later. rank (p ∷ ps) one.0 ≤ rank (p ∷ ps) later.0)
+    (λ one later. matches p later.0 ≡ true → matches p one.0 ≡ true) (λ one later up. above p ps one.0 later.0 up) sorted rises) in
     let front : filter here sorted ≡ filter here pairs =
-    filter_alike here zeroth (λ pair. first_test p ps pair.0) sorted ∙ same 0 ∙ sym (filter_alike here zeroth (λ pair. first_test p ps pair.0) pairs) in
-    let left = rises_among (λ one later. rank (p ∷ ps) one.0 ≤ rank (p ∷ ps) later.0) (λ one later. rank ps one.0 ≤ rank ps later.0) there (λ one later. among p ps one.0 later.0) sorted rises in
-    let kept = λ (i : ℕ). filter_both (λ pair. rank ps pair.0 == i) there (λ pair. rank (p ∷ ps) pair.0 == suc i) (λ pair. later_test p ps i pair.0) sorted ∙ same (suc i)
-    ∙ sym (filter_both (λ pair. rank ps pair.0 == i) there (λ pair. rank (p ∷ ps) pair.0 == suc i) (λ pair. later_test p ps i pair.0) pairs) in
+    filter_alike here zeroth (λ pair. first_test p ps pair.0) sorted ∙ same 0
+    ∙ sym (filter_alike here zeroth (λ pair. first_test p ps pair.0) pairs) in
+    let left = rises_among (λ one later. rank (p ∷ ps) one.0 ≤ rank (p ∷ ps) later.0) (λ one later. rank ps one.0 ≤ rank ps later.0)
+    there (λ one later. among p ps one.0 later.0) sorted rises in
+    let kept = λ (i : ℕ). filter_both (λ pair. rank ps pair.0 == i) there (λ pair. rank (p ∷ ps) pair.0 == suc i)
+    (λ pair. later_test p ps i pair.0) sorted ∙ same (suc i)
+    ∙ sym (filter_both (λ pair. rank ps pair.0 == i) there (λ pair. rank (p ∷ ps) pair.0 == suc i) (λ pair. later_test p ps i
+    pair.0) pairs) in
     let back = ordered_is ps (filter there sorted) (filter there pairs) left kept in
     whole ∙ ap (λ l. l ++ filter there sorted) front ∙ ap (λ l. filter here pairs ++ l) back
 
 -- the first pattern that matches, or none
-pub rank_here : (patterns : List (List Sign)) (name : List ℕ) (i : ℕ) → i ≤ length patterns → ((k : ℕ) → k < i → matches (get_or patterns k []) name ≡ false) → (i < length patterns → matches (get_or patterns i []) name ≡ true) → rank patterns name ≡ i
+pub rank_here : (patterns : List (List Sign)) (name : List ℕ) (i : ℕ) → i ≤ length patterns
+    → ((k : ℕ) → k < i → matches (get_or patterns k []) name ≡ false) → (i < length patterns → matches (get_or patterns i []) name
+    ≡ true) → rank patterns name ≡ i
 rank_here patterns name i within before here = position_or_len_is (λ pattern. matches pattern name) patterns i [] within before here

@@ -1,9 +1,13 @@
 -- The packages of a module, by the keys of all classes: the keys of one module are those with its
 -- name and a slash in front, and they rise as the packages do.
-use Rattle.std.proofs.Common.{◌≡◌, ℕ, zero, suc, ◌+◌, ◌<◌, inl, inr, Bool, true, false, cond, not, ◌||◌, List, [], ◌∷◌, ◌++◌, take, drop, length, get_or, map, filter, All, AllPairs, Contains, Option, Some, None, option_map, Ok, slice_get, nat_eq, refl, sym, ap, subst, ◌∙◌, arith, append_assoc}
+use Rattle.std.proofs.Common.{◌≡◌, ℕ, zero, suc, ◌+◌, ◌<◌, inl, inr, Bool, true, false, cond, not, ◌||◌, List}
+use Rattle.std.proofs.Common.{[], ◌∷◌, ◌++◌, take, drop, length, get_or, map, filter, All, AllPairs, Contains}
+use Rattle.std.proofs.Common.{Option, Some, None, option_map, Ok, slice_get, nat_eq, refl, sym, ap, subst}
+use Rattle.std.proofs.Common.{◌∙◌, arith, append_assoc}
 use Rattle.std.proofs.lemmas.Bool.{false≢true}
 use Rattle.std.proofs.lemmas.List.{map-append, take_more, append-nil}
-use Rattle.std.proofs.lemmas.List.Elements.{All-head, All-more, All-tail, All-weaker, Contains-append_cases, Contains-append_left, Contains-append_right, filter_map-append}
+use Rattle.std.proofs.lemmas.List.Elements.{All-head, All-more, All-tail, All-weaker, Contains-append_cases}
+use Rattle.std.proofs.lemmas.List.Elements.{Contains-append_left, Contains-append_right, filter_map-append}
 use Rattle.std.proofs.lemmas.Option.{get_or_from_slice_get}
 use Rattle.std.proofs.lemmas.Slice.Eq.{bytes_eq-Decides}
 use Rattle.std.specs.Cmp.{nat_cmp_is}
@@ -15,7 +19,9 @@ use Rattle.std.specs.declared.cmp.Ordering.TheVariants.{Equal}
 use Rattle.std.specs.Str.{bytes_eq}
 use Rattle.jm_bytes.specs.Results.{followed}
 use Rattle.jm_bytes.proofs.Choice.{mapped_some, same_ok, same_some}
-use Rattle.jm_bytes.proofs.Members.{all_from_contains, contains_cases, contains_here, contains_later, contains_none, contains_filter, contains_filter_map, from_filter, from_filter_map}
+use Rattle.jm_bytes.proofs.Members.{all_from_contains, contains_cases, contains_here, contains_later}
+use Rattle.jm_bytes.proofs.Members.{contains_none, contains_filter, contains_filter_map, from_filter}
+use Rattle.jm_bytes.proofs.Members.{from_filter_map}
 use Rattle.jm_bytes.proofs.Pairs.{pairs_filter_map, pairs_head, pairs_tail}
 use Rattle.jm_class.specs.Classes.{ClassData, ReadsAs}
 use Rattle.jm_class.specs.ComputedClass.{class_of}
@@ -42,18 +48,21 @@ within_text : (xs : List ℕ) → list_any is_slash (take (position_or_len is_sl
 within_text [] = refl
 within_text (x ∷ xs) = go (is_slash x) refl (within_text xs)
   where
-    go : (b : Bool) → is_slash x ≡ b → list_any is_slash (take (position_or_len is_slash xs) xs) ≡ false → list_any is_slash (take (cond (not b) (1 + position_or_len is_slash xs) 0) (x ∷ xs)) ≡ false
+    go : (b : Bool) → is_slash x ≡ b → list_any is_slash (take (position_or_len is_slash xs) xs) ≡ false
+        → list_any is_slash (take (cond (not b) (1 + position_or_len is_slash xs) 0) (x ∷ xs)) ≡ false
     go true is rest = refl
     go false is rest =
         let next : 1 + position_or_len is_slash xs ≡ suc (position_or_len is_slash xs) = omega arith in
-        ap (λ n. list_any is_slash (take n (x ∷ xs))) next ∙ ap (λ c. c || list_any is_slash (take (position_or_len is_slash xs) xs)) is ∙ rest
+        ap (λ n. list_any is_slash (take n (x ∷ xs))) next
+        ∙ ap (λ c. c || list_any is_slash (take (position_or_len is_slash xs) xs)) is ∙ rest
 
 -- a text without a slash stands in front of none
 pub before_none : (xs : List ℕ) → list_any is_slash xs ≡ false → before_first is_slash xs ≡ xs
 before_none [] none = refl
 before_none (x ∷ xs) none = go (is_slash x) none (before_none xs)
   where
-    go : (b : Bool) → (b || list_any is_slash xs) ≡ false → (list_any is_slash xs ≡ false → take (position_or_len is_slash xs) xs ≡ xs) → take (cond (not b) (1 + position_or_len is_slash xs) 0) (x ∷ xs) ≡ x ∷ xs
+    go : (b : Bool) → (b || list_any is_slash xs) ≡ false → (list_any is_slash xs ≡ false → take (position_or_len is_slash xs) xs
+        ≡ xs) → take (cond (not b) (1 + position_or_len is_slash xs) 0) (x ∷ xs) ≡ x ∷ xs
     go true some rest = absurd (false≢true (sym some))
     go false none rest =
         let next : 1 + position_or_len is_slash xs ≡ suc (position_or_len is_slash xs) = omega arith in
@@ -111,7 +120,8 @@ module _ (names : List (List ℕ)) (m : List ℕ) (whole : list_any is_slash m �
       (λ key later before one other is also.
       let first = front_of (m ++ 47 ∷ []) key one is in
       let second = front_of (m ++ 47 ∷ []) later other also in
-      sym (front_same (m ++ 47 ∷ []) one other) ∙ ap (λ k. slice_cmp nat_cmp k ((m ++ 47 ∷ []) ++ other)) (sym first) ∙ ap (slice_cmp nat_cmp key) (sym second) ∙ before)
+      sym (front_same (m ++ 47 ∷ []) one other) ∙ ap (λ k. slice_cmp nat_cmp k ((m ++ 47 ∷ []) ++ other)) (sym first)
+      ∙ ap (slice_cmp nat_cmp key) (sym second) ∙ before)
       (class_keys names) (rising_rises (filter_map class_key names))
 
   also_found : (g : List ℕ) → Contains packages g → Contains found g
@@ -120,7 +130,8 @@ module _ (names : List (List ℕ)) (m : List ℕ) (whole : list_any is_slash m �
       let name = from.0 in
       let kept = from_filter (λ name. bytes_eq (module_of name) m) names name from.1 in
       let same : module_of name ≡ m = (bytes_eq-Decides (module_of name) m).0 kept.1 in
-      let key : class_key name ≡ Some (m ++ 47 ∷ g) = ap (option_map (λ p. module_of name ++ 47 ∷ p)) from.2 ∙ ap (λ n. Some (n ++ 47 ∷ g)) same in
+      let key : class_key name ≡ Some (m ++ 47 ∷ g) = ap (option_map (λ p. module_of name ++ 47 ∷ p)) from.2
+      ∙ ap (λ n. Some (n ++ 47 ∷ g)) same in
       contains_filter_map (after_front (m ++ 47 ∷ [])) (class_keys names) (m ++ 47 ∷ g) g
       (contains_rising (filter_map class_key names) (m ++ 47 ∷ g) (contains_filter_map class_key names name (m ++ 47 ∷ g) kept.0 key))
       (after_front-is (m ++ 47 ∷ []) (m ++ 47 ∷ g) g (sym (append_assoc m (47 ∷ []) g)))
@@ -142,7 +153,8 @@ module _ (names : List (List ℕ)) (m : List ℕ) (whole : list_any is_slash m �
   packages_found = ap (map slashed) (rising_only packages found found_rise also_found from_found ∙ class_packages_are own)
 
 -- the packages of a resource's module
-pub packages_known : (names : List (List ℕ)) (name : List ℕ) → packages_by (class_keys names) (module_of name) ≡ packages_of names (module_of name)
+pub packages_known : (names : List (List ℕ)) (name : List ℕ) → packages_by (class_keys names) (module_of name)
+    ≡ packages_of names (module_of name)
 packages_known names name = packages_found names (module_of name) (module_whole name)
 
 -- One name more
@@ -168,21 +180,24 @@ with_last : (keys : List (List ℕ)) (o : Option (List ℕ)) → with_key o (ris
 with_last keys None = ap rising (sym (append-nil keys))
 with_last keys (Some key) = keys_placed key keys
 
-pub keys_more : (names : List (List ℕ)) (place : ℕ) (name : List ℕ) → place < length names → name ≡ get_or names place name → with_key (class_key name) (class_keys (take place names)) ≡ class_keys (take (place + 1) names)
+pub keys_more : (names : List (List ℕ)) (place : ℕ) (name : List ℕ) → place < length names → name ≡ get_or names place name
+    → with_key (class_key name) (class_keys (take place names)) ≡ class_keys (take (place + 1) names)
 keys_more names place name below is =
     let grown = take_more names place name below ∙ ap (λ n. take place names ++ n ∷ []) (sym is) in
     with_last (filter_map class_key (take place names)) (class_key name)
     ∙ ap rising (sym (filter_map-append class_key (take place names) (name ∷ [])))
     ∙ ap class_keys (sym grown)
 
-pub name_at : (pairs : List (List ℕ × List ℕ)) (place : ℕ) (pair : List ℕ × List ℕ) → slice_get pairs place ≡ Some pair → pair.0 ≡ get_or (names_of pairs) place pair.0
+pub name_at : (pairs : List (List ℕ × List ℕ)) (place : ℕ) (pair : List ℕ × List ℕ) → slice_get pairs place ≡ Some pair → pair.0
+    ≡ get_or (names_of pairs) place pair.0
 name_at [] place pair is = cc
 name_at (p ∷ pairs) zero pair is = sym (ap (λ (q : List ℕ × List ℕ). q.0) (same_some p pair is))
 name_at (p ∷ pairs) (suc place) pair is = name_at pairs place pair is
 
 -- One key more
 
-pub packages_more : (m : List ℕ) (keys : List (List ℕ)) (i : ℕ) (key : List ℕ) → i < length keys → key ≡ get_or keys i key → packages_by (take i keys) m ++ map slashed (filter_map (after_front (m ++ 47 ∷ [])) (key ∷ [])) ≡ packages_by (take (i + 1) keys) m
+pub packages_more : (m : List ℕ) (keys : List (List ℕ)) (i : ℕ) (key : List ℕ) → i < length keys → key ≡ get_or keys i key
+    → packages_by (take i keys) m ++ map slashed (filter_map (after_front (m ++ 47 ∷ [])) (key ∷ [])) ≡ packages_by (take (i + 1) keys) m
 packages_more m keys i key below is =
     let f = after_front (m ++ 47 ∷ []) in
     let grown = take_more keys i key below ∙ ap (λ k. take i keys ++ k ∷ []) (sym is) in
@@ -213,11 +228,13 @@ abbrev pub StaysListed : List ℕ × List ℕ → Type 0
 StaysListed pair = is_descriptor pair.0 ≡ true → Stays pair.1
 
 -- one pair more
-pub listed_next : (pairs : List (List ℕ × List ℕ)) (place : ℕ) (pair : List ℕ × List ℕ) → slice_get pairs place ≡ Some pair → place < length pairs → All StaysListed (take place pairs) → StaysListed pair → All StaysListed (take (place + 1) pairs)
+pub listed_next : (pairs : List (List ℕ × List ℕ)) (place : ℕ) (pair : List ℕ × List ℕ) → slice_get pairs place ≡ Some pair
+    → place < length pairs → All StaysListed (take place pairs) → StaysListed pair → All StaysListed (take (place + 1) pairs)
 listed_next pairs place pair there below before one =
     All-more StaysListed pairs place pair below before (subst StaysListed (sym (get_or_from_slice_get pairs place pair pair there)) one)
 
-pair_stays : (names : List (List ℕ)) (pair : List ℕ × List ℕ) → StaysListed pair → remade_pair is_descriptor (listing_text names) pair ≡ Ok pair
+pair_stays : (names : List (List ℕ)) (pair : List ℕ × List ℕ) → StaysListed pair → remade_pair is_descriptor (listing_text names)
+    pair ≡ Ok pair
 pair_stays names pair stays = go (is_descriptor pair.0) refl
   where
     go : (b : Bool) → is_descriptor pair.0 ≡ b → cond b (remade (listing_text names pair.0) pair.0 (class_of pair.1)) (Ok pair) ≡ Ok pair
@@ -227,10 +244,12 @@ pair_stays names pair stays = go (is_descriptor pair.0) refl
         ap (remade (listing_text names pair.0) pair.0) (reads-class_of pair.1 own.class own.reads)
         ∙ ap (λ text. Ok (pair.0, text)) (stays_text (packages_of names (module_of pair.0)) pair.1 own)
 
-pub pairs_stay : (names : List (List ℕ)) (pairs : List (List ℕ × List ℕ)) → All StaysListed pairs → remade_pairs is_descriptor (listing_text names) pairs ≡ Ok pairs
+pub pairs_stay : (names : List (List ℕ)) (pairs : List (List ℕ × List ℕ)) → All StaysListed pairs
+    → remade_pairs is_descriptor (listing_text names) pairs ≡ Ok pairs
 pairs_stay names [] all = refl
 pairs_stay names (pair ∷ pairs) all =
-    ap (λ o. followed o (λ first. followed (remade_pairs is_descriptor (listing_text names) pairs) (λ rest. Ok (first ∷ rest)))) (pair_stays names pair (All-head StaysListed pair pairs all))
+    ap (λ o. followed o (λ first. followed (remade_pairs is_descriptor (listing_text names) pairs) (λ rest. Ok (first ∷ rest))))
+    (pair_stays names pair (All-head StaysListed pair pairs all))
     ∙ ap (λ o. followed o (λ rest. Ok (pair ∷ rest))) (pairs_stay names pairs (All-tail StaysListed pair pairs all))
 
 -- a class that stays reads by the rule
@@ -241,7 +260,8 @@ stays_read bytes stays c is =
 
 pub pairs_read : (pairs : List (List ℕ × List ℕ)) → All StaysListed pairs → TakenRead is_descriptor pairs
 pairs_read pairs all =
-    All-weaker StaysListed (λ (pair : List ℕ × List ℕ). is_descriptor pair.0 ≡ true → ReadsByRule pair.1) (λ pair stays listed. stays_read pair.1 (stays listed)) pairs all
+    All-weaker StaysListed (λ (pair : List ℕ × List ℕ). is_descriptor pair.0 ≡ true → ReadsByRule pair.1)
+    (λ pair stays listed. stays_read pair.1 (stays listed)) pairs all
 
 -- Keys that serve
 
@@ -249,5 +269,6 @@ pub keys_serve : (pairs : List (List ℕ × List ℕ)) → Serves pairs (class_k
 keys_serve pairs =
     let names = names_of pairs in
     all_from_contains
-    (λ (pair : List ℕ × List ℕ). is_descriptor pair.0 ≡ true → (c : ClassData) → class_of pair.1 ≡ Ok c → packages_text (packages_by (class_keys names) (module_of pair.0)) c ≡ listing_text names pair.0 c)
+    (λ (pair : List ℕ × List ℕ). is_descriptor pair.0 ≡ true → (c : ClassData) → class_of pair.1 ≡ Ok c
+    → packages_text (packages_by (class_keys names) (module_of pair.0)) c ≡ listing_text names pair.0 c)
     pairs (λ pair there descriptor c reads. ap (λ (ps : List (List ℕ)). packages_text ps c) (packages_known names pair.0))

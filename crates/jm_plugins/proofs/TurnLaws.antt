@@ -1,5 +1,7 @@
 -- The pairs at the places of sorted turns are the pairs pattern by pattern.
-use Rattle.std.proofs.Common.{◌≡◌, ◌==◌, ◌&&◌, not, ℕ, ◌+◌, ◌<◌, ◌≤◌, List, [], ◌∷◌, ◌++◌, take, get_or, Bool, true, false, cond, Option, Some, None, Result, Ok, Err, IfOk, All, length, map, slice_get, refl, sym, ap, subst, ◌∙◌, arith, IsPermutation}
+use Rattle.std.proofs.Common.{◌≡◌, ◌==◌, ◌&&◌, not, ℕ, ◌+◌, ◌<◌, ◌≤◌, List, [], ◌∷◌, ◌++◌, take, get_or, Bool}
+use Rattle.std.proofs.Common.{true, false, cond, Option, Some, None, Result, Ok, Err, IfOk, All, length, map}
+use Rattle.std.proofs.Common.{slice_get, refl, sym, ap, subst, ◌∙◌, arith, IsPermutation}
 use Rattle.std.specs.List.Sorted.{IsStableByKey}
 use Rattle.std.specs.Ordering.{nat_cmp, is_lt}
 use Rattle.std.proofs.lemmas.List.{map-append, take_more}
@@ -20,11 +22,13 @@ use Rattle.jm_plugins.proofs.Beside.{beside_all}
 use Rattle.jm_plugins.proofs.OrderLaws.{filter_alike, ordered_is}
 
 -- turns of places one after another have these places
-pub places_are : (places : List ℕ) (turns : List Turn) → AllZip (λ place turn. turn.place ≡ place) places turns → map (λ turn. turn.place) turns ≡ places
+pub places_are : (places : List ℕ) (turns : List Turn) → AllZip (λ place turn. turn.place ≡ place) places turns
+    → map (λ turn. turn.place) turns ≡ places
 places_are [] [] zipped = refl
 places_are [] (turn ∷ turns) zipped = absurd zipped
 places_are (place ∷ places) [] zipped = absurd zipped
-places_are (place ∷ places) (turn ∷ turns) zipped = ap (λ k. k ∷ map (λ t. t.place) turns) zipped.0 ∙ ap (λ l. place ∷ l) (places_are places turns zipped.1)
+places_are (place ∷ places) (turn ∷ turns) zipped = ap (λ k. k ∷ map (λ t. t.place) turns) zipped.0
+    ∙ ap (λ l. place ∷ l) (places_are places turns zipped.1)
 
 module _ (patterns : List (List Sign)) (pairs : List (List ℕ × List ℕ)) where
   -- the rank of a turn is that of the pair at its place
@@ -35,7 +39,8 @@ module _ (patterns : List (List Sign)) (pairs : List (List ℕ × List ℕ)) whe
   items_are [] = refl
   items_are (turn ∷ turns) = ap (cons_option (slice_get pairs turn.place)) (items_are turns)
 
-  told : (rest : List (List ℕ × List ℕ)) (turns : List Turn) → AllZip (IsTurn patterns pairs) rest turns → filter_map (λ turn. slice_get pairs turn.place) turns ≡ rest
+  told : (rest : List (List ℕ × List ℕ)) (turns : List Turn) → AllZip (IsTurn patterns pairs) rest turns
+      → filter_map (λ turn. slice_get pairs turn.place) turns ≡ rest
   told [] [] zipped = refl
   told [] (turn ∷ turns) zipped = absurd zipped
   told (pair ∷ rest) [] zipped = absurd zipped
@@ -47,12 +52,16 @@ module _ (patterns : List (List Sign)) (pairs : List (List ℕ × List ℕ)) whe
   ranked [] (turn ∷ turns) zipped = absurd zipped
   ranked (pair ∷ rest) [] zipped = absurd zipped
   ranked (pair ∷ rest) (turn ∷ turns) zipped =
-      All-cons Ranks turn turns (λ other there. zipped.0.1 ∙ ap (λ p. rank patterns p.0) (same_some pair other (sym zipped.0.0 ∙ there))) (ranked rest turns zipped.1)
+      All-cons Ranks turn turns (λ other there. zipped.0.1 ∙ ap (λ p. rank patterns p.0) (same_some pair other (sym zipped.0.0
+      ∙ there))) (ranked rest turns zipped.1)
 
   -- the pairs of a rank are those at the turns of the rank
-  of_rank : (i : ℕ) (turns : List Turn) → All Ranks turns → filter (λ pair. rank patterns pair.0 == i) (filter_map (λ turn. slice_get pairs turn.place) turns) ≡ filter_map (λ turn. slice_get pairs turn.place) (filter (λ turn. turn.rank == i) turns)
+  of_rank : (i : ℕ) (turns : List Turn) → All Ranks turns → filter (λ pair. rank patterns pair.0 == i)
+      (filter_map (λ turn. slice_get pairs turn.place) turns) ≡ filter_map (λ turn. slice_get pairs turn.place)
+      (filter (λ turn. turn.rank == i) turns)
   of_rank i [] all = refl
-  of_rank i (turn ∷ turns) all = go (slice_get pairs turn.place) refl (turn.rank == i) refl (of_rank i turns (All-tail Ranks turn turns all))
+  of_rank i (turn ∷ turns) all = go (slice_get pairs turn.place) refl (turn.rank == i) refl
+      (of_rank i turns (All-tail Ranks turn turns all))
     where
       items : List Turn → List (List ℕ × List ℕ)
       items ts = filter_map (λ t. slice_get pairs t.place) ts
@@ -63,60 +72,81 @@ module _ (patterns : List (List Sign)) (pairs : List (List ℕ × List ℕ)) whe
       later : List Turn
       later = filter (λ t. t.rank == i) turns
 
-      go : (o : Option (List ℕ × List ℕ)) → slice_get pairs turn.place ≡ o → (b : Bool) → (turn.rank == i) ≡ b → filter test (items turns) ≡ items later → filter test (cons_option (slice_get pairs turn.place) (items turns)) ≡ items (cond (turn.rank == i) (turn ∷ later) later)
+      go : (o : Option (List ℕ × List ℕ)) → slice_get pairs turn.place ≡ o → (b : Bool) → (turn.rank == i) ≡ b
+          → filter test (items turns) ≡ items later → filter test (cons_option (slice_get pairs turn.place) (items turns))
+          ≡ items (cond (turn.rank == i) (turn ∷ later) later)
       go None none true here rest = rw (none, here) (rest ∙ sym (ap (λ o. cons_option o (items later)) none))
       go None none false here rest = rw (none, here) rest
       go (Some pair) there b here rest =
           let own : turn.rank ≡ rank patterns pair.0 = All-head Ranks turn turns all pair there in
           let passes : test pair ≡ b = ap (λ (k : ℕ). k == i) (sym own) ∙ here in
-          ap (λ o. filter test (cons_option o (items turns))) there ∙ ap (λ c. cond c (pair ∷ filter test (items turns)) (filter test (items turns))) passes ∙ taken b rest ∙ sym (ap (λ c. items (cond c (turn ∷ later) later)) here)
+          ap (λ o. filter test (cons_option o (items turns))) there
+          ∙ ap (λ c. cond c (pair ∷ filter test (items turns)) (filter test (items turns))) passes ∙ taken b rest
+          ∙ sym (ap (λ c. items (cond c (turn ∷ later) later)) here)
         where
-          taken : (c : Bool) → filter test (items turns) ≡ items later → cond c (pair ∷ filter test (items turns)) (filter test (items turns)) ≡ items (cond c (turn ∷ later) later)
+          taken : (c : Bool) → filter test (items turns) ≡ items later → cond c (pair ∷ filter test (items turns))
+              (filter test (items turns)) ≡ items (cond c (turn ∷ later) later)
           taken true same = ap (λ l. pair ∷ l) same ∙ sym (ap (λ o. cons_option o (items later)) there)
           taken false same = same
 
-  pub in_order : (turns sorted : List Turn) → AreTurns patterns pairs turns → IsByRank turns sorted → items_at (map (λ turn. turn.place) sorted) pairs ≡ ordered patterns pairs
+  pub in_order : (turns sorted : List Turn) → AreTurns patterns pairs turns → IsByRank turns sorted
+      → items_at (map (λ turn. turn.place) sorted) pairs ≡ ordered patterns pairs
   in_order turns sorted are by =
       let before = ranked pairs turns are.ranks in
       let after = All-permutation Ranks turns sorted by.same before in
-      let rises = pairs_filter_map (λ one later. (one.rank ≤ later.rank) × Ranks one × Ranks later) (λ one later. rank patterns one.0 ≤ rank patterns later.0) (λ turn. slice_get pairs turn.place)
+      let rises = pairs_filter_map (λ one later. (one.rank ≤ later.rank) × Ranks one × Ranks later) (λ one later. rank patterns
+      one.0 ≤ rank patterns later.0) (λ turn. slice_get pairs turn.place)
       (λ one later holds a b first second. rw (sym (holds.1 a first), sym (holds.2 b second)) holds.0) sorted
       (pairs_among (λ one later. one.rank ≤ later.rank) (λ one later. (one.rank ≤ later.rank) × Ranks one × Ranks later) sorted
-      (λ one later there behind up. (up, All-contains Ranks sorted one after there, All-contains Ranks sorted later after behind)) by.rises) in
-      let same = λ (i : ℕ). of_rank i sorted after ∙ ap (filter_map (λ turn. slice_get pairs turn.place)) (by.stays i) ∙ sym (of_rank i turns before) ∙ ap (filter (λ pair. rank patterns pair.0 == i)) (told pairs turns are.ranks) in
+      (λ one later there behind up. (up, All-contains Ranks sorted one after there, All-contains Ranks sorted later after behind))
+      by.rises) in
+      let same = λ (i : ℕ). of_rank i sorted after ∙ ap (filter_map (λ turn. slice_get pairs turn.place)) (by.stays i)
+      ∙ sym (of_rank i turns before) ∙ ap (filter (λ pair. rank patterns pair.0 == i)) (told pairs turns are.ranks) in
       items_are sorted ∙ ordered_is patterns (filter_map (λ turn. slice_get pairs turn.place) sorted) pairs rises same
 
   -- the places of sorted turns are all places in another order
-  pub all_in_order : (turns sorted : List Turn) → AreTurns patterns pairs turns → IsByRank turns sorted → IsOrderOf (length pairs) (map (λ turn. turn.place) sorted)
+  pub all_in_order : (turns sorted : List Turn) → AreTurns patterns pairs turns → IsByRank turns sorted
+      → IsOrderOf (length pairs) (map (λ turn. turn.place) sorted)
   all_in_order turns sorted are by =
-      subst (λ places. IsPermutation places (map (λ turn. turn.place) sorted)) are.places (IsPermutation-map (λ turn. turn.place) turns sorted by.same)
+      subst (λ places. IsPermutation places (map (λ turn. turn.place) sorted)) are.places (IsPermutation-map (λ turn. turn.place)
+      turns sorted by.same)
 
 -- Sorted by rank
 
 tied : (a b : ℕ) → (b == a) ≡ (not (is_lt (nat_cmp a b)) && not (is_lt (nat_cmp b a)))
 tied a b = grind (arith, nat_tests)
 
-pub of_number : (turns sorted : List Turn) (number : ℕ) → IsStableByKey (λ turn. turn.rank) nat_cmp turns sorted → filter (λ turn. turn.rank == number) sorted ≡ filter (λ turn. turn.rank == number) turns
+pub of_number : (turns sorted : List Turn) (number : ℕ) → IsStableByKey (λ turn. turn.rank) nat_cmp turns sorted
+    → filter (λ turn. turn.rank == number) sorted ≡ filter (λ turn. turn.rank == number) turns
 of_number turns sorted number stable =
     let one : Turn = record { rank = number; place = 0 } in
     let test = λ (turn : Turn). not (is_lt (nat_cmp number turn.rank)) && not (is_lt (nat_cmp turn.rank number)) in
-    filter_alike (λ turn. turn.rank == number) test (λ turn. tied number turn.rank) sorted ∙ stable one ∙ sym (filter_alike (λ turn. turn.rank == number) test (λ turn. tied number turn.rank) turns)
+    filter_alike (λ turn. turn.rank == number) test (λ turn. tied number turn.rank) sorted ∙ stable one
+    ∙ sym (filter_alike (λ turn. turn.rank == number) test (λ turn. tied number turn.rank) turns)
 
 -- the places of turns, with one turn more
-pub places_more : (turns : List Turn) (i : ℕ) (places : List ℕ) (d : Turn) → i < length turns → places ≡ map (λ turn. turn.place) (take i turns) → places ++ (get_or turns i d).place ∷ [] ≡ map (λ turn. turn.place) (take (i + 1) turns)
+pub places_more : (turns : List Turn) (i : ℕ) (places : List ℕ) (d : Turn) → i < length turns → places
+    ≡ map (λ turn. turn.place) (take i turns) → places ++ (get_or turns i d).place ∷ [] ≡ map (λ turn. turn.place) (take (i + 1) turns)
 places_more turns i places d below so_far =
-    ap (λ l. l ++ (get_or turns i d).place ∷ []) so_far ∙ sym (map-append (λ turn. turn.place) (take i turns) (get_or turns i d ∷ [])) ∙ sym (ap (map (λ turn. turn.place)) (take_more turns i d below))
+    ap (λ l. l ++ (get_or turns i d).place ∷ []) so_far ∙ sym (map-append (λ turn. turn.place) (take i turns) (get_or turns i d
+    ∷ [])) ∙ sym (ap (map (λ turn. turn.place)) (take_more turns i d below))
 
 -- what is said of the turn of each place
 abbrev pub IsTurnAt : List (List Sign) → List (List ℕ × List ℕ) → ℕ → Turn → Type 0
-IsTurnAt patterns pairs place turn = (turn.place ≡ place) × ((pair : List ℕ × List ℕ) → slice_get pairs place ≡ Some pair → turn.rank ≡ rank patterns pair.0)
+IsTurnAt patterns pairs place turn = (turn.place ≡ place) × ((pair : List ℕ × List ℕ) → slice_get pairs place ≡ Some pair
+    → turn.rank ≡ rank patterns pair.0)
 
-pub turns_ok : {E : Type 0} (patterns : List (List Sign)) (pairs : List (List ℕ × List ℕ)) (places : List ℕ) (r : Result (List Turn) E) → places ≡ range_with_len 0 (length pairs) → IfOk r (λ turns. AllZip (IsTurnAt patterns pairs) places turns) → IfOk r (AreTurns patterns pairs)
+pub turns_ok : {E : Type 0} (patterns : List (List Sign)) (pairs : List (List ℕ × List ℕ)) (places : List ℕ)
+    (r : Result (List Turn) E) → places ≡ range_with_len 0 (length pairs)
+    → IfOk r (λ turns. AllZip (IsTurnAt patterns pairs) places turns) → IfOk r (AreTurns patterns pairs)
 turns_ok patterns pairs places (Ok turns) all zipped =
     let beside = subst (λ ks. AllZip (IsTurnAt patterns pairs) ks turns) all zipped in
-    let there = zip_weaker (IsTurnAt patterns pairs) (λ place turn. (pair : List ℕ × List ℕ) → slice_get pairs place ≡ Some pair → IsTurn patterns pairs pair turn) (range_with_len 0 (length pairs)) turns (λ place turn says pair is. (ap (slice_get pairs) says.0 ∙ is, says.1 pair is)) beside in
+    let there = zip_weaker (IsTurnAt patterns pairs) (λ place turn. (pair : List ℕ × List ℕ) → slice_get pairs place ≡ Some pair
+    → IsTurn patterns pairs pair turn) (range_with_len 0 (length pairs)) turns (λ place turn says pair is.
+    (ap (slice_get pairs) says.0 ∙ is, says.1 pair is)) beside in
     record {
-      places = places_are (range_with_len 0 (length pairs)) turns (zip_weaker (IsTurnAt patterns pairs) (λ place turn. turn.place ≡ place) (range_with_len 0 (length pairs)) turns (λ place turn says. says.0) beside);
+      places = places_are (range_with_len 0 (length pairs)) turns (zip_weaker (IsTurnAt patterns pairs) (λ place turn. turn.place
+          ≡ place) (range_with_len 0 (length pairs)) turns (λ place turn says. says.0) beside);
       ranks = beside_all (IsTurn patterns pairs) pairs turns there;
     }
 turns_ok patterns pairs places (Err e) all zipped = tt

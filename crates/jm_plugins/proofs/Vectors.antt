@@ -17,7 +17,8 @@ below_a = Byte 47 ∷ Byte 97 ∷ Byte 47 ∷ AnyRun ∷ []
 
 -- a class with a source file, the same class without it, and this one without the attribute's name
 abbrev front : List ℕ
-front = 202 ∷ 254 ∷ 186 ∷ 190 ∷ 0 ∷ 0 ∷ 0 ∷ 52 ∷ 0 ∷ 3 ∷ 1 ∷ 0 ∷ 10 ∷ codes "SourceFile" ++ (1 ∷ 0 ∷ 1 ∷ 97 ∷ 0 ∷ 0 ∷ 0 ∷ 2 ∷ 0 ∷ 0 ∷ 0 ∷ 0 ∷ 0 ∷ 0 ∷ 0 ∷ 0 ∷ [])
+front = 202 ∷ 254 ∷ 186 ∷ 190 ∷ 0 ∷ 0 ∷ 0 ∷ 52 ∷ 0 ∷ 3 ∷ 1 ∷ 0 ∷ 10 ∷ codes "SourceFile" ++ (1 ∷ 0 ∷ 1 ∷ 97 ∷ 0 ∷ 0 ∷ 0 ∷ 2 ∷ 0 ∷ 0
+    ∷ 0 ∷ 0 ∷ 0 ∷ 0 ∷ 0 ∷ 0 ∷ [])
 
 abbrev with_file : List ℕ
 with_file = front ++ (0 ∷ 1 ∷ 0 ∷ 1 ∷ 0 ∷ 0 ∷ 0 ∷ 2 ∷ 0 ∷ 2 ∷ [])
@@ -35,7 +36,8 @@ pool bytes = (codes "/a/B.class", bytes) ∷ (codes "/a/x", with_file) ∷ (code
 none : apply [] (pool []) ≡ Ok (pool [])
 none = refl
 
-order_in_pool : apply (plugin.Order (named_b ∷ below_a ∷ []) ∷ []) (pool []) ≡ Ok ((codes "/a/B.class", []) ∷ (codes "/b/B.class", []) ∷ (codes "/a/x", with_file) ∷ (codes "/b/y", []) ∷ [])
+order_in_pool : apply (plugin.Order (named_b ∷ below_a ∷ []) ∷ []) (pool [])
+    ≡ Ok ((codes "/a/B.class", []) ∷ (codes "/b/B.class", []) ∷ (codes "/a/x", with_file) ∷ (codes "/b/y", []) ∷ [])
 order_in_pool = refl
 
 -- the first pattern that matches decides
@@ -49,7 +51,8 @@ excluded_in_pool = refl
 stripped_in_pool : apply (plugin.Strip ∷ []) (pool with_file) ≡ Ok (pool without_file)
 stripped_in_pool = refl
 
-compacted_in_pool : apply (plugin.Compact ∷ []) (pool without_file) ≡ Ok ((codes "/a/B.class", without_name) ∷ (codes "/a/x", with_file) ∷ (codes "/b/B.class", without_name) ∷ (codes "/b/y", []) ∷ [])
+compacted_in_pool : apply (plugin.Compact ∷ []) (pool without_file) ≡ Ok ((codes "/a/B.class", without_name)
+    ∷ (codes "/a/x", with_file) ∷ (codes "/b/B.class", without_name) ∷ (codes "/b/y", []) ∷ [])
 compacted_in_pool = refl
 
 -- what is named stays
@@ -57,19 +60,23 @@ all_named : apply (plugin.Compact ∷ []) (pool with_file) ≡ Ok (pool with_fil
 all_named = refl
 
 -- one plug-in after another
-in_turn : apply (plugin.Exclude (below_a ∷ []) ∷ plugin.Strip ∷ []) (pool with_file) ≡ Ok ((codes "/b/B.class", without_file) ∷ (codes "/b/y", []) ∷ [])
+in_turn : apply (plugin.Exclude (below_a ∷ []) ∷ plugin.Strip ∷ []) (pool with_file) ≡ Ok ((codes "/b/B.class", without_file)
+    ∷ (codes "/b/y", []) ∷ [])
 in_turn = refl
 
-strip_then_compact : apply (plugin.Exclude (below_a ∷ []) ∷ plugin.Strip ∷ plugin.Compact ∷ []) (pool with_file) ≡ Ok ((codes "/b/B.class", without_name) ∷ (codes "/b/y", []) ∷ [])
+strip_then_compact : apply (plugin.Exclude (below_a ∷ []) ∷ plugin.Strip ∷ plugin.Compact ∷ []) (pool with_file)
+    ≡ Ok ((codes "/b/B.class", without_name) ∷ (codes "/b/y", []) ∷ [])
 strip_then_compact = refl
 
-compact_then_strip : apply (plugin.Exclude (below_a ∷ []) ∷ plugin.Compact ∷ plugin.Strip ∷ []) (pool with_file) ≡ Ok ((codes "/b/B.class", without_file) ∷ (codes "/b/y", []) ∷ [])
+compact_then_strip : apply (plugin.Exclude (below_a ∷ []) ∷ plugin.Compact ∷ plugin.Strip ∷ []) (pool with_file)
+    ≡ Ok ((codes "/b/B.class", without_file) ∷ (codes "/b/y", []) ∷ [])
 compact_then_strip = refl
 
 bad_class : apply (plugin.Order (named_b ∷ []) ∷ plugin.Strip ∷ []) (pool (codes "no")) ≡ Err (BadClass (codes "/a/B.class") (Short 0))
 bad_class = refl
 
-uncompacted_class : apply (plugin.Order (named_b ∷ []) ∷ plugin.Compact ∷ []) (pool (codes "no")) ≡ Err (BadClass (codes "/a/B.class") (Short 0))
+uncompacted_class : apply (plugin.Order (named_b ∷ []) ∷ plugin.Compact ∷ []) (pool (codes "no"))
+    ≡ Err (BadClass (codes "/a/B.class") (Short 0))
 uncompacted_class = refl
 
 -- a module's class with no constant, and the same with one package; the attribute's name is constant 1
@@ -79,12 +86,16 @@ descriptor = 202 ∷ 254 ∷ 186 ∷ 190 ∷ 0 ∷ 0 ∷ 0 ∷ 53 ∷ 0 ∷ 1 �
 abbrev listing : List ℕ
 listing =
     202 ∷ 254 ∷ 186 ∷ 190 ∷ 0 ∷ 0 ∷ 0 ∷ 53 ∷ 0 ∷ 4 ∷ 1 ∷ 0 ∷ 14 ∷ codes "ModulePackages"
-    ++ (1 ∷ 0 ∷ 3 ∷ codes "p/q" ++ (20 ∷ 0 ∷ 2 ∷ 128 ∷ 0 ∷ 0 ∷ 0 ∷ 0 ∷ 0 ∷ 0 ∷ 0 ∷ 0 ∷ 0 ∷ 0 ∷ 0 ∷ 0 ∷ 1 ∷ 0 ∷ 1 ∷ 0 ∷ 0 ∷ 0 ∷ 4 ∷ 0 ∷ 1 ∷ 0 ∷ 3 ∷ []))
+    ++ (1 ∷ 0 ∷ 3 ∷ codes "p/q" ++ (20 ∷ 0 ∷ 2 ∷ 128 ∷ 0 ∷ 0 ∷ 0 ∷ 0 ∷ 0 ∷ 0 ∷ 0 ∷ 0 ∷ 0 ∷ 0 ∷ 0 ∷ 0 ∷ 1 ∷ 0 ∷ 1 ∷ 0 ∷ 0 ∷ 0 ∷ 4 ∷ 0
+    ∷ 1 ∷ 0 ∷ 3 ∷ []))
 
 -- of the module's own classes and of no other files
-listed_in_pool : apply (plugin.Packages ∷ []) ((codes "/b/r/C.class", []) ∷ (codes "/a/module-info.class", descriptor) ∷ (codes "/a/p.q/C.class", []) ∷ (codes "/a/p/q/D.class", []) ∷ (codes "/a/s/x", []) ∷ [])
-    ≡ Ok ((codes "/b/r/C.class", []) ∷ (codes "/a/module-info.class", listing) ∷ (codes "/a/p.q/C.class", []) ∷ (codes "/a/p/q/D.class", []) ∷ (codes "/a/s/x", []) ∷ [])
+listed_in_pool : apply (plugin.Packages ∷ []) ((codes "/b/r/C.class", []) ∷ (codes "/a/module-info.class", descriptor)
+    ∷ (codes "/a/p.q/C.class", []) ∷ (codes "/a/p/q/D.class", []) ∷ (codes "/a/s/x", []) ∷ [])
+    ≡ Ok ((codes "/b/r/C.class", []) ∷ (codes "/a/module-info.class", listing) ∷ (codes "/a/p.q/C.class", [])
+    ∷ (codes "/a/p/q/D.class", []) ∷ (codes "/a/s/x", []) ∷ [])
 listed_in_pool = refl
 
-unlisted_descriptor : apply (plugin.Packages ∷ []) ((codes "/a/x.class", []) ∷ (codes "/b/module-info.class", codes "no") ∷ []) ≡ Err (BadClass (codes "/b/module-info.class") (Short 0))
+unlisted_descriptor : apply (plugin.Packages ∷ []) ((codes "/a/x.class", []) ∷ (codes "/b/module-info.class", codes "no") ∷ [])
+    ≡ Err (BadClass (codes "/b/module-info.class") (Short 0))
 unlisted_descriptor = refl

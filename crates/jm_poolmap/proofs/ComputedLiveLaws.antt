@@ -1,5 +1,7 @@
 -- The flags after three rounds tell which constants are live.
-use Rattle.std.proofs.Common.{◌≡◌, ℕ, zero, suc, ◌+◌, ◌-◌, ◌<◌, ◌≤◌, ◌↔◌, ◌⊎◌, inl, inr, Bool, true, false, cond, List, [], ◌∷◌, ◌++◌, get_or, length, map, replicate, Option, Some, None, Contains, refl, sym, ap, ◌∙◌, subst, arith, slice_get}
+use Rattle.std.proofs.Common.{◌≡◌, ℕ, zero, suc, ◌+◌, ◌-◌, ◌<◌, ◌≤◌, ◌↔◌, ◌⊎◌, inl, inr, Bool, true, false}
+use Rattle.std.proofs.Common.{cond, List, [], ◌∷◌, ◌++◌, get_or, length, map, replicate, Option, Some, None}
+use Rattle.std.proofs.Common.{Contains, refl, sym, ap, ◌∙◌, subst, arith, slice_get}
 use Rattle.std.proofs.lemmas.Bool.{and_parts, eqb-false, ltb-true, ne_eqb}
 use Rattle.std.proofs.lemmas.List.{length-replicate}
 use Rattle.std.proofs.lemmas.Option.{slice_get_within}
@@ -12,12 +14,15 @@ use Rattle.jm_poolmap.specs.declared.site.Found.{Found}
 use Rattle.jm_poolmap.specs.declared.site.Site.{Site}
 use Rattle.jm_poolmap.specs.ComputedLive.{with_marks, spread_from, flag_of, with_holes, flags_of}
 use Rattle.jm_poolmap.specs.Live.{Names, Leads, IsLive, first_number, number_of, TellsLive}
-use Rattle.jm_poolmap.specs.Sites.{rank, named_by, rank_of, rank_at, is_some_below, names_lower, names_constant, judged, site_of, found_in, sites_of}
-use Rattle.jm_poolmap.proofs.MarkLaws.{IsUp, HasFlag, length-marks, marks_here, marks_from, length-round, round_keeps, round_follows, round_sound}
+use Rattle.jm_poolmap.specs.Sites.{rank, named_by, rank_of, rank_at, is_some_below, names_lower}
+use Rattle.jm_poolmap.specs.Sites.{names_constant, judged, site_of, found_in, sites_of}
+use Rattle.jm_poolmap.proofs.MarkLaws.{IsUp, HasFlag, length-marks, marks_here, marks_from, length-round}
+use Rattle.jm_poolmap.proofs.MarkLaws.{round_keeps, round_follows, round_sound}
 
 -- Lists of constants
 
-pub leads_on : (pool : List SlotData) (i : ℕ) (between : List ℕ) (j k : ℕ) → Leads pool i between j → Names pool j k → Leads pool i (between ++ k ∷ []) k
+pub leads_on : (pool : List SlotData) (i : ℕ) (between : List ℕ) (j k : ℕ) → Leads pool i between j → Names pool j k
+    → Leads pool i (between ++ k ∷ []) k
 leads_on pool i [] j k same names = (subst (λ n. Names pool n k) (sym same) names, refl)
 leads_on pool i (m ∷ between) j k leads names = (leads.0, leads_on pool m between j k leads.1 names)
 
@@ -29,7 +34,8 @@ Led pool numbers j = (i : ℕ) × (between : List ℕ) × Contains numbers i × 
 
 pub all_at : {A : Type 0} (test : A → Bool) (xs : List A) (x : A) → Contains xs x → list_all test xs ≡ true → test x ≡ true
 all_at test [] x there all = absurd (contains_none x there)
-all_at test (y ∷ xs) x there all = go (contains_cases y xs x there) (λ later. all_at test xs x later (and_parts (test y) (list_all test xs) all).1)
+all_at test (y ∷ xs) x there all = go (contains_cases y xs x there) (λ later. all_at test xs x later
+    (and_parts (test y) (list_all test xs) all).1)
   where
     go : (y ≡ x) ⊎ Contains xs x → (Contains xs x → test x ≡ true) → test x ≡ true
     go (inl same) rest = subst (λ z. test z ≡ true) same (and_parts (test y) (list_all test xs) all).0
@@ -38,11 +44,13 @@ all_at test (y ∷ xs) x there all = go (contains_cases y xs x there) (λ later.
 slot_there : (pool : List SlotData) (place : ℕ) (slot : SlotData) → slice_get pool place ≡ Some slot → Contains pool slot
 slot_there [] place slot is = cc
 slot_there (first ∷ pool) zero slot is = let same : first ≡ slot = cc in (0, omega arith, same)
-slot_there (first ∷ pool) (suc place) slot is = let rest = slot_there pool place slot is in (suc rest.0, (let below = rest.1 in omega (arith, below)), rest.2)
+slot_there (first ∷ pool) (suc place) slot is =
+    let rest = slot_there pool place slot is in (suc rest.0, (let below = rest.1 in omega (arith, below)), rest.2)
 
 -- a rank is at most 3
 rank_within : (tag : ℕ) → rank tag ≤ 3
-rank_within tag = go (nat_eq tag 7 || nat_eq tag 8 || nat_eq tag 12 || nat_eq tag 16 || nat_eq tag 19 || nat_eq tag 20) (nat_eq tag 9 || nat_eq tag 10 || nat_eq tag 11 || nat_eq tag 17 || nat_eq tag 18) (nat_eq tag 15)
+rank_within tag = go (nat_eq tag 7 || nat_eq tag 8 || nat_eq tag 12 || nat_eq tag 16 || nat_eq tag 19 || nat_eq tag 20)
+    (nat_eq tag 9 || nat_eq tag 10 || nat_eq tag 11 || nat_eq tag 17 || nat_eq tag 18) (nat_eq tag 15)
   where
     go : (a b c : Bool) → cond a 1 (cond b 2 (cond c 3 0)) ≤ 3
     go true b c = omega arith
@@ -56,7 +64,8 @@ below_found limit (Some r) e = (r, refl, ltb-true r limit e)
 
 module _ (pool : List SlotData) (lower : list_all (names_lower pool) pool ≡ true) where
   -- what a constant names is of a lower rank
-  lower_at : (place : ℕ) (slot : SlotData) (limit index : ℕ) → slice_get pool place ≡ Some slot → rank_of slot ≡ Some limit → Contains (named_by slot) index → (r : ℕ) × (rank_at pool index ≡ Some r) × (r < limit)
+  lower_at : (place : ℕ) (slot : SlotData) (limit index : ℕ) → slice_get pool place ≡ Some slot → rank_of slot ≡ Some limit
+      → Contains (named_by slot) index → (r : ℕ) × (rank_at pool index ≡ Some r) × (r < limit)
   lower_at place (Constant tag body) limit index is ranked there =
       let all = all_at (names_lower pool) pool (Constant tag body) (slot_there pool place (Constant tag body) is) lower in
       let one = all_at (λ index. is_some_below (rank tag) (rank_at pool index)) (named_by (Constant tag body)) index there all in
@@ -68,7 +77,8 @@ module _ (pool : List SlotData) (lower : list_all (names_lower pool) pool ≡ tr
   slot_of_number : (index : ℕ) (slot : SlotData) → slot_at pool index ≡ Some slot → (0 < index) × (slice_get pool (index - 1) ≡ Some slot)
   slot_of_number index slot is = go (nat_eq index 0) refl is
     where
-      go : (b : Bool) → nat_eq index 0 ≡ b → cond b None (slice_get pool (index - 1)) ≡ Some slot → (0 < index) × (slice_get pool (index - 1) ≡ Some slot)
+      go : (b : Bool) → nat_eq index 0 ≡ b → cond b None (slice_get pool (index - 1)) ≡ Some slot → (0 < index)
+          × (slice_get pool (index - 1) ≡ Some slot)
       go true e is = cc
       go false e is = (some, is)
         where
@@ -83,12 +93,14 @@ module _ (pool : List SlotData) (lower : list_all (names_lower pool) pool ≡ tr
   rank_slot : (index r : ℕ) → rank_at pool index ≡ Some r → (slot : SlotData) × (slot_at pool index ≡ Some slot) × (rank_of slot ≡ Some r)
   rank_slot index r is = go (slot_at pool index) refl is
     where
-      go : (found : Option SlotData) → slot_at pool index ≡ found → option_and_then rank_of found ≡ Some r → (slot : SlotData) × (slot_at pool index ≡ Some slot) × (rank_of slot ≡ Some r)
+      go : (found : Option SlotData) → slot_at pool index ≡ found → option_and_then rank_of found ≡ Some r → (slot : SlotData)
+          × (slot_at pool index ≡ Some slot) × (rank_of slot ≡ Some r)
       go None e is = cc
       go (Some slot) e is = (slot, e, is)
 
   -- the constants behind one are no more than its rank
-  short : (i : ℕ) (slot : SlotData) (r : ℕ) (between : List ℕ) (j : ℕ) → slot_at pool i ≡ Some slot → rank_of slot ≡ Some r → Leads pool i between j → length between ≤ r
+  short : (i : ℕ) (slot : SlotData) (r : ℕ) (between : List ℕ) (j : ℕ) → slot_at pool i ≡ Some slot → rank_of slot ≡ Some r
+      → Leads pool i between j → length between ≤ r
   short i slot r [] j is is_ranked leads = omega arith
   short i slot r (k ∷ between) j is is_ranked (names, leads) =
       let same = same_some names.0 slot (sym names.1 ∙ is) in
@@ -101,7 +113,8 @@ module _ (pool : List SlotData) (lower : list_all (names_lower pool) pool ≡ tr
       omega (arith, rest, below)
 
   -- a constant that is named has a flag
-  named_flag : (flags : List Bool) → length flags ≡ length pool → (place : ℕ) (slot : SlotData) (index : ℕ) → slice_get pool place ≡ Some slot → Contains (named_by slot) index → HasFlag flags index
+  named_flag : (flags : List Bool) → length flags ≡ length pool → (place : ℕ) (slot : SlotData) (index : ℕ) → slice_get pool place
+      ≡ Some slot → Contains (named_by slot) index → HasFlag flags index
   named_flag flags size place slot index is there =
       let one = ranked slot index there in
       let less = lower_at place slot one.0 index is one.1 there in
@@ -120,13 +133,15 @@ module _ (pool : List SlotData) (lower : list_all (names_lower pool) pool ≡ tr
   rounds_keep zero flags place up = up
   rounds_keep (suc n) flags place up = rounds_keep n (spread_from 0 pool flags) place (round_keeps 0 pool flags place up)
 
-  reach : (n : ℕ) (between : List ℕ) (i j : ℕ) (flags : List Bool) → length flags ≡ length pool → length between ≤ n → IsUp flags (i - 1) → Leads pool i between j → IsUp (rounds_of n flags) (j - 1)
+  reach : (n : ℕ) (between : List ℕ) (i j : ℕ) (flags : List Bool) → length flags ≡ length pool → length between ≤ n
+      → IsUp flags (i - 1) → Leads pool i between j → IsUp (rounds_of n flags) (j - 1)
   reach n [] i j flags size within up leads = subst (λ m. IsUp (rounds_of n flags) (m - 1)) leads (rounds_keep n flags (i - 1) up)
   reach zero (k ∷ between) i j flags size within up leads = absurd (omega (arith, within))
   reach (suc n) (k ∷ between) i j flags size within up (names, leads) =
       let there = slot_of_number i names.0 names.1 in
       let here : i - 1 ≡ 0 + (i - 1) = omega arith in
-      let next = round_follows 0 pool flags (i - 1) names.0 k there.1 (subst (IsUp flags) here up) names.2 (named_flag flags size (i - 1) names.0 k there.1 names.2) in
+      let next = round_follows 0 pool flags (i - 1) names.0 k there.1 (subst (IsUp flags) here up) names.2
+      (named_flag flags size (i - 1) names.0 k there.1 names.2) in
       reach n between k j (spread_from 0 pool flags) (length-round 0 pool flags ∙ size) (omega (arith, within)) next leads
 
   module _ (numbers : List ℕ) where
@@ -140,19 +155,23 @@ module _ (pool : List SlotData) (lower : list_all (names_lower pool) pool ≡ tr
     reached : (place : ℕ) → place < length pool → Led pool numbers (place + 1) → IsUp (rounds_of 3 begun) place
     reached place below (i, [], there, leads) =
         let back : (place + 1) - 1 ≡ place = omega arith in
-        let flag : HasFlag (replicate (length pool) false) (place + 1) = (let size = length-replicate (length pool) false in record { some = omega arith; within = omega (arith, below, size) }) in
-        subst (IsUp (rounds_of 3 begun)) back (rounds_keep 3 begun ((place + 1) - 1) (marks_here (replicate (length pool) false) numbers (place + 1) (subst (Contains numbers) leads there) flag))
+        let flag : HasFlag (replicate (length pool) false) (place + 1) =
+        (let size = length-replicate (length pool) false in record { some = omega arith; within = omega (arith, below, size) }) in
+        subst (IsUp (rounds_of 3 begun)) back (rounds_keep 3 begun ((place + 1) - 1) (marks_here (replicate (length pool) false)
+        numbers (place + 1) (subst (Contains numbers) leads there) flag))
     reached place below (i, k ∷ between, there, leads) =
         let names = leads.0 in
         let at = slot_of_number i names.0 names.1 in
         let some = at.0 in
         let inside = slice_get_within pool (i - 1) names.0 at.1 in
-        let flag : HasFlag (replicate (length pool) false) i = (let size = length-replicate (length pool) false in record { some = some; within = omega (arith, some, inside, size) }) in
+        let flag : HasFlag (replicate (length pool) false) i =
+        (let size = length-replicate (length pool) false in record { some = some; within = omega (arith, some, inside, size) }) in
         let one = ranked names.0 k names.2 in
         let few = short i names.0 one.0 (k ∷ between) (place + 1) names.1 one.1 leads in
         let most = one.2 in
         let back : (place + 1) - 1 ≡ place = omega arith in
-        subst (IsUp (rounds_of 3 begun)) back (reach 3 (k ∷ between) i (place + 1) begun length-begun (omega (arith, few, most)) (marks_here (replicate (length pool) false) numbers i there flag) leads)
+        subst (IsUp (rounds_of 3 begun)) back (reach 3 (k ∷ between) i (place + 1) begun length-begun (omega (arith, few, most))
+        (marks_here (replicate (length pool) false) numbers i there flag) leads)
 
     slot_at_place : (place : ℕ) (slot : SlotData) → slice_get pool place ≡ Some slot → slot_at pool (place + 1) ≡ Some slot
     slot_at_place place slot is =
@@ -160,10 +179,16 @@ module _ (pool : List SlotData) (lower : list_all (names_lower pool) pool ≡ tr
         let test : nat_eq (place + 1) 0 ≡ false = ne_eqb (place + 1) 0 (λ e. omega (arith, e)) in
         rw (test, back) is
 
-    closed : (place : ℕ) (slot : SlotData) (more : ℕ) → slice_get pool place ≡ Some slot → Led pool numbers ((0 + place) + 1) → Contains (named_by slot) (more + 1) → Led pool numbers (more + 1)
+    closed : (place : ℕ) (slot : SlotData) (more : ℕ) → slice_get pool place ≡ Some slot → Led pool numbers ((0 + place) + 1)
+        → Contains (named_by slot) (more + 1) → Led pool numbers (more + 1)
     closed place slot more is (i, between, there, leads) named =
-        let same : (0 + place) + 1 ≡ place + 1 = omega arith in
-        (i, between ++ (more + 1) ∷ [], there, leads_on pool i between (place + 1) (more + 1) (subst (Leads pool i between) same leads) (slot, slot_at_place place slot is, named))
+        let same : (0 + place) + 1 ≡ place + 1 = omega arith in (
+          i,
+          between ++ (more + 1) ∷ [],
+          there,
+          leads_on pool i between (place + 1) (more + 1) (subst (Leads pool i between) same
+              leads) (slot, slot_at_place place slot is, named),
+        )
 
     none_up : (n place : ℕ) → IsUp (replicate n false) place → ⊥
     none_up zero place up = cc
@@ -178,9 +203,11 @@ module _ (pool : List SlotData) (lower : list_all (names_lower pool) pool ≡ tr
         go (inr there) = (place + 1, [], there, refl)
 
     -- what is marked is led to by one of the numbers
-    rounds_led : (n : ℕ) (flags : List Bool) → ((place : ℕ) → IsUp flags place → Led pool numbers (place + 1)) → (place : ℕ) → IsUp (rounds_of n flags) place → Led pool numbers (place + 1)
+    rounds_led : (n : ℕ) (flags : List Bool) → ((place : ℕ) → IsUp flags place → Led pool numbers (place + 1)) → (place : ℕ)
+        → IsUp (rounds_of n flags) place → Led pool numbers (place + 1)
     rounds_led zero flags holds place up = holds place up
-    rounds_led (suc n) flags holds place up = rounds_led n (spread_from 0 pool flags) (round_sound (λ place. Led pool numbers (place + 1)) 0 pool flags closed holds) place up
+    rounds_led (suc n) flags holds place up = rounds_led n (spread_from 0 pool flags)
+        (round_sound (λ place. Led pool numbers (place + 1)) 0 pool flags closed holds) place up
 
     led : (place : ℕ) → IsUp (rounds_of 3 begun) place → Led pool numbers (place + 1)
     led = rounds_led 3 begun begun_led
@@ -193,31 +220,38 @@ slot_flag (Some Hole) flags zero before = before
 slot_flag (Some Hole) flags (suc place) before = get_or flags place false
 slot_flag _ flags place before = get_or flags place false
 
-length-holes : (before : Bool) (pool : List SlotData) (flags : List Bool) → length flags ≡ length pool → length (with_holes before pool flags) ≡ length pool
+length-holes : (before : Bool) (pool : List SlotData) (flags : List Bool) → length flags ≡ length pool
+    → length (with_holes before pool flags) ≡ length pool
 length-holes before [] flags size = refl
 length-holes before (slot ∷ pool) [] size = absurd (omega (arith, size))
 length-holes before (slot ∷ pool) (flag ∷ flags) size =
     let rest = length-holes (flag_of slot flag before) pool flags (omega (arith, size)) in
     ap suc rest
 
-holes_at : (due before : Bool) (pool : List SlotData) (flags : List Bool) → IsPoolFrom due pool → length flags ≡ length pool → (place : ℕ) (slot : SlotData) → slice_get pool place ≡ Some slot → get_or (with_holes before pool flags) place false ≡ slot_flag (Some slot) flags place before
+holes_at : (due before : Bool) (pool : List SlotData) (flags : List Bool) → IsPoolFrom due pool → length flags ≡ length pool
+    → (place : ℕ) (slot : SlotData) → slice_get pool place ≡ Some slot → get_or (with_holes before pool flags) place false
+    ≡ slot_flag (Some slot) flags place before
 holes_at due before [] flags is size place slot there = cc
 holes_at due before (first ∷ pool) [] is size place slot there = absurd (omega (arith, size))
 holes_at true before (Hole ∷ pool) (flag ∷ flags) is size zero slot there = let same = same_some Hole slot there in rw (sym same) refl
-holes_at false before (Constant tag body ∷ pool) (flag ∷ flags) is size zero slot there = let same = same_some (Constant tag body) slot there in rw (sym same) refl
+holes_at false before (Constant tag body ∷ pool) (flag ∷ flags) is size zero slot there =
+    let same = same_some (Constant tag body) slot there in rw (sym same) refl
 holes_at false before (Hole ∷ pool) (flag ∷ flags) is size place slot there = absurd is
 holes_at true before (Constant tag body ∷ pool) (flag ∷ flags) is size place slot there = absurd is
-holes_at true before (Hole ∷ pool) (flag ∷ flags) is size (suc place) slot there = holes_at false before pool flags is (omega (arith, size)) place slot there ∙ go pool is place slot there
+holes_at true before (Hole ∷ pool) (flag ∷ flags) is size (suc place) slot there = holes_at false before pool flags is
+    (omega (arith, size)) place slot there ∙ go pool is place slot there
   where
     -- no hole follows a hole
-    go : (pool : List SlotData) → IsPoolFrom false pool → (place : ℕ) (slot : SlotData) → slice_get pool place ≡ Some slot → slot_flag (Some slot) flags place before ≡ slot_flag (Some slot) (flag ∷ flags) (suc place) before
+    go : (pool : List SlotData) → IsPoolFrom false pool → (place : ℕ) (slot : SlotData) → slice_get pool place ≡ Some slot
+        → slot_flag (Some slot) flags place before ≡ slot_flag (Some slot) (flag ∷ flags) (suc place) before
     go [] is place slot there = cc
     go (Hole ∷ pool) is place slot there = absurd is
     go (Constant tag body ∷ pool) is zero (Constant tag' body') there = refl
     go (Constant tag body ∷ pool) is zero Hole there = cc
     go (Constant tag body ∷ pool) is (suc place) (Constant tag' body') there = refl
     go (Constant tag body ∷ pool) is (suc place) Hole there = refl
-holes_at false before (Constant tag body ∷ pool) (flag ∷ flags) is size (suc place) slot there = holes_at (is_wide tag) flag pool flags is.1 (omega (arith, size)) place slot there ∙ go place slot
+holes_at false before (Constant tag body ∷ pool) (flag ∷ flags) is size (suc place) slot there = holes_at (is_wide tag) flag pool
+    flags is.1 (omega (arith, size)) place slot there ∙ go place slot
   where
     go : (place : ℕ) (slot : SlotData) → slot_flag (Some slot) flags place flag ≡ slot_flag (Some slot) (flag ∷ flags) (suc place) before
     go zero (Constant tag' body') = refl
@@ -238,7 +272,8 @@ no_hole (Hole ∷ pool) is there = is
 
 -- The flags
 
-module _ (c : ClassData) (fits : IsClass c) (found : List Found) (is : found_in c ≡ Some found) (lower : list_all (names_lower c.pool) c.pool ≡ true) where
+module _ (c : ClassData) (fits : IsClass c) (found : List Found) (is : found_in c ≡ Some found)
+    (lower : list_all (names_lower c.pool) c.pool ≡ true) where
   abbrev at_sites : List ℕ
   at_sites = map (λ f. f.number) found
 
@@ -261,9 +296,14 @@ module _ (c : ClassData) (fits : IsClass c) (found : List Found) (is : found_in 
 
   -- a constant is marked where it is live
   up_live : (place : ℕ) → place < length c.pool → IsUp marked place ↔ IsLive c (place + 1)
-  up_live place below = ((λ up. live_led (place + 1) (led c.pool lower at_sites place up)), (λ live. reached c.pool lower at_sites place below (led_live (place + 1) live)))
+  up_live place below = (
+    (λ up. live_led (place + 1) (led c.pool lower at_sites place up)),
+    (λ live. reached c.pool lower at_sites
+        place below (led_live (place + 1) live)),
+  )
 
-  slot_live : (place : ℕ) (slot : SlotData) → place < length c.pool → slice_get c.pool place ≡ Some slot → (get_or (with_holes false c.pool marked) place false ≡ true) ↔ IsLive c (first_number (Some slot) place)
+  slot_live : (place : ℕ) (slot : SlotData) → place < length c.pool → slice_get c.pool place ≡ Some slot
+      → (get_or (with_holes false c.pool marked) place false ≡ true) ↔ IsLive c (first_number (Some slot) place)
   slot_live place (Constant tag body) below there =
       let flag = holes_at false false c.pool marked fits.pool size_marked place (Constant tag body) there in
       let live = up_live place below in
@@ -278,21 +318,26 @@ module _ (c : ClassData) (fits : IsClass c) (found : List Found) (is : found_in 
   pub flags_tell : TellsLive c (flags_of c.pool at_sites)
   flags_tell = record { size = length-holes false c.pool marked size_marked; exactly = exactly }
     where
-      exactly : (place : ℕ) → place < length c.pool → (get_or (with_holes false c.pool marked) place false ≡ true) ↔ IsLive c (number_of c.pool place)
+      exactly : (place : ℕ) → place < length c.pool → (get_or (with_holes false c.pool marked) place false ≡ true) ↔ IsLive c
+          (number_of c.pool place)
       exactly place below =
           let one = slot_some c.pool place below in
-          subst (λ found. (get_or (with_holes false c.pool marked) place false ≡ true) ↔ IsLive c (first_number found place)) (sym one.1) (slot_live place one.0 below one.1)
+          subst (λ found. (get_or (with_holes false c.pool marked) place false ≡ true) ↔ IsLive c (first_number found place))
+          (sym one.1) (slot_live place one.0 below one.1)
 
 -- sites that pass the checks were found, and what is named is of a lower rank
-judged_lower : (pool : List SlotData) (found : List Found) (sites : List Site) → judged pool found ≡ Some sites → list_all (names_lower pool) pool ≡ true
+judged_lower : (pool : List SlotData) (found : List Found) (sites : List Site) → judged pool found ≡ Some sites
+    → list_all (names_lower pool) pool ≡ true
 judged_lower pool found sites e = go (list_all (names_constant pool) found) (list_all (names_lower pool) pool) refl e
   where
-    go : (a b : Bool) → list_all (names_lower pool) pool ≡ b → cond (a && b) (Some (map site_of found)) None ≡ Some sites → list_all (names_lower pool) pool ≡ true
+    go : (a b : Bool) → list_all (names_lower pool) pool ≡ b → cond (a && b) (Some (map site_of found)) None ≡ Some sites
+        → list_all (names_lower pool) pool ≡ true
     go a true is e = is
     go true false is e = cc
     go false false is e = cc
 
-pub live_known : (c : ClassData) (found : List Found) (sites : List Site) (flags : List Bool) → IsClass c → found_in c ≡ Some found → sites_of c ≡ Some sites → flags ≡ flags_of c.pool (map (λ f. f.number) found) → TellsLive c flags
+pub live_known : (c : ClassData) (found : List Found) (sites : List Site) (flags : List Bool) → IsClass c → found_in c ≡ Some found
+    → sites_of c ≡ Some sites → flags ≡ flags_of c.pool (map (λ f. f.number) found) → TellsLive c flags
 live_known c found sites flags fits is judged_is same =
     let judged_now : judged c.pool found ≡ Some sites = sym (ap (option_and_then (judged c.pool)) is) ∙ judged_is in
     subst (TellsLive c) (sym same) (flags_tell c fits found is (judged_lower c.pool found sites judged_now))

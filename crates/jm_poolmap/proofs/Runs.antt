@@ -15,7 +15,8 @@ module _ (form : Form) (found : List Found) (left : Left) where
   pub run_begins : ToCome form found left (run form found left)
   run_begins = record { most = length left.bytes; enough = omega arith; same = refl }
 
-  pub run_next : (all : Outcome NoForm (List Found)) (new : List Found) (next : Left) → ToCome form found left all → length left.bytes ≢ 0 → form found left ≡ Ok (new, next) → length next.bytes < length left.bytes → ToCome form new next all
+  pub run_next : (all : Outcome NoForm (List Found)) (new : List Found) (next : Left) → ToCome form found left all
+      → length left.bytes ≢ 0 → form found left ≡ Ok (new, next) → length next.bytes < length left.bytes → ToCome form new next all
   run_next all new next come some e less = go come.most come.enough come.same
     where
       go : (most : ℕ) → length left.bytes ≤ most → at_most most form found left ≡ all → ToCome form new next all
@@ -24,7 +25,8 @@ module _ (form : Form) (found : List Found) (left : Left) where
           let test = ne_eqb (length left.bytes) 0 some in
           record { most = most; enough = omega (arith, enough, less); same = rw (test, e) at same }
 
-  pub run_stops : (all : Outcome NoForm (List Found)) → ToCome form found left all → length left.bytes ≢ 0 → form found left ≡ Err tt → all ≡ Err tt
+  pub run_stops : (all : Outcome NoForm (List Found)) → ToCome form found left all → length left.bytes ≢ 0 → form found left
+      ≡ Err tt → all ≡ Err tt
   run_stops all come some e = go come.most come.enough come.same
     where
       go : (most : ℕ) → length left.bytes ≤ most → at_most most form found left ≡ all → all ≡ Err tt

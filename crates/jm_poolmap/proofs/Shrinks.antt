@@ -1,5 +1,7 @@
 -- What a form leaves isn't more than what it was given, and a form by a byte takes one.
-use Rattle.std.proofs.Common.{◌≡◌, ℕ, ◌+◌, ◌-◌, ◌*◌, ◌%◌, ◌^◌, ◌<◌, ◌≤◌, ◌⊎◌, inl, inr, Bool, true, false, List, [], ◌∷◌, length, map, drop, take, Option, Some, None, Ok, Err, sym, arith, cond}
+use Rattle.std.proofs.Common.{◌≡◌, ℕ, ◌+◌, ◌-◌, ◌*◌, ◌%◌, ◌^◌, ◌<◌, ◌≤◌, ◌⊎◌, inl, inr, Bool, true, false}
+use Rattle.std.proofs.Common.{List, [], ◌∷◌, length, map, drop, take, Option, Some, None, Ok, Err, sym, arith}
+use Rattle.std.proofs.Common.{cond}
 use Rattle.std.proofs.lemmas.List.{length-drop}
 use Rattle.std.proofs.lemmas.Bool.{leb-true}
 use Rattle.std.specs.Int.{Width, w8, w16, w32, byte_len, from_be_bytes}
@@ -12,7 +14,9 @@ use Rattle.jm_poolmap.specs.declared.forms.Item.{Item}
 use Rattle.jm_poolmap.specs.declared.forms.Item.TheVariants.{Bytes, Site, OptionalSite, ByteSite}
 use Rattle.jm_poolmap.specs.Forms.{NoForm, Form, Rows, unfit, without, skip, site_of_width, in_order, form_if, row_of, by_byte}
 use Rattle.jm_poolmap.specs.Items.{item_form, items}
-use Rattle.jm_poolmap.specs.Instructions.{Operands, Items, Table, Lookup, Wide, filling, from_least, table_cases, lookup_cases, operands, wide_rows, instruction_rows, instruction}
+use Rattle.jm_poolmap.specs.Instructions.{Operands, Items, Table, Lookup, Wide, filling, from_least}
+use Rattle.jm_poolmap.specs.Instructions.{table_cases, lookup_cases, operands, wide_rows, instruction_rows}
+use Rattle.jm_poolmap.specs.Instructions.{instruction}
 
 -- n bytes are taken where a reading has a value
 abbrev pub Shrinks : {A : Type 0} → ℕ → Reading NoForm A → Type 0
@@ -27,7 +31,9 @@ value-shrinks a left next b e = let same = same_left {F = NoForm} a b left next 
 part-shrinks : (n : ℕ) → Shrinks n (part unfit n)
 part-shrinks n left next a e = go (chosen (nat_le n (length left.bytes)) (Ok (take n left.bytes, behind n left)) (Err tt) (Ok (a, next)) e)
   where
-    go : ((nat_le n (length left.bytes) ≡ true) × ◌≡◌ {A = Outcome NoForm (List ℕ)} (Ok (take n left.bytes, behind n left)) (Ok (a, next))) ⊎ ((nat_le n (length left.bytes) ≡ false) × ◌≡◌ {A = Outcome NoForm (List ℕ)} (Err tt) (Ok (a, next))) → length next.bytes + n ≤ length left.bytes
+    go : ((nat_le n (length left.bytes) ≡ true) × ◌≡◌ {A = Outcome NoForm (List ℕ)} (Ok (take n left.bytes, behind n left))
+        (Ok (a, next))) ⊎ ((nat_le n (length left.bytes) ≡ false) × ◌≡◌ {A = Outcome NoForm (List ℕ)} (Err tt) (Ok (a, next)))
+        → length next.bytes + n ≤ length left.bytes
     go (inl holds) =
         let rest : behind n left ≡ next = same_left {F = NoForm} (take n left.bytes) a (behind n left) next holds.1 in
         let size : length (drop n left.bytes) ≡ length left.bytes - n = length-drop n left.bytes in
@@ -35,7 +41,8 @@ part-shrinks n left next a e = go (chosen (nat_le n (length left.bytes)) (Ok (ta
         rw (sym rest) (omega (arith, size, enough))
     go (inr fails) = let e = fails.1 in cc
 
-and_then-shrinks : {A B : Type 0} (n m : ℕ) (reading : Reading NoForm A) (following : A → Reading NoForm B) → Shrinks n reading → ((a : A) → Shrinks m (following a)) → Shrinks (n + m) (and_then reading following)
+and_then-shrinks : {A B : Type 0} (n m : ℕ) (reading : Reading NoForm A) (following : A → Reading NoForm B) → Shrinks n reading
+    → ((a : A) → Shrinks m (following a)) → Shrinks (n + m) (and_then reading following)
 and_then-shrinks n m reading following first second left next b e = go (passed (reading left) following b next e)
   where
     go : Passed (reading left) following b next → length next.bytes + (n + m) ≤ length left.bytes
@@ -57,11 +64,13 @@ skip-shrinks : (n : ℕ) → FormShrinks (skip n)
 skip-shrinks n = without-shrinks (part unfit n) (weaker n _ (part-shrinks n))
 
 site-shrinks : (w : Width) (wide optional : Bool) → FormShrinks (site_of_width w wide optional)
-site-shrinks w wide optional found left next a e = and_then-shrinks 0 0 (number unfit w) (λ n. value _) (weaker (byte_len w + 0) _ (number-shrinks w)) (λ n. value-shrinks _) left next a e
+site-shrinks w wide optional found left next a e = and_then-shrinks 0 0 (number unfit w) (λ n. value _) (weaker (byte_len w + 0) _
+    (number-shrinks w)) (λ n. value-shrinks _) left next a e
 
 in_order-shrinks : {A : Type 0} (form : A → Form) → ((a : A) → FormShrinks (form a)) → (xs : List A) → FormShrinks (in_order (map form xs))
 in_order-shrinks form each [] found left next a e = value-shrinks found left next a e
-in_order-shrinks form each (x ∷ xs) found left next a e = and_then-shrinks 0 0 (form x found) (in_order (map form xs)) (each x found) (in_order-shrinks form each xs) left next a e
+in_order-shrinks form each (x ∷ xs) found left next a e = and_then-shrinks 0 0 (form x found) (in_order (map form xs))
+    (each x found) (in_order-shrinks form each xs) left next a e
 
 item-shrinks : (item : Item) → FormShrinks (item_form item)
 item-shrinks (Bytes n) = skip-shrinks n
@@ -77,12 +86,15 @@ form_if-shrinks form each None found left next a e = cc
 form_if-shrinks form each (Some row) found left next a e = each row found left next a e
 
 -- a form by a byte takes that byte
-pub by_byte-shrinks : {A : Type 0} (rows : Rows A) (form : A → Form) → ((a : A) → FormShrinks (form a)) → (found : List Found) → Shrinks 1 (by_byte rows form found)
+pub by_byte-shrinks : {A : Type 0} (rows : Rows A) (form : A → Form) → ((a : A) → FormShrinks (form a)) → (found : List Found)
+    → Shrinks 1 (by_byte rows form found)
 by_byte-shrinks rows form each found left next a e =
-    and_then-shrinks 1 0 (number unfit w8) (λ byte. form_if form (row_of rows byte) found) (number-shrinks w8) (λ byte. form_if-shrinks form each (row_of rows byte) found) left next a e
+    and_then-shrinks 1 0 (number unfit w8) (λ byte. form_if form (row_of rows byte) found) (number-shrinks w8)
+    (λ byte. form_if-shrinks form each (row_of rows byte) found) left next a e
 
 filling-shrinks : (start : ℕ) → Shrinks 0 (filling start)
-filling-shrinks start left next a e = weaker ((4 - (left.place - start) % 4) % 4) _ (part-shrinks ((4 - (left.place - start) % 4) % 4)) left next a e
+filling-shrinks start left next a e = weaker ((4 - (left.place - start) % 4) % 4) _
+    (part-shrinks ((4 - (left.place - start) % 4) % 4)) left next a e
 
 if-shrinks : (test : Bool) (n : ℕ) → Shrinks 0 (λ left. cond test (part unfit n left) (Err tt))
 if-shrinks true n left next a e = weaker n _ (part-shrinks n) left next a e
@@ -99,7 +111,8 @@ table-shrinks =
 lookup-shrinks : Shrinks 0 lookup_cases
 lookup-shrinks = and_then-shrinks 0 0 _ _ number32-shrinks (λ count. if-shrinks (nat_lt count (2 ^ 31)) (8 * count))
 
-switch-shrinks : (start : ℕ) (cases : Reading NoForm (List ℕ)) → Shrinks 0 cases → FormShrinks (in_order (without (filling start) ∷ skip 4 ∷ without cases ∷ []))
+switch-shrinks : (start : ℕ) (cases : Reading NoForm (List ℕ))
+    → Shrinks 0 cases → FormShrinks (in_order (without (filling start) ∷ skip 4 ∷ without cases ∷ []))
 switch-shrinks start cases law found left next a e =
     and_then-shrinks 0 0 _ _ (without-shrinks (filling start) (filling-shrinks start) found)
     (λ found. and_then-shrinks 0 0 _ _ (skip-shrinks 4 found)
@@ -114,7 +127,8 @@ operands-shrinks start Wide found left next a e =
     omega (arith, less)
 
 -- an instruction has a byte
-pub instruction-shrinks : (start : ℕ) (found new : List Found) (left next : Left) → instruction start found left ≡ Ok (new, next) → length next.bytes < length left.bytes
+pub instruction-shrinks : (start : ℕ) (found new : List Found) (left next : Left) → instruction start found left ≡ Ok (new, next)
+    → length next.bytes < length left.bytes
 instruction-shrinks start found new left next e =
     let less = by_byte-shrinks instruction_rows (operands start) (operands-shrinks start) found left next new e in
     omega (arith, less)

@@ -1,6 +1,7 @@
 -- The definitions, evaluated on small classes, on one frame or instruction of each form, and on what
 -- is none.
-use Rattle.std.proofs.Common.{◌≡◌, ℕ, Bool, true, false, List, [], ◌∷◌, ◌++◌, length, map, take, drop, Option, Some, None, Result, Ok, Err, refl}
+use Rattle.std.proofs.Common.{◌≡◌, ℕ, Bool, true, false, List, [], ◌∷◌, ◌++◌, length, map, take, drop, Option}
+use Rattle.std.proofs.Common.{Some, None, Result, Ok, Err, refl}
 use Rattle.std.specs.Prelude.{replicate, codes, option_map, option_and_then}
 use Rattle.jm_class.specs.declared.class.ClassFault.{ClassFault}
 use Rattle.jm_class.specs.Classes.{SlotData, Constant, Hole, Opaque, AttributeData, ClassData, u2}
@@ -39,7 +40,8 @@ generated-sites : places (option_and_then sites_of (read (class_of generated))) 
 generated-sites = refl
 
 -- constants 8 to 10 are names that nothing has any more; 11 is a Long with its hole
-generated-live : option_map (λ c. option_map (λ found. flags_of c.pool (map (λ f. f.number) found)) (found_in c)) (read (class_of generated)) ≡ Some (Some (replicate 7 true ++ false ∷ false ∷ false ∷ true ∷ true ∷ []))
+generated-live : option_map (λ c. option_map (λ found. flags_of c.pool (map (λ f. f.number) found)) (found_in c))
+    (read (class_of generated)) ≡ Some (Some (replicate 7 true ++ false ∷ false ∷ false ∷ true ∷ true ∷ []))
 generated-live = refl
 
 -- the smallest class names no class, which isn't allowed
@@ -70,7 +72,8 @@ dead-class : sites_of (named_class (Constant 7 (u2 1) ∷ Constant 7 (u2 2) ∷ 
 dead-class = refl
 
 -- a Class may name an Integer, and the first field of a Dynamic names nothing
-class-of-integer : places (sites_of (named_class (Constant 3 (replicate 4 0) ∷ Constant 7 (u2 2) ∷ Constant 12 (u2 1 ++ u2 1) ∷ Constant 17 (u2 65535 ++ u2 4) ∷ []))) ≡ wide (33 ∷ 35 ∷ [])
+class-of-integer : places (sites_of (named_class (Constant 3 (replicate 4 0) ∷ Constant 7 (u2 2) ∷ Constant 12 (u2 1 ++ u2 1)
+    ∷ Constant 17 (u2 65535 ++ u2 4) ∷ []))) ≡ wide (33 ∷ 35 ∷ [])
 class-of-integer = refl
 
 -- an attribute in its place, in another one, and one that isn't listed
@@ -98,18 +101,23 @@ not-listed = refl
 
 -- the places, the widths, the marks and the numbers that some bytes have
 abbrev told : Form → List ℕ → Option (List (ℕ × Bool × Bool × ℕ))
-told form bytes = option_map (map (λ f. (f.place, f.wide, f.optional, f.number))) (met (ended unfit (form []) (record { place = 0; bytes = bytes })))
+told form bytes = option_map (map (λ f. (f.place, f.wide, f.optional, f.number)))
+    (met (ended unfit (form []) (record { place = 0; bytes = bytes })))
 
-inner-classes : told (form_if (body nowhere) (named class_rows (codes "InnerClasses"))) (u2 1 ++ u2 7 ++ u2 0 ++ u2 8 ++ u2 9) ≡ Some ((2, true, false, 7) ∷ (4, true, true, 0) ∷ (6, true, true, 8) ∷ [])
+inner-classes : told (form_if (body nowhere) (named class_rows (codes "InnerClasses"))) (u2 1 ++ u2 7 ++ u2 0 ++ u2 8 ++ u2 9)
+    ≡ Some ((2, true, false, 7) ∷ (4, true, true, 0) ∷ (6, true, true, 8) ∷ [])
 inner-classes = refl
 
-bootstrap-methods : told (form_if (body nowhere) (named class_rows (codes "BootstrapMethods"))) (u2 2 ++ u2 7 ++ u2 1 ++ u2 8 ++ u2 9 ++ u2 0) ≡ Some ((2, true, false, 7) ∷ (6, true, false, 8) ∷ (8, true, false, 9) ∷ [])
+bootstrap-methods : told (form_if (body nowhere) (named class_rows (codes "BootstrapMethods"))) (u2 2 ++ u2 7 ++ u2 1 ++ u2 8
+    ++ u2 9 ++ u2 0) ≡ Some ((2, true, false, 7) ∷ (6, true, false, 8) ∷ (8, true, false, 9) ∷ [])
 bootstrap-methods = refl
 
-parameters : told (form_if (body nowhere) (named method_rows (codes "MethodParameters"))) (1 ∷ u2 7 ++ u2 0) ≡ Some ((1, true, true, 7) ∷ [])
+parameters : told (form_if (body nowhere) (named method_rows (codes "MethodParameters"))) (1 ∷ u2 7 ++ u2 0)
+    ≡ Some ((1, true, true, 7) ∷ [])
 parameters = refl
 
-variables : told (form_if (body nowhere) (named code_rows (codes "LocalVariableTable"))) (u2 1 ++ replicate 4 0 ++ u2 7 ++ u2 8 ++ u2 0) ≡ Some ((6, true, false, 7) ∷ (8, true, false, 8) ∷ [])
+variables : told (form_if (body nowhere) (named code_rows (codes "LocalVariableTable"))) (u2 1 ++ replicate 4 0 ++ u2 7 ++ u2 8
+    ++ u2 0) ≡ Some ((6, true, false, 7) ∷ (8, true, false, 8) ∷ [])
 variables = refl
 
 -- a byte too much, a row too few, and a count of rows that can't be there
@@ -124,7 +132,8 @@ body-many = refl
 
 -- Frames: of each form one, the last one with two lists of types
 frames : told (form_if (body nowhere) (named code_rows (codes "StackMapTable")))
-    (u2 7 ++ 63 ∷ 64 ∷ 7 ∷ u2 5 ++ 247 ∷ u2 0 ++ 8 ∷ u2 9 ++ 251 ∷ u2 0 ++ 253 ∷ u2 0 ++ 1 ∷ 7 ∷ u2 6 ++ 254 ∷ u2 0 ++ 0 ∷ 1 ∷ 2 ∷ 255 ∷ u2 0 ++ u2 1 ++ 7 ∷ u2 7 ++ u2 2 ++ 3 ∷ 7 ∷ u2 8)
+    (u2 7 ++ 63 ∷ 64 ∷ 7 ∷ u2 5 ++ 247 ∷ u2 0 ++ 8 ∷ u2 9 ++ 251 ∷ u2 0 ++ 253 ∷ u2 0 ++ 1 ∷ 7 ∷ u2 6 ++ 254 ∷ u2 0 ++ 0 ∷ 1 ∷ 2
+    ∷ 255 ∷ u2 0 ++ u2 1 ++ 7 ∷ u2 7 ++ u2 2 ++ 3 ∷ 7 ∷ u2 8)
     ≡ Some ((5, true, false, 5) ∷ (21, true, false, 6) ∷ (35, true, false, 7) ∷ (41, true, false, 8) ∷ [])
 frames = refl
 
@@ -136,11 +145,14 @@ type-none = refl
 
 -- Instructions
 
-simple-code : told instructions (18 ∷ 5 ∷ 20 ∷ u2 6 ++ 185 ∷ u2 7 ++ 1 ∷ 0 ∷ 197 ∷ u2 8 ++ 2 ∷ 16 ∷ 9 ∷ 196 ∷ 132 ∷ u2 1 ++ u2 2 ++ 196 ∷ 21 ∷ u2 1 ++ 200 ∷ replicate 4 0 ++ 177 ∷ []) ≡ Some ((1, false, false, 5) ∷ (3, true, false, 6) ∷ (6, true, false, 7) ∷ (11, true, false, 8) ∷ [])
+simple-code : told instructions (18 ∷ 5 ∷ 20 ∷ u2 6 ++ 185 ∷ u2 7 ++ 1 ∷ 0 ∷ 197 ∷ u2 8 ++ 2 ∷ 16 ∷ 9 ∷ 196 ∷ 132 ∷ u2 1 ++ u2 2
+    ++ 196 ∷ 21 ∷ u2 1 ++ 200 ∷ replicate 4 0 ++ 177 ∷ []) ≡ Some ((1, false, false, 5) ∷ (3, true, false, 6) ∷ (6, true, false, 7)
+    ∷ (11, true, false, 8) ∷ [])
 simple-code = refl
 
 -- two bytes of filling, from 0 to 1, and a number behind it
-table-switch : told instructions (0 ∷ 170 ∷ 9 ∷ 9 ∷ replicate 4 0 ++ replicate 4 0 ++ 0 ∷ 0 ∷ 0 ∷ 1 ∷ replicate 8 0 ++ 18 ∷ 5 ∷ []) ≡ Some ((25, false, false, 5) ∷ [])
+table-switch : told instructions (0 ∷ 170 ∷ 9 ∷ 9 ∷ replicate 4 0 ++ replicate 4 0 ++ 0 ∷ 0 ∷ 0 ∷ 1 ∷ replicate 8 0 ++ 18 ∷ 5 ∷ [])
+    ≡ Some ((25, false, false, 5) ∷ [])
 table-switch = refl
 
 -- from -1 to 0; from 0 to -1; from the least number to the highest one

@@ -1,5 +1,6 @@
 -- One item of a class after another: the steps and the text that are still to come.
-use Rattle.std.proofs.Common.{◌≡◌, ℕ, ◌+◌, ◌^◌, ◌<◌, ◌≤◌, List, [], ◌∷◌, get_or, length, map, drop, Result, Ok, Err, IsErrAnd, refl, sym, ap, ◌∙◌, arith, length-append}
+use Rattle.std.proofs.Common.{◌≡◌, ℕ, ◌+◌, ◌^◌, ◌<◌, ◌≤◌, List, [], ◌∷◌, get_or, length, map, drop, Result}
+use Rattle.std.proofs.Common.{Ok, Err, IsErrAnd, refl, sym, ap, ◌∙◌, arith, length-append}
 use Rattle.std.proofs.lemmas.List.{at_drop_more, at_drop_all}
 use Rattle.std.specs.List.{flat_map}
 use Rattle.jm_poolmap.specs.declared.stop.Stop.{Stop}
@@ -9,7 +10,9 @@ use Rattle.jm_poolmap.specs.ComputedSites.{Walked, Step, step_on, steps, each}
 use Rattle.jm_poolmap.specs.Finds.{Walks}
 
 -- the error of a step is that of the whole, where the whole isn't there without the step
-pub walks_stop : (part all : Walked) (error : Stop) (result : Result (Unit {0}) Stop) (walk new : Walk) → IsErrAnd result (λ is. is ≡ error) → Walks {T = Unit {0}} part (Err error) walk → (part ≡ Err tt → all ≡ Err tt) → Walks all result new
+pub walks_stop : (part all : Walked) (error : Stop) (result : Result (Unit {0}) Stop) (walk new : Walk)
+    → IsErrAnd result (λ is. is ≡ error) → Walks {T = Unit {0}} part (Err error) walk → (part ≡ Err tt → all ≡ Err tt)
+    → Walks all result new
 walks_stop part all error (Ok v) walk new is gives stops = absurd is
 walks_stop part all Unknown (Err Unknown) walk new is gives stops = stops gives
 walks_stop part all Unknown (Err Memory) walk new is gives stops = tt
@@ -17,13 +20,15 @@ walks_stop part all Memory (Err Memory) walk new is gives stops = tt
 walks_stop part all Memory (Err Unknown) walk new is gives stops = cc
 
 -- nothing follows the last step
-pub walks_last : (walked : Walked) (result : Result (Unit {0}) Stop) (new : Walk) → Walks walked result new → Walks (step_on walked (steps [])) result new
+pub walks_last : (walked : Walked) (result : Result (Unit {0}) Stop) (new : Walk) → Walks walked result new
+    → Walks (step_on walked (steps [])) result new
 walks_last walked (Ok v) new gives = rw gives refl
 walks_last walked (Err Unknown) new gives = rw gives refl
 walks_last walked (Err Memory) new gives = tt
 
 -- items up to place i are done: the walk was at the start and is here now
-pub record Walking {T A : Type 0} (data_of : T → A) (text : A → List ℕ) (step : A → Step) (xs : List T) (i : ℕ) (start now : Walk) : Type 0 where
+pub record Walking {T A : Type 0} (data_of : T → A) (text : A → List ℕ) (step : A → Step) (xs : List T) (i : ℕ) (start now : Walk)
+    : Type 0 where
   pub same : each step (map data_of (drop i xs)) now ≡ each step (map data_of xs) start
   pub place : now.place + length (flat_map text (map data_of (drop i xs))) ≡ start.place + length (flat_map text (map data_of xs))
 
@@ -65,7 +70,8 @@ module _ {T A : Type 0} (data_of : T → A) (text : A → List ℕ) (step : A �
       pub walk_stops : step (data_of item) now ≡ Err tt → each step (map data_of xs) start ≡ Err tt
       walk_stops e = sym walking.same ∙ ap (λ (s : Step). s now) first_step ∙ rw e refl
 
-      pub walk_next : (new : Walk) → step (data_of item) now ≡ Ok new → new.place ≡ now.place + length (text (data_of item)) → Walking data_of text step xs (i + 1) start new
+      pub walk_next : (new : Walk) → step (data_of item) now ≡ Ok new → new.place ≡ now.place + length (text (data_of item))
+          → Walking data_of text step xs (i + 1) start new
       walk_next new e goes =
           let first = first_size in
           let place = walking.place in

@@ -1,5 +1,6 @@
 -- The lengths that are still to be tried.
-use Rattle.std.proofs.Common.{◌≡◌, ℕ, suc, ◌+◌, ◌-◌, ◌%◌, ◌==◌, ◌<◌, ◌≤◌, Bool, true, false, cond, List, [], ◌∷◌, Option, Some, None, All, refl, ap, ◌∙◌, arith}
+use Rattle.std.proofs.Common.{◌≡◌, ℕ, suc, ◌+◌, ◌-◌, ◌%◌, ◌==◌, ◌<◌, ◌≤◌, Bool, true, false, cond, List, []}
+use Rattle.std.proofs.Common.{◌∷◌, Option, Some, None, All, refl, ap, ◌∙◌, arith}
 use Rattle.std.proofs.lemmas.List.Elements.{All-nil, All-cons}
 use Rattle.std.specs.Option.{option_or}
 use Rattle.jm_form.specs.Greedy.{GreedyTable, greedy, greedy_among, table_lengths, lengths_from, next_length}
@@ -21,24 +22,31 @@ unfolding lengths_left
 lengths_next tried slots below = let left : 64 - tried ≡ suc (64 - (tried + 1)) = omega arith in ap (λ n. lengths_from n slots) left
 
 -- a length that has a table, and one that has none
-pub among_here : (names : List (List ℕ)) (tried slots : ℕ) (table : GreedyTable) → tried < 64 → greedy names slots ≡ Some table → greedy_among names (lengths_left tried slots) ≡ Some table
+pub among_here : (names : List (List ℕ)) (tried slots : ℕ) (table : GreedyTable) → tried < 64 → greedy names slots ≡ Some table
+    → greedy_among names (lengths_left tried slots) ≡ Some table
 among_here names tried slots table below is = ap (greedy_among names) (lengths_next tried slots below) ∙ first (greedy names slots) is
   where
-    first : (o : Option GreedyTable) → o ≡ Some table → option_or o (greedy_among names (lengths_left (tried + 1) (next_length slots))) ≡ Some table
+    first : (o : Option GreedyTable) → o ≡ Some table
+        → option_or o (greedy_among names (lengths_left (tried + 1) (next_length slots))) ≡ Some table
     first o is = rw is refl
 
-pub among_later : (names : List (List ℕ)) (tried slots : ℕ) → tried < 64 → greedy names slots ≡ None → greedy_among names (lengths_left tried slots) ≡ greedy_among names (lengths_left (tried + 1) (next_length slots))
+pub among_later : (names : List (List ℕ)) (tried slots : ℕ) → tried < 64 → greedy names slots ≡ None
+    → greedy_among names (lengths_left tried slots) ≡ greedy_among names (lengths_left (tried + 1) (next_length slots))
 among_later names tried slots below is = ap (greedy_among names) (lengths_next tried slots below) ∙ later (greedy names slots) is
   where
-    later : (o : Option GreedyTable) → o ≡ None → option_or o (greedy_among names (lengths_left (tried + 1) (next_length slots))) ≡ greedy_among names (lengths_left (tried + 1) (next_length slots))
+    later : (o : Option GreedyTable) → o ≡ None → option_or o (greedy_among names (lengths_left (tried + 1) (next_length slots)))
+        ≡ greedy_among names (lengths_left (tried + 1) (next_length slots))
     later o is = rw is refl
 
 -- no length has a table
-pub among_none : (names : List (List ℕ)) (lengths : List ℕ) → greedy_among names lengths ≡ None → All (λ slots. greedy names slots ≡ None) lengths
+pub among_none : (names : List (List ℕ)) (lengths : List ℕ) → greedy_among names lengths ≡ None → All (λ slots. greedy names slots
+    ≡ None) lengths
 among_none names [] none = All-nil (λ slots. greedy names slots ≡ None)
 among_none names (slots ∷ lengths) none = go (greedy names slots) refl none (λ rest. among_none names lengths rest)
   where
-    go : (o : Option GreedyTable) → greedy names slots ≡ o → option_or o (greedy_among names lengths) ≡ None → (greedy_among names lengths ≡ None → All (λ s. greedy names s ≡ None) lengths) → All (λ s. greedy names s ≡ None) (slots ∷ lengths)
+    go : (o : Option GreedyTable) → greedy names slots ≡ o → option_or o (greedy_among names lengths) ≡ None
+        → (greedy_among names lengths ≡ None → All (λ s. greedy names s ≡ None) lengths)
+        → All (λ s. greedy names s ≡ None) (slots ∷ lengths)
     go None e none rest = All-cons (λ s. greedy names s ≡ None) slots lengths e (rest none)
     go (Some table) e none rest = cc
 

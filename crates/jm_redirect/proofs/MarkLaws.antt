@@ -1,5 +1,7 @@
 -- Flags of slots: one name more that is sent, and marks that are set and taken away.
-use Rattle.std.proofs.Common.{◌≡◌, ℕ, suc, ◌+◌, ◌-◌, ◌%◌, ◌==◌, ◌<◌, inl, inr, Bool, true, false, cond, ◌||◌, List, [], ◌∷◌, ◌++◌, Some, length, map, set, take, drop, get_or, refl, sym, ap, ◌∙◌, arith, Bor}
+use Rattle.std.proofs.Common.{◌≡◌, ℕ, suc, ◌+◌, ◌-◌, ◌%◌, ◌==◌, ◌<◌, inl, inr, Bool, true, false, cond, ◌||◌}
+use Rattle.std.proofs.Common.{List, [], ◌∷◌, ◌++◌, Some, length, map, set, take, drop, get_or, refl, sym, ap}
+use Rattle.std.proofs.Common.{◌∙◌, arith, Bor}
 use Rattle.std.proofs.lemmas.Bool.{or_from, or_left, or_right, cases_eq, eq-eqb, ne_eqb, lt-ltb}
 use Rattle.std.proofs.lemmas.List.{take_more, drop_more, take-append-drop, get_or-set_same, get_or-set_other, length-set, map-append}
 use Rattle.std.proofs.lemmas.List.Elements.{filter_map-append}
@@ -18,22 +20,32 @@ sent_one slots seed name some =
     rw (lt-ltb (hash seed name % slots) slots below) refl
 
 -- one name more is sent
-pub sent_more : (names : List (Bor (List ℕ))) (slots seed i : ℕ) (d : Bor (List ℕ)) → 0 < slots → i < length names → slots_sent slots seed (map (λ name. name.now) (take (i + 1) names)) ≡ slots_sent slots seed (map (λ name. name.now) (take i names)) ++ (hash seed (get_or names i d).now % slots) ∷ []
+pub sent_more : (names : List (Bor (List ℕ))) (slots seed i : ℕ) (d : Bor (List ℕ)) → 0 < slots → i < length names
+    → slots_sent slots seed (map (λ name. name.now) (take (i + 1) names))
+    ≡ slots_sent slots seed (map (λ name. name.now) (take i names)) ++ (hash seed (get_or names i d).now % slots) ∷ []
 sent_more names slots seed i d some inside =
     let now : Bor (List ℕ) → List ℕ = λ name. name.now in
     let one = get_or names i d in
-    ap (λ l. slots_sent slots seed (map now l)) (take_more names i d inside) ∙ ap (slots_sent slots seed) (map-append now (take i names) (one ∷ [])) ∙ filter_map-append (λ n. slot_of slots n (redirect.Seed seed)) (map now (take i names)) (one.now ∷ []) ∙ ap (λ l. slots_sent slots seed (map now (take i names)) ++ l) (sent_one slots seed one.now some)
+    ap (λ l. slots_sent slots seed (map now l)) (take_more names i d inside)
+    ∙ ap (slots_sent slots seed) (map-append now (take i names) (one ∷ []))
+    ∙ filter_map-append (λ n. slot_of slots n (redirect.Seed seed)) (map now (take i names)) (one.now ∷ [])
+    ∙ ap (λ l. slots_sent slots seed (map now (take i names)) ++ l) (sent_one slots seed one.now some)
 
 -- one mark less, at a slot
-pub unmarked_more : (flags now : List Bool) (sent : List ℕ) (gone slot : ℕ) → gone < length now → get_or now slot false ≡ cond (is_among sent slot) false (get_or flags slot false) → get_or (set now gone false) slot false ≡ cond (is_among (sent ++ gone ∷ []) slot) false (get_or flags slot false)
+pub unmarked_more : (flags now : List Bool) (sent : List ℕ) (gone slot : ℕ) → gone < length now → get_or now slot false
+    ≡ cond (is_among sent slot) false (get_or flags slot false) → get_or (set now gone false) slot false
+    ≡ cond (is_among (sent ++ gone ∷ []) slot) false (get_or flags slot false)
 unmarked_more flags now sent gone slot inside so_far =
     elim (cases_eq gone slot) [
       | inl same ↦
-          let there = among_append sent (gone ∷ []) slot ∙ or_right (is_among sent slot) (is_among (gone ∷ []) slot) (or_left (gone == slot) false (eq-eqb gone slot same)) in
+          let there = among_append sent (gone ∷ []) slot ∙ or_right (is_among sent slot) (is_among (gone ∷ []) slot)
+          (or_left (gone == slot) false (eq-eqb gone slot same)) in
           rw there (ap (λ s. get_or (set now gone false) s false) (sym same) ∙ get_or-set_same now gone false false inside)
       | inr other ↦
           let out : is_among (gone ∷ []) slot ≡ false = or_from (gone == slot) false (ne_eqb gone slot other) refl in
-          get_or-set_other now gone slot false false (λ e. other (sym e)) ∙ so_far ∙ ap (λ b. cond b false (get_or flags slot false)) (sym (stays (is_among sent slot) (is_among (gone ∷ []) slot) out) ∙ sym (among_append sent (gone ∷ []) slot))
+          get_or-set_other now gone slot false false (λ e. other (sym e)) ∙ so_far
+          ∙ ap (λ b. cond b false (get_or flags slot false)) (sym (stays (is_among sent slot) (is_among (gone ∷ []) slot) out)
+          ∙ sym (among_append sent (gone ∷ []) slot))
     ]
   where
     stays : (a b : Bool) → b ≡ false → (a || b) ≡ a
@@ -41,23 +53,30 @@ unmarked_more flags now sent gone slot inside so_far =
     stays false b out = out
 
 -- the marks with one slot more
-pub marks_more : (flags : List Bool) (taken : List ℕ) (slot : ℕ) → slot < length flags → Marks flags taken → Marks (set flags slot true) (slot ∷ taken)
+pub marks_more : (flags : List Bool) (taken : List ℕ) (slot : ℕ) → slot < length flags → Marks flags taken
+    → Marks (set flags slot true) (slot ∷ taken)
 marks_more flags taken slot inside marks = record {
   at = λ other below.
       let long = length-set flags slot true in
       elim (cases_eq slot other) [
-        | inl same ↦ rw (eq-eqb slot other same) (ap (λ s. get_or (set flags slot true) s false) (sym same) ∙ get_or-set_same flags slot true false inside)
-        | inr apart ↦ rw (ne_eqb slot other apart) (get_or-set_other flags slot other true false (λ e. apart (sym e)) ∙ marks.at other (omega arith))
+        | inl same ↦ rw (eq-eqb slot other same) (ap (λ s. get_or (set flags slot true) s false) (sym same)
+            ∙ get_or-set_same flags slot true false inside)
+        | inr apart ↦ rw (ne_eqb slot other apart) (get_or-set_other flags slot other true false (λ e. apart (sym e))
+            ∙ marks.at other (omega arith))
       ];
 }
 
 -- the same slots in another order
-pub marks_moved : (flags : List Bool) (taken other : List ℕ) → ((slot : ℕ) → is_among taken slot ≡ is_among other slot) → Marks flags taken → Marks flags other
+pub marks_moved : (flags : List Bool) (taken other : List ℕ) → ((slot : ℕ) → is_among taken slot ≡ is_among other slot)
+    → Marks flags taken → Marks flags other
 marks_moved flags taken other same marks = record { at = λ slot below. marks.at slot below ∙ same slot }
 
-among_pushed : (sent taken : List ℕ) (slot other : ℕ) → is_among (slot ∷ (sent ++ taken)) other ≡ is_among ((sent ++ slot ∷ []) ++ taken) other
+among_pushed : (sent taken : List ℕ) (slot other : ℕ) → is_among (slot ∷ (sent ++ taken)) other
+    ≡ is_among ((sent ++ slot ∷ []) ++ taken) other
 among_pushed sent taken slot other =
-    ap (λ b. (slot == other) || b) (among_append sent taken other) ∙ turned (slot == other) (is_among sent other) (is_among taken other) ∙ ap (λ b. b || is_among taken other) (sym (among_append sent (slot ∷ []) other)) ∙ sym (among_append (sent ++ slot ∷ []) taken other)
+    ap (λ b. (slot == other) || b) (among_append sent taken other) ∙ turned (slot == other) (is_among sent other)
+    (is_among taken other) ∙ ap (λ b. b || is_among taken other) (sym (among_append sent (slot ∷ []) other))
+    ∙ sym (among_append (sent ++ slot ∷ []) taken other)
   where
     turned : (a b c : Bool) → (a || (b || c)) ≡ ((b || (a || false)) || c)
     turned true true c = refl
@@ -66,16 +85,21 @@ among_pushed sent taken slot other =
     turned false false c = refl
 
 -- the marks with one slot more behind those that were sent
-pub marks_pushed : (flags : List Bool) (sent taken : List ℕ) (slot : ℕ) → slot < length flags → Marks flags (sent ++ taken) → Marks (set flags slot true) ((sent ++ slot ∷ []) ++ taken)
+pub marks_pushed : (flags : List Bool) (sent taken : List ℕ) (slot : ℕ) → slot < length flags → Marks flags (sent ++ taken)
+    → Marks (set flags slot true) ((sent ++ slot ∷ []) ++ taken)
 marks_pushed flags sent taken slot inside marks =
-    marks_moved (set flags slot true) (slot ∷ (sent ++ taken)) ((sent ++ slot ∷ []) ++ taken) (among_pushed sent taken slot) (marks_more flags (sent ++ taken) slot inside marks)
+    marks_moved (set flags slot true) (slot ∷ (sent ++ taken)) ((sent ++ slot ∷ []) ++ taken) (among_pushed sent taken slot)
+    (marks_more flags (sent ++ taken) slot inside marks)
 
 -- the marks of slots that were free are taken away
-pub marks_back : (flags after : List Bool) (sent taken : List ℕ) → length after ≡ length flags → Marks flags (sent ++ taken) → are_free taken sent ≡ true → ((slot : ℕ) → slot < length flags → get_or after slot false ≡ cond (is_among sent slot) false (get_or flags slot false)) → Marks after taken
+pub marks_back : (flags after : List Bool) (sent taken : List ℕ) → length after ≡ length flags → Marks flags (sent ++ taken)
+    → are_free taken sent ≡ true → ((slot : ℕ) → slot < length flags → get_or after slot false ≡ cond (is_among sent slot) false
+    (get_or flags slot false)) → Marks after taken
 marks_back flags after sent taken size marks free gone = record {
   at = λ slot below.
       let inside : slot < length flags = omega arith in
-      gone slot inside ∙ ap (cond (is_among sent slot) false) (marks.at slot inside ∙ among_append sent taken slot) ∙ go (is_among sent slot) (is_among taken slot) (free_untaken taken sent slot free);
+      gone slot inside ∙ ap (cond (is_among sent slot) false) (marks.at slot inside ∙ among_append sent taken slot)
+      ∙ go (is_among sent slot) (is_among taken slot) (free_untaken taken sent slot free);
 }
   where
     go : (s t : Bool) → (s ≡ true → t ≡ false) → cond s false (s || t) ≡ t
@@ -83,16 +107,24 @@ marks_back flags after sent taken size marks free gone = record {
     go false t free = refl
 
 -- a number that doesn't pass is passed over
-pub find_next : (p : ℕ → Bool) (i n : ℕ) → i < n → p i ≡ false → find p (range_with_len i (n - i)) ≡ find p (range_with_len (i + 1) (n - (i + 1)))
+pub find_next : (p : ℕ → Bool) (i n : ℕ) → i < n → p i ≡ false → find p (range_with_len i (n - i))
+    ≡ find p (range_with_len (i + 1) (n - (i + 1)))
 find_next p i n below fails =
     let left : n - i ≡ suc (n - (i + 1)) = omega arith in
     ap (λ m. find p (range_with_len i m)) left ∙ ap (λ b. cond b (Some i) (find p (range_with_len (i + 1) (n - (i + 1))))) fails
 
 -- the slots of all names, around the one at a place
-pub sent_split : (names : List (Bor (List ℕ))) (slots seed i : ℕ) (d : Bor (List ℕ)) → 0 < slots → i < length names → slots_sent slots seed (map (λ name. name.now) names) ≡ slots_sent slots seed (map (λ name. name.now) (take i names)) ++ (hash seed (get_or names i d).now % slots) ∷ slots_sent slots seed (map (λ name. name.now) (drop (i + 1) names))
+pub sent_split : (names : List (Bor (List ℕ))) (slots seed i : ℕ) (d : Bor (List ℕ)) → 0 < slots → i < length names
+    → slots_sent slots seed (map (λ name. name.now) names) ≡ slots_sent slots seed (map (λ name. name.now) (take i names))
+    ++ (hash seed (get_or names i d).now % slots) ∷ slots_sent slots seed (map (λ name. name.now) (drop (i + 1) names))
 sent_split names slots seed i d some inside =
     let now : Bor (List ℕ) → List ℕ = λ name. name.now in
     let one = get_or names i d in
     let send : List (List ℕ) → List ℕ = slots_sent slots seed in
-    let whole : names ≡ take i names ++ one ∷ drop (i + 1) names = sym (take-append-drop i names) ∙ ap (λ l. take i names ++ l) (drop_more names i d inside) in
-    ap (λ l. send (map now l)) whole ∙ ap send (map-append now (take i names) (one ∷ drop (i + 1) names)) ∙ filter_map-append (λ n. slot_of slots n (redirect.Seed seed)) (map now (take i names)) (one.now ∷ map now (drop (i + 1) names)) ∙ ap (λ l. send (map now (take i names)) ++ l) (filter_map-append (λ n. slot_of slots n (redirect.Seed seed)) (one.now ∷ []) (map now (drop (i + 1) names)) ∙ ap (λ l. l ++ send (map now (drop (i + 1) names))) (sent_one slots seed one.now some))
+    let whole : names ≡ take i names ++ one ∷ drop (i + 1) names = sym (take-append-drop i names)
+    ∙ ap (λ l. take i names ++ l) (drop_more names i d inside) in
+    ap (λ l. send (map now l)) whole ∙ ap send (map-append now (take i names) (one ∷ drop (i + 1) names))
+    ∙ filter_map-append (λ n. slot_of slots n (redirect.Seed seed)) (map now (take i names)) (one.now
+    ∷ map now (drop (i + 1) names)) ∙ ap (λ l. send (map now (take i names)) ++ l)
+    (filter_map-append (λ n. slot_of slots n (redirect.Seed seed)) (one.now ∷ []) (map now (drop (i + 1) names))
+    ∙ ap (λ l. l ++ send (map now (drop (i + 1) names))) (sent_one slots seed one.now some))

@@ -1,6 +1,7 @@
 -- What was seen of an image is what `gather` asks for: names that differ and have no slash, and
 -- paths that differ.
-use Rattle.std.proofs.Common.{◌≡◌, ◌≢◌, ◌<◌, ℕ, Bool, true, false, List, length, map, get_or, All, AllPairs, Some, slice_get, Result, Ok, Err, IfOk, refl, sym, ap, subst, ◌∙◌, arith}
+use Rattle.std.proofs.Common.{◌≡◌, ◌≢◌, ◌<◌, ℕ, Bool, true, false, List, length, map, get_or, All, AllPairs}
+use Rattle.std.proofs.Common.{Some, slice_get, Result, Ok, Err, IfOk, refl, sym, ap, subst, ◌∙◌, arith}
 use Rattle.std.proofs.lemmas.Bool.{ltb-false, ltb-true}
 use Rattle.std.proofs.lemmas.List.{get_or-map, length-map}
 use Rattle.std.proofs.lemmas.List.Elements.{All-contains, All-map}
@@ -33,7 +34,8 @@ visible_in b seen shows = shows
 abbrev pub Before : Candidate → Candidate → Type 0
 Before c d = is_before (closure.name_of c) (closure.name_of d) ≡ true
 
-pub before_at : (cs : List Candidate) → AllPairs Before cs → (i j : ℕ) (c e : Candidate) → slice_get cs i ≡ Some c → slice_get cs j ≡ Some e → i < j → Before c e
+pub before_at : (cs : List Candidate) → AllPairs Before cs → (i j : ℕ) (c e : Candidate) → slice_get cs i ≡ Some c → slice_get cs j
+    ≡ Some e → i < j → Before c e
 before_at cs rises i j c e one other less =
     let up = rises i j c less (slice_get_within cs j e other) in
     rw (get_or_from_slice_get cs i c c one, get_or_from_slice_get cs j e c other) at up
@@ -51,7 +53,8 @@ rising_differ cs rises i j name (c, one, is) (e, other, also) = go (nat_lt i j) 
 
 -- Two lists of modules that were seen
 
-module _ (b : List ℕ) (modules : ImageModules) (seen : List SeenModule) (visible : IsVisibleIn (resources_of b) seen) (holds : HoldsModules modules seen) where
+module _ (b : List ℕ) (modules : ImageModules) (seen : List SeenModule) (visible : IsVisibleIn (resources_of b) seen)
+    (holds : HoldsModules modules seen) where
   abbrev found : List Candidate
   found = modules.candidates
 
@@ -67,7 +70,8 @@ module _ (b : List ℕ) (modules : ImageModules) (seen : List SeenModule) (visib
   all_whole : All (λ c. list_any is_slash c.descriptor.name ≡ false) found
   all_whole =
       subst (All (λ (c : Candidate). list_any is_slash c.descriptor.name ≡ false)) (sym holds.candidates)
-      (All-map (λ (c : Candidate). list_any is_slash c.descriptor.name ≡ false) (λ (s : SeenModule). s.candidate) seen (λ k d inside. whole_name _ (visible.each k d inside)))
+      (All-map (λ (c : Candidate). list_any is_slash c.descriptor.name ≡ false) (λ (s : SeenModule). s.candidate) seen
+      (λ k d inside. whole_name _ (visible.each k d inside)))
 
   all_rise : All RisesByName (map files_as modules.files)
   all_rise =
@@ -84,7 +88,8 @@ module _ (b : List ℕ) (modules : ImageModules) (seen : List SeenModule) (visib
 
   all_apart : All (λ (fs : List ImageFile). AllPairs (λ (e f : ImageFile). e.path ≢ f.path) fs) modules.files
   all_apart = all_from_contains (λ (fs : List ImageFile). AllPairs (λ (e f : ImageFile). e.path ≢ f.path) fs) modules.files
-      (λ fs there. paths_apart fs (All-contains RisesByName (map files_as modules.files) (files_as fs) all_rise (contains_map files_as modules.files fs there)))
+      (λ fs there. paths_apart fs (All-contains RisesByName (map files_as modules.files) (files_as fs) all_rise
+      (contains_map files_as modules.files fs there)))
 
   as_long : length modules.candidates ≡ length modules.files
   as_long =

@@ -1,5 +1,7 @@
 -- The resources of chosen modules, one file after another and one module after another.
-use Rattle.std.proofs.Common.{◌≡◌, ◌≢◌, ℕ, zero, suc, ◌+◌, ◌<◌, false, List, [], ◌∷◌, ◌++◌, take, drop, length, map, get_or, All, AllPairs, Contains, Option, Some, None, option_map, slice_get, Err, refl, sym, ap, subst, ◌∙◌, append_assoc, arith}
+use Rattle.std.proofs.Common.{◌≡◌, ◌≢◌, ℕ, zero, suc, ◌+◌, ◌<◌, false, List, [], ◌∷◌, ◌++◌, take, drop}
+use Rattle.std.proofs.Common.{length, map, get_or, All, AllPairs, Contains, Option, Some, None, option_map}
+use Rattle.std.proofs.Common.{slice_get, Err, refl, sym, ap, subst, ◌∙◌, append_assoc, arith}
 use Rattle.std.proofs.lemmas.Grind.{flat_map-append}
 use Rattle.std.proofs.lemmas.List.{drop_more, map-append, take-append-drop, take_more}
 use Rattle.std.proofs.lemmas.List.Elements.{All-contains, All-head, All-tail, filter_map-append}
@@ -20,7 +22,8 @@ use Rattle.jm_relink.specs.declared.modules.ImageFile.{ImageFile}
 use Rattle.jm_relink.specs.declared.modules.ImageModules.{ImageModules}
 use Rattle.jm_relink.specs.Files.{file_as, file_name, files_as}
 use Rattle.jm_names.specs.ByName.{Named}
-use Rattle.jm_relink.specs.Gathering.{AreModules, ArePlaces, Gathers, GathersAll, first_bad_name, gathered, name_refusal, named_files, resource_of, resources_with}
+use Rattle.jm_relink.specs.Gathering.{AreModules, ArePlaces, Gathers, GathersAll, first_bad_name, gathered}
+use Rattle.jm_relink.specs.Gathering.{name_refusal, named_files, resource_of, resources_with}
 use Rattle.jm_bytes.proofs.Choice.{mapped_some}
 use Rattle.jm_bytes.proofs.ByteOrderLaws.{unequal}
 use Rattle.jm_relink.proofs.ListLaws.{append_none, pairs_front, pairs_left}
@@ -31,7 +34,8 @@ use Rattle.jm_relink.proofs.NameLaws.{names_tell}
 pub bytes_of_none : (name : List ℕ) (pairs : List Named) → All (λ other. other ≢ name) (names_of pairs) → bytes_of name pairs ≡ None
 bytes_of_none name [] all = refl
 bytes_of_none name (p ∷ pairs) all =
-    rw (unequal name p.0 (All-head (λ other. other ≢ name) p.0 (names_of pairs) all)) (bytes_of_none name pairs (All-tail (λ other. other ≢ name) p.0 (names_of pairs) all))
+    rw (unequal name p.0 (All-head (λ other. other ≢ name) p.0 (names_of pairs) all))
+    (bytes_of_none name pairs (All-tail (λ other. other ≢ name) p.0 (names_of pairs) all))
 
 -- One file after another
 
@@ -45,41 +49,54 @@ parted_at : (fs : List ImageFile) (i : ℕ) (f : ImageFile) → i < length fs �
 parted_at fs i f below is =
     sym (take-append-drop i fs) ∙ ap (λ gs. take i fs ++ gs) (drop_more fs i f below ∙ ap (λ g. g ∷ drop (i + 1) fs) (sym is))
 
-resources_parted : (m : List ℕ) (fs : List ImageFile) (i : ℕ) (f : ImageFile) → i < length fs → f ≡ get_or fs i f → all_with m fs ≡ all_with m (take i fs) ++ resource_of m (file_as f) ∷ all_with m (drop (i + 1) fs)
+resources_parted : (m : List ℕ) (fs : List ImageFile) (i : ℕ) (f : ImageFile) → i < length fs → f ≡ get_or fs i f → all_with m fs
+    ≡ all_with m (take i fs) ++ resource_of m (file_as f) ∷ all_with m (drop (i + 1) fs)
 resources_parted m fs i f below is = ap (all_with m) (parted_at fs i f below is) ∙ with_append m (take i fs) (f ∷ drop (i + 1) fs)
 
-resources_more : (m : List ℕ) (fs : List ImageFile) (i : ℕ) (f : ImageFile) → i < length fs → f ≡ get_or fs i f → all_with m (take (i + 1) fs) ≡ all_with m (take i fs) ++ resource_of m (file_as f) ∷ []
+resources_more : (m : List ℕ) (fs : List ImageFile) (i : ℕ) (f : ImageFile) → i < length fs → f ≡ get_or fs i f
+    → all_with m (take (i + 1) fs) ≡ all_with m (take i fs) ++ resource_of m (file_as f) ∷ []
 resources_more m fs i f below is =
     ap (all_with m) (take_more fs i f below ∙ ap (λ g. take i fs ++ g ∷ []) (sym is)) ∙ with_append m (take i fs) (f ∷ [])
 
 bad_append_none : (rs qs : List Named) → first_bad_name rs ≡ None → first_bad_name (rs ++ qs) ≡ first_bad_name qs
-bad_append_none rs qs none = ap first_fault (map-append name_refusal rs qs) ∙ first_fault_append_none (map name_refusal rs) (map name_refusal qs) none
+bad_append_none rs qs none = ap first_fault (map-append name_refusal rs qs) ∙ first_fault_append_none (map name_refusal rs)
+    (map name_refusal qs) none
 
 bad_append_some : (rs qs : List Named) (e : GatherError) → first_bad_name rs ≡ Some e → first_bad_name (rs ++ qs) ≡ Some e
-bad_append_some rs qs e some = ap first_fault (map-append name_refusal rs qs) ∙ first_fault_append_some (map name_refusal rs) (map name_refusal qs) e some
+bad_append_some rs qs e some = ap first_fault (map-append name_refusal rs qs) ∙ first_fault_append_some (map name_refusal rs)
+    (map name_refusal qs) e some
 
 -- the name of the next file is new
-pub name_is_new : (m : List ℕ) (fs : List ImageFile) (i : ℕ) (f : ImageFile) (old pool : List Named) → i < length fs → f ≡ get_or fs i f → AllPairs (λ a b. a ≢ b) (names_of (old ++ all_with m fs)) → pool ≡ old ++ all_with m (take i fs) → bytes_of (file_name m f.path) pool ≡ None
+pub name_is_new : (m : List ℕ) (fs : List ImageFile) (i : ℕ) (f : ImageFile) (old pool : List Named) → i < length fs
+    → f ≡ get_or fs i f → AllPairs (λ a b. a ≢ b) (names_of (old ++ all_with m fs)) → pool ≡ old ++ all_with m (take i fs)
+    → bytes_of (file_name m f.path) pool ≡ None
 name_is_new m fs i f old pool below is differ so_far =
     let rest = all_with m (drop (i + 1) fs) in
     let whole : old ++ all_with m fs ≡ pool ++ resource_of m (file_as f) ∷ rest =
-    ap (λ rs. old ++ rs) (resources_parted m fs i f below is) ∙ sym (append_assoc old (all_with m (take i fs)) (resource_of m (file_as f) ∷ rest)) ∙ ap (λ rs. rs ++ resource_of m (file_as f) ∷ rest) (sym so_far)
+    ap (λ rs. old ++ rs) (resources_parted m fs i f below is)
+    ∙ sym (append_assoc old (all_with m (take i fs)) (resource_of m (file_as f) ∷ rest))
+    ∙ ap (λ rs. rs ++ resource_of m (file_as f) ∷ rest) (sym so_far)
     in
     let names : names_of (old ++ all_with m fs) ≡ names_of pool ++ file_name m f.path ∷ names_of rest =
     ap names_of whole ∙ map-append (λ (r : Named). r.0) pool (resource_of m (file_as f) ∷ rest)
     in
     bytes_of_none (file_name m f.path) pool
-    (pairs_front (λ (a b : List ℕ). a ≢ b) (names_of pool) (file_name m f.path) (names_of rest) (subst (AllPairs (λ (a b : List ℕ). a ≢ b)) names differ))
+    (pairs_front (λ (a b : List ℕ). a ≢ b) (names_of pool) (file_name m f.path) (names_of rest)
+    (subst (AllPairs (λ (a b : List ℕ). a ≢ b)) names differ))
 
 -- the refusal of a part, where nothing in front of it is refused, is that of the whole
-pub refused_further : (rs front part back : List Named) (e : GatherError) (old new older newer : List Named) → rs ≡ front ++ (part ++ back) → first_bad_name front ≡ None → Gathers part (Err e) old new → Gathers rs (Err e) older newer
+pub refused_further : (rs front part back : List Named) (e : GatherError) (old new older newer : List Named) → rs
+    ≡ front ++ (part ++ back) → first_bad_name front ≡ None → Gathers part (Err e) old new → Gathers rs (Err e) older newer
 refused_further rs front part back (error.BadName name fault) old new older newer is none given =
     ap first_bad_name is ∙ bad_append_none front (part ++ back) none ∙ bad_append_some part back (error.BadName name fault) given
 refused_further rs front part back error.Memory old new older newer is none given = tt
 
-pub file_refused : (m : List ℕ) (fs : List ImageFile) (i : ℕ) (f : ImageFile) (e : GatherError) (old new older newer : List Named) → i < length fs → f ≡ get_or fs i f → first_bad_name (all_with m (take i fs)) ≡ None → Gathers (resource_of m (file_as f) ∷ []) (Err e) old new → Gathers (all_with m fs) (Err e) older newer
+pub file_refused : (m : List ℕ) (fs : List ImageFile) (i : ℕ) (f : ImageFile) (e : GatherError) (old new older newer : List Named)
+    → i < length fs → f ≡ get_or fs i f → first_bad_name (all_with m (take i fs)) ≡ None → Gathers (resource_of m (file_as f) ∷ [])
+    (Err e) old new → Gathers (all_with m fs) (Err e) older newer
 file_refused m fs i f e old new older newer below is none given =
-    refused_further (all_with m fs) (all_with m (take i fs)) (resource_of m (file_as f) ∷ []) (all_with m (drop (i + 1) fs)) e old new older newer
+    refused_further (all_with m fs) (all_with m (take i fs)) (resource_of m (file_as f) ∷ []) (all_with m (drop (i + 1) fs)) e old
+    new older newer
     (resources_parted m fs i f below is) none given
 
 -- the next file was put
@@ -87,12 +104,15 @@ pub record ArePut (m : List ℕ) (fs : List ImageFile) (i : ℕ) (old pool : Lis
   pub sound : first_bad_name (all_with m (take i fs)) ≡ None
   pub put : pool ≡ old ++ all_with m (take i fs)
 
-pub file_put : (m : List ℕ) (fs : List ImageFile) (i : ℕ) (f : ImageFile) (old pool new : List Named) → i < length fs → f ≡ get_or fs i f → first_bad_name (all_with m (take i fs)) ≡ None → pool ≡ old ++ all_with m (take i fs) → first_bad_name (resource_of m (file_as f) ∷ []) ≡ None → new ≡ pool ++ resource_of m (file_as f) ∷ [] → ArePut m fs (i + 1) old new
+pub file_put : (m : List ℕ) (fs : List ImageFile) (i : ℕ) (f : ImageFile) (old pool new : List Named) → i < length fs
+    → f ≡ get_or fs i f → first_bad_name (all_with m (take i fs)) ≡ None → pool ≡ old ++ all_with m (take i fs)
+    → first_bad_name (resource_of m (file_as f) ∷ []) ≡ None → new ≡ pool ++ resource_of m (file_as f) ∷ [] → ArePut m fs (i + 1) old new
 file_put m fs i f old pool new below is none so_far sound put =
     let more = resources_more m fs i f below is in
     record {
       sound = ap first_bad_name more ∙ bad_append_none (all_with m (take i fs)) (resource_of m (file_as f) ∷ []) none ∙ sound;
-      put = put ∙ ap (λ rs. rs ++ resource_of m (file_as f) ∷ []) so_far ∙ append_assoc old (all_with m (take i fs)) (resource_of m (file_as f) ∷ []) ∙ ap (λ rs. old ++ rs) (sym more);
+      put = put ∙ ap (λ rs. rs ++ resource_of m (file_as f) ∷ []) so_far ∙ append_assoc old (all_with m (take i fs))
+          (resource_of m (file_as f) ∷ []) ∙ ap (λ rs. old ++ rs) (sym more);
     }
 
 -- Elements at places
@@ -102,13 +122,15 @@ all_got P [] i x all is = cc
 all_got P (y ∷ xs) zero x all is = subst P (same_some y x is) (All-head P y xs all)
 all_got P (y ∷ xs) (suc i) x all is = all_got P xs i x (All-tail P y xs all) is
 
-zipped : {X Y : Type 0} (xs : List X) (ys : List Y) (i : ℕ) (x : X) (y : Y) → slice_get xs i ≡ Some x → slice_get ys i ≡ Some y → slice_get (zip xs ys) i ≡ Some (x, y)
+zipped : {X Y : Type 0} (xs : List X) (ys : List Y) (i : ℕ) (x : X) (y : Y) → slice_get xs i ≡ Some x → slice_get ys i ≡ Some y
+    → slice_get (zip xs ys) i ≡ Some (x, y)
 zipped [] ys i x y one other = cc
 zipped (a ∷ xs) [] i x y one other = cc
 zipped (a ∷ xs) (b ∷ ys) zero x y one other = rw (same_some a x one, same_some b y other) refl
 zipped (a ∷ xs) (b ∷ ys) (suc i) x y one other = zipped xs ys i x y one other
 
-unzipped : {X Y : Type 0} (xs : List X) (ys : List Y) (i : ℕ) (z : X × Y) → slice_get (zip xs ys) i ≡ Some z → (slice_get xs i ≡ Some z.0) × (slice_get ys i ≡ Some z.1)
+unzipped : {X Y : Type 0} (xs : List X) (ys : List Y) (i : ℕ) (z : X × Y) → slice_get (zip xs ys) i ≡ Some z
+    → (slice_get xs i ≡ Some z.0) × (slice_get ys i ≡ Some z.1)
 unzipped [] ys i z is = cc
 unzipped (a ∷ xs) [] i z is = cc
 unzipped {X = X} {Y = Y} (a ∷ xs) (b ∷ ys) zero z is =
@@ -121,21 +143,28 @@ unzipped (a ∷ xs) (b ∷ ys) (suc i) z is = unzipped xs ys i z is
 gathered_append : (modules : ImageModules) (ps qs : List ℕ) → gathered modules (ps ++ qs) ≡ gathered modules ps ++ gathered modules qs
 gathered_append modules ps qs =
     ap (flat_map (λ (m : List ℕ × List Named). resources_with m.0 m.1)) (filter_map-append (slice_get (named_files modules)) ps qs)
-    ∙ flat_map-append (λ (m : List ℕ × List Named). resources_with m.0 m.1) (filter_map (slice_get (named_files modules)) ps) (filter_map (slice_get (named_files modules)) qs)
+    ∙ flat_map-append (λ (m : List ℕ × List Named). resources_with m.0 m.1) (filter_map (slice_get (named_files modules)) ps)
+    (filter_map (slice_get (named_files modules)) qs)
 
 -- the module at a place
-module_at : (modules : ImageModules) (p : ℕ) (c : Candidate) (fs : List ImageFile) → slice_get modules.candidates p ≡ Some c → slice_get modules.files p ≡ Some fs → gathered modules (p ∷ []) ≡ all_with c.descriptor.name fs
+module_at : (modules : ImageModules) (p : ℕ) (c : Candidate) (fs : List ImageFile) → slice_get modules.candidates p ≡ Some c
+    → slice_get modules.files p ≡ Some fs → gathered modules (p ∷ []) ≡ all_with c.descriptor.name fs
 module_at modules p c fs one other =
     let name : slice_get (map (λ (k : Candidate). k.descriptor.name) modules.candidates) p ≡ Some c.descriptor.name =
     slice_get-map (λ (k : Candidate). k.descriptor.name) modules.candidates p ∙ ap (option_map (λ (k : Candidate). k.descriptor.name)) one
     in
-    let files : slice_get (map files_as modules.files) p ≡ Some (files_as fs) = slice_get-map files_as modules.files p ∙ ap (option_map files_as) other in
+    let files : slice_get (map files_as modules.files) p ≡ Some (files_as fs) = slice_get-map files_as modules.files p
+    ∙ ap (option_map files_as) other in
     let is : slice_get (named_files modules) p ≡ Some (c.descriptor.name, files_as fs) =
-    zipped (map (λ (k : Candidate). k.descriptor.name) modules.candidates) (map files_as modules.files) p c.descriptor.name (files_as fs) name files
+    zipped (map (λ (k : Candidate). k.descriptor.name) modules.candidates) (map files_as modules.files) p c.descriptor.name
+    (files_as fs) name files
     in
-    ap (λ (o : Option (List ℕ × List Named)). flat_map (λ (m : List ℕ × List Named). resources_with m.0 m.1) (cons_option o [])) is ∙ append_none (all_with c.descriptor.name fs)
+    ap (λ (o : Option (List ℕ × List Named)). flat_map (λ (m : List ℕ × List Named). resources_with m.0 m.1) (cons_option o [])) is
+    ∙ append_none (all_with c.descriptor.name fs)
 
-pub module_there : (modules : ImageModules) (p : ℕ) (c : Candidate) (fs : List ImageFile) → AreModules modules → p < length modules.candidates → c ≡ get_or modules.candidates p c → fs ≡ get_or modules.files p fs → gathered modules (p ∷ []) ≡ all_with c.descriptor.name fs
+pub module_there : (modules : ImageModules) (p : ℕ) (c : Candidate) (fs : List ImageFile) → AreModules modules
+    → p < length modules.candidates → c ≡ get_or modules.candidates p c → fs ≡ get_or modules.files p fs → gathered modules (p ∷ [])
+    ≡ all_with c.descriptor.name fs
 module_there modules p c fs are within one other =
     module_at modules p c fs
     (slice_get-get_or modules.candidates p c within ∙ ap (λ k. Some k) (sym one))
@@ -146,10 +175,13 @@ pub record IsNext (modules : ImageModules) (places : List ℕ) (i : ℕ) (rs : L
   pub more : gathered modules (take (i + 1) places) ≡ gathered modules (take i places) ++ rs
   pub whole : gathered modules places ≡ gathered modules (take i places) ++ (rs ++ gathered modules (drop (i + 1) places))
 
-pub next_module : (modules : ImageModules) (places : List ℕ) (i p : ℕ) → i < length places → p ≡ get_or places i 0 → IsNext modules places i (gathered modules (p ∷ []))
+pub next_module : (modules : ImageModules) (places : List ℕ) (i p : ℕ) → i < length places → p ≡ get_or places i 0
+    → IsNext modules places i (gathered modules (p ∷ []))
 next_module modules places i p below is = record {
-  more = ap (gathered modules) (take_more places i 0 below ∙ ap (λ q. take i places ++ q ∷ []) (sym is)) ∙ gathered_append modules (take i places) (p ∷ []);
-  whole = ap (gathered modules) (sym (take-append-drop i places) ∙ ap (λ qs. take i places ++ qs) (drop_more places i 0 below ∙ ap (λ q. q ∷ drop (i + 1) places) (sym is)))
+  more = ap (gathered modules) (take_more places i 0 below ∙ ap (λ q. take i places ++ q ∷ []) (sym is))
+      ∙ gathered_append modules (take i places) (p ∷ []);
+  whole = ap (gathered modules) (sym (take-append-drop i places) ∙ ap (λ qs. take i places ++ qs) (drop_more places i 0 below
+      ∙ ap (λ q. q ∷ drop (i + 1) places) (sym is)))
       ∙ gathered_append modules (take i places) (p ∷ drop (i + 1) places)
       ∙ ap (λ qs. gathered modules (take i places) ++ qs) (gathered_append modules (p ∷ []) (drop (i + 1) places));
 }
@@ -167,21 +199,26 @@ Differ r q = r.0 ≢ q.0
 own_apart : (m : List ℕ × List Named) → IsWhole m → AllPairs Differ (resources_with m.0 m.1)
 own_apart m is =
     pairs_map Differ (resource_of m.0) m.1
-    (pairs_weaker (λ (e f : Named). e.0 ≢ f.0) (λ e f. Differ (resource_of m.0 e) (resource_of m.0 f)) (λ e f apart same. apart (names_tell m.0 m.0 e.0 f.0 is.whole is.whole same).1) m.1 is.apart)
+    (pairs_weaker (λ (e f : Named). e.0 ≢ f.0) (λ e f. Differ (resource_of m.0 e) (resource_of m.0 f))
+    (λ e f apart same. apart (names_tell m.0 m.0 e.0 f.0 is.whole is.whole same).1) m.1 is.apart)
 
-two_apart : (m k : List ℕ × List Named) → IsWhole m → IsWhole k → m.0 ≢ k.0 → (r q : Named) → Contains (resources_with m.0 m.1) r → Contains (resources_with k.0 k.1) q → Differ r q
+two_apart : (m k : List ℕ × List Named) → IsWhole m → IsWhole k → m.0 ≢ k.0 → (r q : Named) → Contains (resources_with m.0 m.1) r
+    → Contains (resources_with k.0 k.1) q → Differ r q
 two_apart m k one other apart r q there too same =
     let first = from_map (resource_of m.0) m.1 r there in
     let second = from_map (resource_of k.0) k.1 q too in
-    apart (names_tell m.0 k.0 first.0.0 second.0.0 one.whole other.whole (ap (λ (x : Named). x.0) first.2 ∙ same ∙ sym (ap (λ (x : Named). x.0) second.2))).0
+    apart (names_tell m.0 k.0 first.0.0 second.0.0 one.whole other.whole (ap (λ (x : Named). x.0) first.2 ∙ same
+    ∙ sym (ap (λ (x : Named). x.0) second.2))).0
 
 abbrev Other : List ℕ × List Named → List ℕ × List Named → Type 0
 Other m k = m.0 ≢ k.0
 
-modules_apart : (ms : List (List ℕ × List Named)) → All IsWhole ms → AllPairs Other ms → AllPairs Differ (flat_map (λ m. resources_with m.0 m.1) ms)
+modules_apart : (ms : List (List ℕ × List Named)) → All IsWhole ms → AllPairs Other ms
+    → AllPairs Differ (flat_map (λ m. resources_with m.0 m.1) ms)
 modules_apart [] whole apart = pairs_none Differ
 modules_apart (m ∷ ms) whole apart =
-    pairs_append Differ (resources_with m.0 m.1) (flat_map (λ (k : List ℕ × List Named). resources_with k.0 k.1) ms) (own_apart m (All-head IsWhole m ms whole))
+    pairs_append Differ (resources_with m.0 m.1) (flat_map (λ (k : List ℕ × List Named). resources_with k.0 k.1) ms)
+    (own_apart m (All-head IsWhole m ms whole))
     (modules_apart ms (All-tail IsWhole m ms whole) (pairs_tail Other m ms apart))
     (λ r q there too.
     let from = from_flat_map (λ (k : List ℕ × List Named). resources_with k.0 k.1) ms q too in
@@ -200,18 +237,22 @@ record IsAt (modules : ImageModules) (p : ℕ) (m : List ℕ × List Named) : Ty
 at_place : (modules : ImageModules) (p : ℕ) (m : List ℕ × List Named) → slice_get (named_files modules) p ≡ Some m → IsAt modules p m
 at_place modules p m is =
     let both = unzipped (map (λ (c : Candidate). c.descriptor.name) modules.candidates) (map files_as modules.files) p m is in
-    let one = mapped_some (λ (c : Candidate). c.descriptor.name) (slice_get modules.candidates p) m.0 (sym (slice_get-map (λ (c : Candidate). c.descriptor.name) modules.candidates p) ∙ both.0) in
+    let one = mapped_some (λ (c : Candidate). c.descriptor.name) (slice_get modules.candidates p) m.0
+    (sym (slice_get-map (λ (c : Candidate). c.descriptor.name) modules.candidates p) ∙ both.0) in
     let other = mapped_some files_as (slice_get modules.files p) m.1 (sym (slice_get-map files_as modules.files p) ∙ both.1) in
     record { candidate = one.0; there = one.1; name = one.2; files = other.0; among = other.1; are = other.2 }
 
 whole_at : (modules : ImageModules) (p : ℕ) (m : List ℕ × List Named) → AreModules modules → IsAt modules p m → IsWhole m
 whole_at modules p m are at = record {
-  whole = subst (λ n. list_any is_slash n ≡ false) at.name (all_got (λ (c : Candidate). list_any is_slash c.descriptor.name ≡ false) modules.candidates p at.candidate are.whole at.there);
+  whole = subst (λ n. list_any is_slash n ≡ false) at.name (all_got (λ (c : Candidate). list_any is_slash c.descriptor.name ≡ false)
+      modules.candidates p at.candidate are.whole at.there);
   apart = subst (AllPairs (λ (e f : Named). e.0 ≢ f.0)) at.are
-      (pairs_map (λ (e f : Named). e.0 ≢ f.0) file_as at.files (all_got (λ (fs : List ImageFile). AllPairs (λ e f. e.path ≢ f.path) fs) modules.files p at.files are.apart at.among));
+      (pairs_map (λ (e f : Named). e.0 ≢ f.0) file_as at.files (all_got (λ (fs : List ImageFile). AllPairs (λ e f. e.path ≢ f.path)
+      fs) modules.files p at.files are.apart at.among));
 }
 
-pub gathered_apart : (modules : ImageModules) (places : List ℕ) → AreModules modules → ArePlaces modules places → AllPairs (λ a b. a ≢ b) (names_of (gathered modules places))
+pub gathered_apart : (modules : ImageModules) (places : List ℕ) → AreModules modules → ArePlaces modules places
+    → AllPairs (λ a b. a ≢ b) (names_of (gathered modules places))
 gathered_apart modules places are chosen =
     pairs_map (λ (a b : List ℕ). a ≢ b) (λ (r : Named). r.0) (gathered modules places) (modules_apart ms whole other)
   where
@@ -230,12 +271,18 @@ gathered_apart modules places are chosen =
         (λ p q lesser m k one two same.
         let first = at_place modules p m one in
         let second = at_place modules q k two in
-        let equal : p ≡ q = are.differ p q (m.0) (first.candidate, first.there, first.name) (second.candidate, second.there, second.name ∙ sym same) in
+        let equal : p ≡ q = are.differ p q (m.0) (first.candidate, first.there, first.name) (
+          second.candidate,
+          second.there,
+          second.name ∙ sym same,
+        ) in
         absurd (omega (arith, lesser, equal)))
         places chosen.rising
 
 -- the names in front of a next module and its own differ
-pub next_differ : (modules : ImageModules) (places : List ℕ) (i : ℕ) (rs : List Named) (pool : List Named) → AreModules modules → ArePlaces modules places → IsNext modules places i rs → pool ≡ gathered modules (take i places) → AllPairs (λ a b. a ≢ b) (names_of (pool ++ rs))
+pub next_differ : (modules : ImageModules) (places : List ℕ) (i : ℕ) (rs : List Named) (pool : List Named) → AreModules modules
+    → ArePlaces modules places → IsNext modules places i rs → pool ≡ gathered modules (take i places)
+    → AllPairs (λ a b. a ≢ b) (names_of (pool ++ rs))
 next_differ modules places i rs pool are chosen next so_far =
     let rest = gathered modules (drop (i + 1) places) in
     let whole : gathered modules places ≡ (pool ++ rs) ++ rest =
@@ -250,14 +297,19 @@ pub record AreGathered (modules : ImageModules) (places : List ℕ) (i : ℕ) (p
   pub sound : first_bad_name (gathered modules (take i places)) ≡ None
   pub put : pool ≡ gathered modules (take i places)
 
-pub module_put : (modules : ImageModules) (places : List ℕ) (i : ℕ) (rs : List Named) (pool new : List Named) → IsNext modules places i rs → AreGathered modules places i pool → first_bad_name (rs) ≡ None → new ≡ pool ++ rs → AreGathered modules places (i + 1) new
+pub module_put : (modules : ImageModules) (places : List ℕ) (i : ℕ) (rs : List Named) (pool new : List Named)
+    → IsNext modules places i rs → AreGathered modules places i pool → first_bad_name (rs) ≡ None → new ≡ pool ++ rs
+    → AreGathered modules places (i + 1) new
 module_put modules places i rs pool new next are sound put = record {
   sound = ap first_bad_name next.more ∙ bad_append_none (gathered modules (take i places)) (rs) are.sound ∙ sound;
   put = put ∙ ap (λ qs. qs ++ rs) are.put ∙ sym next.more;
 }
 
-pub module_refused : (modules : ImageModules) (places : List ℕ) (i : ℕ) (rs : List Named) (pool new : List Named) (e : GatherError) → IsNext modules places i rs → AreGathered modules places i pool → Gathers (rs) (Err e) pool new → GathersAll (gathered modules places) (Err e)
+pub module_refused : (modules : ImageModules) (places : List ℕ) (i : ℕ) (rs : List Named) (pool new : List Named) (e : GatherError)
+    → IsNext modules places i rs → AreGathered modules places i pool → Gathers (rs) (Err e) pool new
+    → GathersAll (gathered modules places) (Err e)
 module_refused modules places i rs pool new (error.BadName name fault) next are given =
-    ap first_bad_name next.whole ∙ bad_append_none (gathered modules (take i places)) (rs ++ gathered modules (drop (i + 1) places)) are.sound
+    ap first_bad_name next.whole ∙ bad_append_none (gathered modules (take i places)) (rs ++ gathered modules (drop (i + 1) places))
+    are.sound
     ∙ bad_append_some (rs) (gathered modules (drop (i + 1) places)) (error.BadName name fault) given
 module_refused modules places i rs pool new error.Memory next are given = tt

@@ -1,5 +1,6 @@
 -- Files module by module: they are the same files, and where those are sorted the modules rise.
-use Rattle.std.proofs.Common.{◌≡◌, ◌≢◌, ℕ, Bool, true, false, cond, List, [], ◌∷◌, ◌++◌, append_assoc, All, AllPairs, Contains, refl, sym, ap, subst, ◌∙◌}
+use Rattle.std.proofs.Common.{◌≡◌, ◌≢◌, ℕ, Bool, true, false, cond, List, [], ◌∷◌, ◌++◌, append_assoc, All}
+use Rattle.std.proofs.Common.{AllPairs, Contains, refl, sym, ap, subst, ◌∙◌}
 use Rattle.std.proofs.lemmas.Bool.{false≢true, false_from_ne_true}
 use Rattle.std.proofs.lemmas.List.{map-append}
 use Rattle.std.proofs.lemmas.List.Elements.{All-cons, All-contains, All-head, All-nil, All-tail}
@@ -28,7 +29,8 @@ ungrouped_from : (g : Group) (es : List Filed) → flat_map ungrouped (groups_fr
 ungrouped_from g [] = refl
 ungrouped_from g (e ∷ es) = go (bytes_eq g.0 e.0) refl (ungrouped_from (g.0, g.1 ++ e.1 ∷ []) es) (ungrouped_from (begun_as e) es)
   where
-    go : (b : Bool) → bytes_eq g.0 e.0 ≡ b → flat_map ungrouped (groups_from (g.0, g.1 ++ e.1 ∷ []) es) ≡ ungrouped (g.0, g.1 ++ e.1 ∷ []) ++ es → flat_map ungrouped (groups_from (begun_as e) es) ≡ ungrouped (begun_as e) ++ es
+    go : (b : Bool) → bytes_eq g.0 e.0 ≡ b → flat_map ungrouped (groups_from (g.0, g.1 ++ e.1 ∷ []) es)
+        ≡ ungrouped (g.0, g.1 ++ e.1 ∷ []) ++ es → flat_map ungrouped (groups_from (begun_as e) es) ≡ ungrouped (begun_as e) ++ es
         → flat_map ungrouped (cond b (groups_from (g.0, g.1 ++ e.1 ∷ []) es) (g ∷ groups_from (begun_as e) es)) ≡ ungrouped g ++ e ∷ es
     go true is one other =
         let name : g.0 ≡ e.0 = (bytes_eq-Decides g.0 e.0).0 is in
@@ -92,7 +94,8 @@ modules_in P g (e ∷ es) this all =
     (modules_in P (g.0, g.1 ++ e.1 ∷ []) es this (All-tail (λ (f : Filed). P f.0) e es all))
     (modules_in P (begun_as e) es (All-head (λ (f : Filed). P f.0) e es all) (All-tail (λ (f : Filed). P f.0) e es all))
   where
-    go : (b : Bool) → All (λ (h : Group). P h.0) (groups_from (g.0, g.1 ++ e.1 ∷ []) es) → All (λ (h : Group). P h.0) (groups_from (begun_as e) es)
+    go : (b : Bool) → All (λ (h : Group). P h.0) (groups_from (g.0, g.1 ++ e.1 ∷ []) es)
+        → All (λ (h : Group). P h.0) (groups_from (begun_as e) es)
         → All (λ (h : Group). P h.0) (cond b (groups_from (g.0, g.1 ++ e.1 ∷ []) es) (g ∷ groups_from (begun_as e) es))
     go true one other = one
     go false one other = All-cons (λ (h : Group). P h.0) g (groups_from (begun_as e) es) this other
@@ -105,7 +108,8 @@ before_or n m behind_not differ =
       | stands_behind h ↦ absurd (false≢true (sym behind_not ∙ h))
     ]
 
-rises_from : (g : Group) (es : List Filed) → All (λ e. is_before e.0 g.0 ≡ false) es → AllPairs Falls es → AllPairs Before (groups_from g es)
+rises_from : (g : Group) (es : List Filed) → All (λ e. is_before e.0 g.0 ≡ false) es → AllPairs Falls es
+    → AllPairs Before (groups_from g es)
 rises_from g [] least sorted = AllPairs-cons Before g [] (All-nil (Before g)) (pairs_none Before)
 rises_from g (e ∷ es) least sorted =
     go (bytes_eq g.0 e.0) refl
@@ -113,9 +117,11 @@ rises_from g (e ∷ es) least sorted =
     (rises_from (begun_as e) es later (pairs_tail Falls e es sorted))
   where
     later : All (λ (f : Filed). is_before f.0 e.0 ≡ false) es
-    later = all_from_contains (λ (f : Filed). is_before f.0 e.0 ≡ false) es (λ f there. no_lesser e f (All-contains (Falls e) es f (pairs_head Falls e es sorted) there))
+    later = all_from_contains (λ (f : Filed). is_before f.0 e.0 ≡ false) es (λ f there. no_lesser e f (All-contains (Falls e) es f
+        (pairs_head Falls e es sorted) there))
 
-    go : (b : Bool) → bytes_eq g.0 e.0 ≡ b → AllPairs Before (groups_from (g.0, g.1 ++ e.1 ∷ []) es) → AllPairs Before (groups_from (begun_as e) es)
+    go : (b : Bool) → bytes_eq g.0 e.0 ≡ b → AllPairs Before (groups_from (g.0, g.1 ++ e.1 ∷ []) es)
+        → AllPairs Before (groups_from (begun_as e) es)
         → AllPairs Before (cond b (groups_from (g.0, g.1 ++ e.1 ∷ []) es) (g ∷ groups_from (begun_as e) es))
     go true is one other = one
     go false is one other =
@@ -141,7 +147,8 @@ pub groups_rise : (es : List Filed) → NeverFalls es → AllPairs (λ g h. is_b
 groups_rise [] sorted = pairs_none Before
 groups_rise (e ∷ es) sorted =
     rises_from (begun_as e) es
-    (all_from_contains (λ (f : Filed). is_before f.0 e.0 ≡ false) es (λ f there. no_lesser e f (All-contains (Falls e) es f (pairs_head Falls e es sorted) there)))
+    (all_from_contains (λ (f : Filed). is_before f.0 e.0 ≡ false) es (λ f there. no_lesser e f (All-contains (Falls e) es f
+    (pairs_head Falls e es sorted) there)))
     (pairs_tail Falls e es sorted)
 
 -- groups of one module are one
@@ -159,7 +166,8 @@ second_decides o p is = ap (λ q. is_lt (ordering_then q p)) is
 abbrev Both : Filed → Filed → Type 0
 Both e f = Falls e f × (file_name e.0 e.1.0 ≢ file_name f.0 f.1.0)
 
-pub files_rise : (es : List Filed) (g : Group) → NeverFalls es → AllPairs (λ e f. file_name e.0 e.1.0 ≢ file_name f.0 f.1.0) es → Contains (groups es) g → RisesByName g.1
+pub files_rise : (es : List Filed) (g : Group) → NeverFalls es → AllPairs (λ e f. file_name e.0 e.1.0 ≢ file_name f.0 f.1.0) es
+    → Contains (groups es) g → RisesByName g.1
 files_rise es g sorted differ there =
     pairs_weaker (λ (e f : Named). Both (g.0, e) (g.0, f)) (λ e f. is_before e.0 f.0 ≡ true)
     (λ e f two.

@@ -1,5 +1,7 @@
 -- The modules of groups, and the first refusal, from what the steps come to.
-use Rattle.std.proofs.Common.{◌≡◌, ℕ, inl, inr, Bool, true, false, cond, List, [], ◌∷◌, ◌++◌, append_assoc, Contains, Option, Some, None, option_to_list, Result, Ok, Err, refl, sym, ap, subst, ◌∙◌}
+use Rattle.std.proofs.Common.{◌≡◌, ℕ, inl, inr, Bool, true, false, cond, List, [], ◌∷◌, ◌++◌, append_assoc}
+use Rattle.std.proofs.Common.{Contains, Option, Some, None, option_to_list, Result, Ok, Err, refl, sym, ap}
+use Rattle.std.proofs.Common.{subst, ◌∙◌}
 use Rattle.std.proofs.lemmas.Slice.Eq.{bytes_eq-Decides}
 use Rattle.std.specs.List.{cons_option, filter_map}
 use Rattle.std.specs.Str.{bytes_eq}
@@ -38,7 +40,8 @@ own m (Ok e) d h = go (bytes_eq e.name m) refl h
           free = ap (λ c. cond c None (Some (error.Foreign (info_entry m)))) is;
         }
 
-not_own : (m : List ℕ) (said : Result Descriptor DescriptorFault) (e : RelinkError) → descriptor_due m said ≡ Err e → info_refusal m said ≡ Some e
+not_own : (m : List ℕ) (said : Result Descriptor DescriptorFault) (e : RelinkError) → descriptor_due m said ≡ Err e
+    → info_refusal m said ≡ Some e
 not_own m (Err fault) e h = ap (λ x. Some x) (same_err {A = Descriptor} (error.BadInfo (info_entry m) fault) e h)
 not_own m (Ok d) e h = go (bytes_eq d.name m) refl h
   where
@@ -57,7 +60,8 @@ pub record IsJudged (g : Group) (content : List ℕ) (o : Option SeenModule) : T
 pub entry_ok : (g : Group) (content : List ℕ) (o : Option SeenModule) → entry_due g (Some content) ≡ Ok o → IsJudged g content o
 entry_ok g content o h = go (descriptor_due g.0 (info_in content)) refl h
   where
-    go : (r : Result Descriptor RelinkError) → descriptor_due g.0 (info_in content) ≡ r → followed (followed r (λ d. Ok (seen_with g.1 d))) (λ s. Ok (Some s)) ≡ Ok o → IsJudged g content o
+    go : (r : Result Descriptor RelinkError) → descriptor_due g.0 (info_in content) ≡ r
+        → followed (followed r (λ d. Ok (seen_with g.1 d))) (λ s. Ok (Some s)) ≡ Ok o → IsJudged g content o
     go (Err e) is k = cc
     go (Ok d) is k = record {
       descriptor = d;
@@ -65,10 +69,12 @@ entry_ok g content o h = go (descriptor_due g.0 (info_in content)) refl h
       is = sym (same_ok {E = RelinkError} (Some (seen_with g.1 d)) o k);
     }
 
-pub entry_err : (g : Group) (content : List ℕ) (e : RelinkError) → entry_due g (Some content) ≡ Err e → info_refusal g.0 (info_in content) ≡ Some e
+pub entry_err : (g : Group) (content : List ℕ) (e : RelinkError) → entry_due g (Some content) ≡ Err e
+    → info_refusal g.0 (info_in content) ≡ Some e
 entry_err g content e h = go (descriptor_due g.0 (info_in content)) refl h
   where
-    go : (r : Result Descriptor RelinkError) → descriptor_due g.0 (info_in content) ≡ r → followed (followed r (λ d. Ok (seen_with g.1 d))) (λ s. Ok (Some s)) ≡ Err e → info_refusal g.0 (info_in content) ≡ Some e
+    go : (r : Result Descriptor RelinkError) → descriptor_due g.0 (info_in content) ≡ r
+        → followed (followed r (λ d. Ok (seen_with g.1 d))) (λ s. Ok (Some s)) ≡ Err e → info_refusal g.0 (info_in content) ≡ Some e
     go (Ok d) is k = cc
     go (Err other) is k = not_own g.0 (info_in content) e (is ∙ ap (λ x. Err x) (same_err {A = Option SeenModule} other e k))
 
@@ -86,12 +92,15 @@ seen_of g = value (group_due g)
 abbrev pub IsFree : Group → Type 0
 IsFree g = (o : Option SeenModule) × (group_due g ≡ Ok o)
 
-pub groups_ok : (seen : List SeenModule) (gs : List Group) (r : List SeenModule) → groups_due seen gs ≡ Ok r → (r ≡ seen ++ filter_map seen_of gs) × ((g : Group) → Contains gs g → IsFree g)
+pub groups_ok : (seen : List SeenModule) (gs : List Group) (r : List SeenModule) → groups_due seen gs ≡ Ok r
+    → (r ≡ seen ++ filter_map seen_of gs) × ((g : Group) → Contains gs g → IsFree g)
 groups_ok seen [] r h = (sym (same_ok {E = RelinkError} seen r h) ∙ sym (append_none seen), λ g there. absurd (contains_none g there))
 groups_ok seen (g ∷ gs) r h = go (group_due g) refl h (λ more k. groups_ok more gs r k)
   where
-    go : (due : Result (Option SeenModule) RelinkError) → group_due g ≡ due → followed due (λ o. groups_due (seen ++ option_to_list o) gs) ≡ Ok r
-        → ((more : List SeenModule) → groups_due more gs ≡ Ok r → (r ≡ more ++ filter_map seen_of gs) × ((k : Group) → Contains gs k → IsFree k))
+    go : (due : Result (Option SeenModule) RelinkError) → group_due g ≡ due
+        → followed due (λ o. groups_due (seen ++ option_to_list o) gs) ≡ Ok r
+        → ((more : List SeenModule) → groups_due more gs ≡ Ok r → (r ≡ more ++ filter_map seen_of gs) × ((k : Group) → Contains gs k
+        → IsFree k))
         → (r ≡ seen ++ cons_option (seen_of g) (filter_map seen_of gs)) × ((k : Group) → Contains (g ∷ gs) k → IsFree k)
     go (Err e) is k rest = cc
     go (Ok o) is k rest =
@@ -118,7 +127,8 @@ pub groups_err : (seen : List SeenModule) (gs : List Group) (e : RelinkError) �
 groups_err seen [] e h = cc
 groups_err seen (g ∷ gs) e h = go (group_due g) refl h (λ more k. groups_err more gs e k)
   where
-    go : (due : Result (Option SeenModule) RelinkError) → group_due g ≡ due → followed due (λ o. groups_due (seen ++ option_to_list o) gs) ≡ Err e
+    go : (due : Result (Option SeenModule) RelinkError) → group_due g ≡ due
+        → followed due (λ o. groups_due (seen ++ option_to_list o) gs) ≡ Err e
         → ((more : List SeenModule) → groups_due more gs ≡ Err e → IsFirstRefused gs e) → IsFirstRefused (g ∷ gs) e
     go (Err other) is k rest = record {
       front = [];

@@ -1,5 +1,6 @@
 -- Lists whose elements differ by a key, and parts of lists.
-use Rattle.std.proofs.Common.{◌≡◌, ◌≢◌, inl, inr, List, [], ◌∷◌, ◌++◌, map, Option, Some, None, option_to_list, All, AllPairs, Contains, refl, sym, ap, ◌∙◌}
+use Rattle.std.proofs.Common.{◌≡◌, ◌≢◌, inl, inr, List, [], ◌∷◌, ◌++◌, map, Option, Some, None}
+use Rattle.std.proofs.Common.{option_to_list, All, AllPairs, Contains, refl, sym, ap, ◌∙◌}
 use Rattle.std.proofs.lemmas.List.Elements.{All-contains, Contains-append_left, Contains-append_right}
 use Rattle.std.proofs.lemmas.List.Kept.{AllPairs-cons}
 use Rattle.std.specs.List.{cons_option, flat_map}
@@ -15,7 +16,8 @@ append_none [] = refl
 append_none (x ∷ xs) = ap (λ ys. x ∷ ys) (append_none xs)
 
 -- two elements with one key are one
-pub one_of : {X K : Type 0} (key : X → K) (xs : List X) (x y : X) → AllPairs (λ a b. key a ≢ key b) xs → Contains xs x → Contains xs y → key x ≡ key y → x ≡ y
+pub one_of : {X K : Type 0} (key : X → K) (xs : List X) (x y : X) → AllPairs (λ a b. key a ≢ key b) xs → Contains xs x
+    → Contains xs y → key x ≡ key y → x ≡ y
 one_of key [] x y differ there too same = absurd (contains_none x there)
 one_of {X = X} {K = K} key (z ∷ xs) x y differ there too same =
     elim (contains_cases z xs x there) [
@@ -39,7 +41,8 @@ module _ {X : Type 0} (R : X → X → Type 0) where
   pairs_left [] ys pairs = pairs_none R
   pairs_left (x ∷ xs) ys pairs =
       AllPairs-cons R x xs
-      (all_from_contains (R x) xs (λ y there. All-contains (R x) (xs ++ ys) y (pairs_head R x (xs ++ ys) pairs) (Contains-append_left xs ys y there)))
+      (all_from_contains (R x) xs (λ y there. All-contains (R x) (xs ++ ys) y (pairs_head R x (xs ++ ys) pairs)
+      (Contains-append_left xs ys y there)))
       (pairs_left xs ys (pairs_tail R x (xs ++ ys) pairs))
 
   pub pairs_right : (xs ys : List X) → AllPairs R (xs ++ ys) → AllPairs R ys
@@ -55,7 +58,8 @@ module _ {X : Type 0} (R : X → X → Type 0) where
       go (w ∷ ws) all y there =
           elim (contains_cases w ws y there) [
             | inl same ↦
-                let first = All-contains (R w) (ws ++ x ∷ ys) x (pairs_head R w (ws ++ x ∷ ys) all) (Contains-append_right ws (x ∷ ys) x (contains_here x ys)) in
+                let first = All-contains (R w) (ws ++ x ∷ ys) x (pairs_head R w (ws ++ x ∷ ys) all)
+                (Contains-append_right ws (x ∷ ys) x (contains_here x ys)) in
                 rw (sym same) first
             | inr later ↦ go ws (pairs_tail R w (ws ++ x ∷ ys) all) y later
           ]
@@ -64,7 +68,8 @@ module _ {X : Type 0} (R : X → X → Type 0) where
   pairs_unmap {Y = Y} f [] pairs = pairs_none (λ (a b : Y). R (f a) (f b))
   pairs_unmap {Y = Y} f (y ∷ ys) pairs =
       AllPairs-cons (λ (a b : Y). R (f a) (f b)) y ys
-      (all_from_contains (λ b. R (f y) (f b)) ys (λ b there. All-contains (R (f y)) (map f ys) (f b) (pairs_head R (f y) (map f ys) pairs) (contains_map f ys b there)))
+      (all_from_contains (λ b. R (f y) (f b)) ys (λ b there. All-contains (R (f y)) (map f ys) (f b) (pairs_head R (f y) (map f ys)
+      pairs) (contains_map f ys b there)))
       (pairs_unmap f ys (pairs_tail R (f y) (map f ys) pairs))
 
   -- each of the lists that were joined

@@ -1,5 +1,7 @@
 -- The modules of an image, from its files sorted by module and by path.
-use Rattle.std.proofs.Common.{◌≡◌, ◌≢◌, ℕ, inl, inr, true, false, List, [], ◌∷◌, ◌++◌, find, map, AllPairs, Contains, IsPermutation, IsTrue, Option, Some, None, option_map, not, Result, Ok, Err, refl, sym, ap, subst, ◌∙◌}
+use Rattle.std.proofs.Common.{◌≡◌, ◌≢◌, ℕ, inl, inr, true, false, List, [], ◌∷◌, ◌++◌, find, map, AllPairs}
+use Rattle.std.proofs.Common.{Contains, IsPermutation, IsTrue, Option, Some, None, option_map, not, Result}
+use Rattle.std.proofs.Common.{Ok, Err, refl, sym, ap, subst, ◌∙◌}
 use Rattle.std.proofs.lemmas.List.Elements.{All-contains, Contains-append_cases, Contains-append_right}
 use Rattle.std.proofs.lemmas.List.Kept.{AllPairs-filter}
 use Rattle.std.proofs.lemmas.List.Sorted.{Contains-permutation, IsPermutation-sym}
@@ -29,7 +31,8 @@ use Rattle.jm_relink.specs.Files.{Filed, NeverFalls, file_name, files_as, info_e
 use Rattle.jm_names.specs.ByName.{Named}
 use Rattle.jm_relink.specs.Groups.{Group, groups, info_content}
 use Rattle.jm_relink.specs.Judging.{ComesFrom, entry_due, group_due, groups_due, seen_as, seen_with}
-use Rattle.jm_relink.specs.Modules.{AreFilesOf, FindsModules, HasInfo, HoldsModules, IsRefusedIn, IsSeenIn, IsVisibleIn, ModulesOf, SeenModule, info_refusal, name_of}
+use Rattle.jm_relink.specs.Modules.{AreFilesOf, FindsModules, HasInfo, HoldsModules, IsRefusedIn, IsSeenIn}
+use Rattle.jm_relink.specs.Modules.{IsVisibleIn, ModulesOf, SeenModule, info_refusal, name_of}
 use Rattle.jm_relink.proofs.GroupLaws.{files_rise, groups_rise, in_group, of_group, one_group}
 use Rattle.jm_relink.proofs.JudgingLaws.{IsFirstRefused, IsFree, entry_err, entry_ok, groups_err, groups_ok, seen_of, value}
 use Rattle.jm_bytes.proofs.Choice.{mapped_some}
@@ -89,9 +92,11 @@ file_from rs fs m f are there =
     let is = located_from from.0 (m, f) from.2 in
     record { whole = is.0; there = subst (Contains rs) is.1 from.1 }
 
-file_there : (rs : List Named) (fs : List Filed) (m : List ℕ) (f : Named) → AreSorted rs fs → list_any is_slash m ≡ false → Contains rs (file_name m f.0, f.1) → Contains fs (m, f)
+file_there : (rs : List Named) (fs : List Filed) (m : List ℕ) (f : Named) → AreSorted rs fs → list_any is_slash m ≡ false
+    → Contains rs (file_name m f.0, f.1) → Contains fs (m, f)
 file_there rs fs m f are whole there =
-    let is : located (file_name m f.0, f.1) ≡ Some (m, f) = ap (option_map (λ (cut : List ℕ × List ℕ). (cut.0, (cut.1, f.1)))) (parts_of_file m f.0 whole) in
+    let is : located (file_name m f.0, f.1) ≡ Some (m, f) = ap (option_map (λ (cut : List ℕ × List ℕ). (cut.0, (cut.1, f.1))))
+    (parts_of_file m f.0 whole) in
     Contains-permutation (filter_map located rs) fs (m, f) are.moved (contains_filter_map located rs (file_name m f.0, f.1) (m, f) there is)
 
 -- no two files have one module and one path
@@ -104,7 +109,8 @@ keys_differ rs fs are =
     rs are.differ)
 
 -- the files of a group are those of its module
-group_files : (rs : List Named) (fs : List Filed) (g : Group) → AreSorted rs fs → Contains (groups fs) g → list_any is_slash g.0 ≡ false → AreFilesOf rs g.0 g.1
+group_files : (rs : List Named) (fs : List Filed) (g : Group) → AreSorted rs fs → Contains (groups fs) g → list_any is_slash g.0
+    ≡ false → AreFilesOf rs g.0 g.1
 group_files rs fs g are there whole = record {
   rising = files_rise fs g are.sorted (keys_differ rs fs are) there;
   each = λ path content. (
@@ -130,17 +136,20 @@ info_there rs fs m content are info =
     let has = of_group fs m (info_name, content) (file_there rs fs m (info_name, content) are info.whole info.there) in
     let g = has.group in
     let up = files_rise fs g are.sorted (keys_differ rs fs are) has.there in
-    let apart = pairs_weaker (λ (e f : Named). is_before e.0 f.0 ≡ true) (λ e f. e.0 ≢ f.0) (λ e f lesser. before_apart e.0 f.0 lesser) g.1 up in
+    let apart = pairs_weaker (λ (e f : Named). is_before e.0 f.0 ≡ true) (λ e f. e.0 ≢ f.0) (λ e f lesser. before_apart e.0 f.0
+    lesser) g.1 up in
     record {
       group = g;
       there = has.there;
       name = has.name;
       info = ap (option_map (λ (f : Named). f.1))
           (find_only (λ (f : Named). bytes_eq f.0 info_name) g.1 (info_name, content) has.among refl
-          (λ y among test. one_of (λ (f : Named). f.0) g.1 y (info_name, content) apart among has.among ((bytes_eq-Decides y.0 info_name).0 test)));
+          (λ y among test. one_of (λ (f : Named). f.0) g.1 y (info_name, content) apart among has.among
+          ((bytes_eq-Decides y.0 info_name).0 test)));
     }
 
-info_from : (rs : List Named) (fs : List Filed) (g : Group) (content : List ℕ) → AreSorted rs fs → Contains (groups fs) g → info_content g.1 ≡ Some content → HasInfo rs g.0 content
+info_from : (rs : List Named) (fs : List Filed) (g : Group) (content : List ℕ) → AreSorted rs fs → Contains (groups fs) g
+    → info_content g.1 ≡ Some content → HasInfo rs g.0 content
 info_from rs fs g content are there is =
     let some = mapped_some (λ (f : Named). f.1) (find (λ (f : Named). bytes_eq f.0 info_name) g.1) content is in
     let f = some.0 in
@@ -155,7 +164,8 @@ info_from rs fs g content are there is =
 
 -- What is seen of a module
 
-seen_from : (rs : List Named) (fs : List Filed) (g : Group) (s : SeenModule) → AreSorted rs fs → Contains (groups fs) g → group_due g ≡ Ok (Some s) → (name_of s ≡ g.0) × IsSeenIn rs s
+seen_from : (rs : List Named) (fs : List Filed) (g : Group) (s : SeenModule) → AreSorted rs fs → Contains (groups fs) g
+    → group_due g ≡ Ok (Some s) → (name_of s ≡ g.0) × IsSeenIn rs s
 seen_from rs fs g s are there due = go (info_content g.1) refl due
   where
     go : (o : Option (List ℕ)) → info_content g.1 ≡ o → entry_due g o ≡ Ok (Some s) → (name_of s ≡ g.0) × IsSeenIn rs s
@@ -183,19 +193,22 @@ value_some g s free is =
     free.1 ∙ ap (λ o. Ok o) one
 
 -- a module whose entry is there is judged by it
-free_of : (g : Group) (content : List ℕ) → info_content g.1 ≡ Some content → IsFree g → (d : Descriptor) × (info_in content ≡ Ok d) × (d.name ≡ g.0) × (group_due g ≡ Ok (Some (seen_with g.1 d))) × (info_refusal g.0 (info_in content) ≡ None)
+free_of : (g : Group) (content : List ℕ) → info_content g.1 ≡ Some content → IsFree g → (d : Descriptor) × (info_in content ≡ Ok d)
+    × (d.name ≡ g.0) × (group_due g ≡ Ok (Some (seen_with g.1 d))) × (info_refusal g.0 (info_in content) ≡ None)
 free_of g content is free =
     let due : entry_due g (Some content) ≡ Ok free.0 = ap (entry_due g) (sym is) ∙ free.1 in
     let judged = entry_ok g content free.0 due in
     (judged.descriptor, judged.own.says, judged.own.name, free.1 ∙ ap (λ o. Ok o) judged.is, judged.own.free)
 
-pub visible_from : (rs : List Named) (fs : List Filed) (seen : List SeenModule) → AreSorted rs fs → groups_due [] (groups fs) ≡ Ok seen → IsVisibleIn rs seen
+pub visible_from : (rs : List Named) (fs : List Filed) (seen : List SeenModule) → AreSorted rs fs → groups_due [] (groups fs)
+    ≡ Ok seen → IsVisibleIn rs seen
 visible_from rs fs seen are due = subst (IsVisibleIn rs) (sym ok.0) visible
   where
     ok : (seen ≡ filter_map seen_of (groups fs)) × ((g : Group) → Contains (groups fs) g → IsFree g)
     ok = groups_ok [] (groups fs) seen due
 
-    from_seen : (s : SeenModule) → Contains (filter_map seen_of (groups fs)) s → (g : Group) × Contains (groups fs) g × (name_of s ≡ g.0) × IsSeenIn rs s
+    from_seen : (s : SeenModule) → Contains (filter_map seen_of (groups fs)) s → (g : Group) × Contains (groups fs) g
+        × (name_of s ≡ g.0) × IsSeenIn rs s
     from_seen s there =
         let from = from_filter_map seen_of (groups fs) s there in
         let g = from.0 in
@@ -204,13 +217,15 @@ visible_from rs fs seen are due = subst (IsVisibleIn rs) (sym ok.0) visible
 
     up : AllPairs (λ s t. IsTrue (is_before (name_of s) (name_of t))) (filter_map seen_of (groups fs))
     up =
-        pairs_filter_map (λ (g h : Group). Contains (groups fs) g × Contains (groups fs) h × (is_before g.0 h.0 ≡ true)) (λ (s t : SeenModule). IsTrue (is_before (name_of s) (name_of t))) seen_of
+        pairs_filter_map (λ (g h : Group). Contains (groups fs) g × Contains (groups fs) h × (is_before g.0 h.0 ≡ true))
+        (λ (s t : SeenModule). IsTrue (is_before (name_of s) (name_of t))) seen_of
         (λ g h has s t one other.
         let first = seen_from rs fs g s are has.0 (value_some g s (ok.1 g has.0) one) in
         let second = seen_from rs fs h t are has.1 (value_some h t (ok.1 h has.1) other) in
         rw (first.0, second.0) has.2)
         (groups fs)
-        (pairs_among (λ (g h : Group). is_before g.0 h.0 ≡ true) (λ g h. Contains (groups fs) g × Contains (groups fs) h × (is_before g.0 h.0 ≡ true)) (groups fs)
+        (pairs_among (λ (g h : Group). is_before g.0 h.0 ≡ true) (λ g h. Contains (groups fs) g × Contains (groups fs) h
+        × (is_before g.0 h.0 ≡ true)) (groups fs)
         (λ g h there too lesser. (there, too, lesser)) (groups_rise fs are.sorted))
 
     visible : IsVisibleIn rs (filter_map seen_of (groups fs))
@@ -223,20 +238,24 @@ visible_from rs fs seen are due = subst (IsVisibleIn rs) (sym ok.0) visible
           let free = free_of g content has.info (ok.1 g has.there) in
           let s = seen_with g.1 free.0 in
           let among = contains_filter_map seen_of (groups fs) g s has.there (ap value free.3) in
-          subst (Contains (map name_of (filter_map seen_of (groups fs)))) (free.2 ∙ has.name) (contains_map name_of (filter_map seen_of (groups fs)) s among);
+          subst (Contains (map name_of (filter_map seen_of (groups fs)))) (free.2 ∙ has.name)
+          (contains_map name_of (filter_map seen_of (groups fs)) s among);
     }
 
 -- what stands before an element of rising groups stands in front of it
-in_front_of : (front : List Group) (g : Group) (back : List Group) (h : Group) → AllPairs (λ x y. is_before x.0 y.0 ≡ true) (front ++ g ∷ back) → Contains (front ++ g ∷ back) h → is_before h.0 g.0 ≡ true → Contains front h
+in_front_of : (front : List Group) (g : Group) (back : List Group) (h : Group) → AllPairs (λ x y. is_before x.0 y.0 ≡ true)
+    (front ++ g ∷ back) → Contains (front ++ g ∷ back) h → is_before h.0 g.0 ≡ true → Contains front h
 in_front_of front g back h rising there lesser =
     elim (Contains-append_cases front (g ∷ back) h there) [
       | inl one ↦ one
       | inr other ↦
           elim (contains_cases g back h other) [
-            | inl same ↦ absurd (one_way h.0 g.0 lesser (subst (λ (x : Group). is_before x.0 h.0 ≡ true) (sym same) (subst (λ (x : Group). is_before h.0 x.0 ≡ true) same lesser)))
+            | inl same ↦ absurd (one_way h.0 g.0 lesser (subst (λ (x : Group). is_before x.0 h.0 ≡ true) (sym same)
+                (subst (λ (x : Group). is_before h.0 x.0 ≡ true) same lesser)))
             | inr behind ↦
                 let rest = pairs_right (λ (x y : Group). is_before x.0 y.0 ≡ true) front (g ∷ back) rising in
-                absurd (one_way h.0 g.0 lesser (All-contains (λ (y : Group). is_before g.0 y.0 ≡ true) back h (pairs_head (λ (x y : Group). is_before x.0 y.0 ≡ true) g back rest) behind))
+                absurd (one_way h.0 g.0 lesser (All-contains (λ (y : Group). is_before g.0 y.0 ≡ true) back h
+                (pairs_head (λ (x y : Group). is_before x.0 y.0 ≡ true) g back rest) behind))
           ]
     ]
 
@@ -248,38 +267,47 @@ refused_at rs fs e are refused = go (info_content refused.group.1) refl refused.
     go (Some content) is k = record {
       «module» = refused.group.0;
       content = content;
-      info = info_from rs fs refused.group content are (subst (λ gs. Contains gs refused.group) (sym refused.cut) (Contains-append_right refused.front (refused.group ∷ refused.back) refused.group (contains_here refused.group refused.back))) is;
+      info = info_from rs fs refused.group content are (subst (λ gs. Contains gs refused.group) (sym refused.cut)
+          (Contains-append_right refused.front (refused.group ∷ refused.back) refused.group (contains_here refused.group refused.back))) is;
       refused = entry_err refused.group content e k;
       first = λ lesser other info before.
           let has = info_there rs fs lesser other are info in
           let h = has.group in
           let rising = subst (AllPairs (λ (x y : Group). is_before x.0 y.0 ≡ true)) refused.cut (groups_rise fs are.sorted) in
           let below : is_before h.0 refused.group.0 ≡ true = rw has.name before in
-          let in_front : Contains refused.front h = in_front_of refused.front refused.group refused.back h rising (subst (λ gs. Contains gs h) refused.cut has.there) below in
+          let in_front : Contains refused.front h = in_front_of refused.front refused.group refused.back h rising
+          (subst (λ gs. Contains gs h) refused.cut has.there) below in
           let free = free_of h other has.info (refused.free h in_front) in
           subst (λ n. info_refusal n (info_in other) ≡ None) has.name free.4;
     }
 
-pub refused_from : (rs : List Named) (fs : List Filed) (e : RelinkError) → AreSorted rs fs → groups_due [] (groups fs) ≡ Err e → IsRefusedIn rs e
+pub refused_from : (rs : List Named) (fs : List Filed) (e : RelinkError) → AreSorted rs fs → groups_due [] (groups fs) ≡ Err e
+    → IsRefusedIn rs e
 refused_from rs fs e are due = refused_at rs fs e are (groups_err [] (groups fs) e due)
 
 -- What the code hands out
 
 -- modules in two lists
-held : (found : ImageModules) (seen : List handed.SeenModule) → found.candidates ≡ map (λ (s : handed.SeenModule). s.candidate) seen → found.files ≡ map (λ (s : handed.SeenModule). s.files) seen → HoldsModules found (map seen_as seen)
+held : (found : ImageModules) (seen : List handed.SeenModule) → found.candidates ≡ map (λ (s : handed.SeenModule). s.candidate) seen
+    → found.files ≡ map (λ (s : handed.SeenModule). s.files) seen → HoldsModules found (map seen_as seen)
 held found seen candidates files = record {
   candidates = candidates ∙ sym (mapped_twice (λ (s : SeenModule). s.candidate) seen_as seen);
-  files = ap (map files_as) files ∙ mapped_twice files_as (λ (s : handed.SeenModule). s.files) seen ∙ sym (mapped_twice (λ (s : SeenModule). s.files) seen_as seen);
+  files = ap (map files_as) files ∙ mapped_twice files_as (λ (s : handed.SeenModule). s.files) seen
+      ∙ sym (mapped_twice (λ (s : SeenModule). s.files) seen_as seen);
 }
 
-pub are_sorted : (b : List ℕ) (fs : List Filed) → IsPermutation (filter_map located (resources_of b)) fs → NeverFalls fs → AreSorted (resources_of b) fs
+pub are_sorted : (b : List ℕ) (fs : List Filed) → IsPermutation (filter_map located (resources_of b)) fs → NeverFalls fs
+    → AreSorted (resources_of b) fs
 are_sorted b fs moved sorted = record { differ = resources_differ b; moved = moved; sorted = sorted }
 
-pub come_from : (fs : List Filed) (gs : List Group) (seen : List handed.SeenModule) (found : ImageModules) → gs ≡ groups fs → groups_due [] gs ≡ Ok (map seen_as seen) → found.candidates ≡ map (λ (s : handed.SeenModule). s.candidate) seen → found.files ≡ map (λ (s : handed.SeenModule). s.files) seen → ComesFrom fs (Ok found)
+pub come_from : (fs : List Filed) (gs : List Group) (seen : List handed.SeenModule) (found : ImageModules) → gs ≡ groups fs
+    → groups_due [] gs ≡ Ok (map seen_as seen) → found.candidates ≡ map (λ (s : handed.SeenModule). s.candidate) seen → found.files
+    ≡ map (λ (s : handed.SeenModule). s.files) seen → ComesFrom fs (Ok found)
 come_from fs gs seen found is due candidates files =
     (map seen_as seen, ap (groups_due []) (sym is) ∙ due, held found seen candidates files)
 
-pub found_modules : (b : List ℕ) (fs : List Filed) (answer : Result ImageModules RelinkError) → AreSorted (resources_of b) fs → ComesFrom fs answer → FindsModules b answer
+pub found_modules : (b : List ℕ) (fs : List Filed) (answer : Result ImageModules RelinkError) → AreSorted (resources_of b) fs
+    → ComesFrom fs answer → FindsModules b answer
 unfolding ModulesOf
 found_modules b fs (Ok found) are come = (come.0, visible_from (resources_of b) fs come.0 are come.1, come.2)
 found_modules b fs (Err (error.BadInfo name fault)) are come = refused_from (resources_of b) fs (error.BadInfo name fault) are come

@@ -1,5 +1,6 @@
 -- Names of resources: the module and the path of each.
-use Rattle.std.proofs.Common.{inl, inr, ◌≡◌, ℕ, suc, ◌+◌, Bool, true, false, ◌&&◌, ◌||◌, not, cond, List, [], ◌∷◌, ◌++◌, take, drop, length, Some, None, refl, sym, ap, ◌∙◌, subst, arith}
+use Rattle.std.proofs.Common.{inl, inr, ◌≡◌, ℕ, suc, ◌+◌, Bool, true, false, ◌&&◌, ◌||◌, not, cond, List, []}
+use Rattle.std.proofs.Common.{◌∷◌, ◌++◌, take, drop, length, Some, None, refl, sym, ap, ◌∙◌, subst, arith}
 use Rattle.std.proofs.lemmas.Bool.{false≢true, eqb-true}
 use Rattle.std.proofs.lemmas.List.{append_cancel_left, take_at}
 use Rattle.std.specs.List.{after_first, before_first, list_any, position_or_len}
@@ -43,7 +44,8 @@ parts_of_file m p whole =
 
 -- Names of modules and paths are told by the name
 
-pub names_tell : (m k p q : List ℕ) → list_any is_slash m ≡ false → list_any is_slash k ≡ false → file_name m p ≡ file_name k q → (m ≡ k) × (p ≡ q)
+pub names_tell : (m k p q : List ℕ) → list_any is_slash m ≡ false → list_any is_slash k ≡ false → file_name m p ≡ file_name k q
+    → (m ≡ k) × (p ≡ q)
 names_tell m k p q whole other same =
     let rest : m ++ 47 ∷ p ≡ k ++ 47 ∷ q = append_cancel_left (47 ∷ []) (m ++ 47 ∷ p) (k ++ 47 ∷ q) same in (
       sym (before_slash m p whole) ∙ ap (before_first is_slash) rest ∙ before_slash k q other,
@@ -54,7 +56,8 @@ none_before : (xs : List ℕ) → list_any is_slash (before_first is_slash xs) �
 none_before [] = refl
 none_before (x ∷ xs) = go (is_slash x) refl (none_before xs)
   where
-    go : (c : Bool) → is_slash x ≡ c → list_any is_slash (before_first is_slash xs) ≡ false → list_any is_slash (take (cond (not c) (1 + position_or_len is_slash xs) 0) (x ∷ xs)) ≡ false
+    go : (c : Bool) → is_slash x ≡ c → list_any is_slash (before_first is_slash xs) ≡ false
+        → list_any is_slash (take (cond (not c) (1 + position_or_len is_slash xs) 0) (x ∷ xs)) ≡ false
     go true is rest = refl
     go false is rest =
         let next : 1 + position_or_len is_slash xs ≡ suc (position_or_len is_slash xs) = omega arith in
@@ -72,7 +75,8 @@ pub record IsFileName (name m p : List ℕ) : Type 0 where
 pub file_of_parts : (name m p : List ℕ) → module_and_path name ≡ Some (m, p) → IsFileName name m p
 file_of_parts [] m p h = cc
 file_of_parts (b ∷ name) m p h =
-    elim (chosen (is_slash b && list_any is_slash name) (Some (before_first is_slash name, after_first is_slash name)) None (Some (m, p)) h) [
+    elim (chosen (is_slash b && list_any is_slash name) (Some (before_first is_slash name, after_first is_slash name)) None
+    (Some (m, p)) h) [
       | inl passes ↦
           let tests = both (is_slash b) (list_any is_slash name) passes.0 in
           let first = same_first (before_first is_slash name) m (after_first is_slash name) p passes.1 in

@@ -26,20 +26,23 @@ files_once rs m es fs one other =
     (λ e there. (one.each e.0 e.1).1 ((other.each e.0 e.1).0 there))
 
 info_once : (rs : List Named) (m k c d : List ℕ) → Differ rs → HasInfo rs m c → HasInfo rs k d → m ≡ k → c ≡ d
-info_once rs m k c d differ one other same = one_content rs (info_entry m) (info_entry k) c d differ one.there other.there (ap info_entry same)
+info_once rs m k c d differ one other same = one_content rs (info_entry m) (info_entry k) c d differ one.there other.there
+    (ap info_entry same)
 
 -- a module of a descriptor, packages and files
 abbrev made : Descriptor → List (List ℕ) → List Named → SeenModule
 made d packages files = record { candidate = record { descriptor = d; packages = packages }; files = files }
 
 seen_once : (rs : List Named) (s t : SeenModule) → Differ rs → IsSeenIn rs s → IsSeenIn rs t → name_of s ≡ name_of t → s ≡ t
-seen_once rs s t differ one other name = ap (λ d. made d s.candidate.packages s.files) descriptors ∙ ap (λ ps. made t.candidate.descriptor ps s.files) packages ∙ ap (made t.candidate.descriptor t.candidate.packages) files
+seen_once rs s t differ one other name = ap (λ d. made d s.candidate.packages s.files) descriptors
+    ∙ ap (λ ps. made t.candidate.descriptor ps s.files) packages ∙ ap (made t.candidate.descriptor t.candidate.packages) files
   where
     contents : one.content ≡ other.content
     contents = info_once rs (name_of s) (name_of t) one.content other.content differ one.info other.info name
 
     descriptors : s.candidate.descriptor ≡ t.candidate.descriptor
-    descriptors = same_ok {E = DescriptorFault} s.candidate.descriptor t.candidate.descriptor (sym one.says ∙ ap info_in contents ∙ other.says)
+    descriptors = same_ok {E = DescriptorFault} s.candidate.descriptor t.candidate.descriptor (sym one.says ∙ ap info_in contents
+        ∙ other.says)
 
     files : s.files ≡ t.files
     files = files_once rs (name_of t) s.files t.files (subst (λ n. AreFilesOf rs n s.files) name one.files) other.files
@@ -49,7 +52,8 @@ seen_once rs s t differ one other name = ap (λ d. made d s.candidate.packages s
         one.packages ∙ ap (λ n. class_packages (map (λ (f : Named). file_name n f.0) s.files)) name
         ∙ ap (λ fs. class_packages (map (λ (f : Named). file_name (name_of t) f.0) fs)) files ∙ sym other.packages
 
-among : (rs : List Named) (seen others : List SeenModule) → Differ rs → IsVisibleIn rs seen → IsVisibleIn rs others → (s : SeenModule) → Contains seen s → Contains others s
+among : (rs : List Named) (seen others : List SeenModule) → Differ rs → IsVisibleIn rs seen → IsVisibleIn rs others
+    → (s : SeenModule) → Contains seen s → Contains others s
 among rs seen others differ one other s there =
     let is = All-contains (IsSeenIn rs) seen s one.each there in
     let from = from_map name_of others (name_of s) (other.all (name_of s) is.content is.info) in
@@ -58,7 +62,8 @@ among rs seen others differ one other s there =
 
 visible_once : (rs : List Named) (seen others : List SeenModule) → Differ rs → IsVisibleIn rs seen → IsVisibleIn rs others → seen ≡ others
 visible_once rs seen others differ one other =
-    same_order (λ (s t : SeenModule). is_before (name_of s) (name_of t) ≡ true) (λ s t up down. one_way (name_of s) (name_of t) up down) seen others one.rising other.rising
+    same_order (λ (s t : SeenModule). is_before (name_of s) (name_of t) ≡ true) (λ s t up down. one_way (name_of s) (name_of t) up
+    down) seen others one.rising other.rising
     (among rs seen others differ one other) (among rs others seen differ other one)
 
 some_none : {X : Type 0} (x : X) (o : Option X) → o ≡ Some x → o ≡ None → ⊥
@@ -68,11 +73,14 @@ some_none x None one other = cc
 refused_once : (rs : List Named) (e f : RelinkError) → Differ rs → IsRefusedIn rs e → IsRefusedIn rs f → e ≡ f
 refused_once rs e f differ one other =
     elim (stand one.module other.module) [
-      | stands_before h ↦ absurd (some_none e (info_refusal one.module (info_in one.content)) one.refused (other.first one.module one.content one.info h))
+      | stands_before h ↦ absurd (some_none e (info_refusal one.module (info_in one.content)) one.refused
+          (other.first one.module one.content one.info h))
       | is_one h ↦
           let contents = info_once rs one.module other.module one.content other.content differ one.info other.info h in
-          same_some e f (sym one.refused ∙ ap (λ n. info_refusal n (info_in one.content)) h ∙ ap (λ c. info_refusal other.module (info_in c)) contents ∙ other.refused)
-      | stands_behind h ↦ absurd (some_none f (info_refusal other.module (info_in other.content)) other.refused (one.first other.module other.content other.info h))
+          same_some e f (sym one.refused ∙ ap (λ n. info_refusal n (info_in one.content)) h
+          ∙ ap (λ c. info_refusal other.module (info_in c)) contents ∙ other.refused)
+      | stands_behind h ↦ absurd (some_none f (info_refusal other.module (info_in other.content)) other.refused
+          (one.first other.module other.content other.info h))
     ]
 
 visible_free : (rs : List Named) (seen : List SeenModule) (e : RelinkError) → Differ rs → IsVisibleIn rs seen → IsRefusedIn rs e → ⊥

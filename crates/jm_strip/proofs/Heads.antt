@@ -1,5 +1,6 @@
 -- What was read in front of a place is what stands there.
-use Rattle.std.proofs.Common.{◌≡◌, ℕ, false, ◌-◌, ◌≤◌, List, [], ◌∷◌, ◌++◌, length, take, Ok, refl, sym, ap, ◌∙◌, subst, arith, append_assoc, length-append}
+use Rattle.std.proofs.Common.{◌≡◌, ℕ, false, ◌-◌, ◌≤◌, List, [], ◌∷◌, ◌++◌, length, take, Ok, refl, sym, ap}
+use Rattle.std.proofs.Common.{◌∙◌, subst, arith, append_assoc, length-append}
 use Rattle.std.proofs.lemmas.Bool.{eqb-true}
 use Rattle.std.proofs.lemmas.List.{append-nil, take_at}
 use Rattle.jm_class.specs.declared.class.ClassFault.TheVariants.{Short}
@@ -17,7 +18,9 @@ pub record Ahead (bytes front : List ℕ) (left : Left) : Type 0 where
   pub is : bytes ≡ front ++ left.bytes
   pub all : IsBytes left.bytes
 
-pub ahead-next : {F A : Type 0} (reading : Reading F A) (text : A → List ℕ) (Fits : A → Type 0) → Lawful reading text Fits → (bytes front : List ℕ) (left next : Left) (a : A) → Ahead bytes front left → reading left ≡ Ok (a, next) → Ahead bytes (front ++ text a) next
+pub ahead-next : {F A : Type 0} (reading : Reading F A) (text : A → List ℕ) (Fits : A → Type 0) → Lawful reading text Fits
+    → (bytes front : List ℕ) (left next : Left) (a : A) → Ahead bytes front left → reading left ≡ Ok (a, next)
+    → Ahead bytes (front ++ text a) next
 ahead-next reading text Fits law bytes front left next a ahead e =
     let took = law.back left next a ahead.all e in
     record {
@@ -40,9 +43,11 @@ module _ (bytes front : List ℕ) (left : Left) (ahead : Ahead bytes front left)
       ap (take (length bytes - n)) ahead.is ∙ take_at front left.bytes (length bytes - n) number
 
 -- two parts more behind those in front
-pub whole : (parts : List (List ℕ)) (one other text more all : List ℕ) → text ≡ put_all [] parts → text ++ one ≡ more → more ++ other ≡ all → joined (parts ++ one ∷ other ∷ []) ≡ all
+pub whole : (parts : List (List ℕ)) (one other text more all : List ℕ) → text ≡ put_all [] parts → text ++ one ≡ more
+    → more ++ other ≡ all → joined (parts ++ one ∷ other ∷ []) ≡ all
 whole parts one other text more all front second third =
-    sym (put_all-joined [] (parts ++ one ∷ other ∷ [])) ∙ behind [] parts ∙ ap (λ t. (t ++ one) ++ other) (sym front) ∙ ap (λ t. t ++ other) second ∙ third
+    sym (put_all-joined [] (parts ++ one ∷ other ∷ [])) ∙ behind [] parts ∙ ap (λ t. (t ++ one) ++ other) (sym front)
+    ∙ ap (λ t. t ++ other) second ∙ third
   where
     behind : (text : List ℕ) (parts : List (List ℕ)) → put_all text (parts ++ one ∷ other ∷ []) ≡ (put_all text parts ++ one) ++ other
     behind text [] = refl
@@ -61,7 +66,12 @@ front_parts found minor major pool access this_class super_class interfaces fiel
     u4 found ∷ u2 minor ∷ u2 major ∷ pool_text pool ∷ u2 access ∷ u2 this_class ∷ u2 super_class
     ∷ counted_text u2 interfaces ∷ counted_text member_text fields ∷ []
 
-module _ {bytes : List ℕ} {a b c d e f g h i j : Left} {found minor major access this_class super_class : ℕ} {pool : List SlotData} {interfaces : List ℕ} {fields : List MemberData} (all : IsBytes bytes) (begun : a ≡ record { place = 0; bytes = bytes }) (r1 : magic_field a ≡ Ok (found, b)) (r2 : short_number b ≡ Ok (minor, c)) (r3 : major_field c ≡ Ok (major, d)) (r4 : pool_field d ≡ Ok (pool, e)) (r5 : short_number e ≡ Ok (access, f)) (r6 : short_number f ≡ Ok (this_class, g)) (r7 : short_number g ≡ Ok (super_class, h)) (r8 : list_of Short short_number h ≡ Ok (interfaces, i)) (r9 : list_of Short (member_field pool false) i ≡ Ok (fields, j)) where
+module _ {bytes : List ℕ} {a b c d e f g h i j : Left} {found minor major access this_class super_class : ℕ} {pool : List SlotData}
+    {interfaces : List ℕ} {fields : List MemberData} (all : IsBytes bytes) (begun : a ≡ record { place = 0; bytes = bytes })
+    (r1 : magic_field a ≡ Ok (found, b)) (r2 : short_number b ≡ Ok (minor, c)) (r3 : major_field c ≡ Ok (major, d))
+    (r4 : pool_field d ≡ Ok (pool, e)) (r5 : short_number e ≡ Ok (access, f)) (r6 : short_number f ≡ Ok (this_class, g))
+    (r7 : short_number g ≡ Ok (super_class, h)) (r8 : list_of Short short_number h ≡ Ok (interfaces, i))
+    (r9 : list_of Short (member_field pool false) i ≡ Ok (fields, j)) where
   begins : Ahead bytes [] a
   begins = rw begun (record { is = refl; all = all })
 
@@ -78,5 +88,7 @@ module _ {bytes : List ℕ} {a b c d e f g h i j : Left} {found minor major acce
       let h5 = ahead-next short_number u2 _ number bytes _ e f access h4 r5 in
       let h6 = ahead-next short_number u2 _ number bytes _ f g this_class h5 r6 in
       let h7 = ahead-next short_number u2 _ number bytes _ g h super_class h6 r7 in
-      let h8 = ahead-next (list_of Short short_number) (counted_text u2) _ (list_of-lawful Short _ _ _ number) bytes _ h i interfaces h7 r8 in
-      ahead-next (list_of Short (member_field pool false)) (counted_text member_text) _ (list_of-lawful Short _ _ _ (member-lawful pool false)) bytes _ i j fields h8 r9
+      let h8 = ahead-next (list_of Short short_number) (counted_text u2) _ (list_of-lawful Short _ _ _ number) bytes _ h i
+      interfaces h7 r8 in
+      ahead-next (list_of Short (member_field pool false)) (counted_text member_text) _ (list_of-lawful Short _ _ _
+      (member-lawful pool false)) bytes _ i j fields h8 r9

@@ -1,5 +1,6 @@
 -- The items of a list that pass a test, put and counted one after another.
-use Rattle.std.proofs.Common.{◌≡◌, ℕ, suc, ◌+◌, ◌-◌, ◌<◌, Bool, true, false, List, [], ◌∷◌, ◌++◌, length, filter, take, drop, Ok, Err, refl, sym, ap, ◌∙◌, arith, append_assoc}
+use Rattle.std.proofs.Common.{◌≡◌, ℕ, suc, ◌+◌, ◌-◌, ◌<◌, Bool, true, false, List, [], ◌∷◌, ◌++◌, length}
+use Rattle.std.proofs.Common.{filter, take, drop, Ok, Err, refl, sym, ap, ◌∙◌, arith, append_assoc}
 use Rattle.std.proofs.lemmas.List.{append-nil, take_at, drop_at, length-append}
 use Rattle.std.specs.Int.{w16}
 use Rattle.jm_class.specs.Classes.{u2, counted_text}
@@ -22,7 +23,8 @@ module _ {F A : Type 0} (words : A → List ℕ) (test : A → Bool) (reading : 
       go : (b : Bool) → test x ≡ b → with_kept words test s (x ∷ xs) ≡ with_kept words test (step s x) xs
       go true e =
           let text : s.0 ++ (words x ++ flat_map words (filter test xs)) ≡ (s.0 ++ (words x ++ [])) ++ flat_map words (filter test xs) =
-          sym (append_assoc s.0 (words x) (flat_map words (filter test xs))) ∙ ap (λ t. (s.0 ++ t) ++ flat_map words (filter test xs)) (sym (append-nil (words x))) in
+          sym (append_assoc s.0 (words x) (flat_map words (filter test xs)))
+          ∙ ap (λ t. (s.0 ++ t) ++ flat_map words (filter test xs)) (sym (append-nil (words x))) in
           let number : s.1 + suc (length (filter test xs)) ≡ (s.1 + 1) + length (filter test xs) = omega arith in
           rw (e, text, number) refl
       go false e =
@@ -30,40 +32,54 @@ module _ {F A : Type 0} (words : A → List ℕ) (test : A → Bool) (reading : 
           let number : s.1 + 0 + length (filter test xs) ≡ s.1 + length (filter test xs) = omega arith in
           rw (e, text, number) refl
 
-  pub kept-next : (count k : ℕ) (left next : Left) (old new : List ℕ) (kept n : ℕ) → k < count → shown (λ a. filtered words test old (a ∷ [])) (reading left) ≡ Ok ((new, n), next) → shown (with_kept words test (old, kept)) (counted (count - k) reading left) ≡ shown (with_kept words test (new, kept + n)) (counted (count - (k + 1)) reading next)
+  pub kept-next : (count k : ℕ) (left next : Left) (old new : List ℕ) (kept n : ℕ) → k < count
+      → shown (λ a. filtered words test old (a ∷ [])) (reading left) ≡ Ok ((new, n), next)
+      → shown (with_kept words test (old, kept)) (counted (count - k) reading left) ≡ shown (with_kept words test (new, kept + n))
+      (counted (count - (k + 1)) reading next)
   kept-next count k left next old new kept n more e =
       shown-next reading step (with_kept words test) step-same count k left next (old, kept) (new, kept + n) more (counts (reading left) e)
     where
-      counts : (outcome : Outcome F A) → shown (λ a. filtered words test old (a ∷ [])) outcome ≡ Ok ((new, n), next) → shown (step (old, kept)) outcome ≡ Ok ((new, kept + n), next)
+      counts : (outcome : Outcome F A) → shown (λ a. filtered words test old (a ∷ [])) outcome ≡ Ok ((new, n), next)
+          → shown (step (old, kept)) outcome ≡ Ok ((new, kept + n), next)
       counts (Ok r) e = ap (λ (o : Outcome F (List ℕ × ℕ)). shown (λ s. (s.0, kept + s.1)) o) e
       counts (Err fault) e = cc
 
-  pub kept-stop : (count k : ℕ) (left : Left) (old : List ℕ) (kept : ℕ) (fault : F) → k < count → shown (λ a. filtered words test old (a ∷ [])) (reading left) ≡ Err fault → shown (with_kept words test (old, kept)) (counted (count - k) reading left) ≡ Err fault
+  pub kept-stop : (count k : ℕ) (left : Left) (old : List ℕ) (kept : ℕ) (fault : F) → k < count
+      → shown (λ a. filtered words test old (a ∷ [])) (reading left) ≡ Err fault → shown (with_kept words test (old, kept))
+      (counted (count - k) reading left) ≡ Err fault
   kept-stop count k left old kept fault more e =
       shown-stop reading step (with_kept words test) step-same count k left (old, kept) fault more (stops (reading left) e)
     where
-      stops : (outcome : Outcome F A) → shown (λ a. filtered words test old (a ∷ [])) outcome ≡ Err fault → shown (step (old, kept)) outcome ≡ Err fault
+      stops : (outcome : Outcome F A) → shown (λ a. filtered words test old (a ∷ [])) outcome ≡ Err fault
+          → shown (step (old, kept)) outcome ≡ Err fault
       stops (Ok r) e = cc
       stops (Err found) e = let same : found ≡ fault = cc in ap (λ f. Err f) same
 
 -- A number that is put once what stands behind it was put
 
-pub patched : (old gap body words : List ℕ) → take (length old) ((old ++ gap) ++ body) ++ (words ++ drop (length old + length gap) ((old ++ gap) ++ body)) ≡ old ++ (words ++ body)
+pub patched : (old gap body words : List ℕ) → take (length old) ((old ++ gap) ++ body)
+    ++ (words ++ drop (length old + length gap) ((old ++ gap) ++ body)) ≡ old ++ (words ++ body)
 patched old gap body words =
     let whole = append_assoc old gap body in
     let front = take_at old (gap ++ body) (length old) refl in
     let back = drop_at (old ++ gap) body (length old + length gap) (length-append old gap) in
     rw back (rw (whole, front) refl)
 
-number_put : (old put new flat : List ℕ) (at n m : ℕ) → at ≡ length old → put ≡ (old ++ u2 0) ++ flat → n ≡ m → new ≡ take at put ++ (u2 n ++ drop (at + 2) put) → new ≡ old ++ (u2 m ++ flat)
+number_put : (old put new flat : List ℕ) (at n m : ℕ) → at ≡ length old → put ≡ (old ++ u2 0) ++ flat → n ≡ m → new ≡ take at put
+    ++ (u2 n ++ drop (at + 2) put) → new ≡ old ++ (u2 m ++ flat)
 number_put old put new flat at n m there body size grown = grown ∙ rw (there, body, size) (patched old (u2 0) flat (u2 m))
 
 -- a list with its number, which was patched in
-pub kept-patched : {F A : Type 0} (short : ℕ → F) (words : A → List ℕ) (test : A → Bool) (reading : Reading F A) (left first next : Left) (old opened put new : List ℕ) (at count n : ℕ) → number short w16 left ≡ Ok (count, first) → at ≡ length old → opened ≡ old ++ u2 0 → shown (filtered words test opened) (counted count reading first) ≡ Ok ((put, n), next) → new ≡ take at put ++ (u2 n ++ drop (at + 2) put) → shown (λ xs. old ++ counted_text words (filter test xs)) (list_of short reading left) ≡ Ok (new, next)
+pub kept-patched : {F A : Type 0} (short : ℕ → F) (words : A → List ℕ) (test : A → Bool) (reading : Reading F A)
+    (left first next : Left) (old opened put new : List ℕ) (at count n : ℕ) → number short w16 left ≡ Ok (count, first) → at
+    ≡ length old → opened ≡ old ++ u2 0 → shown (filtered words test opened) (counted count reading first) ≡ Ok ((put, n), next)
+    → new ≡ take at put ++ (u2 n ++ drop (at + 2) put) → shown (λ xs. old ++ counted_text words (filter test xs))
+    (list_of short reading left) ≡ Ok (new, next)
 kept-patched {F} {A} short words test reading left first next old opened put new at count n read there gap e grown =
     let got = saw (filtered words test opened) (counted count reading first) (put, n) next e in
     let kept : List A = filter test got.first in
-    let body : put ≡ (old ++ u2 0) ++ flat_map words kept = sym (ap (λ (s : List ℕ × ℕ). s.0) got.same) ∙ ap (λ t. t ++ flat_map words kept) gap in
+    let body : put ≡ (old ++ u2 0) ++ flat_map words kept = sym (ap (λ (s : List ℕ × ℕ). s.0) got.same)
+    ∙ ap (λ t. t ++ flat_map words kept) gap in
     let size : n ≡ length kept = sym (ap (λ (s : List ℕ × ℕ). s.1) got.same) in
     let all : new ≡ old ++ (u2 (length kept) ++ flat_map words kept) =
     number_put old put new (flat_map words kept) at n (length kept) there body size grown in

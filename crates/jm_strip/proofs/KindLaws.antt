@@ -11,13 +11,19 @@ use Rattle.jm_strip.specs.declared.kind.Kind.{Kind}
 use Rattle.jm_strip.specs.Walks.{shown}
 use Rattle.jm_strip.proofs.Shown.{shown-cons}
 
-pub kinds-next : (count k : ℕ) (due : Bool) (left next : Left) (slot : SlotData) (old new : List Kind) → k < count → slot_field due (nat_lt (k + 1) count) left ≡ Ok (slot, next) → new ≡ old ++ kind_of slot ∷ [] → shown (λ xs. old ++ map kind_of xs) (slots (count - k) due left) ≡ shown (λ xs. new ++ map kind_of xs) (slots (count - (k + 1)) (is_wide_slot slot) next)
+pub kinds-next : (count k : ℕ) (due : Bool) (left next : Left) (slot : SlotData) (old new : List Kind) → k < count
+    → slot_field due (nat_lt (k + 1) count) left ≡ Ok (slot, next) → new ≡ old ++ kind_of slot ∷ []
+    → shown (λ xs. old ++ map kind_of xs) (slots (count - k) due left) ≡ shown (λ xs. new ++ map kind_of xs)
+    (slots (count - (k + 1)) (is_wide_slot slot) next)
 kinds-next count k due left next slot old new more e grown =
     let number : count - k ≡ suc (count - (k + 1)) = omega arith in
     rw (number, same_test count k more, e)
-    (shown-cons (λ xs. old ++ map kind_of xs) (λ xs. new ++ map kind_of xs) slot (λ xs. sym (append_assoc old (kind_of slot ∷ []) (map kind_of xs)) ∙ ap (λ ks. ks ++ map kind_of xs) (sym grown)) (slots (count - (k + 1)) (is_wide_slot slot) next))
+    (shown-cons (λ xs. old ++ map kind_of xs) (λ xs. new ++ map kind_of xs) slot
+    (λ xs. sym (append_assoc old (kind_of slot ∷ []) (map kind_of xs)) ∙ ap (λ ks. ks ++ map kind_of xs) (sym grown))
+    (slots (count - (k + 1)) (is_wide_slot slot) next))
 
-pub kinds-stop : (count k : ℕ) (due : Bool) (left : Left) (old : List Kind) (fault : ClassFault) → k < count → slot_field due (nat_lt (k + 1) count) left ≡ Err fault → shown (λ xs. old ++ map kind_of xs) (slots (count - k) due left) ≡ Err fault
+pub kinds-stop : (count k : ℕ) (due : Bool) (left : Left) (old : List Kind) (fault : ClassFault) → k < count
+    → slot_field due (nat_lt (k + 1) count) left ≡ Err fault → shown (λ xs. old ++ map kind_of xs) (slots (count - k) due left) ≡ Err fault
 kinds-stop count k due left old fault more e =
     let number : count - k ≡ suc (count - (k + 1)) = omega arith in
     rw (number, same_test count k more, e) refl

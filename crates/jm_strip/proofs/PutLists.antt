@@ -1,5 +1,6 @@
 -- Lists whose items are put one after another, behind their number.
-use Rattle.std.proofs.Common.{◌≡◌, ℕ, zero, suc, ◌+◌, ◌-◌, ◌<◌, ◌≤◌, List, [], ◌∷◌, ◌++◌, length, map, Ok, Err, refl, sym, ap, ◌∙◌, arith, append_assoc}
+use Rattle.std.proofs.Common.{◌≡◌, ℕ, zero, suc, ◌+◌, ◌-◌, ◌<◌, ◌≤◌, List, [], ◌∷◌, ◌++◌, length, map, Ok}
+use Rattle.std.proofs.Common.{Err, refl, sym, ap, ◌∙◌, arith, append_assoc}
 use Rattle.std.proofs.lemmas.List.{append-nil, length-map}
 use Rattle.std.specs.Int.{w16}
 use Rattle.std.specs.List.{flat_map}
@@ -17,7 +18,8 @@ pub flat-map : {A B : Type 0} (words : B → List ℕ) (f : A → B) (xs : List 
 flat-map words f [] = refl
 flat-map words f (x ∷ xs) = ap (λ t. words (f x) ++ t) (flat-map words f xs)
 
-pub counted-length : {F A : Type 0} (reading : Reading F A) (count : ℕ) (left next : Left) (xs : List A) → counted count reading left ≡ Ok (xs, next) → length xs ≡ count
+pub counted-length : {F A : Type 0} (reading : Reading F A) (count : ℕ) (left next : Left) (xs : List A)
+    → counted count reading left ≡ Ok (xs, next) → length xs ≡ count
 counted-length {F} reading zero left next xs e = ap length (sym (same_value {F = F} [] xs left next e))
 counted-length {F} {A} reading (suc count) left next xs e =
     let one = passed (reading left) (λ x. and_then (counted count reading) (λ xs. value (x ∷ xs))) xs next e in
@@ -29,21 +31,29 @@ module _ {F A : Type 0} (reading : Reading F A) (words : A → List ℕ) where
   text-same : (text : List ℕ) (x : A) (xs : List A) → with_texts words text (x ∷ xs) ≡ with_texts words (text ++ words x) xs
   text-same text x xs = sym (append_assoc text (words x) (flat_map words xs))
 
-  pub put-next : (count k : ℕ) (left next : Left) (old new : List ℕ) → k < count → shown (λ a. old ++ words a) (reading left) ≡ Ok (new, next) → shown (with_texts words old) (counted (count - k) reading left) ≡ shown (with_texts words new) (counted (count - (k + 1)) reading next)
-  put-next count k left next old new more e = shown-next reading (λ text x. text ++ words x) (with_texts words) text-same count k left next old new more e
+  pub put-next : (count k : ℕ) (left next : Left) (old new : List ℕ) → k < count → shown (λ a. old ++ words a) (reading left)
+      ≡ Ok (new, next) → shown (with_texts words old) (counted (count - k) reading left)
+      ≡ shown (with_texts words new) (counted (count - (k + 1)) reading next)
+  put-next count k left next old new more e = shown-next reading (λ text x. text ++ words x) (with_texts words) text-same count k
+      left next old new more e
 
-  pub put-stop : (count k : ℕ) (left : Left) (old : List ℕ) (fault : F) → k < count → shown (λ a. old ++ words a) (reading left) ≡ Err fault → shown (with_texts words old) (counted (count - k) reading left) ≡ Err fault
-  put-stop count k left old fault more e = shown-stop reading (λ text x. text ++ words x) (with_texts words) text-same count k left old fault more e
+  pub put-stop : (count k : ℕ) (left : Left) (old : List ℕ) (fault : F) → k < count → shown (λ a. old ++ words a) (reading left)
+      ≡ Err fault → shown (with_texts words old) (counted (count - k) reading left) ≡ Err fault
+  put-stop count k left old fault more e = shown-stop reading (λ text x. text ++ words x) (with_texts words) text-same count k left
+      old fault more e
 
-  pub put-end : (count k : ℕ) (left : Left) (text : List ℕ) → count ≤ k → shown (with_texts words text) (counted (count - k) reading left) ≡ Ok (text, left)
+  pub put-end : (count k : ℕ) (left : Left) (text : List ℕ) → count ≤ k
+      → shown (with_texts words text) (counted (count - k) reading left) ≡ Ok (text, left)
   put-end count k left text all =
       let number : count - k ≡ zero = omega (arith, all) in
       let end = append-nil text in
       rw (number, end) refl
 
 -- the number of the items is read, and put as it is
-module _ {F A B : Type 0} (short : ℕ → F) (reading : Reading F A) (text : B → List ℕ) (f : A → B) (left first : Left) (count : ℕ) (read : number short w16 left ≡ Ok (count, first)) (old opened : List ℕ) (begun : opened ≡ old ++ u2 count) where
-  pub list-put : (new : List ℕ) (next : Left) → shown (with_texts (λ a. text (f a)) opened) (counted count reading first) ≡ Ok (new, next) → shown (λ xs. old ++ counted_text text (map f xs)) (list_of short reading left) ≡ Ok (new, next)
+module _ {F A B : Type 0} (short : ℕ → F) (reading : Reading F A) (text : B → List ℕ) (f : A → B) (left first : Left) (count : ℕ)
+    (read : number short w16 left ≡ Ok (count, first)) (old opened : List ℕ) (begun : opened ≡ old ++ u2 count) where
+  pub list-put : (new : List ℕ) (next : Left) → shown (with_texts (λ a. text (f a)) opened) (counted count reading first)
+      ≡ Ok (new, next) → shown (λ xs. old ++ counted_text text (map f xs)) (list_of short reading left) ≡ Ok (new, next)
   list-put new next e =
       let got = saw (with_texts (λ a. text (f a)) opened) (counted count reading first) new next e in
       rw (read, got.is) (ap (λ t. Ok (t, next)) (put got.first (counted-length reading count first next got.first got.is) got.same))
@@ -53,9 +63,11 @@ module _ {F A B : Type 0} (short : ℕ → F) (reading : Reading F A) (text : B 
           let end = append-nil (flat_map text (map f xs)) in
           let words = flat-map text f xs in
           let mapped : length (map f xs) ≡ count = length-map xs f ∙ size in
-          rw (end, words, mapped) (sym (append_assoc old (u2 count) (flat_map (λ a. text (f a)) xs)) ∙ ap (λ t. t ++ flat_map (λ a. text (f a)) xs) (sym begun) ∙ same)
+          rw (end, words, mapped) (sym (append_assoc old (u2 count) (flat_map (λ a. text (f a)) xs))
+          ∙ ap (λ t. t ++ flat_map (λ a. text (f a)) xs) (sym begun) ∙ same)
 
-  pub list-stopped : (fault : F) → shown (with_texts (λ a. text (f a)) opened) (counted count reading first) ≡ Err fault → shown (λ xs. old ++ counted_text text (map f xs)) (list_of short reading left) ≡ Err fault
+  pub list-stopped : (fault : F) → shown (with_texts (λ a. text (f a)) opened) (counted count reading first) ≡ Err fault
+      → shown (λ xs. old ++ counted_text text (map f xs)) (list_of short reading left) ≡ Err fault
   list-stopped fault e =
       let stop = stopped (with_texts (λ a. text (f a)) opened) (counted count reading first) fault e in
       rw (read, stop) refl

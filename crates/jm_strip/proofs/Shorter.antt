@@ -1,5 +1,6 @@
 -- A Code isn't longer without its debug information.
-use Rattle.std.proofs.Common.{◌≡◌, ℕ, ◌+◌, ◌-◌, ◌≤◌, Bool, true, false, List, inl, inr, ◌⊎◌, [], ◌∷◌, ◌++◌, length, filter, take, drop, Ok, Err, refl, sym, ap, ◌∙◌, arith, length-append}
+use Rattle.std.proofs.Common.{◌≡◌, ℕ, ◌+◌, ◌-◌, ◌≤◌, Bool, true, false, List, inl, inr, ◌⊎◌, [], ◌∷◌, ◌++◌}
+use Rattle.std.proofs.Common.{length, filter, take, drop, Ok, Err, refl, sym, ap, ◌∙◌, arith, length-append}
 use Rattle.std.proofs.lemmas.Bool.{leb-true}
 use Rattle.std.proofs.lemmas.List.{append-nil, length-take-le}
 use Rattle.std.specs.List.{flat_map}
@@ -14,11 +15,13 @@ use Rattle.jm_class.proofs.ReadingLaws.{IsBytes, passed, same_value}
 use Rattle.jm_strip.specs.Strip.{stays, strip_code}
 use Rattle.jm_strip.proofs.Kept.{patched}
 
-pub flat-filter : {A : Type 0} (words : A → List ℕ) (test : A → Bool) (xs : List A) → length (flat_map words (filter test xs)) ≤ length (flat_map words xs)
+pub flat-filter : {A : Type 0} (words : A → List ℕ) (test : A → Bool) (xs : List A) → length (flat_map words (filter test xs))
+    ≤ length (flat_map words xs)
 flat-filter words test [] = omega arith
 flat-filter words test (x ∷ xs) = go (test x) refl (flat-filter words test xs)
   where
-    go : (b : Bool) → test x ≡ b → length (flat_map words (filter test xs)) ≤ length (flat_map words xs) → length (flat_map words (filter test (x ∷ xs))) ≤ length (flat_map words (x ∷ xs))
+    go : (b : Bool) → test x ≡ b → length (flat_map words (filter test xs)) ≤ length (flat_map words xs)
+        → length (flat_map words (filter test (x ∷ xs))) ≤ length (flat_map words (x ∷ xs))
     go true e more =
         let kept = length-append (words x) (flat_map words (filter test xs)) in
         let all = length-append (words x) (flat_map words xs) in
@@ -27,7 +30,8 @@ flat-filter words test (x ∷ xs) = go (test x) refl (flat-filter words test xs)
         let all = length-append (words x) (flat_map words xs) in
         rw e (omega (arith, all, more))
 
-pub code-length : (c : CodeData) → length (code_text c) ≡ 12 + length c.code + length c.handlers + length (flat_map opaque_text c.attributes)
+pub code-length : (c : CodeData) → length (code_text c) ≡ 12 + length c.code + length c.handlers
+    + length (flat_map opaque_text c.attributes)
 code-length c = simp length-append (omega arith)
 
 pub code-shorter : (pool : List SlotData) (c : CodeData) → length (code_text (strip_code pool c)) ≤ length (code_text c)
@@ -38,18 +42,29 @@ code-shorter pool c =
     omega (arith, old, new, fewer)
 
 -- so many bytes as a part of their own
-pub inner-length : {F : Type 0} (short : ℕ → F) (n : ℕ) (left inner next : Left) → inner_part short n left ≡ Ok (inner, next) → length inner.bytes ≡ n
+pub inner-length : {F : Type 0} (short : ℕ → F) (n : ℕ) (left inner next : Left) → inner_part short n left ≡ Ok (inner, next)
+    → length inner.bytes ≡ n
 inner-length {F} short n left inner next e =
     let cut = passed (part short n left) (λ bytes. value (record { place = left.place; bytes = bytes })) inner next e in
-    let same : cut.first ≡ inner.bytes = ap (λ (l : Left). l.bytes) (same_value {F = F} (record { place = left.place; bytes = cut.first }) inner cut.middle next cut.rest) in
-    ap length (sym same) ∙ sized cut.first cut.middle (chosen (nat_le n (length left.bytes)) (Ok (take n left.bytes, behind n left)) (Err (short left.place)) (Ok (cut.first, cut.middle)) cut.is)
+    let same : cut.first ≡ inner.bytes = ap (λ (l : Left). l.bytes) (same_value {F = F} (record {
+      place = left.place;
+      bytes =
+          cut.first;
+    }) inner cut.middle next cut.rest) in
+    ap length (sym same) ∙ sized cut.first cut.middle (chosen (nat_le n (length left.bytes)) (Ok (take n left.bytes, behind n left))
+    (Err (short left.place)) (Ok (cut.first, cut.middle)) cut.is)
   where
-    sized : (bytes : List ℕ) (middle : Left) → ((nat_le n (length left.bytes) ≡ true) × ◌≡◌ {A = Outcome F (List ℕ)} (Ok (take n left.bytes, behind n left)) (Ok (bytes, middle))) ⊎ ((nat_le n (length left.bytes) ≡ false) × ◌≡◌ {A = Outcome F (List ℕ)} (Err (short left.place)) (Ok (bytes, middle))) → length bytes ≡ n
-    sized bytes middle (inl holds) = ap length (sym (same_value {F = F} (take n left.bytes) bytes (behind n left) middle holds.1)) ∙ length-take-le n left.bytes (leb-true n (length left.bytes) holds.0)
+    sized : (bytes : List ℕ) (middle : Left) → ((nat_le n (length left.bytes) ≡ true) × ◌≡◌ {A = Outcome F (List ℕ)}
+        (Ok (take n left.bytes, behind n left)) (Ok (bytes, middle))) ⊎ ((nat_le n (length left.bytes) ≡ false)
+        × ◌≡◌ {A = Outcome F (List ℕ)} (Err (short left.place)) (Ok (bytes, middle))) → length bytes ≡ n
+    sized bytes middle (inl holds) = ap length (sym (same_value {F = F} (take n left.bytes) bytes (behind n left) middle holds.1))
+        ∙ length-take-le n left.bytes (leb-true n (length left.bytes) holds.0)
     sized bytes middle (inr fails) = let e = fails.1 in cc
 
 -- what was put for a Code that takes its part whole fits in four bytes
-pub code-fits : (short : ℕ → ClassFault) (pool : List SlotData) (inner end : Left) (code : CodeData) (size : ℕ) → IsBytes inner.bytes → code_fields short pool inner ≡ Ok (code, end) → length inner.bytes ≡ size → length (code_text (strip_code pool code)) ≤ size
+pub code-fits : (short : ℕ → ClassFault) (pool : List SlotData) (inner end : Left) (code : CodeData) (size : ℕ)
+    → IsBytes inner.bytes → code_fields short pool inner ≡ Ok (code, end) → length inner.bytes ≡ size
+    → length (code_text (strip_code pool code)) ≤ size
 code-fits short pool inner end code size bytes e sized =
     let took = (code_fields-lawful short pool).back inner end code bytes e in
     let whole = ap length took.bytes in
@@ -59,7 +74,8 @@ code-fits short pool inner end code size bytes e sized =
 
 -- A length that is put once what it counts was put
 
-module _ (old opened body put : List ℕ) (before after : ℕ) (gap : opened ≡ old ++ u4 0) (grown : opened ++ body ≡ put) (at_old : before ≡ length old) (at_put : after ≡ length put) where
+module _ (old opened body put : List ℕ) (before after : ℕ) (gap : opened ≡ old ++ u4 0) (grown : opened ++ body ≡ put)
+    (at_old : before ≡ length old) (at_put : after ≡ length put) where
   pub length_behind : after - before - 4 ≡ length body
   length_behind =
       let parts = length-append opened body in
@@ -67,11 +83,13 @@ module _ (old opened body put : List ℕ) (before after : ℕ) (gap : opened ≡
       let whole = ap length grown in
       omega (arith, parts, front, whole, at_old, at_put)
 
-  pub length_put : (new : List ℕ) → new ≡ take before put ++ (u4 (after - before - 4) ++ drop (before + 4) put) → old ++ sized_text body ≡ new
+  pub length_put : (new : List ℕ) → new ≡ take before put ++ (u4 (after - before - 4) ++ drop (before + 4) put)
+      → old ++ sized_text body ≡ new
   length_put new e =
       let all : put ≡ (old ++ u4 0) ++ body = sym grown ∙ ap (λ t. t ++ body) gap in
       let end = append-nil body in
       rw end (sym (spelled old put new body before (after - before - 4) (length body) at_old all length_behind e))
     where
-      spelled : (old put new body : List ℕ) (at n m : ℕ) → at ≡ length old → put ≡ (old ++ u4 0) ++ body → n ≡ m → new ≡ take at put ++ (u4 n ++ drop (at + 4) put) → new ≡ old ++ (u4 m ++ body)
+      spelled : (old put new body : List ℕ) (at n m : ℕ) → at ≡ length old → put ≡ (old ++ u4 0) ++ body → n ≡ m → new ≡ take at put
+          ++ (u4 n ++ drop (at + 4) put) → new ≡ old ++ (u4 m ++ body)
       spelled old put new body at n m there all size e = e ∙ rw (there, all, size) (patched old (u4 0) body (u4 m))

@@ -4,7 +4,9 @@ use Rattle.std.proofs.lemmas.List.{length-map}
 use Rattle.std.proofs.lemmas.List.Elements.{All-filter, All-map, All-weaker}
 use Rattle.std.specs.Prelude.{Ok}
 use Rattle.jm_bytes.proofs.Members.{length_filter}
-use Rattle.jm_class.specs.Classes.{SlotData, OpaqueData, CodeData, BodyData, Opaque, Coded, AttributeData, MemberData, ClassData, held_text, class_text, utf8_at, is_code_name, FitsCounted, IsOpaque, IsCode, IsBody, IsAttribute, IsMember, IsClass}
+use Rattle.jm_class.specs.Classes.{SlotData, OpaqueData, CodeData, BodyData, Opaque, Coded, AttributeData}
+use Rattle.jm_class.specs.Classes.{MemberData, ClassData, held_text, class_text, utf8_at, is_code_name}
+use Rattle.jm_class.specs.Classes.{FitsCounted, IsOpaque, IsCode, IsBody, IsAttribute, IsMember, IsClass}
 use Rattle.jm_class.specs.ComputedClass.{class_of}
 use Rattle.jm_class.proofs.ComputedClassLaws.{reads-class_of}
 use Rattle.jm_strip.specs.Strip.{stays, strip_code, strip_body, strip_attribute, strip_method, strip}
@@ -15,8 +17,11 @@ use Rattle.jm_strip.proofs.Shorter.{code-shorter}
 fewer : {A : Type 0} (P : A → Type 0) (test : A → Bool) (xs : List A) → FitsCounted P xs → FitsCounted P (filter test xs)
 fewer P test xs fits = let size = length_filter test xs in let most = fits.0 in (omega (arith, size, most), All-filter test P xs fits.1)
 
-changed : {A B : Type 0} (P : A → Type 0) (Q : B → Type 0) (f : A → B) → ((a : A) → P a → Q (f a)) → (xs : List A) → FitsCounted P xs → FitsCounted Q (map f xs)
-changed P Q f more xs fits = let size = length-map xs f in let most = fits.0 in (omega (arith, size, most), All-map Q f xs (All-weaker P (λ a. Q (f a)) more xs fits.1))
+changed : {A B : Type 0} (P : A → Type 0) (Q : B → Type 0) (f : A → B) → ((a : A) → P a → Q (f a)) → (xs : List A)
+    → FitsCounted P xs → FitsCounted Q (map f xs)
+changed P Q f more xs fits =
+    let size = length-map xs f in
+    let most = fits.0 in (omega (arith, size, most), All-map Q f xs (All-weaker P (λ a. Q (f a)) more xs fits.1))
 
 strip-is_code : (pool : List SlotData) (c : CodeData) → IsCode pool c → IsCode pool (strip_code pool c)
 strip-is_code pool c is = record {
@@ -42,14 +47,20 @@ strip-is_attribute : (pool : List SlotData) (a : AttributeData) → IsAttribute 
 strip-is_attribute pool a is =
     let shorter = body-shorter pool a.body in
     let fits = is.bytes in
-    record { name = is.name; body = strip-is_body pool (is_code_name (utf8_at pool a.name)) a.body is.body; bytes = omega (arith, shorter, fits) }
+    record {
+      name = is.name;
+      body = strip-is_body pool (is_code_name (utf8_at pool a.name)) a.body is.body;
+      bytes =
+          omega (arith, shorter, fits);
+    }
 
 strip-is_method : (pool : List SlotData) (m : MemberData) → IsMember pool true m → IsMember pool true (strip_method pool m)
 strip-is_method pool m is = record {
   access = is.access;
   name = is.name;
   descriptor = is.descriptor;
-  attributes = changed (IsAttribute pool true) (IsAttribute pool true) (strip_attribute pool) (strip-is_attribute pool) m.attributes is.attributes;
+  attributes = changed (IsAttribute pool true) (IsAttribute pool true) (strip_attribute pool) (strip-is_attribute pool) m.attributes
+      is.attributes;
 }
 
 pub strip-class : (c : ClassData) → IsClass c → IsClass (strip c)

@@ -5,7 +5,8 @@ use Rattle.jm_class.specs.Classes.{SlotData, Constant, OpaqueData, Opaque, Coded
 use Rattle.jm_strip.specs.Strip.{strip}
 
 abbrev names : List SlotData
-names = Constant 1 (codes "Code") ∷ Constant 1 (codes "LineNumberTable") ∷ Constant 1 (codes "SourceFile") ∷ Constant 1 (codes "SourceDebugExtension") ∷ Constant 1 (codes "StackMapTable") ∷ []
+names = Constant 1 (codes "Code") ∷ Constant 1 (codes "LineNumberTable") ∷ Constant 1 (codes "SourceFile")
+    ∷ Constant 1 (codes "SourceDebugExtension") ∷ Constant 1 (codes "StackMapTable") ∷ []
 
 abbrev inner : ℕ → OpaqueData
 inner name = record { name = name; bytes = 7 ∷ [] }
@@ -14,7 +15,17 @@ abbrev outer : ℕ → AttributeData
 outer name = record { name = name; body = Opaque (7 ∷ []) }
 
 abbrev code : List OpaqueData → AttributeData
-code attributes = record { name = 1; body = Coded (record { max_stack = 1; max_locals = 2; code = 177 ∷ []; handlers = []; attributes = attributes }) }
+code attributes = record {
+  name = 1;
+  body = Coded (record {
+    max_stack = 1;
+    max_locals = 2;
+    code = 177 ∷ [];
+    handlers =
+        [];
+    attributes = attributes;
+  });
+}
 
 abbrev member : List AttributeData → MemberData
 member attributes = record { access = 1; name = 1; descriptor = 1; attributes = attributes }
@@ -34,7 +45,8 @@ class debug own = record {
   attributes = own;
 }
 
-without : strip (class (inner 2 ∷ inner 5 ∷ inner 3 ∷ inner 2 ∷ []) (outer 3 ∷ outer 2 ∷ outer 4 ∷ outer 5 ∷ [])) ≡ class (inner 5 ∷ inner 3 ∷ []) (outer 2 ∷ outer 5 ∷ [])
+without : strip (class (inner 2 ∷ inner 5 ∷ inner 3 ∷ inner 2 ∷ []) (outer 3 ∷ outer 2 ∷ outer 4 ∷ outer 5 ∷ []))
+    ≡ class (inner 5 ∷ inner 3 ∷ []) (outer 2 ∷ outer 5 ∷ [])
 without = refl
 
 -- nothing is left to leave out

@@ -18,6 +18,7 @@ whole = record {
   main = Some (codes "p/P");
 }
 
-said : describe_text whole ≡ codes "open module m@1\nrequires transitive static a\nexports p to b,c\nopens q\nuses s/S\nprovides s/S with p/P,p/Q\nmain p/P\n"
+said : describe_text whole
+    ≡ codes "open module m@1\nrequires transitive static a\nexports p to b,c\nopens q\nuses s/S\nprovides s/S with p/P,p/Q\nmain p/P\n"
 unfolding whole
 said = refl

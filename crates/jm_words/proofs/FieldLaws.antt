@@ -8,7 +8,9 @@ use Rattle.std.proofs.lemmas.List.Sums.{fold-append}
 use Rattle.jm_words.specs.declared.drafts.Draft.{Draft}
 use Rattle.jm_words.specs.declared.given.Given.{Given}
 use Rattle.jm_words.specs.declared.given.Given.TheVariants as given
-use Rattle.jm_words.specs.Drafts.{by_field, with_given, last, the, file_in, name_in, folder_in, source_in, roots_in, output_in, order_in, is_bind, plugin_in, include_in, modules_in, classes_in, seed_in, jobs_in}
+use Rattle.jm_words.specs.Drafts.{by_field, with_given, last, the, file_in, name_in, folder_in, source_in}
+use Rattle.jm_words.specs.Drafts.{roots_in, output_in, order_in, is_bind, plugin_in, include_in, modules_in}
+use Rattle.jm_words.specs.Drafts.{classes_in, seed_in, jobs_in}
 use Rattle.jm_words.specs.Reading.{with_word}
 
 -- the later of two things, if there is one
@@ -25,10 +27,13 @@ last_more : {A : Type 0} (xs : List A) (o : Option A) → last (xs ++ cons_optio
 last_more {A} xs None = ap (λ (ys : List A). last ys) (append-nil xs)
 last_more {A} xs (Some x) = fold-append (λ (before : Option A) (item : A). Some item) None xs (x ∷ [])
 
-the_more : {A : Type 0} (kind : Given → Option A) (givens : List Given) (g : Given) → the kind (givens ++ g ∷ []) ≡ later (kind g) (the kind givens)
-the_more {A} kind givens g = ap (λ (ys : List A). last ys) (filter_map-append kind givens (g ∷ [])) ∙ last_more (filter_map kind givens) (kind g)
+the_more : {A : Type 0} (kind : Given → Option A) (givens : List Given) (g : Given) → the kind (givens ++ g ∷ [])
+    ≡ later (kind g) (the kind givens)
+the_more {A} kind givens g = ap (λ (ys : List A). last ys) (filter_map-append kind givens (g ∷ []))
+    ∙ last_more (filter_map kind givens) (kind g)
 
-all_more : {A : Type 0} (kind : Given → Option A) (givens : List Given) (g : Given) → filter_map kind (givens ++ g ∷ []) ≡ more (filter_map kind givens) (kind g)
+all_more : {A : Type 0} (kind : Given → Option A) (givens : List Given) (g : Given) → filter_map kind (givens ++ g ∷ [])
+    ≡ more (filter_map kind givens) (kind g)
 all_more {A} kind givens g = filter_map-append kind givens (g ∷ []) ∙ go (kind g)
   where
     go : (o : Option A) → filter_map kind givens ++ cons_option o [] ≡ more (filter_map kind givens) o
@@ -36,7 +41,8 @@ all_more {A} kind givens g = filter_map-append kind givens (g ∷ []) ∙ go (ki
     go (Some x) = refl
 
 any_more : (p : Given → Bool) (givens : List Given) (g : Given) → list_any p (givens ++ g ∷ []) ≡ (p g || list_any p givens)
-any_more p givens g = list_any-append p givens (g ∷ []) ∙ or_comm (list_any p givens) (list_any p (g ∷ [])) ∙ ap (λ (b : Bool). b || list_any p givens) (one (p g))
+any_more p givens g = list_any-append p givens (g ∷ []) ∙ or_comm (list_any p givens) (list_any p (g ∷ []))
+    ∙ ap (λ (b : Bool). b || list_any p givens) (one (p g))
   where
     one : (b : Bool) → (b || false) ≡ b
     one true = refl

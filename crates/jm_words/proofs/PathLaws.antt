@@ -1,5 +1,7 @@
 -- Words that are text make a command whose paths are text and whose numbers are within limits.
-use Rattle.std.proofs.Common.{◌≡◌, ℕ, ◌+◌, ◌<◌, ◌≤◌, ◌==◌, ◌&&◌, nat_le, Bool, true, false, cond, List, [], ◌∷◌, length, get_or, map, string_bytes, String, inl, inr, Option, Some, None, Result, Ok, Err, IfOk, IfSome, All, IsUtf8, refl, sym, subst, arith}
+use Rattle.std.proofs.Common.{◌≡◌, ℕ, ◌+◌, ◌<◌, ◌≤◌, ◌==◌, ◌&&◌, nat_le, Bool, true, false, cond, List, []}
+use Rattle.std.proofs.Common.{◌∷◌, length, get_or, map, string_bytes, String, inl, inr, Option, Some, None}
+use Rattle.std.proofs.Common.{Result, Ok, Err, IfOk, IfSome, All, IsUtf8, refl, sym, subst, arith}
 use Rattle.std.specs.Prelude.{option_map, unwrap_or}
 use Rattle.std.specs.List.{after_first, before_first, list_any}
 use Rattle.std.proofs.lemmas.Bool.{and_parts, leb-true}
@@ -26,14 +28,20 @@ use Rattle.jm_words.specs.declared.tables.Verb.TheVariants as verb_is
 use Rattle.jm_words.specs.declared.tasks.ImageWork.{ImageWork}
 use Rattle.jm_words.specs.declared.tasks.ImageWork.TheVariants as work
 use Rattle.jm_words.specs.declared.tasks.Task.{Task}
-use Rattle.jm_words.specs.Commands.{command_after, command_in, command_of, command_or_missing, command_unless_fault, folders_in, gen_of, image_in, link_of, needing, on_image, task_of, verb_named}
+use Rattle.jm_words.specs.Commands.{command_after, command_in, command_of, command_or_missing}
+use Rattle.jm_words.specs.Commands.{command_unless_fault, folders_in, gen_of, image_in, link_of, needing}
+use Rattle.jm_words.specs.Commands.{on_image, task_of, verb_named}
 use Rattle.jm_words.specs.Drafts.{with_given}
 use Rattle.jm_words.specs.Givens.{argument_of, flag_of, value_of}
 use Rattle.jm_words.specs.Paths.{FilePathsAreText, FolderIsText, GenFits, LinkIsText, NumbersFit}
-use Rattle.jm_words.specs.Reading.{Standing, after_role, after_sound, after_words, before_words, draft_or_fault, reading_of, unless_kind, with_word}
-use Rattle.jm_words.specs.Roles.{Role, Unknown, Flag, Waits, WithValue, ValueFor, AsArgument, bare_role, first_argument, first_kind, given_by, has_hyphens, is_equals, option_named, option_role, plain_role, role_of, value_behind}
+use Rattle.jm_words.specs.Reading.{Standing, after_role, after_sound, after_words, before_words}
+use Rattle.jm_words.specs.Reading.{draft_or_fault, reading_of, unless_kind, with_word}
+use Rattle.jm_words.specs.Roles.{Role, Unknown, Flag, Waits, WithValue, ValueFor, AsArgument, bare_role}
+use Rattle.jm_words.specs.Roles.{first_argument, first_kind, given_by, has_hyphens, is_equals, option_named}
+use Rattle.jm_words.specs.Roles.{option_role, plain_role, role_of, value_behind}
 use Rattle.jm_words.specs.Tables.{options}
-use Rattle.jm_words.specs.Values.{decimal_from, folder_of, folders_of, is_numeral, number_of, parts_at, path_of, patterns_of, unless_empty, without_slashes}
+use Rattle.jm_words.specs.Values.{decimal_from, folder_of, folders_of, is_numeral, number_of, parts_at}
+use Rattle.jm_words.specs.Values.{path_of, patterns_of, unless_empty, without_slashes}
 use Rattle.jm_words.proofs.TextLaws.{behind_is_text, folders_are_text, without_slashes_is_text}
 
 -- a number is within limits
@@ -89,14 +97,16 @@ always : {A : Type 0} (o : Option A) → IfSome o (λ _. Unit {0})
 always None = tt
 always (Some x) = tt
 
-mapped : {A B : Type 0} (P : A → Type 0) (Q : B → Type 0) (f : A → B) (o : Option A) → ((x : A) → P x → Q (f x)) → IfSome o P → IfSome (option_map f o) Q
+mapped : {A B : Type 0} (P : A → Type 0) (Q : B → Type 0) (f : A → B) (o : Option A) → ((x : A) → P x → Q (f x)) → IfSome o P
+    → IfSome (option_map f o) Q
 mapped P Q f None carried holds = tt
 mapped P Q f (Some x) carried holds = carried x holds
 
 free : {A : Type 0} (f : A → Given) (o : Option A) → ((x : A) → IsFit (f x)) → IfSome (option_map f o) IsFit
 free f o fit = mapped (λ _. Unit {0}) IsFit f o (λ x _. fit x) (always o)
 
-needed : {A B : Type 0} (P : A → Type 0) (Q : B → Type 0) (o : Option A) (make : A → Option B) → IfSome o P → ((x : A) → P x → IfSome (make x) Q) → IfSome (needing o make) Q
+needed : {A B : Type 0} (P : A → Type 0) (Q : B → Type 0) (o : Option A) (make : A → Option B) → IfSome o P
+    → ((x : A) → P x → IfSome (make x) Q) → IfSome (needing o make) Q
 needed P Q None make holds carried = tt
 needed P Q (Some x) make holds carried = carried x holds
 
@@ -119,7 +129,8 @@ unless_empty_are texts are = go (list_any is_empty texts)
 number_is_within : (low high : ℕ) (text : List ℕ) → IfSome (number_of low high text) (IsWithin low high)
 number_is_within low high text = go (is_numeral text && (nat_le low (decimal_from 0 text) && nat_le (decimal_from 0 text) high)) refl
   where
-    go : (fits : Bool) → (is_numeral text && (nat_le low (decimal_from 0 text) && nat_le (decimal_from 0 text) high)) ≡ fits → IfSome (cond fits (Some (decimal_from 0 text)) None) (IsWithin low high)
+    go : (fits : Bool) → (is_numeral text && (nat_le low (decimal_from 0 text) && nat_le (decimal_from 0 text) high)) ≡ fits
+        → IfSome (cond fits (Some (decimal_from 0 text)) None) (IsWithin low high)
     go true fits =
         let within = (and_parts (is_numeral text) (nat_le low (decimal_from 0 text) && nat_le (decimal_from 0 text) high) fits).1 in
         let both = and_parts (nat_le low (decimal_from 0 text)) (nat_le (decimal_from 0 text) high) within in
@@ -129,7 +140,8 @@ number_is_within low high text = go (is_numeral text && (nat_le low (decimal_fro
 value_is_fit : (c : Choice) (text : List ℕ) → IsUtf8 text → IfSome (value_of c text) IsFit
 value_is_fit choice.Jobs text is = mapped (IsWithin 1 64) IsFit given.Jobs (number_of 1 64 text) (λ n fit. fit) (number_is_within 1 64 text)
 value_is_fit choice.ModulePath text is =
-    mapped (All IsUtf8) IsFit (λ dirs. given.Source (source.Folders dirs)) (folders_of text) (λ dirs fit. fit) (unless_empty_are (map without_slashes (parts_at 58 text)) (folders_are_text text is))
+    mapped (All IsUtf8) IsFit (λ dirs. given.Source (source.Folders dirs)) (folders_of text) (λ dirs fit. fit)
+    (unless_empty_are (map without_slashes (parts_at 58 text)) (folders_are_text text is))
 value_is_fit choice.FromImage text is =
     mapped IsUtf8 IsFit (λ image. given.Source (source.Image image)) (path_of text) (λ image fit. fit) (path_is_text text is)
 value_is_fit choice.AddModules text is = free given.Roots _ (λ _. tt)
@@ -143,8 +155,10 @@ value_is_fit choice.CompactPool text is = tt
 value_is_fit choice.ModulePackages text is = tt
 value_is_fit choice.Include text is = free given.Include _ (λ _. tt)
 value_is_fit choice.Dir text is = mapped IsUtf8 IsFit given.Folder (folder_of text) (λ folder fit. fit) (folder_is_text text is)
-value_is_fit choice.Modules text is = mapped (IsWithin 1 256) IsFit given.Modules (number_of 1 256 text) (λ n fit. fit) (number_is_within 1 256 text)
-value_is_fit choice.Classes text is = mapped (IsWithin 1 1024) IsFit given.Classes (number_of 1 1024 text) (λ n fit. fit) (number_is_within 1 1024 text)
+value_is_fit choice.Modules text is = mapped (IsWithin 1 256) IsFit given.Modules (number_of 1 256 text) (λ n fit. fit)
+    (number_is_within 1 256 text)
+value_is_fit choice.Classes text is = mapped (IsWithin 1 1024) IsFit given.Classes (number_of 1 1024 text) (λ n fit. fit)
+    (number_is_within 1 1024 text)
 value_is_fit choice.Seed text is = free given.Seed _ (λ _. tt)
 
 flag_is_fit : (c : Choice) → IfSome (flag_of c) IsFit
@@ -202,7 +216,8 @@ value_is_text word is = go (list_any is_equals word) refl
 plain_is_fit : (choices : List Choice) (word : List ℕ) → IsUtf8 word → IsFitRole (plain_role choices word)
 plain_is_fit choices word is = go (has_hyphens word)
   where
-    go : (option : Bool) → IsFitRole (cond option (option_role (option_named (before_first is_equals word) choices) (value_behind word)) (AsArgument word))
+    go : (option : Bool) → IsFitRole (cond option (option_role (option_named (before_first is_equals word) choices)
+        (value_behind word)) (AsArgument word))
     go true = option_is_fit (option_named (before_first is_equals word) choices) (value_behind word) (value_is_text word is)
     go false = is
 
@@ -222,7 +237,8 @@ given_is_fit left (WithValue c text) is = value_is_fit c text is
 given_is_fit left (ValueFor c text) is = value_is_fit c text is
 given_is_fit left (AsArgument text) is = first_is_fit left text is
 
-after_is_fit : (at all : ℕ) (standing : Standing) (role : Role) → AreFit standing.draft → IsFitRole role → IfOk (after_role at all standing role) (λ next. AreFit next.draft)
+after_is_fit : (at all : ℕ) (standing : Standing) (role : Role) → AreFit standing.draft → IsFitRole role
+    → IfOk (after_role at all standing role) (λ next. AreFit next.draft)
 after_is_fit at all standing role are is = go (first_kind standing.before standing.left (at == all) role)
   where
     go : (kind : Option WordsKind) → IfOk (unless_kind at kind (after_sound standing role)) (λ next. AreFit next.draft)
@@ -231,14 +247,18 @@ after_is_fit at all standing role are is = go (first_kind standing.before standi
 
 -- All words
 
-words_are_fit : (choices : List Choice) (at all : ℕ) (words : List (List ℕ)) (read : Result Standing WordsError) → All IsUtf8 words → IfOk read (λ standing. AreFit standing.draft) → IfOk (after_words choices at all words read) (λ standing. AreFit standing.draft)
+words_are_fit : (choices : List Choice) (at all : ℕ) (words : List (List ℕ)) (read : Result Standing WordsError) → All IsUtf8 words
+    → IfOk read (λ standing. AreFit standing.draft) → IfOk (after_words choices at all words read) (λ standing. AreFit standing.draft)
 words_are_fit choices at all [] read are fit = fit
 words_are_fit choices at all (word ∷ words) (Ok standing) are fit =
-    words_are_fit choices (at + 1) all words (after_role at all standing (role_of choices standing.pending word)) (All-tail IsUtf8 word words are) (after_is_fit at all standing (role_of choices standing.pending word) fit (role_is_fit choices standing.pending word (All-head IsUtf8 word words are)))
+    words_are_fit choices (at + 1) all words (after_role at all standing (role_of choices standing.pending word))
+    (All-tail IsUtf8 word words are) (after_is_fit at all standing (role_of choices standing.pending word) fit
+    (role_is_fit choices standing.pending word (All-head IsUtf8 word words are)))
 words_are_fit choices at all (word ∷ words) (Err fault) are fit = tt
 
 reading_is_fit : (verb : Verb) (words : List (List ℕ)) → All IsUtf8 words → IfOk (draft_or_fault (reading_of verb words)) AreFit
-reading_is_fit verb words are = go (reading_of verb words) (words_are_fit (options verb) 2 (length words + 1) words (Ok (before_words verb)) are (tt, tt, tt, tt, tt, tt, tt))
+reading_is_fit verb words are = go (reading_of verb words) (words_are_fit (options verb) 2 (length words + 1) words
+    (Ok (before_words verb)) are (tt, tt, tt, tt, tt, tt, tt))
   where
     go : (read : Result Standing WordsError) → IfOk read (λ standing. AreFit standing.draft) → IfOk (draft_or_fault read) AreFit
     go (Ok standing) fit = fit
@@ -268,11 +288,15 @@ module _ (draft : Draft) (are : AreFit draft) where
 
   link_is_text : IfSome (link_of draft) LinkIsText
   link_is_text =
-      needed IsTextSource LinkIsText draft.source _ are.2 (λ s is. any LinkIsText draft.roots _ (λ roots. needed IsUtf8 LinkIsText draft.output _ are.3 (λ text fit. let both = source_is_text s is in (both.0, fit, both.1))))
+      needed IsTextSource LinkIsText draft.source _ are.2 (λ s is. any LinkIsText draft.roots _ (λ roots. needed IsUtf8 LinkIsText
+      draft.output _ are.3 (λ text fit. let both = source_is_text s is in (both.0, fit, both.1))))
 
   gen_fits : IfSome (gen_of draft) (λ gen. IsUtf8 gen.dir × GenFits gen)
   gen_fits =
-      needed IsUtf8 (λ gen. IsUtf8 gen.dir × GenFits gen) draft.folder _ are.1 (λ dir is. needed (IsWithin 1 256) (λ gen. IsUtf8 gen.dir × GenFits gen) draft.modules _ are.4 (λ m few. needed (IsWithin 1 1024) (λ gen. IsUtf8 gen.dir × GenFits gen) draft.classes _ are.5 (λ n less. any (λ gen. IsUtf8 gen.dir × GenFits gen) draft.seed _ (λ seed. (is, (few, less))))))
+      needed IsUtf8 (λ gen. IsUtf8 gen.dir × GenFits gen) draft.folder _ are.1 (λ dir is. needed (IsWithin 1 256)
+      (λ gen. IsUtf8 gen.dir × GenFits gen) draft.modules _ are.4 (λ m few. needed (IsWithin 1 1024) (λ gen. IsUtf8 gen.dir
+      × GenFits gen) draft.classes _ are.5 (λ n less. any (λ gen. IsUtf8 gen.dir × GenFits gen) draft.seed _
+      (λ seed. (is, (few, less))))))
 
   image_is_text : (work : ImageWork) → FolderIsText work → IfSome (on_image draft.file work) IsKnownTask
   image_is_text work is = needed IsUtf8 IsKnownTask draft.file _ are.0 (λ image text. ((text, is), tt))
@@ -283,7 +307,8 @@ module _ (draft : Draft) (are : AreFit draft) where
   task_is_known verb_is.List = image_is_text (work.List draft.include) tt
   task_is_known verb_is.Ls = any IsKnownTask draft.name _ (λ path. image_is_text (work.Ls path) tt)
   task_is_known verb_is.Info = image_is_text work.Info tt
-  task_is_known verb_is.Extract = needed IsUtf8 IsKnownTask draft.folder _ are.1 (λ dir is. image_is_text (work.Extract dir draft.include) is)
+  task_is_known verb_is.Extract = needed IsUtf8 IsKnownTask draft.folder _ are.1
+      (λ dir is. image_is_text (work.Extract dir draft.include) is)
   task_is_known verb_is.Verify = image_is_text work.Verify tt
   task_is_known verb_is.Serve = image_is_text work.Serve tt
   task_is_known verb_is.Gen = needed (λ gen. IsUtf8 gen.dir × GenFits gen) IsKnownTask (gen_of draft) _ gen_fits (λ gen fits. fits)
@@ -293,7 +318,8 @@ module _ (draft : Draft) (are : AreFit draft) where
 
   command_is_known : (verb : Verb) → IfSome (command_of verb draft) IsKnown
   command_is_known verb =
-      mapped IsKnownTask IsKnown (λ task. record { jobs = unwrap_or draft.jobs 1; task = task }) (task_of verb draft) (λ task known. (known, some_job draft.jobs are.6)) (task_is_known verb)
+      mapped IsKnownTask IsKnown (λ task. record { jobs = unwrap_or draft.jobs 1; task = task }) (task_of verb draft)
+      (λ task known. (known, some_job draft.jobs are.6)) (task_is_known verb)
 
 words_are_known : (words : List (List ℕ)) → All IsUtf8 words → IfOk (command_in words) IsKnown
 words_are_known [] are = tt
@@ -303,7 +329,8 @@ words_are_known (name ∷ words) are = go (verb_named name)
     made None known = tt
     made (Some command) known = known
 
-    read : (verb : Verb) (draft : Result Draft WordsError) → IfOk draft AreFit → IfOk (command_unless_fault verb (length words + 1) draft) IsKnown
+    read : (verb : Verb) (draft : Result Draft WordsError) → IfOk draft AreFit
+        → IfOk (command_unless_fault verb (length words + 1) draft) IsKnown
     read verb (Ok draft) fit = made (command_of verb draft) (command_is_known draft fit verb)
     read verb (Err fault) fit = tt
 
@@ -311,21 +338,26 @@ words_are_known (name ∷ words) are = go (verb_named name)
     go None = tt
     go (Some verb) = read verb (draft_or_fault (reading_of verb words)) (reading_is_fit verb words (All-tail IsUtf8 name words are))
 
-part_of : (P Q : Command → Type 0) (result : Result Command WordsError) → ((command : Command) → P command → Q command) → IfOk result P → IfOk result Q
+part_of : (P Q : Command → Type 0) (result : Result Command WordsError) → ((command : Command) → P command → Q command)
+    → IfOk result P → IfOk result Q
 part_of P Q (Ok command) part holds = part command holds
 part_of P Q (Err fault) part holds = tt
 
 pub paths_are_text : (words : List (List ℕ)) → All IsUtf8 words → IfOk (command_in words) (λ command. FilePathsAreText command.task)
-paths_are_text words are = part_of IsKnown (λ command. FilePathsAreText command.task) (command_in words) (λ command known. known.0.0) (words_are_known words are)
+paths_are_text words are = part_of IsKnown (λ command. FilePathsAreText command.task) (command_in words)
+    (λ command known. known.0.0) (words_are_known words are)
 
 pub jobs_are_some : (words : List (List ℕ)) → All IsUtf8 words → IfOk (command_in words) (λ command. 0 < command.jobs)
-jobs_are_some words are = part_of IsKnown (λ command. 0 < command.jobs) (command_in words) (λ command known. known.1) (words_are_known words are)
+jobs_are_some words are = part_of IsKnown (λ command. 0 < command.jobs) (command_in words) (λ command known. known.1)
+    (words_are_known words are)
 
 pub numbers_fit : (words : List (List ℕ)) → All IsUtf8 words → IfOk (command_in words) (λ command. NumbersFit command.task)
-numbers_fit words are = part_of IsKnown (λ command. NumbersFit command.task) (command_in words) (λ command known. known.0.1) (words_are_known words are)
+numbers_fit words are = part_of IsKnown (λ command. NumbersFit command.task) (command_in words) (λ command known. known.0.1)
+    (words_are_known words are)
 
 -- what holds of the command that the words make holds of the one that was read
-pub read_unless_memory : (P : Command → Type 0) (result given : Result Command WordsError) → UnlessMemory Memory result given → IfOk given P → IfOk result P
+pub read_unless_memory : (P : Command → Type 0) (result given : Result Command WordsError) → UnlessMemory Memory result given
+    → IfOk given P → IfOk result P
 read_unless_memory P (Err fault) given read holds = tt
 read_unless_memory P (Ok command) given (inl memory) holds = cc
 read_unless_memory P (Ok command) given (inr same) holds = subst (λ (read : Result Command WordsError). IfOk read P) (sym same) holds

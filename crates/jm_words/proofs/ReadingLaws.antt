@@ -1,5 +1,7 @@
 -- How the words are read, step by step.
-use Rattle.std.proofs.Common.{◌≡◌, ℕ, ◌+◌, ◌<◌, ◌==◌, Bool, true, false, List, [], ◌∷◌, ◌++◌, length, take, get_or, map, drop, Option, Some, None, Result, Ok, Err, refl, sym, ap, ◌∙◌, inl, inr, arith}
+use Rattle.std.proofs.Common.{◌≡◌, ℕ, ◌+◌, ◌<◌, ◌==◌, Bool, true, false, List, [], ◌∷◌, ◌++◌, length, take}
+use Rattle.std.proofs.Common.{get_or, map, drop, Option, Some, None, Result, Ok, Err, refl, sym, ap, ◌∙◌, inl}
+use Rattle.std.proofs.Common.{inr, arith}
 use Rattle.std.specs.List.{list_any, before_first, position_or_len}
 use Rattle.std.proofs.Math.Seq.{take-length}
 use Rattle.std.proofs.lemmas.Bool.{false≢true, false_from_ne_true}
@@ -24,26 +26,34 @@ use Rattle.jm_words.specs.Roles.{AsArgument, option_role, role_of, stands_again}
 pub before_first_none : (p : ℕ → Bool) (xs : List ℕ) → list_any p xs ≡ false → before_first p xs ≡ xs
 before_first_none p xs none =
     let place : position_or_len p xs ≡ length xs =
-    position_or_len_is p xs (length xs) 0 (omega arith) (λ j below. false_from_ne_true (p (get_or xs j 0)) (λ is. false≢true (sym none ∙ list_any_at p xs j 0 below is))) (λ below. absurd (omega (arith, below))) in
+    position_or_len_is p xs (length xs) 0 (omega arith) (λ j below. false_from_ne_true (p (get_or xs j 0))
+    (λ is. false≢true (sym none ∙ list_any_at p xs j 0 below is))) (λ below. absurd (omega (arith, below))) in
     ap (λ n. take n xs) place ∙ take-length xs
 
 -- an option that stands for the first time, without `=`
-pub bare_read : (at all : ℕ) (standing : Standing) (choice : Choice) → stands_again standing.before (Some choice) ≡ false → after_role at all standing (option_role (Some choice) None) ≡ after_bare at all choice (flag_of choice) (record standing { before = standing.before ++ choice ∷ [] })
+pub bare_read : (at all : ℕ) (standing : Standing) (choice : Choice) → stands_again standing.before (Some choice) ≡ false
+    → after_role at all standing (option_role (Some choice) None) ≡ after_bare at all choice (flag_of choice)
+    (record standing { before = standing.before ++ choice ∷ [] })
 bare_read at all standing choice once = go (flag_of choice) refl
   where
-    last : (is : Bool) → (at == all) ≡ is → flag_of choice ≡ None → after_role at all standing (option_role (Some choice) None) ≡ after_bare at all choice None (record standing { before = standing.before ++ choice ∷ [] })
+    last : (is : Bool) → (at == all) ≡ is → flag_of choice ≡ None → after_role at all standing (option_role (Some choice) None)
+        ≡ after_bare at all choice None (record standing { before = standing.before ++ choice ∷ [] })
     last true is e = rw (e, once, is) refl
     last false is e = rw (e, once, is) refl
 
-    go : (flag : Option Given) → flag_of choice ≡ flag → after_role at all standing (option_role (Some choice) None) ≡ after_bare at all choice flag (record standing { before = standing.before ++ choice ∷ [] })
+    go : (flag : Option Given) → flag_of choice ≡ flag → after_role at all standing (option_role (Some choice) None)
+        ≡ after_bare at all choice flag (record standing { before = standing.before ++ choice ∷ [] })
     go None e = last (at == all) refl e
     go (Some given) e = rw (e, once) refl
 
 -- an argument
-pub argument_read : (at all : ℕ) (word : List ℕ) (standing : Standing) → after_role at all standing (AsArgument word) ≡ after_argument at word standing.left standing
+pub argument_read : (at all : ℕ) (word : List ℕ) (standing : Standing) → after_role at all standing (AsArgument word)
+    ≡ after_argument at word standing.left standing
 argument_read at all word standing = go standing.left refl
   where
-    first : (argument : Argument) (left : List Argument) (given : Option Given) → standing.left ≡ argument ∷ left → argument_of argument word ≡ given → after_role at all standing (AsArgument word) ≡ after_text at given (record standing { left = left; pending = None })
+    first : (argument : Argument) (left : List Argument) (given : Option Given) → standing.left ≡ argument ∷ left
+        → argument_of argument word ≡ given → after_role at all standing (AsArgument word)
+        ≡ after_text at given (record standing { left = left; pending = None })
     first argument left None is e = rw (is, e) refl
     first argument left (Some given) is e = rw (is, e) refl
 
@@ -54,35 +64,46 @@ argument_read at all word standing = go standing.left refl
 -- All words
 
 -- a fault ends the reading
-pub after_words_err : (choices : List Choice) (at all : ℕ) (words : List (List ℕ)) (e : WordsError) → after_words choices at all words (Err e) ≡ Err e
+pub after_words_err : (choices : List Choice) (at all : ℕ) (words : List (List ℕ)) (e : WordsError)
+    → after_words choices at all words (Err e) ≡ Err e
 after_words_err choices at all [] e = refl
 after_words_err choices at all (word ∷ words) e = refl
 
-module _ {S : Type 0} (text : S → List ℕ) (verb : Verb) (words : List S) (i : ℕ) (r : S) (word : List ℕ) (standing : Standing) (choices : List Choice) (all : ℕ)
+module _ {S : Type 0} (text : S → List ℕ) (verb : Verb) (words : List S) (i : ℕ) (r : S) (word : List ℕ) (standing : Standing)
+    (choices : List Choice) (all : ℕ)
     (below : i < length words) (there : r ≡ get_or words i r) (is : word ≡ text r) (same : choices ≡ options verb)
     (whole : reading_of verb (map text words) ≡ after_words (options verb) (i + 2) all (map text (drop i words)) (Ok standing)) where
   -- the word that is read next
-  after_next : reading_of verb (map text words) ≡ after_words (options verb) (i + 2 + 1) all (map text (drop (i + 1) words)) (after_role (i + 2) all standing (role_of choices standing.pending word))
+  after_next : reading_of verb (map text words) ≡ after_words (options verb) (i + 2 + 1) all (map text (drop (i + 1) words))
+      (after_role (i + 2) all standing (role_of choices standing.pending word))
   after_next =
       whole
       ∙ ap (λ xs. after_words (options verb) (i + 2) all (map text xs) (Ok standing)) (drop_more words i r below)
-      ∙ ap (λ w. after_words (options verb) (i + 2 + 1) all (map text (drop (i + 1) words)) (after_role (i + 2) all standing (role_of (options verb) standing.pending w))) (ap text (sym there) ∙ sym is)
-      ∙ ap (λ cs. after_words (options verb) (i + 2 + 1) all (map text (drop (i + 1) words)) (after_role (i + 2) all standing (role_of cs standing.pending word))) (sym same)
+      ∙ ap (λ w. after_words (options verb) (i + 2 + 1) all (map text (drop (i + 1) words)) (after_role (i + 2) all standing
+      (role_of (options verb) standing.pending w))) (ap text (sym there) ∙ sym is)
+      ∙ ap (λ cs. after_words (options verb) (i + 2 + 1) all (map text (drop (i + 1) words)) (after_role (i + 2) all standing
+      (role_of cs standing.pending word))) (sym same)
 
   -- the fault of a word is that of all words
-  pub reading_stops : (e : WordsError) → UnlessMemory Memory (Err e) (after_role (i + 2) all standing (role_of choices standing.pending word)) → UnlessMemory Memory (Err e) (draft_or_fault (reading_of verb (map text words)))
+  pub reading_stops : (e : WordsError) → UnlessMemory Memory (Err e) (after_role (i + 2) all standing
+      (role_of choices standing.pending word)) → UnlessMemory Memory (Err e) (draft_or_fault (reading_of verb (map text words)))
   reading_stops e given = elim given [
     | inl memory ↦ inl (ap Err (same_err e Memory memory))
-    | inr read ↦ inr (sym (ap draft_or_fault (after_next ∙ ap (after_words (options verb) (i + 2 + 1) all (map text (drop (i + 1) words))) (sym read) ∙ after_words_err (options verb) (i + 2 + 1) all (map text (drop (i + 1) words)) e)))
+    | inr read ↦ inr
+        (sym (ap draft_or_fault (after_next ∙ ap (after_words (options verb) (i + 2 + 1) all (map text (drop (i + 1) words)))
+        (sym read) ∙ after_words_err (options verb) (i + 2 + 1) all (map text (drop (i + 1) words)) e)))
   ]
 
   -- what stands behind a word is read on
-  pub reading_goes : (next : Standing) → UnlessMemory Memory (Ok next) (after_role (i + 2) all standing (role_of choices standing.pending word)) → reading_of verb (map text words) ≡ after_words (options verb) (i + 1 + 2) all (map text (drop (i + 1) words)) (Ok next)
+  pub reading_goes : (next : Standing) → UnlessMemory Memory (Ok next) (after_role (i + 2) all standing
+      (role_of choices standing.pending word)) → reading_of verb (map text words) ≡ after_words (options verb) (i + 1 + 2) all
+      (map text (drop (i + 1) words)) (Ok next)
   reading_goes next given = elim given [
     | inl memory ↦ absurd (ok_not_err memory)
     | inr read ↦
         let number : i + 2 + 1 ≡ i + 1 + 2 = omega arith in
-        after_next ∙ ap (after_words (options verb) (i + 2 + 1) all (map text (drop (i + 1) words))) (sym read) ∙ ap (λ n. after_words (options verb) n all (map text (drop (i + 1) words)) (Ok next)) number
+        after_next ∙ ap (after_words (options verb) (i + 2 + 1) all (map text (drop (i + 1) words))) (sym read)
+        ∙ ap (λ n. after_words (options verb) n all (map text (drop (i + 1) words)) (Ok next)) number
   ]
     where
       ok_not_err : ◌≡◌ {A = Result Standing WordsError} (Ok next) (Err Memory) → ⊥

@@ -1,5 +1,7 @@
 -- The command that is computed is what the words say, and they say one thing.
-use Rattle.std.proofs.Common.{◌≡◌, ◌⊎◌, ℕ, zero, suc, ◌+◌, ◌<◌, Bool, cond, List, [], ◌∷◌, ◌++◌, length, drop, map, inl, inr, Option, Some, None, Result, Ok, Err, refl, sym, ap, ◌∙◌, subst, append-nil, arith}
+use Rattle.std.proofs.Common.{◌≡◌, ◌⊎◌, ℕ, zero, suc, ◌+◌, ◌<◌, Bool, cond, List, [], ◌∷◌, ◌++◌, length, drop}
+use Rattle.std.proofs.Common.{map, inl, inr, Option, Some, None, Result, Ok, Err, refl, sym, ap, ◌∙◌, subst}
+use Rattle.std.proofs.Common.{append-nil, arith}
 use Rattle.std.specs.Prelude.{count_by, slice_get, unwrap_or}
 use Rattle.std.specs.List.{filter_map, cons_option, range_with_len}
 use Rattle.std.proofs.lemmas.Bool.{cases_lt}
@@ -21,9 +23,12 @@ use Rattle.jm_words.specs.declared.tables.Choice.{Choice}
 use Rattle.jm_words.specs.Commands.{command_after, command_in, command_or_missing, command_unless_fault, verb_named}
 use Rattle.jm_words.specs.declared.given.Given.{Given}
 use Rattle.jm_words.specs.Drafts.{by_field}
-use Rattle.jm_words.specs.Reading.{Standing, after_role, after_sound, after_words, draft_or_fault, left_behind, reading_of, unless_kind, with_option, with_word}
+use Rattle.jm_words.specs.Reading.{Standing, after_role, after_sound, after_words, draft_or_fault}
+use Rattle.jm_words.specs.Reading.{left_behind, reading_of, unless_kind, with_option, with_word}
 use Rattle.jm_words.specs.Roles.{Role, Unknown, Flag, Waits, WithValue, ValueFor, AsArgument, is_argument, named_by, role_of, waiting}
-use Rattle.jm_words.specs.Rule.{AreSound, IsFirstFault, SaysAfter, SaysBehind, SaysCommand, command_given, given_at, givens_before, kind_at, left_at, options_before, role_at, roles_before, word_at}
+use Rattle.jm_words.specs.Rule.{AreSound, IsFirstFault, SaysAfter, SaysBehind, SaysCommand, command_given}
+use Rattle.jm_words.specs.Rule.{given_at, givens_before, kind_at, left_at, options_before, role_at}
+use Rattle.jm_words.specs.Rule.{roles_before, word_at}
 use Rattle.jm_words.specs.Tables.{arguments, options}
 use Rattle.jm_words.proofs.FieldLaws.{by_field_more}
 use Rattle.jm_words.proofs.ReadingLaws.{after_words_err}
@@ -39,7 +44,8 @@ ranged f i =
     subst (λ n. map f (range_with_len 0 n) ≡ map f (range_with_len 0 i) ++ f i ∷ []) one (map-range_with_len_more f 0 i i (omega arith))
 
 -- the first element of what is left, and what is left behind it
-there : {X : Type 0} (xs : List X) (i : ℕ) (x : X) (rest : List X) → drop i xs ≡ x ∷ rest → (slice_get xs i ≡ Some x) × (drop (suc i) xs ≡ rest)
+there : {X : Type 0} (xs : List X) (i : ℕ) (x : X) (rest : List X) → drop i xs ≡ x ∷ rest → (slice_get xs i ≡ Some x)
+    × (drop (suc i) xs ≡ rest)
 there [] zero x rest is = cc
 there [] (suc i) x rest is = cc
 there (y ∷ xs) zero x rest is = (cc, cc)
@@ -78,7 +84,8 @@ module _ (verb : Verb) (words : List (List ℕ)) where
       ∙ ap (λ (j : ℕ). filter_map (given_at verb words) (range_with_len 0 i ++ range_with_len j 1)) same
       ∙ filter_map-append (given_at verb words) (range_with_len 0 i) (i ∷ [])
 
-  draft_more : (i : ℕ) → by_field (givens_before verb words (suc i)) ≡ with_word (by_field (givens_before verb words i)) (given_at verb words i)
+  draft_more : (i : ℕ) → by_field (givens_before verb words (suc i)) ≡ with_word (by_field (givens_before verb words i))
+      (given_at verb words i)
   draft_more i =
       ap (λ (givens : List Given). by_field givens) (givens_more i)
       ∙ by_field_more (givens_before verb words i) (given_at verb words i)
@@ -113,7 +120,14 @@ module _ (verb : Verb) (words : List (List ℕ)) where
       go (ValueFor choice text) = none
       go (AsArgument text) = sym (drop-drop 1 taken (arguments verb))
 
-  same_standing : (a b : Draft) (c d : List Choice) (e f : List Argument) (p : Option Choice) → a ≡ b → c ≡ d → e ≡ f → ◌≡◌ {A = Standing} (record { draft = a; before = c; left = e; pending = p }) (record { draft = b; before = d; left = f; pending = p })
+  same_standing : (a b : Draft) (c d : List Choice) (e f : List Argument) (p : Option Choice) → a ≡ b → c ≡ d → e ≡ f
+      → ◌≡◌ {A = Standing} (record { draft = a; before = c; left = e; pending = p }) (record {
+        draft = b;
+        before = d;
+        left =
+            f;
+        pending = p;
+      })
   same_standing a b c d e f p first second third = rw (first, second, third) refl
 
   standing_more : (i : ℕ) → after_sound (standing_at i) (role_at verb words i) ≡ standing_at (suc i)
@@ -127,13 +141,16 @@ module _ (verb : Verb) (words : List (List ℕ)) where
   Reads (Err (Fault at kind)) = IsFirstFault verb words at kind
   Reads (Err Memory) = ⊥
 
-  one_read : (i : ℕ) (word : List ℕ) → word ≡ word_at words i → after_role (i + 2) (length words + 1) (standing_at i) (role_of (options verb) (pending_at i) word) ≡ unless_kind (i + 2) (kind_at verb words i) (standing_at (suc i))
+  one_read : (i : ℕ) (word : List ℕ) → word ≡ word_at words i → after_role (i + 2) (length words + 1) (standing_at i)
+      (role_of (options verb) (pending_at i) word) ≡ unless_kind (i + 2) (kind_at verb words i) (standing_at (suc i))
   one_read i word is =
       ap (λ w. after_role (i + 2) (length words + 1) (standing_at i) (role_of (options verb) (pending_at i) w)) is
       ∙ ap (after_role (i + 2) (length words + 1) (standing_at i)) (role_here i)
       ∙ ap (unless_kind (i + 2) (kind_at verb words i)) (standing_more i)
 
-  words_read : (i : ℕ) (rest : List (List ℕ)) → drop i words ≡ rest → i + length rest ≡ length words → ((j : ℕ) → j < i → kind_at verb words j ≡ None) → Reads (after_words (options verb) (i + 2) (length words + 1) rest (Ok (standing_at i)))
+  words_read : (i : ℕ) (rest : List (List ℕ)) → drop i words ≡ rest → i + length rest ≡ length words
+      → ((j : ℕ) → j < i → kind_at verb words j ≡ None) → Reads (after_words (options verb) (i + 2) (length words + 1) rest
+      (Ok (standing_at i)))
   words_read i [] is all sound =
       let end : i ≡ length words = omega arith in
       (λ j below. sound j (omega arith), ap standing_at end)
@@ -145,21 +162,36 @@ module _ (verb : Verb) (words : List (List ℕ)) where
       same : word ≡ word_at words i
       same = sym (ap (λ o. unwrap_or o []) head.0)
 
-      next : (found : Option WordsKind) → kind_at verb words i ≡ found → Reads (after_words (options verb) (i + 2 + 1) (length words + 1) rest (unless_kind (i + 2) found (standing_at (suc i)))) → Reads (after_words (options verb) (i + 2) (length words + 1) (word ∷ rest) (Ok (standing_at i)))
+      next : (found : Option WordsKind) → kind_at verb words i ≡ found
+          → Reads (after_words (options verb) (i + 2 + 1) (length words + 1) rest (unless_kind (i + 2) found (standing_at (suc i))))
+          → Reads (after_words (options verb) (i + 2) (length words + 1) (word ∷ rest) (Ok (standing_at i)))
       next found e reads =
-          subst (λ (r : Result Standing WordsError). Reads (after_words (options verb) (i + 2 + 1) (length words + 1) rest r)) (sym (one_read i word same ∙ ap (λ k. unless_kind (i + 2) k (standing_at (suc i))) e)) reads
+          subst (λ (r : Result Standing WordsError). Reads (after_words (options verb) (i + 2 + 1) (length words + 1) rest r))
+          (sym (one_read i word same ∙ ap (λ k. unless_kind (i + 2) k (standing_at (suc i))) e)) reads
 
-      go : (found : Option WordsKind) → kind_at verb words i ≡ found → (drop (suc i) words ≡ rest → suc i + length rest ≡ length words → ((j : ℕ) → j < suc i → kind_at verb words j ≡ None) → Reads (after_words (options verb) (suc i + 2) (length words + 1) rest (Ok (standing_at (suc i))))) → Reads (after_words (options verb) (i + 2) (length words + 1) (word ∷ rest) (Ok (standing_at i)))
+      go : (found : Option WordsKind) → kind_at verb words i ≡ found → (drop (suc i) words ≡ rest → suc i + length rest
+          ≡ length words → ((j : ℕ) → j < suc i → kind_at verb words j ≡ None)
+          → Reads (after_words (options verb) (suc i + 2) (length words + 1) rest (Ok (standing_at (suc i)))))
+          → Reads (after_words (options verb) (i + 2) (length words + 1) (word ∷ rest) (Ok (standing_at i)))
       go None e more =
           let number : suc i + 2 ≡ i + 2 + 1 = omega arith in
           let sound_too : (j : ℕ) → j < suc i → kind_at verb words j ≡ None = λ j below. elim (cases_lt j i) [
             | inl earlier ↦ sound j earlier
             | inr later ↦ let here : j ≡ i = omega arith in ap (kind_at verb words) here ∙ e
           ] in
-          next None e (subst (λ n. Reads (after_words (options verb) n (length words + 1) rest (Ok (standing_at (suc i))))) number (more head.1 (omega arith) sound_too))
+          next None e (subst (λ n. Reads (after_words (options verb) n (length words + 1) rest (Ok (standing_at (suc i))))) number
+          (more head.1 (omega arith) sound_too))
       go (Some kind) e more =
-          let first : IsFirstFault verb words (i + 2) kind = record { place = i; below = omega arith; number = refl; before = sound; first = e } in
-          next (Some kind) e (subst Reads (sym (after_words_err (options verb) (i + 2 + 1) (length words + 1) rest (Fault (i + 2) kind))) first)
+          let first : IsFirstFault verb words (i + 2) kind = record {
+            place = i;
+            below = omega arith;
+            number = refl;
+            before =
+                sound;
+            first = e;
+          } in
+          next (Some kind) e (subst Reads (sym (after_words_err (options verb) (i + 2 + 1) (length words + 1) rest
+          (Fault (i + 2) kind))) first)
 
   all_read : Reads (reading_of verb words)
   all_read = words_read 0 words refl (omega arith) (λ j below. absurd (omega arith))
@@ -169,11 +201,13 @@ module _ (verb : Verb) (words : List (List ℕ)) where
   pub behind_says : SaysBehind verb words (command_unless_fault verb (length words + 1) (draft_or_fault (reading_of verb words)))
   behind_says = go (reading_of verb words) all_read
     where
-      made : AreSound verb words → (command : Option Command) → command_given verb words ≡ command → SaysBehind verb words (command_or_missing (length words + 1) command)
+      made : AreSound verb words → (command : Option Command) → command_given verb words ≡ command
+          → SaysBehind verb words (command_or_missing (length words + 1) command)
       made sound None e = inr (sound, e, refl, refl)
       made sound (Some command) e = (sound, e)
 
-      go : (read : Result Standing WordsError) → Reads read → SaysBehind verb words (command_unless_fault verb (length words + 1) (draft_or_fault read))
+      go : (read : Result Standing WordsError) → Reads read → SaysBehind verb words (command_unless_fault verb (length words + 1)
+          (draft_or_fault read))
       go (Ok standing) (sound, same) = rw same (made sound (command_given verb words) refl)
       go (Err (Fault at kind)) first = inl first
       go (Err Memory) none = absurd none
@@ -186,7 +220,8 @@ module _ (verb : Verb) (words : List (List ℕ)) where
       let some = fault.first in
       cc
 
-  one_first : (at by : ℕ) (kind other : WordsKind) → IsFirstFault verb words at kind → IsFirstFault verb words by other → (at ≡ by) × (kind ≡ other)
+  one_first : (at by : ℕ) (kind other : WordsKind) → IsFirstFault verb words at kind → IsFirstFault verb words by other → (at ≡ by)
+      × (kind ≡ other)
   one_first at by kind other f g =
       elim (cases_lt f.place g.place) [
         | inl earlier ↦ let none = g.before f.place earlier in let some = f.first in absurd (cc)
@@ -198,7 +233,8 @@ module _ (verb : Verb) (words : List (List ℕ)) where
         ]
       ]
 
-  same_fault : (at by : ℕ) (kind other : WordsKind) → at ≡ by → kind ≡ other → ◌≡◌ {A = Result Command WordsError} (Err (Fault at kind)) (Err (Fault by other))
+  same_fault : (at by : ℕ) (kind other : WordsKind) → at ≡ by → kind ≡ other → ◌≡◌ {A = Result Command WordsError}
+      (Err (Fault at kind)) (Err (Fault by other))
   same_fault at by kind other number name = rw (number, name) refl
 
   pub one_behind : (a b : Result Command WordsError) → SaysBehind verb words a → SaysBehind verb words b → a ≡ b
@@ -241,6 +277,7 @@ pub says_computed : (words : List (List ℕ)) (result : Result Command WordsErro
 says_computed words result says = says_one words result (command_in words) says (command_says words)
 
 -- what was read is what the words say, unless memory was wanting
-pub says_unless_memory : (words : List (List ℕ)) (result : Result Command WordsError) → UnlessMemory Memory result (command_in words) → (result ≡ Err Memory) ⊎ SaysCommand words result
+pub says_unless_memory : (words : List (List ℕ)) (result : Result Command WordsError)
+    → UnlessMemory Memory result (command_in words) → (result ≡ Err Memory) ⊎ SaysCommand words result
 says_unless_memory words result (inl memory) = inl memory
 says_unless_memory words result (inr same) = inr (subst (SaysCommand words) (sym same) (command_says words))

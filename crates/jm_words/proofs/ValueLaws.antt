@@ -25,8 +25,10 @@ decimal_grows n [] = omega arith
 decimal_grows n (b ∷ digits) = omega (arith, decimal_grows (n * 10 + (b - 48)) digits)
 
 -- the first part of a text, and the parts behind it
-pub parts_first : (byte : ℕ) (text : List ℕ) → list_any (λ b. b == byte) text ≡ true → parts_at byte text ≡ before_first (λ b. b == byte) text ∷ parts_at byte (after_first (λ b. b == byte) text)
+pub parts_first : (byte : ℕ) (text : List ℕ) → list_any (λ b. b == byte) text ≡ true → parts_at byte text
+    ≡ before_first (λ b. b == byte) text ∷ parts_at byte (after_first (λ b. b == byte) text)
 parts_first byte text any = slice_split_first (λ b. b == byte) text 0 (position_below (λ b. b == byte) text any)
 
 pub parts_none : (byte : ℕ) (text : List ℕ) → list_any (λ b. b == byte) text ≡ false → parts_at byte text ≡ text ∷ []
-parts_none byte text none = slice_split_none (λ b. b == byte) text (λ k d below. false_from_ne_true (get_or text k d == byte) (λ is. false≢true (sym none ∙ list_any_at (λ b. b == byte) text k d below is)))
+parts_none byte text none = slice_split_none (λ b. b == byte) text (λ k d below. false_from_ne_true (get_or text k d == byte)
+    (λ is. false≢true (sym none ∙ list_any_at (λ b. b == byte) text k d below is)))

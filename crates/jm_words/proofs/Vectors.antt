@@ -47,20 +47,41 @@ two_sources = refl
 value_before_option : command_in (codes "cat" ∷ codes "--jobs" ∷ codes "--zap" ∷ []) ≡ fault_at 3 kind.BadValue
 value_before_option = refl
 
-cat_with_jobs : command_in (codes "cat" ∷ codes "--jobs=2" ∷ codes "img" ∷ codes "/m/a" ∷ []) ≡ Ok (record { jobs = 2; task = task.Image (codes "img") (work.Cat (codes "/m/a")) })
+cat_with_jobs : command_in (codes "cat" ∷ codes "--jobs=2" ∷ codes "img" ∷ codes "/m/a" ∷ [])
+    ≡ Ok (record { jobs = 2; task = task.Image (codes "img") (work.Cat (codes "/m/a")) })
 cat_with_jobs = refl
 
-link_from_folders : command_in (codes "link" ∷ codes "--module-path=x/:y" ∷ codes "--output" ∷ codes "o" ∷ codes "--compact-pool" ∷ codes "--add-modules=a,b" ∷ [])
+link_from_folders : command_in (codes "link" ∷ codes "--module-path=x/:y" ∷ codes "--output" ∷ codes "o"
+    ∷ codes "--compact-pool" ∷ codes "--add-modules=a,b" ∷ [])
     ≡ Ok (record {
       jobs = 1;
-      task = task.Link (record { dirs = codes "x" ∷ codes "y" ∷ []; roots = codes "a" ∷ codes "b" ∷ []; output = codes "o"; plugins = plugin.Compact ∷ []; order = Little; bind = false; from_image = None });
+      task = task.Link (record {
+        dirs = codes "x" ∷ codes "y" ∷ [];
+        roots = codes "a" ∷ codes "b" ∷ [];
+        output =
+            codes "o";
+        plugins = plugin.Compact ∷ [];
+        order = Little;
+        bind = false;
+        from_image = None;
+      });
     })
 link_from_folders = refl
 
-link_with_packages : command_in (codes "link" ∷ codes "--from-image=i" ∷ codes "--module-packages" ∷ codes "--output" ∷ codes "o" ∷ codes "--module-packages" ∷ codes "--add-modules=a" ∷ [])
+link_with_packages : command_in (codes "link" ∷ codes "--from-image=i" ∷ codes "--module-packages" ∷ codes "--output" ∷ codes "o"
+    ∷ codes "--module-packages" ∷ codes "--add-modules=a" ∷ [])
     ≡ Ok (record {
       jobs = 1;
-      task = task.Link (record { dirs = []; roots = codes "a" ∷ []; output = codes "o"; plugins = plugin.Packages ∷ plugin.Packages ∷ []; order = Little; bind = false; from_image = Some (codes "i") });
+      task = task.Link (record {
+        dirs = [];
+        roots = codes "a" ∷ [];
+        output = codes "o";
+        plugins = plugin.Packages ∷ plugin.Packages
+            ∷ [];
+        order = Little;
+        bind = false;
+        from_image = Some (codes "i");
+      });
     })
 link_with_packages = refl
 

@@ -1,5 +1,7 @@
 -- The entries of a written image: each has its slot, with its name and its content.
-use Rattle.std.proofs.Common.{◌≡◌, ◌≢◌, ℕ, ◌+◌, ◌^◌, ◌==◌, ◌<◌, ◌≤◌, false, List, [], length, map, take, drop, get_or, Option, Some, None, Contains, refl, sym, ap, ◌∙◌, subst, arith, length-append, mod-lt}
+use Rattle.std.proofs.Common.{◌≡◌, ◌≢◌, ℕ, ◌+◌, ◌^◌, ◌==◌, ◌<◌, ◌≤◌, false, List, [], length, map, take, drop}
+use Rattle.std.proofs.Common.{get_or, Option, Some, None, Contains, refl, sym, ap, ◌∙◌, subst, arith}
+use Rattle.std.proofs.Common.{length-append, mod-lt}
 use Rattle.std.proofs.lemmas.Bool.{ne_eqb}
 use Rattle.std.proofs.lemmas.Bool.Decides.{Decides-eqb}
 use Rattle.std.proofs.lemmas.List.{get_or-map, get_or_default, length-map}
@@ -18,7 +20,8 @@ use Rattle.jm_form.specs.declared.rows.Row.{Row}
 use Rattle.jm_form.specs.declared.slots.SlotRow.TheVariants as slot_row
 use Rattle.jm_form.specs.Entries.{Entry, content_of, entries, entry_of, name_of, row_at, row_of_slot, spelled_row}
 use Rattle.jm_form.specs.Greedy.{GreedyTable, bucket_of, word_of}
-use Rattle.jm_form.specs.Layout.{Index, Written, contents_text, image_of, index_of, index_text, names_of, redirect_words, row_in, row_with, sized, texts_of}
+use Rattle.jm_form.specs.Layout.{Index, Written, contents_text, image_of, index_of, index_text, names_of}
+use Rattle.jm_form.specs.Layout.{redirect_words, row_in, row_with, sized, texts_of}
 use Rattle.jm_form.specs.Places.{contents, redirect_word, strings}
 use Rattle.jm_form.specs.Rows.{blank}
 use Rattle.jm_form.specs.Table.{probe, redirect_at, redirect_of, slot_of}
@@ -35,7 +38,8 @@ use Rattle.jm_writer.proofs.ImageTexts.{CutTold, blank_tells, name_told, row_tel
 -- The table
 
 -- where the word of a name's bucket leads, there the table leads the name
-probe_by : (b : List ℕ) (h : Header) (name : List ℕ) (word i : ℕ) → 0 < h.length → redirect_word b h (bucket_of h.length name) ≡ word → slot_of h.length name (redirect_of word) ≡ Some i → probe b h name ≡ Some i
+probe_by : (b : List ℕ) (h : Header) (name : List ℕ) (word i : ℕ) → 0 < h.length → redirect_word b h (bucket_of h.length name)
+    ≡ word → slot_of h.length name (redirect_of word) ≡ Some i → probe b h name ≡ Some i
 probe_by b h name word i some is led =
     let slots : h.length == 0 ≡ false = ne_eqb h.length 0 (λ e. omega arith) in
     let there : redirect_at b h (hash default_seed name) ≡ redirect_of word = rw slots (ap redirect_of is) in
@@ -85,13 +89,16 @@ module _ (order : Order) (table : GreedyTable) (es : List Written) (writable : W
   length-names = length-map es (λ r. r.0)
 
   -- the table's word leads each name to its slot
-  word_leads : (k : ℕ) → k < length es → slot_of table.length (name k) (redirect_of (get_or (redirect_words index) (bucket_of table.length (name k)) 0)) ≡ Some (slot k)
+  word_leads : (k : ℕ) → k < length es
+      → slot_of table.length (name k) (redirect_of (get_or (redirect_words index) (bucket_of table.length (name k)) 0)) ≡ Some (slot k)
   word_leads k below =
       let many = length-names in
-      subst (λ n. slot_of table.length n (redirect_of (get_or (redirect_words index) (bucket_of table.length n) 0)) ≡ Some (slot k)) (name_at k below) (writable.serves.led k (omega arith))
+      subst (λ n. slot_of table.length n (redirect_of (get_or (redirect_words index) (bucket_of table.length n) 0)) ≡ Some (slot k))
+      (name_at k below) (writable.serves.led k (omega arith))
 
   pub slot_below_length : (k : ℕ) → k < length es → slot k < table.length
-  slot_below_length k below = slot_within table.length (name k) (redirect_of (get_or (redirect_words index) (bucket_of table.length (name k)) 0)) (slot k) (word_leads k below)
+  slot_below_length k below = slot_within table.length (name k)
+      (redirect_of (get_or (redirect_words index) (bucket_of table.length (name k)) 0)) (slot k) (word_leads k below)
 
   -- there are no more entries than slots
   slots_enough : length es ≤ table.length
@@ -127,7 +134,8 @@ module _ (order : Order) (table : GreedyTable) (es : List Written) (writable : W
       let some : 0 < table.length = omega arith in
       let bucket : ℕ = bucket_of table.length (name k) in
       let within : bucket < table.length = mod-lt (hash default_seed (name k)) some in
-      probe_by b h (name k) (get_or (redirect_words index) bucket 0) (slot k) some (redirect_word_is index index_is_fit (contents_text es) bucket within) (word_leads k below)
+      probe_by b h (name k) (get_or (redirect_words index) bucket 0) (slot k) some (redirect_word_is index index_is_fit
+      (contents_text es) bucket within) (word_leads k below)
 
   -- the row of each entry
 
@@ -153,7 +161,16 @@ module _ (order : Order) (table : GreedyTable) (es : List Written) (writable : W
       let all = length-append (index_text index) (contents_text es) in
       let within = writable.within in
       let inside = content_within es k nothing below in
-      record { «module» = omega arith; parent = omega arith; base = omega arith; ext = omega arith; offset = omega arith; packed = omega arith; size = omega arith }
+      record {
+        «module» = omega arith;
+        parent = omega arith;
+        base = omega arith;
+        ext = omega arith;
+        offset = omega arith;
+        packed =
+            omega arith;
+        size = omega arith;
+      }
 
   row_some : (k : ℕ) → k < length es → row_for es k ≢ blank
   row_some k below same =
@@ -166,10 +183,12 @@ module _ (order : Order) (table : GreedyTable) (es : List Written) (writable : W
   row_is k below =
       let slots = length-slots in
       let rows = length-written in
-      lookup_at (λ a b. a == b) (λ a b. Decides-eqb a b) table.slots index.rows k 0 blank writable.serves.apart (omega arith) (omega arith) ∙ ap (λ (r : Row). Some r) (row_there (texts_in es) 0 es k blank nothing below)
+      lookup_at (λ a b. a == b) (λ a b. Decides-eqb a b) table.slots index.rows k 0 blank writable.serves.apart (omega arith)
+      (omega arith) ∙ ap (λ (r : Row). Some r) (row_there (texts_in es) 0 es k blank nothing below)
 
   pub slot_row_is : (k : ℕ) → k < length es → row_of_slot b h (slot k) ≡ slot_row.Spelled (row_for es k)
-  slot_row_is k below = slot_taken index index_is_fit (contents_text es) (slot k) (row_for es k) (slot_below_length k below) (row_is k below) (row_fits k below) (row_some k below)
+  slot_row_is k below = slot_taken index index_is_fit (contents_text es) (slot k) (row_for es k) (slot_below_length k below)
+      (row_is k below) (row_fits k below) (row_some k below)
 
   pub row_at_is : (k : ℕ) → k < length es → row_at b h (slot k) ≡ Some (row_for es k)
   row_at_is k below = ap spelled_row (slot_row_is k below)
@@ -177,12 +196,14 @@ module _ (order : Order) (table : GreedyTable) (es : List Written) (writable : W
   -- its name and its content
 
   pub name_is : (k : ℕ) → k < length es → name_of (strings b h) (row_for es k) ≡ name k
-  name_is k below = ap (λ s. name_of s (row_for es k)) (strings_are index index_is_fit (contents_text es)) ∙ row_tells (texts_in es) (name k) (0 + content_place es k) (length (content k)) (pieces_told k below)
+  name_is k below = ap (λ s. name_of s (row_for es k)) (strings_are index index_is_fit (contents_text es))
+      ∙ row_tells (texts_in es) (name k) (0 + content_place es k) (length (content k)) (pieces_told k below)
 
   pub content_is : (k : ℕ) → k < length es → content_of (contents b h) (row_for es k) ≡ content k
   content_is k below =
       let place : 0 + content_place es k ≡ content_place es k = omega arith in
-      ap (λ c. content_of c (row_for es k)) (contents_are index index_is_fit (contents_text es)) ∙ ap (λ n. take (length (content k)) (drop n (contents_text es))) place ∙ content_there es k nothing below
+      ap (λ c. content_of c (row_for es k)) (contents_are index index_is_fit (contents_text es))
+      ∙ ap (λ n. take (length (content k)) (drop n (contents_text es))) place ∙ content_there es k nothing below
 
   -- entry k
   abbrev entry : ℕ → Entry
@@ -190,7 +211,8 @@ module _ (order : Order) (table : GreedyTable) (es : List Written) (writable : W
 
   -- each is an entry of the image
   pub entry_is_there : (k : ℕ) → k < length es → Contains (entries b h) (entry k)
-  entry_is_there k below = entry_there b h (slot k) (row_for es k) (slot_below_length k below) (row_at_is k below) (ap (probe b h) (name_is k below) ∙ name_leads k below)
+  entry_is_there k below = entry_there b h (slot k) (row_for es k) (slot_below_length k below) (row_at_is k below)
+      (ap (probe b h) (name_is k below) ∙ name_leads k below)
 
   -- and there is no other
 

@@ -1,5 +1,7 @@
 -- Each proper prefix of a written image has a first damage.
-use Rattle.std.proofs.Common.{◌≡◌, ◌≢◌, ℕ, ◌+◌, ◌-◌, ◌<◌, ◌≤◌, ◌⊎◌, inl, inr, List, [], ◌∷◌, ◌++◌, length, map, take, drop, get_or, None, Ok, unwrap_or, refl, sym, ap, ◌∙◌, subst, arith, length-append, length-drop, length-take}
+use Rattle.std.proofs.Common.{◌≡◌, ◌≢◌, ℕ, ◌+◌, ◌-◌, ◌<◌, ◌≤◌, ◌⊎◌, inl, inr, List, [], ◌∷◌, ◌++◌, length}
+use Rattle.std.proofs.Common.{map, take, drop, get_or, None, Ok, unwrap_or, refl, sym, ap, ◌∙◌, subst, arith}
+use Rattle.std.proofs.Common.{length-append, length-drop, length-take}
 use Rattle.std.proofs.lemmas.List.{drop-take, drop_all, take-take}
 use Rattle.std.specs.Prelude.{cond, nat_lt}
 use Rattle.byteorder.specs.Numbers.{big_from-take, little_from-take}
@@ -35,14 +37,23 @@ drop_front n at b within =
 
 -- a word within the front is that of the bytes
 word_front : (order : Order) (n at : ℕ) (b : List ℕ) → at + 4 ≤ n → word order (take n b) at ≡ word order b at
-word_front Little n at b within = ap (λ l. word Little l 0) (drop_front n at b (omega arith)) ∙ little_from-take 0 4 (n - at) (drop at b) (omega arith)
-word_front Big n at b within = ap (λ l. word Big l 0) (drop_front n at b (omega arith)) ∙ big_from-take 0 4 (n - at) (drop at b) (omega arith)
+word_front Little n at b within = ap (λ l. word Little l 0) (drop_front n at b (omega arith)) ∙ little_from-take 0 4 (n - at)
+    (drop at b) (omega arith)
+word_front Big n at b within = ap (λ l. word Big l 0) (drop_front n at b (omega arith)) ∙ big_from-take 0 4 (n - at) (drop at b)
+    (omega arith)
 
 order_front : (n : ℕ) (b : List ℕ) → 28 ≤ n → order_of (take n b) ≡ order_of b
 order_front n b long = rw (word_front Little n 0 b (omega arith), word_front Big n 0 b (omega arith)) refl
 
 fields_front : (order : Order) (n : ℕ) (b : List ℕ) → 28 ≤ n → fields_in order (take n b) ≡ fields_in order b
-fields_front order n b long = rw (word_front order n 8 b (omega arith), word_front order n 12 b (omega arith), word_front order n 16 b (omega arith), word_front order n 20 b (omega arith), word_front order n 24 b (omega arith)) refl
+fields_front order n b long = rw (
+  word_front order n 8 b (omega arith),
+  word_front order n 12 b (omega arith),
+  word_front order n 16
+      b (omega arith),
+  word_front order n 20 b (omega arith),
+  word_front order n 24 b (omega arith),
+) refl
 
 -- a header that is read of the front is that of the bytes
 header_front : (n : ℕ) (b : List ℕ) (h g : Header) → header_of b ≡ Ok h → header_of (take n b) ≡ Ok g → g ≡ h
@@ -63,14 +74,17 @@ row_front_same : (n : ℕ) (b : List ℕ) (h : Header) (i : ℕ) → index_lengt
 row_front_same n b h i within below =
     let words : offset_word (take n b) h i ≡ offset_word b h i = word_front h.order n (offset_place h i) b (omega arith) in
     let sections : locations (take n b) h ≡ locations b h =
-    ap (take h.locations) (drop_front n (locations_place h) b (omega arith)) ∙ take-take h.locations (n - locations_place h) (drop (locations_place h) b) (omega arith) in
-    let rows : row_of_slot (take n b) h i ≡ row_of_slot b h i = ap (λ w. row_by h w (locations (take n b) h)) words ∙ ap (row_by h (offset_word b h i)) sections in
+    ap (take h.locations) (drop_front n (locations_place h) b (omega arith)) ∙ take-take h.locations (n - locations_place h)
+    (drop (locations_place h) b) (omega arith) in
+    let rows : row_of_slot (take n b) h i ≡ row_of_slot b h i = ap (λ w. row_by h w (locations (take n b) h)) words
+    ∙ ap (row_by h (offset_word b h i)) sections in
     ap spelled_row rows
 
 -- The last content
 
 -- it reaches the contents' end
-last_content : (es : List Written) (k : ℕ) → k + 1 ≡ length es → content_place es k + length (get_or es k nothing).1 ≡ length (contents_text es)
+last_content : (es : List Written) (k : ℕ) → k + 1 ≡ length es → content_place es k + length (get_or es k nothing).1
+    ≡ length (contents_text es)
 last_content es k last =
     let none : drop (k + 1) es ≡ [] = drop_all (k + 1) es (omega arith) in
     let all = ap length (content_parts es k nothing (omega arith)) in

@@ -1,6 +1,8 @@
 -- The parts of an image that an index makes, with contents behind it: the words of its two tables, its
 -- locations, its strings and its contents.
-use Rattle.std.proofs.Common.{◌≡◌, ℕ, zero, suc, ◌+◌, ◌-◌, ◌*◌, ◌^◌, ◌<◌, ◌≤◌, List, ◌∷◌, ◌++◌, length, take, drop, get_or, Option, Some, None, Ok, All, refl, sym, ap, ◌∙◌, subst, arith, append_assoc, length-append, drop_at, take_at}
+use Rattle.std.proofs.Common.{◌≡◌, ℕ, zero, suc, ◌+◌, ◌-◌, ◌*◌, ◌^◌, ◌<◌, ◌≤◌, List, ◌∷◌, ◌++◌, length, take}
+use Rattle.std.proofs.Common.{drop, get_or, Option, Some, None, Ok, All, refl, sym, ap, ◌∙◌, subst, arith}
+use Rattle.std.proofs.Common.{append_assoc, length-append, drop_at, take_at}
 use Rattle.std.proofs.lemmas.List.{get_or_append_left, get_or-append-add}
 use Rattle.std.proofs.lemmas.List.Concat.{flat_map-append}
 use Rattle.std.proofs.lemmas.List.Elements.{All-get_or}
@@ -11,7 +13,8 @@ use Rattle.jm_form.specs.Strings.{section_of}
 use Rattle.jm_form.specs.declared.container.Header.{Header}
 use Rattle.jm_form.specs.declared.rows.Row.{Row}
 use Rattle.jm_form.specs.Head.{header_of, index_length}
-use Rattle.jm_form.specs.Layout.{Index, header_words, index_text, index_words, location_of, locations_below, locations_text, offset_words, redirect_words, row_in, row_place}
+use Rattle.jm_form.specs.Layout.{Index, header_words, index_text, index_words, location_of, locations_below}
+use Rattle.jm_form.specs.Layout.{locations_text, offset_words, redirect_words, row_in, row_place}
 use Rattle.jm_form.specs.Nodes.{words_text}
 use Rattle.jm_form.specs.Places.{contents, locations, offset_word, redirect_word, strings}
 use Rattle.jm_form.proofs.PartLaws.{length-words_text, word_there}
@@ -33,16 +36,19 @@ range_parts a zero m =
 range_parts a (suc n) m =
     let count : suc n + suc m ≡ suc (n + suc m) = omega arith in
     let next : a + 1 + n ≡ a + suc n = omega arith in
-    ap (range_with_len a) count ∙ ap (λ ks. a ∷ ks) (range_parts (a + 1) n m) ∙ ap (λ k. a ∷ (range_with_len (a + 1) n ++ (k ∷ range_with_len (k + 1) m))) next
+    ap (range_with_len a) count ∙ ap (λ ks. a ∷ ks) (range_parts (a + 1) n m)
+    ∙ ap (λ k. a ∷ (range_with_len (a + 1) n ++ (k ∷ range_with_len (k + 1) m))) next
 
 -- Locations
 
 -- the locations behind those of a slot
 abbrev pub locations_behind : Index → ℕ → List ℕ
-locations_behind index slot = flat_map (λ below. location_of (row_in index below)) (range_with_len (0 + slot + 1) (index.table.length - slot - 1))
+locations_behind index slot = flat_map (λ below. location_of (row_in index below)) (range_with_len (0 + slot + 1)
+    (index.table.length - slot - 1))
 
 -- the locations up to a slot's, that one and those behind it
-pub locations_parts : (index : Index) (slot : ℕ) → slot < index.table.length → locations_text index ≡ locations_below index slot ++ (location_of (row_in index slot) ++ locations_behind index slot)
+pub locations_parts : (index : Index) (slot : ℕ) → slot < index.table.length → locations_text index ≡ locations_below index slot
+    ++ (location_of (row_in index slot) ++ locations_behind index slot)
 locations_parts index slot below =
     let f : ℕ → List ℕ = λ k. location_of (row_in index k) in
     let m : ℕ = index.table.length - slot - 1 in
@@ -121,18 +127,22 @@ module _ (index : Index) (fits : IndexFits index) where
     pub header_is : header_of b ≡ Ok h
     header_is =
         let room = subst (λ l. index_length h ≤ length l) image_words index_fits in
-        ap header_of image_words ∙ header_back h (redirect_words index ++ offset_words index) ((locations_text index ++ section_of index.texts) ++ text) has_words room
+        ap header_of image_words ∙ header_back h (redirect_words index ++ offset_words index)
+        ((locations_text index ++ section_of index.texts) ++ text) has_words room
 
     -- a word behind the header
-    word_behind_header : (k : ℕ) → k < 2 * index.table.length → get_or (redirect_words index ++ offset_words index) k 0 < 2 ^ 32 → word index.order b (28 + 4 * k) ≡ get_or (redirect_words index ++ offset_words index) k 0
+    word_behind_header : (k : ℕ) → k < 2 * index.table.length → get_or (redirect_words index ++ offset_words index) k 0 < 2 ^ 32
+        → word index.order b (28 + 4 * k) ≡ get_or (redirect_words index ++ offset_words index) k 0
     word_behind_header k below fit =
         let size = length-words in
         let all = length-words_text index.order (index_words index) in
         let place : 28 + 4 * k ≡ 4 * (7 + k) = omega arith in
-        let behind : get_or (index_words index) (7 + k) 0 ≡ get_or (redirect_words index ++ offset_words index) k 0 = get_or-append-add (header_words index) (redirect_words index ++ offset_words index) k 0 in
+        let behind : get_or (index_words index) (7 + k) 0 ≡ get_or (redirect_words index ++ offset_words index) k 0 =
+        get_or-append-add (header_words index) (redirect_words index ++ offset_words index) k 0 in
         ap (λ l. word index.order l (28 + 4 * k)) image_words
         ∙ ap (word index.order (words ++ ((locations_text index ++ section_of index.texts) ++ text))) place
-        ∙ word_there index.order (index_words index) ((locations_text index ++ section_of index.texts) ++ text) (7 + k) (omega arith) (subst (λ w. w < 2 ^ 32) (sym behind) fit)
+        ∙ word_there index.order (index_words index) ((locations_text index ++ section_of index.texts) ++ text) (7 + k)
+        (omega arith) (subst (λ w. w < 2 ^ 32) (sym behind) fit)
         ∙ behind
 
     pub redirect_word_is : (k : ℕ) → k < index.table.length → redirect_word b h k ≡ get_or (redirect_words index) k 0
@@ -149,22 +159,27 @@ module _ (index : Index) (fits : IndexFits index) where
         let most = row_place-le index i below in
         let within = fits.within in
         let second : get_or (redirect_words index ++ offset_words index) (length (redirect_words index) + i) 0 ≡ row_place index i =
-        get_or-append-add (redirect_words index) (offset_words index) i 0 ∙ get_or-map-range_with_len (row_place index) 0 index.table.length i i 0 below (omega arith) in
+        get_or-append-add (redirect_words index) (offset_words index) i 0 ∙ get_or-map-range_with_len (row_place index) 0
+        index.table.length i i 0 below (omega arith) in
         let place : 28 + 4 * index.table.length + 4 * i ≡ 28 + 4 * (length (redirect_words index) + i) = omega arith in
         let fit : row_place index i < 2 ^ 32 = omega arith in
-        ap (word index.order b) place ∙ word_behind_header (length (redirect_words index) + i) (omega arith) (subst (λ w. w < 2 ^ 32) (sym second) fit) ∙ second
+        ap (word index.order b) place ∙ word_behind_header (length (redirect_words index) + i) (omega arith)
+        (subst (λ w. w < 2 ^ 32) (sym second) fit) ∙ second
 
     pub locations_are : locations b h ≡ locations_text index
     locations_are =
         let apart = image_words ∙ ap (λ l. words ++ l) (append_assoc (locations_text index) (section_of index.texts) text) in
-        ap (λ l. locations l h) apart ∙ cut_part words (locations_text index) (section_of index.texts ++ text) (28 + 8 * index.table.length) (length (locations_text index)) length-words refl
+        ap (λ l. locations l h) apart ∙ cut_part words (locations_text index) (section_of index.texts ++ text)
+        (28 + 8 * index.table.length) (length (locations_text index)) length-words refl
 
     pub strings_are : strings b h ≡ section_of index.texts
     strings_are =
-        let apart = image_words ∙ ap (λ l. words ++ l) (append_assoc (locations_text index) (section_of index.texts) text) ∙ sym (append_assoc words (locations_text index) (section_of index.texts ++ text)) in
+        let apart = image_words ∙ ap (λ l. words ++ l) (append_assoc (locations_text index) (section_of index.texts) text)
+        ∙ sym (append_assoc words (locations_text index) (section_of index.texts ++ text)) in
         let size = length-append words (locations_text index) in
         let front = length-words in
-        ap (λ l. strings l h) apart ∙ cut_part (words ++ locations_text index) (section_of index.texts) text (28 + 8 * index.table.length + length (locations_text index)) (length (section_of index.texts)) (omega arith) refl
+        ap (λ l. strings l h) apart ∙ cut_part (words ++ locations_text index) (section_of index.texts) text
+        (28 + 8 * index.table.length + length (locations_text index)) (length (section_of index.texts)) (omega arith) refl
 
     pub contents_are : contents b h ≡ text
     contents_are = drop_at (index_text index) text (index_length h) length-index_text

@@ -1,5 +1,8 @@
 -- The texts of a written image: each piece of each name is held, and stands at its place.
-use Rattle.std.proofs.Common.{◌≡◌, ◌≢◌, ℕ, ◌+◌, ◌==◌, ◌<◌, inl, inr, Bool, true, false, cond, List, [], ◌∷◌, ◌++◌, length, drop, get_or, Option, Some, None, option_map, unwrap_or, is_some, IsSome, Contains, AllPairs, refl, sym, ap, ◌∙◌, subst, arith, append_assoc, length-append, drop_at, take_at}
+use Rattle.std.proofs.Common.{◌≡◌, ◌≢◌, ℕ, ◌+◌, ◌==◌, ◌<◌, inl, inr, Bool, true, false, cond, List, [], ◌∷◌}
+use Rattle.std.proofs.Common.{◌++◌, length, drop, get_or, Option, Some, None, option_map, unwrap_or, is_some}
+use Rattle.std.proofs.Common.{IsSome, Contains, AllPairs, refl, sym, ap, ◌∙◌, subst, arith, append_assoc}
+use Rattle.std.proofs.Common.{length-append, drop_at, take_at}
 use Rattle.std.proofs.lemmas.Bool.{eqb-true, false≢true}
 use Rattle.std.proofs.lemmas.List.{get_or_append_left, get_or_at}
 use Rattle.std.proofs.lemmas.List.Elements.{All-cons, All-nil, Contains-append_left, Contains-append_right, Contains-push}
@@ -35,7 +38,9 @@ place_parts : (text : List ℕ) (texts : List (List ℕ)) (place : ℕ) → plac
 place_parts text [] place is = cc
 place_parts text (first ∷ texts) place is = go (bytes_eq text first) refl (place_of text texts) refl is (place_parts text texts)
   where
-    go : (b : Bool) → bytes_eq text first ≡ b → (o : Option ℕ) → place_of text texts ≡ o → cond b (Some 0) (option_map (λ p. (length first + 1) + p) o) ≡ Some place → ((p : ℕ) → place_of text texts ≡ Some p → Parts (section_of texts) p text) → Parts (section_of (first ∷ texts)) place text
+    go : (b : Bool) → bytes_eq text first ≡ b → (o : Option ℕ) → place_of text texts ≡ o
+        → cond b (Some 0) (option_map (λ p. (length first + 1) + p) o) ≡ Some place → ((p : ℕ) → place_of text texts ≡ Some p
+        → Parts (section_of texts) p text) → Parts (section_of (first ∷ texts)) place text
     go true test o held is later =
         let same : text ≡ first = (bytes_eq-Decides text first).0 test in
         let zero_place : 0 ≡ place = cc in
@@ -69,7 +74,8 @@ free_front : (text rest : List ℕ) → IsZeroFree text → before_first (λ x. 
 free_front text rest free =
     let size = length-append text (0 ∷ rest) in
     let here : get_or (text ++ 0 ∷ rest) (length text) 0 ≡ 0 = get_or_at text 0 rest 0 (length text) refl in
-    before_first_at (λ x. x == 0) (text ++ 0 ∷ rest) (length text) 0 (omega arith) earlier (ap (λ x. x == 0) here) ∙ take_at text (0 ∷ rest) (length text) refl
+    before_first_at (λ x. x == 0) (text ++ 0 ∷ rest) (length text) 0 (omega arith) earlier (ap (λ x. x == 0) here)
+    ∙ take_at text (0 ∷ rest) (length text) refl
   where
     earlier : (k : ℕ) → k < length text → get_or (text ++ 0 ∷ rest) k 0 == 0 ≡ true → ⊥
     earlier k below is =
@@ -79,8 +85,10 @@ free_front text rest free =
 
 told_parts : (section : List ℕ) (place : ℕ) (text : List ℕ) → IsZeroFree text → Parts section place text → Told section place text
 told_parts section place text free there =
-    let from : drop place section ≡ text ++ 0 ∷ there.rest = ap (drop place) there.parts ∙ drop_at there.front (text ++ 0 ∷ there.rest) place there.size in
-    let some = list_any_at (λ x. x == 0) (text ++ 0 ∷ there.rest) (length text) 0 (omega (arith, length-append text (0 ∷ there.rest))) (ap (λ x. x == 0) (get_or_at text 0 there.rest 0 (length text) refl)) in
+    let from : drop place section ≡ text ++ 0 ∷ there.rest = ap (drop place) there.parts
+    ∙ drop_at there.front (text ++ 0 ∷ there.rest) place there.size in
+    let some = list_any_at (λ x. x == 0) (text ++ 0 ∷ there.rest) (length text) 0
+    (omega (arith, length-append text (0 ∷ there.rest))) (ap (λ x. x == 0) (get_or_at text 0 there.rest 0 (length text) refl)) in
     let all = ap length there.parts in
     let both = length-append there.front (text ++ 0 ∷ there.rest) in
     let behind = length-append text (0 ∷ there.rest) in
@@ -96,10 +104,12 @@ place_some None some = cc
 place_some (Some p) some = refl
 
 -- a text without a zero byte that is held stands at its place
-pub text_told : (texts : List (List ℕ)) (text : List ℕ) → Contains texts text → IsZeroFree text → Told (section_of texts) (text_place texts text) text
+pub text_told : (texts : List (List ℕ)) (text : List ℕ) → Contains texts text → IsZeroFree text
+    → Told (section_of texts) (text_place texts text) text
 text_told texts text there free =
     let held = (place-iff text texts (place_of text texts) refl).1 there in
-    told_parts (section_of texts) (text_place texts text) text free (place_parts text texts (text_place texts text) (place_some (place_of text texts) held))
+    told_parts (section_of texts) (text_place texts text) text free (place_parts text texts (text_place texts text)
+    (place_some (place_of text texts) held))
 
 -- Which texts are held
 
@@ -130,9 +140,11 @@ all_have (text ∷ texts) held other there =
     ]
 
 -- each piece of each name is
-pub piece_held : (names : List (List ℕ)) (name piece : List ℕ) → Contains names name → Contains (pieces (split name)) piece → Contains (texts_of names) piece
+pub piece_held : (names : List (List ℕ)) (name piece : List ℕ) → Contains names name → Contains (pieces (split name)) piece
+    → Contains (texts_of names) piece
 piece_held names name piece there among =
-    all_have (flat_map (λ n. pieces (split n)) names) ([] ∷ codes "class" ∷ []) piece (contains_flat_map (λ n. pieces (split n)) names name piece there among)
+    all_have (flat_map (λ n. pieces (split n)) names) ([] ∷ codes "class" ∷ []) piece (contains_flat_map (λ n. pieces (split n))
+    names name piece there among)
 
 -- no text is held twice
 with_differs : (text : List ℕ) (held : List (List ℕ)) → AllPairs (λ a b. a ≢ b) held → AllPairs (λ a b. a ≢ b) (with_text text held)
@@ -140,7 +152,8 @@ with_differs text held differ = go (is_some (place_of text held)) refl
   where
     go : (b : Bool) → is_some (place_of text held) ≡ b → AllPairs (λ a b. a ≢ b) (cond b held (held ++ text ∷ []))
     go true is = differ
-    go false is = pairs_append (λ a b. a ≢ b) held (text ∷ []) differ (AllPairs-cons (λ a b. a ≢ b) text [] (All-nil (λ b. text ≢ b)) (pairs_none (λ a b. a ≢ b))) across
+    go false is = pairs_append (λ a b. a ≢ b) held (text ∷ []) differ (AllPairs-cons (λ a b. a ≢ b) text []
+        (All-nil (λ b. text ≢ b)) (pairs_none (λ a b. a ≢ b))) across
       where
         across : (x y : List ℕ) → Contains held x → Contains (text ∷ []) y → x ≢ y
         across x y here there same =
@@ -160,14 +173,19 @@ pub texts_differ : (names : List (List ℕ)) → AllPairs (λ a b. a ≢ b) (tex
 texts_differ names = all_differ (flat_map (λ n. pieces (split n)) names) ([] ∷ codes "class" ∷ []) first_two
   where
     first_two : AllPairs (λ a b. a ≢ b) ([] ∷ codes "class" ∷ [])
-    first_two = AllPairs-cons (λ a b. a ≢ b) [] (codes "class" ∷ []) (All-cons (λ b. [] ≢ b) (codes "class") [] (λ e. cc) (All-nil (λ b. [] ≢ b))) (AllPairs-cons (λ a b. a ≢ b) (codes "class") [] (All-nil (λ b. codes "class" ≢ b)) (pairs_none (λ a b. a ≢ b)))
+    first_two = AllPairs-cons (λ a b. a ≢ b) [] (codes "class" ∷ []) (All-cons (λ b. [] ≢ b) (codes "class") [] (λ e. cc)
+        (All-nil (λ b. [] ≢ b))) (AllPairs-cons (λ a b. a ≢ b) (codes "class") [] (All-nil (λ b. codes "class" ≢ b))
+        (pairs_none (λ a b. a ≢ b)))
 
 -- the first text stays the first
 front_kept : (first : List ℕ) (rest texts : List (List ℕ)) → (more : List (List ℕ)) × (with_texts (first ∷ rest) texts ≡ first ∷ more)
 front_kept first rest [] = (rest, refl)
-front_kept first rest (text ∷ texts) = go (is_some (place_of text (first ∷ rest))) (front_kept first rest texts) (front_kept first (rest ++ text ∷ []) texts)
+front_kept first rest (text ∷ texts) = go (is_some (place_of text (first ∷ rest))) (front_kept first rest texts)
+    (front_kept first (rest ++ text ∷ []) texts)
   where
-    go : (b : Bool) → (more : List (List ℕ)) × (with_texts (first ∷ rest) texts ≡ first ∷ more) → (more : List (List ℕ)) × (with_texts (first ∷ (rest ++ text ∷ [])) texts ≡ first ∷ more) → (more : List (List ℕ)) × (with_texts (cond b (first ∷ rest) ((first ∷ rest) ++ text ∷ [])) texts ≡ first ∷ more)
+    go : (b : Bool) → (more : List (List ℕ)) × (with_texts (first ∷ rest) texts ≡ first ∷ more) → (more : List (List ℕ))
+        × (with_texts (first ∷ (rest ++ text ∷ [])) texts ≡ first ∷ more) → (more : List (List ℕ))
+        × (with_texts (cond b (first ∷ rest) ((first ∷ rest) ++ text ∷ [])) texts ≡ first ∷ more)
     go true short long = short
     go false short long = long
 
@@ -200,9 +218,12 @@ pieces_free cut free =
     let e : List ℕ = ext_end cut.ext in
     record {
       «module» = λ there. free (Contains-append_left m (p ++ (cut.base ++ e)) 0 (module_within cut.«module» 0 there));
-      parent = λ there. free (Contains-append_right m (p ++ (cut.base ++ e)) 0 (Contains-append_left p (cut.base ++ e) 0 (parent_within cut.parent 0 there)));
-      base = λ there. free (Contains-append_right m (p ++ (cut.base ++ e)) 0 (Contains-append_right p (cut.base ++ e) 0 (Contains-append_left cut.base e 0 there)));
-      ext = λ there. free (Contains-append_right m (p ++ (cut.base ++ e)) 0 (Contains-append_right p (cut.base ++ e) 0 (Contains-append_right cut.base e 0 (ext_within cut.ext 0 there))));
+      parent = λ there. free (Contains-append_right m (p ++ (cut.base ++ e)) 0 (Contains-append_left p (cut.base ++ e) 0
+          (parent_within cut.parent 0 there)));
+      base = λ there. free (Contains-append_right m (p ++ (cut.base ++ e)) 0 (Contains-append_right p (cut.base ++ e) 0
+          (Contains-append_left cut.base e 0 there)));
+      ext = λ there. free (Contains-append_right m (p ++ (cut.base ++ e)) 0 (Contains-append_right p (cut.base ++ e) 0
+          (Contains-append_right cut.base e 0 (ext_within cut.ext 0 there))));
     }
 
 -- the four pieces of a name stand at their places
@@ -216,7 +237,8 @@ pub name_told : (names : List (List ℕ)) (name : List ℕ) → Contains names n
 name_told names name there free =
     let cut : Cut = split name in
     let frees = pieces_free cut (subst IsZeroFree (sym (join-split name)) free) in
-    let held : (piece : List ℕ) → Contains (pieces cut) piece → Contains (texts_of names) piece = λ piece among. piece_held names name piece there among in
+    let held : (piece : List ℕ) → Contains (pieces cut) piece → Contains (texts_of names) piece = λ piece among. piece_held names
+    name piece there among in
     record {
       «module» = text_told (texts_of names) cut.«module» (held cut.«module» (0, omega arith, refl)) frees.«module»;
       parent = text_told (texts_of names) cut.parent (held cut.parent (1, omega arith, refl)) frees.parent;
@@ -224,14 +246,21 @@ name_told names name there free =
       ext = text_told (texts_of names) cut.ext (held cut.ext (3, omega arith, refl)) frees.ext;
     }
 
-join_same : (m n p q b c e f : List ℕ) → m ≡ n → p ≡ q → b ≡ c → e ≡ f → join (record { «module» = m; parent = p; base = b; ext = e }) ≡ join (record { «module» = n; parent = q; base = c; ext = f })
-join_same m n p q b c e f one two three four = ap (λ l. join (record { «module» = l; parent = p; base = b; ext = e })) one ∙ ap (λ l. join (record { «module» = n; parent = l; base = b; ext = e })) two ∙ ap (λ l. join (record { «module» = n; parent = q; base = l; ext = e })) three ∙ ap (λ l. join (record { «module» = n; parent = q; base = c; ext = l })) four
+join_same : (m n p q b c e f : List ℕ) → m ≡ n → p ≡ q → b ≡ c → e ≡ f
+    → join (record { «module» = m; parent = p; base = b; ext = e }) ≡ join (record { «module» = n; parent = q; base = c; ext = f })
+join_same m n p q b c e f one two three four = ap (λ l. join (record { «module» = l; parent = p; base = b; ext = e })) one
+    ∙ ap (λ l. join (record { «module» = n; parent = l; base = b; ext = e })) two
+    ∙ ap (λ l. join (record { «module» = n; parent = q; base = l; ext = e })) three
+    ∙ ap (λ l. join (record { «module» = n; parent = q; base = c; ext = l })) four
 
 -- the row of a name tells the name
-pub row_tells : (texts : List (List ℕ)) (name : List ℕ) (offset size : ℕ) → CutTold texts (split name) → name_of (section_of texts) (row_with texts (split name) offset size) ≡ name
+pub row_tells : (texts : List (List ℕ)) (name : List ℕ) (offset size : ℕ) → CutTold texts (split name)
+    → name_of (section_of texts) (row_with texts (split name) offset size) ≡ name
 row_tells texts name offset size told =
     let cut : Cut = split name in
-    join_same (text_at (section_of texts) (text_place texts cut.«module»)) cut.«module» (text_at (section_of texts) (text_place texts cut.parent)) cut.parent (text_at (section_of texts) (text_place texts cut.base)) cut.base (text_at (section_of texts) (text_place texts cut.ext)) cut.ext told.«module».told told.parent.told told.base.told told.ext.told
+    join_same (text_at (section_of texts) (text_place texts cut.«module»)) cut.«module» (text_at (section_of texts)
+    (text_place texts cut.parent)) cut.parent (text_at (section_of texts) (text_place texts cut.base)) cut.base
+    (text_at (section_of texts) (text_place texts cut.ext)) cut.ext told.«module».told told.parent.told told.base.told told.ext.told
     ∙ join-split name
 
 -- a blank row tells the name without a byte

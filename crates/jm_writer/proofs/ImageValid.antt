@@ -1,5 +1,7 @@
 -- A written image is valid, and its entries are those that were written.
-use Rattle.std.proofs.Common.{◌≡◌, ◌≢◌, ℕ, ◌+◌, ◌-◌, ◌<◌, ◌≤◌, ◌&&◌, ◌==◌, inl, inr, Bool, true, not, List, [], ◌∷◌, length, map, get_or, Option, Some, None, option_map, IsPermutation, AllPairs, Contains, refl, sym, ap, ◌∙◌, subst, arith}
+use Rattle.std.proofs.Common.{◌≡◌, ◌≢◌, ℕ, ◌+◌, ◌-◌, ◌<◌, ◌≤◌, ◌&&◌, ◌==◌, inl, inr, Bool, true, not, List}
+use Rattle.std.proofs.Common.{[], ◌∷◌, length, map, get_or, Option, Some, None, option_map, IsPermutation}
+use Rattle.std.proofs.Common.{AllPairs, Contains, refl, sym, ap, ◌∙◌, subst, arith}
 use Rattle.std.proofs.lemmas.Bool.{and_from, cases_order, eq-eqb, le-leb}
 use Rattle.std.proofs.lemmas.List.{get_or_default, length-map}
 use Rattle.std.proofs.lemmas.List.Elements.{Contains-get_or}
@@ -29,7 +31,9 @@ use Rattle.jm_form.proofs.EntryLaws.{names_differ, slots_rise}
 use Rattle.jm_form.proofs.LookLaws.{look_entry, look_none, look_some}
 use Rattle.jm_form.proofs.SlotLaws.{slot_blank, slot_spelled}
 use Rattle.jm_writer.specs.Writable.{Writable, header_with}
-use Rattle.jm_writer.proofs.ImageEntries.{content_is, entry_is_there, entry_is_written, index_is_fit, name_leads, length-slots, length-written, name_is, nothing, row_for, slot_below_length, slot_row_is, pieces_told}
+use Rattle.jm_writer.proofs.ImageEntries.{content_is, entry_is_there, entry_is_written, index_is_fit}
+use Rattle.jm_writer.proofs.ImageEntries.{name_leads, length-slots, length-written, name_is, nothing, row_for}
+use Rattle.jm_writer.proofs.ImageEntries.{slot_below_length, slot_row_is, pieces_told}
 use Rattle.jm_writer.proofs.ImageLists.{lookup_from, same_elements}
 use Rattle.jm_writer.proofs.ImageRows.{content_within, contents_apart, slot_spare}
 use Rattle.jm_writer.proofs.ImageSections.{contents_are, header_is, offset_word_is, strings_are}
@@ -37,13 +41,16 @@ use Rattle.jm_writer.proofs.ImageSections.{contents_are, header_is, offset_word_
 -- A sound row has no fault
 
 fits_from : (offset size all : ℕ) → offset + size ≤ all → nat_le size all && nat_le offset (all - size) ≡ true
-fits_from offset size all within = and_from (nat_le size all) (nat_le offset (all - size)) (le-leb size all (omega arith)) (le-leb offset (all - size) (omega arith))
+fits_from offset size all within = and_from (nat_le size all) (nat_le offset (all - size)) (le-leb size all (omega arith))
+    (le-leb offset (all - size) (omega arith))
 
 -- a check whose test holds finds nothing
-passed : (test : Bool) (fault : Damage) (later : List (Option Damage)) → test ≡ true → first_fault later ≡ None → first_fault (fault_if (not test) fault ∷ later) ≡ None
+passed : (test : Bool) (fault : Damage) (later : List (Option Damage)) → test ≡ true → first_fault later ≡ None
+    → first_fault (fault_if (not test) fault ∷ later) ≡ None
 passed test fault later holds clear = no_fault_cons (fault_if (not test) fault) later (fault_if_false (not test) fault (ap not holds)) clear
 
-pub sound_row_checks : (b : List ℕ) (h : Header) (i : ℕ) (row : Row) → SoundRow b h row → first_fault (row_checks i (strings b h) (length (contents b h)) row) ≡ None
+pub sound_row_checks : (b : List ℕ) (h : Header) (i : ℕ) (row : Row) → SoundRow b h row
+    → first_fault (row_checks i (strings b h) (length (contents b h)) row) ≡ None
 sound_row_checks b h i row sound =
     let s : List ℕ = strings b h in
     let all : ℕ = length (contents b h) in
@@ -84,13 +91,20 @@ module _ (order : Order) (table : GreedyTable) (es : List Written) (writable : W
   pair_is k below =
       let names : (entry k).name ≡ (get_or es k nothing).0 = name_is order table es writable k below in
       let contents : (entry k).content ≡ (get_or es k nothing).1 = content_is order table es writable k below in
-      let first : ◌≡◌ {A = Written} ((entry k).name, (entry k).content) ((get_or es k nothing).0, (entry k).content) = ap (λ n. (n, (entry k).content)) names in
-      let second : ◌≡◌ {A = Written} ((get_or es k nothing).0, (entry k).content) ((get_or es k nothing).0, (get_or es k nothing).1) = ap (λ c. ((get_or es k nothing).0, c)) contents in
+      let first : ◌≡◌ {A = Written} ((entry k).name, (entry k).content) ((get_or es k nothing).0, (entry k).content) =
+      ap (λ n. (n, (entry k).content)) names in
+      let second : ◌≡◌ {A = Written} ((get_or es k nothing).0, (entry k).content) ((get_or es k nothing).0, (get_or es k nothing).1)
+      = ap (λ c. ((get_or es k nothing).0, c)) contents in
       first ∙ second
 
   -- an entry that was written
   pub written_there : (p : Written) → Contains es p → (e : Entry) × Contains (entries b h) e × (pair_of e ≡ p)
-  written_there p (k, below, is) = (entry k, entry_is_there order table es writable k below, pair_is k below ∙ get_or_default es k nothing p below ∙ is)
+  written_there p (k, below, is) = (
+    entry k,
+    entry_is_there order table es writable k below,
+    pair_is k below
+        ∙ get_or_default es k nothing p below ∙ is,
+  )
 
   -- an entry of the image
   pub there_written : (e : Entry) → Contains (entries b h) e → Contains es (pair_of e)
@@ -101,16 +115,19 @@ module _ (order : Order) (table : GreedyTable) (es : List Written) (writable : W
   -- each once
 
   pub entries_differ : AllPairs (λ p q. p ≢ q) (map pair_of (entries b h))
-  entries_differ = pairs_map (λ p q. p ≢ q) pair_of (entries b h) (pairs_among (λ e f. e.slot < f.slot) (λ e f. pair_of e ≢ pair_of f) (entries b h) differs (slots_rise b h))
+  entries_differ = pairs_map (λ p q. p ≢ q) pair_of (entries b h) (pairs_among (λ e f. e.slot < f.slot) (λ e f. pair_of e ≢ pair_of
+      f) (entries b h) differs (slots_rise b h))
     where
       differs : (e f : Entry) → Contains (entries b h) e → Contains (entries b h) f → e.slot < f.slot → pair_of e ≢ pair_of f
-      differs e f first second before same = let slots = names_differ b h e f first second (ap (λ (p : Written). p.0) same) in absurd (omega arith)
+      differs e f first second before same =
+          let slots = names_differ b h e f first second (ap (λ (p : Written). p.0) same) in absurd (omega arith)
 
   -- names differ, since no two of them have one slot
   pub names_apart : (i j : ℕ) → i < j → j < length es → (get_or es i nothing).0 ≢ (get_or es j nothing).0
   names_apart i j before below same =
       let many = length-slots order table es writable in
-      let slots : slot i ≡ slot j = same_some (slot i) (slot j) (sym (name_leads order table es writable i (omega arith)) ∙ ap (probe b h) same ∙ name_leads order table es writable j below) in
+      let slots : slot i ≡ slot j = same_some (slot i) (slot j) (sym (name_leads order table es writable i (omega arith))
+      ∙ ap (probe b h) same ∙ name_leads order table es writable j below) in
       writable.serves.apart i j 0 before (omega arith) slots
 
   pub written_differ : AllPairs (λ p q. p ≢ q) es
@@ -127,7 +144,9 @@ module _ (order : Order) (table : GreedyTable) (es : List Written) (writable : W
       forth p there = let from = from_map pair_of (entries b h) p there in subst (Contains es) from.2 (there_written from.0 from.1)
 
       back : (p : Written) → Contains es p → Contains (map pair_of (entries b h)) p
-      back p there = let from = written_there p there in subst (Contains (map pair_of (entries b h))) from.2 (contains_map pair_of (entries b h) from.0 from.1)
+      back p there =
+          let from = written_there p there in
+          subst (Contains (map pair_of (entries b h))) from.2 (contains_map pair_of (entries b h) from.0 from.1)
 
   pub length-entries : length (entries b h) ≡ length es
   length-entries =
@@ -137,7 +156,8 @@ module _ (order : Order) (table : GreedyTable) (es : List Written) (writable : W
 
   -- the offset word of an entry
   pub offset_word_of : (k : ℕ) → k < length es → offset_word b h (slot k) ≡ row_place index (slot k)
-  offset_word_of k below = offset_word_is index (index_is_fit order table es writable) (contents_text es) (slot k) (slot_below_length order table es writable k below)
+  offset_word_of k below = offset_word_is index (index_is_fit order table es writable) (contents_text es) (slot k)
+      (slot_below_length order table es writable k below)
 
   -- Validity
 
@@ -145,7 +165,8 @@ module _ (order : Order) (table : GreedyTable) (es : List Written) (writable : W
   sound k below =
       let section = strings_are index (index_is_fit order table es writable) (contents_text es) in
       let texts = pieces_told order table es writable k below in
-      let ends : (place : ℕ) → text_ends (section_of index.texts) place ≡ true → text_ends (strings b h) place ≡ true = λ place there. ap (λ s. text_ends s place) section ∙ there in
+      let ends : (place : ℕ) → text_ends (section_of index.texts) place ≡ true → text_ends (strings b h) place ≡ true =
+      λ place there. ap (λ s. text_ends s place) section ∙ there in
       let all = ap length (contents_are index (index_is_fit order table es writable) (contents_text es)) in
       let inside = content_within es k nothing below in
       record {
@@ -169,7 +190,8 @@ module _ (order : Order) (table : GreedyTable) (es : List Written) (writable : W
           let first = at.below in
           let inside : k < length es = omega arith in
           subst (λ j. slot_fault b h j ≡ None) at.here
-          (slot_spelled b h (slot k) (row_for es k) (slot_row_is order table es writable k inside) ∙ sound_row_checks b h (slot k) (row_for es k) (sound k inside))
+          (slot_spelled b h (slot k) (row_for es k) (slot_row_is order table es writable k inside) ∙ sound_row_checks b h (slot k)
+          (row_for es k) (sound k inside))
 
   never_meet : (j k : ℕ) → j < length es → k < length es → Meets (range_of (entry j)) (range_of (entry k)) → ⊥
   never_meet j k below_j below_k meets =
@@ -215,11 +237,13 @@ module _ (order : Order) (table : GreedyTable) (es : List Written) (writable : W
       let (e, inside, is) = written_there (n, text) there in
       let names : e.name ≡ n = ap (λ (p : Written). p.0) is in
       let contents : e.content ≡ text = ap (λ (p : Written). p.1) is in
-      ap (λ l. option_map (λ r. r.1) (look b l)) (sym names) ∙ ap (option_map (λ r. r.1)) (look_some b h e image_valid_as.header inside) ∙ ap (λ (l : List ℕ). Some l) contents
+      ap (λ l. option_map (λ r. r.1) (look b l)) (sym names) ∙ ap (option_map (λ r. r.1)) (look_some b h e image_valid_as.header
+      inside) ∙ ap (λ (l : List ℕ). Some l) contents
 
   -- another name is looked up in vain
   pub look_unwritten : (n : List ℕ) → ((text : List ℕ) → Contains es (n, text) → ⊥) → look b n ≡ None
-  look_unwritten n nowhere = look_none b h n image_valid_as.header (λ e there same. nowhere e.content (subst (λ l. Contains es (l, e.content)) (sym same) (there_written e there)))
+  look_unwritten n nowhere = look_none b h n image_valid_as.header (λ e there same. nowhere e.content
+      (subst (λ l. Contains es (l, e.content)) (sym same) (there_written e there)))
 
   -- what a look-up answers was written
   pub look_says : (n : List ℕ) (found : Row × List ℕ) → look b n ≡ Some found → Contains es (n, found.1)

@@ -1,5 +1,6 @@
 -- Lists, one item more.
-use Rattle.std.proofs.Common.{◌≡◌, ℕ, zero, suc, ◌+◌, ◌<◌, List, [], ◌∷◌, ◌++◌, length, take, drop, get_or, slice_get, Some, All, map, option_map, subst, refl, sym, ap, ◌∙◌, arith}
+use Rattle.std.proofs.Common.{◌≡◌, ℕ, zero, suc, ◌+◌, ◌<◌, List, [], ◌∷◌, ◌++◌, length, take, drop, get_or}
+use Rattle.std.proofs.Common.{slice_get, Some, All, map, option_map, subst, refl, sym, ap, ◌∙◌, arith}
 use Rattle.std.proofs.lemmas.List.Elements.{All-push}
 
 -- what is left from a place on begins with the item there
@@ -25,7 +26,8 @@ drop_none (x ∷ xs) zero is = absurd (omega arith)
 drop_none (x ∷ xs) (suc i) is = drop_none xs i (omega arith)
 
 -- lists with the same items at all places
-pub same_items : {A : Type 0} (xs ys : List A) (d : A) → length xs ≡ length ys → ((i : ℕ) → i < length ys → get_or xs i d ≡ get_or ys i d) → xs ≡ ys
+pub same_items : {A : Type 0} (xs ys : List A) (d : A) → length xs ≡ length ys → ((i : ℕ) → i < length ys → get_or xs i d
+    ≡ get_or ys i d) → xs ≡ ys
 same_items [] [] d long same = refl
 same_items [] (y ∷ ys) d long same = absurd (omega arith)
 same_items (x ∷ xs) [] d long same = absurd (omega arith)
@@ -38,6 +40,7 @@ mapped_there f (y ∷ xs) zero x is = ap (option_map f) is
 mapped_there f (y ∷ xs) (suc i) x is = mapped_there f xs i x is
 
 -- what holds of the first items under a function holds with one item more
-pub all_mapped : {A B : Type 0} (P : B → Type 0) (f : A → B) (xs : List A) (i : ℕ) (x : A) → slice_get xs i ≡ Some x → All P (take i (map f xs)) → P (f x) → All P (take (i + 1) (map f xs))
+pub all_mapped : {A B : Type 0} (P : B → Type 0) (f : A → B) (xs : List A) (i : ℕ) (x : A) → slice_get xs i ≡ Some x
+    → All P (take i (map f xs)) → P (f x) → All P (take (i + 1) (map f xs))
 all_mapped P f xs i x is before one =
     subst (All P) (sym (take_there (map f xs) i (f x) (mapped_there f xs i x is))) (All-push P (take i (map f xs)) (f x) before one)

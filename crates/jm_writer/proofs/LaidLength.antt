@@ -11,9 +11,11 @@ use Rattle.jm_writer.proofs.LayoutLaws.{layout_length}
 
 -- the header, two words a slot, the rows, the strings, and the contents, whose sizes are known before
 -- them
-pub laid_length : (order : Order) (resources : List Written) (table : GreedyTable) (b : List ℕ) → layout_table resources ≡ Some table → layout order resources ≡ Some b
+pub laid_length : (order : Order) (resources : List Written) (table : GreedyTable) (b : List ℕ) → layout_table resources
+    ≡ Some table → layout order resources ≡ Some b
     → length b
-    ≡ ((28 + 8 * table.length) + length (locations_text (layout_index order table resources)) + length (section_of (texts_of (all_names resources)))) + sum (map (λ e. e.size) (all_sized resources))
+    ≡ ((28 + 8 * table.length) + length (locations_text (layout_index order table resources))
+    + length (section_of (texts_of (all_names resources)))) + sum (map (λ e. e.size) (all_sized resources))
 laid_length order resources table b of is =
     let (other, found, whole) = layout_from order resources b is in
     let same : other ≡ table = same_some other table (sym found ∙ of) in
@@ -21,7 +23,8 @@ laid_length order resources table b of is =
     ∙ layout_length order resources table (table_found (all_names resources) table of).redirects
 
 -- both orders give one length
-pub layouts_same_length : (resources : List Written) (one other : Order) (b c : List ℕ) → layout one resources ≡ Some b → layout other resources ≡ Some c → length b ≡ length c
+pub layouts_same_length : (resources : List Written) (one other : Order) (b c : List ℕ) → layout one resources ≡ Some b
+    → layout other resources ≡ Some c → length b ≡ length c
 layouts_same_length resources one other b c first second =
     let (table, of, whole) = layout_from one resources b first in
     laid_length one resources table b of first ∙ sym (laid_length other resources table c of second)

@@ -1,6 +1,8 @@
 -- The look-up in a layout answers the bytes of a resource for its name, and nothing for a name that is
 -- neither a resource's nor a node's. The bytes say their order.
-use Rattle.std.proofs.Common.{◌≡◌, ℕ, ◌≤◌, inl, inr, false, not, ◌==◌, List, [], ◌∷◌, ◌++◌, length, Option, Some, None, IsSome, is_none, Ok, Contains, option_map, unwrap_or, refl, ap, ◌∙◌, subst}
+use Rattle.std.proofs.Common.{◌≡◌, ℕ, ◌≤◌, inl, inr, false, not, ◌==◌, List, [], ◌∷◌, ◌++◌, length, Option}
+use Rattle.std.proofs.Common.{Some, None, IsSome, is_none, Ok, Contains, option_map, unwrap_or, refl, ap, ◌∙◌}
+use Rattle.std.proofs.Common.{subst}
 use Rattle.std.proofs.lemmas.Bool.{false≢true}
 use Rattle.std.proofs.lemmas.Cmp.{nat_list_eq_equiv}
 use Rattle.std.proofs.lemmas.List.Elements.{Contains-append_cases, Contains-append_left}
@@ -47,13 +49,16 @@ header_order b h e =
 
 -- Values by name
 
-found_there : (name text : List ℕ) (resources : List Written) → lookup (bytes_eq name) resources ≡ Some text → Contains resources (name, text)
+found_there : (name text : List ℕ) (resources : List Written) → lookup (bytes_eq name) resources ≡ Some text
+    → Contains resources (name, text)
 found_there name text resources is = Contains-from_lookup (λ x y. (bytes_eq-Decides x y).0) name text resources is
 
 none_there : (name text : List ℕ) (resources : List Written) → lookup (bytes_eq name) resources ≡ None → Contains resources (name, text) → ⊥
-none_there name text resources none there = false≢true (subst IsSome none (IsSome-lookup_from_Contains nat_list_eq_equiv name resources (contains_map (λ (r : Written). r.0) resources (name, text) there)))
+none_there name text resources none there = false≢true (subst IsSome none (IsSome-lookup_from_Contains nat_list_eq_equiv name
+    resources (contains_map (λ (r : Written). r.0) resources (name, text) there)))
 
-module _ (order : Order) (resources : List Written) (can : CanLay resources) (table : GreedyTable) (is : layout_table resources ≡ Some table) (within : length (layout_with order resources table) ≤ image_limit) where
+module _ (order : Order) (resources : List Written) (can : CanLay resources) (table : GreedyTable) (is : layout_table resources
+    ≡ Some table) (within : length (layout_with order resources table) ≤ image_limit) where
   abbrev index : Index
   index = layout_index order table resources
 
@@ -70,11 +75,13 @@ module _ (order : Order) (resources : List Written) (can : CanLay resources) (ta
   laid_ordered = header_order b _ (image_valid_as order table es writable).header
 
   -- the bytes of a resource, or nothing
-  pub laid_answers : (name : List ℕ) → (Contains (node_names (names_of resources)) name → ⊥) → option_map (λ found. found.1) (look b name) ≡ lookup (bytes_eq name) resources
+  pub laid_answers : (name : List ℕ) → (Contains (node_names (names_of resources)) name → ⊥)
+      → option_map (λ found. found.1) (look b name) ≡ lookup (bytes_eq name) resources
   laid_answers name other = go (lookup (bytes_eq name) resources) refl
     where
       go : (o : Option (List ℕ)) → lookup (bytes_eq name) resources ≡ o → option_map (λ found. found.1) (look b name) ≡ o
-      go (Some text) found = look_written order table es writable name text (Contains-append_left resources (written_nodes index resources) (name, text) (found_there name text resources found))
+      go (Some text) found = look_written order table es writable name text (Contains-append_left resources
+          (written_nodes index resources) (name, text) (found_there name text resources found))
       go None none = ap (option_map (λ found. found.1)) (look_unwritten order table es writable name (λ text there.
           elim (Contains-append_cases resources (written_nodes index resources) (name, text) there) [
             | inl resource ↦ none_there name text resources none resource

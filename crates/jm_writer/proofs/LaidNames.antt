@@ -33,7 +33,8 @@ all_names_are resources =
 -- they are the names of what is written
 pub names_written : (index : Index) (resources : List Written) → names_of (resources ++ written_nodes index resources) ≡ all_names resources
 names_written index resources =
-    sym (mapped_twice (λ e. e.name) sized (resources ++ written_nodes index resources)) ∙ ap (map (λ e. e.name)) (sized_layout index resources)
+    sym (mapped_twice (λ e. e.name) sized (resources ++ written_nodes index resources))
+    ∙ ap (map (λ e. e.name)) (sized_layout index resources)
 
 module _ (resources : List Written) (can : CanLay resources) where
   abbrev names : List (List ℕ)
@@ -50,7 +51,8 @@ module _ (resources : List Written) (can : CanLay resources) where
   node_name name there = (nodes_named names can.plain.sound name there).node
 
   all_differ : AllPairs (λ m n. m ≢ n) all
-  all_differ = pairs_append (λ m n. m ≢ n) names (node_names names) can.differ (falling_differ (codes "/modules" ∷ codes "/packages" ∷ inner_nodes names ++ package_nodes names)) across
+  all_differ = pairs_append (λ m n. m ≢ n) names (node_names names) can.differ (falling_differ (codes "/modules" ∷ codes "/packages"
+      ∷ inner_nodes names ++ package_nodes names)) across
     where
       across : (m n : List ℕ) → Contains names m → Contains (node_names names) n → m ≢ n
       across m n first second same = false≢true (sym (resource_name m first) ∙ ap is_node same ∙ node_name n second)

@@ -1,5 +1,6 @@
 -- The nodes of a layout tell the trees of its resources.
-use Rattle.std.proofs.Common.{◌≡◌, ℕ, ◌≤◌, inl, inr, Bool, true, false, cond, List, ◌++◌, length, map, drop, Some, Contains, IsPermutation, refl, sym, ap, ◌∙◌, subst, arith}
+use Rattle.std.proofs.Common.{◌≡◌, ℕ, ◌≤◌, inl, inr, Bool, true, false, cond, List, ◌++◌, length, map, drop}
+use Rattle.std.proofs.Common.{Some, Contains, IsPermutation, refl, sym, ap, ◌∙◌, subst, arith}
 use Rattle.std.proofs.lemmas.Bool.{false≢true}
 use Rattle.std.proofs.lemmas.List.Elements.{Contains-append_cases, Contains-append_left, Contains-append_right}
 use Rattle.std.specs.Prelude.{codes, filter}
@@ -14,7 +15,9 @@ use Rattle.jm_form.specs.declared.trees.Holds.TheVariants.{Children, Owners}
 use Rattle.jm_form.specs.declared.trees.Owner.{Owner}
 use Rattle.jm_form.specs.Entries.{Entry, entries}
 use Rattle.jm_form.specs.Greedy.{GreedyTable}
-use Rattle.jm_form.specs.Layout.{Index, Written, all_names, contents_text, index_of, layout_index, layout_table, layout_with, name_place, names_of, node_words, sized, text_place, texts_of, written_nodes}
+use Rattle.jm_form.specs.Layout.{Index, Written, all_names, contents_text, index_of, layout_index}
+use Rattle.jm_form.specs.Layout.{layout_table, layout_with, name_place, names_of, node_words, sized}
+use Rattle.jm_form.specs.Layout.{text_place, texts_of, written_nodes}
 use Rattle.jm_form.specs.Nodes.{LeadsTo, NodesOf, StandsAt, Tells, nodes_among, words_text}
 use Rattle.jm_form.specs.Trees.{children, holds_of, is_package_node, module_of, node_names, owners, package_nodes}
 use Rattle.jm_writer.specs.Laid.{CanLay}
@@ -31,7 +34,8 @@ use Rattle.jm_writer.proofs.LaidNames.{all_names_are, names_written, node_name, 
 use Rattle.jm_writer.proofs.LaidWritable.{filter_second, from_written, laid_writable}
 use Rattle.jm_writer.proofs.LayoutLaws.{sized_layout}
 
-module _ (order : Order) (resources : List Written) (can : CanLay resources) (table : GreedyTable) (is : layout_table resources ≡ Some table) (within : length (layout_with order resources table) ≤ image_limit) where
+module _ (order : Order) (resources : List Written) (can : CanLay resources) (table : GreedyTable) (is : layout_table resources
+    ≡ Some table) (within : length (layout_with order resources table) ≤ image_limit) where
   abbrev names : List (List ℕ)
   names = names_of resources
 
@@ -75,23 +79,34 @@ module _ (order : Order) (resources : List Written) (can : CanLay resources) (ta
   module_held : (name : List ℕ) → Contains names name → Contains (texts_of all) (module_of name)
   module_held name there =
       subst (Contains (texts_of all)) (sound_there names can.plain.sound name there).piece
-      (piece_held all name (split name).«module» (all_there name (Contains-append_left names (node_names names) name there)) (0, omega arith, refl))
+      (piece_held all name (split name).«module» (all_there name (Contains-append_left names (node_names names) name there))
+      (0, omega arith, refl))
 
-  stands : (called : List ℕ) (owner : Owner) → Contains (owners names called) owner → StandsAt b h owner (text_place index.texts owner.«module»)
+  stands : (called : List ℕ) (owner : Owner) → Contains (owners names called) owner
+      → StandsAt b h owner (text_place index.texts owner.«module»)
   stands called owner there =
       let (folder, inside, of) = owner_from names called owner there in
       let from = folder_from names can.plain.sound folder inside in
-      let held : Contains index.texts owner.«module» = subst (Contains (texts_of all)) (sym from.«module» ∙ of) (module_held from.name from.there) in
+      let held : Contains index.texts owner.«module» = subst (Contains (texts_of all)) (sym from.«module» ∙ of)
+      (module_held from.name from.there) in
       let free : IsZeroFree owner.«module» = subst IsZeroFree of (folder_free names can.plain.sound folder from) in
       subst (λ i. StandsAt b h owner (text_place i.texts owner.«module»)) same_index
-      (owner_stands written (index_is_fit order table es writable) (contents_text es) owner (subst (λ i. Contains i.texts owner.«module») (sym same_index) held) free)
+      (owner_stands written (index_is_fit order table es writable) (contents_text es) owner
+      (subst (λ i. Contains i.texts owner.«module») (sym same_index) held) free)
 
   -- Contents
 
-  tells_children : (list : List (List ℕ)) → ((name : List ℕ) → Contains list name → Contains (names ++ node_names names) name) → Tells b h (Children list) (words_text order (node_words index all (Children list)))
-  tells_children list named = (map (name_place index all) list, zip_mapped (LeadsTo b h) (name_place index all) list (λ name there. leads name (named name there)), refl)
+  tells_children : (list : List (List ℕ)) → ((name : List ℕ) → Contains list name → Contains (names ++ node_names names) name)
+      → Tells b h (Children list) (words_text order (node_words index all (Children list)))
+  tells_children list named = (
+    map (name_place index all) list,
+    zip_mapped (LeadsTo b h) (name_place index all) list
+        (λ name there. leads name (named name there)),
+    refl,
+  )
 
-  tells_owners : (called : List ℕ) → Tells b h (Owners (owners names called)) (words_text order (node_words index all (Owners (owners names called))))
+  tells_owners : (called : List ℕ) → Tells b h (Owners (owners names called))
+      (words_text order (node_words index all (Owners (owners names called))))
   tells_owners called =
       let list : List Owner = owners names called in
       let place : Owner → ℕ = λ o. text_place index.texts o.«module» in
@@ -105,14 +120,18 @@ module _ (order : Order) (resources : List Written) (can : CanLay resources) (ta
 
       go : (c d : Bool) → Tells b h (chosen c d) (words_text order (node_words index all (chosen c d)))
       go true d = tells_owners (drop 10 node)
-      go false true = tells_children (package_nodes names) (λ name there. Contains-append_right names (node_names names) name (package_there names name there))
+      go false true = tells_children (package_nodes names) (λ name there. Contains-append_right names (node_names names) name
+          (package_there names name there))
       go false false = tells_children (children names node) (child_named names node)
 
   tell : (e : Entry) → Contains (nodes_among (entries b h)) e → Tells b h (holds_of names e.name) e.content
   tell e there =
       let passed = from_filter (λ e. is_node e.name) (entries b h) e there in
-      elim (Contains-append_cases resources (written_nodes index resources) (e.name, e.content) (there_written order table es writable e passed.0)) [
-        | inl resource ↦ absurd (false≢true (sym (resource_name resources can e.name (contains_map (λ (r : Written). r.0) resources (e.name, e.content) resource)) ∙ passed.1))
+      elim (Contains-append_cases resources (written_nodes index resources) (e.name, e.content) (there_written order table es
+      writable e passed.0)) [
+        | inl resource ↦ absurd
+            (false≢true (sym (resource_name resources can e.name (contains_map (λ (r : Written). r.0) resources (e.name, e.content)
+            resource)) ∙ passed.1))
         | inr node ↦
             let (name, among, of) = from_written index resources (e.name, e.content) node in
             subst (λ (p : Written). Tells b h (holds_of names p.0) p.1) of (tells_node name)
@@ -125,7 +144,8 @@ module _ (order : Order) (resources : List Written) (can : CanLay resources) (ta
       let first = all_from_contains (λ n. is_node n ≡ false) names (resource_name resources can) in
       let second = all_from_contains (λ n. is_node n ≡ true) (node_names names) (node_name resources can) in
       subst (IsPermutation (map (λ e. e.name) (nodes_among (entries b h))))
-      (ap (filter is_node) (names_written index resources ∙ all_names_are resources) ∙ filter_second is_node names (node_names names) first second)
+      (ap (filter is_node) (names_written index resources ∙ all_names_are resources)
+      ∙ filter_second is_node names (node_names names) first second)
       (image_nodes order table es writable)
 
   pub laid_nodes : NodesOf b names

@@ -15,7 +15,8 @@ use Rattle.jm_writer.proofs.LaidNodes.{laid_nodes}
 use Rattle.jm_writer.proofs.LaidTable.{layout_from}
 use Rattle.jm_writer.proofs.LaidWritable.{laid_prefixes, laid_stands, laid_valid}
 
-laid_by : (order : Order) (resources : List Written) → CanLay resources → (table : GreedyTable) → layout_table resources ≡ Some table → length (layout_with order resources table) ≤ image_limit → IsLaidOut order resources (layout_with order resources table)
+laid_by : (order : Order) (resources : List Written) → CanLay resources → (table : GreedyTable) → layout_table resources
+    ≡ Some table → length (layout_with order resources table) ≤ image_limit → IsLaidOut order resources (layout_with order resources table)
 laid_by order resources can table is within = record {
   ordered = laid_ordered order resources can table is within;
   within = within;
@@ -27,13 +28,15 @@ laid_by order resources can table is within = record {
 }
 
 -- a layout of no more bytes than the limit
-pub laid_out : (order : Order) (resources : List Written) (b : List ℕ) → CanLay resources → layout order resources ≡ Some b → length b ≤ image_limit → IsLaidOut order resources b
+pub laid_out : (order : Order) (resources : List Written) (b : List ℕ) → CanLay resources → layout order resources ≡ Some b
+    → length b ≤ image_limit → IsLaidOut order resources b
 laid_out order resources b can is within =
     let (table, of, whole) = layout_from order resources b is in
     subst (IsLaidOut order resources) whole (laid_by order resources can table of (subst (λ l. length l ≤ image_limit) (sym whole) within))
 
 -- a name that is neither a resource's nor a node's is looked up in vain
-pub laid_missing : (order : Order) (resources : List Written) (b name : List ℕ) → IsLaidOut order resources b → lookup (bytes_eq name) resources ≡ None → (Contains (node_names (names_of resources)) name → ⊥) → look b name ≡ None
+pub laid_missing : (order : Order) (resources : List Written) (b name : List ℕ) → IsLaidOut order resources b
+    → lookup (bytes_eq name) resources ≡ None → (Contains (node_names (names_of resources)) name → ⊥) → look b name ≡ None
 laid_missing order resources b name laid none other = go (look b name) (laid.answers name other ∙ none)
   where
     go : (o : Option (Row × List ℕ)) → option_map (λ found. found.1) o ≡ None → o ≡ None

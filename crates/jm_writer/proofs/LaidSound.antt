@@ -1,5 +1,6 @@
 -- What a name that passes the check keeps: a byte, no zero byte, and a module, which is a piece of it.
-use Rattle.std.proofs.Common.{◌≡◌, ◌≢◌, ℕ, ◌+◌, ◌==◌, ◌&&◌, ◌||◌, inl, inr, Bool, true, false, cond, not, List, [], ◌∷◌, ◌++◌, take, drop, Contains, refl, sym, ap, ◌∙◌, subst}
+use Rattle.std.proofs.Common.{◌≡◌, ◌≢◌, ℕ, ◌+◌, ◌==◌, ◌&&◌, ◌||◌, inl, inr, Bool, true, false, cond, not}
+use Rattle.std.proofs.Common.{List, [], ◌∷◌, ◌++◌, take, drop, Contains, refl, sym, ap, ◌∙◌, subst}
 use Rattle.std.proofs.lemmas.Bool.{and_parts, eqb-true, false_from_ne_true, false≢true}
 use Rattle.std.proofs.lemmas.List.{take-append-drop}
 use Rattle.std.proofs.lemmas.List.Elements.{Contains-append_cases, Contains-append_left, Contains-append_right}
@@ -27,10 +28,12 @@ free_append front back first second there =
     ]
 
 pub free_take : (n : ℕ) (text : List ℕ) → IsZeroFree text → IsZeroFree (take n text)
-free_take n text free there = free (subst (λ l. Contains l 0) (take-append-drop n text) (Contains-append_left (take n text) (drop n text) 0 there))
+free_take n text free there = free (subst (λ l. Contains l 0) (take-append-drop n text) (Contains-append_left (take n text)
+    (drop n text) 0 there))
 
 pub free_drop : (n : ℕ) (text : List ℕ) → IsZeroFree text → IsZeroFree (drop n text)
-free_drop n text free there = free (subst (λ l. Contains l 0) (take-append-drop n text) (Contains-append_right (take n text) (drop n text) 0 there))
+free_drop n text free there = free (subst (λ l. Contains l 0) (take-append-drop n text) (Contains-append_right (take n text)
+    (drop n text) 0 there))
 
 dot_or_same : (b : ℕ) (test : Bool) → cond test 46 b ≡ 0 → b ≡ 0
 dot_or_same b true is = cc
@@ -60,23 +63,33 @@ module_some : (name : List ℕ) → has_module name ≡ true → list_any is_emp
 module_some name has whole =
     let rest : List ℕ = drop 1 name in
     let cut = slice_split_first is_slash rest 0 (position_below is_slash rest (slash_inside name has)) in
-    first_false (is_empty (module_of name)) (list_any is_empty (slice_split is_slash (after_first is_slash rest))) (sym (ap (list_any is_empty) cut) ∙ whole)
+    first_false (is_empty (module_of name)) (list_any is_empty (slice_split is_slash (after_first is_slash rest)))
+    (sym (ap (list_any is_empty) cut) ∙ whole)
 
 tail_module : (text parent tail : List ℕ) → (cut_tail text parent tail).«module» ≡ text
 tail_module text parent tail = go (list_any is_dot tail && not (is_empty (after_last is_dot tail)))
   where
-    go : (b : Bool) → (cond {A = Cut} b (record { «module» = text; parent = parent; base = before_last is_dot tail; ext = after_last is_dot tail }) (record { «module» = text; parent = parent; base = tail; ext = [] })).«module» ≡ text
+    go : (b : Bool) → (cond {A = Cut} b (record {
+      «module» = text;
+      parent = parent;
+      base = before_last is_dot tail;
+      ext =
+          after_last is_dot tail;
+    }) (record { «module» = text; parent = parent; base = tail; ext = [] })).«module» ≡ text
     go true = refl
     go false = refl
 
 rest_module : (text rest : List ℕ) → (cut_rest text rest).«module» ≡ text
 rest_module text rest = tree (is_tree text)
   where
-    below : (b : Bool) → (cond {A = Cut} b (cut_tail text (before_last is_slash rest) (after_last is_slash rest)) (cut_tail text [] rest)).«module» ≡ text
+    below : (b : Bool) → (cond {A = Cut} b (cut_tail text (before_last is_slash rest) (after_last is_slash rest))
+        (cut_tail text [] rest)).«module» ≡ text
     below true = tail_module text (before_last is_slash rest) (after_last is_slash rest)
     below false = tail_module text [] rest
 
-    tree : (b : Bool) → (cond {A = Cut} b (record { «module» = text; parent = []; base = rest; ext = [] }) (cond (not (is_empty (before_last is_slash rest))) (cut_tail text (before_last is_slash rest) (after_last is_slash rest)) (cut_tail text [] rest))).«module» ≡ text
+    tree : (b : Bool) → (cond {A = Cut} b (record { «module» = text; parent = []; base = rest; ext = [] })
+        (cond (not (is_empty (before_last is_slash rest))) (cut_tail text (before_last is_slash rest) (after_last is_slash rest))
+        (cut_tail text [] rest))).«module» ≡ text
     tree true = refl
     tree false = below (not (is_empty (before_last is_slash rest)))
 
@@ -84,7 +97,8 @@ module_piece : (name : List ℕ) → has_module name ≡ true → is_empty (modu
 module_piece [] has some = cc
 module_piece (b ∷ name) has some =
     let tests = and_parts (is_slash b) (list_any is_slash name) has in
-    ap (λ cut. cut.«module») (split-module b name (eqb-true b 47 tests.0) tests.1 some) ∙ rest_module (before_first is_slash name) (after_first is_slash name)
+    ap (λ cut. cut.«module») (split-module b name (eqb-true b 47 tests.0) tests.1 some) ∙ rest_module (before_first is_slash name)
+    (after_first is_slash name)
 
 name_some : (name : List ℕ) → has_module name ≡ true → name ≢ []
 name_some [] has = cc

@@ -1,5 +1,6 @@
 -- Six resources that can be laid out, by computing.
-use Rattle.std.proofs.Common.{◌≡◌, ◌≢◌, ℕ, ◌&&◌, Bool, true, false, not, List, [], ◌∷◌, All, AllPairs, Option, Some, None, is_none, unwrap_or, length, option_map, arith, refl, sym, ap, ◌∙◌}
+use Rattle.std.proofs.Common.{◌≡◌, ◌≢◌, ℕ, ◌&&◌, Bool, true, false, not, List, [], ◌∷◌, All, AllPairs, Option}
+use Rattle.std.proofs.Common.{Some, None, is_none, unwrap_or, length, option_map, arith, refl, sym, ap, ◌∙◌}
 use Rattle.std.proofs.lemmas.Bool.{and_parts, false≢true}
 use Rattle.std.proofs.lemmas.List.Elements.{All-cons, All-nil}
 use Rattle.std.proofs.lemmas.List.Kept.{AllPairs-cons}
@@ -34,7 +35,8 @@ apart_from [] test = pairs_none (λ m n. m ≢ n)
 apart_from (name ∷ names) test =
     let tests = and_parts (not (list_any (bytes_eq name) names)) (are_apart names) test in
     AllPairs-cons (λ m n. m ≢ n) name names
-    (all_from_contains (λ n. name ≢ n) names (λ n there same. false≢true (sym (ap not (any_contains (bytes_eq name) names n there ((bytes_eq-Decides name n).1 same))) ∙ tests.0)))
+    (all_from_contains (λ n. name ≢ n) names (λ n there same. false≢true
+    (sym (ap not (any_contains (bytes_eq name) names n there ((bytes_eq-Decides name n).1 same))) ∙ tests.0)))
     (apart_from names tests.1)
 
 none_from : (o : Option NameFault) → is_none o ≡ true → o ≡ None

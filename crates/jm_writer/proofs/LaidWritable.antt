@@ -1,6 +1,7 @@
 -- A layout of no more bytes than the limit is writable, so it is valid, stands for its resources, and
 -- each proper prefix of it has a first damage.
-use Rattle.std.proofs.Common.{◌≡◌, ◌≢◌, ℕ, ◌<◌, ◌≤◌, Bool, true, false, cond, not, List, [], ◌∷◌, ◌++◌, length, map, take, Some, None, All, Contains, refl, sym, ap, ◌∙◌, subst, arith}
+use Rattle.std.proofs.Common.{◌≡◌, ◌≢◌, ℕ, ◌<◌, ◌≤◌, Bool, true, false, cond, not, List, [], ◌∷◌, ◌++◌}
+use Rattle.std.proofs.Common.{length, map, take, Some, None, All, Contains, refl, sym, ap, ◌∙◌, subst, arith}
 use Rattle.std.proofs.lemmas.List.{append-nil}
 use Rattle.std.proofs.lemmas.List.Elements.{All-head, All-tail, filter-append}
 use Rattle.std.specs.Prelude.{filter}
@@ -27,28 +28,35 @@ use Rattle.jm_writer.proofs.LaidTable.{slots_within, table_found}
 
 pub filter_all : {X : Type 0} (p : X → Bool) (xs : List X) → All (λ x. p x ≡ true) xs → filter p xs ≡ xs
 filter_all p [] passes = refl
-filter_all p (x ∷ xs) passes = ap (λ b. cond b (x ∷ filter p xs) (filter p xs)) (All-head (λ y. p y ≡ true) x xs passes) ∙ ap (λ l. x ∷ l) (filter_all p xs (All-tail (λ y. p y ≡ true) x xs passes))
+filter_all p (x ∷ xs) passes = ap (λ b. cond b (x ∷ filter p xs) (filter p xs)) (All-head (λ y. p y ≡ true) x xs passes)
+    ∙ ap (λ l. x ∷ l) (filter_all p xs (All-tail (λ y. p y ≡ true) x xs passes))
 
 -- of two lists, all of the first and nothing of the second
-pub filter_first : {X : Type 0} (p : X → Bool) (xs ys : List X) → All (λ x. p x ≡ true) xs → All (λ y. p y ≡ false) ys → filter p (xs ++ ys) ≡ xs
-filter_first p xs ys all none = filter-append p xs ys ∙ ap (λ l. l ++ filter p ys) (filter_all p xs all) ∙ ap (λ l. xs ++ l) (filter_none p ys none) ∙ append-nil xs
+pub filter_first : {X : Type 0} (p : X → Bool) (xs ys : List X) → All (λ x. p x ≡ true) xs → All (λ y. p y ≡ false) ys
+    → filter p (xs ++ ys) ≡ xs
+filter_first p xs ys all none = filter-append p xs ys ∙ ap (λ l. l ++ filter p ys) (filter_all p xs all)
+    ∙ ap (λ l. xs ++ l) (filter_none p ys none) ∙ append-nil xs
 
-pub filter_second : {X : Type 0} (p : X → Bool) (xs ys : List X) → All (λ x. p x ≡ false) xs → All (λ y. p y ≡ true) ys → filter p (xs ++ ys) ≡ ys
+pub filter_second : {X : Type 0} (p : X → Bool) (xs ys : List X) → All (λ x. p x ≡ false) xs → All (λ y. p y ≡ true) ys
+    → filter p (xs ++ ys) ≡ ys
 filter_second p xs ys none all = filter-append p xs ys ∙ ap (λ l. l ++ filter p ys) (filter_none p xs none) ∙ filter_all p ys all
 
 -- Nodes that are written
 
 -- the node that a written one is
 pub from_written : (index : Index) (resources : List Written) (e : Written) → Contains (written_nodes index resources) e
-    → (node : List ℕ) × Contains (node_names (names_of resources)) node × (written_node index (all_names resources) (record { name = node; holds = holds_of (names_of resources) node }) ≡ e)
+    → (node : List ℕ) × Contains (node_names (names_of resources)) node
+    × (written_node index (all_names resources) (record { name = node; holds = holds_of (names_of resources) node }) ≡ e)
 from_written index resources e there =
     let (tree, among, is) = from_map (written_node index (all_names resources)) (tree_nodes (names_of resources)) e there in
-    let (node, inside, of) = from_map (λ node. record { name = node; holds = holds_of (names_of resources) node }) (node_names (names_of resources)) tree among in
+    let (node, inside, of) = from_map (λ node. record { name = node; holds = holds_of (names_of resources) node })
+    (node_names (names_of resources)) tree among in
     (node, inside, ap (written_node index (all_names resources)) of ∙ is)
 
 -- A layout
 
-module _ (order : Order) (resources : List Written) (can : CanLay resources) (table : GreedyTable) (is : layout_table resources ≡ Some table) (within : length (layout_with order resources table) ≤ image_limit) where
+module _ (order : Order) (resources : List Written) (can : CanLay resources) (table : GreedyTable) (is : layout_table resources
+    ≡ Some table) (within : length (layout_with order resources table) ≤ image_limit) where
   abbrev index : Index
   index = layout_index order table resources
 
@@ -78,7 +86,8 @@ module _ (order : Order) (resources : List Written) (can : CanLay resources) (ta
   laid_valid = image_valid order table es laid_writable
 
   no_nodes : All (λ (r : Written). not (is_node r.0) ≡ true) resources
-  no_nodes = all_from_contains (λ (r : Written). not (is_node r.0) ≡ true) resources (λ r there. ap not (resource_name resources can r.0 (contains_map (λ (r : Written). r.0) resources r there)))
+  no_nodes = all_from_contains (λ (r : Written). not (is_node r.0) ≡ true) resources
+      (λ r there. ap not (resource_name resources can r.0 (contains_map (λ (r : Written). r.0) resources r there)))
 
   only_nodes : All (λ (r : Written). not (is_node r.0) ≡ false) (written_nodes index resources)
   only_nodes = all_from_contains (λ (r : Written). not (is_node r.0) ≡ false) (written_nodes index resources)
@@ -87,7 +96,8 @@ module _ (order : Order) (resources : List Written) (can : CanLay resources) (ta
       ap (λ (e : Written). not (is_node e.0)) (sym of) ∙ ap not (node_name resources can node inside))
 
   pub laid_stands : Stands b resources
-  laid_stands = subst (Stands b) (filter_first (λ (r : Written). not (is_node r.0)) resources (written_nodes index resources) no_nodes only_nodes) (image_stands order table es laid_writable)
+  laid_stands = subst (Stands b) (filter_first (λ (r : Written). not (is_node r.0)) resources (written_nodes index resources)
+      no_nodes only_nodes) (image_stands order table es laid_writable)
 
   pub laid_prefixes : (n : ℕ) → n < length b → first_damage (take n b) ≢ None
   laid_prefixes = prefix_damaged order table es laid_writable

@@ -1,5 +1,6 @@
 -- The layout by its parts: names and sizes of all entries are known before the contents of the nodes.
-use Rattle.std.proofs.Common.{◌≡◌, ℕ, ◌+◌, ◌*◌, ◌<◌, get_or, List, [], ◌∷◌, ◌++◌, length, map, take, drop, slice_get, Some, refl, sym, ap, ◌∙◌, arith, append_assoc, length-append}
+use Rattle.std.proofs.Common.{◌≡◌, ℕ, ◌+◌, ◌*◌, ◌<◌, get_or, List, [], ◌∷◌, ◌++◌, length, map, take, drop}
+use Rattle.std.proofs.Common.{slice_get, Some, refl, sym, ap, ◌∙◌, arith, append_assoc, length-append}
 use Rattle.std.specs.Prelude.{sum}
 use Rattle.std.specs.List.{flat_map, range_with_len}
 use Rattle.std.proofs.lemmas.List.{append-nil, map-append, length-map, take-append-drop}
@@ -37,7 +38,9 @@ words_length order (word ∷ words) =
     omega (arith, one, rest, all)
 
 -- one word more is put
-pub word_put : {A : Type 0} (order : Order) (f : A → ℕ) (xs : List A) (i : ℕ) (d : A) (text : List ℕ) → i < length xs → (text ++ word_bytes order (f (get_or xs i d))) ++ words_text order (map f (drop (i + 1) xs)) ≡ text ++ words_text order (map f (drop i xs))
+pub word_put : {A : Type 0} (order : Order) (f : A → ℕ) (xs : List A) (i : ℕ) (d : A) (text : List ℕ) → i < length xs
+    → (text ++ word_bytes order (f (get_or xs i d))) ++ words_text order (map f (drop (i + 1) xs))
+    ≡ text ++ words_text order (map f (drop i xs))
 word_put order f xs i d text below =
     append_assoc text (word_bytes order (f (get_or xs i d))) (words_text order (map f (drop (i + 1) xs)))
     ∙ ap (λ l. text ++ words_text order (map f l)) (sym (drop_at_index xs i d below))
@@ -46,7 +49,8 @@ owners_length : (index : Index) (owners : List Owner) → length (flat_map (owne
 owners_length index [] = refl
 owners_length index (owner ∷ owners) = let rest = owners_length index owners in omega (arith, rest)
 
-holds_length : (index : Index) (names : List (List ℕ)) (holds : Holds) → length (words_text index.order (node_words index names holds)) ≡ holds_size holds
+holds_length : (index : Index) (names : List (List ℕ)) (holds : Holds)
+    → length (words_text index.order (node_words index names holds)) ≡ holds_size holds
 holds_length index names (Children list) =
     let words = node_words index names (Children list) in
     words_length index.order words ∙ ap (λ n. 4 * n) (length-map list (name_place index names))
@@ -55,10 +59,12 @@ holds_length index names (Owners owners) =
     let two = owners_length index owners in
     omega (arith, words, two)
 
-sized_written : (index : Index) (names : List (List ℕ)) (nodes : List TreeNode) → map sized (map (written_node index names) nodes) ≡ map sized_node nodes
+sized_written : (index : Index) (names : List (List ℕ)) (nodes : List TreeNode) → map sized (map (written_node index names) nodes)
+    ≡ map sized_node nodes
 sized_written index names [] = refl
 sized_written index names (node ∷ nodes) =
-    ap (λ (n : ℕ). record { name = node.name; size = n } ∷ map sized (map (written_node index names) nodes)) (holds_length index names node.holds)
+    ap (λ (n : ℕ). record { name = node.name; size = n } ∷ map sized (map (written_node index names) nodes))
+    (holds_length index names node.holds)
     ∙ ap (λ l. sized_node node ∷ l) (sized_written index names nodes)
 
 -- the entries have the names and sizes that were known before
@@ -71,10 +77,12 @@ sized_layout index pool =
 
 pub contents-append : (first second : List Written) → contents_text (first ++ second) ≡ contents_text first ++ contents_text second
 contents-append [] second = refl
-contents-append (e ∷ first) second = ap (λ l. e.1 ++ l) (contents-append first second) ∙ sym (append_assoc e.1 (contents_text first) (contents_text second))
+contents-append (e ∷ first) second = ap (λ l. e.1 ++ l) (contents-append first second)
+    ∙ sym (append_assoc e.1 (contents_text first) (contents_text second))
 
 -- one content more behind a front, and what is left behind it
-pub contents_more : (es : List Written) (place : ℕ) (e : Written) (front : List ℕ) → slice_get es place ≡ Some e → (front ++ contents_text (take place es)) ++ e.1 ≡ front ++ contents_text (take (place + 1) es)
+pub contents_more : (es : List Written) (place : ℕ) (e : Written) (front : List ℕ) → slice_get es place ≡ Some e
+    → (front ++ contents_text (take place es)) ++ e.1 ≡ front ++ contents_text (take (place + 1) es)
 contents_more es place e front is =
     append_assoc front (contents_text (take place es)) e.1
     ∙ ap (λ l. front ++ l)
@@ -82,7 +90,8 @@ contents_more es place e front is =
     ∙ sym (contents-append (take place es) (e ∷ []))
     ∙ ap contents_text (sym (take_there es place e is)))
 
-pub contents_ends : (es : List Written) (place : ℕ) (e : Written) (front : List ℕ) → slice_get es place ≡ Some e → ((front ++ contents_text (take place es)) ++ e.1) ++ contents_text (drop (place + 1) es) ≡ front ++ contents_text es
+pub contents_ends : (es : List Written) (place : ℕ) (e : Written) (front : List ℕ) → slice_get es place ≡ Some e
+    → ((front ++ contents_text (take place es)) ++ e.1) ++ contents_text (drop (place + 1) es) ≡ front ++ contents_text es
 contents_ends es place e front is =
     ap (λ l. l ++ contents_text (drop (place + 1) es)) (contents_more es place e front is)
     ∙ append_assoc front (contents_text (take (place + 1) es)) (contents_text (drop (place + 1) es))
@@ -92,7 +101,8 @@ contents_ends es place e front is =
 
 -- the index, the contents of the resources, and those of the nodes
 pub layout_parts : (order : Order) (pool : List Written) (table : GreedyTable) → layout_with order pool table
-    ≡ index_text (layout_index order table pool) ++ (contents_text pool ++ contents_text (written_nodes (layout_index order table pool) pool))
+    ≡ index_text (layout_index order table pool)
+    ++ (contents_text pool ++ contents_text (written_nodes (layout_index order table pool) pool))
 layout_parts order pool table =
     let index = layout_index order table pool in
     let nodes = written_nodes index pool in
@@ -111,7 +121,8 @@ contents_length (e ∷ es) =
 
 pub layout_length : (order : Order) (pool : List Written) (table : GreedyTable) → length table.redirects ≡ table.length
     → length (layout_with order pool table)
-    ≡ ((28 + 8 * table.length) + length (locations_text (layout_index order table pool)) + length (section_of (layout_index order table pool).texts)) + sum (map (λ e. e.size) (all_sized pool))
+    ≡ ((28 + 8 * table.length) + length (locations_text (layout_index order table pool))
+    + length (section_of (layout_index order table pool).texts)) + sum (map (λ e. e.size) (all_sized pool))
 layout_length order pool table redirects =
     let index = layout_index order table pool in
     let es = pool ++ written_nodes index pool in

@@ -1,6 +1,8 @@
 -- The slots to which a table leads names: those of its own names, and so of all children of the nodes
 -- of a pool.
-use Rattle.std.proofs.Common.{◌≡◌, ◌≢◌, ℕ, zero, suc, ◌%◌, Bool, true, false, cond, List, [], ◌∷◌, ◌++◌, Some, None, map, get_or, slice_get, drop, AllPairs, Contains, refl, sym, ap, ◌∙◌, subst, arith}
+use Rattle.std.proofs.Common.{◌≡◌, ◌≢◌, ℕ, zero, suc, ◌%◌, Bool, true, false, cond, List, [], ◌∷◌, ◌++◌, Some}
+use Rattle.std.proofs.Common.{None, map, get_or, slice_get, drop, AllPairs, Contains, refl, sym, ap, ◌∙◌}
+use Rattle.std.proofs.Common.{subst, arith}
 use Rattle.std.proofs.lemmas.Bool.{le-ltb}
 use Rattle.std.proofs.lemmas.List.{get_or_default}
 use Rattle.std.proofs.lemmas.List.Elements.{Contains-append_right}
@@ -49,7 +51,8 @@ mapped_past f (y ∷ xs) zero is = cc
 mapped_past f (y ∷ xs) (suc i) is = mapped_past f xs i is
 
 -- a name of the table is led to its own slot
-pub led_there : (names : List (List ℕ)) (table : Table) → IsTable names table → AllPairs (λ m n. m ≢ n) names → (name : List ℕ) → Contains names name → slot_in table name ≡ lookup (bytes_eq name) (zip names table.slot_of)
+pub led_there : (names : List (List ℕ)) (table : Table) → IsTable names table → AllPairs (λ m n. m ≢ n) names → (name : List ℕ)
+    → Contains names name → slot_in table name ≡ lookup (bytes_eq name) (zip names table.slot_of)
 led_there names table is differ name (k, inside, here) =
     let own : get_or names k [] ≡ name = get_or_default names k [] name inside ∙ here in
     let long = is.serves.given_length in
@@ -66,13 +69,15 @@ AreNamed names (Owners owners) = Unit {0}
 holds_named : (names : List (List ℕ)) (node : List ℕ) → AreNamed (names ++ node_names names) (holds_of names node)
 holds_named names node = go (is_package_node node) (bytes_eq node (codes "/packages"))
   where
-    go : (c d : Bool) → AreNamed (names ++ node_names names) (cond c (Owners (owners names (drop 10 node))) (cond d (Children (package_nodes names)) (Children (children names node))))
+    go : (c d : Bool) → AreNamed (names ++ node_names names) (cond c (Owners (owners names (drop 10 node)))
+        (cond d (Children (package_nodes names)) (Children (children names node))))
     go true d = tt
     go false true = λ name there. Contains-append_right names (node_names names) name (package_there names name there)
     go false false = child_named names node
 
 -- the children of all nodes of a pool are names of its entries
-pub nodes_named : (pool : List Written) (node : TreeNode) → Contains (tree_nodes (names_of pool)) node → AreNamed (all_names pool) node.holds
+pub nodes_named : (pool : List Written) (node : TreeNode) → Contains (tree_nodes (names_of pool)) node
+    → AreNamed (all_names pool) node.holds
 nodes_named pool node there =
     let names = names_of pool in
     let (name, among, of) = from_map (λ (n : List ℕ). record { name = n; holds = holds_of names n }) (node_names names) node there in

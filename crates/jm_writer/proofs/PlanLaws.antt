@@ -1,5 +1,8 @@
 -- The parts that were laid out and drawn are those of the layout.
-use Rattle.std.proofs.Common.{AllPairs, ◌≢◌, ◌≡◌, ℕ, zero, suc, ◌+◌, ◌*◌, ◌<◌, ◌≤◌, ◌==◌, ◌⊎◌, inl, inr, Bool, true, false, cond, is_some, List, [], ◌∷◌, ◌++◌, Option, Some, None, Err, unwrap_or, length, map, get_or, slice_get, All, Contains, refl, sym, ap, ◌∙◌, subst, arith, append_assoc, length-append}
+use Rattle.std.proofs.Common.{AllPairs, ◌≢◌, ◌≡◌, ℕ, zero, suc, ◌+◌, ◌*◌, ◌<◌, ◌≤◌, ◌==◌, ◌⊎◌, inl, inr, Bool}
+use Rattle.std.proofs.Common.{true, false, cond, is_some, List, [], ◌∷◌, ◌++◌, Option, Some, None, Err}
+use Rattle.std.proofs.Common.{unwrap_or, length, map, get_or, slice_get, All, Contains, refl, sym, ap, ◌∙◌}
+use Rattle.std.proofs.Common.{subst, arith, append_assoc, length-append}
 use Rattle.std.specs.Prelude.{sum}
 use Rattle.std.specs.List.{flat_map, range_with_len, zip}
 use Rattle.std.specs.Map.{lookup}
@@ -52,7 +55,8 @@ flat_mapped f g (x ∷ xs) = ap (λ l. f (g x) ++ l) (flat_mapped f g xs)
 
 map_same : {A B : Type 0} (f g : A → B) (xs : List A) → ((x : A) → Contains xs x → f x ≡ g x) → map f xs ≡ map g xs
 map_same f g [] same = refl
-map_same f g (x ∷ xs) same = ap (λ y. y ∷ map f xs) (same x (contains_here x xs)) ∙ ap (λ l. g x ∷ l) (map_same f g xs (λ y there. same y (contains_later x xs y there)))
+map_same f g (x ∷ xs) same = ap (λ y. y ∷ map f xs) (same x (contains_here x xs))
+    ∙ ap (λ l. g x ∷ l) (map_same f g xs (λ y there. same y (contains_later x xs y there)))
 
 slice_get_or : (xs : List ℕ) (i : ℕ) → unwrap_or (slice_get xs i) 0 ≡ get_or xs i 0
 slice_get_or [] i = refl
@@ -80,7 +84,8 @@ module _ (index : Index) where
   locations_are : (count : ℕ) → locations_of (map (row_in index) (range_with_len 0 count)) ≡ locations_below index count
   locations_are count = ap (λ l. 0 ∷ l) (flat_mapped location_of (row_in index) (range_with_len 0 count))
 
-  below_next : (slot : ℕ) → length (locations_below index slot) + length (location_of (row_in index slot)) ≡ length (locations_below index (slot + 1))
+  below_next : (slot : ℕ) → length (locations_below index slot) + length (location_of (row_in index slot))
+      ≡ length (locations_below index (slot + 1))
   below_next slot =
       let row : ℕ → List ℕ = λ below. location_of (row_in index below) in
       let more : flat_map row (range_with_len 0 (slot + 1)) ≡ flat_map row (range_with_len 0 slot) ++ row slot =
@@ -97,10 +102,12 @@ module _ (index : Index) where
       go None = refl
       go (Some row) = refl
 
-  places_are : (slot count : ℕ) → places_from (length (locations_below index slot)) (map (row_in index) (range_with_len slot count)) ≡ map (row_place index) (range_with_len slot count)
+  places_are : (slot count : ℕ) → places_from (length (locations_below index slot)) (map (row_in index) (range_with_len slot count))
+      ≡ map (row_place index) (range_with_len slot count)
   places_are slot zero = refl
   places_are slot (suc count) =
-      ap (λ n. n ∷ places_from (length (locations_below index slot) + length (location_of (row_in index slot))) (map (row_in index) (range_with_len (slot + 1) count))) (place_is slot)
+      ap (λ n. n ∷ places_from (length (locations_below index slot) + length (location_of (row_in index slot)))
+      (map (row_in index) (range_with_len (slot + 1) count))) (place_is slot)
       ∙ ap (λ l. row_place index slot ∷ l)
       (ap (λ n. places_from n (map (row_in index) (range_with_len (slot + 1) count))) (below_next slot) ∙ places_are (slot + 1) count)
 
@@ -108,32 +115,39 @@ module _ (index : Index) where
   all_places = places_are 0 index.table.length
 
   -- a slot that no entry has
-  none_at : (slots : List ℕ) (rows : List Row) (slot count : ℕ) → count ≤ slot → All (λ s. s < count) slots → lookup (λ other. slot == other) (zip slots rows) ≡ None
+  none_at : (slots : List ℕ) (rows : List Row) (slot count : ℕ) → count ≤ slot → All (λ s. s < count) slots
+      → lookup (λ other. slot == other) (zip slots rows) ≡ None
   none_at [] rows slot count above below = refl
   none_at (s ∷ slots) [] slot count above below = refl
   none_at (s ∷ slots) (row ∷ rows) slot count above below = go (slot == s) refl (λ rest. none_at slots rows slot count above rest)
     where
-      go : (b : Bool) → (slot == s) ≡ b → (All (λ x. x < count) slots → lookup (λ other. slot == other) (zip slots rows) ≡ None) → cond b (Some row) (lookup (λ other. slot == other) (zip slots rows)) ≡ None
+      go : (b : Bool) → (slot == s) ≡ b → (All (λ x. x < count) slots → lookup (λ other. slot == other) (zip slots rows) ≡ None)
+          → cond b (Some row) (lookup (λ other. slot == other) (zip slots rows)) ≡ None
       go true test rest =
           let same = eqb-true slot s test in
           let inside = All-head (λ x. x < count) s slots below in
           absurd (omega arith)
       go false test rest = rest (All-tail (λ x. x < count) s slots below)
 
-  place_found : All (λ s. s < index.table.length) index.table.slots → (slot : ℕ) → unwrap_or (slice_get (offset_words index) slot) 0 ≡ row_place index slot
+  place_found : All (λ s. s < index.table.length) index.table.slots → (slot : ℕ) → unwrap_or (slice_get (offset_words index) slot) 0
+      ≡ row_place index slot
   place_found below slot = slice_get_or (offset_words index) slot ∙ elim (cases_lt slot index.table.length) [
     | inl inside ↦ get_or-map-range_with_len (row_place index) 0 index.table.length slot slot 0 inside (omega arith)
     | inr above ↦
         get_or_past (offset_words index) slot 0 (let long = length-map-range_with_len (row_place index) 0 index.table.length in omega arith)
-        ∙ sym (ap (λ (o : Option Row). cond (is_some o) (length (locations_below index slot)) 0) (none_at index.table.slots index.rows slot index.table.length (omega arith) below))
+        ∙ sym (ap (λ (o : Option Row). cond (is_some o) (length (locations_below index slot)) 0) (none_at index.table.slots
+        index.rows slot index.table.length (omega arith) below))
   ]
 
   -- Index
 
-  index_is : length index.table.redirects ≡ index.table.length → index_bytes index.order (length index.rows) (redirect_words index) (offset_words index) (locations_text index) (section_of index.texts) ≡ index_text index
+  index_is : length index.table.redirects ≡ index.table.length → index_bytes index.order (length index.rows) (redirect_words index)
+      (offset_words index) (locations_text index) (section_of index.texts) ≡ index_text index
   index_is whole =
       let same : length (redirect_words index) ≡ index.table.length = length-map index.table.redirects word_of ∙ whole in
-      ap (λ n. words_text index.order ((0xCAFEDADA ∷ 0x00010000 ∷ 0 ∷ length index.rows ∷ n ∷ length (locations_text index) ∷ length (section_of index.texts) ∷ []) ++ (redirect_words index ++ offset_words index)) ++ (locations_text index ++ section_of index.texts)) same
+      ap (λ n. words_text index.order ((0xCAFEDADA ∷ 0x00010000 ∷ 0 ∷ length index.rows ∷ n ∷ length (locations_text index)
+      ∷ length (section_of index.texts) ∷ []) ++ (redirect_words index ++ offset_words index))
+      ++ (locations_text index ++ section_of index.texts)) same
 
   -- Nodes
 
@@ -141,20 +155,27 @@ module _ (index : Index) where
   abbrev Leads : List (List ℕ) → Table → Type 0
   Leads names table = (name : List ℕ) → Contains names name → slot_in table name ≡ lookup (bytes_eq name) (zip names index.table.slots)
 
-  child_is : (names : List (List ℕ)) (table : Table) → All (λ s. s < index.table.length) index.table.slots → Leads names table → (name : List ℕ) → Contains names name → child_word table (offset_words index) name ≡ name_place index names name
+  child_is : (names : List (List ℕ)) (table : Table) → All (λ s. s < index.table.length) index.table.slots → Leads names table
+      → (name : List ℕ) → Contains names name → child_word table (offset_words index) name ≡ name_place index names name
   child_is names table below leads name there =
       place_found below (unwrap_or (slot_in table name) 0)
       ∙ ap (λ (o : Option ℕ). row_place index (unwrap_or o 0)) (leads name there)
 
-  holds_are : (names : List (List ℕ)) (table : Table) → All (λ s. s < index.table.length) index.table.slots → Leads names table → (holds : Holds) → AreNamed names holds → holds_words index.texts table (offset_words index) holds ≡ node_words index names holds
-  holds_are names table below leads (Children list) named = map_same (child_word table (offset_words index)) (name_place index names) list (λ name there. child_is names table below leads name (named name there))
+  holds_are : (names : List (List ℕ)) (table : Table) → All (λ s. s < index.table.length) index.table.slots → Leads names table
+      → (holds : Holds) → AreNamed names holds → holds_words index.texts table (offset_words index) holds ≡ node_words index names holds
+  holds_are names table below leads (Children list) named = map_same (child_word table (offset_words index))
+      (name_place index names) list (λ name there. child_is names table below leads name (named name there))
   holds_are names table below leads (Owners owners) named = refl
 
-  tail_is : (names : List (List ℕ)) (table : Table) (nodes : List TreeNode) → All (λ s. s < index.table.length) index.table.slots → Leads names table → ((node : TreeNode) → Contains nodes node → AreNamed names node.holds) → tail_bytes index.order index.texts table (offset_words index) nodes ≡ contents_text (map (written_node index names) nodes)
+  tail_is : (names : List (List ℕ)) (table : Table) (nodes : List TreeNode) → All (λ s. s < index.table.length) index.table.slots
+      → Leads names table → ((node : TreeNode) → Contains nodes node → AreNamed names node.holds)
+      → tail_bytes index.order index.texts table (offset_words index) nodes ≡ contents_text (map (written_node index names) nodes)
   tail_is names table [] below leads named = refl
   tail_is names table (node ∷ nodes) below leads named =
-      ap (λ w. words_text index.order w ++ tail_bytes index.order index.texts table (offset_words index) nodes) (holds_are names table below leads node.holds (named node (contains_here node nodes)))
-      ∙ ap (λ l. words_text index.order (node_words index names node.holds) ++ l) (tail_is names table nodes below leads (λ other there. named other (contains_later node nodes other there)))
+      ap (λ w. words_text index.order w ++ tail_bytes index.order index.texts table (offset_words index) nodes)
+      (holds_are names table below leads node.holds (named node (contains_here node nodes)))
+      ∙ ap (λ l. words_text index.order (node_words index names node.holds) ++ l) (tail_is names table nodes below leads
+      (λ other there. named other (contains_later node nodes other there)))
 
 -- The whole
 
@@ -181,7 +202,8 @@ module _ (order : Order) (pool : List Written) (table : Table) (is : IsTable (al
   length_is : laid_length (lists_of es) table ≡ length (layout_with order pool is.greedy)
   length_is =
       ap (λ (l : List ℕ). ((28 + 8 * table.length) + length l + length (section_of index.texts)) + sum (map (λ e. e.size) es)) text_is
-      ∙ ap (λ (n : ℕ). ((28 + 8 * n) + length (locations_text index) + length (section_of index.texts)) + sum (map (λ e. e.size) es)) is.size
+      ∙ ap (λ (n : ℕ). ((28 + 8 * n) + length (locations_text index) + length (section_of index.texts))
+      + sum (map (λ e. e.size) es)) is.size
       ∙ sym (layout_length order pool is.greedy is.whole)
 
   leads : CanLay pool → Leads index (all_names pool) table
@@ -189,7 +211,9 @@ module _ (order : Order) (pool : List Written) (table : Table) (is : IsTable (al
       led_there (all_names pool) table is (names_differ pool can) name there
       ∙ ap (λ s. lookup (bytes_eq name) (zip (all_names pool) s)) is.given
 
-  drafted : (laid : Laid) (nodes : List TreeNode) (draft : Draft) → CanLay pool → IsLaid (lists_of es) table laid → IsDrawn order (lists_of es) table laid nodes draft → nodes ≡ tree_nodes (names_of pool) → first_clash (names_of pool) ≡ None → length es ≤ 1048576 → IsDraft order pool draft
+  drafted : (laid : Laid) (nodes : List TreeNode) (draft : Draft) → CanLay pool → IsLaid (lists_of es) table laid
+      → IsDrawn order (lists_of es) table laid nodes draft → nodes ≡ tree_nodes (names_of pool) → first_clash (names_of pool) ≡ None
+      → length es ≤ 1048576 → IsDraft order pool draft
   drafted laid nodes draft can lay drawn all apart few = record {
     table = is.greedy;
     has_table = is.first;
@@ -198,11 +222,16 @@ module _ (order : Order) (pool : List Written) (table : Table) (is : IsTable (al
     order = drawn.order;
     index =
         drawn.index
-        ∙ ap (λ w. index_bytes order (length (all_names pool)) w laid.locations.places.items laid.locations.text.items (section_of laid.strings)) is.words
-        ∙ ap (λ p. index_bytes order (length (all_names pool)) (redirect_words index) p laid.locations.text.items (section_of laid.strings)) (lay.places ∙ places_is)
-        ∙ ap (λ l. index_bytes order (length (all_names pool)) (redirect_words index) (offset_words index) l (section_of laid.strings)) (lay.text ∙ text_is)
-        ∙ ap (λ t. index_bytes order (length (all_names pool)) (redirect_words index) (offset_words index) (locations_text index) (section_of t)) lay.texts
-        ∙ ap (λ n. index_bytes order n (redirect_words index) (offset_words index) (locations_text index) (section_of index.texts)) (length-map es (λ e. e.name) ∙ sym (length-rows index.texts 0 es))
+        ∙ ap (λ w. index_bytes order (length (all_names pool)) w laid.locations.places.items laid.locations.text.items
+        (section_of laid.strings)) is.words
+        ∙ ap (λ p. index_bytes order (length (all_names pool)) (redirect_words index) p laid.locations.text.items
+        (section_of laid.strings)) (lay.places ∙ places_is)
+        ∙ ap (λ l. index_bytes order (length (all_names pool)) (redirect_words index) (offset_words index) l
+        (section_of laid.strings)) (lay.text ∙ text_is)
+        ∙ ap (λ t. index_bytes order (length (all_names pool)) (redirect_words index) (offset_words index) (locations_text index)
+        (section_of t)) lay.texts
+        ∙ ap (λ n. index_bytes order n (redirect_words index) (offset_words index) (locations_text index) (section_of index.texts))
+        (length-map es (λ e. e.name) ∙ sym (length-rows index.texts 0 es))
         ∙ index_is index is.whole;
     tail =
         drawn.tail
@@ -215,29 +244,37 @@ module _ (order : Order) (pool : List Written) (table : Table) (is : IsTable (al
     slots = drawn.slots ∙ is.size;
   }
 
-  large : (number : ℕ) → ((number ≡ 0) × (limit < length (section_of index.texts))) ⊎ ((number ≡ laid_length (lists_of es) table) × (image_limit < number) × (length (section_of index.texts) ≤ limit)) → IsLarge order pool number
+  large : (number : ℕ) → ((number ≡ 0) × (limit < length (section_of index.texts))) ⊎ ((number ≡ laid_length (lists_of es) table)
+      × (image_limit < number) × (length (section_of index.texts) ≤ limit)) → IsLarge order pool number
   large number (inl (none, long)) = record {
     table = is.greedy;
     has_table = is.first;
     long = let all = layout_length order pool is.greedy is.whole in omega (arith, all, long);
-    number = none ∙ sym (ap (λ (b : Bool). cond b 0 (length (layout_with order pool is.greedy))) (lt-ltb limit (length (section_of index.texts)) long));
+    number = none ∙ sym (ap (λ (b : Bool). cond b 0 (length (layout_with order pool is.greedy)))
+        (lt-ltb limit (length (section_of index.texts)) long));
   }
   large number (inr (is_length, long, fits)) = record {
     table = is.greedy;
     has_table = is.first;
     long = subst (λ n. image_limit < n) (is_length ∙ length_is) long;
-    number = is_length ∙ length_is ∙ sym (ap (λ (b : Bool). cond b 0 (length (layout_with order pool is.greedy))) (le-ltb limit (length (section_of index.texts)) fits));
+    number = is_length ∙ length_is ∙ sym (ap (λ (b : Bool). cond b 0 (length (layout_with order pool is.greedy)))
+        (le-ltb limit (length (section_of index.texts)) fits));
   }
 
 -- what was drawn is the draft of the pool
-pub plan_drafted : (order : Order) (pool : List Written) (entries : Entries) (table : Table) (laid : Laid) (nodes : List TreeNode) (draft : Draft) → CanLay pool → IsOfEntries (all_sized pool) entries → IsTable entries.names table → IsLaid entries table laid → IsDrawn order entries table laid nodes draft → nodes ≡ tree_nodes (names_of pool) → first_clash (names_of pool) ≡ None → length (all_sized pool) ≤ 1048576 → IsDraft order pool draft
+pub plan_drafted : (order : Order) (pool : List Written) (entries : Entries) (table : Table) (laid : Laid) (nodes : List TreeNode)
+    (draft : Draft) → CanLay pool → IsOfEntries (all_sized pool) entries → IsTable entries.names table → IsLaid entries table laid
+    → IsDrawn order entries table laid nodes draft → nodes ≡ tree_nodes (names_of pool) → first_clash (names_of pool) ≡ None
+    → length (all_sized pool) ≤ 1048576 → IsDraft order pool draft
 plan_drafted order pool entries table laid nodes draft can of_entries tabled lay drawn all apart few =
     subst (λ (e : Entries). IsTable e.names table → IsLaid e table laid → IsDrawn order e table laid nodes draft → IsDraft order pool draft)
     (sym (entries_are (all_sized pool) entries of_entries))
     (λ t l d. drafted order pool table t laid nodes draft can l d all apart few) tabled lay drawn
 
 -- an image that is too large
-pub plan_large : (order : Order) (pool : List Written) (entries : Entries) (table : Table) (why : PlanError) → IsOfEntries (all_sized pool) entries → IsTable entries.names table → Lays entries table (Err why) → first_clash (names_of pool) ≡ None → length (all_sized pool) ≤ 1048576 → Plans order pool (Err why)
+pub plan_large : (order : Order) (pool : List Written) (entries : Entries) (table : Table) (why : PlanError)
+    → IsOfEntries (all_sized pool) entries → IsTable entries.names table → Lays entries table (Err why)
+    → first_clash (names_of pool) ≡ None → length (all_sized pool) ≤ 1048576 → Plans order pool (Err why)
 plan_large order pool entries table (refusal.TooLarge number) of_entries tabled lays apart few = (
   record { apart = apart; few = few },
   subst (λ (e : Entries). IsTable e.names table → Lays e table (Err (refusal.TooLarge number)) → IsLarge order pool number)
@@ -250,14 +287,16 @@ plan_large order pool entries table (refusal.TooMany number) of_entries tabled l
 plan_large order pool entries table (refusal.NoTable lengths) of_entries tabled lays apart few = absurd lays
 
 -- how many entries there are
-pub count_sized : (pool : List Written) (nodes : List TreeNode) → nodes ≡ tree_nodes (names_of pool) → length (all_sized pool) ≡ length pool + length nodes
+pub count_sized : (pool : List Written) (nodes : List TreeNode) → nodes ≡ tree_nodes (names_of pool) → length (all_sized pool)
+    ≡ length pool + length nodes
 count_sized pool nodes is =
     length-append (map sized pool) (map sized_node (tree_nodes (names_of pool)))
     ∙ ap (λ n. n + length (map sized_node (tree_nodes (names_of pool)))) (length-map pool sized)
     ∙ ap (λ n. length pool + n) (length-map (tree_nodes (names_of pool)) sized_node ∙ ap length (sym is))
 
 -- the entries of a pool whose names differ and make trees
-pub entries_fit : (pool : List Written) (entries : Entries) → IsOfEntries (all_sized pool) entries → length (all_sized pool) ≤ 1048576 → CanLay pool → AreFit entries
+pub entries_fit : (pool : List Written) (entries : Entries) → IsOfEntries (all_sized pool) entries → length (all_sized pool)
+    ≤ 1048576 → CanLay pool → AreFit entries
 entries_fit pool entries is few can =
     let names = ap length is.names ∙ length-map (all_sized pool) (λ e. e.name) in
     let sizes = ap length is.sizes ∙ length-map (all_sized pool) (λ e. e.size) in

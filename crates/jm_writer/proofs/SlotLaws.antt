@@ -1,5 +1,7 @@
 -- Rows that are put into their slots, one after another.
-use Rattle.std.proofs.Common.{◌∷◌, [], ◌≡◌, ◌≢◌, ℕ, ◌+◌, ◌<◌, ◌≤◌, ◌==◌, Bool, true, false, cond, List, length, drop, get_or, set, Option, Some, None, AllPairs, refl, sym, ap, ◌∙◌, arith, inl, inr, get_or-set_other, get_or-set_same, replicate}
+use Rattle.std.proofs.Common.{◌∷◌, [], ◌≡◌, ◌≢◌, ℕ, ◌+◌, ◌<◌, ◌≤◌, ◌==◌, Bool, true, false, cond, List}
+use Rattle.std.proofs.Common.{length, drop, get_or, set, Option, Some, None, AllPairs, refl, sym, ap, ◌∙◌}
+use Rattle.std.proofs.Common.{arith, inl, inr, get_or-set_other, get_or-set_same, replicate}
 use Rattle.std.proofs.lemmas.Bool.{eqb-true, eqb-false, cases_lt}
 use Rattle.std.proofs.lemmas.List.{get_or_past, get_or-replicate, length-replicate, length-set}
 use Rattle.std.specs.List.{zip}
@@ -19,7 +21,8 @@ row_at slots rows slot = lookup (λ other. slot == other) (zip slots rows)
 -- the rows in front of a place were put into their slots, which later rows don't have
 pub record Placed (slots : List ℕ) (rows : List Row) (count place : ℕ) (found : List (Option Row)) : Type 0 where
   pub long : length found ≡ count
-  pub left : (slot : ℕ) → slot < count → option_or (get_or found slot None) (row_at (drop place slots) (drop place rows) slot) ≡ row_at slots rows slot
+  pub left : (slot : ℕ) → slot < count → option_or (get_or found slot None) (row_at (drop place slots) (drop place rows) slot)
+      ≡ row_at slots rows slot
   pub free : (later : ℕ) → place ≤ later → later < length slots → get_or found (get_or slots later 0) None ≡ None
 
 pub placed_none : (slots : List ℕ) (rows : List Row) (count : ℕ) → Placed slots rows count 0 (replicate count None)
@@ -36,7 +39,10 @@ placed_none slots rows count = record {
     ]
 
 -- one row more
-pub placed_next : (slots : List ℕ) (rows : List Row) (count place : ℕ) (found : List (Option Row)) (d : Row) → length slots ≡ length rows → place < length slots → get_or slots place 0 < count → AllPairs (λ one other. one ≢ other) slots → Placed slots rows count place found → Placed slots rows count (place + 1) (set found (get_or slots place 0) (Some (get_or rows place d)))
+pub placed_next : (slots : List ℕ) (rows : List Row) (count place : ℕ) (found : List (Option Row)) (d : Row) → length slots
+    ≡ length rows → place < length slots → get_or slots place 0 < count → AllPairs (λ one other. one ≢ other) slots
+    → Placed slots rows count place found → Placed slots rows count (place + 1) (set found (get_or slots place 0)
+    (Some (get_or rows place d)))
 placed_next slots rows count place found d same inside below differ placed = record {
   long = let long = placed.long in simp length-set long;
   left = λ slot within. go slot within (slot == own) refl;
@@ -65,13 +71,16 @@ placed_next slots rows count place found d same inside below differ placed = rec
     passed true o is = cc
     passed false o is = refl
 
-    go : (slot : ℕ) → slot < count → (b : Bool) → (slot == own) ≡ b → option_or (get_or (set found own (Some row)) slot None) (rest slot) ≡ row_at slots rows slot
+    go : (slot : ℕ) → slot < count → (b : Bool) → (slot == own) ≡ b → option_or (get_or (set found own (Some row)) slot None)
+        (rest slot) ≡ row_at slots rows slot
     go slot within true test =
         let is : slot ≡ own = eqb-true slot own test in
         let free : get_or found slot None ≡ None = ap (λ n. get_or found n None) is ∙ placed.free place (omega arith) inside in
         let here : row_at (drop place slots) (drop place rows) slot ≡ Some row = first slot ∙ taken (slot == own) (rest slot) test in
-        let old : Some row ≡ row_at slots rows slot = sym (ap (λ o. option_or o (row_at (drop place slots) (drop place rows) slot)) free ∙ here) ∙ placed.left slot within in
-        let new : get_or (set found own (Some row)) slot None ≡ Some row = ap (λ n. get_or (set found own (Some row)) n None) is ∙ get_or-set_same found own (Some row) None (let long = placed.long in omega arith) in
+        let old : Some row ≡ row_at slots rows slot = sym (ap (λ o. option_or o (row_at (drop place slots) (drop place rows) slot))
+        free ∙ here) ∙ placed.left slot within in
+        let new : get_or (set found own (Some row)) slot None ≡ Some row = ap (λ n. get_or (set found own (Some row)) n None) is
+        ∙ get_or-set_same found own (Some row) None (let long = placed.long in omega arith) in
         ap (λ o. option_or o (rest slot)) new ∙ old
     go slot within false test =
         let other : slot ≢ own = eqb-false slot own test in
@@ -80,7 +89,8 @@ placed_next slots rows count place found d same inside below differ placed = rec
         ∙ sym (ap (option_or (get_or found slot None)) here) ∙ placed.left slot within
 
 -- all rows
-pub placed_all : (slots : List ℕ) (rows : List Row) (count : ℕ) (found : List (Option Row)) → Placed slots rows count (length slots) found → found ≡ rows_in_slots slots rows count
+pub placed_all : (slots : List ℕ) (rows : List Row) (count : ℕ) (found : List (Option Row)) → Placed slots rows count (length slots)
+    found → found ≡ rows_in_slots slots rows count
 placed_all slots rows count found placed =
     same_items found (rows_in_slots slots rows count) None
     (placed.long ∙ sym (length-map-range_with_len (row_at slots rows) 0 count))
@@ -99,23 +109,36 @@ placed_all slots rows count found placed =
 -- Rows of entries, one behind another
 
 -- there is a row for each entry
-pub length_rows_at : (offset : ℕ) (places : List TextPlaces) (sizes : List ℕ) → length places ≡ length sizes → length (rows_at offset places sizes) ≡ length sizes
+pub length_rows_at : (offset : ℕ) (places : List TextPlaces) (sizes : List ℕ) → length places ≡ length sizes
+    → length (rows_at offset places sizes) ≡ length sizes
 length_rows_at offset [] [] same = refl
 length_rows_at offset [] (size ∷ sizes) same = absurd (omega arith)
 length_rows_at offset (places ∷ others) [] same = absurd (omega arith)
-length_rows_at offset (places ∷ others) (size ∷ sizes) same = let next = length_rows_at (offset + size) others sizes (omega arith) in omega arith
+length_rows_at offset (places ∷ others) (size ∷ sizes) same =
+    let next = length_rows_at (offset + size) others sizes (omega arith) in omega arith
 
 -- rows that are left begin with that of the entry at this place
-pub row_there : (offset : ℕ) (places : List TextPlaces) (sizes : List ℕ) (rows : List Row) (entry : ℕ) (p : TextPlaces) (d : Row) → length places ≡ length sizes → length rows ≡ length sizes → entry < length sizes → rows_at offset (drop entry places) (drop entry sizes) ≡ drop entry rows → parts.row_at (get_or places entry p) offset (get_or sizes entry 0) ≡ get_or rows entry d
+pub row_there : (offset : ℕ) (places : List TextPlaces) (sizes : List ℕ) (rows : List Row) (entry : ℕ) (p : TextPlaces) (d : Row)
+    → length places ≡ length sizes → length rows ≡ length sizes → entry < length sizes → rows_at offset (drop entry places)
+    (drop entry sizes) ≡ drop entry rows → parts.row_at (get_or places entry p) offset (get_or sizes entry 0) ≡ get_or rows entry d
 row_there offset places sizes rows entry p d beside same inside left =
-    go (sym (rw (drop_at_index places entry p (omega arith), drop_at_index sizes entry 0 inside) refl) ∙ left ∙ drop_at_index rows entry d (omega arith))
+    go (sym (rw (drop_at_index places entry p (omega arith), drop_at_index sizes entry 0 inside) refl) ∙ left
+    ∙ drop_at_index rows entry d (omega arith))
   where
-    go : parts.row_at (get_or places entry p) offset (get_or sizes entry 0) ∷ rows_at (offset + get_or sizes entry 0) (drop (entry + 1) places) (drop (entry + 1) sizes) ≡ get_or rows entry d ∷ drop (entry + 1) rows → parts.row_at (get_or places entry p) offset (get_or sizes entry 0) ≡ get_or rows entry d
+    go : parts.row_at (get_or places entry p) offset (get_or sizes entry 0) ∷ rows_at (offset + get_or sizes entry 0)
+        (drop (entry + 1) places) (drop (entry + 1) sizes) ≡ get_or rows entry d ∷ drop (entry + 1) rows
+        → parts.row_at (get_or places entry p) offset (get_or sizes entry 0) ≡ get_or rows entry d
     go same = cc
 
-pub rows_behind : (offset : ℕ) (places : List TextPlaces) (sizes : List ℕ) (rows : List Row) (entry : ℕ) (p : TextPlaces) (d : Row) → length places ≡ length sizes → length rows ≡ length sizes → entry < length sizes → rows_at offset (drop entry places) (drop entry sizes) ≡ drop entry rows → rows_at (offset + get_or sizes entry 0) (drop (entry + 1) places) (drop (entry + 1) sizes) ≡ drop (entry + 1) rows
+pub rows_behind : (offset : ℕ) (places : List TextPlaces) (sizes : List ℕ) (rows : List Row) (entry : ℕ) (p : TextPlaces) (d : Row)
+    → length places ≡ length sizes → length rows ≡ length sizes → entry < length sizes → rows_at offset (drop entry places)
+    (drop entry sizes) ≡ drop entry rows → rows_at (offset + get_or sizes entry 0) (drop (entry + 1) places)
+    (drop (entry + 1) sizes) ≡ drop (entry + 1) rows
 rows_behind offset places sizes rows entry p d beside same inside left =
-    go (sym (rw (drop_at_index places entry p (omega arith), drop_at_index sizes entry 0 inside) refl) ∙ left ∙ drop_at_index rows entry d (omega arith))
+    go (sym (rw (drop_at_index places entry p (omega arith), drop_at_index sizes entry 0 inside) refl) ∙ left
+    ∙ drop_at_index rows entry d (omega arith))
   where
-    go : parts.row_at (get_or places entry p) offset (get_or sizes entry 0) ∷ rows_at (offset + get_or sizes entry 0) (drop (entry + 1) places) (drop (entry + 1) sizes) ≡ get_or rows entry d ∷ drop (entry + 1) rows → rows_at (offset + get_or sizes entry 0) (drop (entry + 1) places) (drop (entry + 1) sizes) ≡ drop (entry + 1) rows
+    go : parts.row_at (get_or places entry p) offset (get_or sizes entry 0) ∷ rows_at (offset + get_or sizes entry 0)
+        (drop (entry + 1) places) (drop (entry + 1) sizes) ≡ get_or rows entry d ∷ drop (entry + 1) rows
+        → rows_at (offset + get_or sizes entry 0) (drop (entry + 1) places) (drop (entry + 1) sizes) ≡ drop (entry + 1) rows
     go same = cc

@@ -25,14 +25,16 @@ with_texts-append held [] second = refl
 with_texts-append held (text ∷ first) second = with_texts-append (with_text text held) first second
 
 -- a new text that finds no room makes the section too long, and others behind it leave it so
-pub full_with : (held : List (List ℕ)) (text : List ℕ) (texts : List (List ℕ)) → place_of text held ≡ None → limit < length (section_of (held ++ text ∷ [])) → limit < length (section_of (with_texts (with_text text held) texts))
+pub full_with : (held : List (List ℕ)) (text : List ℕ) (texts : List (List ℕ)) → place_of text held ≡ None
+    → limit < length (section_of (held ++ text ∷ [])) → limit < length (section_of (with_texts (with_text text held) texts))
 full_with held text texts new long =
     let is : with_text text held ≡ held ++ text ∷ [] = ap (λ o. cond (is_some o) held (held ++ text ∷ [])) new in
     let same = ap (λ l. length (section_of l)) is in
     let rest = grows (with_text text held) texts in
     omega (arith, same, rest, long)
 
-pub full_more : (held texts more : List (List ℕ)) → limit < length (section_of (with_texts held texts)) → limit < length (section_of (with_texts held (texts ++ more)))
+pub full_more : (held texts more : List (List ℕ)) → limit < length (section_of (with_texts held texts))
+    → limit < length (section_of (with_texts held (texts ++ more)))
 full_more held texts more long =
     let is = ap (λ l. length (section_of l)) (with_texts-append held texts more) in
     let rest = grows (with_texts held texts) more in

@@ -7,11 +7,15 @@ use Rattle.jm_class.proofs.attributes.attributes.Goals as goal
 
 pub returns-in_err-attribute : goal.returns-in_err-attribute
 returns-in_err-attribute c =
-    gives_stop attribute_of (map attribute_of) _ _ c.in_err-attribute.field-0.0 c.from_residual-in_err-attribute.result c.attribute.new.cursor c.attribute.new.cursor c.from_residual-in_err-attribute.ensures.1 c.in_err-attribute.ensures
-    (λ fault stops. c.loop-k.invariant ∙ counted-stop c.in_ok-count.count c.loop-k._k (attribute_field (pool_of c.args.pool.now) c.args.in_method) (map attribute_of c.loop-k.attributes) c.loop-k.cursor fault c.loop-k-test.true stops)
+    gives_stop attribute_of (map attribute_of) _ _ c.in_err-attribute.field-0.0 c.from_residual-in_err-attribute.result
+    c.attribute.new.cursor c.attribute.new.cursor c.from_residual-in_err-attribute.ensures.1 c.in_err-attribute.ensures
+    (λ fault stops. c.loop-k.invariant ∙ counted-stop c.in_ok-count.count c.loop-k._k (attribute_field (pool_of c.args.pool.now)
+    c.args.in_method) (map attribute_of c.loop-k.attributes) c.loop-k.cursor fault c.loop-k-test.true stops)
 
 pub loop-k-preserved : goal.loop-k-preserved
 loop-k-preserved c =
     let grown = map_pushed attribute_of c.loop-k.attributes c.push.new.self c.in_ok-attribute.attribute c.in_ok-push.ensures.ok in
     rw grown
-    (c.loop-k.invariant ∙ counted-next c.in_ok-count.count c.loop-k._k (attribute_field (pool_of c.args.pool.now) c.args.in_method) (map attribute_of c.loop-k.attributes) c.loop-k.cursor c.attribute.new.cursor (attribute_of c.in_ok-attribute.attribute) c.loop-k-test.true c.in_ok-attribute.ensures)
+    (c.loop-k.invariant ∙ counted-next c.in_ok-count.count c.loop-k._k (attribute_field (pool_of c.args.pool.now) c.args.in_method)
+    (map attribute_of c.loop-k.attributes) c.loop-k.cursor c.attribute.new.cursor (attribute_of c.in_ok-attribute.attribute)
+    c.loop-k-test.true c.in_ok-attribute.ensures)

@@ -6,4 +6,5 @@ use Rattle.jm_class.proofs.ListReadings.{prefixed}
 use Rattle.jm_class.proofs.attributes.plains.Given as goal
 
 abbrev pub invariant-loop-k : goal.invariant-loop-k
-invariant-loop-k l = list_of (fault_at l.missing) (opaque_field (fault_at l.missing) (pool_of l.pool)) l.fn.cursor ≡ prefixed (map opaque_of l.attributes) (counted (l.count - l._k) (opaque_field (fault_at l.missing) (pool_of l.pool)) l.cursor)
+invariant-loop-k l = list_of (fault_at l.missing) (opaque_field (fault_at l.missing) (pool_of l.pool)) l.fn.cursor
+    ≡ prefixed (map opaque_of l.attributes) (counted (l.count - l._k) (opaque_field (fault_at l.missing) (pool_of l.pool)) l.cursor)

@@ -7,4 +7,5 @@ use Rattle.jm_class.proofs.ListReadings.{prefixed}
 use Rattle.jm_class.proofs.members.members.Given as goal
 
 abbrev pub invariant-loop-k : goal.invariant-loop-k
-invariant-loop-k l = list_of Short (member_field (pool_of l.pool) l.in_method) l.fn.cursor ≡ prefixed (map member_of l.members) (counted (l.count - l._k) (member_field (pool_of l.pool) l.in_method) l.cursor)
+invariant-loop-k l = list_of Short (member_field (pool_of l.pool) l.in_method) l.fn.cursor ≡ prefixed (map member_of l.members)
+    (counted (l.count - l._k) (member_field (pool_of l.pool) l.in_method) l.cursor)

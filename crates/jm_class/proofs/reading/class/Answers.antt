@@ -5,31 +5,79 @@ use Rattle.jm_class.proofs.reading.class.Goals as goal
 
 pub returns-in_err-fields : goal.returns-in_err-fields
 returns-in_err-fields c =
-    gives_stop (map member_of) plain _ _ c.in_err-fields.field-0.0 c.from_residual-in_err-fields.result c.members.new.cursor c.members.new.cursor c.from_residual-in_err-fields.ensures.1 c.in_err-fields.ensures
+    gives_stop (map member_of) plain _ _ c.in_err-fields.field-0.0 c.from_residual-in_err-fields.result c.members.new.cursor
+    c.members.new.cursor c.from_residual-in_err-fields.ensures.1 c.in_err-fields.ensures
     (λ fault stops.
     let fields = rw c.as_slice.ensures at stops in
-    rw (c.in_ok-_magic.ensures, c.in_ok-minor.ensures, c.in_ok-major.ensures, c.in_ok-pool.ensures, c.in_ok-access.ensures, c.in_ok-this_class.ensures, c.in_ok-super_class.ensures, c.in_ok-interfaces.ensures, fields) refl)
+    rw (
+      c.in_ok-_magic.ensures,
+      c.in_ok-minor.ensures,
+      c.in_ok-major.ensures,
+      c.in_ok-pool.ensures,
+      c.in_ok-access.ensures,
+      c.in_ok-this_class.ensures,
+      c.in_ok-super_class.ensures,
+      c.in_ok-interfaces.ensures,
+      fields,
+    ) refl)
 
 pub returns-in_err-methods : goal.returns-in_err-methods
 returns-in_err-methods c =
-    gives_stop (map member_of) plain _ _ c.in_err-methods.field-0.0 c.from_residual-in_err-methods.result c.members-2.new.cursor c.members-2.new.cursor c.from_residual-in_err-methods.ensures.1 c.in_err-methods.ensures
+    gives_stop (map member_of) plain _ _ c.in_err-methods.field-0.0 c.from_residual-in_err-methods.result c.members-2.new.cursor
+    c.members-2.new.cursor c.from_residual-in_err-methods.ensures.1 c.in_err-methods.ensures
     (λ fault stops.
     let fields = rw c.as_slice.ensures at c.in_ok-fields.ensures in
     let methods = rw c.as_slice-2.ensures at stops in
-    rw (c.in_ok-_magic.ensures, c.in_ok-minor.ensures, c.in_ok-major.ensures, c.in_ok-pool.ensures, c.in_ok-access.ensures, c.in_ok-this_class.ensures, c.in_ok-super_class.ensures, c.in_ok-interfaces.ensures, fields, methods) refl)
+    rw (
+      c.in_ok-_magic.ensures,
+      c.in_ok-minor.ensures,
+      c.in_ok-major.ensures,
+      c.in_ok-pool.ensures,
+      c.in_ok-access.ensures,
+      c.in_ok-this_class.ensures,
+      c.in_ok-super_class.ensures,
+      c.in_ok-interfaces.ensures,
+      fields,
+      methods,
+    ) refl)
 
 pub returns-in_err-attributes : goal.returns-in_err-attributes
 returns-in_err-attributes c =
-    gives_stop (map attribute_of) plain _ _ c.in_err-attributes.field-0.0 c.from_residual-in_err-attributes.result c.attributes.new.cursor c.attributes.new.cursor c.from_residual-in_err-attributes.ensures.1 c.in_err-attributes.ensures
+    gives_stop (map attribute_of) plain _ _ c.in_err-attributes.field-0.0 c.from_residual-in_err-attributes.result
+    c.attributes.new.cursor c.attributes.new.cursor c.from_residual-in_err-attributes.ensures.1 c.in_err-attributes.ensures
     (λ fault stops.
     let fields = rw c.as_slice.ensures at c.in_ok-fields.ensures in
     let methods = rw c.as_slice-2.ensures at c.in_ok-methods.ensures in
     let attributes = rw c.as_slice-3.ensures at stops in
-    rw (c.in_ok-_magic.ensures, c.in_ok-minor.ensures, c.in_ok-major.ensures, c.in_ok-pool.ensures, c.in_ok-access.ensures, c.in_ok-this_class.ensures, c.in_ok-super_class.ensures, c.in_ok-interfaces.ensures, fields, methods, attributes) refl)
+    rw (
+      c.in_ok-_magic.ensures,
+      c.in_ok-minor.ensures,
+      c.in_ok-major.ensures,
+      c.in_ok-pool.ensures,
+      c.in_ok-access.ensures,
+      c.in_ok-this_class.ensures,
+      c.in_ok-super_class.ensures,
+      c.in_ok-interfaces.ensures,
+      fields,
+      methods,
+      attributes,
+    ) refl)
 
 pub returns : goal.returns
 returns c =
     let fields = rw c.as_slice.ensures at c.in_ok-fields.ensures in
     let methods = rw c.as_slice-2.ensures at c.in_ok-methods.ensures in
     let attributes = rw c.as_slice-3.ensures at c.in_ok-attributes.ensures in
-    rw (c.in_ok-_magic.ensures, c.in_ok-minor.ensures, c.in_ok-major.ensures, c.in_ok-pool.ensures, c.in_ok-access.ensures, c.in_ok-this_class.ensures, c.in_ok-super_class.ensures, c.in_ok-interfaces.ensures, fields, methods, attributes) refl
+    rw (
+      c.in_ok-_magic.ensures,
+      c.in_ok-minor.ensures,
+      c.in_ok-major.ensures,
+      c.in_ok-pool.ensures,
+      c.in_ok-access.ensures,
+      c.in_ok-this_class.ensures,
+      c.in_ok-super_class.ensures,
+      c.in_ok-interfaces.ensures,
+      fields,
+      methods,
+      attributes,
+    ) refl

@@ -6,7 +6,8 @@ use Rattle.jm_class.proofs.reading.magic.Goals as goal
 
 pub returns-in_err-found : goal.returns-in_err-found
 returns-in_err-found c =
-    gives_stop (λ n. n) (λ n. n) _ _ c.in_err-found.field-0.0 c.from_residual.result c.number32.new.cursor c.number32.new.cursor c.from_residual.ensures.1 c.in_err-found.ensures
+    gives_stop (λ n. n) (λ n. n) _ _ c.in_err-found.field-0.0 c.from_residual.result c.number32.new.cursor c.number32.new.cursor
+    c.from_residual.ensures.1 c.in_err-found.ensures
     (λ fault stops. rw stops refl)
 
 pub returns-then-found : goal.returns-then-found

@@ -8,8 +8,10 @@ use Rattle.jm_class.proofs.reading.whole.Goals as goal
 pub returns-then-len-ne0 : goal.returns-then-len-ne0
 returns-then-len-ne0 c =
     rw c.place.ensures
-    (ap value_of (ended-rest Rest class_fields (record { place = 0; bytes = c.args.bytes.now }) c.class.new.cursor (plain c.in_ok-class.class) c.len.result (rw c.new-cursor.ensures at c.in_ok-class.ensures) c.len.ensures c.if-len-ne0.true))
+    (ap value_of (ended-rest Rest class_fields (record { place = 0; bytes = c.args.bytes.now }) c.class.new.cursor
+    (plain c.in_ok-class.class) c.len.result (rw c.new-cursor.ensures at c.in_ok-class.ensures) c.len.ensures c.if-len-ne0.true))
 
 pub returns : goal.returns
 returns c =
-    ap value_of (ended-all Rest class_fields (record { place = 0; bytes = c.args.bytes.now }) c.class.new.cursor (plain c.in_ok-class.class) c.len.result (rw c.new-cursor.ensures at c.in_ok-class.ensures) c.len.ensures c.if-len-ne0.false)
+    ap value_of (ended-all Rest class_fields (record { place = 0; bytes = c.args.bytes.now }) c.class.new.cursor
+    (plain c.in_ok-class.class) c.len.result (rw c.new-cursor.ensures at c.in_ok-class.ensures) c.len.ensures c.if-len-ne0.false)

@@ -5,4 +5,5 @@ use Rattle.jm_classout.proofs.Loops.{texts}
 use Rattle.jm_classout.proofs.sizes.plains_size.Given as goal
 
 abbrev pub invariant-loop-attribute : goal.invariant-loop-attribute
-invariant-loop-attribute l = l.size + length (texts opaque_of opaque_text (drop l.attribute-index l.attributes)) ≡ length (texts opaque_of opaque_text l.attributes)
+invariant-loop-attribute l = l.size + length (texts opaque_of opaque_text (drop l.attribute-index l.attributes))
+    ≡ length (texts opaque_of opaque_text l.attributes)

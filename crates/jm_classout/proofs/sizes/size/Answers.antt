@@ -4,7 +4,8 @@ use Rattle.jm_class.specs.Views.{plain}
 use Rattle.jm_classout.proofs.ClassTexts.{class_length}
 use Rattle.jm_classout.proofs.sizes.size.Goals as goal
 
-whole : (c : goal.After-attributes_size-attributes) → length (class_text (plain c.args.class.now)) ≡ 24 + c.slots_size-pool.result + 2 * c.len.result + c.members_size-fields.result + c.members_size-methods.result + c.attributes_size-attributes.result
+whole : (c : goal.After-attributes_size-attributes) → length (class_text (plain c.args.class.now)) ≡ 24 + c.slots_size-pool.result
+    + 2 * c.len.result + c.members_size-fields.result + c.members_size-methods.result + c.attributes_size-attributes.result
 whole c =
     let pool = rw c.as_slice.ensures at c.slots_size-pool.ensures in
     let fields = rw c.as_slice-2.ensures at c.members_size-fields.ensures in

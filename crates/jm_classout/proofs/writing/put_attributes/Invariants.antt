@@ -5,4 +5,5 @@ use Rattle.jm_classout.proofs.Loops.{texts}
 use Rattle.jm_classout.proofs.writing.put_attributes.Given as goal
 
 abbrev pub invariant-loop-attribute : goal.invariant-loop-attribute
-invariant-loop-attribute l = l.text.items ++ texts attribute_of attribute_text (drop l.attribute-index l.attributes) ≡ l.initial.text.items ++ texts attribute_of attribute_text l.attributes
+invariant-loop-attribute l = l.text.items ++ texts attribute_of attribute_text (drop l.attribute-index l.attributes)
+    ≡ l.initial.text.items ++ texts attribute_of attribute_text l.attributes

@@ -22,6 +22,18 @@ returns c =
     let methods = rw c.as_slice-4.ensures at c.in_ok-put_members-2.ensures in
     let attributes = rw c.as_slice-5.ensures at last in
     let all : c.put_attributes.new.text.items ≡ put_all c.args.text.now.items parts =
-    rw (attributes, methods, fields, interfaces, c.in_ok-put16-5.ensures, c.in_ok-put16-4.ensures, c.in_ok-put16-3.ensures, pool, c.in_ok-put16-2.ensures, c.in_ok-put16.ensures, c.in_ok-put32.ensures) refl in
+    rw (
+      attributes,
+      methods,
+      fields,
+      interfaces,
+      c.in_ok-put16-5.ensures,
+      c.in_ok-put16-4.ensures,
+      c.in_ok-put16-3.ensures,
+      pool,
+      c.in_ok-put16-2.ensures,
+      c.in_ok-put16.ensures,
+      c.in_ok-put32.ensures,
+    ) refl in
     all ∙ put_all-joined c.args.text.now.items parts)
     c.put_attributes.ensures

@@ -10,7 +10,8 @@ first_on_cycle-requires-clause-graph c = graph_within c.args.found.now c.args.gr
 pub returns-in_ok-name-in-Some-clause-err : goal.returns-in_ok-name-in-Some-clause-err
 returns-in_ok-name-in-Some-clause-err c =
     let first = rw c.in-Some.is at c.in_ok-place.ensures in
-    let within = first_within (λ i. IsMarked c.args.chosen.now i × OnCycle c.args.graph.now i) (λ i. i < length c.args.found.now) c.args.order.now c.in-Some.place first c.requires.order.within in
+    let within = first_within (λ i. IsMarked c.args.chosen.now i × OnCycle c.args.graph.now i) (λ i. i < length c.args.found.now)
+    c.args.order.now c.in-Some.place first c.requires.order.within in
     rw (c.in_ok-name-in-Some.ensures, c.as_slice.ensures)
     (first_cycle c.args.found.now c.args.graph.now c.args.order.now c.args.chosen.now c.in-Some.place
     (get_or c.args.found.now c.in-Some.place c.index-found-place.result) c.requires.graph c.requires.order first

@@ -10,7 +10,8 @@ returns-in_default-clause-ok c =
 pub unreachable-requires : goal.unreachable-requires
 unreachable-requires c =
     let shared = c.in-Some.«package».now in
-    let least = least_shared c.args.found.now c.args.chosen.now (Some shared) c.requires.differ (rw c.in-Some.is at c.in_ok-package.ensures) in
+    let least = least_shared c.args.found.now c.args.chosen.now (Some shared) c.requires.differ
+    (rw c.in-Some.is at c.in_ok-package.ensures) in
     some_holder c.args.found.now c.args.chosen.now shared least.0
     (rw (sym c.in_default-least_holder.ensures) at (least_holding c.args.found.now c.args.chosen.now shared None))
 
@@ -18,7 +19,8 @@ pub unreachable-requires-in_default-least_holder-2 : goal.unreachable-requires-i
 unreachable-requires-in_default-least_holder-2 c =
     let shared = c.in-Some.«package».now in
     let first = c.in-Some-least_holder.first.now in
-    let least = least_shared c.args.found.now c.args.chosen.now (Some shared) c.requires.differ (rw c.in-Some.is at c.in_ok-package.ensures) in
+    let least = least_shared c.args.found.now c.args.chosen.now (Some shared) c.requires.differ
+    (rw c.in-Some.is at c.in_ok-package.ensures) in
     other_holder c.args.found.now c.args.chosen.now shared first least.0
     (rw (sym c.in_default-least_holder-2.ensures) at (least_holding c.args.found.now c.args.chosen.now shared (Some first)))
 
@@ -27,7 +29,8 @@ returns-clause-err c =
     let shared = c.in-Some.«package».now in
     let first = c.in-Some-least_holder.first.now in
     let second = c.in-Some-least_holder-2.second.now in
-    let least = least_shared c.args.found.now c.args.chosen.now (Some shared) c.requires.differ (rw c.in-Some.is at c.in_ok-package.ensures) in
+    let least = least_shared c.args.found.now c.args.chosen.now (Some shared) c.requires.differ
+    (rw c.in-Some.is at c.in_ok-package.ensures) in
     rw c.in_ok-split.ensures
     (splits_at c.args.found.now c.args.chosen.now shared first second least
     (rw (sym c.in-Some-least_holder.ensures) at (least_holding c.args.found.now c.args.chosen.now shared None))

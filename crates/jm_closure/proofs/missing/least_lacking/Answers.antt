@@ -14,8 +14,10 @@ loop-place-preserved c =
       | then-chosen-place w ↦
           rw (w.least-is, w.lesser_lack-least.ensures)
           (sym (least_of-append (is_lost c.args.names.now) _ (required_by c.index-found-place.result) (flat_map required_by rest))
-          ∙ (rw (chosen_takes c.args.chosen.now c.args.found.now c.loop-place.place c.index-found-place.result flagged c.loop-place-test.true c.index-found-place.is w.if-chosen-place.true) at c.loop-place.invariant))
+          ∙ (rw (chosen_takes c.args.chosen.now c.args.found.now c.loop-place.place c.index-found-place.result flagged
+          c.loop-place-test.true c.index-found-place.is w.if-chosen-place.true) at c.loop-place.invariant))
       | else-chosen-place w ↦
           rw w.least-is
-          (rw (chosen_skips c.args.chosen.now c.args.found.now c.loop-place.place c.index-found-place.result flagged c.loop-place-test.true c.index-found-place.is w.if-chosen-place.false) at c.loop-place.invariant)
+          (rw (chosen_skips c.args.chosen.now c.args.found.now c.loop-place.place c.index-found-place.result flagged
+          c.loop-place-test.true c.index-found-place.is w.if-chosen-place.false) at c.loop-place.invariant)
     ]

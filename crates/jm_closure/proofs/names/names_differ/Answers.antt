@@ -19,7 +19,8 @@ pub returns-in-Some : goal.returns-in-Some
 returns-in-Some c = (
   (λ is. absurd (false≢true is)),
   λ differ. absurd
-      (not_different c.args.found.now c.loop-place.names c.loop-place.place c.in-Some.field-0 c.index-found-place.result c.loop-place.invariant
+      (not_different c.args.found.now c.loop-place.names c.loop-place.place c.in-Some.field-0 c.index-found-place.result
+      c.loop-place.invariant
       (found_at c.args.found.now c.loop-place.place c.index-found-place.result c.loop-place-test.true c.index-found-place.is)
       (rw c.as_slice-name.ensures at (sym c.get.ensures ∙ c.in-Some.is)) differ),
 )

@@ -6,7 +6,8 @@ use Rattle.jm_closure.proofs.split.note.Goals as goal
 
 pub loop-package-preserved : goal.loop-package-preserved
 loop-package-preserved c = λ pairs noted.
-    rw (besides_more pairs c.args.place c.args.packages.now c.loop-package.package-index c.package-item.result c.loop-package-test.true c.package-item.is)
+    rw (besides_more pairs c.args.place c.args.packages.now c.loop-package.package-index c.package-item.result
+    c.loop-package-test.true c.package-item.is)
     ((rw c.as_slice.ensures at c.in_ok-least.ensures) (besides pairs c.args.place (take c.loop-package.package-index c.args.packages.now))
     (c.loop-package.invariant pairs noted))
 

@@ -13,7 +13,8 @@ pub put_renumbered-requires-clause-within : goal.put_renumbered-requires-clause-
 put_renumbered-requires-clause-within c =
     let size = rw c.as_slice.ensures at c.in_ok-size.ensures.size in
     rw c.split_at-2.ensures.back
-    (sites_put (plain c.args.class.now) c.args.bytes.now c.requires.reads c.in_ok-size.size size (bytes_all c.args.bytes.now (λ i. (c.type_inv.bytes i).fits)) c.args.sites.now c.args.flags.now c.requires.sites c.requires.flags)
+    (sites_put (plain c.args.class.now) c.args.bytes.now c.requires.reads c.in_ok-size.size size (bytes_all c.args.bytes.now
+    (λ i. (c.type_inv.bytes i).fits)) c.args.sites.now c.args.flags.now c.requires.sites c.requires.flags)
 
 pub returns : goal.returns
 returns c =
@@ -23,5 +24,6 @@ returns c =
     let pool = rw c.as_slice.ensures at c.in_ok-size.ensures.text in
     let back = rw c.split_at-2.ensures.back at c.in_ok-put_renumbered.ensures in
     c.from_vec.ensures
-    ∙ put_all (plain c.args.class.now) c.args.bytes.now c.requires.reads c.in_ok-size.size size c.args.sites.now c.args.flags.now c.requires.flags.size c.in_ok-numbers.numbers c.in_ok-numbers.ensures
+    ∙ put_all (plain c.args.class.now) c.args.bytes.now c.requires.reads c.in_ok-size.size size c.args.sites.now c.args.flags.now
+    c.requires.flags.size c.in_ok-numbers.numbers c.in_ok-numbers.ensures
     c.extend.new.text.items c.put16.new.text.items c.put_pool.new.text.items c.put_renumbered.new.text.items front count pool back

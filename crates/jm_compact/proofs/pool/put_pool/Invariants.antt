@@ -10,4 +10,5 @@ abbrev pub invariant-loop-place : goal.invariant-loop-place
 invariant-loop-place l =
     AllFit (map slot_of (drop l.place l.pool))
     × (l.size + length (flat_map slot_text (map slot_of (drop l.place l.pool))) ≡ length (flat_map slot_text (map slot_of l.pool)))
-    × (l.text.items ++ kept_text (by_numbers l.numbers) (drop l.place l.flags) (map slot_of (drop l.place l.pool)) ≡ l.fn.text.items ++ kept_text (by_numbers l.numbers) l.flags (map slot_of l.pool))
+    × (l.text.items ++ kept_text (by_numbers l.numbers) (drop l.place l.flags) (map slot_of (drop l.place l.pool)) ≡ l.fn.text.items
+    ++ kept_text (by_numbers l.numbers) l.flags (map slot_of l.pool))

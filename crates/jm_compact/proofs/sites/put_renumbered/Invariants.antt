@@ -7,4 +7,5 @@ abbrev pub invariant-loop-site : goal.invariant-loop-site
 invariant-loop-site l =
     (l.at + length l.rest ≡ l.place + length l.bytes)
     × AreIn (drop l.site-index l.sites) l.at (l.place + length l.bytes)
-    × (l.text.items ++ renumbered (by_numbers l.numbers) (drop l.site-index l.sites) l.at l.rest ≡ l.fn.text.items ++ renumbered (by_numbers l.numbers) l.sites l.place l.bytes)
+    × (l.text.items ++ renumbered (by_numbers l.numbers) (drop l.site-index l.sites) l.at l.rest ≡ l.fn.text.items
+    ++ renumbered (by_numbers l.numbers) l.sites l.place l.bytes)

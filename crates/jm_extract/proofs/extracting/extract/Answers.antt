@@ -7,7 +7,8 @@ use Rattle.jm_extract.proofs.extracting.extract.Goals as goal
 
 pub returns-in_err-entries-clause-extracts : goal.returns-in_err-entries-clause-extracts
 returns-in_err-entries-clause-extracts g c =
-    out_of_memory (extracted c.args.image.now c.args.include.now) c.args.dir.now c.from_residual.result (g.S.Shelf.files c.args.shelf.now) c.from_residual.ensures.1
+    out_of_memory (extracted c.args.image.now c.args.include.now) c.args.dir.now c.from_residual.result
+    (g.S.Shelf.files c.args.shelf.now) c.from_residual.ensures.1
 
 pub returns-clause-extracts : goal.returns-clause-extracts
 returns-clause-extracts g c =

@@ -9,7 +9,8 @@ returns-in_err-make_entry-clause-err g c =
     let now = g.S.Shelf.files c.loop-entry.shelf in
     let new = g.S.Shelf.files c.make_entry.new.shelf in
     on_err _ c.from_residual.result
-    (part_next c.args.dir.now c.args.entries.now c.loop-entry.entry-index c.entry-item.result old now new c.loop-entry-test.true (sym c.entry-item.is) c.loop-entry.invariant.files c.in_err-make_entry.ensures.err)
+    (part_next c.args.dir.now c.args.entries.now c.loop-entry.entry-index c.entry-item.result old now new c.loop-entry-test.true
+    (sym c.entry-item.is) c.loop-entry.invariant.files c.in_err-make_entry.ensures.err)
 
 pub loop-entry-preserved : goal.loop-entry-preserved
 loop-entry-preserved g c =
@@ -17,6 +18,7 @@ loop-entry-preserved g c =
     let now = g.S.Shelf.files c.loop-entry.shelf in
     let new = g.S.Shelf.files c.make_entry.new.shelf in
     record {
-      files = made_next c.args.dir.now c.args.entries.now c.loop-entry.entry-index c.entry-item.result old now new c.loop-entry-test.true (sym c.entry-item.is) c.loop-entry.invariant.files c.in_ok-make_entry.ensures.ok;
+      files = made_next c.args.dir.now c.args.entries.now c.loop-entry.entry-index c.entry-item.result old now new
+          c.loop-entry-test.true (sym c.entry-item.is) c.loop-entry.invariant.files c.in_ok-make_entry.ensures.ok;
       count = c.in_ok-make_entry.ensures.faults.kept refl ∙ c.loop-entry.invariant.count;
     }

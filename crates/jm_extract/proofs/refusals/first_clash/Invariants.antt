@@ -6,4 +6,5 @@ use Rattle.jm_extract.proofs.refusals.first_clash.Given as goal
 
 abbrev pub invariant-loop-entry : goal.invariant-loop-entry
 invariant-loop-entry l =
-    first_fault (map (clash_refusal (map taken_as l.entries)) (map taken_as (drop l.entry-index l.entries))) ≡ first_clash (map taken_as l.entries)
+    first_fault (map (clash_refusal (map taken_as l.entries)) (map taken_as (drop l.entry-index l.entries)))
+    ≡ first_clash (map taken_as l.entries)

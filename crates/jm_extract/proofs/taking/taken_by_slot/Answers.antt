@@ -13,5 +13,7 @@ loop-entry-preserved g c =
       bytes = c.step.ensures.bytes ∙ before.bytes;
       metered = c.step.ensures.reads.bytes ∙ before.metered;
       reads = later_further c.args.reads.now c.loop-entry.reads c.step.new.reads before.reads c.step.ensures.reads;
-      taken = taken_step include (taken_among include (entries_of c.args.image.now)) (map taken_as c.loop-entry.list) (map taken_as c.take_entry.new.list) c.loop-entry.entries.rest c.step.new.self.rest c.in-Some.entry before.taken c.in-Some.ensures.entry c.in_ok-take_entry.ensures;
+      taken = taken_step include (taken_among include (entries_of c.args.image.now)) (map taken_as c.loop-entry.list)
+          (map taken_as c.take_entry.new.list) c.loop-entry.entries.rest c.step.new.self.rest c.in-Some.entry before.taken
+          c.in-Some.ensures.entry c.in_ok-take_entry.ensures;
     }

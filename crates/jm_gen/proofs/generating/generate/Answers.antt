@@ -27,9 +27,11 @@ returns-in_err-make_module-clause-err g c =
     let before = number * (classes + 1) in
     let now = g.S.Shelf.files c.loop-number.shelf in
     let new = g.S.Shelf.files c.make_module.new.shelf in
-    let same = ap (λ (d : ℕ). module_files dir classes d number 0) c.loop-number.invariant.draws ∙ same_files dir classes seed number before in
+    let same = ap (λ (d : ℕ). module_files dir classes d number 0) c.loop-number.invariant.draws
+    ∙ same_files dir classes seed number before in
     on_err _ c.from_residual.result
-    (some_next (λ k. module_files dir classes seed k (k * (classes + 1))) number c.args.modules (g.S.Shelf.files c.args.shelf.now) now new c.loop-number-test.true c.loop-number.invariant.files
+    (some_next (λ k. module_files dir classes seed k (k * (classes + 1))) number c.args.modules (g.S.Shelf.files c.args.shelf.now)
+    now new c.loop-number-test.true c.loop-number.invariant.files
     (subst (λ (fs : Writes). MadePart fs now new) same c.in_err-make_module.ensures.err))
 
 pub loop-number-preserved : goal.loop-number-preserved
@@ -41,16 +43,21 @@ loop-number-preserved g c =
     let before = number * (classes + 1) in
     let now = g.S.Shelf.files c.loop-number.shelf in
     let new = g.S.Shelf.files c.make_module.new.shelf in
-    let same = ap (λ (d : ℕ). module_files dir classes d number 0) c.loop-number.invariant.draws ∙ same_files dir classes seed number before in
-    let further : before + (classes + 1) ≡ (number + 1) * (classes + 1) = let split = add-mul number 1 (classes + 1) in omega (arith, split) in
+    let same = ap (λ (d : ℕ). module_files dir classes d number 0) c.loop-number.invariant.draws
+    ∙ same_files dir classes seed number before in
+    let further : before + (classes + 1) ≡ (number + 1) * (classes + 1) =
+    let split = add-mul number 1 (classes + 1) in omega (arith, split) in
     record {
-      files = all_next (λ k. module_files dir classes seed k (k * (classes + 1))) number (g.S.Shelf.files c.args.shelf.now) now new c.loop-number.invariant.files
+      files = all_next (λ k. module_files dir classes seed k (k * (classes + 1))) number (g.S.Shelf.files c.args.shelf.now) now new
+          c.loop-number.invariant.files
           (subst (λ (fs : Writes). MadeAll fs now new) same c.in_ok-make_module.ensures.ok);
-      draws = c.in_ok-make_module.ensures.draws ∙ ap (λ (d : ℕ). drawn d (classes + 1)) c.loop-number.invariant.draws ∙ drawn-drawn seed before (classes + 1) ∙ ap (drawn seed) further;
+      draws = c.in_ok-make_module.ensures.draws ∙ ap (λ (d : ℕ). drawn d (classes + 1)) c.loop-number.invariant.draws
+          ∙ drawn-drawn seed before (classes + 1) ∙ ap (drawn seed) further;
       faults = c.in_ok-make_module.ensures.faults.kept refl ∙ c.loop-number.invariant.faults;
     }
 
 pub returns-clause-ok : goal.returns-clause-ok
 returns-clause-ok g c =
     let all : c.loop-number.number ≡ c.args.modules = omega (arith, c.loop-number.auto.number-end, c.loop-number-test.false) in
-    subst (λ (n : ℕ). MadeAll (generated c.args.dir.now n c.args.classes c.args.seed) (g.S.Shelf.files c.args.shelf.now) (g.S.Shelf.files c.loop-number.shelf)) all c.loop-number.invariant.files
+    subst (λ (n : ℕ). MadeAll (generated c.args.dir.now n c.args.classes c.args.seed) (g.S.Shelf.files c.args.shelf.now)
+    (g.S.Shelf.files c.loop-number.shelf)) all c.loop-number.invariant.files

@@ -10,7 +10,8 @@ make_file-requires g c =
     let path = c.as_slice-2.ensures.value ∙ c.in_ok-path.ensures ∙ ap (path_in c.args.dir.now c.args.number) rest in
     record {
       text = subst (λ (p : List ℕ). IsUtf8 p) (sym path)
-          (path_is_text c.args.dir.now c.args.number (class_path c.args.number c.args.class ++ codes ".class") c.requires.text (class_rest c.args.number c.args.class));
+          (path_is_text c.args.dir.now c.args.number (class_path c.args.number c.args.class ++ codes ".class") c.requires.text
+          (class_rest c.args.number c.args.class));
     }
 
 pub returns-clause-ok : goal.returns-clause-ok

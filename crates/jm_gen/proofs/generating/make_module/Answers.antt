@@ -39,10 +39,13 @@ returns-in_err-make_class-clause-err g c =
     let old = g.S.Shelf.files c.args.shelf.now in
     let new = g.S.Shelf.files c.make_class.new.shelf in
     let on : class + 1 + 1 ≡ 0 + 2 + class = omega arith in
-    let value = c.draw-in-loop-class.ensures.drawn ∙ ap draw c.loop-class.invariant.draws ∙ drawn_next seed (class + 1) ∙ ap (drawn seed) on in
+    let value = c.draw-in-loop-class.ensures.drawn ∙ ap draw c.loop-class.invariant.draws ∙ drawn_next seed (class + 1)
+    ∙ ap (drawn seed) on in
     on_err _ c.from_residual-in_err-make_class.result
-    (part_next (info_file dir number (draw seed)) (λ k. class_file dir number k (drawn seed (0 + 2 + k))) class c.args.classes old (g.S.Shelf.files c.loop-class.shelf) new c.loop-class-test.true c.loop-class.invariant.files
-    (subst (λ (v : ℕ). MadePart (class_file dir number class v ∷ []) (g.S.Shelf.files c.loop-class.shelf) new) value c.in_err-make_class.ensures.err))
+    (part_next (info_file dir number (draw seed)) (λ k. class_file dir number k (drawn seed (0 + 2 + k))) class c.args.classes old
+    (g.S.Shelf.files c.loop-class.shelf) new c.loop-class-test.true c.loop-class.invariant.files
+    (subst (λ (v : ℕ). MadePart (class_file dir number class v ∷ []) (g.S.Shelf.files c.loop-class.shelf) new) value
+    c.in_err-make_class.ensures.err))
 
 pub loop-class-preserved : goal.loop-class-preserved
 loop-class-preserved g c =
@@ -53,10 +56,13 @@ loop-class-preserved g c =
     let old = g.S.Shelf.files c.args.shelf.now in
     let new = g.S.Shelf.files c.make_class.new.shelf in
     let on : class + 1 + 1 ≡ 0 + 2 + class = omega arith in
-    let value = c.draw-in-loop-class.ensures.drawn ∙ ap draw c.loop-class.invariant.draws ∙ drawn_next seed (class + 1) ∙ ap (drawn seed) on in
+    let value = c.draw-in-loop-class.ensures.drawn ∙ ap draw c.loop-class.invariant.draws ∙ drawn_next seed (class + 1)
+    ∙ ap (drawn seed) on in
     record {
-      files = made_next (info_file dir number (draw seed)) (λ k. class_file dir number k (drawn seed (0 + 2 + k))) class old (g.S.Shelf.files c.loop-class.shelf) new c.loop-class.invariant.files
-          (subst (λ (v : ℕ). MadeAll (class_file dir number class v ∷ []) (g.S.Shelf.files c.loop-class.shelf) new) value c.in_ok-make_class.ensures.ok);
+      files = made_next (info_file dir number (draw seed)) (λ k. class_file dir number k (drawn seed (0 + 2 + k))) class old
+          (g.S.Shelf.files c.loop-class.shelf) new c.loop-class.invariant.files
+          (subst (λ (v : ℕ). MadeAll (class_file dir number class v ∷ []) (g.S.Shelf.files c.loop-class.shelf) new) value
+          c.in_ok-make_class.ensures.ok);
       draws = c.draw-in-loop-class.ensures.next ∙ ap draw c.loop-class.invariant.draws ∙ drawn_next seed (class + 1);
       faults = c.in_ok-make_class.ensures.faults.kept refl ∙ c.loop-class.invariant.faults;
     }
@@ -64,7 +70,8 @@ loop-class-preserved g c =
 pub returns-clause-ok : goal.returns-clause-ok
 returns-clause-ok g c =
     let all : c.loop-class.class ≡ c.args.classes = omega (arith, c.loop-class.auto.class-end, c.loop-class-test.false) in
-    subst (λ (n : ℕ). MadeAll (module_files c.args.dir.now n c.args.draws.now c.args.number 0) (g.S.Shelf.files c.args.shelf.now) (g.S.Shelf.files c.loop-class.shelf)) all c.loop-class.invariant.files
+    subst (λ (n : ℕ). MadeAll (module_files c.args.dir.now n c.args.draws.now c.args.number 0) (g.S.Shelf.files c.args.shelf.now)
+    (g.S.Shelf.files c.loop-class.shelf)) all c.loop-class.invariant.files
 
 pub returns-clause-draws : goal.returns-clause-draws
 returns-clause-draws g c =

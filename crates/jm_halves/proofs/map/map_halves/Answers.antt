@@ -9,6 +9,7 @@ pub returns : goal.returns
 returns g c =
     let run = c.in-Some.run' in
     let all = c.in-Some.ensures.all in
-    let zipped : AllZip (FnReturnsAt g.F.Fn c.args.f.now) (pieces_between c.args.items.now run.pieces run.from run.to) c.in_ok-map_run.field-0.items = c.in_ok-map_run.ensures in
+    let zipped : AllZip (FnReturnsAt g.F.Fn c.args.f.now) (pieces_between c.args.items.now run.pieces run.from run.to)
+    c.in_ok-map_run.field-0.items = c.in_ok-map_run.ensures in
     rw c.from_vec.ensures
     (zip_whole (FnReturnsAt g.F.Fn c.args.f.now) c.args.items.now run.pieces (omega arith) _ (rw (all.0, all.1) at zipped))

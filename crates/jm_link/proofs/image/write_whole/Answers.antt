@@ -12,5 +12,9 @@ pub returns-clause-err : goal.returns-clause-err
 returns-clause-err g c =
     let wrote = c.in_ok-write.ensures.ok in
     let files = g.S.Shelf.files in
-    on_err _ c.finish.result
-    (wrote.0, wrote.1, part_of_whole (files c.args.shelf.now) (files c.finish.new.self) c.args.path.now wrote.0 (c.finish.ensures.files ∙ wrote.2))
+    on_err _ c.finish.result (
+      wrote.0,
+      wrote.1,
+      part_of_whole (files c.args.shelf.now) (files c.finish.new.self) c.args.path.now wrote.0
+          (c.finish.ensures.files ∙ wrote.2),
+    )

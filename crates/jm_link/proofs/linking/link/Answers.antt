@@ -11,7 +11,9 @@ use Rattle.jm_link.specs.Links.{ComesTo, PoolComesTo, TellsNothing, request_of}
 use Rattle.jm_link.specs.ResourceFiles.{NamesAll, pair_of}
 use Rattle.jm_link.specs.Resources.{AreFit, link_files, resources_of}
 use Rattle.jm_link.proofs.ChosenLaws.{chosen_differ, chosen_within}
-use Rattle.jm_link.proofs.LinkingLaws.{candidates_length, ended, fit_left, image_written, left_is, links_as, links_sooner, named_there, none_absent, read_to, refused, shown_lists, unclosed, unfit, unplugged}
+use Rattle.jm_link.proofs.LinkingLaws.{candidates_length, ended, fit_left, image_written, left_is, links_as}
+use Rattle.jm_link.proofs.LinkingLaws.{links_sooner, named_there, none_absent, read_to, refused, shown_lists}
+use Rattle.jm_link.proofs.LinkingLaws.{unclosed, unfit, unplugged}
 use Rattle.jm_link.proofs.linking.link.Goals as goal
 
 pub closed-requires : goal.closed-requires
@@ -23,9 +25,11 @@ returns-in_err-places g c =
     let asked : Request = request_of c.args.task.now in
     let told = g.S.Shelf.files c.args.shelf.now in
     let stop = c.in_err-places.field-0.0 in
-    let closes = subst (λ (cs : List Candidate). ClosesAmong cs asked.roots asked.bind (Err stop)) c.candidates.ensures c.in_err-places.ensures in
+    let closes = subst (λ (cs : List Candidate). ClosesAmong cs asked.roots asked.bind (Err stop)) c.candidates.ensures
+    c.in_err-places.ensures in
     rw (passed_on c.from_residual-in_err-places.result _ c.from_residual-in_err-places.ensures.1)
-    (ended (ComesTo told c.args.task.now.dirs asked) (TellsNothing told) c.args.task.now.output (shelf_at g.S.Shelf c.args.shelf.now) (shelf_at g.S.Shelf c.visible_modules.new.shelf) c.visible_modules.ensures.files _ stop closes
+    (ended (ComesTo told c.args.task.now.dirs asked) (TellsNothing told) c.args.task.now.output
+    (shelf_at g.S.Shelf c.args.shelf.now) (shelf_at g.S.Shelf c.visible_modules.new.shelf) c.visible_modules.ensures.files _ stop closes
     (unclosed told c.args.task.now.dirs asked c.in_ok-visible.visible shows))
 
 pub link_files-requires-clause-places : goal.link_files-requires-clause-places
@@ -34,12 +38,14 @@ link_files-requires-clause-places g c =
     let closes = rw c.candidates.ensures at c.in_ok-places.ensures in
     rw c.as_slice-2.ensures
     (all_from_contains (λ i. i < length visible) c.in_ok-places.places
-    (λ i has. subst (λ n. i < n) (candidates_length visible) (chosen_within (candidates visible) c.args.task.now.roots c.args.task.now.bind c.in_ok-places.places closes.1 i has)))
+    (λ i has. subst (λ n. i < n) (candidates_length visible) (chosen_within (candidates visible) c.args.task.now.roots
+    c.args.task.now.bind c.in_ok-places.places closes.1 i has)))
 
 pub link_files-requires-clause-once : goal.link_files-requires-clause-once
 link_files-requires-clause-once g c =
     let closes = rw c.candidates.ensures at c.in_ok-places.ensures in
-    rw c.as_slice-2.ensures (chosen_differ (candidates c.in_ok-visible.visible) c.args.task.now.roots c.args.task.now.bind c.in_ok-places.places closes.1)
+    rw c.as_slice-2.ensures (chosen_differ (candidates c.in_ok-visible.visible) c.args.task.now.roots c.args.task.now.bind
+    c.in_ok-places.places closes.1)
 
 pub returns-in_err-files : goal.returns-in_err-files
 returns-in_err-files g c =
@@ -49,9 +55,11 @@ returns-in_err-files g c =
     let visible = c.in_ok-visible.visible in
     let stop = c.in_err-files.field-0.0 in
     let closes = rw c.candidates.ensures at c.in_ok-places.ensures in
-    let named = subst (λ (places : List ℕ). NamesAll (link_files visible places) (Err stop)) c.as_slice-2.ensures c.in_err-files.ensures.files in
+    let named = subst (λ (places : List ℕ). NamesAll (link_files visible places) (Err stop)) c.as_slice-2.ensures
+    c.in_err-files.ensures.files in
     rw (passed_on c.from_residual-in_err-files.result _ c.from_residual-in_err-files.ensures.1)
-    (ended (ComesTo told c.args.task.now.dirs asked) (TellsNothing told) c.args.task.now.output (shelf_at g.S.Shelf c.args.shelf.now) (shelf_at g.S.Shelf c.visible_modules.new.shelf) c.visible_modules.ensures.files _ stop named
+    (ended (ComesTo told c.args.task.now.dirs asked) (TellsNothing told) c.args.task.now.output
+    (shelf_at g.S.Shelf c.args.shelf.now) (shelf_at g.S.Shelf c.visible_modules.new.shelf) c.visible_modules.ensures.files _ stop named
     (unfit told c.args.task.now.dirs asked visible shows c.in_ok-places.places closes))
 
 pub read_resources-requires-clause-told : goal.read_resources-requires-clause-told
@@ -59,7 +67,8 @@ read_resources-requires-clause-told g c =
     let shows = rw c.as_slice.ensures at c.in_ok-visible.ensures.modules in
     let visible = c.in_ok-visible.visible in
     rw c.visible_modules.ensures.files
-    (named_there _ c.in_ok-files.files visible c.as_slice-2.result.now c.in_ok-files.ensures.files.1 (shown_lists _ c.args.task.now.dirs visible shows))
+    (named_there _ c.in_ok-files.files visible c.as_slice-2.result.now c.in_ok-files.ensures.files.1
+    (shown_lists _ c.args.task.now.dirs visible shows))
 
 pub returns-in_err-left : goal.returns-in_err-left
 returns-in_err-left g c =
@@ -71,16 +80,21 @@ returns-in_err-left g c =
     let error = c.in_err-left.field-0.0 in
     let closes = rw c.candidates.ensures at c.in_ok-places.ensures in
     let named = rw c.as_slice-2.ensures at c.in_ok-files.ensures.files in
-    let read = subst (λ t. Shows t (λ files. c.in_ok-read.read ≡ resources_of files (map pair_of c.in_ok-files.files))) c.visible_modules.ensures.files c.in_ok-read.ensures.pool in
-    let to = read_to told c.args.task.now.dirs asked visible shows c.in_ok-places.places closes named.0 c.in_ok-read.read (subst (λ names. Shows told (λ files. c.in_ok-read.read ≡ resources_of files names)) named.1 read) in
+    let read = subst (λ t. Shows t (λ files. c.in_ok-read.read ≡ resources_of files (map pair_of c.in_ok-files.files)))
+    c.visible_modules.ensures.files c.in_ok-read.ensures.pool in
+    let to = read_to told c.args.task.now.dirs asked visible shows c.in_ok-places.places closes named.0 c.in_ok-read.read
+    (subst (λ names. Shows told (λ files. c.in_ok-read.read ≡ resources_of files names)) named.1 read) in
     rw (passed_on c.from_residual-in_err-left.result _ c.from_residual-in_err-left.ensures.1)
-    (refused (ComesTo told c.args.task.now.dirs asked) (TellsNothing told) c.args.task.now.output (shelf_at g.S.Shelf c.args.shelf.now) (shelf_at g.S.Shelf c.read_resources.new.shelf) (c.read_resources.ensures.files ∙ c.visible_modules.ensures.files) (plugging_refusal error)
+    (refused (ComesTo told c.args.task.now.dirs asked) (TellsNothing told) c.args.task.now.output
+    (shelf_at g.S.Shelf c.args.shelf.now) (shelf_at g.S.Shelf c.read_resources.new.shelf) (c.read_resources.ensures.files
+    ∙ c.visible_modules.ensures.files) (plugging_refusal error)
     (λ r is. to (Err r) (unplugged asked (length c.in_ok-places.places) c.in_ok-read.read error acted r is)))
 
 pub write_image-requires-clause-fit : goal.write_image-requires-clause-fit
 write_image-requires-clause-fit g c =
     let acted = rw c.as_slice-3.ensures at c.in_ok-left.ensures in
-    fit_left c.args.task.now.plugins c.in_ok-read.read c.in_ok-left.left (left_is c.args.task.now.plugins c.in_ok-read.read c.in_ok-left.left acted) (subst AreFit (sym c.in_ok-read.ensures.names) c.in_ok-files.ensures.fit)
+    fit_left c.args.task.now.plugins c.in_ok-read.read c.in_ok-left.left (left_is c.args.task.now.plugins c.in_ok-read.read
+    c.in_ok-left.left acted) (subst AreFit (sym c.in_ok-read.ensures.names) c.in_ok-files.ensures.fit)
 
 pub returns : goal.returns
 returns g c =
@@ -97,12 +111,17 @@ returns g c =
     let resources = c.in_ok-read.read in
     let closes = rw c.candidates.ensures at c.in_ok-places.ensures in
     let named = rw c.as_slice-2.ensures at c.in_ok-files.ensures.files in
-    let read = subst (λ t. Shows t (λ files. resources ≡ resources_of files (map pair_of c.in_ok-files.files))) c.visible_modules.ensures.files c.in_ok-read.ensures.pool in
-    let to = read_to told c.args.task.now.dirs asked visible shows c.in_ok-places.places closes named.0 resources (subst (λ names. Shows told (λ files. resources ≡ resources_of files names)) named.1 read) in
+    let read = subst (λ t. Shows t (λ files. resources ≡ resources_of files (map pair_of c.in_ok-files.files)))
+    c.visible_modules.ensures.files c.in_ok-read.ensures.pool in
+    let to = read_to told c.args.task.now.dirs asked visible shows c.in_ok-places.places closes named.0 resources
+    (subst (λ names. Shows told (λ files. resources ≡ resources_of files names)) named.1 read) in
     let left = left_is asked.plugins resources c.in_ok-left.left acted in
-    let fit = fit_left asked.plugins resources c.in_ok-left.left left (subst AreFit (sym c.in_ok-read.ensures.names) c.in_ok-files.ensures.fit) in
-    let did = image_written asked modules resources c.in_ok-left.left left fit path c.write_image.result old new (rw c.len.ensures at c.write_image.ensures) in
+    let fit = fit_left asked.plugins resources c.in_ok-left.left left (subst AreFit (sym c.in_ok-read.ensures.names)
+    c.in_ok-files.ensures.fit) in
+    let did = image_written asked modules resources c.in_ok-left.left left fit path c.write_image.result old new
+    (rw c.len.ensures at c.write_image.ensures) in
     links_sooner (ComesTo told c.args.task.now.dirs asked) (TellsNothing told) path first old new
     (c.read_resources.ensures.files ∙ c.visible_modules.ensures.files)
     (c.in_ok-read.ensures.faults.kept refl ∙ c.in_ok-visible.ensures.faults.kept refl) c.write_image.result
-    (links_as (PoolComesTo asked modules resources) (ComesTo told c.args.task.now.dirs asked) ⊥ (TellsNothing told) path c.write_image.result old new to (none_absent told) did)
+    (links_as (PoolComesTo asked modules resources) (ComesTo told c.args.task.now.dirs asked) ⊥ (TellsNothing told) path
+    c.write_image.result old new to (none_absent told) did)

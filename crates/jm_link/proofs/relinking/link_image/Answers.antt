@@ -22,8 +22,14 @@ returns-in_err-modules g c =
     let error = c.in_err-modules.field-0.0 in
     let links : ImageLinks c.args.image.now asked path c.from_residual.result old old =
     rw (passed_on c.from_residual.result _ c.from_residual.ensures.1)
-    (refused (ImageComesTo c.args.image.now asked) ⊥ path old old refl (image_refusal error) (unseen c.args.image.now asked error c.in_err-modules.ensures.modules)) in
-    record { links = links; gives_back = given_back c.args.image.now asked path c.from_residual.result old old links; reads = c.modules_of.ensures.reads }
+    (refused (ImageComesTo c.args.image.now asked) ⊥ path old old refl (image_refusal error) (unseen c.args.image.now asked error
+    c.in_err-modules.ensures.modules)) in
+    record {
+      links = links;
+      gives_back = given_back c.args.image.now asked path c.from_residual.result old old links;
+      reads =
+          c.modules_of.ensures.reads;
+    }
 
 pub closed-requires : goal.closed-requires
 closed-requires g c = rw c.as_slice.ensures c.in_ok-modules.ensures.are.differ
@@ -35,17 +41,24 @@ returns-in_err-places g c =
     let path = c.args.task.now.output in
     let old : ShelfSeen = shelf_at g.S.Shelf c.args.shelf.now in
     let stop = c.in_err-places.field-0.0 in
-    let closes = subst (λ (cs : List Candidate). ClosesAmong cs asked.roots asked.bind (Err stop)) c.as_slice.ensures c.in_err-places.ensures in
+    let closes = subst (λ (cs : List Candidate). ClosesAmong cs asked.roots asked.bind (Err stop)) c.as_slice.ensures
+    c.in_err-places.ensures in
     let links : ImageLinks c.args.image.now asked path c.from_residual-in_err-places.result old old =
     rw (passed_on c.from_residual-in_err-places.result _ c.from_residual-in_err-places.ensures.1)
-    (ended (ImageComesTo c.args.image.now asked) ⊥ path old old refl _ stop closes (unclosed c.args.image.now asked c.in_ok-modules.modules shown.0 shown.1 shown.2)) in
-    record { links = links; gives_back = given_back c.args.image.now asked path c.from_residual-in_err-places.result old old links; reads = c.modules_of.ensures.reads }
+    (ended (ImageComesTo c.args.image.now asked) ⊥ path old old refl _ stop closes (unclosed c.args.image.now asked
+    c.in_ok-modules.modules shown.0 shown.1 shown.2)) in
+    record {
+      links = links;
+      gives_back = given_back c.args.image.now asked path c.from_residual-in_err-places.result old old links;
+      reads = c.modules_of.ensures.reads;
+    }
 
 pub gather-requires-clause-places : goal.gather-requires-clause-places
 gather-requires-clause-places g c =
     let shown = c.in_ok-modules.ensures.modules in
     let closes = rw c.as_slice.ensures at c.in_ok-places.ensures in
-    rw c.as_slice-2.ensures (image_places c.args.image.now c.in_ok-modules.modules shown.0 (visible_in c.args.image.now shown.0 shown.1) shown.2 c.args.task.now.roots c.args.task.now.bind c.in_ok-places.places closes.1)
+    rw c.as_slice-2.ensures (image_places c.args.image.now c.in_ok-modules.modules shown.0 (visible_in c.args.image.now shown.0
+    shown.1) shown.2 c.args.task.now.roots c.args.task.now.bind c.in_ok-places.places closes.1)
 
 pub returns-in_err-read : goal.returns-in_err-read
 returns-in_err-read g c =
@@ -55,11 +68,17 @@ returns-in_err-read g c =
     let old : ShelfSeen = shelf_at g.S.Shelf c.args.shelf.now in
     let error = c.in_err-read.field-0.0 in
     let closes = rw c.as_slice.ensures at c.in_ok-places.ensures in
-    let gathers = subst (λ (places : List ℕ). GathersAll (gathered c.in_ok-modules.modules places) (Err error)) c.as_slice-2.ensures c.in_err-read.ensures in
+    let gathers = subst (λ (places : List ℕ). GathersAll (gathered c.in_ok-modules.modules places) (Err error)) c.as_slice-2.ensures
+    c.in_err-read.ensures in
     let links : ImageLinks c.args.image.now asked path c.from_residual-in_err-read.result old old =
     rw (passed_on c.from_residual-in_err-read.result _ c.from_residual-in_err-read.ensures.1)
-    (refused (ImageComesTo c.args.image.now asked) ⊥ path old old refl (gathering_refusal error) (unfit c.args.image.now asked c.in_ok-modules.modules shown.0 shown.1 shown.2 c.in_ok-places.places closes error gathers)) in
-    record { links = links; gives_back = given_back c.args.image.now asked path c.from_residual-in_err-read.result old old links; reads = c.modules_of.ensures.reads }
+    (refused (ImageComesTo c.args.image.now asked) ⊥ path old old refl (gathering_refusal error) (unfit c.args.image.now asked
+    c.in_ok-modules.modules shown.0 shown.1 shown.2 c.in_ok-places.places closes error gathers)) in
+    record {
+      links = links;
+      gives_back = given_back c.args.image.now asked path c.from_residual-in_err-read.result old old links;
+      reads = c.modules_of.ensures.reads;
+    }
 
 pub returns-in_err-left : goal.returns-in_err-left
 returns-in_err-left g c =
@@ -71,12 +90,17 @@ returns-in_err-left g c =
     let error = c.in_err-left.field-0.0 in
     let closes = rw c.as_slice.ensures at c.in_ok-places.ensures in
     let gathers = rw c.as_slice-2.ensures at c.in_ok-read.ensures in
-    let to = gathered_to c.args.image.now asked c.in_ok-modules.modules shown.0 shown.1 shown.2 c.in_ok-places.places closes c.in_ok-read.read gathers in
+    let to = gathered_to c.args.image.now asked c.in_ok-modules.modules shown.0 shown.1 shown.2 c.in_ok-places.places closes
+    c.in_ok-read.read gathers in
     let links : ImageLinks c.args.image.now asked path c.from_residual-in_err-left.result old old =
     rw (passed_on c.from_residual-in_err-left.result _ c.from_residual-in_err-left.ensures.1)
     (refused (ImageComesTo c.args.image.now asked) ⊥ path old old refl (plugging_refusal error)
     (λ r is. to (Err r) (unplugged asked (length c.in_ok-places.places) c.in_ok-read.read error acted r is))) in
-    record { links = links; gives_back = given_back c.args.image.now asked path c.from_residual-in_err-left.result old old links; reads = c.modules_of.ensures.reads }
+    record {
+      links = links;
+      gives_back = given_back c.args.image.now asked path c.from_residual-in_err-left.result old old links;
+      reads = c.modules_of.ensures.reads;
+    }
 
 pub write_image-requires-clause-fit : goal.write_image-requires-clause-fit
 write_image-requires-clause-fit g c =
@@ -86,7 +110,8 @@ write_image-requires-clause-fit g c =
     let closes = rw c.as_slice.ensures at c.in_ok-places.ensures in
     let gathers = rw c.as_slice-2.ensures at c.in_ok-read.ensures in
     fit_left asked.plugins c.in_ok-read.read c.in_ok-left.left (left_is asked.plugins c.in_ok-read.read c.in_ok-left.left acted)
-    (gathered_fit c.args.image.now asked c.in_ok-modules.modules shown.0 shown.1 shown.2 c.in_ok-places.places closes c.in_ok-read.read gathers)
+    (gathered_fit c.args.image.now asked c.in_ok-modules.modules shown.0 shown.1 shown.2 c.in_ok-places.places closes
+    c.in_ok-read.read gathers)
 
 pub returns : goal.returns
 returns g c =
@@ -101,8 +126,17 @@ returns g c =
     let modules = length c.in_ok-places.places in
     let read = c.in_ok-read.read in
     let left = left_is asked.plugins read c.in_ok-left.left acted in
-    let fit = fit_left asked.plugins read c.in_ok-left.left left (gathered_fit c.args.image.now asked c.in_ok-modules.modules shown.0 shown.1 shown.2 c.in_ok-places.places closes read gathers) in
-    let did = image_written asked modules read c.in_ok-left.left left fit path c.write_image.result old new (rw c.len.ensures at c.write_image.ensures) in
+    let fit = fit_left asked.plugins read c.in_ok-left.left left (gathered_fit c.args.image.now asked c.in_ok-modules.modules
+    shown.0 shown.1 shown.2 c.in_ok-places.places closes read gathers) in
+    let did = image_written asked modules read c.in_ok-left.left left fit path c.write_image.result old new
+    (rw c.len.ensures at c.write_image.ensures) in
     let links : ImageLinks c.args.image.now asked path c.write_image.result old new =
-    links_as (PoolComesTo asked modules read) (ImageComesTo c.args.image.now asked) ⊥ ⊥ path c.write_image.result old new (gathered_to c.args.image.now asked c.in_ok-modules.modules shown.0 shown.1 shown.2 c.in_ok-places.places closes read gathers) (λ none. none) did in
-    record { links = links; gives_back = given_back c.args.image.now asked path c.write_image.result old new links; reads = c.modules_of.ensures.reads }
+    links_as (PoolComesTo asked modules read) (ImageComesTo c.args.image.now asked) ⊥ ⊥ path c.write_image.result old new
+    (gathered_to c.args.image.now asked c.in_ok-modules.modules shown.0 shown.1 shown.2 c.in_ok-places.places closes read
+    gathers) (λ none. none) did in
+    record {
+      links = links;
+      gives_back = given_back c.args.image.now asked path c.write_image.result old new links;
+      reads =
+          c.modules_of.ensures.reads;
+    }

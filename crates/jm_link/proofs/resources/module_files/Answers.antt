@@ -4,4 +4,5 @@ use Rattle.jm_link.proofs.resources.module_files.Goals as goal
 
 pub returns : goal.returns
 returns c =
-    files_sorted (module_with_folder (c.args.module.now, c.args.folder.now)) c.in_ok-files_of.field-0 c.sorted_by_name.result c.requires c.in_ok-files_of.ensures c.sorted_by_name.ensures.moved c.sorted_by_name.ensures.sorted
+    files_sorted (module_with_folder (c.args.module.now, c.args.folder.now)) c.in_ok-files_of.field-0 c.sorted_by_name.result
+    c.requires c.in_ok-files_of.ensures c.sorted_by_name.ensures.moved c.sorted_by_name.ensures.sorted

@@ -13,7 +13,8 @@ pub returns-clause-fault : goal.returns-clause-fault
 returns-clause-fault c = λ fault refused. described_fault (plain c.args.class.now) c.info.result fault c.info.ensures.info refused
 
 pub returns-clause-no_info : goal.returns-clause-no_info
-returns-clause-no_info c = λ fault refused d info. described_none (plain c.args.class.now) c.info.result fault d c.info.ensures.info refused info
+returns-clause-no_info c = λ fault refused d info. described_none (plain c.args.class.now) c.info.result fault d c.info.ensures.info
+    refused info
 
 pub returns-clause-allowed : goal.returns-clause-allowed
 returns-clause-allowed c = described_allowed (plain c.args.class.now) c.info.result c.info.ensures.info

@@ -10,18 +10,28 @@ use Rattle.jm_modinfo.proofs.describing.whole_module.Goals as goal
 
 pub returns-in_err-descriptor-clause-info : goal.returns-in_err-descriptor-clause-info
 returns-in_err-descriptor-clause-info c =
-    answers_stop (λ d. d) (λ d. d) _ _ c.in_err-descriptor.field-0.0 c.from_residual.result c.module.new.cursor c.from_residual.ensures.1 c.in_err-descriptor.ensures
-    (λ fault stops. ap value_of (ended-stop Rest (module_field (pool_of c.args.class.now.pool)) (record { place = 0; bytes = c.args.body.now }) fault (rw c.new-cursor.ensures at stops)))
+    answers_stop (λ d. d) (λ d. d) _ _ c.in_err-descriptor.field-0.0 c.from_residual.result c.module.new.cursor
+    c.from_residual.ensures.1 c.in_err-descriptor.ensures
+    (λ fault stops. ap value_of (ended-stop Rest (module_field (pool_of c.args.class.now.pool)) (record {
+      place = 0;
+      bytes =
+          c.args.body.now;
+    }) fault (rw c.new-cursor.ensures at stops)))
 
 pub returns-then-len-ne0-clause-info : goal.returns-then-len-ne0-clause-info
 returns-then-len-ne0-clause-info c =
     rw c.place.ensures
-    (ap value_of (ended-rest Rest (module_field (pool_of c.args.class.now.pool)) (record { place = 0; bytes = c.args.body.now }) c.module.new.cursor c.in_ok-descriptor.descriptor c.len.result (rw c.new-cursor.ensures at c.in_ok-descriptor.ensures) c.len.ensures c.if-len-ne0.true))
+    (ap value_of (ended-rest Rest (module_field (pool_of c.args.class.now.pool)) (record { place = 0; bytes = c.args.body.now })
+    c.module.new.cursor c.in_ok-descriptor.descriptor c.len.result (rw c.new-cursor.ensures at c.in_ok-descriptor.ensures)
+    c.len.ensures c.if-len-ne0.true))
 
 pub returns-clause-info : goal.returns-clause-info
 returns-clause-info c =
-    ap value_of (ended-all Rest (module_field (pool_of c.args.class.now.pool)) (record { place = 0; bytes = c.args.body.now }) c.module.new.cursor c.in_ok-descriptor.descriptor c.len.result (rw c.new-cursor.ensures at c.in_ok-descriptor.ensures) c.len.ensures c.if-len-ne0.false)
+    ap value_of (ended-all Rest (module_field (pool_of c.args.class.now.pool)) (record { place = 0; bytes = c.args.body.now })
+    c.module.new.cursor c.in_ok-descriptor.descriptor c.len.result (rw c.new-cursor.ensures at c.in_ok-descriptor.ensures)
+    c.len.ensures c.if-len-ne0.false)
 
 pub returns-clause-says : goal.returns-clause-says
 returns-clause-says c =
-    (body-said (pool_of c.args.class.now.pool) c.args.body.now c.in_ok-descriptor.descriptor (bytes_all c.args.body.now (λ i. (c.type_inv.body i).fits)) (returns-clause-info c)).1
+    (body-said (pool_of c.args.class.now.pool) c.args.body.now c.in_ok-descriptor.descriptor (bytes_all c.args.body.now
+    (λ i. (c.type_inv.body i).fits)) (returns-clause-info c)).1

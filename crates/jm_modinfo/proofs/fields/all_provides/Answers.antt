@@ -7,10 +7,13 @@ use Rattle.jm_modinfo.proofs.fields.all_provides.Goals as goal
 
 pub returns-in_err-one : goal.returns-in_err-one
 returns-in_err-one c =
-    gives_stop (λ x. x) (λ xs. xs) _ _ c.in_err-one.field-0.0 c.from_residual-in_err-one.result c.provides.new.cursor c.provides.new.cursor c.from_residual-in_err-one.ensures.1 c.in_err-one.ensures
-    (λ fault stops. c.loop-k.invariant ∙ counted-stop c.in_ok-count.count c.loop-k._k (provides_field (pool_of c.args.class.now.pool)) c.loop-k.all c.loop-k.cursor fault c.loop-k-test.true stops)
+    gives_stop (λ x. x) (λ xs. xs) _ _ c.in_err-one.field-0.0 c.from_residual-in_err-one.result c.provides.new.cursor
+    c.provides.new.cursor c.from_residual-in_err-one.ensures.1 c.in_err-one.ensures
+    (λ fault stops. c.loop-k.invariant ∙ counted-stop c.in_ok-count.count c.loop-k._k
+    (provides_field (pool_of c.args.class.now.pool)) c.loop-k.all c.loop-k.cursor fault c.loop-k-test.true stops)
 
 pub loop-k-preserved : goal.loop-k-preserved
 loop-k-preserved c =
     rw c.in_ok-push.ensures.ok
-    (c.loop-k.invariant ∙ counted-next c.in_ok-count.count c.loop-k._k (provides_field (pool_of c.args.class.now.pool)) c.loop-k.all c.loop-k.cursor c.provides.new.cursor c.in_ok-one.one c.loop-k-test.true c.in_ok-one.ensures)
+    (c.loop-k.invariant ∙ counted-next c.in_ok-count.count c.loop-k._k (provides_field (pool_of c.args.class.now.pool)) c.loop-k.all
+    c.loop-k.cursor c.provides.new.cursor c.in_ok-one.one c.loop-k-test.true c.in_ok-one.ensures)

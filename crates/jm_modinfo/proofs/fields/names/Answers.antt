@@ -7,10 +7,13 @@ use Rattle.jm_modinfo.proofs.fields.names.Goals as goal
 
 pub returns-in_err-name : goal.returns-in_err-name
 returns-in_err-name c =
-    gives_stop (λ x. x) (λ xs. xs) _ _ c.in_err-name.field-0.0 c.from_residual-in_err-name.result c.name.new.cursor c.name.new.cursor c.from_residual-in_err-name.ensures.1 c.in_err-name.ensures
-    (λ fault stops. c.loop-k.invariant ∙ counted-stop c.in_ok-count.count c.loop-k._k (named_field (pool_of c.args.class.now.pool) c.args.kind) c.loop-k.names c.loop-k.cursor fault c.loop-k-test.true stops)
+    gives_stop (λ x. x) (λ xs. xs) _ _ c.in_err-name.field-0.0 c.from_residual-in_err-name.result c.name.new.cursor
+    c.name.new.cursor c.from_residual-in_err-name.ensures.1 c.in_err-name.ensures
+    (λ fault stops. c.loop-k.invariant ∙ counted-stop c.in_ok-count.count c.loop-k._k (named_field (pool_of c.args.class.now.pool)
+    c.args.kind) c.loop-k.names c.loop-k.cursor fault c.loop-k-test.true stops)
 
 pub loop-k-preserved : goal.loop-k-preserved
 loop-k-preserved c =
     rw c.in_ok-push.ensures.ok
-    (c.loop-k.invariant ∙ counted-next c.in_ok-count.count c.loop-k._k (named_field (pool_of c.args.class.now.pool) c.args.kind) c.loop-k.names c.loop-k.cursor c.name.new.cursor c.in_ok-name.name c.loop-k-test.true c.in_ok-name.ensures)
+    (c.loop-k.invariant ∙ counted-next c.in_ok-count.count c.loop-k._k (named_field (pool_of c.args.class.now.pool) c.args.kind)
+    c.loop-k.names c.loop-k.cursor c.name.new.cursor c.in_ok-name.name c.loop-k-test.true c.in_ok-name.ensures)

@@ -7,10 +7,13 @@ use Rattle.jm_modinfo.proofs.fields.needs.Goals as goal
 
 pub returns-in_err-need : goal.returns-in_err-need
 returns-in_err-need c =
-    gives_stop (λ x. x) (λ xs. xs) _ _ c.in_err-need.field-0.0 c.from_residual-in_err-need.result c.need.new.cursor c.need.new.cursor c.from_residual-in_err-need.ensures.1 c.in_err-need.ensures
-    (λ fault stops. c.loop-k.invariant ∙ counted-stop c.in_ok-count.count c.loop-k._k (need_field (pool_of c.args.class.now.pool)) c.loop-k.needs c.loop-k.cursor fault c.loop-k-test.true stops)
+    gives_stop (λ x. x) (λ xs. xs) _ _ c.in_err-need.field-0.0 c.from_residual-in_err-need.result c.need.new.cursor
+    c.need.new.cursor c.from_residual-in_err-need.ensures.1 c.in_err-need.ensures
+    (λ fault stops. c.loop-k.invariant ∙ counted-stop c.in_ok-count.count c.loop-k._k (need_field (pool_of c.args.class.now.pool))
+    c.loop-k.needs c.loop-k.cursor fault c.loop-k-test.true stops)
 
 pub loop-k-preserved : goal.loop-k-preserved
 loop-k-preserved c =
     rw c.in_ok-push.ensures.ok
-    (c.loop-k.invariant ∙ counted-next c.in_ok-count.count c.loop-k._k (need_field (pool_of c.args.class.now.pool)) c.loop-k.needs c.loop-k.cursor c.need.new.cursor c.in_ok-need.need c.loop-k-test.true c.in_ok-need.ensures)
+    (c.loop-k.invariant ∙ counted-next c.in_ok-count.count c.loop-k._k (need_field (pool_of c.args.class.now.pool)) c.loop-k.needs
+    c.loop-k.cursor c.need.new.cursor c.in_ok-need.need c.loop-k-test.true c.in_ok-need.ensures)

@@ -11,7 +11,9 @@ returns c =
     let old = pool_of c.args.pool.now in
     let name = utf8 c.args.name.now in
     let constant = Constant c.args.tag c.args.number.now in
-    let first : pool_of c.push.new.self ≡ old ++ name ∷ [] = rw c.utf8-2.ensures at (map_pushed slot_of c.args.pool.now c.push.new.self c.utf8-2.result c.in_ok-push.ensures.ok) in
+    let first : pool_of c.push.new.self ≡ old ++ name ∷ [] = rw c.utf8-2.ensures at (map_pushed slot_of c.args.pool.now
+    c.push.new.self c.utf8-2.result c.in_ok-push.ensures.ok) in
     on_ok_map _ (pool_of c.push-2.new.self ≡ old ++ name ∷ constant ∷ []) c.push-2.result
-    (λ grown. map_pushed slot_of c.push.new.self c.push-2.new.self _ grown ∙ ap (λ t. t ++ constant ∷ []) first ∙ append_assoc old (name ∷ []) (constant ∷ []))
+    (λ grown. map_pushed slot_of c.push.new.self c.push-2.new.self _ grown ∙ ap (λ t. t ++ constant ∷ []) first
+    ∙ append_assoc old (name ∷ []) (constant ∷ []))
     c.push-2.ensures.ok

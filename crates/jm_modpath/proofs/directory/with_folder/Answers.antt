@@ -6,4 +6,5 @@ use Rattle.jm_modpath.proofs.directory.with_folder.Goals as goal
 
 pub visible_module-requires-clause-folder : goal.visible_module-requires-clause-folder
 visible_module-requires-clause-folder g c =
-    All-contains IsUtf8 (folders_among c.args.names.now) c.args.folder.now (folders_are_text c.args.names.now c.requires.texts) c.requires.listed
+    All-contains IsUtf8 (folders_among c.args.names.now) c.args.folder.now (folders_are_text c.args.names.now c.requires.texts)
+    c.requires.listed

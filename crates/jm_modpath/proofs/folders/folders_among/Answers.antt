@@ -4,4 +4,5 @@ use Rattle.jm_modpath.proofs.folders.folders_among.Goals as goal
 
 pub returns-clause-texts : goal.returns-clause-texts
 returns-clause-texts c =
-    texts_of c.rising.result (folders_among c.args.names.now) (rw c.in_ok-all_folders.ensures at c.rising.ensures) (folders_are_text c.args.names.now c.requires)
+    texts_of c.rising.result (folders_among c.args.names.now) (rw c.in_ok-all_folders.ensures at c.rising.ensures)
+    (folders_are_text c.args.names.now c.requires)

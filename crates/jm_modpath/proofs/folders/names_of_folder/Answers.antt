@@ -12,6 +12,8 @@ returns c =
     let whole = sym (take-append-drop c.place_of.result c.args.names.now) in
     let rest = sym (take-append-drop c.place_of-2.result from) in
     rw c.split_at-2.ensures.front
-    (within_part c.args.folder.now c.args.names.now (take c.place_of.result c.args.names.now) (take c.place_of-2.result from) (drop c.place_of-2.result from)
+    (within_part c.args.folder.now c.args.names.now (take c.place_of.result c.args.names.now) (take c.place_of-2.result from)
+    (drop c.place_of-2.result from)
     (whole ∙ ap (λ back. take c.place_of.result c.args.names.now ++ back) (sym c.split_at.ensures.back ∙ rest))
-    (rw (c.as_slice.ensures, c.in_ok-push.ensures.ok, c.in_ok-bound.ensures) at c.place_of.ensures.before) (rw (c.as_slice-2.ensures, c.in_ok-push-2.ensures.ok, c.in_ok-end.ensures) at c.place_of-2.ensures.behind))
+    (rw (c.as_slice.ensures, c.in_ok-push.ensures.ok, c.in_ok-bound.ensures) at c.place_of.ensures.before)
+    (rw (c.as_slice-2.ensures, c.in_ok-push-2.ensures.ok, c.in_ok-end.ensures) at c.place_of-2.ensures.behind))

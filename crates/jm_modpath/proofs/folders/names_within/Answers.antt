@@ -7,7 +7,10 @@ use Rattle.jm_modpath.proofs.folders.names_within.Goals as goal
 
 pub loop-name-preserved : goal.loop-name-preserved
 loop-name-preserved c =
-    grown (after_front (c.args.folder.now ++ 47 ∷ [])) c.in_ok-name-items.name-items.now c.loop-name.name-index c.name-item.result c.loop-name.rests c.put_rest.new.rests c.loop-name-test.true c.name-item.is (rw (c.as_slice-in-loop-name.ensures, c.as_slice.ensures, c.in_ok-push.ensures.ok, c.in_ok-front.ensures) at c.in_ok-put_rest.ensures) c.loop-name.invariant
+    grown (after_front (c.args.folder.now ++ 47 ∷ [])) c.in_ok-name-items.name-items.now c.loop-name.name-index c.name-item.result
+    c.loop-name.rests c.put_rest.new.rests c.loop-name-test.true c.name-item.is
+    (rw (c.as_slice-in-loop-name.ensures, c.as_slice.ensures, c.in_ok-push.ensures.ok, c.in_ok-front.ensures) at
+    c.in_ok-put_rest.ensures) c.loop-name.invariant
 
 pub returns-clause-texts : goal.returns-clause-texts
 returns-clause-texts c =

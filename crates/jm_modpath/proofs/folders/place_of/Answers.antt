@@ -6,10 +6,12 @@ use Rattle.jm_modpath.proofs.folders.place_of.Goals as goal
 
 pub returns-clause-before : goal.returns-clause-before
 returns-clause-before c =
-    let point = IsPartitionPoint-from_clause (λ name. is_before name c.args.bound.now) _ _ c.partition_point.ensures.partitioned (partitioned c.args.bound.now c.args.names.now c.requires) (λ a r q k. search (rules, of_calls)) in
+    let point = IsPartitionPoint-from_clause (λ name. is_before name c.args.bound.now) _ _ c.partition_point.ensures.partitioned
+    (partitioned c.args.bound.now c.args.names.now c.requires) (λ a r q k. search (rules, of_calls)) in
     all_before (λ name. IsTrue (is_before name c.args.bound.now)) c.args.names.now c.partition_point.result point.0
 
 pub returns-clause-behind : goal.returns-clause-behind
 returns-clause-behind c =
-    let point = IsPartitionPoint-from_clause (λ name. is_before name c.args.bound.now) _ _ c.partition_point.ensures.partitioned (partitioned c.args.bound.now c.args.names.now c.requires) (λ a r q k. search (rules, of_calls)) in
+    let point = IsPartitionPoint-from_clause (λ name. is_before name c.args.bound.now) _ _ c.partition_point.ensures.partitioned
+    (partitioned c.args.bound.now c.args.names.now c.requires) (λ a r q k. search (rules, of_calls)) in
     all_behind (λ name. IsFalse (is_before name c.args.bound.now)) c.args.names.now c.partition_point.result point.1

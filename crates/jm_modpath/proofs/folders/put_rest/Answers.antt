@@ -5,10 +5,14 @@ use Rattle.jm_modpath.proofs.folders.put_rest.Goals as goal
 
 pub returns-in_ok-push : goal.returns-in_ok-push
 returns-in_ok-push c =
-    let some : after_front c.args.front.now c.args.name.now ≡ Some c.in-Some.rest.now = sym (stripped c.args.front.now c.args.name.now c.strip_prefix.result c.strip_prefix.ensures.cases) ∙ ap (option_map (λ x. x.now)) c.in-Some.is in
+    let some : after_front c.args.front.now c.args.name.now ≡ Some c.in-Some.rest.now =
+    sym (stripped c.args.front.now c.args.name.now c.strip_prefix.result c.strip_prefix.ensures.cases)
+    ∙ ap (option_map (λ x. x.now)) c.in-Some.is in
     rw (some, ← c.in_ok-copy_of.ensures) c.in_ok-push.ensures.ok
 
 pub returns-in_default : goal.returns-in_default
 returns-in_default c =
-    let none : after_front c.args.front.now c.args.name.now ≡ None = sym (stripped c.args.front.now c.args.name.now c.strip_prefix.result c.strip_prefix.ensures.cases) ∙ ap (option_map (λ x. x.now)) c.in_default.is in
+    let none : after_front c.args.front.now c.args.name.now ≡ None =
+    sym (stripped c.args.front.now c.args.name.now c.strip_prefix.result c.strip_prefix.ensures.cases)
+    ∙ ap (option_map (λ x. x.now)) c.in_default.is in
     rw none (sym (append-nil c.args.rests.now))

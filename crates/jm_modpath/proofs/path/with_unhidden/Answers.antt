@@ -19,7 +19,8 @@ loop-module-preserved c = record {
   can = tt;
   ends = tt;
   texts = All-tail HasTexts c.in-Some.module c.next.new.self.rest.items (rw c.in-Some.ensures.steps.0 at c.loop-module.invariant.texts);
-  so_far = rw c.in_ok-all.ensures (with_both c.loop-module.all (c.in-Some.module ∷ []) c.next.new.self.rest.items ∙ ap (finding.with_unhidden c.loop-module.all) (sym c.in-Some.ensures.steps.0) ∙ c.loop-module.invariant.so_far);
+  so_far = rw c.in_ok-all.ensures (with_both c.loop-module.all (c.in-Some.module ∷ []) c.next.new.self.rest.items
+      ∙ ap (finding.with_unhidden c.loop-module.all) (sym c.in-Some.ensures.steps.0) ∙ c.loop-module.invariant.so_far);
 }
 
 pub returns : goal.returns

@@ -9,4 +9,5 @@ loop-text-init c = rw c.new-set.ensures.empty (sorted_none (items_of c.args.text
 pub loop-text-preserved : goal.loop-text-preserved
 loop-text-preserved c =
     let last : c.loop-text.left.items ≡ c.pop.new.self.items ++ c.in-Some.text ∷ [] = search rules in
-    rw c.in_ok-put.ensures (taken c.loop-text.left.items c.pop.new.self.items c.in-Some.text (items_of c.loop-text.set.keys) last ∙ c.loop-text.invariant)
+    rw c.in_ok-put.ensures (taken c.loop-text.left.items c.pop.new.self.items c.in-Some.text (items_of c.loop-text.set.keys) last
+    ∙ c.loop-text.invariant)

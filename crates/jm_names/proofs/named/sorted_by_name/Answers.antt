@@ -4,5 +4,6 @@ use Rattle.jm_names.proofs.named.sorted_by_name.Goals as goal
 
 pub returns-clause-sorted : goal.returns-clause-sorted
 returns-clause-sorted g c =
-    let up = names_sorted g.T.HasName.pair c.sort_unstable_by.new.self.items c.sort_unstable_by.ensures.sorted (λ a r q k. search (rules, of_calls)) in
+    let up = names_sorted g.T.HasName.pair c.sort_unstable_by.new.self.items c.sort_unstable_by.ensures.sorted
+    (λ a r q k. search (rules, of_calls)) in
     rw c.from_vec.ensures up

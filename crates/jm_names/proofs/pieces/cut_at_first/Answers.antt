@@ -16,4 +16,5 @@ pub returns-clause-after : goal.returns-clause-after
 returns-clause-after c =
     let found = c.in_ok-at.ensures in
     let place = first_place (λ x. x == c.args.byte) c.args.text.now c.in_ok-at.at found.0 found.1 in
-    c.split_at-2.ensures.back ∙ ap (drop 1) c.split_at.ensures.back ∙ drop-drop 1 c.in_ok-at.at c.args.text.now ∙ ap (λ n. drop (n + 1) c.args.text.now) (sym place)
+    c.split_at-2.ensures.back ∙ ap (drop 1) c.split_at.ensures.back ∙ drop-drop 1 c.in_ok-at.at c.args.text.now
+    ∙ ap (λ n. drop (n + 1) c.args.text.now) (sym place)

@@ -11,12 +11,15 @@ pub returns-clause-before : goal.returns-clause-before
 returns-clause-before c =
     let found = c.in_ok-at.ensures in
     let place = last_place (λ x. x == c.args.byte) c.args.text.now c.in_ok-at.at found.0 found.1 in
-    let same : length c.args.text.now - suffix_len (λ x. not (x == c.args.byte)) c.args.text.now - 1 ≡ c.in_ok-at.at = omega (arith, found.0.high) in
+    let same : length c.args.text.now - suffix_len (λ x. not (x == c.args.byte)) c.args.text.now - 1 ≡ c.in_ok-at.at =
+    omega (arith, found.0.high) in
     c.split_at.ensures.front ∙ ap (λ n. take n c.args.text.now) (sym same)
 
 pub returns-clause-after : goal.returns-clause-after
 returns-clause-after c =
     let found = c.in_ok-at.ensures in
     let place = last_place (λ x. x == c.args.byte) c.args.text.now c.in_ok-at.at found.0 found.1 in
-    let same : length c.args.text.now - suffix_len (λ x. not (x == c.args.byte)) c.args.text.now ≡ c.in_ok-at.at + 1 = omega (arith, found.0.high) in
-    c.split_at-2.ensures.back ∙ ap (drop 1) c.split_at.ensures.back ∙ drop-drop 1 c.in_ok-at.at c.args.text.now ∙ ap (λ n. drop n c.args.text.now) (sym same)
+    let same : length c.args.text.now - suffix_len (λ x. not (x == c.args.byte)) c.args.text.now ≡ c.in_ok-at.at + 1 =
+    omega (arith, found.0.high) in
+    c.split_at-2.ensures.back ∙ ap (drop 1) c.split_at.ensures.back ∙ drop-drop 1 c.in_ok-at.at c.args.text.now
+    ∙ ap (λ n. drop n c.args.text.now) (sym same)

@@ -8,4 +8,5 @@ pub returns : goal.returns
 returns c =
     let same = c.in_ok-all_fronts.ensures in
     c.rising.ensures
-    ∙ sym (rising_same (flat_map fronts (map (λ name. name.now) c.args.names.now)) (map (λ front. front.now) c.in_ok-all_fronts.field-0) same.has same.only)
+    ∙ sym (rising_same (flat_map fronts (map (λ name. name.now) c.args.names.now))
+    (map (λ front. front.now) c.in_ok-all_fronts.field-0) same.has same.only)

@@ -4,4 +4,5 @@ use Rattle.jm_nodes.proofs.fronts.put_fronts.Given as goal
 
 abbrev pub invariant-loop-at : goal.invariant-loop-at
 invariant-loop-at l =
-    (l.start ≤ l.at) × (map (λ front. front.now) l.list ≡ map (λ front. front.now) l.fn.list ++ fronts_between l.start (l.at - l.start) l.name)
+    (l.start ≤ l.at) × (map (λ front. front.now) l.list ≡ map (λ front. front.now) l.fn.list ++ fronts_between l.start
+    (l.at - l.start) l.name)

@@ -14,4 +14,5 @@ returns c =
     (rw c.into_vec-sorted.ensures at c.sort_unstable.ensures.permutation) in
     rw (c.from_vec.ensures, dedup_is _ _ _ c.dedup.ensures.filtered)
     (rising_only (map (λ text. text.now) c.args.texts) _
-    (once_rises nat_list_cmp_total (λ text. text.now) (λ x y. texts_ties x.now y.now) sorted c.sort_unstable.ensures.sorted) once.has once.only)
+    (once_rises nat_list_cmp_total (λ text. text.now) (λ x y. texts_ties x.now y.now) sorted c.sort_unstable.ensures.sorted)
+    once.has once.only)

@@ -10,9 +10,12 @@ returns c = record {
   owned = map filing_of c.in_ok-owned.owned;
   children = c.in_ok-table.ensures;
   owners = rw (c.as_slice-3.ensures, c.as_slice-4.ensures, c.in_ok-folders.ensures) at c.in_ok-owned.ensures;
-  made = made_of c.falling.result c.in_ok-nodes.nodes (map filing_of c.in_ok-table.table) (map filing_of c.as_slice-6.result.now) (map filing_of c.in_ok-owned.owned)
-      (map filing_of c.as_slice-7.result.now) (map (λ front. front.now) c.args.fronts.now) (map (λ called. called.now) c.in_ok-packages.packages)
-      (map (λ called. called.now) c.as_slice-8.result.now) c.in_ok-called.called c.as_slice-2.result.now (map folder_of c.in_ok-folders.folders) (map folder_of c.as_slice.result.now)
+  made = made_of c.falling.result c.in_ok-nodes.nodes (map filing_of c.in_ok-table.table) (map filing_of c.as_slice-6.result.now)
+      (map filing_of c.in_ok-owned.owned)
+      (map filing_of c.as_slice-7.result.now) (map (λ front. front.now) c.args.fronts.now) (map (λ called. called.now)
+      c.in_ok-packages.packages)
+      (map (λ called. called.now) c.as_slice-8.result.now) c.in_ok-called.called c.as_slice-2.result.now
+      (map folder_of c.in_ok-folders.folders) (map folder_of c.as_slice.result.now)
       c.falling.ensures c.in_ok-nodes.ensures (ap (map filing_of) c.as_slice-6.ensures) (ap (map filing_of) c.as_slice-7.ensures)
       (ap (map (λ called. called.now)) c.as_slice-8.ensures) c.in_ok-packages.ensures c.as_slice-2.ensures c.in_ok-called.ensures
       (ap (map folder_of) c.as_slice.ensures) c.in_ok-folders.ensures;

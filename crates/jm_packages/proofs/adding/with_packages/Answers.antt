@@ -18,6 +18,11 @@ returns c =
     (c.in_ok-push_packages.ensures ∙ ap (λ n. pool_of c.push.new.self ++ package_slots (n + 1) packages) (sym long)) in
     let slots : length class.pool ≡ length c.args.class.pool = length-map c.args.class.pool slot_of in
     let pushed = map_pushed attribute_of c.args.class.attributes c.push-2.new.self _ c.in_ok-push-2.ensures.ok in
-    let attributes : map attribute_of c.push-2.new.self ≡ class.attributes ++ packages_attribute (length class.pool + 1) packages ∷ [] = rw (slots, sym c.requires.body, sym c.len.ensures) pushed in
+    let attributes : map attribute_of c.push-2.new.self ≡ class.attributes ++ packages_attribute (length class.pool + 1) packages
+    ∷ [] = rw (slots, sym c.requires.body, sym c.len.ensures) pushed in
     ap (λ (p : List SlotData). record class { pool = p; attributes = map attribute_of c.push-2.new.self }) pools
-    ∙ ap (λ (own : List AttributeData). record class { pool = class.pool ++ added_slots (length class.pool + 1) packages; attributes = own }) attributes
+    ∙ ap (λ (own : List AttributeData). record class {
+      pool = class.pool ++ added_slots (length class.pool + 1) packages;
+      attributes
+          = own;
+    }) attributes

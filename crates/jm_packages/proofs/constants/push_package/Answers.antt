@@ -13,5 +13,6 @@ returns c =
     let constant = Constant 20 c.args.number.now in
     let first : pool_of c.push.new.self ≡ old ++ name ∷ [] = map_pushed slot_of c.args.pool.now c.push.new.self _ c.in_ok-push.ensures.ok in
     on_ok_map _ (pool_of c.push-2.new.self ≡ old ++ name ∷ constant ∷ []) c.push-2.result
-    (λ grown. map_pushed slot_of c.push.new.self c.push-2.new.self _ grown ∙ ap (λ t. t ++ constant ∷ []) first ∙ append_assoc old (name ∷ []) (constant ∷ []))
+    (λ grown. map_pushed slot_of c.push.new.self c.push-2.new.self _ grown ∙ ap (λ t. t ++ constant ∷ []) first
+    ∙ append_assoc old (name ∷ []) (constant ∷ []))
     c.push-2.ensures.ok

@@ -11,7 +11,8 @@ loop-package-preserved c =
     let i = c.loop-package.package-index in
     let rest = c.loop-package.invariant.0 in (
       c.split_at.ensures.back ∙ numbers-behind first count i c.loop-package-test.true c.loop-package.rest.now rest,
-      slots-next first c.args.packages.now i c.package-item.result c.loop-package-test.true c.package-item.is (pool_of c.loop-package.pool) (pool_of c.push_package.new.pool)
+      slots-next first c.args.packages.now i c.package-item.result c.loop-package-test.true c.package-item.is
+          (pool_of c.loop-package.pool) (pool_of c.push_package.new.pool)
           (pool_of c.args.pool.now ++ package_slots first c.args.packages.now)
           c.split_at.result.0.now c.loop-package.invariant.1
           (rw c.as_slice.ensures at c.in_ok-push_package.ensures)

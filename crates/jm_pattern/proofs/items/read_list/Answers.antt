@@ -12,7 +12,10 @@ loop-left-smaller c = rw c.in-Some.is (less-left c.first_item.result.1 _ c.first
 
 pub loop-left-preserved : goal.loop-left-preserved
 loop-left-preserved c =
-    rw c.in_ok-push.ensures.ok (list-further (list_of c.args.text.now) c.loop-left.patterns (option_map (λ rest. rest.now) c.loop-left.left) c.in-Some.text.now c.first_item.result.0.now (option_map (λ rest. rest.now) c.first_item.result.1) c.len.result c.in_ok-pattern.pattern c.loop-left.invariant (ap (option_map (λ rest. rest.now)) c.in-Some.is) c.first_item.ensures.items c.len.ensures c.in_ok-pattern.ensures)
+    rw c.in_ok-push.ensures.ok (list-further (list_of c.args.text.now) c.loop-left.patterns (option_map (λ rest. rest.now)
+    c.loop-left.left) c.in-Some.text.now c.first_item.result.0.now (option_map (λ rest. rest.now) c.first_item.result.1)
+    c.len.result c.in_ok-pattern.pattern c.loop-left.invariant (ap (option_map (λ rest. rest.now)) c.in-Some.is)
+    c.first_item.ensures.items c.len.ensures c.in_ok-pattern.ensures)
 
 pub returns-in_err-pattern-clause-fault : goal.returns-in_err-pattern-clause-fault
 returns-in_err-pattern-clause-fault c =

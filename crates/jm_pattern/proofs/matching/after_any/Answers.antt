@@ -10,19 +10,34 @@ returns-in-Some-clause-leads g c =
     let p = c.args.signs.now in
     let q = c.in-Some.left.signs.now in
     let o = c.in-Some.left.name.now in
-    leads-further (AnyRun ∷ p) c.args.name.now (AnyRun ∷ p) c.loop-left.rest.now q o c.loop-left.invariant.leads (leads-in_line p c.loop-left.rest.now q o c.in-Some.ensures.leads c.in-Some.ensures.rests)
+    leads-further (AnyRun ∷ p) c.args.name.now (AnyRun ∷ p) c.loop-left.rest.now q o c.loop-left.invariant.leads
+    (leads-in_line p c.loop-left.rest.now q o c.in-Some.ensures.leads c.in-Some.ensures.rests)
 
 pub returns-in-Some-clause-cost : goal.returns-in-Some-clause-cost
 returns-in-Some-clause-cost g c = λ most h.
-    omega (arith, c.in_line.ensures.cost, c.loop-left.invariant.cost, ap (λ s. length s * most) c.in-Some.ensures.end, search-most most c.args.signs.now c.args.name.now h)
+    omega (
+      arith,
+      c.in_line.ensures.cost,
+      c.loop-left.invariant.cost,
+      ap (λ s. length s * most) c.in-Some.ensures.end,
+      search-most
+          most c.args.signs.now c.args.name.now h,
+    )
 
 pub returns-in_err-rest-clause-none : goal.returns-in_err-rest-clause-none
 returns-in_err-rest-clause-none g c =
-    none-anyway c.from_residual.result (none-line_on c.args.signs.now c.args.name.now c.loop-left.rest.now c.loop-left.invariant.leads c.in_default.ensures.none c.in_err-rest.ensures.none)
+    none-anyway c.from_residual.result (none-line_on c.args.signs.now c.args.name.now c.loop-left.rest.now
+    c.loop-left.invariant.leads c.in_default.ensures.none c.in_err-rest.ensures.none)
 
 pub returns-in_err-rest-clause-cost_none : goal.returns-in_err-rest-clause-cost_none
 returns-in_err-rest-clause-cost_none g c =
-    none-anyway c.from_residual.result (λ most h. omega (arith, c.in_line.ensures.cost, c.behind_slash.ensures.cost, c.loop-left.invariant.cost, search-most most c.args.signs.now c.args.name.now h))
+    none-anyway c.from_residual.result (λ most h. omega (
+      arith,
+      c.in_line.ensures.cost,
+      c.behind_slash.ensures.cost,
+      c.loop-left.invariant.cost,
+      search-most most c.args.signs.now c.args.name.now h,
+    ))
 
 pub loop-left-preserved : goal.loop-left-preserved
 loop-left-preserved g c =
@@ -33,5 +48,12 @@ loop-left-preserved g c =
     record {
       leads = leads-line_on p c.args.name.now rest after c.loop-left.invariant.leads c.in_default.ensures.none next.some;
       shorter = omega (arith, next.shorter, c.loop-left.invariant.shorter);
-      cost = omega (arith, first_line (line_cost p) rest next.slash, ap (λ n. over_lines (line_cost p) n) next.some, c.in_line.ensures.cost, c.behind_slash.ensures.cost, c.loop-left.invariant.cost);
+      cost = omega (
+        arith,
+        first_line (line_cost p) rest next.slash,
+        ap (λ n. over_lines (line_cost p) n) next.some,
+        c.in_line.ensures.cost,
+        c.behind_slash.ensures.cost,
+        c.loop-left.invariant.cost,
+      );
     }

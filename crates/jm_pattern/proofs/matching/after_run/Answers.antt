@@ -12,16 +12,24 @@ returns-in-Some-clause-leads g c =
     let p = c.args.signs.now in
     let q = c.in-Some.left.signs.now in
     let o = c.in-Some.left.name.now in
-    leads-further (Run ∷ p) c.args.name.now (Run ∷ p) c.loop-left.rest.now q o c.loop-left.invariant.leads (leads-run p c.loop-left.rest.now q o c.in-Some.ensures.leads c.in-Some.ensures.rests)
+    leads-further (Run ∷ p) c.args.name.now (Run ∷ p) c.loop-left.rest.now q o c.loop-left.invariant.leads
+    (leads-run p c.loop-left.rest.now q o c.in-Some.ensures.leads c.in-Some.ensures.rests)
 
 pub returns-in-Some-clause-cost : goal.returns-in-Some-clause-cost
 returns-in-Some-clause-cost g c =
     let left = c.in-Some.left in
-    omega (arith, c.in-Some.ensures.cost, c.loop-left.invariant.cost, cost-at_run (line_places c.loop-left.rest.now) 0 left.signs.now left.name.now c.in-Some.ensures.rests)
+    omega (
+      arith,
+      c.in-Some.ensures.cost,
+      c.loop-left.invariant.cost,
+      cost-at_run (line_places c.loop-left.rest.now) 0
+          left.signs.now left.name.now c.in-Some.ensures.rests,
+    )
 
 pub returns-then-not-takes-clause-none : goal.returns-then-not-takes-clause-none
 returns-then-not-takes-clause-none g c =
-    none-run_on c.args.signs.now c.args.name.now c.loop-left.rest.now c.in_ok-byte.byte.now c.in_ok-byte.after.now c.loop-left.invariant.leads c.in_ok-byte.ensures.cases.0 c.in_default.ensures.none (λ h. let yes = c.takes.ensures.1 h in cc)
+    none-run_on c.args.signs.now c.args.name.now c.loop-left.rest.now c.in_ok-byte.byte.now c.in_ok-byte.after.now
+    c.loop-left.invariant.leads c.in_ok-byte.ensures.cases.0 c.in_default.ensures.none (λ h. let yes = c.takes.ensures.1 h in cc)
 
 pub returns-then-not-takes-clause-cost_none : goal.returns-then-not-takes-clause-cost_none
 returns-then-not-takes-clause-cost_none g c =
@@ -29,7 +37,12 @@ returns-then-not-takes-clause-cost_none g c =
 
 pub returns-in_err-byte-clause-cost_none : goal.returns-in_err-byte-clause-cost_none
 returns-in_err-byte-clause-cost_none g c =
-    none-anyway c.from_residual.result (omega (arith, cost-try c.args.signs.now c.loop-left.rest.now, c.loop-left.invariant.cost, c.in_default.ensures.cost_none))
+    none-anyway c.from_residual.result (omega (
+      arith,
+      cost-try c.args.signs.now c.loop-left.rest.now,
+      c.loop-left.invariant.cost,
+      c.in_default.ensures.cost_none,
+    ))
 
 pub loop-left-preserved : goal.loop-left-preserved
 loop-left-preserved g c =
@@ -42,5 +55,12 @@ loop-left-preserved g c =
     record {
       leads = leads-run_on p c.args.name.now rest b after c.loop-left.invariant.leads is c.in_default.ensures.none taken;
       shorter = omega (arith, ap length is, c.loop-left.invariant.shorter);
-      cost = omega (arith, ap (λ n. segment_cost 0 (Run ∷ p) n) is, cost-run_byte p b after (All-head InRun b [] taken), c.loop-left.invariant.cost, c.in_default.ensures.cost_none, c.add.ensures);
+      cost = omega (
+        arith,
+        ap (λ n. segment_cost 0 (Run ∷ p) n) is,
+        cost-run_byte p b after (All-head InRun b [] taken),
+        c.loop-left.invariant.cost,
+        c.in_default.ensures.cost_none,
+        c.add.ensures,
+      );
     }

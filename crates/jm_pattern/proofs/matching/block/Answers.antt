@@ -15,7 +15,8 @@ loop-left-preserved g c =
     let blocks = block-takes here.signs.now here.name.now next.signs.now next.name.now begins taken in
     let costs = cost-takes (line_places c.args.name.now) here.signs.now here.name.now next.signs.now next.name.now begins taken in
     record {
-      leads = leads-further c.args.signs.now c.args.name.now here.signs.now here.name.now next.signs.now next.name.now loop.leads c.in_ok-left.ensures.leads;
+      leads = leads-further c.args.signs.now c.args.name.now here.signs.now here.name.now next.signs.now next.name.now loop.leads
+          c.in_ok-left.ensures.leads;
       shorter = shorter-takes c.args.signs.now c.args.name.now here.signs.now here.name.now next.signs.now next.name.now loop.shorter taken;
       end = sym blocks.1 ∙ loop.end;
       block = omega (arith, blocks.0, loop.block, c.one_byte.ensures.cost);

@@ -9,7 +9,8 @@ invariant-loop-left g l = record {
   shorter : NoLonger l.fn.signs l.fn.name l.left.signs.now l.left.name.now;
   end : behind_segment l.left.signs.now ≡ behind_segment l.fn.signs;
   block : l.compared + block_length l.left.signs.now ≤ l.fn.compared + block_length l.fn.signs;
-  cost : l.compared + segment_cost (line_places l.fn.name) l.left.signs.now l.left.name.now ≤ l.fn.compared + segment_cost (line_places l.fn.name) l.fn.signs l.fn.name;
+  cost : l.compared + segment_cost (line_places l.fn.name) l.left.signs.now l.left.name.now ≤ l.fn.compared
+      + segment_cost (line_places l.fn.name) l.fn.signs l.fn.name;
 }
 
 abbrev pub decreases-loop-left : goal.decreases-loop-left

@@ -8,12 +8,14 @@ use Rattle.jm_pattern.proofs.matching.in_line.Goals as goal
 pub returns-clause-leads : goal.returns-clause-leads
 returns-clause-leads g c =
     let left = c.in_ok-left.left in
-    IfSome_then c.other_blocks.result c.other_blocks.ensures.leads (λ next more. leads-further (Run ∷ c.args.signs.now) c.args.name.now left.signs.now left.name.now next.signs.now next.name.now c.in_ok-left.ensures.leads more)
+    IfSome_then c.other_blocks.result c.other_blocks.ensures.leads (λ next more. leads-further (Run ∷ c.args.signs.now)
+    c.args.name.now left.signs.now left.name.now next.signs.now next.name.now c.in_ok-left.ensures.leads more)
 
 pub returns-clause-shorter : goal.returns-clause-shorter
 returns-clause-shorter g c =
     let left = c.in_ok-left.left in
-    IfSome_then c.other_blocks.result c.other_blocks.ensures.shorter (λ next more. shorter-further c.args.signs.now c.args.name.now left.signs.now left.name.now next.signs.now next.name.now c.in_ok-left.ensures.shorter more)
+    IfSome_then c.other_blocks.result c.other_blocks.ensures.shorter (λ next more. shorter-further c.args.signs.now c.args.name.now
+    left.signs.now left.name.now next.signs.now next.name.now c.in_ok-left.ensures.shorter more)
 
 pub returns-clause-end : goal.returns-clause-end
 returns-clause-end g c =

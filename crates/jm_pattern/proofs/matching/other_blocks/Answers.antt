@@ -12,7 +12,8 @@ loop-behind-preserved g c =
     let is = c.in-Some.ensures.some in
     let more = c.in_ok-left.ensures in
     record {
-      leads = leads-further c.args.first.signs.now c.args.first.name.now (Run ∷ c.in-Some.behind.now) here.name.now next.signs.now next.name.now (rw is at loop.leads) more.leads;
+      leads = leads-further c.args.first.signs.now c.args.first.name.now (Run ∷ c.in-Some.behind.now) here.name.now next.signs.now
+          next.name.now (rw is at loop.leads) more.leads;
       rests = more.rests;
       shorter = record {
         in_signs = omega (arith, ap length is, more.shorter.in_signs, loop.shorter.in_signs);
@@ -24,4 +25,9 @@ loop-behind-preserved g c =
 
 pub returns-in_err-left-clause-cost : goal.returns-in_err-left-clause-cost
 returns-in_err-left-clause-cost g c =
-    omega (arith, ap (λ s. segment_cost 0 s c.loop-behind.left.name.now) c.in-Some.ensures.some, c.in_err-left.ensures.cost_none, c.loop-behind.invariant.cost)
+    omega (
+      arith,
+      ap (λ s. segment_cost 0 s c.loop-behind.left.name.now) c.in-Some.ensures.some,
+      c.in_err-left.ensures.cost_none,
+      c.loop-behind.invariant.cost,
+    )

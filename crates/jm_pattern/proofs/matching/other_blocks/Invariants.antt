@@ -9,7 +9,8 @@ invariant-loop-behind g l = record {
   rests : AtRun l.left.signs.now l.left.name.now;
   shorter : NoLonger l.fn.first.signs.now l.fn.first.name.now l.left.signs.now l.left.name.now;
   end : behind_segment l.left.signs.now ≡ behind_segment l.fn.first.signs.now;
-  cost : l.compared + segment_cost 0 l.left.signs.now l.left.name.now ≤ l.fn.compared + segment_cost 0 l.fn.first.signs.now l.fn.first.name.now;
+  cost : l.compared + segment_cost 0 l.left.signs.now l.left.name.now ≤ l.fn.compared + segment_cost 0 l.fn.first.signs.now
+      l.fn.first.name.now;
 }
 
 abbrev pub decreases-loop-behind : goal.decreases-loop-behind

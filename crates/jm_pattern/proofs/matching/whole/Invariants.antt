@@ -7,7 +7,8 @@ invariant-loop-behind g l = record {
   leads : Leads l.fn.signs l.fn.name l.left.signs.now l.left.name.now;
   rests : AtAny l.left.signs.now l.left.name.now;
   shorter : length l.left.name.now ≤ length l.fn.name;
-  cost : l.compared + length l.left.signs.now * (2 * (length l.fn.name + 1)) ≤ l.fn.compared + length l.fn.signs * (2 * (length l.fn.name + 1));
+  cost : l.compared + length l.left.signs.now * (2 * (length l.fn.name + 1)) ≤ l.fn.compared + length l.fn.signs *
+      (2 * (length l.fn.name + 1));
 }
 
 abbrev pub decreases-loop-behind : goal.decreases-loop-behind

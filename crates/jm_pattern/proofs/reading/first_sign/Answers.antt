@@ -3,11 +3,14 @@ use Rattle.jm_pattern.proofs.FirstSign.{first-escaped, first-one, first-byte}
 use Rattle.jm_pattern.proofs.reading.first_sign.Goals as goal
 
 pub returns-in_ok-byte-in-92-clause-some : goal.returns-in_ok-byte-in-92-clause-some
-returns-in_ok-byte-in-92-clause-some c = first-escaped c.args.text.now c.in_ok-first.after.now c.in_ok-byte-in-92.behind.now c.in_ok-first.first.now c.in_ok-byte-in-92.byte.now c.in_ok-first.ensures.cases.0 c.in-92.is c.in_ok-byte-in-92.ensures.cases.0
+returns-in_ok-byte-in-92-clause-some c = first-escaped c.args.text.now c.in_ok-first.after.now c.in_ok-byte-in-92.behind.now
+    c.in_ok-first.first.now c.in_ok-byte-in-92.byte.now c.in_ok-first.ensures.cases.0 c.in-92.is c.in_ok-byte-in-92.ensures.cases.0
 
 pub returns-in-63-clause-some : goal.returns-in-63-clause-some
-returns-in-63-clause-some c = first-one c.args.text.now c.in_ok-first.after.now c.in_ok-first.first.now c.in_ok-first.ensures.cases.0 c.in-63.is
+returns-in-63-clause-some c = first-one c.args.text.now c.in_ok-first.after.now c.in_ok-first.first.now
+    c.in_ok-first.ensures.cases.0 c.in-63.is
 
 pub returns-in_default-clause-some : goal.returns-in_default-clause-some
 returns-in_default-clause-some c =
-    first-byte c.args.text.now c.in_ok-first.after.now c.in_ok-first.first.now c.in_ok-first.ensures.cases.0 (omega arith) (omega arith) (omega arith)
+    first-byte c.args.text.now c.in_ok-first.after.now c.in_ok-first.first.now c.in_ok-first.ensures.cases.0 (omega arith)
+    (omega arith) (omega arith)

@@ -14,10 +14,12 @@ loop-place-preserved c =
     elim c.if-takes.branch [
       | then-takes+in_ok-push w ↦
           ap (λ l. l ++ class_places takes (place + 1) (drop (place + 1) pairs)) (w.places-is ∙ w.in_ok-push.ensures.ok)
-          ∙ class_next takes pairs place pair c.at.ensures (omega arith) c.loop-place.places all (sym c.takes.ensures ∙ w.if-takes.true) c.loop-place.invariant
+          ∙ class_next takes pairs place pair c.at.ensures (omega arith) c.loop-place.places all (sym c.takes.ensures
+          ∙ w.if-takes.true) c.loop-place.invariant
       | else-takes w ↦
           ap (λ l. l ++ class_places takes (place + 1) (drop (place + 1) pairs)) w.places-is
-          ∙ other_next takes pairs place pair c.at.ensures (omega arith) c.loop-place.places all (sym c.takes.ensures ∙ w.if-takes.false) c.loop-place.invariant
+          ∙ other_next takes pairs place pair c.at.ensures (omega arith) c.loop-place.places all (sym c.takes.ensures
+          ∙ w.if-takes.false) c.loop-place.invariant
     ]
 
 pub returns : goal.returns

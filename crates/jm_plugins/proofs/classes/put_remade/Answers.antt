@@ -35,7 +35,8 @@ refusal-requires c =
 pub returns-in-Err : goal.returns-in-Err
 returns-in-Err c =
     let so_far = c.loop-place.invariant.0 ∙ ap (λ l. put_remade l c.loop-place.pool) c.in-Some.ensures.steps.0 in
-    put_refused c.in-Some.field-0 c.next.new.self.rest.items c.loop-place.pool c.in-Err.error c.refusal.result _ c.in-Err.is c.refusal.ensures so_far
+    put_refused c.in-Some.field-0 c.next.new.self.rest.items c.loop-place.pool c.in-Err.error c.refusal.result _ c.in-Err.is
+    c.refusal.ensures so_far
 
 pub returns : goal.returns
 returns c =

@@ -9,8 +9,10 @@ use Rattle.jm_plugins.proofs.classes.remake_each.Goals as goal
 pub map_halves-requires-clause-callable : goal.map_halves-requires-clause-callable
 map_halves-requires-clause-callable g c κs within =
     let pool = c.args.pool.now in
-    let below = subst (All (λ place. place < length pool)) (sym (c.as_slice.ensures ∙ c.in_ok-places.ensures)) (classes_within (taken_by c.args.way) pool) in
-    λ x there lifetimes ref_ptr same unit fits more lifetime. All-contains (λ place. place < length pool) c.as_slice.result.now x.now below there
+    let below = subst (All (λ place. place < length pool)) (sym (c.as_slice.ensures ∙ c.in_ok-places.ensures))
+    (classes_within (taken_by c.args.way) pool) in
+    λ x there lifetimes ref_ptr same unit fits more lifetime. All-contains (λ place. place < length pool) c.as_slice.result.now
+    x.now below there
 
 pub returns : goal.returns
 returns g c =

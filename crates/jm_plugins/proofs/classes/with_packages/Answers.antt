@@ -9,6 +9,7 @@ use Rattle.jm_plugins.proofs.classes.with_packages.Goals as goal
 pub returns : goal.returns
 returns c =
     let bytes = c.args.bytes.now in
-    let same : c.as_slice.result.now ≡ packages_by c.args.keys.now (module_of c.args.name.now) = c.as_slice.ensures ∙ c.in_ok-packages.ensures ∙ ap (packages_by c.args.keys.now) c.module_of.ensures in
+    let same : c.as_slice.result.now ≡ packages_by c.args.keys.now (module_of c.args.name.now) = c.as_slice.ensures
+    ∙ c.in_ok-packages.ensures ∙ ap (packages_by c.args.keys.now) c.module_of.ensures in
     subst (λ packages. RemadeAs (packages_text packages) bytes c.add_packages.result) same
     (packages_as c.as_slice.result.now bytes c.add_packages.result c.add_packages.ensures.text c.add_packages.ensures.fault)

@@ -16,5 +16,7 @@ returns g c =
     let pairs = c.args.pool.now in
     let patterns = c.args.patterns.now in
     let all = c.as_slice.ensures ∙ c.in_ok-places.ensures ∙ ap (range_with_len 0) c.len.ensures.len in
-    let each = each_ok _ _ (λ place (b : Bool). (pair : List ℕ × List ℕ) → slice_get pairs place ≡ Some pair → b ≡ not (matches_any patterns pair.0)) c.as_slice.result.now c.map_halves.result (λ x b says. search (rules, of_calls)) c.map_halves.ensures in
+    let each = each_ok _ _ (λ place (b : Bool). (pair : List ℕ × List ℕ) → slice_get pairs place ≡ Some pair
+    → b ≡ not (matches_any patterns pair.0)) c.as_slice.result.now c.map_halves.result
+    (λ x b says. search (rules, of_calls)) c.map_halves.ensures in
     mapped_ok (λ pair. not (matches_any patterns pair.0)) pairs c.as_slice.result.now c.map_halves.result all each

@@ -8,11 +8,15 @@ pub returns-then-matches : goal.returns-then-matches
 returns-then-matches c =
     let patterns = c.args.patterns.now in
     let name = c.args.name.now in
-    let here : get_or patterns c.loop-number.number [] ≡ c.index-patterns-number.result = get_or_default patterns c.loop-number.number [] c.index-patterns-number.result c.loop-number-test.true ∙ sym c.index-patterns-number.is in
-    sym (rank_here patterns name c.loop-number.number (omega (arith, c.loop-number-test.true)) c.loop-number.invariant (λ below. ap (λ p. matches p name) here ∙ sym c.matches.ensures.value ∙ c.if-matches.true))
+    let here : get_or patterns c.loop-number.number [] ≡ c.index-patterns-number.result =
+    get_or_default patterns c.loop-number.number [] c.index-patterns-number.result c.loop-number-test.true
+    ∙ sym c.index-patterns-number.is in
+    sym (rank_here patterns name c.loop-number.number (omega (arith, c.loop-number-test.true)) c.loop-number.invariant
+    (λ below. ap (λ p. matches p name) here ∙ sym c.matches.ensures.value ∙ c.if-matches.true))
 
 pub returns : goal.returns
 returns c =
     let patterns = c.args.patterns.now in
     let all : c.loop-number.number ≡ length patterns = omega (arith, c.loop-number.auto.number-end, c.loop-number-test.false) in
-    sym (rank_here patterns c.args.name.now c.loop-number.number (omega (arith, all)) c.loop-number.invariant (λ below. absurd (omega (arith, below, all))) ∙ all)
+    sym (rank_here patterns c.args.name.now c.loop-number.number (omega (arith, all)) c.loop-number.invariant
+    (λ below. absurd (omega (arith, below, all))) ∙ all)

@@ -16,5 +16,6 @@ returns g c =
     let pairs = c.args.pool.now in
     let patterns = c.args.patterns.now in
     let all = c.as_slice.ensures ∙ c.in_ok-places.ensures ∙ ap (range_with_len 0) c.len.ensures.len in
-    let each = each_ok _ _ (IsTurnAt patterns pairs) c.as_slice.result.now c.map_halves.result (λ x b says. search (rules, of_calls)) c.map_halves.ensures in
+    let each = each_ok _ _ (IsTurnAt patterns pairs) c.as_slice.result.now c.map_halves.result
+    (λ x b says. search (rules, of_calls)) c.map_halves.ensures in
     turns_ok patterns pairs c.as_slice.result.now c.map_halves.result all each

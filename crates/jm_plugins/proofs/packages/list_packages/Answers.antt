@@ -13,7 +13,8 @@ pub returns-clause-computed : goal.returns-clause-computed
 returns-clause-computed g c =
     let pool = c.args.pool in
     subst (UnlessMemory Memory c.remake_classes.result)
-    (same_texts is_descriptor (λ name class. packages_text (packages_by c.in_ok-keys.keys (module_of name)) class) (listing_text (names_of pool)) pool (rw c.in_ok-keys.ensures (keys_serve pool)))
+    (same_texts is_descriptor (λ name class. packages_text (packages_by c.in_ok-keys.keys (module_of name)) class)
+    (listing_text (names_of pool)) pool (rw c.in_ok-keys.ensures (keys_serve pool)))
     c.remake_classes.ensures.computed
 
 pub returns-then-branch-clause-computed : goal.returns-then-branch-clause-computed

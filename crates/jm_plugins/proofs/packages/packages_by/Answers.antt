@@ -8,9 +8,12 @@ use Rattle.jm_plugins.proofs.packages.packages_by.Goals as goal
 
 pub loop-key-preserved : goal.loop-key-preserved
 loop-key-preserved c =
-    let put = rw (c.as_slice-in-loop-key.ensures, c.as_slice-in-loop-key-2.ensures, c.in_ok-push.ensures.ok, c.in_ok-front.ensures) at c.in_ok-put_package.ensures in
-    put ∙ ap (λ ps. ps ++ map slashed (filter_map (after_front (c.args.module.now ++ 47 ∷ [])) (c.key-item.result ∷ []))) c.loop-key.invariant
-    ∙ packages_more c.args.module.now c.in_ok-key-items.key-items.now c.loop-key.key-index c.key-item.result c.loop-key-test.true c.key-item.is
+    let put = rw (c.as_slice-in-loop-key.ensures, c.as_slice-in-loop-key-2.ensures, c.in_ok-push.ensures.ok, c.in_ok-front.ensures)
+    at c.in_ok-put_package.ensures in
+    put ∙ ap (λ ps. ps ++ map slashed (filter_map (after_front (c.args.module.now ++ 47 ∷ [])) (c.key-item.result ∷ [])))
+    c.loop-key.invariant
+    ∙ packages_more c.args.module.now c.in_ok-key-items.key-items.now c.loop-key.key-index c.key-item.result c.loop-key-test.true
+    c.key-item.is
 
 pub returns : goal.returns
 returns c =

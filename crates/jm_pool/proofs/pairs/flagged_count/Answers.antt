@@ -12,12 +12,14 @@ loop-place-preserved c =
           rw (w.front-is, w.pairs-is) (record {
             before = omega (arith, i.before);
             size = i.size ∙ sym same;
-            so_far = rw w.swap_indices.ensures.entries (flagged_kept c.args.keep.now c.loop-place.pairs.entries _ c.loop-place.front c.loop-place.place i.before c.loop-place-test.true i.size w.if-stays.true i.so_far);
+            so_far = rw w.swap_indices.ensures.entries (flagged_kept c.args.keep.now c.loop-place.pairs.entries _ c.loop-place.front
+                c.loop-place.place i.before c.loop-place-test.true i.size w.if-stays.true i.so_far);
           })
       | else-stays w ↦
           rw (w.front-is, w.pairs-is) (record {
             before = omega (arith, i.before);
             size = i.size;
-            so_far = flagged_gone c.args.keep.now c.loop-place.pairs.entries _ c.loop-place.front c.loop-place.place c.loop-place-test.true i.size w.if-stays.false i.so_far;
+            so_far = flagged_gone c.args.keep.now c.loop-place.pairs.entries _ c.loop-place.front c.loop-place.place
+                c.loop-place-test.true i.size w.if-stays.false i.so_far;
           })
     ]

@@ -4,4 +4,5 @@ use Rattle.jm_poolmap.specs.Frames.{frame}
 use Rattle.jm_poolmap.proofs.frames.frames.Given as goal
 
 abbrev pub invariant-loop-k : goal.invariant-loop-k
-invariant-loop-k l = in_order (replicate (l.count - l._k) frame) l.found l.cursor ≡ in_order (replicate l.count frame) l.fn.found l.fn.cursor
+invariant-loop-k l = in_order (replicate (l.count - l._k) frame) l.found l.cursor ≡ in_order (replicate l.count frame) l.fn.found
+    l.fn.cursor

@@ -5,4 +5,5 @@ use Rattle.jm_poolmap.specs.Pools.{AllFit}
 use Rattle.jm_poolmap.proofs.marking.spread_all.Given as goal
 
 abbrev pub invariant-loop-place : goal.invariant-loop-place
-invariant-loop-place l = AllFit (pool_of (drop l.place l.pool)) × (spread_from l.place (pool_of (drop l.place l.pool)) l.flags ≡ spread_from 0 (pool_of l.pool) l.fn.flags)
+invariant-loop-place l = AllFit (pool_of (drop l.place l.pool)) × (spread_from l.place (pool_of (drop l.place l.pool)) l.flags
+    ≡ spread_from 0 (pool_of l.pool) l.fn.flags)

@@ -5,4 +5,5 @@ use Rattle.jm_poolmap.proofs.Walking.{Walking}
 use Rattle.jm_poolmap.proofs.members.attributes.Given as goal
 
 abbrev pub invariant-loop-next : goal.invariant-loop-next
-invariant-loop-next l = Walking attribute_of attribute_text (attribute_step l.place (plain l.class).pool) l.attributes l.next-index l.fn.walk l.walk
+invariant-loop-next l = Walking attribute_of attribute_text (attribute_step l.place (plain l.class).pool) l.attributes l.next-index
+    l.fn.walk l.walk

@@ -6,4 +6,6 @@ use Rattle.jm_poolmap.specs.Sites.{names_lower}
 use Rattle.jm_poolmap.proofs.naming.all_lower.Given as goal
 
 abbrev pub invariant-loop-slot : goal.invariant-loop-slot
-invariant-loop-slot l = AllFit (pool_of (drop l.slot-index l.pool)) × (list_all (names_lower (pool_of l.pool)) (pool_of (drop l.slot-index l.pool)) ≡ list_all (names_lower (pool_of l.pool)) (pool_of l.pool))
+invariant-loop-slot l = AllFit (pool_of (drop l.slot-index l.pool))
+    × (list_all (names_lower (pool_of l.pool)) (pool_of (drop l.slot-index l.pool)) ≡ list_all (names_lower (pool_of l.pool))
+    (pool_of l.pool))

@@ -42,9 +42,12 @@ returns-in_err-redirect-clause-none c =
     let slots = length c.args.redirects.now in
     let first = first_of c.args.names.now slots c.args.left.turns.now r.buckets c.requires.some r.left r.sound in
     let says = first_says c.args.names.now slots c.args.left.turns.now r.buckets no_turn first in
-    let named = front_named c.args.names.now c.args.left.names.now c.args.left.turns.now _ c.requires.named c.split_at-2.ensures.front ∙ ap (names_at c.args.names.now) says.front ∙ names_of_turns c.args.names.now slots first.bucket in
-    let none = ap (redirect_for slots r.taken) (sym named) ∙ sym (c.redirect_for.ensures.redirect r.taken r.marks r.below) ∙ c.in_err-redirect.was in
-    let no_table = reached_none c.args.names.now slots c.args.taken.now c.args.redirects.now c.args.free.now c.args.left.turns.now r first none in
+    let named = front_named c.args.names.now c.args.left.names.now c.args.left.turns.now _ c.requires.named
+    c.split_at-2.ensures.front ∙ ap (names_at c.args.names.now) says.front ∙ names_of_turns c.args.names.now slots first.bucket in
+    let none = ap (redirect_for slots r.taken) (sym named) ∙ sym (c.redirect_for.ensures.redirect r.taken r.marks r.below)
+    ∙ c.in_err-redirect.was in
+    let no_table = reached_none c.args.names.now slots c.args.taken.now c.args.redirects.now c.args.free.now c.args.left.turns.now r
+    first none in
     rw c.from_residual.ensures no_table
 
 pub returns-clause-reached : goal.returns-clause-reached
@@ -55,14 +58,20 @@ returns-clause-reached c =
     let first = first_of names slots c.args.left.turns.now r.buckets c.requires.some r.left r.sound in
     let says = first_says names slots c.args.left.turns.now r.buckets no_turn first in
     let given = c.in_ok-redirect.redirect in
-    let named = front_named names c.args.left.names.now c.args.left.turns.now _ c.requires.named c.split_at-2.ensures.front ∙ ap (names_at names) says.front ∙ names_of_turns names slots first.bucket in
-    let some = ap (redirect_for slots r.taken) (sym named) ∙ sym (c.redirect_for.ensures.redirect r.taken r.marks r.below) ∙ c.in_ok-redirect.was in
-    let marks = subst (λ l. Marks c.redirect_for.new.taken (slots_led slots given l ++ r.taken)) named (c.in_ok-redirect.ensures.marks r.taken r.marks) in
-    let next = reached_next names slots c.args.taken.now c.redirect_for.new.taken c.args.redirects.now c.args.free.now c.redirect_for.new.free c.args.left.turns.now r first given some (omega arith) marks (c.redirect_for.ensures.free r.taken r.marks r.below) in
+    let named = front_named names c.args.left.names.now c.args.left.turns.now _ c.requires.named c.split_at-2.ensures.front
+    ∙ ap (names_at names) says.front ∙ names_of_turns names slots first.bucket in
+    let some = ap (redirect_for slots r.taken) (sym named) ∙ sym (c.redirect_for.ensures.redirect r.taken r.marks r.below)
+    ∙ c.in_ok-redirect.was in
+    let marks = subst (λ l. Marks c.redirect_for.new.taken (slots_led slots given l ++ r.taken)) named
+    (c.in_ok-redirect.ensures.marks r.taken r.marks) in
+    let next = reached_next names slots c.args.taken.now c.redirect_for.new.taken c.args.redirects.now c.args.free.now
+    c.redirect_for.new.free c.args.left.turns.now r first given some (omega arith) marks (c.redirect_for.ensures.free
+    r.taken r.marks r.below) in
     rw (says.bucket_is, c.split_at.ensures.back, says.back) next
 
 pub returns-clause-named : goal.returns-clause-named
-returns-clause-named c = rw c.split_at.ensures.back (back_named c.args.names.now c.args.left.names.now c.args.left.turns.now _ c.requires.named c.split_at-2.ensures.back)
+returns-clause-named c = rw c.split_at.ensures.back (back_named c.args.names.now c.args.left.names.now c.args.left.turns.now _
+    c.requires.named c.split_at-2.ensures.back)
 
 pub returns-clause-shorter : goal.returns-clause-shorter
 returns-clause-shorter c =

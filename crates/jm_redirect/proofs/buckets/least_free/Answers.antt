@@ -16,7 +16,8 @@ returns-clause-slot c = λ before marks below.
 
 pub returns-in_err-slot-clause-slot : goal.returns-in_err-slot-clause-slot
 returns-in_err-slot-clause-slot c = λ before marks below.
-    c.from_residual.ensures ∙ sym c.in_err-slot.was ∙ c.unmarked_from.ensures ∙ least_free_from c.args.taken.now before c.args.free.now marks below
+    c.from_residual.ensures ∙ sym c.in_err-slot.was ∙ c.unmarked_from.ensures ∙ least_free_from c.args.taken.now before
+    c.args.free.now marks below
 
 pub returns-clause-below : goal.returns-clause-below
 returns-clause-below c = free_found c.args.taken.now c.args.free.now c.in_ok-slot.slot (sym c.unmarked_from.ensures ∙ c.in_ok-slot.was)

@@ -24,7 +24,8 @@ loop-seed-preserved c =
     record {
       marks = λ before marks.
           let sent = slots_sent c.args.slots c.loop-seed.seed (map (λ name. name.now) c.args.names.now) in
-          subst (λ b. Marks c.mark.new.taken (cond b (sent ++ before) before)) c.if-mark.false (c.mark.ensures.marks before (i.marks before marks));
+          subst (λ b. Marks c.mark.new.taken (cond b (sent ++ before) before)) c.if-mark.false (c.mark.ensures.marks before
+          (i.marks before marks));
       left = λ before marks.
           let p = fits c.args.slots before (map (λ name. name.now) c.args.names.now) in
           let fails = sym (c.mark.ensures.fits before (i.marks before marks)) ∙ c.if-mark.false in
@@ -34,4 +35,5 @@ loop-seed-preserved c =
 pub returns-clause-seed : goal.returns-clause-seed
 returns-clause-seed c = λ before marks.
     let end : c.loop-seed.seed ≡ 1001 = omega arith in
-    sym (c.loop-seed.invariant.left before marks ∙ seeds_gone (fits c.args.slots before (map (λ name. name.now) c.args.names.now)) c.loop-seed.seed end)
+    sym (c.loop-seed.invariant.left before marks ∙ seeds_gone (fits c.args.slots before (map (λ name. name.now) c.args.names.now))
+    c.loop-seed.seed end)

@@ -8,5 +8,6 @@ use Rattle.jm_redirect.proofs.buckets.least_seed.Given as goal
 abbrev pub invariant-loop-seed : goal.invariant-loop-seed
 invariant-loop-seed l = record {
   marks : (before : List ℕ) → Marks l.fn.taken before → Marks l.taken before;
-  left : (before : List ℕ) → Marks l.fn.taken before → least_seed l.slots before (map (λ name. name.now) l.names) ≡ find (fits l.slots before (map (λ name. name.now) l.names)) (seeds_from l.seed);
+  left : (before : List ℕ) → Marks l.fn.taken before → least_seed l.slots before (map (λ name. name.now) l.names)
+      ≡ find (fits l.slots before (map (λ name. name.now) l.names)) (seeds_from l.seed);
 }

@@ -26,4 +26,5 @@ give_all-requires-clause-reached c =
     let sorted = sorted_in_turn names slots c.in_ok-turns.turns.items (λ some. omega arith) moved d.order in
     let flags = c.deref_mut.ensures.value ∙ c.in_ok-taken.ensures in
     let redirects = c.deref_mut-2.ensures.value ∙ c.in_ok-redirects.ensures in
-    rw (flags, redirects, length-replicate slots redirect.Nowhere) (reached_start names slots c.as_slice-2.result.now (c.as_slice-2.ensures.value ∙ sorted))
+    rw (flags, redirects, length-replicate slots redirect.Nowhere) (reached_start names slots c.as_slice-2.result.now
+    (c.as_slice-2.ensures.value ∙ sorted))

@@ -13,12 +13,14 @@ loop-tried-init c = record {
 
 pub returns-in-Some-clause-table : goal.returns-in-Some-clause-table
 returns-in-Some-clause-table c =
-    built c.args.names.now c.loop-tried._tried c.loop-tried.length c.in-Some.table (omega arith) (sym c.in_ok-table.ensures ∙ c.in-Some.is) c.loop-tried.invariant.left
+    built c.args.names.now c.loop-tried._tried c.loop-tried.length c.in-Some.table (omega arith) (sym c.in_ok-table.ensures
+    ∙ c.in-Some.is) c.loop-tried.invariant.left
 
 pub returns-in-Some-clause-serves : goal.returns-in-Some-clause-serves
 returns-in-Some-clause-serves c =
     let few : c.loop-tried.length < 2 ^ 31 = omega (arith, c.loop-tried.invariant.few, c.requires, c.loop-tried-test.true) in
-    built_serves c.args.names.now c.loop-tried.length c.in-Some.table c.loop-tried.invariant.enough few (sym c.in_ok-table.ensures ∙ c.in-Some.is)
+    built_serves c.args.names.now c.loop-tried.length c.in-Some.table c.loop-tried.invariant.enough few (sym c.in_ok-table.ensures
+    ∙ c.in-Some.is)
 
 pub loop-tried-preserved : goal.loop-tried-preserved
 loop-tried-preserved c =
@@ -29,7 +31,8 @@ loop-tried-preserved c =
     record {
       enough = omega (arith, i.enough, next, steps.0);
       few = omega (arith, i.few, next, steps.1);
-      left = i.left ∙ among_later c.args.names.now c.loop-tried._tried c.loop-tried.length (omega arith) none ∙ ap (λ n. greedy_among c.args.names.now (lengths_left (c.loop-tried._tried + 1) n)) (sym next);
+      left = i.left ∙ among_later c.args.names.now c.loop-tried._tried c.loop-tried.length (omega arith) none
+          ∙ ap (λ n. greedy_among c.args.names.now (lengths_left (c.loop-tried._tried + 1) n)) (sym next);
     }
 
 pub returns-clause-refused : goal.returns-clause-refused

@@ -20,6 +20,10 @@ loop-place-preserved c =
     let hashes = c.args.hashes.now in
     let long = ap length c.requires.hashes ∙ length-map names (hash default_seed) in
     let within : place < length hashes = omega (arith, long, c.loop-place-test.true) in
-    let kept = ap (λ l. get_or l place Nowhere) (c.as_slice-given.ensures ∙ c.in_ok-found.ensures) ∙ get_or-map (redirect_at redirects) hashes place 0 Nowhere within in
-    let slot = c.slot_of-slot.ensures ∙ ap (λ r. slot_of slots c.as_slice.result.now r) kept ∙ ap (λ n. slot_of slots n (redirect_at redirects (get_or hashes place 0))) named ∙ ap (λ h. slot_of slots (get_or names place d) (redirect_at redirects h)) hashed in
-    c.in_ok-push_some.ensures ∙ ap (λ o. c.loop-place.slots ++ option_to_list o) slot ∙ slots_more redirects names place d c.loop-place.slots c.loop-place-test.true c.loop-place.invariant
+    let kept = ap (λ l. get_or l place Nowhere) (c.as_slice-given.ensures ∙ c.in_ok-found.ensures)
+    ∙ get_or-map (redirect_at redirects) hashes place 0 Nowhere within in
+    let slot = c.slot_of-slot.ensures ∙ ap (λ r. slot_of slots c.as_slice.result.now r) kept
+    ∙ ap (λ n. slot_of slots n (redirect_at redirects (get_or hashes place 0))) named
+    ∙ ap (λ h. slot_of slots (get_or names place d) (redirect_at redirects h)) hashed in
+    c.in_ok-push_some.ensures ∙ ap (λ o. c.loop-place.slots ++ option_to_list o) slot ∙ slots_more redirects names place d
+    c.loop-place.slots c.loop-place-test.true c.loop-place.invariant

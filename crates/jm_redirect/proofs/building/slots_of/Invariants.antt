@@ -8,4 +8,5 @@ use Rattle.jm_redirect.proofs.building.slots_of.Given as goal
 
 abbrev pub invariant-loop-place : goal.invariant-loop-place
 invariant-loop-place l =
-    l.slots ≡ filter_map (λ name. slot_of (length l.redirects) name (slice_index_or l.redirects (bucket_of (length l.redirects) name) Nowhere)) (take l.place l.names)
+    l.slots ≡ filter_map (λ name. slot_of (length l.redirects) name (slice_index_or l.redirects (bucket_of (length l.redirects)
+    name) Nowhere)) (take l.place l.names)

@@ -13,13 +13,15 @@ returns-then-taken-slot-clause-fits c = λ before marks.
     let inside : slot < length c.loop-at.taken = omega arith in
     let split = sent_split c.args.names.now c.args.slots c.args.seed i _ c.requires.some c.loop-at-test.true in
     let there = sym ((c.loop-at.invariant.marks before marks).at slot inside) ∙ c.if-taken-slot.true in
-    sym (ap (are_free before) (split ∙ ap (λ g. sent ++ g ∷ slots_sent c.args.slots c.args.seed (map (λ name. name.now) (drop (i + 1) c.args.names.now))) (sym c.slot_with-slot.ensures)) ∙ not_free before sent _ slot there)
+    sym (ap (are_free before) (split ∙ ap (λ g. sent ++ g ∷ slots_sent c.args.slots c.args.seed
+    (map (λ name. name.now) (drop (i + 1) c.args.names.now))) (sym c.slot_with-slot.ensures)) ∙ not_free before sent _ slot there)
 
 pub returns-then-taken-slot-clause-marks : goal.returns-then-taken-slot-clause-marks
 returns-then-taken-slot-clause-marks c = λ before marks.
     let i = c.loop-at.at in
     let sent = slots_sent c.args.slots c.args.seed (map (λ name. name.now) (take i c.args.names.now)) in
-    marks_back c.loop-at.taken c.unmark.new.taken sent before (omega arith) (c.loop-at.invariant.marks before marks) (c.loop-at.invariant.free before marks) (λ slot below. c.unmark.ensures slot (omega arith))
+    marks_back c.loop-at.taken c.unmark.new.taken sent before (omega arith) (c.loop-at.invariant.marks before marks)
+    (c.loop-at.invariant.free before marks) (λ slot below. c.unmark.ensures slot (omega arith))
 
 pub loop-at-preserved : goal.loop-at-preserved
 loop-at-preserved c =
@@ -27,11 +29,13 @@ loop-at-preserved c =
     let sent = slots_sent c.args.slots c.args.seed (map (λ name. name.now) (take i c.args.names.now)) in
     let slot = c.slot_with-slot.result in
     let inside : slot < length c.loop-at.taken = omega arith in
-    let more = sent_more c.args.names.now c.args.slots c.args.seed i _ c.requires.some c.loop-at-test.true ∙ ap (λ g. sent ++ g ∷ []) (sym c.slot_with-slot.ensures) in
+    let more = sent_more c.args.names.now c.args.slots c.args.seed i _ c.requires.some c.loop-at-test.true
+    ∙ ap (λ g. sent ++ g ∷ []) (sym c.slot_with-slot.ensures) in
     record {
       free = λ before marks.
           let untaken = sym ((c.loop-at.invariant.marks before marks).at slot inside) ∙ c.if-taken-slot.false in
           ap (are_free before) more ∙ free_more before sent slot (c.loop-at.invariant.free before marks) untaken;
       marks = λ before marks.
-          subst (λ l. Marks (set c.loop-at.taken slot true) (l ++ before)) (sym more) (marks_pushed c.loop-at.taken sent before slot inside (c.loop-at.invariant.marks before marks));
+          subst (λ l. Marks (set c.loop-at.taken slot true) (l ++ before)) (sym more) (marks_pushed c.loop-at.taken sent before slot
+          inside (c.loop-at.invariant.marks before marks));
     }

@@ -12,4 +12,6 @@ loop-name-preserved c =
     let inside : gone < length c.loop-name.taken = omega arith in
     let more = sent_more c.args.names.now c.args.slots c.args.seed i _ c.requires.some c.loop-name-test.true in
     λ slot below.
-    unmarked_more c.args.taken.now c.loop-name.taken sent gone slot inside (c.loop-name.invariant slot below) ∙ ap (λ l. cond (is_among l slot) false (get_or c.args.taken.now slot false)) (ap (λ g. sent ++ g ∷ []) c.slot_with.ensures ∙ sym more)
+    unmarked_more c.args.taken.now c.loop-name.taken sent gone slot inside (c.loop-name.invariant slot below)
+    ∙ ap (λ l. cond (is_among l slot) false (get_or c.args.taken.now slot false)) (ap (λ g. sent ++ g ∷ []) c.slot_with.ensures
+    ∙ sym more)

@@ -18,9 +18,12 @@ overflow_add-index_mut c =
     let positive : 0 < c.args.slots = c.requires.some (omega arith) in
     let below : get_or c.args.hashes.now c.loop-hash.hash-index 0 % c.args.slots < c.args.slots = omega arith in
     let long = ap length c.loop-hash.invariant ∙ length-sizes c.args.hashes.now c.args.slots c.loop-hash.hash-index in
-    let in_sizes : get_or c.args.hashes.now c.loop-hash.hash-index 0 % c.args.slots < length c.loop-hash.sizes.items = omega (arith, below, long) in
-    let fit = sizes_fit c.args.hashes.now c.loop-hash.sizes.items c.args.slots c.loop-hash.hash-index _ c.loop-hash.invariant c.loop-hash-test.true below in
-    let read = c.index_mut.ensures.value ∙ get_or_default c.loop-hash.sizes.items (get_or c.args.hashes.now c.loop-hash.hash-index 0 % c.args.slots) c.index_mut.result.now 0 in_sizes in
+    let in_sizes : get_or c.args.hashes.now c.loop-hash.hash-index 0 % c.args.slots < length c.loop-hash.sizes.items =
+    omega (arith, below, long) in
+    let fit = sizes_fit c.args.hashes.now c.loop-hash.sizes.items c.args.slots c.loop-hash.hash-index _ c.loop-hash.invariant
+    c.loop-hash-test.true below in
+    let read = c.index_mut.ensures.value ∙ get_or_default c.loop-hash.sizes.items (get_or c.args.hashes.now c.loop-hash.hash-index 0
+    % c.args.slots) c.index_mut.result.now 0 in_sizes in
     omega (arith, fit, read)
 
 pub loop-hash-preserved : goal.loop-hash-preserved
@@ -28,7 +31,10 @@ loop-hash-preserved c =
     let positive : 0 < c.args.slots = c.requires.some (omega arith) in
     let below : get_or c.args.hashes.now c.loop-hash.hash-index 0 % c.args.slots < c.args.slots = omega arith in
     let long = ap length c.loop-hash.invariant ∙ length-sizes c.args.hashes.now c.args.slots c.loop-hash.hash-index in
-    let in_sizes : get_or c.args.hashes.now c.loop-hash.hash-index 0 % c.args.slots < length c.loop-hash.sizes.items = omega (arith, below, long) in
-    let more = sizes_more c.args.hashes.now c.loop-hash.sizes.items c.args.slots c.loop-hash.hash-index _ c.loop-hash.invariant c.loop-hash-test.true below refl in
-    let read = c.index_mut.ensures.value ∙ get_or_default c.loop-hash.sizes.items (get_or c.args.hashes.now c.loop-hash.hash-index 0 % c.args.slots) c.index_mut.result.now 0 in_sizes in
+    let in_sizes : get_or c.args.hashes.now c.loop-hash.hash-index 0 % c.args.slots < length c.loop-hash.sizes.items =
+    omega (arith, below, long) in
+    let more = sizes_more c.args.hashes.now c.loop-hash.sizes.items c.args.slots c.loop-hash.hash-index _ c.loop-hash.invariant
+    c.loop-hash-test.true below refl in
+    let read = c.index_mut.ensures.value ∙ get_or_default c.loop-hash.sizes.items (get_or c.args.hashes.now c.loop-hash.hash-index 0
+    % c.args.slots) c.index_mut.result.now 0 in_sizes in
     ap (λ n. set c.loop-hash.sizes.items (get_or c.args.hashes.now c.loop-hash.hash-index 0 % c.args.slots) (n + 1)) read ∙ more

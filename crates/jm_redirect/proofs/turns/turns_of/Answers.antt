@@ -15,7 +15,8 @@ pub overflow_sub-hashes : goal.overflow_sub-hashes
 overflow_sub-hashes c =
     let positive : 0 < c.args.slots = c.requires.some (omega arith) in
     let below : get_or c.args.hashes.now c.loop-place.place 0 % c.args.slots < c.args.slots = omega arith in
-    let is = size_at c.args.hashes.now c.args.sizes.now c.args.slots (get_or c.args.hashes.now c.loop-place.place 0 % c.args.slots) c.requires.sizes below in
+    let is = size_at c.args.hashes.now c.args.sizes.now c.args.slots (get_or c.args.hashes.now c.loop-place.place 0 % c.args.slots)
+    c.requires.sizes below in
     let few = size_of_le c.args.hashes.now c.args.slots (get_or c.args.hashes.now c.loop-place.place 0 % c.args.slots) in
     omega (arith, is, few)
 
@@ -23,4 +24,5 @@ pub loop-place-preserved : goal.loop-place-preserved
 loop-place-preserved c =
     let positive : 0 < c.args.slots = c.requires.some (omega arith) in
     let below : get_or c.args.hashes.now c.loop-place.place 0 % c.args.slots < c.args.slots = omega arith in
-    c.in_ok-push.ensures.ok ∙ turns_more c.args.hashes.now c.args.sizes.now c.args.slots c.loop-place.place c.loop-place.turns c.requires.sizes below c.loop-place.invariant
+    c.in_ok-push.ensures.ok ∙ turns_more c.args.hashes.now c.args.sizes.now c.args.slots c.loop-place.place c.loop-place.turns
+    c.requires.sizes below c.loop-place.invariant

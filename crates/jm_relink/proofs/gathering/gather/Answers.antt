@@ -6,18 +6,23 @@ use Rattle.jm_relink.proofs.gathering.gather.Goals as goal
 pub put_module-requires-clause-differ : goal.put_module-requires-clause-differ
 put_module-requires-clause-differ c =
     let place = get_or c.args.chosen.now c.loop-place.place-index 0 in
-    next_differ c.args.modules.now c.args.chosen.now c.loop-place.place-index (gathered c.args.modules.now (place ∷ [])) c.loop-place.pool c.requires.modules c.requires.places
+    next_differ c.args.modules.now c.args.chosen.now c.loop-place.place-index (gathered c.args.modules.now (place ∷ []))
+    c.loop-place.pool c.requires.modules c.requires.places
     (next_module c.args.modules.now c.args.chosen.now c.loop-place.place-index place c.loop-place-test.true refl) c.loop-place.invariant.put
 
 pub returns-in_err-put_module : goal.returns-in_err-put_module
 returns-in_err-put_module c =
     let place = get_or c.args.chosen.now c.loop-place.place-index 0 in
     let same : c.from_residual.result ≡ Err c.in_err-put_module.field-0.0 = search (rules, of_calls) in
-    rw same (module_refused c.args.modules.now c.args.chosen.now c.loop-place.place-index (gathered c.args.modules.now (place ∷ [])) c.loop-place.pool c.put_module.new.pool c.in_err-put_module.field-0.0
-    (next_module c.args.modules.now c.args.chosen.now c.loop-place.place-index place c.loop-place-test.true refl) c.loop-place.invariant c.in_err-put_module.ensures)
+    rw same (module_refused c.args.modules.now c.args.chosen.now c.loop-place.place-index (gathered c.args.modules.now (place ∷ []))
+    c.loop-place.pool c.put_module.new.pool c.in_err-put_module.field-0.0
+    (next_module c.args.modules.now c.args.chosen.now c.loop-place.place-index place c.loop-place-test.true refl)
+    c.loop-place.invariant c.in_err-put_module.ensures)
 
 pub loop-place-preserved : goal.loop-place-preserved
 loop-place-preserved c =
     let place = get_or c.args.chosen.now c.loop-place.place-index 0 in
-    module_put c.args.modules.now c.args.chosen.now c.loop-place.place-index (gathered c.args.modules.now (place ∷ [])) c.loop-place.pool c.put_module.new.pool
-    (next_module c.args.modules.now c.args.chosen.now c.loop-place.place-index place c.loop-place-test.true refl) c.loop-place.invariant c.in_ok-put_module.ensures.0 c.in_ok-put_module.ensures.1
+    module_put c.args.modules.now c.args.chosen.now c.loop-place.place-index (gathered c.args.modules.now (place ∷ []))
+    c.loop-place.pool c.put_module.new.pool
+    (next_module c.args.modules.now c.args.chosen.now c.loop-place.place-index place c.loop-place-test.true refl)
+    c.loop-place.invariant c.in_ok-put_module.ensures.0 c.in_ok-put_module.ensures.1

@@ -4,15 +4,20 @@ use Rattle.jm_relink.proofs.gathering.put_files.Goals as goal
 
 pub put_file-requires : goal.put_file-requires
 put_file-requires c = record {
-  new = name_is_new c.args.module.now c.args.files.now c.loop-file.file-index c.file-item.result c.args.pool.now c.loop-file.pool c.loop-file-test.true c.file-item.is c.requires.differ c.loop-file.invariant.pool;
+  new = name_is_new c.args.module.now c.args.files.now c.loop-file.file-index c.file-item.result c.args.pool.now c.loop-file.pool
+      c.loop-file-test.true c.file-item.is c.requires.differ c.loop-file.invariant.pool;
 }
 
 pub returns-in_err-put_file : goal.returns-in_err-put_file
 returns-in_err-put_file c =
     let same : c.from_residual.result ≡ Err c.in_err-put_file.field-0.0 = search (rules, of_calls) in
-    rw same (file_refused c.args.module.now c.args.files.now c.loop-file.file-index c.file-item.result c.in_err-put_file.field-0.0 c.loop-file.pool c.put_file.new.pool c.args.pool.now c.put_file.new.pool c.loop-file-test.true c.file-item.is c.loop-file.invariant.sound c.in_err-put_file.ensures)
+    rw same (file_refused c.args.module.now c.args.files.now c.loop-file.file-index c.file-item.result c.in_err-put_file.field-0.0
+    c.loop-file.pool c.put_file.new.pool c.args.pool.now c.put_file.new.pool c.loop-file-test.true c.file-item.is
+    c.loop-file.invariant.sound c.in_err-put_file.ensures)
 
 pub loop-file-preserved : goal.loop-file-preserved
 loop-file-preserved c =
-    let put = file_put c.args.module.now c.args.files.now c.loop-file.file-index c.file-item.result c.args.pool.now c.loop-file.pool c.put_file.new.pool c.loop-file-test.true c.file-item.is c.loop-file.invariant.sound c.loop-file.invariant.pool c.in_ok-put_file.ensures.0 c.in_ok-put_file.ensures.1 in
+    let put = file_put c.args.module.now c.args.files.now c.loop-file.file-index c.file-item.result c.args.pool.now c.loop-file.pool
+    c.put_file.new.pool c.loop-file-test.true c.file-item.is c.loop-file.invariant.sound c.loop-file.invariant.pool
+    c.in_ok-put_file.ensures.0 c.in_ok-put_file.ensures.1 in
     record { sound = put.sound; pool = put.put }

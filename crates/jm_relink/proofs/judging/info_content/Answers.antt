@@ -4,8 +4,10 @@ use Rattle.jm_relink.proofs.judging.info_content.Goals as goal
 
 pub returns-then-eq : goal.returns-then-eq
 returns-then-eq c =
-    info_here c.args.files.now c.loop-file.file-index c.file-item.result c.loop-file-test.true c.file-item.is (sym (rw (c.as_slice.ensures, c.as_slice-in-loop-file.ensures) at c.eq.ensures) ∙ c.if-eq.true) c.loop-file.invariant
+    info_here c.args.files.now c.loop-file.file-index c.file-item.result c.loop-file-test.true c.file-item.is
+    (sym (rw (c.as_slice.ensures, c.as_slice-in-loop-file.ensures) at c.eq.ensures) ∙ c.if-eq.true) c.loop-file.invariant
 
 pub loop-file-preserved : goal.loop-file-preserved
 loop-file-preserved c =
-    info_later c.args.files.now c.loop-file.file-index c.file-item.result c.loop-file-test.true c.file-item.is (sym (rw (c.as_slice.ensures, c.as_slice-in-loop-file.ensures) at c.eq.ensures) ∙ c.if-eq.false) c.loop-file.invariant
+    info_later c.args.files.now c.loop-file.file-index c.file-item.result c.loop-file-test.true c.file-item.is
+    (sym (rw (c.as_slice.ensures, c.as_slice-in-loop-file.ensures) at c.eq.ensures) ∙ c.if-eq.false) c.loop-file.invariant

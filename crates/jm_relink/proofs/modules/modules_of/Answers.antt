@@ -8,10 +8,12 @@ pub returns-clause-modules : goal.returns-clause-modules
 returns-clause-modules g c =
     let b = c.args.image.now in
     let fs = map located_as c.in_ok-files.files in
-    found_modules b fs c.modules_among.result (are_sorted b fs c.in_ok-files.ensures.moved c.in_ok-files.ensures.sorted) c.modules_among.ensures
+    found_modules b fs c.modules_among.result (are_sorted b fs c.in_ok-files.ensures.moved c.in_ok-files.ensures.sorted)
+    c.modules_among.ensures
 
 pub returns-clause-are : goal.returns-clause-are
 returns-clause-are g c =
     let b = c.args.image.now in
     let fs = map located_as c.in_ok-files.files in
-    found_are b c.modules_among.result (found_modules b fs c.modules_among.result (are_sorted b fs c.in_ok-files.ensures.moved c.in_ok-files.ensures.sorted) c.modules_among.ensures)
+    found_are b c.modules_among.result (found_modules b fs c.modules_among.result (are_sorted b fs c.in_ok-files.ensures.moved
+    c.in_ok-files.ensures.sorted) c.modules_among.ensures)

@@ -11,5 +11,7 @@ use Rattle.jm_strip.proofs.lists.keep_each.Given as goal
 abbrev pub invariant-loop-k : goal.invariant-loop-k
 invariant-loop-k l =
     (l.kept ≤ l._k)
-    × (shown (filtered opaque_text (λ a. stays l.in_code l.pool a.name) l.fn.text.items) (counted l.fn.count (opaque_field (fault_at l.missing) l.pool) l.fn.cursor)
-    ≡ shown (with_kept opaque_text (λ a. stays l.in_code l.pool a.name) (l.text.items, l.kept)) (counted (l.count - l._k) (opaque_field (fault_at l.missing) l.pool) l.cursor))
+    × (shown (filtered opaque_text (λ a. stays l.in_code l.pool a.name) l.fn.text.items)
+    (counted l.fn.count (opaque_field (fault_at l.missing) l.pool) l.fn.cursor)
+    ≡ shown (with_kept opaque_text (λ a. stays l.in_code l.pool a.name) (l.text.items, l.kept))
+    (counted (l.count - l._k) (opaque_field (fault_at l.missing) l.pool) l.cursor))

@@ -10,19 +10,27 @@ use Rattle.jm_strip.proofs.methods.strip_attributes.Goals as goal
 pub returns-in_err-strip_attribute : goal.returns-in_err-strip_attribute
 returns-in_err-strip_attribute c =
     let pool = c.args.pool.now in
-    walk_stop _ _ _ c.in_err-strip_attribute.field-0.0 c.from_residual-in_err-strip_attribute.result c.strip_attribute.new.cursor c.strip_attribute.new.cursor c.from_residual-in_err-strip_attribute.ensures.1 c.in_err-strip_attribute.ensures
+    walk_stop _ _ _ c.in_err-strip_attribute.field-0.0 c.from_residual-in_err-strip_attribute.result c.strip_attribute.new.cursor
+    c.strip_attribute.new.cursor c.from_residual-in_err-strip_attribute.ensures.1 c.in_err-strip_attribute.ensures
     (λ fault stops.
-    list-stopped Short (attribute_field pool true) attribute_text (strip_attribute pool) c.args.cursor.now c.number16.new.cursor c.in_ok-count.count c.in_ok-count.ensures c.args.text.now.items c.put16.new.text.items c.in_ok-put16.ensures fault
-    (c.loop-k.invariant ∙ put-stop (attribute_field pool true) (λ a. attribute_text (strip_attribute pool a)) c.in_ok-count.count c.loop-k._k c.loop-k.cursor c.loop-k.text.items fault c.loop-k-test.true stops))
+    list-stopped Short (attribute_field pool true) attribute_text (strip_attribute pool) c.args.cursor.now c.number16.new.cursor
+    c.in_ok-count.count c.in_ok-count.ensures c.args.text.now.items c.put16.new.text.items c.in_ok-put16.ensures fault
+    (c.loop-k.invariant ∙ put-stop (attribute_field pool true) (λ a. attribute_text (strip_attribute pool a)) c.in_ok-count.count
+    c.loop-k._k c.loop-k.cursor c.loop-k.text.items fault c.loop-k-test.true stops))
 
 pub loop-k-preserved : goal.loop-k-preserved
 loop-k-preserved c =
     let pool = c.args.pool.now in
-    c.loop-k.invariant ∙ put-next (attribute_field pool true) (λ a. attribute_text (strip_attribute pool a)) c.in_ok-count.count c.loop-k._k c.loop-k.cursor c.strip_attribute.new.cursor c.loop-k.text.items c.strip_attribute.new.text.items c.loop-k-test.true c.in_ok-strip_attribute.ensures
+    c.loop-k.invariant ∙ put-next (attribute_field pool true) (λ a. attribute_text (strip_attribute pool a)) c.in_ok-count.count
+    c.loop-k._k c.loop-k.cursor c.strip_attribute.new.cursor c.loop-k.text.items c.strip_attribute.new.text.items
+    c.loop-k-test.true c.in_ok-strip_attribute.ensures
 
 pub returns : goal.returns
 returns c =
     let pool = c.args.pool.now in
     let ends = c.loop-k-test.false in
-    list-put Short (attribute_field pool true) attribute_text (strip_attribute pool) c.args.cursor.now c.number16.new.cursor c.in_ok-count.count c.in_ok-count.ensures c.args.text.now.items c.put16.new.text.items c.in_ok-put16.ensures c.loop-k.text.items c.loop-k.cursor
-    (c.loop-k.invariant ∙ put-end (attribute_field pool true) (λ a. attribute_text (strip_attribute pool a)) c.in_ok-count.count c.loop-k._k c.loop-k.cursor c.loop-k.text.items (omega (arith, ends)))
+    list-put Short (attribute_field pool true) attribute_text (strip_attribute pool) c.args.cursor.now c.number16.new.cursor
+    c.in_ok-count.count c.in_ok-count.ensures c.args.text.now.items c.put16.new.text.items c.in_ok-put16.ensures
+    c.loop-k.text.items c.loop-k.cursor
+    (c.loop-k.invariant ∙ put-end (attribute_field pool true) (λ a. attribute_text (strip_attribute pool a)) c.in_ok-count.count
+    c.loop-k._k c.loop-k.cursor c.loop-k.text.items (omega (arith, ends)))

@@ -9,5 +9,7 @@ use Rattle.jm_strip.proofs.methods.strip_attributes.Given as goal
 
 abbrev pub invariant-loop-k : goal.invariant-loop-k
 invariant-loop-k l =
-    shown (with_texts (λ a. attribute_text (strip_attribute l.pool a)) l.initial.text.items) (counted l.count (attribute_field l.pool true) l.initial.cursor)
-    ≡ shown (with_texts (λ a. attribute_text (strip_attribute l.pool a)) l.text.items) (counted (l.count - l._k) (attribute_field l.pool true) l.cursor)
+    shown (with_texts (λ a. attribute_text (strip_attribute l.pool a)) l.initial.text.items)
+    (counted l.count (attribute_field l.pool true) l.initial.cursor)
+    ≡ shown (with_texts (λ a. attribute_text (strip_attribute l.pool a)) l.text.items)
+    (counted (l.count - l._k) (attribute_field l.pool true) l.cursor)

@@ -9,5 +9,6 @@ pub returns-in_ok-strip_code : goal.returns-in_ok-strip_code
 returns-in_ok-strip_code c =
     let coded = c.if-coded.true in
     let e = c.in_ok-strip_code.ensures in
-    let got = saw (λ a. c.args.text.now.items ++ sized_text (code_text (strip_code c.args.pool.now a))) (code_field c.args.pool.now c.args.cursor.now) c.strip_code.new.text.items c.strip_code.new.cursor e in
+    let got = saw (λ a. c.args.text.now.items ++ sized_text (code_text (strip_code c.args.pool.now a))) (code_field c.args.pool.now
+    c.args.cursor.now) c.strip_code.new.text.items c.strip_code.new.cursor e in
     rw (coded, got.is) (rw got.is at e)

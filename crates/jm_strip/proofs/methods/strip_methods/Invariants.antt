@@ -9,5 +9,7 @@ use Rattle.jm_strip.proofs.methods.strip_methods.Given as goal
 
 abbrev pub invariant-loop-k : goal.invariant-loop-k
 invariant-loop-k l =
-    shown (with_texts (λ a. member_text (strip_method l.pool a)) l.initial.text.items) (counted l.count (member_field l.pool true) l.initial.cursor)
-    ≡ shown (with_texts (λ a. member_text (strip_method l.pool a)) l.text.items) (counted (l.count - l._k) (member_field l.pool true) l.cursor)
+    shown (with_texts (λ a. member_text (strip_method l.pool a)) l.initial.text.items) (counted l.count (member_field l.pool true)
+    l.initial.cursor)
+    ≡ shown (with_texts (λ a. member_text (strip_method l.pool a)) l.text.items)
+    (counted (l.count - l._k) (member_field l.pool true) l.cursor)

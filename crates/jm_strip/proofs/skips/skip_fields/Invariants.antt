@@ -6,4 +6,5 @@ use Rattle.jm_strip.specs.Walks.{shown, nothing}
 use Rattle.jm_strip.proofs.skips.skip_fields.Given as goal
 
 abbrev pub invariant-loop-k : goal.invariant-loop-k
-invariant-loop-k l = shown nothing (list_of Short (member_field l.pool false) l.fn.cursor) ≡ shown nothing (counted (l.count - l._k) (member_field l.pool false) l.cursor)
+invariant-loop-k l = shown nothing (list_of Short (member_field l.pool false) l.fn.cursor)
+    ≡ shown nothing (counted (l.count - l._k) (member_field l.pool false) l.cursor)

@@ -5,4 +5,5 @@ use Rattle.jm_strip.proofs.Shown.{skip-next}
 use Rattle.jm_strip.proofs.skips.skip_interfaces.Goals as goal
 
 pub loop-k-preserved : goal.loop-k-preserved
-loop-k-preserved c = c.loop-k.invariant ∙ skip-next short_number c.in_ok-count.count c.loop-k._k c.loop-k.cursor c.number16-in-loop-k.new.cursor c.loop-k-test.true (ap (shown nothing) c.in_ok-number16.ensures)
+loop-k-preserved c = c.loop-k.invariant ∙ skip-next short_number c.in_ok-count.count c.loop-k._k c.loop-k.cursor
+    c.number16-in-loop-k.new.cursor c.loop-k-test.true (ap (shown nothing) c.in_ok-number16.ensures)

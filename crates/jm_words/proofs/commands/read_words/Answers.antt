@@ -15,19 +15,22 @@ pub returns-in-Some-command_of-clause-paths : goal.returns-in-Some-command_of-cl
 returns-in-Some-command_of-clause-paths c =
     let words = map (string_bytes {Z = Global}) c.args.words.now in
     let read : UnlessMemory Memory (Ok c.in-Some-command_of.command) (command_in words) = search rules in
-    read_unless_memory (λ command. FilePathsAreText command.task) (Ok c.in-Some-command_of.command) (command_in words) read (paths_are_text words (strings_are_text c.args.words.now))
+    read_unless_memory (λ command. FilePathsAreText command.task) (Ok c.in-Some-command_of.command) (command_in words) read
+    (paths_are_text words (strings_are_text c.args.words.now))
 
 pub returns-in-Some-command_of-clause-jobs : goal.returns-in-Some-command_of-clause-jobs
 returns-in-Some-command_of-clause-jobs c =
     let words = map (string_bytes {Z = Global}) c.args.words.now in
     let read : UnlessMemory Memory (Ok c.in-Some-command_of.command) (command_in words) = search rules in
-    read_unless_memory (λ command. 0 < command.jobs) (Ok c.in-Some-command_of.command) (command_in words) read (jobs_are_some words (strings_are_text c.args.words.now))
+    read_unless_memory (λ command. 0 < command.jobs) (Ok c.in-Some-command_of.command) (command_in words) read
+    (jobs_are_some words (strings_are_text c.args.words.now))
 
 pub returns-in-Some-command_of-clause-numbers : goal.returns-in-Some-command_of-clause-numbers
 returns-in-Some-command_of-clause-numbers c =
     let words = map (string_bytes {Z = Global}) c.args.words.now in
     let read : UnlessMemory Memory (Ok c.in-Some-command_of.command) (command_in words) = search rules in
-    read_unless_memory (λ command. NumbersFit command.task) (Ok c.in-Some-command_of.command) (command_in words) read (numbers_fit words (strings_are_text c.args.words.now))
+    read_unless_memory (λ command. NumbersFit command.task) (Ok c.in-Some-command_of.command) (command_in words) read
+    (numbers_fit words (strings_are_text c.args.words.now))
 
 pub returns-in-None-command_of-clause-says : goal.returns-in-None-command_of-clause-says
 returns-in-None-command_of-clause-says c =

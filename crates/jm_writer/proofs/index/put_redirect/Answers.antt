@@ -14,5 +14,6 @@ loop-word-preserved c =
     let word = get_or redirect i (pos 0) in
     let fits : SFits w32 word = search rules in
     ap (λ l. l ++ words_text c.args.order (map (cast_unsigned w32) (drop (i + 1) redirect)))
-    (c.in_ok-extend.ensures.ok ∙ ap (λ b. text ++ b) (c.put_word.ensures.bytes ∙ ap (word_bytes c.args.order) (c.unsigned.ensures ∙ ap (cast_unsigned w32) (to_z-of_z w32 word fits))))
+    (c.in_ok-extend.ensures.ok ∙ ap (λ b. text ++ b) (c.put_word.ensures.bytes ∙ ap (word_bytes c.args.order) (c.unsigned.ensures
+    ∙ ap (cast_unsigned w32) (to_z-of_z w32 word fits))))
     ∙ word_put c.args.order (cast_unsigned w32) redirect i (pos 0) text (omega arith) ∙ c.loop-word.invariant

@@ -79,8 +79,10 @@ returns-clause-places c =
     let e = c.in_ok-ext.ext in
     let places : TextPlaces = record { «module» = m; parent = n; base = b; ext = e } in
     subst (λ cut. StandAt held cut places) c.split-pieces.ensures.cut (record {
-      «module» = subst (λ s. place_of p.module.now s ≡ Some m) first (place_stays p.module.now c.intern.new.self (p.parent.now ∷ p.base.now ∷ p.ext.now ∷ []) m one.place);
-      parent = subst (λ s. place_of p.parent.now s ≡ Some n) second (place_stays p.parent.now c.intern-2.new.self (p.base.now ∷ p.ext.now ∷ []) n two.place);
+      «module» = subst (λ s. place_of p.module.now s ≡ Some m) first (place_stays p.module.now c.intern.new.self (p.parent.now
+          ∷ p.base.now ∷ p.ext.now ∷ []) m one.place);
+      parent = subst (λ s. place_of p.parent.now s ≡ Some n) second (place_stays p.parent.now c.intern-2.new.self (p.base.now
+          ∷ p.ext.now ∷ []) n two.place);
       base = subst (λ s. place_of p.base.now s ≡ Some b) third (place_stays p.base.now c.intern-3.new.self (p.ext.now ∷ []) b three.place);
       ext = four.place;
     })

@@ -15,9 +15,12 @@ returns c =
       order = refl;
       index =
           c.in_ok-index.ensures
-          ∙ ap (λ n. index_bytes order (length n) (map (cast_unsigned w32) c.as_slice.result.now) laid.locations.places.items laid.locations.text.items c.bytes.result.now) names
-          ∙ ap (λ w. index_bytes order (length e.names) (map (cast_unsigned w32) w) laid.locations.places.items laid.locations.text.items c.bytes.result.now) c.as_slice.ensures
-          ∙ ap (index_bytes order (length e.names) (map (cast_unsigned w32) t.redirect) laid.locations.places.items laid.locations.text.items) c.bytes.ensures.bytes;
+          ∙ ap (λ n. index_bytes order (length n) (map (cast_unsigned w32) c.as_slice.result.now) laid.locations.places.items
+          laid.locations.text.items c.bytes.result.now) names
+          ∙ ap (λ w. index_bytes order (length e.names) (map (cast_unsigned w32) w) laid.locations.places.items
+          laid.locations.text.items c.bytes.result.now) c.as_slice.ensures
+          ∙ ap (index_bytes order (length e.names) (map (cast_unsigned w32) t.redirect) laid.locations.places.items
+          laid.locations.text.items) c.bytes.ensures.bytes;
       tail = c.in_ok-tail.ensures ∙ ap (λ p. tail_bytes order laid.strings t p c.args.nodes.now) places;
       size = refl;
       slots = refl;

@@ -19,7 +19,8 @@ returns-in_err-laid c =
     let sum : length pool + length c.args.nodes.now ≡ c.in_ok-count.count = search rules in
     let few : length (all_sized pool) ≤ 1048576 = omega (arith, all, sum, c.if-count-gt-ENTRY_LIMIT.false) in
     subst (Plans c.args.order pool) (sym is)
-    (plan_large c.args.order pool e c.in_ok-table.table c.in_err-laid.field-0.0 of_entries tabled c.in_err-laid.ensures c.requires.apart few)
+    (plan_large c.args.order pool e c.in_ok-table.table c.in_err-laid.field-0.0 of_entries tabled c.in_err-laid.ensures
+    c.requires.apart few)
 
 pub returns : goal.returns
 returns c =
@@ -31,8 +32,17 @@ returns c =
     let all = count_sized pool c.args.nodes.now nodes in
     let sum : length pool + length c.args.nodes.now ≡ c.in_ok-count.count = search rules in
     let few : length (all_sized pool) ≤ 1048576 = omega (arith, all, sum, c.if-count-gt-ENTRY_LIMIT.false) in
-    let can : CanLay pool = record { differ = c.len.ensures.differ; plain = record { sound = c.requires.sound; resources = c.requires.resources; apart = c.requires.apart } } in
-    plan_drafted c.args.order pool e c.in_ok-table.table c.in_ok-laid.laid c.args.nodes.now c.in_ok-draw.field-0 can of_entries tabled c.in_ok-laid.ensures c.in_ok-draw.ensures nodes c.requires.apart few
+    let can : CanLay pool = record {
+      differ = c.len.ensures.differ;
+      plain = record {
+        sound = c.requires.sound;
+        resources =
+            c.requires.resources;
+        apart = c.requires.apart;
+      };
+    } in
+    plan_drafted c.args.order pool e c.in_ok-table.table c.in_ok-laid.laid c.args.nodes.now c.in_ok-draw.field-0 can of_entries
+    tabled c.in_ok-laid.ensures c.in_ok-draw.ensures nodes c.requires.apart few
 
 pub lay_out-requires-clause-entries : goal.lay_out-requires-clause-entries
 lay_out-requires-clause-entries c =
@@ -43,7 +53,11 @@ lay_out-requires-clause-entries c =
     let all = count_sized pool c.args.nodes.now nodes in
     let sum : length pool + length c.args.nodes.now ≡ c.in_ok-count.count = search rules in
     let few : length (all_sized pool) ≤ 1048576 = omega (arith, all, sum, c.if-count-gt-ENTRY_LIMIT.false) in
-    entries_fit pool e of_entries few (record { differ = c.len.ensures.differ; plain = record { sound = c.requires.sound; resources = c.requires.resources; apart = c.requires.apart } })
+    entries_fit pool e of_entries few (record {
+      differ = c.len.ensures.differ;
+      plain =
+          record { sound = c.requires.sound; resources = c.requires.resources; apart = c.requires.apart };
+    })
 
 pub draw-requires-clause-entries : goal.draw-requires-clause-entries
 draw-requires-clause-entries c =
@@ -54,4 +68,8 @@ draw-requires-clause-entries c =
     let all = count_sized pool c.args.nodes.now nodes in
     let sum : length pool + length c.args.nodes.now ≡ c.in_ok-count.count = search rules in
     let few : length (all_sized pool) ≤ 1048576 = omega (arith, all, sum, c.if-count-gt-ENTRY_LIMIT.false) in
-    entries_fit pool e of_entries few (record { differ = c.len.ensures.differ; plain = record { sound = c.requires.sound; resources = c.requires.resources; apart = c.requires.apart } })
+    entries_fit pool e of_entries few (record {
+      differ = c.len.ensures.differ;
+      plain =
+          record { sound = c.requires.sound; resources = c.requires.resources; apart = c.requires.apart };
+    })

@@ -9,7 +9,8 @@ use Rattle.jm_writer.proofs.rows.rows_in_slots.Goals as goal
 
 pub loop-entry-init : goal.loop-entry-init
 loop-entry-init c = record {
-  placed = subst (Placed c.args.slots.now (rows_at 0 c.args.places.now c.args.sizes.now) c.args.count 0) (sym c.in_ok-rows.ensures) (placed_none c.args.slots.now (rows_at 0 c.args.places.now c.args.sizes.now) c.args.count);
+  placed = subst (Placed c.args.slots.now (rows_at 0 c.args.places.now c.args.sizes.now) c.args.count 0) (sym c.in_ok-rows.ensures)
+      (placed_none c.args.slots.now (rows_at 0 c.args.places.now c.args.sizes.now) c.args.count);
   left = refl;
   contents = omega arith;
 }
@@ -28,12 +29,17 @@ loop-entry-preserved c =
     let long : length rows ≡ length sizes = length_rows_at 0 places sizes c.requires.places in
     let given = c.requires.slots in
     let inside : entry < length sizes = c.loop-entry-test.true in
-    let row : row_at (get_or places entry p) offset (get_or sizes entry 0) ≡ get_or rows entry d = row_there offset places sizes rows entry p d c.requires.places long inside at.left in
+    let row : row_at (get_or places entry p) offset (get_or sizes entry 0) ≡ get_or rows entry d = row_there offset places sizes
+    rows entry p d c.requires.places long inside at.left in
     let next : c.in_ok-offset.offset ≡ offset + get_or sizes entry 0 = search rules in
-    let more : sum (drop entry sizes) ≡ get_or sizes entry 0 + sum (drop (entry + 1) sizes) = sum_by-drop_more (λ n. n) sizes entry 0 inside in
+    let more : sum (drop entry sizes) ≡ get_or sizes entry 0 + sum (drop (entry + 1) sizes) = sum_by-drop_more (λ n. n) sizes entry
+    0 inside in
     record {
-      placed = subst (λ r. Placed slots rows c.args.count (entry + 1) (set c.loop-entry.rows.items (get_or slots entry 0) (Some r))) (sym row) (placed_next slots rows c.args.count entry c.loop-entry.rows.items d (given ∙ sym long) (omega arith) (c.requires.below entry 0 (omega arith)) c.requires.differ at.placed);
-      left = ap (λ n. rows_at n (drop (entry + 1) places) (drop (entry + 1) sizes)) next ∙ rows_behind offset places sizes rows entry p d c.requires.places long inside at.left;
+      placed = subst (λ r. Placed slots rows c.args.count (entry + 1) (set c.loop-entry.rows.items (get_or slots entry 0) (Some r)))
+          (sym row) (placed_next slots rows c.args.count entry c.loop-entry.rows.items d (given ∙ sym long) (omega arith)
+          (c.requires.below entry 0 (omega arith)) c.requires.differ at.placed);
+      left = ap (λ n. rows_at n (drop (entry + 1) places) (drop (entry + 1) sizes)) next ∙ rows_behind offset places sizes rows
+          entry p d c.requires.places long inside at.left;
       contents = omega (arith, next, more, at.contents);
     }
 
@@ -41,4 +47,5 @@ pub returns-clause-rows : goal.returns-clause-rows
 returns-clause-rows c =
     let all : c.loop-entry.entry ≡ length c.args.slots.now = omega (arith, c.requires.slots) in
     placed_all c.args.slots.now (rows_at 0 c.args.places.now c.args.sizes.now) c.args.count c.loop-entry.rows.items
-    (subst (λ n. Placed c.args.slots.now (rows_at 0 c.args.places.now c.args.sizes.now) c.args.count n c.loop-entry.rows.items) all c.loop-entry.invariant.placed)
+    (subst (λ n. Placed c.args.slots.now (rows_at 0 c.args.places.now c.args.sizes.now) c.args.count n c.loop-entry.rows.items) all
+    c.loop-entry.invariant.placed)

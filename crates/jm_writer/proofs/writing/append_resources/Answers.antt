@@ -14,7 +14,8 @@ returns-in_err-append-clause-err g c = λ base front at_first.
     let bytes = c.at.result.1.now in
     let new = g.S.Shelf.files c.append.new.self in
     let done = front ++ contents_text (take place pool) in
-    let part = part_added base (g.S.Shelf.files c.loop-place.shelf) new path done bytes (c.loop-place.invariant.files base front at_first) c.in_err-append.ensures.err in
+    let part = part_added base (g.S.Shelf.files c.loop-place.shelf) new path done bytes (c.loop-place.invariant.files base front
+    at_first) c.in_err-append.ensures.err in
     let more = part_of_more base new path (done ++ bytes) (contents_text (drop (place + 1) pool)) part in
     let is = contents_ends pool place (c.at.result.0.now, bytes) front c.at.ensures in
     on_err (HoldsPart base path (front ++ contents_text pool) new) c.from_residual.result
@@ -31,6 +32,7 @@ loop-place-preserved g c =
           let done = front ++ contents_text (take place pool) in
           subst (λ l. Holds base path l (g.S.Shelf.files c.append.new.self))
           (contents_more pool place (c.at.result.0.now, bytes) front c.at.ensures)
-          (holds_more base (g.S.Shelf.files c.loop-place.shelf) (g.S.Shelf.files c.append.new.self) path done bytes (c.loop-place.invariant.files base front at_first) c.in_ok-append.ensures.ok);
+          (holds_more base (g.S.Shelf.files c.loop-place.shelf) (g.S.Shelf.files c.append.new.self) path done bytes
+          (c.loop-place.invariant.files base front at_first) c.in_ok-append.ensures.ok);
       faults = c.in_ok-append.ensures.faults.kept refl ∙ c.loop-place.invariant.faults;
     }

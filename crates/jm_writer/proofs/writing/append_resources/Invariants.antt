@@ -6,6 +6,7 @@ use Rattle.jm_writer.proofs.writing.append_resources.Given as goal
 
 abbrev pub invariant-loop-place : goal.invariant-loop-place
 invariant-loop-place g l = record {
-  files : (base : Option Files) (front : List ℕ) → Holds base l.path front (g.S.Shelf.files l.fn.shelf) → Holds base l.path (front ++ contents_text (take l.place l.pool)) (g.S.Shelf.files l.shelf);
+  files : (base : Option Files) (front : List ℕ) → Holds base l.path front (g.S.Shelf.files l.fn.shelf)
+      → Holds base l.path (front ++ contents_text (take l.place l.pool)) (g.S.Shelf.files l.shelf);
   faults : g.S.Shelf.faults l.shelf ≡ g.S.Shelf.faults l.fn.shelf;
 }

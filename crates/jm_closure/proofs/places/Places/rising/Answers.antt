@@ -5,7 +5,13 @@ pub loop-place-init : goal.loop-place-init
 loop-place-init c = record {
   can = tt;
   ends = tt;
-  so_far = rw (c.new-places.ensures.items, c.into_iter-place-iterator.ensures.into_iter_gives, c.iter-place-items.ensures.rest, ← c.self.view_is)
+  so_far = rw (
+    c.new-places.ensures.items,
+    c.into_iter-place-iterator.ensures.into_iter_gives,
+    c.iter-place-items.ensures.rest,
+    ←
+        c.self.view_is,
+  )
       (shown_places (λ k. k.items) c.self.inside.places.entries);
 }
 

@@ -27,7 +27,8 @@ returns-in-Some-clause-err c =
 pub returns-in_ok-copy_of-in-None-2-clause-ok : goal.returns-in_ok-copy_of-in-None-2-clause-ok
 returns-in_ok-copy_of-in-None-2-clause-ok c =
     let missing = sym c.get_mut.ensures.value ∙ ap option_copied_mut c.in-None.is in
-    let stored = rw (c.in_ok-copy_of-in-None.ensures, c.in_ok-copy_of-in-None-2.ensures, c.get_mut.follows.holds-at-none) at c.put.ensures.ok in
+    let stored = rw (c.in_ok-copy_of-in-None.ensures, c.in_ok-copy_of-in-None-2.ensures, c.get_mut.follows.holds-at-none) at
+    c.put.ensures.ok in
     rw (← c.self.view_is)
     (on_ok_weaker c.put.result
     (λ put. put ∙ files_in-new (λ k. k.items) (λ v. v.items) c.args.path.now c.args.bytes.now c.self.inside.files.entries missing)

@@ -3,15 +3,18 @@ use Rattle.jm_outside.proofs.mem_shelf.MemShelfShelf.append.Goals as goal
 
 pub invariant_of-self : goal.invariant_of-self
 invariant_of-self c =
-    let kept = kept_after c.add.result c.args.self.now.files c.add.new.self c.args.path.now _ c.requires.text c.add.ensures.ok c.add.ensures.err (record { rising = c.args.self.now.rising; texts = c.args.self.now.texts }) in
+    let kept = kept_after c.add.result c.args.self.now.files c.add.new.self c.args.path.now _ c.requires.text c.add.ensures.ok
+    c.add.ensures.err (record { rising = c.args.self.now.rising; texts = c.args.self.now.texts }) in
     record { rising = kept.rising; texts = kept.texts }
 
 pub invariant_of-self-then-number : goal.invariant_of-self-then-number
 invariant_of-self-then-number c =
-    let kept = kept_after c.add.result c.args.self.now.files c.add.new.self c.args.path.now _ c.requires.text c.add.ensures.ok c.add.ensures.err (record { rising = c.args.self.now.rising; texts = c.args.self.now.texts }) in
+    let kept = kept_after c.add.result c.args.self.now.files c.add.new.self c.args.path.now _ c.requires.text c.add.ensures.ok
+    c.add.ensures.err (record { rising = c.args.self.now.rising; texts = c.args.self.now.texts }) in
     record { rising = kept.rising; texts = kept.texts }
 
 pub invariant_of-self-2 : goal.invariant_of-self-2
 invariant_of-self-2 c =
-    let kept = kept_after c.add-2.result c.args.self.now.files c.add-2.new.self c.args.path.now _ c.requires.text c.add-2.ensures.ok c.add-2.ensures.err (record { rising = c.args.self.now.rising; texts = c.args.self.now.texts }) in
+    let kept = kept_after c.add-2.result c.args.self.now.files c.add-2.new.self c.args.path.now _ c.requires.text c.add-2.ensures.ok
+    c.add-2.ensures.err (record { rising = c.args.self.now.rising; texts = c.args.self.now.texts }) in
     record { rising = kept.rising; texts = kept.texts }

@@ -9,7 +9,8 @@ pub map_in_order-requires-clause-within : goal.map_in_order-requires-clause-with
 map_in_order-requires-clause-within c =
     let seen = ap pairs_of c.in_ok-list.ensures.pairs ∙ c.self.view_is in
     let order = subst (λ l. IsOrderOf (length l) c.args.order.now) (sym seen) c.requires in
-    rw c.deref_mut.ensures.value (subst (λ n. All (λ place. place < n) c.args.order.now) (length-map c.in_ok-list.list.items (λ e. (e.0.items, e.1.items))) (order_within _ c.args.order.now order))
+    rw c.deref_mut.ensures.value (subst (λ n. All (λ place. place < n) c.args.order.now) (length-map c.in_ok-list.list.items
+    (λ e. (e.0.items, e.1.items))) (order_within _ c.args.order.now order))
 
 pub map_in_order-requires-clause-once : goal.map_in_order-requires-clause-once
 map_in_order-requires-clause-once c = order_once _ c.args.order.now c.requires
@@ -22,4 +23,6 @@ map_in_order-requires-clause-differ c =
 
 pub returns : goal.returns
 returns c =
-    ap pairs_of c.in_ok-pairs.ensures ∙ items_at-map (λ e. (e.0.items, e.1.items)) c.args.order.now c.deref_mut.result.now ∙ ap (λ l. items_at c.args.order.now (pairs_of l)) (c.deref_mut.ensures.value ∙ c.in_ok-list.ensures.pairs) ∙ ap (items_at c.args.order.now) c.self.view_is
+    ap pairs_of c.in_ok-pairs.ensures ∙ items_at-map (λ e. (e.0.items, e.1.items)) c.args.order.now c.deref_mut.result.now
+    ∙ ap (λ l. items_at c.args.order.now (pairs_of l)) (c.deref_mut.ensures.value ∙ c.in_ok-list.ensures.pairs)
+    ∙ ap (items_at c.args.order.now) c.self.view_is
