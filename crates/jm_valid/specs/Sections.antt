@@ -1,25 +1,29 @@
 -- What the sections of an image say of it, in the words of jm_form.
-use Rattle.std.specs.Prelude.{ℕ, List, length, Option, Some, None, if◌then◌else◌}
+use Rattle.std.specs.Prelude.{ℕ, ◌≡◌, List, Option, Some, None, Ok, if◌then◌else◌}
 use Rattle.jm_bytes.specs.Checks.{first_fault}
 use Rattle.jm_form.specs.declared.damage.Damage.{Damage}
 use Rattle.jm_form.specs.declared.rows.Row.{Row}
 use Rattle.jm_form.specs.declared.slots.SlotRow.{SlotRow}
-use Rattle.jm_form.specs.Damages.{entries_checks, image_checks, row_checks, slot_fault, slot_faults}
+use Rattle.jm_form.specs.Damages.{entries_checks, image_checks_with, row_checks, slot_fault_with}
+use Rattle.jm_form.specs.Damages.{slot_faults_with}
 use Rattle.jm_form.specs.Entries.{Entry, entries, entry_of, is_reached, row_at}
 use Rattle.jm_form.specs.Entries.{row_of_slot}
-use Rattle.jm_form.specs.Places.{strings, contents}
-use Rattle.jm_form.specs.Validity.{SoundSlots}
+use Rattle.jm_form.specs.Head.{header_with}
+use Rattle.jm_form.specs.Places.{contents_size, strings}
+use Rattle.jm_form.specs.Validity.{SoundSlotsWith}
 use Rattle.jm_valid.specs.declared.sections.Sections.{Sections}
 
 -- The parts of the bytes
 
+-- they are those of a file of so many bytes that begins with these
+pub record AreSectionsOf (front : List ℕ) (length : ℕ) (s : Sections) : Type 0 where
+  pub bytes : s.bytes.now ≡ front
+  pub header : header_with front length ≡ Ok s.header
+  pub size : s.size ≡ contents_size length s.header
+
 -- the strings of the image whose sections these are
 abbrev pub strings_in : Sections → List ℕ
 strings_in s = strings s.bytes.now s.header
-
--- the contents of the image whose sections these are
-abbrev pub contents_in : Sections → List ℕ
-contents_in s = contents s.bytes.now s.header
 
 -- Slots
 
@@ -29,23 +33,24 @@ slot_row_in s slot = row_of_slot s.bytes.now s.header slot
 
 -- the first fault of a slot with a row that isn't blank
 abbrev pub row_fault_in : Sections → ℕ → Row → Option Damage
-row_fault_in s slot row = first_fault (row_checks slot (strings_in s) (length (contents_in s)) row)
+row_fault_in s slot row = first_fault (row_checks slot (strings_in s) s.size row)
 
 -- the first fault of a slot
 abbrev pub slot_fault_in : Sections → ℕ → Option Damage
-slot_fault_in s slot = slot_fault s.bytes.now s.header slot
+slot_fault_in s slot = slot_fault_with s.bytes.now s.header s.size slot
 
 -- the first fault of the least slot that has one
 abbrev pub least_fault_in : Sections → Option Damage
-least_fault_in s = first_fault (slot_faults s.bytes.now s.header)
+least_fault_in s = first_fault (slot_faults_with s.bytes.now s.header s.size)
 
 -- no slot has a fault
 abbrev pub IsSound : Sections → Type 0
-IsSound s = SoundSlots s.bytes.now s.header
+IsSound s = SoundSlotsWith s.bytes.now s.header s.size
 
 -- Entries
 
--- the entries of the image whose sections these are
+-- the entries of the image whose sections these are, with as much of their contents as the bytes
+-- have
 abbrev pub entries_in : Sections → List Entry
 entries_in s = entries s.bytes.now s.header
 
@@ -67,4 +72,4 @@ entries_damage_in s = first_fault (entries_checks s.header.count (entries_in s))
 
 -- the first damage behind the header
 abbrev pub body_damage_in : Sections → Option Damage
-body_damage_in s = first_fault (image_checks s.bytes.now s.header)
+body_damage_in s = first_fault (image_checks_with s.bytes.now s.header s.size)

@@ -3,6 +3,7 @@
 
 mod entries;
 mod image;
+mod index;
 mod open;
 mod open_error;
 mod overlap;
@@ -14,7 +15,8 @@ mod slots;
 mod unmetered;
 
 pub use image::Image;
+pub use index::Index;
 pub use jm_form::Damage;
-pub use open::{open_alone, open_image};
+pub use open::{open_alone, open_image, open_index};
 pub use open_error::OpenError;
 pub use sections::ended_texts;

@@ -1,19 +1,23 @@
-ghost use Rattle.std.specs.Prelude.{◌≡◌, ◌<◌, ◌==◌, not, length, IfOk, IfErr, OnOk};
+ghost use Rattle.std.specs.Prelude.{◌≡◌, ◌<◌, ◌==◌, not, ℕ, List, length, None, IfOk, IfErr, OnOk};
 ghost use Rattle.jm_bytes.specs.Checks.{fault_if};
+ghost use Rattle.jm_form.specs.Damages.{front_damage};
+ghost use Rattle.jm_form.specs.Head.{HoldsIndex, IsFileOf};
 ghost use Rattle.jm_form.specs.Overlap.{ranges_of};
 ghost use Rattle.jm_form.specs.Validity.{Valid};
-ghost use Rattle.jm_valid.specs.Opened.{IsDamageOf};
+ghost use Rattle.jm_valid.specs.Opened.{IsDamageOf, IsIndexOf, Reports};
 ghost use Rattle.jm_valid.specs.Ranges.{ranges_with_bytes};
-ghost use Rattle.jm_valid.specs.Sections.{body_damage_in, entries_damage_in, entries_in};
+ghost use Rattle.jm_valid.specs.Sections.{AreSectionsOf, body_damage_in, entries_damage_in};
+ghost use Rattle.jm_valid.specs.Sections.{entries_in};
 
 use crate::entries::{Contents, contents_alone, contents_of};
 use crate::image::Image;
+use crate::index::Index;
 use crate::open_error::OpenError;
 use crate::overlap::first_overlap;
 use crate::search::{least_fault, least_fault_alone};
 use crate::sections::Sections;
 use jm_bytes::NoMemory;
-use jm_form::{Damage, read_header};
+use jm_form::{Damage, Header, read_header_of};
 use jm_halves::{Gate, NoGate};
 use std::alloc::Global;
 use std::thread::Threads;
@@ -86,47 +90,90 @@ fn body_damage_alone<G: Gate>(
     Ok(entries_damage(sections, contents))
 }
 
-/// The sections of the image that these bytes may be, or the fault of their header.
-fn sections_of(bytes: &[u8]) -> Result<Sections, OpenError>
-    ensures same { IfOk result (λ sections. sections.bytes.now ≡ bytes.now) }
-    ensures damaged { IfErr result (IsDamageOf bytes.now) }
+/// The sections of the files of this length that begin with these bytes, or the fault of their
+/// header.
+fn sections_of(front: &[u8], length: u64) -> Result<Sections, OpenError>
+    requires { HoldsIndex front.now length }
+    ensures sections { IfOk result (AreSectionsOf front.now length) }
+    ensures damaged { IfErr result (Reports (front_damage front.now length)) }
 {
-    match read_header(bytes) {
-        Ok(header) => Ok(Sections::of(bytes, header)),
+    match read_header_of(front, length) {
+        Ok(header) => {
+            let size = length - header.contents_place() as u64;
+            Ok(Sections::of(front, header, size))
+        }
         Err(fault) => Err(OpenError::Damaged(Damage::Header(fault))),
     }
 }
 
-/// The image of these sections, or why there is none, from what was found behind the header.
-fn image_of<'a>(
-    sections: &Sections<'a>,
+/// The header of these sections, or why they are no image's, from what was found behind it.
+fn header_in(
+    sections: &Sections,
     found: Result<Option<Damage>, NoMemory>,
-) -> Result<Image<'a>, OpenError>
+) -> Result<Header, OpenError>
     requires { IfOk found (λ damage. damage ≡ body_damage_in sections.now) }
-    ensures same { IfOk result (λ image. image ≡ sections.now.bytes.now) }
-    ensures valid { OnOk result (Valid sections.now.bytes.now) }
-    ensures damaged { IfErr result (IsDamageOf sections.now.bytes.now) }
+    ensures header { IfOk result (λ header. header ≡ sections.now.header) }
+    ensures sound { OnOk result (body_damage_in sections.now ≡ None) }
+    ensures damaged { IfErr result (Reports (body_damage_in sections.now)) }
 {
     match found {
-        Ok(None) => Ok(Image::checked(sections.bytes, sections.header)),
+        Ok(None) => Ok(sections.header),
         Ok(Some(damage)) => Err(OpenError::Damaged(damage)),
         Err(NoMemory) => Err(OpenError::Memory),
     }
 }
 
-/// The image that these bytes are, or their first damage, found on the caller's thread, which
-/// passes this gate as often as a search in one piece does.
-fn open_in_one_piece<'a, G: Gate>(
+/// The header of the files of this length that begin with these bytes, if they are valid, or their
+/// first damage, found on the caller's thread, which passes this gate as often as a search in one
+/// piece does.
+fn check_in_one_piece<G: Gate>(
     alloc: Global,
-    bytes: &'a [u8],
+    front: &[u8],
+    length: u64,
     gate: &G,
-) -> Result<Image<'a>, OpenError>
+) -> Result<Header, OpenError>
+    requires { HoldsIndex front.now length }
+    ensures index { IfOk result (IsIndexOf front.now length) }
+    ensures damaged { IfErr result (Reports (front_damage front.now length)) }
+{
+    let sections = sections_of(front, length)?;
+    header_in(&sections, body_damage_alone(alloc, &sections, gate))
+}
+
+/// The same, found in pieces that the jobs share.
+fn check<R: Threads + Sync, G: Gate + Sync>(
+    rt: &R,
+    alloc: Global,
+    jobs: u32,
+    front: &[u8],
+    length: u64,
+    gate: &G,
+) -> Result<Header, OpenError>
+    requires jobs { 0 < jobs }
+    requires holds { HoldsIndex front.now length }
+    ensures index { IfOk result (IsIndexOf front.now length) }
+    ensures damaged { IfErr result (Reports (front_damage front.now length)) }
+{
+    if jobs == 1 {
+        return check_in_one_piece(alloc, front, length, gate);
+    }
+    let sections = sections_of(front, length)?;
+    header_in(&sections, body_damage(rt, alloc, jobs, &sections, gate))
+}
+
+/// The image that these bytes are, or why they are none, from what the check of them as a front of
+/// their own length gave.
+fn image_of<'a>(bytes: &'a [u8], found: Result<Header, OpenError>) -> Result<Image<'a>, OpenError>
+    requires index { IfOk found (IsIndexOf bytes.now (length bytes.now)) }
+    requires damaged { IfErr found (Reports (front_damage bytes.now (length bytes.now))) }
     ensures same { IfOk result (λ image. image ≡ bytes.now) }
     ensures valid { OnOk result (Valid bytes.now) }
     ensures damaged { IfErr result (IsDamageOf bytes.now) }
 {
-    let sections = sections_of(bytes)?;
-    image_of(&sections, body_damage_alone(alloc, &sections, gate))
+    match found {
+        Ok(header) => Ok(Image::checked(bytes, header)),
+        Err(error) => Err(error),
+    }
 }
 
 /// The image that these bytes are, or their first damage (jimage 1.0, uncompressed), found on the
@@ -138,7 +185,8 @@ pub fn open_alone<'a>(alloc: Global, bytes: &'a [u8]) -> Result<Image<'a>, OpenE
     ensures valid { OnOk result (Valid bytes.now) }
     ensures damaged { IfErr result (IsDamageOf bytes.now) }
 {
-    open_in_one_piece(alloc, bytes, &NoGate)
+    let found = check_in_one_piece(alloc, bytes, bytes.len() as u64, &NoGate);
+    image_of(bytes, found)
 }
 
 /// The image that these bytes are, or their first damage (jimage 1.0, uncompressed).
@@ -158,9 +206,30 @@ pub fn open_image<'a, R: Threads + Sync, G: Gate + Sync>(
     ensures valid { OnOk result (Valid bytes.now) }
     ensures damaged { IfErr result (IsDamageOf bytes.now) }
 {
-    if jobs == 1 {
-        return open_in_one_piece(alloc, bytes, gate);
+    let found = check(rt, alloc, jobs, bytes, bytes.len() as u64, gate);
+    image_of(bytes, found)
+}
+
+/// The index of the image that a file of this length is, of which these are the first bytes, or the
+/// file's first damage: what `open_image` answers for the whole file.
+///
+/// The bytes hold the file's index, if it has a header; what stands behind that changes nothing.
+pub fn open_index<'a, R: Threads + Sync, G: Gate + Sync>(
+    rt: &R,
+    alloc: Global,
+    jobs: u32,
+    front: &'a [u8],
+    length: u64,
+    gate: &G,
+) -> Result<Index<'a>, OpenError>
+    requires jobs { 0 < jobs }
+    requires holds { HoldsIndex front.now length }
+    ensures same { IfOk result (λ index. index ≡ record { bytes = front.now; length = length }) }
+    ensures valid { (b : List ℕ) → IsFileOf front.now length b → OnOk result (Valid b) }
+    ensures damaged { (b : List ℕ) → IsFileOf front.now length b → IfErr result (IsDamageOf b) }
+{
+    match check(rt, alloc, jobs, front, length, gate) {
+        Ok(header) => Ok(Index::checked(front, header, length)),
+        Err(error) => Err(error),
     }
-    let sections = sections_of(bytes)?;
-    image_of(&sections, body_damage(rt, alloc, jobs, &sections, gate))
 }

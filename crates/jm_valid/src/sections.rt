@@ -1,4 +1,4 @@
-ghost use Rattle.std.specs.Prelude.{◌≡◌, length, Ok};
+ghost use Rattle.std.specs.Prelude.{◌≡◌, Ok};
 ghost use Rattle.jm_form.specs.Head.{header_of};
 ghost use Rattle.jm_form.specs.Places as places;
 ghost use Rattle.jm_form.specs.Texts.{text_ends};
@@ -7,7 +7,8 @@ ghost use Rattle.jm_valid.specs.Texts.{ended_texts};
 use jm_form::Header;
 use memchr::memrchr;
 
-/// An image whose header was read, with what the checks read of its sections.
+/// The first bytes of an image, which hold its index and whose header was read, with what the
+/// checks read of its sections.
 #[derive(Clone, Copy)]
 pub struct Sections<'a> {
     pub bytes: &'a [u8],
@@ -15,10 +16,10 @@ pub struct Sections<'a> {
     /// The front of the strings up to and with their last zero byte; the texts that end begin in
     /// it.
     pub texts: &'a [u8],
-    pub contents: &'a [u8],
+    /// How many bytes the contents have, of which these bytes may hold none.
+    pub size: u64,
     pub ghost header_read: { header_of bytes.now ≡ Ok header },
     pub ghost texts_cut: { texts.now ≡ ended_texts (places.strings bytes.now header) },
-    pub ghost contents_cut: { contents.now ≡ places.contents bytes.now header },
 }
 
 /// The front up to and with the last zero byte: a text of the strings ends within them exactly
@@ -33,21 +34,22 @@ pub fn ended_texts(strings: &[u8]) -> &[u8]
 }
 
 impl<'a> Sections<'a> {
-    ghost use Rattle.jm_valid.specs.Sections.{contents_in, strings_in};
+    ghost use Rattle.jm_valid.specs.Sections.{strings_in};
 
-    /// The sections of the image that these bytes are.
-    pub fn of(bytes: &'a [u8], header: Header) -> Sections<'a>
+    /// The sections of an image that begins with these bytes and whose contents have this size.
+    pub fn of(bytes: &'a [u8], header: Header, size: u64) -> Sections<'a>
         requires { header_of bytes.now ≡ Ok header }
         ensures bytes { result.bytes.now ≡ bytes.now }
         ensures header { result.header ≡ header }
+        ensures size { result.size ≡ size }
     {
         let (_, behind) = bytes.split_at(header.strings_place());
-        let (strings, contents) = behind.split_at(header.strings as usize);
+        let (strings, _) = behind.split_at(header.strings as usize);
         Sections {
             bytes,
             header,
             texts: ended_texts(strings),
-            contents,
+            size,
         }
     }
 
@@ -60,8 +62,8 @@ impl<'a> Sections<'a> {
 
     /// How many bytes the contents have.
     pub fn size(&self) -> u64
-        ensures { result ≡ length (contents_in self.now) }
+        ensures { result ≡ self.now.size }
     {
-        self.contents.len() as u64
+        self.size
     }
 }

@@ -4,7 +4,7 @@ use Rattle.std.proofs.lemmas.List.FromFn.{length-range_with_len}
 use Rattle.std.specs.List.{range_with_len}
 use Rattle.jm_form.specs.Entries.{entry_of}
 use Rattle.jm_form.specs.Overlap.{range_of, ranges_of}
-use Rattle.jm_form.proofs.SlotLaws.{sound_row}
+use Rattle.jm_form.proofs.SlotLaws.{sound_row_with}
 use Rattle.jm_valid.specs.Parts.{ContentsAt, entries_at}
 use Rattle.jm_valid.specs.Ranges.{ranges_with_bytes}
 use Rattle.jm_valid.proofs.EntryRows.{entry_more, entry_same, length-entries_at, ranges_more, row_reached, slots_next}
@@ -28,7 +28,7 @@ overflow_add-range c =
     let s = c.args.names.now.sections in
     let there = row_reached s c.loop-slot.slot c.in-Some.row (sym c.in-Some.ensures) in
     let below : c.loop-slot.slot < s.header.length = omega arith in
-    let sound = sound_row s.bytes.now s.header c.loop-slot.slot c.in-Some.row (c.requires.sound c.loop-slot.slot below) there.0 in
+    let sound = sound_row_with s.bytes.now s.header s.size c.loop-slot.slot c.in-Some.row (c.requires.sound c.loop-slot.slot below) there.0 in
     let fits = sound.within in
     omega arith
 

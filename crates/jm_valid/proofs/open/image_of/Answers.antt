@@ -1,11 +1,18 @@
-use Rattle.std.proofs.Common.{◌≡◌, IfOk, None, sym, subst, ◌∙◌}
-use Rattle.jm_form.proofs.Validity.{body_valid}
-use Rattle.jm_valid.specs.Sections.{body_damage_in}
+use Rattle.std.proofs.Common.{IfErr, IfOk, length, subst}
+use Rattle.jm_form.proofs.LocalityLaws.{whole_file, whole_index}
+use Rattle.jm_form.specs.Damages.{front_damage}
+use Rattle.jm_valid.specs.Opened.{IsIndexOf, Reports}
+use Rattle.jm_valid.proofs.FrontLaws.{index_valid, reported}
 use Rattle.jm_valid.proofs.open.image_of.Goals as goal
 
 pub checked-requires : goal.checked-requires
 checked-requires c =
-    let s = c.args.sections.now in
-    let found = subst (λ r. IfOk r (λ damage. damage ≡ body_damage_in s)) c.in-Ok-None.is c.requires in
-    let none : c.in-Ok-None.field-0 ≡ None = rw c.in-Ok-None.is at c.in-Ok-None.field-0-is in
-    body_valid s.bytes.now s.header s.header_read (sym found ∙ none)
+    let b = c.args.bytes.now in
+    let index = subst (λ r. IfOk r (IsIndexOf b (length b))) c.in-Ok.is c.requires.index in
+    index_valid b (length b) b c.in-Ok.header (whole_file b) index
+
+pub returns-in-Err-clause-damaged : goal.returns-in-Err-clause-damaged
+returns-in-Err-clause-damaged c =
+    let b = c.args.bytes.now in
+    let says = subst (λ r. IfErr r (Reports (front_damage b (length b)))) c.in-Err.is c.requires.damaged in
+    reported b (length b) b c.in-Err.error (whole_file b) (whole_index b) says
