@@ -35,7 +35,8 @@ fn tell_length(alloc: Global, out: &mut Vec<u8>, found: Option<u64>) -> Result<(
     Ok(())
 }
 
-/// The place and the number of bytes of a part. The last place of all is `end`.
+/// The place and the number of bytes of a part. `end` is the last place of all, and `all` is more
+/// bytes than a file has.
 fn part_asked(text: &str) -> (u64, usize) {
     let (at, count) = text.split_once(' ').unwrap_or((text, ""));
     let at = if at == "end" {
@@ -147,6 +148,7 @@ pub const PARTS: &[&str] = &[
     "a part over the end|part|p/six|4 3|ef",
     "a part at the end|part|p/six|6 1|",
     "a part behind the end|part|p/six|7 1|",
+    "a part far behind the end|part|p/six|1125899906842624 1|",
     "a part at the last place of all|part|p/six|end 1|",
     "no byte is asked for|part|p/six|2 0|",
     "as many as there are|part|p/six|3 all|def",
