@@ -1,18 +1,15 @@
 //! The texts of replies.
-ghost use Rattle.std.specs.Prelude.{◌≡◌, ◌≤◌, ◌++◌, true, false, codes, length, Ok, IfOk, OnOk};
+ghost use Rattle.std.specs.Prelude.{◌≡◌, ◌≤◌, ◌++◌, true, false, length, Ok, IfOk, OnOk};
 ghost use Rattle.jm_reader.specs.Walk.{IsLater};
-ghost use Rattle.jm_jrt.specs.Nodes.{item_as};
 ghost use Rattle.jm_jrt.specs.Reply as reply;
 ghost use Rattle.jm_jrt.specs.Lists.{child_line};
 ghost use Rattle.jm_jrt.specs.Views.{count_of};
 
 use crate::child_list::{Child, ChildList};
 use crate::jrt_error::JrtError;
-use crate::node::Node;
 use itoa::Buffer;
 use jm_bytes::{Meter, NoMemory, extend};
 use jm_names::{extend_utf8, to_utf8};
-use jm_reader::NameView;
 use std::alloc::Global;
 use std::sync::ledger::Ledger;
 
@@ -58,17 +55,6 @@ pub fn error_reply(alloc: Global, error: JrtError) -> Result<Vec<u8>, NoMemory>
     }
 }
 
-/// The reply of `find` where there is an entry.
-pub fn found_reply(alloc: Global, content: &[u8]) -> Result<Vec<u8>, NoMemory>
-    ensures { IfOk result (λ text. text.items
-        ≡ reply.numbered (codes "found ") (length content.now) ++ reply.line content.now) }
-{
-    let mut text = numbered(alloc, b"found ", content.len())?;
-    extend(&mut text, content)?;
-    extend(&mut text, b"\n")?;
-    Ok(text)
-}
-
 /// The line of a name in UTF-8 behind a word.
 pub fn named(alloc: Global, word: &[u8], name: &[u8]) -> Result<Vec<u8>, NoMemory>
     ensures { IfOk result (λ text. text.items ≡ reply.named word.now name.now) }
@@ -76,47 +62,6 @@ pub fn named(alloc: Global, word: &[u8], name: &[u8]) -> Result<Vec<u8>, NoMemor
     let mut text = Vec::new(alloc);
     extend_named(alloc, &mut text, word, name)?;
     Ok(text)
-}
-
-/// The reply of `stat` where there is something.
-#[tactic(auto, using(crate::proofs::ListLaws::item_reply_of))]
-pub fn node_reply(alloc: Global, node: &Node) -> Result<Vec<u8>, NoMemory>
-    ensures { IfOk result (λ text. text.items ≡ reply.stat_reply (item_as (Ok node.now))) }
-{
-    match node {
-        Node::Folder(list) => numbered(alloc, b"folder ", list.len()),
-        Node::File(bytes) => numbered(alloc, b"file ", bytes.len()),
-        Node::Link(module) => named(alloc, b"link /modules/", module),
-    }
-}
-
-/// Puts the line of an entry at the end.
-fn extend_entry(alloc: Global, text: &mut Vec<u8>, name: &NameView) -> Result<(), NoMemory>
-    ensures { OnOk result (text.new.items ≡ text.old.items ++ reply.entry_line name.now) }
-{
-    let word: &[u8] = if name.is_node() { b"" } else { b"/modules" };
-    let name = name.to_text(alloc)?;
-    extend_named(alloc, text, word, name.as_slice())
-}
-
-/// Puts the line of an owner in the package at a path, which is given in UTF-8, at the end.
-fn extend_owner(
-    alloc: Global,
-    text: &mut Vec<u8>,
-    path: &[u8],
-    empty: bool,
-    module: &[u8],
-) -> Result<(), NoMemory>
-    ensures { OnOk result (text.new.items ≡ text.old.items
-        ++ reply.owner_line path.now (record { empty = empty; «module» = «module».now })) }
-{
-    extend(text, path)?;
-    extend(text, b"/")?;
-    extend_utf8(alloc, text, module)?;
-    if empty {
-        extend(text, b" empty")?;
-    }
-    extend(text, b"\n")
 }
 
 /// Puts the line of a child of the folder at a path, which is given in UTF-8, at the end.
@@ -129,8 +74,20 @@ fn extend_child(
     ensures { OnOk result (text.new.items ≡ text.old.items ++ child_line path.now child.now) }
 {
     match child {
-        Child::Entry(name) => extend_entry(alloc, text, name),
-        Child::Owner { empty, module } => extend_owner(alloc, text, path, *empty, module),
+        Child::Entry(name) => {
+            let word: &[u8] = if name.is_node() { b"" } else { b"/modules" };
+            let name = name.to_text(alloc)?;
+            extend_named(alloc, text, word, name.as_slice())
+        }
+        Child::Owner { empty, module } => {
+            extend(text, path)?;
+            extend(text, b"/")?;
+            extend_utf8(alloc, text, module)?;
+            if *empty {
+                extend(text, b" empty")?;
+            }
+            extend(text, b"\n")
+        }
     }
 }
 

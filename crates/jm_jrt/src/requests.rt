@@ -7,9 +7,8 @@ ghost use Rattle.jm_reader.specs.Walk.{IsLater};
 ghost use Rattle.jm_jrt.specs.Reply as reply;
 ghost use Rattle.jm_jrt.specs.Stat as answers;
 
-use crate::replies::{
-    error_reply, extend_children, found_reply, line, named, node_reply, numbered,
-};
+use crate::node::Node;
+use crate::replies::{error_reply, extend_children, line, named, numbered};
 use crate::trees::{children, owner, stat};
 use jm_bytes::{Meter, NoMemory, Steps, Text, extend};
 use jm_names::{cut_at_first, to_modified};
@@ -33,11 +32,17 @@ fn answer_find<H: Ledger, R: Ledger>(
 {
     match find(image, name, hashes, reads) {
         None => line(alloc, b"none"),
-        Some(found) => found_reply(alloc, found.bytes),
+        Some(found) => {
+            let mut text = numbered(alloc, b"found ", found.bytes.len())?;
+            extend(&mut text, found.bytes)?;
+            extend(&mut text, b"\n")?;
+            Ok(text)
+        }
     }
 }
 
 /// The reply of `stat` with a path.
+#[tactic(auto, using(crate::proofs::ListLaws::item_reply_of))]
 fn answer_stat<H: Ledger, R: Ledger>(
     alloc: Global,
     image: &Image,
@@ -53,7 +58,9 @@ fn answer_stat<H: Ledger, R: Ledger>(
 {
     match stat(image, path, hashes, reads) {
         Err(error) => error_reply(alloc, error),
-        Ok(node) => node_reply(alloc, &node),
+        Ok(Node::Folder(list)) => numbered(alloc, b"folder ", list.len()),
+        Ok(Node::File(bytes)) => numbered(alloc, b"file ", bytes.len()),
+        Ok(Node::Link(module)) => named(alloc, b"link /modules/", module),
     }
 }
 

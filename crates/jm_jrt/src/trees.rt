@@ -17,7 +17,7 @@ use crate::child_list::{ChildList, ToCome};
 use crate::jrt_error::JrtError;
 use crate::node::Node;
 use crate::owners::{find_owner, first_full};
-use crate::paths::{cut_last, is_package, is_root};
+use crate::paths::{cut_last, is_package};
 use crate::words::{children_fault, owners_fault};
 use jm_bytes::{Meter, Steps};
 use jm_form::Header;
@@ -40,26 +40,6 @@ fn read_children<'a, R: Ledger>(
     match children_fault(image, content, reads) {
         Some(fault) => Err(fault),
         None => Ok(ChildList::of(image, ToCome::Words { content, next: 0 })),
-    }
-}
-
-/// The children of the node of this name.
-fn children_at<'a, H: Ledger, R: Ledger>(
-    image: &Image<'a>,
-    path: &[u8],
-    hashes: &mut Steps<H>,
-    reads: &mut Meter<R>,
-) -> Result<ChildList<'a>, JrtError>
-    requires metered { reads.old.bytes ≡ image.now }
-    ensures rest { held_by result
-        ≡ answers.children_of image.now (look image.now path.now) }
-    ensures bytes { IfOk result (λ list. list.bytes ≡ image.now) }
-    ensures hashes { RisesAtMost hashes.old hashes.new 2 }
-    ensures reads { IsLater reads.old reads.new }
-{
-    match find(image, path, hashes, reads) {
-        None => Err(JrtError::NotThere),
-        Some(found) => read_children(image, found.bytes, reads),
     }
 }
 
@@ -219,8 +199,11 @@ fn stat_in<'a, H: Ledger, R: Ledger>(
     if path == b"/".as_slice() {
         return Ok(Node::Folder(roots(image, hashes, reads)));
     }
-    if is_root(path) {
-        return Ok(Node::Folder(children_at(image, path, hashes, reads)?));
+    if path == b"/modules".as_slice() || path == b"/packages".as_slice() {
+        return match find(image, path, hashes, reads) {
+            None => Err(JrtError::NotThere),
+            Some(found) => Ok(Node::Folder(read_children(image, found.bytes, reads)?)),
+        };
     }
     if path.starts_with(b"/modules/") {
         return in_modules(image, path, hashes, reads);
