@@ -9,9 +9,10 @@ use Rattle.jm_form.specs.declared.damage.Damage.{Damage}
 use Rattle.jm_form.specs.declared.damage.Damage.TheVariants as damage
 use Rattle.jm_form.specs.declared.rows.Row.{Row}
 use Rattle.jm_form.specs.Entries as form
-use Rattle.jm_form.specs.Head.{header_of, index_length}
+use Rattle.jm_form.specs.Head.{index_length}
 use Rattle.jm_form.specs.Places.{strings_place}
 use Rattle.jm_form.specs.TreeView.{TreeItem, Folder, Package, File, Link}
+use Rattle.jm_reader.specs.Look.{head}
 use Rattle.jm_reader.specs.Walk.{entry_alone}
 use Rattle.jm_jrt.specs.declared.jrt_error.JrtError.{JrtError}
 use Rattle.jm_jrt.specs.declared.jrt_error.JrtError.TheVariants.{NotThere, BadNode, NotFolder}
@@ -56,19 +57,10 @@ abbrev pub row_content : Header → Row → Content
 row_content h row =
     record { place = index_length h + row.offset; size = row.size; found = true }
 
--- the content of what a look-up answers, or none
-abbrev pub sought_content : Header → Option (Row × List ℕ) → Content
-sought_content h None = nowhere
-sought_content h (Some found) = row_content h found.0
-
--- the same by what the header reads as, which is a header where the bytes are valid
-abbrev pub content_read : Option (Row × List ℕ) → Result Header HeaderFault → Content
-content_read sought (Err fault) = nowhere
-content_read sought (Ok h) = sought_content h sought
-
--- the same in some bytes, whose header says where the contents begin
+-- where the content that a look-up answers stands in the bytes of an image, or nowhere
 abbrev pub content_told : List ℕ → Option (Row × List ℕ) → Content
-content_told b sought = content_read sought (header_of b)
+content_told b None = nowhere
+content_told b (Some found) = row_content (head b) found.0
 
 -- Trees
 
@@ -133,26 +125,16 @@ row_entry h row = record {
   found = true;
 }
 
--- the first of some entries, or none
-abbrev pub first_entry : Header → List form.Entry → Entry
-first_entry h [] = no_entry
-first_entry h (e ∷ es) = row_entry h e.row
-
--- the entry that a slot holds, or none, by what the header reads as
-abbrev pub entry_with : List ℕ → ℕ → Result Header HeaderFault → Entry
-entry_with b slot (Err fault) = no_entry
-entry_with b slot (Ok h) =
-    if nat_lt slot h.length then first_entry h (entry_alone b h slot) else no_entry
+-- the first of some entries of an image, or none
+abbrev pub first_entry : List ℕ → List form.Entry → Entry
+first_entry b [] = no_entry
+first_entry b (e ∷ es) = row_entry (head b) e.row
 
 -- the entry that a slot of an image holds, or none
 abbrev pub entry_told : List ℕ → ℕ → Entry
-entry_told b slot = entry_with b slot (header_of b)
+entry_told b slot =
+    if nat_lt slot (head b).length then first_entry b (entry_alone b slot) else no_entry
 
--- the length of the table, by what the header reads as
-abbrev pub slots_with : Result Header HeaderFault → ℕ
-slots_with (Err fault) = 0
-slots_with (Ok h) = h.length
-
--- how many slots the table has
+-- how many slots the table of an image has
 abbrev pub slots_of : List ℕ → ℕ
-slots_of b = slots_with (header_of b)
+slots_of b = (head b).length

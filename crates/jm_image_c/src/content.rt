@@ -1,6 +1,6 @@
 ghost use Rattle.std.specs.Prelude.{◌≡◌, ◌+◌, ◌<◌, ◌≤◌, length, slice_range, IfSome};
 ghost use Rattle.jm_bytes.specs.Metered.{CostsAtMost, RisesAtMost};
-ghost use Rattle.jm_form.specs.Validity.{look};
+ghost use Rattle.jm_form.specs.Validity.{look, Valid};
 ghost use Rattle.jm_image_c.specs.Told.{content_told};
 
 use crate::numbers::Content;
@@ -43,13 +43,12 @@ fn content_named<H: Ledger, R: Ledger>(
 
 /// Does what `content_named` does, with counters of its own.
 pub fn find_content<H: Ledger, R: Ledger>(
-    image: &Image,
     bytes: &[u8],
     name: &[u8],
     hashes: Blank,
     reads: Blank,
 ) -> Content
-    requires bytes { image.now ≡ bytes.now }
+    requires valid { Valid bytes.now }
     requires hashes_name { hashes.name ≡ H.name }
     requires hashes_parts { hashes.parts ≡ H.parts }
     requires hashes_some { 0 < hashes.parts }
@@ -61,7 +60,8 @@ pub fn find_content<H: Ledger, R: Ledger>(
         slice_range bytes.now result.place (result.place + result.size) ≡ found.1) }
     ensures within { result.place + result.size ≤ length bytes.now }
 {
+    let image = Image::of_valid(bytes);
     let mut hashes = Steps::<H>::new(hashes);
     let mut reads = Meter::<R>::new(bytes, reads);
-    content_named(image, name, &mut hashes, &mut reads)
+    content_named(&image, name, &mut hashes, &mut reads)
 }

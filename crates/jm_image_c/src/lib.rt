@@ -55,8 +55,7 @@ pub extern "C" fn jm_image_find(bytes: &[u8], name: &[u8]) -> Content
         slice_range bytes.now result.place (result.place + result.size) ≡ found.1) }
     ensures within { result.place + result.size ≤ length bytes.now }
 {
-    let image = Image::of_valid(bytes);
-    find_content::<Brand, Brand>(&image, bytes, name, Blank::new(1), Blank::new(1))
+    find_content::<Brand, Brand>(bytes, name, Blank::new(1), Blank::new(1))
 }
 
 /// What stands at a path of the two trees.
@@ -65,8 +64,7 @@ pub extern "C" fn jm_image_stat(bytes: &[u8], path: &[u8]) -> Standing
     requires { Valid bytes.now }
     ensures { result ≡ standing_told (trees.stat bytes.now path.now) }
 {
-    let image = Image::of_valid(bytes);
-    standing::<Brand, Brand>(&image, bytes, path, Blank::new(1), Blank::new(1))
+    standing::<Brand, Brand>(bytes, path, Blank::new(1), Blank::new(1))
 }
 
 /// The first owner, of the package at a path such as `/packages/java.lang`, for which it isn't
@@ -79,8 +77,7 @@ pub extern "C" fn jm_image_owner(bytes: &[u8], path: &[u8], name: &mut [u8]) -> 
     ensures room { length name.new ≡ length name.old }
     ensures name { name.new ≡ put_front (owner_name (trees.owner bytes.now path.now)) name.old }
 {
-    let image = Image::of_valid(bytes);
-    first_owner::<Brand, Brand>(&image, bytes, path, name, Blank::new(1), Blank::new(1))
+    first_owner::<Brand, Brand>(bytes, path, name, Blank::new(1), Blank::new(1))
 }
 
 /// How many entries and slots an image has.
@@ -104,6 +101,5 @@ pub extern "C" fn jm_image_entry(bytes: &[u8], slot: u32) -> Entry
     ensures entry { result ≡ entry_told bytes.now slot }
     ensures within { result.place + result.size ≤ length bytes.now }
 {
-    let image = Image::of_valid(bytes);
-    entry_in_slot::<Brand>(&image, bytes, slot, Blank::new(1))
+    entry_in_slot::<Brand>(bytes, slot, Blank::new(1))
 }
