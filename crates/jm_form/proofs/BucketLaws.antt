@@ -26,13 +26,15 @@ pub record IsBucket (names : List (List ℕ)) (slots size bucket : ℕ) : Type 0
   pub some : 0 < size_in names slots bucket
   pub within : size_in names slots bucket ≤ size
 
-of_size : (names : List (List ℕ)) (slots size bucket : ℕ) → Contains (buckets_of_size names slots size) bucket → (bucket < slots) × (size_in names slots bucket ≡ size)
+of_size : (names : List (List ℕ)) (slots size bucket : ℕ) → Contains (buckets_of_size names slots size) bucket → (bucket < slots)
+    × (size_in names slots bucket ≡ size)
 of_size names slots size bucket there =
     let both = from_filter (λ b. size_in names slots b == size) (range_with_len 0 slots) bucket there in
     let range = from_range 0 slots bucket both.0 in
     (omega (arith, range.1), eqb-true (size_in names slots bucket) size both.1)
 
-from_up_to : (names : List (List ℕ)) (slots size bucket : ℕ) → Contains (buckets_up_to names slots size) bucket → IsBucket names slots size bucket
+from_up_to : (names : List (List ℕ)) (slots size bucket : ℕ) → Contains (buckets_up_to names slots size) bucket
+    → IsBucket names slots size bucket
 from_up_to names slots zero bucket there = absurd (contains_none bucket there)
 from_up_to names slots (suc size) bucket there =
     elim (Contains-append_cases (buckets_of_size names slots (suc size)) (buckets_up_to names slots size) bucket there) [
@@ -44,23 +46,34 @@ from_up_to names slots (suc size) bucket there =
           record { below = rest.below; some = rest.some; within = omega (arith, rest.within) }
     ]
 
-contains_up_to : (names : List (List ℕ)) (slots size bucket : ℕ) → IsBucket names slots size bucket → Contains (buckets_up_to names slots size) bucket
+contains_up_to : (names : List (List ℕ)) (slots size bucket : ℕ) → IsBucket names slots size bucket
+    → Contains (buckets_up_to names slots size) bucket
 contains_up_to names slots zero bucket is = absurd (omega (arith, is.some, is.within))
 contains_up_to names slots (suc size) bucket is =
     elim (cases_eq (size_in names slots bucket) (suc size)) [
       | inl same ↦
           let place = contains_range 0 slots bucket (omega arith) (omega (arith, is.below)) in
-          Contains-append_left (buckets_of_size names slots (suc size)) (buckets_up_to names slots size) bucket (contains_filter (λ b. size_in names slots b == suc size) (range_with_len 0 slots) bucket place (eq-eqb (size_in names slots bucket) (suc size) same))
+          Contains-append_left (buckets_of_size names slots (suc size)) (buckets_up_to names slots size) bucket
+          (contains_filter (λ b. size_in names slots b == suc size) (range_with_len 0 slots) bucket place
+          (eq-eqb (size_in names slots bucket) (suc size) same))
       | inr other ↦
-          Contains-append_right (buckets_of_size names slots (suc size)) (buckets_up_to names slots size) bucket (contains_up_to names slots size bucket (record { below = is.below; some = is.some; within = omega (arith, is.within, other) }))
+          Contains-append_right (buckets_of_size names slots (suc size)) (buckets_up_to names slots size) bucket
+          (contains_up_to names slots size bucket (record {
+            below = is.below;
+            some = is.some;
+            within =
+                omega (arith, is.within, other);
+          }))
     ]
 
 up_to_in_turn : (names : List (List ℕ)) (slots size : ℕ) → AllPairs (TakenBefore names slots) (buckets_up_to names slots size)
 up_to_in_turn names slots zero = pairs_none (TakenBefore names slots)
 up_to_in_turn names slots (suc size) =
     let here = buckets_of_size names slots (suc size) in
-    let rising : AllPairs (λ a b. a < b) here = AllPairs-filter (λ a b. a < b) (λ b. size_in names slots b == suc size) (range_with_len 0 slots) (range_rises 0 slots) in
-    let front = pairs_among (λ a b. a < b) (TakenBefore names slots) here (λ a b in_a in_b below. inr ((of_size names slots (suc size) a in_a).1 ∙ sym (of_size names slots (suc size) b in_b).1, below)) rising in
+    let rising : AllPairs (λ a b. a < b) here = AllPairs-filter (λ a b. a < b) (λ b. size_in names slots b == suc size)
+    (range_with_len 0 slots) (range_rises 0 slots) in
+    let front = pairs_among (λ a b. a < b) (TakenBefore names slots) here (λ a b in_a in_b below. inr
+    ((of_size names slots (suc size) a in_a).1 ∙ sym (of_size names slots (suc size) b in_b).1, below)) rising in
     pairs_append (TakenBefore names slots) here (buckets_up_to names slots size) front (up_to_in_turn names slots size)
     (λ a b in_a in_b.
     let of = of_size names slots (suc size) a in_a in
@@ -68,11 +81,18 @@ up_to_in_turn names slots (suc size) =
     inl (omega (arith, of.1, rest.within)))
 
 -- what is taken, and in which order
-pub from_turn : (names : List (List ℕ)) (slots bucket : ℕ) → Contains (buckets_in_turn names slots) bucket → IsBucket names slots (length names) bucket
+pub from_turn : (names : List (List ℕ)) (slots bucket : ℕ) → Contains (buckets_in_turn names slots) bucket
+    → IsBucket names slots (length names) bucket
 from_turn names slots bucket there = from_up_to names slots (length names) bucket there
 
-pub contains_turn : (names : List (List ℕ)) (slots bucket : ℕ) → bucket < slots → 0 < size_in names slots bucket → Contains (buckets_in_turn names slots) bucket
-contains_turn names slots bucket below some = contains_up_to names slots (length names) bucket (record { below = below; some = some; within = size_le names slots bucket })
+pub contains_turn : (names : List (List ℕ)) (slots bucket : ℕ) → bucket < slots → 0 < size_in names slots bucket
+    → Contains (buckets_in_turn names slots) bucket
+contains_turn names slots bucket below some = contains_up_to names slots (length names) bucket (record {
+  below = below;
+  some =
+      some;
+  within = size_le names slots bucket;
+})
 
 pub taken_in_turn : (names : List (List ℕ)) (slots : ℕ) → AllPairs (TakenBefore names slots) (buckets_in_turn names slots)
 taken_in_turn names slots = up_to_in_turn names slots (length names)
@@ -83,4 +103,5 @@ apart names slots a b (inr (sizes, below)) same = omega arith
 
 -- each bucket is taken once
 pub turns_differ : (names : List (List ℕ)) (slots : ℕ) → AllPairs (λ a b. a ≢ b) (buckets_in_turn names slots)
-turns_differ names slots = pairs_among (TakenBefore names slots) (λ a b. a ≢ b) (buckets_in_turn names slots) (λ a b in_a in_b before. apart names slots a b before) (taken_in_turn names slots)
+turns_differ names slots = pairs_among (TakenBefore names slots) (λ a b. a ≢ b) (buckets_in_turn names slots)
+    (λ a b in_a in_b before. apart names slots a b before) (taken_in_turn names slots)

@@ -1,12 +1,16 @@
 -- The entries of an image: one slot more, what an entry is, and which of them can have a name.
-use Rattle.std.proofs.Common.{◌≡◌, ℕ, ◌+◌, ◌<◌, ◌≤◌, true, false, List, [], ◌∷◌, ◌++◌, length, append-nil, Option, Some, None, All, AllPairs, Contains, option_map, refl, sym, ap, ◌∙◌, subst, arith}
+use Rattle.std.proofs.Common.{◌≡◌, ℕ, ◌+◌, ◌<◌, ◌≤◌, true, false, List, [], ◌∷◌, ◌++◌, length, append-nil}
+use Rattle.std.proofs.Common.{Option, Some, None, All, AllPairs, Contains, option_map, refl, sym, ap, ◌∙◌}
+use Rattle.std.proofs.Common.{subst, arith}
 use Rattle.std.proofs.lemmas.Bool.{eqb-true, eq-eqb}
 use Rattle.std.proofs.lemmas.List.Elements.{filter-append, filter_map-append}
 use Rattle.std.proofs.lemmas.List.FromFn.{length-range_with_len}
 use Rattle.std.proofs.lemmas.List.Kept.{AllPairs-filter}
 use Rattle.std.specs.List.{filter, filter_map, cons_option, range_with_len}
 use Rattle.jm_bytes.proofs.Choice.{same_some}
-use Rattle.jm_bytes.proofs.Members.{all_from_contains, contains_filter, contains_filter_map, contains_range, from_filter, from_filter_map, from_range, length_filter, length_filter_map}
+use Rattle.jm_bytes.proofs.Members.{all_from_contains, contains_filter, contains_filter_map, contains_range}
+use Rattle.jm_bytes.proofs.Members.{from_filter, from_filter_map, from_range, length_filter}
+use Rattle.jm_bytes.proofs.Members.{length_filter_map}
 use Rattle.jm_bytes.proofs.Pairs.{pairs_filter_map, range_more, range_rises}
 use Rattle.jm_form.specs.declared.container.Header.{Header}
 use Rattle.jm_form.specs.declared.rows.Row.{Row}
@@ -42,13 +46,15 @@ with_row b h n row = entries_below b h n ++ filter (is_reached b h) (cons_option
 row_more : (b : List ℕ) (h : Header) (n : ℕ) (row : Option Row) → row_at b h n ≡ row → entries_below b h (n + 1) ≡ with_row b h n row
 row_more b h n row there = entries_more b h n ∙ ap (with_row b h n) there
 
-pub entry_reached : (b : List ℕ) (h : Header) (n : ℕ) (row : Row) → row_at b h n ≡ Some row → is_reached b h (entry_of b h n row) ≡ true → entries_below b h (n + 1) ≡ entries_below b h n ++ entry_of b h n row ∷ []
+pub entry_reached : (b : List ℕ) (h : Header) (n : ℕ) (row : Row) → row_at b h n ≡ Some row → is_reached b h (entry_of b h n row)
+    ≡ true → entries_below b h (n + 1) ≡ entries_below b h n ++ entry_of b h n row ∷ []
 entry_reached b h n row there reached = let more = row_more b h n (Some row) there in rw reached at more
 
 pub entry_spare_blank : (b : List ℕ) (h : Header) (n : ℕ) → row_at b h n ≡ None → entries_below b h (n + 1) ≡ entries_below b h n
 entry_spare_blank b h n there = row_more b h n None there ∙ append-nil (entries_below b h n)
 
-pub entry_spare : (b : List ℕ) (h : Header) (n : ℕ) (row : Row) → row_at b h n ≡ Some row → is_reached b h (entry_of b h n row) ≡ false → entries_below b h (n + 1) ≡ entries_below b h n
+pub entry_spare : (b : List ℕ) (h : Header) (n : ℕ) (row : Row) → row_at b h n ≡ Some row → is_reached b h (entry_of b h n row)
+    ≡ false → entries_below b h (n + 1) ≡ entries_below b h n
 entry_spare b h n row there spare =
     let more = row_more b h n (Some row) there in
     let same : entries_below b h (n + 1) ≡ entries_below b h n ++ [] = rw spare at more in
@@ -79,10 +85,12 @@ pub record IsEntry (b : List ℕ) (h : Header) (e : Entry) : Type 0 where
   pub led : probe b h e.name ≡ Some e.slot
 
 -- the entry that a slot spells
-entry_spelled : (b : List ℕ) (h : Header) (i : ℕ) (e : Entry) → entry_at b h i ≡ Some e → (row_at b h i ≡ Some e.row) × (e ≡ entry_of b h i e.row)
+entry_spelled : (b : List ℕ) (h : Header) (i : ℕ) (e : Entry) → entry_at b h i ≡ Some e → (row_at b h i ≡ Some e.row)
+    × (e ≡ entry_of b h i e.row)
 entry_spelled b h i e there = go (row_at b h i) refl there
   where
-    go : (o : Option Row) → row_at b h i ≡ o → option_map (entry_of b h i) o ≡ Some e → (row_at b h i ≡ Some e.row) × (e ≡ entry_of b h i e.row)
+    go : (o : Option Row) → row_at b h i ≡ o → option_map (entry_of b h i) o ≡ Some e → (row_at b h i ≡ Some e.row)
+        × (e ≡ entry_of b h i e.row)
     go None at there = cc
     go (Some row) at there =
         let same : entry_of b h i row ≡ e = same_some (entry_of b h i row) e there in
@@ -106,11 +114,14 @@ entry_from b h e there =
     }
 
 -- and back
-pub entry_there : (b : List ℕ) (h : Header) (i : ℕ) (row : Row) → i < h.length → row_at b h i ≡ Some row → probe b h (name_of (strings b h) row) ≡ Some i → Contains (entries b h) (entry_of b h i row)
+pub entry_there : (b : List ℕ) (h : Header) (i : ℕ) (row : Row) → i < h.length → row_at b h i ≡ Some row
+    → probe b h (name_of (strings b h) row) ≡ Some i → Contains (entries b h) (entry_of b h i row)
 entry_there b h i row below there led =
     let slot = contains_range 0 h.length i (omega arith) (omega arith) in
-    let read = contains_filter_map (entry_at b h) (range_with_len 0 h.length) i (entry_of b h i row) slot (ap (option_map (entry_of b h i)) there) in
-    contains_filter (is_reached b h) (filter_map (entry_at b h) (range_with_len 0 h.length)) (entry_of b h i row) read (slot_led_to i (probe b h (name_of (strings b h) row)) led)
+    let read = contains_filter_map (entry_at b h) (range_with_len 0 h.length) i (entry_of b h i row) slot
+    (ap (option_map (entry_of b h i)) there) in
+    contains_filter (is_reached b h) (filter_map (entry_at b h) (range_with_len 0 h.length)) (entry_of b h i row) read
+    (slot_led_to i (probe b h (name_of (strings b h) row)) led)
 
 -- the slots of the entries rise
 pub slots_rise : (b : List ℕ) (h : Header) → AllPairs (λ e f. e.slot < f.slot) (entries b h)
@@ -131,7 +142,8 @@ pub entry_led : (b : List ℕ) (h : Header) → All (λ e. probe b h e.name ≡ 
 entry_led b h = all_from_contains (λ e. probe b h e.name ≡ Some e.slot) (entries b h) (λ e there. (entry_from b h e there).led)
 
 -- two entries with the same name stand in the same slot, and are the same
-pub names_differ : (b : List ℕ) (h : Header) (e f : Entry) → Contains (entries b h) e → Contains (entries b h) f → e.name ≡ f.name → e.slot ≡ f.slot
+pub names_differ : (b : List ℕ) (h : Header) (e f : Entry) → Contains (entries b h) e → Contains (entries b h) f → e.name ≡ f.name
+    → e.slot ≡ f.slot
 names_differ b h e f first second same =
     let one = (entry_from b h e first).led in
     let other = (entry_from b h f second).led in

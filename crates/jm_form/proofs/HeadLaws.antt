@@ -1,5 +1,6 @@
 -- What a header that was read says of its bytes.
-use Rattle.std.proofs.Common.{◌≡◌, ℕ, ◌≤◌, ◌==◌, not, List, [], ◌∷◌, length, drop, Option, Some, None, is_none, Ok, refl, sym, ap, ◌∙◌, false, subst, arith, length-take, length-drop}
+use Rattle.std.proofs.Common.{◌≡◌, ℕ, ◌≤◌, ◌==◌, not, List, [], ◌∷◌, length, drop, Option, Some, None}
+use Rattle.std.proofs.Common.{is_none, Ok, refl, sym, ap, ◌∙◌, false, subst, arith, length-take, length-drop}
 use Rattle.std.proofs.lemmas.Bool.{le-ltb, ltb-false}
 use Rattle.std.specs.Prelude.{nat_lt}
 use Rattle.jm_bytes.proofs.CheckLaws.{fault_if_false, fault_if_none, no_fault_head, no_fault_tail}
@@ -38,7 +39,8 @@ head_read b size h e =
     let fits = ltb-false size (index_length (fields_of b)) clear in
     record {
       magic = fault_if_none (is_none (order_of b)) fault.Magic (no_fault_head magic (version ∷ sizes ∷ []) behind_short);
-      version = fault_if_none (not (version_of b == 0x00010000)) (fault.Version (version_of b)) (no_fault_head version (sizes ∷ []) behind_magic);
+      version = fault_if_none (not (version_of b == 0x00010000)) (fault.Version (version_of b)) (no_fault_head version (sizes ∷ [])
+          behind_magic);
       fields = found.1;
       fits = subst (λ (x : Header). index_length x ≤ size) found.1 fits;
     }

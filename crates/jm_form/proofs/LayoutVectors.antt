@@ -31,7 +31,8 @@ no_clash = refl
 
 -- a folder of META-INF makes no package, and a folder without a class no class package
 
-meta : node_names (codes "/m/META-INF/x" ∷ []) ≡ codes "/packages" ∷ codes "/modules/m/META-INF" ∷ codes "/modules/m" ∷ codes "/modules" ∷ []
+meta : node_names (codes "/m/META-INF/x" ∷ []) ≡ codes "/packages" ∷ codes "/modules/m/META-INF" ∷ codes "/modules/m"
+    ∷ codes "/modules" ∷ []
 meta = refl
 
 classes : class_packages (codes "/m/q/r/A.class" ∷ codes "/m/p/x" ∷ []) ≡ codes "q.r" ∷ []

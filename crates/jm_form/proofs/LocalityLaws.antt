@@ -1,6 +1,9 @@
 -- What an image says of names, places and sizes stands in its index, and what is checked of its
 -- contents is only how many bytes they are: so a front with the index says all of it.
-use Rattle.std.proofs.Common.{◌≡◌, ℕ, zero, suc, ◌+◌, ◌-◌, ◌%◌, ◌<◌, ◌≤◌, ◌⊎◌, inl, inr, ◌==◌, not, Bool, true, false, cond, List, [], ◌∷◌, ◌++◌, length, map, filter, take, drop, Option, Some, None, is_none, option_map, Result, Ok, Err, unwrap_or, refl, sym, ap, ◌∙◌, subst, arith, length-drop}
+use Rattle.std.proofs.Common.{◌≡◌, ℕ, zero, suc, ◌+◌, ◌-◌, ◌%◌, ◌<◌, ◌≤◌, ◌⊎◌, inl, inr, ◌==◌, not, Bool}
+use Rattle.std.proofs.Common.{true, false, cond, List, [], ◌∷◌, ◌++◌, length, map, filter, take, drop, Option}
+use Rattle.std.proofs.Common.{Some, None, is_none, option_map, Result, Ok, Err, unwrap_or, refl, sym, ap, ◌∙◌}
+use Rattle.std.proofs.Common.{subst, arith, length-drop}
 use Rattle.std.proofs.Math.Nat.{le_refl, mod-lt}
 use Rattle.std.proofs.lemmas.Bool.{eqb-false}
 use Rattle.std.proofs.lemmas.List.{drop-take, length-map, take-take, take_all}
@@ -22,11 +25,16 @@ use Rattle.jm_form.specs.declared.slots.SlotRow.TheVariants as slot_row
 use Rattle.jm_form.specs.declared.table.Redirect.TheVariants as redirect
 use Rattle.jm_form.specs.ComputedOverlap.{first_overlap}
 use Rattle.jm_form.specs.ComputedRows.{row_front}
-use Rattle.jm_form.specs.Damages.{damage_with, entries_checks, entry_checks, first_damage, front_damage, front_damage_with, image_checks, image_checks_with, slot_fault_with, slot_faults_with}
-use Rattle.jm_form.specs.Entries.{Entry, entries, entry_at, entry_of, indexed, is_reached, name_of, row_at, row_at_place, row_of_slot, row_read, row_text, spelled_row}
-use Rattle.jm_form.specs.Head.{HoldsHead, HoldsIndex, IsFileOf, fields_in, fields_of, header_of, header_with, index_length, order_of, read_order, version_of}
+use Rattle.jm_form.specs.Damages.{damage_with, entries_checks, entry_checks, first_damage, front_damage}
+use Rattle.jm_form.specs.Damages.{front_damage_with, image_checks, image_checks_with, slot_fault_with}
+use Rattle.jm_form.specs.Damages.{slot_faults_with}
+use Rattle.jm_form.specs.Entries.{Entry, entries, entry_at, entry_of, indexed, is_reached, name_of, row_at}
+use Rattle.jm_form.specs.Entries.{row_at_place, row_of_slot, row_read, row_text, spelled_row}
+use Rattle.jm_form.specs.Head.{HoldsHead, HoldsIndex, IsFileOf, fields_in, fields_of, header_of, header_with}
+use Rattle.jm_form.specs.Head.{index_length, order_of, read_order, version_of}
 use Rattle.jm_form.specs.Overlap.{range_of, ranges_of}
-use Rattle.jm_form.specs.Places.{contents, contents_size, locations, locations_place, offset_place, offset_word, redirect_place, redirect_word, strings, strings_place}
+use Rattle.jm_form.specs.Places.{contents, contents_size, locations, locations_place, offset_place}
+use Rattle.jm_form.specs.Places.{offset_word, redirect_place, redirect_word, strings, strings_place}
 use Rattle.jm_form.specs.Table.{is_slot, probe, redirect_at, redirect_of, slot_of}
 use Rattle.jm_form.specs.Validity.{ValidAs}
 use Rattle.jm_form.proofs.HeadLaws.{head_read, header_fits, read_head}
@@ -45,8 +53,10 @@ section_in_front b n at size within = ap (take size) (from_front b n at (omega a
 
 -- a word within the front
 pub word_in_front : (order : Order) (b : List ℕ) (n at : ℕ) → at + 4 ≤ n → word order (take n b) at ≡ word order b at
-word_in_front Little b n at within = ap (λ l. word Little l 0) (from_front b n at (omega arith)) ∙ little_from-take 0 4 (n - at) (drop at b) (omega arith)
-word_in_front Big b n at within = ap (λ l. word Big l 0) (from_front b n at (omega arith)) ∙ big_from-take 0 4 (n - at) (drop at b) (omega arith)
+word_in_front Little b n at within = ap (λ l. word Little l 0) (from_front b n at (omega arith)) ∙ little_from-take 0 4 (n - at)
+    (drop at b) (omega arith)
+word_in_front Big b n at within = ap (λ l. word Big l 0) (from_front b n at (omega arith)) ∙ big_from-take 0 4 (n - at) (drop at b)
+    (omega arith)
 
 -- The header
 
@@ -54,7 +64,13 @@ order_in_front : (b : List ℕ) (n : ℕ) → 28 ≤ n → order_of (take n b) �
 order_in_front b n long = rw (word_in_front Little b n 0 (omega arith), word_in_front Big b n 0 (omega arith)) refl
 
 fields_in_front : (order : Order) (b : List ℕ) (n : ℕ) → 28 ≤ n → fields_in order (take n b) ≡ fields_in order b
-fields_in_front order b n long = rw (word_in_front order b n 8 (omega arith), word_in_front order b n 12 (omega arith), word_in_front order b n 16 (omega arith), word_in_front order b n 20 (omega arith), word_in_front order b n 24 (omega arith)) refl
+fields_in_front order b n long = rw (
+  word_in_front order b n 8 (omega arith),
+  word_in_front order b n 12 (omega arith),
+  word_in_front order b n 16 (omega arith),
+  word_in_front order b n 20 (omega arith),
+  word_in_front order b n 24 (omega arith),
+) refl
 
 -- the header over what is read of the bytes
 abbrev header_by : ℕ → Option Order → ℕ → Header → Result Header HeaderFault
@@ -73,7 +89,8 @@ header_in_front : (b : List ℕ) (n size : ℕ) → 28 ≤ n → header_with (ta
 header_in_front b n size long =
     let f : List ℕ = take n b in
     let order : order_of f ≡ order_of b = order_in_front b n long in
-    let version : version_of f ≡ version_of b = ap (λ o. word (unwrap_or o Little) f 4) order ∙ word_in_front (read_order b) b n 4 (omega arith) in
+    let version : version_of f ≡ version_of b = ap (λ o. word (unwrap_or o Little) f 4) order ∙ word_in_front (read_order b) b n 4
+    (omega arith) in
     let fields : fields_of f ≡ fields_of b = ap (λ o. fields_in (unwrap_or o Little) f) order ∙ fields_in_front (read_order b) b n long in
     ap (λ o. header_by size o (version_of f) (fields_of f)) order
     ∙ ap (λ v. header_by size (order_of b) v (fields_of f)) version
@@ -83,8 +100,10 @@ header_in_front b n size long =
 pub header_same : (f : List ℕ) (size : ℕ) (b : List ℕ) → IsFileOf f size b → HoldsHead f size → header_with f size ≡ header_of b
 header_same f size b file holds =
     elim (cases size) [
-      | inl long ↦ ap (λ l. header_with l size) (sym file.begins) ∙ header_in_front b (length f) size (omega (arith, holds)) ∙ ap (header_with b) (sym file.length_is)
-      | inr short ↦ ap (λ l. header_with l size) (sym file.begins ∙ take_all (length f) b (omega (arith, holds, file.length_is))) ∙ ap (header_with b) (sym file.length_is)
+      | inl long ↦ ap (λ l. header_with l size) (sym file.begins) ∙ header_in_front b (length f) size (omega (arith, holds))
+          ∙ ap (header_with b) (sym file.length_is)
+      | inr short ↦ ap (λ l. header_with l size) (sym file.begins ∙ take_all (length f) b (omega (arith, holds, file.length_is)))
+          ∙ ap (header_with b) (sym file.length_is)
     ]
   where
     cases : (size : ℕ) → (28 ≤ size) ⊎ (size < 28)
@@ -128,7 +147,8 @@ module _ (f b : List ℕ) (h : Header) (same : SameIndex f b h) where
       positive zero none = absurd (none refl)
       positive (suc n) some = omega arith
 
-      go : (t : Bool) → h.length == 0 ≡ t → cond t redirect.Nowhere (redirect_of (redirect_word f h (hash % h.length))) ≡ cond t redirect.Nowhere (redirect_of (redirect_word b h (hash % h.length)))
+      go : (t : Bool) → h.length == 0 ≡ t → cond t redirect.Nowhere (redirect_of (redirect_word f h (hash % h.length)))
+          ≡ cond t redirect.Nowhere (redirect_of (redirect_word b h (hash % h.length)))
       go true e = refl
       go false e =
           let some : 0 < h.length = positive h.length (eqb-false h.length 0 e) in
@@ -170,7 +190,8 @@ module _ (f b : List ℕ) (h : Header) (same : SameIndex f b h) where
           ∷ entry_checks i section size row
           )
 
-  faults_between : (size i n : ℕ) → i + n ≤ h.length → map (slot_fault_with f h size) (range_with_len i n) ≡ map (slot_fault_with b h size) (range_with_len i n)
+  faults_between : (size i n : ℕ) → i + n ≤ h.length → map (slot_fault_with f h size) (range_with_len i n)
+      ≡ map (slot_fault_with b h size) (range_with_len i n)
   faults_between size i zero within = refl
   faults_between size i (suc n) within =
       ap (λ o. o ∷ map (slot_fault_with f h size) (range_with_len (i + 1) n)) (same_slot_fault size i (omega arith))
@@ -189,22 +210,31 @@ module _ (f b : List ℕ) (h : Header) (same : SameIndex f b h) where
   pub same_reached : (i : ℕ) (row : Row) → is_reached f h (entry_of f h i row) ≡ is_reached b h (entry_of b h i row)
   same_reached i row = ap (is_slot i) (same_probe (name_of (strings f h) row) ∙ ap (λ s. probe b h (name_of s row)) same.strings)
 
-  entries_between : (i n : ℕ) → i + n ≤ h.length → map indexed (filter (is_reached f h) (filter_map (entry_at f h) (range_with_len i n))) ≡ map indexed (filter (is_reached b h) (filter_map (entry_at b h) (range_with_len i n)))
+  entries_between : (i n : ℕ) → i + n ≤ h.length
+      → map indexed (filter (is_reached f h) (filter_map (entry_at f h) (range_with_len i n)))
+      ≡ map indexed (filter (is_reached b h) (filter_map (entry_at b h) (range_with_len i n)))
   entries_between i zero within = refl
   entries_between i (suc n) within =
-      one_more i (row_at f h i) (filter_map (entry_at f h) (range_with_len (i + 1) n)) (filter_map (entry_at b h) (range_with_len (i + 1) n)) (entries_between (i + 1) n (omega arith))
-      ∙ ap (λ o. map indexed (filter (is_reached b h) (cons_option (option_map (entry_of b h i) o) (filter_map (entry_at b h) (range_with_len (i + 1) n))))) (same_row i (omega arith))
+      one_more i (row_at f h i) (filter_map (entry_at f h) (range_with_len (i + 1) n)) (filter_map (entry_at b h)
+      (range_with_len (i + 1) n)) (entries_between (i + 1) n (omega arith))
+      ∙ ap (λ o. map indexed (filter (is_reached b h) (cons_option (option_map (entry_of b h i) o) (filter_map (entry_at b h)
+      (range_with_len (i + 1) n))))) (same_row i (omega arith))
     where
-      kept : (s t : Bool) (e d : Entry) (es ds : List Entry) → s ≡ t → indexed e ≡ indexed d → map indexed es ≡ map indexed ds → map indexed (cond s (e ∷ es) es) ≡ map indexed (cond t (d ∷ ds) ds)
+      kept : (s t : Bool) (e d : Entry) (es ds : List Entry) → s ≡ t → indexed e ≡ indexed d → map indexed es ≡ map indexed ds
+          → map indexed (cond s (e ∷ es) es) ≡ map indexed (cond t (d ∷ ds) ds)
       kept true true e d es ds both here later = ap (λ x. x ∷ map indexed es) here ∙ ap (λ xs. indexed d ∷ xs) later
       kept false false e d es ds both here later = later
       kept true false e d es ds both here later = cc
       kept false true e d es ds both here later = cc
 
-      one_more : (i : ℕ) (o : Option Row) (es ds : List Entry) → map indexed (filter (is_reached f h) es) ≡ map indexed (filter (is_reached b h) ds) → map indexed (filter (is_reached f h) (cons_option (option_map (entry_of f h i) o) es)) ≡ map indexed (filter (is_reached b h) (cons_option (option_map (entry_of b h i) o) ds))
+      one_more : (i : ℕ) (o : Option Row) (es ds : List Entry) → map indexed (filter (is_reached f h) es)
+          ≡ map indexed (filter (is_reached b h) ds)
+          → map indexed (filter (is_reached f h) (cons_option (option_map (entry_of f h i) o) es))
+          ≡ map indexed (filter (is_reached b h) (cons_option (option_map (entry_of b h i) o) ds))
       one_more i None es ds later = later
       one_more i (Some row) es ds later =
-          kept (is_reached f h (entry_of f h i row)) (is_reached b h (entry_of b h i row)) (entry_of f h i row) (entry_of b h i row) (filter (is_reached f h) es) (filter (is_reached b h) ds) (same_reached i row) (same_entry_of i row) later
+          kept (is_reached f h (entry_of f h i row)) (is_reached b h (entry_of b h i row)) (entry_of f h i row) (entry_of b h i row)
+          (filter (is_reached f h) es) (filter (is_reached b h) ds) (same_reached i row) (same_entry_of i row) later
 
   -- the entries have the same slots, rows and names
   pub same_entries : map indexed (entries f h) ≡ map indexed (entries b h)
@@ -235,12 +265,15 @@ module _ (f b : List ℕ) (h : Header) (same : SameIndex f b h) where
       ∙ ap (λ rs. slot_faults_with b h size ++ checks_by (length (entries b h)) rs) same_ranges
     where
       checks_by : ℕ → List Range → List (Option Damage)
-      checks_by n rs = fault_if (not (h.count == n)) (damage.Count h.count n) ∷ option_map (λ o. damage.Overlap o.0 o.1) (first_overlap rs) ∷ []
+      checks_by n rs = fault_if (not (h.count == n)) (damage.Count h.count n) ∷ option_map (λ o. damage.Overlap o.0 o.1)
+          (first_overlap rs) ∷ []
 
 -- the checks of a front with the index, with the size of the file's contents, are those of the file
-pub checks_same : (f : List ℕ) (size : ℕ) (b : List ℕ) (h : Header) → IsFileOf f size b → index_length h ≤ length f → image_checks_with f h (contents_size size h) ≡ image_checks b h
+pub checks_same : (f : List ℕ) (size : ℕ) (b : List ℕ) (h : Header) → IsFileOf f size b → index_length h ≤ length f
+    → image_checks_with f h (contents_size size h) ≡ image_checks b h
 checks_same f size b h file within =
-    let behind : length (contents b h) ≡ contents_size size h = length-drop (index_length h) b ∙ ap (λ n. n - index_length h) file.length_is in
+    let behind : length (contents b h) ≡ contents_size size h = length-drop (index_length h) b
+    ∙ ap (λ n. n - index_length h) file.length_is in
     same_checks f b h (same_index f size b h file within) (contents_size size h) ∙ ap (image_checks_with b h) (sym behind)
 
 -- the damage that a front with the index tells is that of each file that begins so
@@ -252,7 +285,8 @@ damage_same f size b file holds = go (header_with f size) refl ∙ ap (damage_wi
     go (Err found) e = refl
 
 -- a front with the index in which nothing is wrong begins valid files
-pub front_valid : (f : List ℕ) (size : ℕ) (b : List ℕ) (h : Header) → IsFileOf f size b → HoldsIndex f size → header_with f size ≡ Ok h → front_damage f size ≡ None → ValidAs b h
+pub front_valid : (f : List ℕ) (size : ℕ) (b : List ℕ) (h : Header) → IsFileOf f size b → HoldsIndex f size → header_with f size
+    ≡ Ok h → front_damage f size ≡ None → ValidAs b h
 front_valid f size b h file holds header clear =
     let read = sym (header_same f size b file holds.head) ∙ header in
     body_valid b h read (sym (ap (damage_with b) read) ∙ (sym (damage_same f size b file holds) ∙ clear))

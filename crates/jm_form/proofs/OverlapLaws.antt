@@ -1,6 +1,8 @@
 -- The first overlap of ranges: the rule and its value agree, in each order of the ranges, and ranges
 -- without a byte change neither.
-use Rattle.std.proofs.Common.{◌≡◌, ◌≢◌, ℕ, ◌<◌, ◌≤◌, inl, inr, ◌==◌, ◌&&◌, not, min, max, Bool, true, false, cond, List, [], ◌∷◌, filter, IsPermutation, Option, Some, None, option_map, AllPairs, Contains, refl, sym, ap, ◌∙◌, subst, arith}
+use Rattle.std.proofs.Common.{◌≡◌, ◌≢◌, ℕ, ◌<◌, ◌≤◌, inl, inr, ◌==◌, ◌&&◌, not, min, max, Bool, true, false}
+use Rattle.std.proofs.Common.{cond, List, [], ◌∷◌, filter, IsPermutation, Option, Some, None, option_map}
+use Rattle.std.proofs.Common.{AllPairs, Contains, refl, sym, ap, ◌∙◌, subst, arith}
 use Rattle.std.proofs.lemmas.Bool.{and_parts, false≢true, lt-ltb, ltb-true}
 use Rattle.std.proofs.lemmas.Bool.Decides.{nat_tests}
 use Rattle.std.proofs.lemmas.List.Elements.{All-contains}
@@ -19,7 +21,12 @@ use Rattle.jm_form.specs.Overlap.{IsFirstOverlap, IsLeast, Meets, MeetsOne}
 -- Two ranges
 
 at_max : (a b c d : ℕ) → nat_lt (max a c) (min b d) ≡ true → (a ≤ max a c) × (max a c < b) × (c ≤ max a c) × (max a c < d)
-at_max a b c d common = (omega (arith, ltb-true _ _ common), omega (arith, ltb-true _ _ common), omega (arith, ltb-true _ _ common), omega (arith, ltb-true _ _ common))
+at_max a b c d common = (
+  omega (arith, ltb-true _ _ common),
+  omega (arith, ltb-true _ _ common),
+  omega (arith, ltb-true _ _ common),
+  omega (arith, ltb-true _ _ common),
+)
 
 at_place : (a b c d k : ℕ) → a ≤ k → k < b → c ≤ k → k < d → nat_lt (max a c) (min b d) ≡ true
 at_place a b c d k from to from' to' = grind (arith, nat_tests)
@@ -63,7 +70,10 @@ first_of_rising : (r : Range) (rs : List Range) (s : Range) → SlotsRise (r ∷
 first_of_rising r rs s rising inside below =
     elim (contains_cases r rs s inside) [
       | inl same ↦ same
-      | inr later ↦ let above = All-contains (λ (t : Range). r.slot < t.slot) rs s (pairs_head (λ (t u : Range). t.slot < u.slot) r rs rising) later in absurd (omega arith)
+      | inr later ↦
+          let above = All-contains (λ (t : Range). r.slot < t.slot) rs s
+          (pairs_head (λ (t u : Range). t.slot < u.slot) r rs rising) later in
+          absurd (omega arith)
     ]
 
 -- without the first one, which has not the property
@@ -113,7 +123,8 @@ module _ (P : Range → Type 0) (p : Range → Bool) (from : (r : Range) → p r
   least_find (t ∷ rs) r rising is = go (p t) refl (least_find rs r (pairs_tail (λ (u v : Range). u.slot < v.slot) t rs rising))
     where
       go : (b : Bool) → p t ≡ b → (IsLeast P rs r → find p rs ≡ Some r) → cond b (Some t) (find p rs) ≡ Some r
-      go true passes later = ap (λ (u : Range). Some u) (first_of_rising t rs r rising is.inside (is.least t (contains_here t rs) (from t passes)))
+      go true passes later = ap (λ (u : Range). Some u) (first_of_rising t rs r rising is.inside (is.least t (contains_here t rs)
+          (from t passes)))
       go false fails later = later (least_tail P t rs r is (λ has. false≢true (sym fails ∙ into t has)))
 
 -- The first overlap
@@ -125,7 +136,8 @@ both_slots r o = option_map {U = ℕ × ℕ} (λ (s : Range). (r.slot, s.slot)) 
 pub first_overlap_is : (rs : List Range) (a b : ℕ) → SlotsRise rs → first_overlap rs ≡ Some (a, b) → IsFirstOverlap rs a b
 first_overlap_is rs a b rising e = of_first (find (meets_one rs) rs) refl e
   where
-    of_second : (r : Range) → find (meets_one rs) rs ≡ Some r → (o : Option Range) → find (meets r) rs ≡ o → both_slots r o ≡ Some (a, b) → IsFirstOverlap rs a b
+    of_second : (r : Range) → find (meets_one rs) rs ≡ Some r → (o : Option Range) → find (meets r) rs ≡ o → both_slots r o
+        ≡ Some (a, b) → IsFirstOverlap rs a b
     of_second r first None second e = cc
     of_second r first (Some s) second e = record {
       range = r;
@@ -185,10 +197,12 @@ abbrev has_byte : Range → Bool
 has_byte r = nat_lt r.start r.end
 
 first_has_byte : (a b c d : ℕ) (m : Bool) → m && nat_lt (max a c) (min b d) ≡ true → nat_lt a b ≡ true
-first_has_byte a b c d m both = let common = and_parts m (nat_lt (max a c) (min b d)) both in let at = at_max a b c d common.1 in lt-ltb a b (omega (arith, at.0, at.1))
+first_has_byte a b c d m both =
+    let common = and_parts m (nat_lt (max a c) (min b d)) both in let at = at_max a b c d common.1 in lt-ltb a b (omega (arith, at.0, at.1))
 
 second_has_byte : (a b c d : ℕ) (m : Bool) → m && nat_lt (max a c) (min b d) ≡ true → nat_lt c d ≡ true
-second_has_byte a b c d m both = let common = and_parts m (nat_lt (max a c) (min b d)) both in let at = at_max a b c d common.1 in lt-ltb c d (omega (arith, at.2, at.3))
+second_has_byte a b c d m both =
+    let common = and_parts m (nat_lt (max a c) (min b d)) both in let at = at_max a b c d common.1 in lt-ltb c d (omega (arith, at.2, at.3))
 
 meets_has_byte : (r s : Range) → meets r s ≡ true → has_byte s ≡ true
 meets_has_byte r s met = second_has_byte r.start r.end s.start s.end (not (r.slot == s.slot)) met

@@ -12,7 +12,8 @@ use Rattle.jm_form.proofs.OverlapLaws.{from_meets, meets_from}
 pub no_overlap_apart : (rs : List Range) → first_overlap rs ≡ None → Apart rs
 no_overlap_apart rs clear r s has_r has_s both = go (find (meets_one rs) rs) refl clear
   where
-    partner : (q : Range) (o : Option Range) → find (meets q) rs ≡ o → option_map {U = ℕ × ℕ} (λ t. (q.slot, t.slot)) o ≡ None → find (meets q) rs ≡ None
+    partner : (q : Range) (o : Option Range) → find (meets q) rs ≡ o → option_map {U = ℕ × ℕ} (λ t. (q.slot, t.slot)) o ≡ None
+        → find (meets q) rs ≡ None
     partner q None e clear = e
     partner q (Some t) e clear = cc
 
@@ -29,4 +30,5 @@ pub apart_no_overlap : (rs : List Range) → Apart rs → first_overlap rs ≡ N
 apart_no_overlap rs apart = ap (overlap_from rs) (find_none (meets_one rs) rs alone)
   where
     alone : (r : Range) → Contains rs r → meets_one rs r ≡ false
-    alone r has_r = false_from_ne_true (meets_one rs r) (λ some. let other = from_any (meets r) rs some in apart r other.0 has_r other.1 (from_meets r other.0 other.2))
+    alone r has_r = false_from_ne_true (meets_one rs r)
+        (λ some. let other = from_any (meets r) rs some in apart r other.0 has_r other.1 (from_meets r other.0 other.2))

@@ -1,5 +1,6 @@
 -- Words that stand one behind another are read back at their places, and entries have as many rows.
-use Rattle.std.proofs.Common.{◌≡◌, ℕ, zero, suc, ◌+◌, ◌*◌, ◌^◌, ◌<◌, List, [], ◌∷◌, ◌++◌, length, get_or, refl, sym, ap, ◌∙◌, arith, append_assoc, length-append}
+use Rattle.std.proofs.Common.{◌≡◌, ℕ, zero, suc, ◌+◌, ◌*◌, ◌^◌, ◌<◌, List, [], ◌∷◌, ◌++◌, length, get_or}
+use Rattle.std.proofs.Common.{refl, sym, ap, ◌∙◌, arith, append_assoc, length-append}
 use Rattle.std.proofs.lemmas.List.{append-nil}
 use Rattle.jm_bytes.proofs.WordLaws.{length-word_bytes, word_back, word_behind}
 use Rattle.jm_bytes.specs.Word.{word, word_bytes}
@@ -16,10 +17,12 @@ length-words_text order (n ∷ ns) =
     omega arith
 
 -- word k stands at place 4k
-pub word_there : (order : Order) (ns rest : List ℕ) (k : ℕ) → k < length ns → get_or ns k 0 < 2 ^ 32 → word order (words_text order ns ++ rest) (4 * k) ≡ get_or ns k 0
+pub word_there : (order : Order) (ns rest : List ℕ) (k : ℕ) → k < length ns → get_or ns k 0 < 2 ^ 32
+    → word order (words_text order ns ++ rest) (4 * k) ≡ get_or ns k 0
 word_there order [] rest k below fits = absurd (omega arith)
 word_there order (n ∷ ns) rest zero below fits =
-    ap (λ l. word order l 0) (append_assoc (word_bytes order n) (words_text order ns) rest) ∙ word_back order n (words_text order ns ++ rest) fits
+    ap (λ l. word order l 0) (append_assoc (word_bytes order n) (words_text order ns) rest) ∙ word_back order n (words_text order ns
+    ++ rest) fits
 word_there order (n ∷ ns) rest (suc k) below fits =
     let place : 4 * suc k ≡ 4 + 4 * k = omega arith in
     ap (λ l. word order l (4 * suc k)) (append_assoc (word_bytes order n) (words_text order ns) rest)
@@ -28,8 +31,10 @@ word_there order (n ∷ ns) rest (suc k) below fits =
     ∙ word_there order ns rest k (omega arith) fits
 
 -- the same with nothing behind them
-pub word_alone : (order : Order) (ns : List ℕ) (k : ℕ) → k < length ns → get_or ns k 0 < 2 ^ 32 → word order (words_text order ns) (4 * k) ≡ get_or ns k 0
-word_alone order ns k below fits = ap (λ l. word order l (4 * k)) (sym (append-nil (words_text order ns))) ∙ word_there order ns [] k below fits
+pub word_alone : (order : Order) (ns : List ℕ) (k : ℕ) → k < length ns → get_or ns k 0 < 2 ^ 32
+    → word order (words_text order ns) (4 * k) ≡ get_or ns k 0
+word_alone order ns k below fits = ap (λ l. word order l (4 * k)) (sym (append-nil (words_text order ns)))
+    ∙ word_there order ns [] k below fits
 
 pub length-rows : (texts : List (List ℕ)) (offset : ℕ) (es : List Sized) → length (rows_from texts offset es) ≡ length es
 length-rows texts offset [] = refl

@@ -1,5 +1,6 @@
 -- Texts that rise: they are those that were given, no two of them are the same, and there is one such list.
-use Rattle.std.proofs.Common.{◌≡◌, ◌≢◌, ℕ, ◌-◌, ◌⊎◌, inl, inr, List, [], ◌∷◌, length, reverse, All, AllPairs, Contains, refl, sym, ap, ◌∙◌, subst, arith}
+use Rattle.std.proofs.Common.{◌≡◌, ◌≢◌, ℕ, ◌-◌, ◌⊎◌, inl, inr, List, [], ◌∷◌, length, reverse, All, AllPairs}
+use Rattle.std.proofs.Common.{Contains, refl, sym, ap, ◌∙◌, subst, arith}
 use Rattle.std.proofs.lemmas.List.{get_or-reverse, length-reverse}
 use Rattle.std.proofs.lemmas.List.Elements.{All-nil, All-cons, All-contains}
 use Rattle.std.proofs.lemmas.List.Kept.{AllPairs-cons}
@@ -25,7 +26,8 @@ contains_placed text [] g (inl same) = subst (Contains (text ∷ [])) same (cont
 contains_placed text [] g (inr later) = absurd (contains_none g later)
 contains_placed text (first ∷ texts) g there = go (slice_cmp nat_cmp text first) refl there (λ among. contains_placed text texts g among)
   where
-    go : (c : Ordering) → slice_cmp nat_cmp text first ≡ c → (text ≡ g) ⊎ Contains (first ∷ texts) g → ((text ≡ g) ⊎ Contains texts g → Contains (with_placed text texts) g)
+    go : (c : Ordering) → slice_cmp nat_cmp text first ≡ c → (text ≡ g) ⊎ Contains (first ∷ texts) g
+        → ((text ≡ g) ⊎ Contains texts g → Contains (with_placed text texts) g)
         → Contains (match_ordering c (text ∷ first ∷ texts) (first ∷ texts) (first ∷ with_placed text texts)) g
     go Less e (inl same) rest = subst (Contains (text ∷ first ∷ texts)) same (contains_here text (first ∷ texts))
     go Less e (inr later) rest = contains_later text (first ∷ texts) g later
@@ -79,7 +81,8 @@ Before text later = slice_cmp nat_cmp text later ≡ Less
 
 pub placed_rises : (text : List ℕ) (texts : Texts) → AllPairs Before texts → AllPairs Before (with_placed text texts)
 placed_rises text [] rises = AllPairs-cons Before text [] (All-nil (Before text)) rises
-placed_rises text (first ∷ texts) rises = go (slice_cmp nat_cmp text first) refl (placed_rises text texts (pairs_tail Before first texts rises))
+placed_rises text (first ∷ texts) rises = go (slice_cmp nat_cmp text first) refl
+    (placed_rises text texts (pairs_tail Before first texts rises))
   where
     later : All (Before first) texts
     later = pairs_head Before first texts rises
@@ -88,7 +91,8 @@ placed_rises text (first ∷ texts) rises = go (slice_cmp nat_cmp text first) re
         → AllPairs Before (match_ordering c (text ∷ first ∷ texts) (first ∷ texts) (first ∷ with_placed text texts))
     go Less e rest =
         AllPairs-cons Before text (first ∷ texts)
-        (All-cons (Before text) first texts e (all_from_contains (Before text) texts (λ g there. nat_list_cmp_total.trans text first g e (All-contains (Before first) texts g later there)))) rises
+        (All-cons (Before text) first texts e (all_from_contains (Before text) texts (λ g there. nat_list_cmp_total.trans text first
+        g e (All-contains (Before first) texts g later there)))) rises
     go Equal e rest = rises
     go Greater e rest =
         AllPairs-cons Before first (with_placed text texts)
@@ -108,16 +112,19 @@ no_way_back text later before back = one_way text later (ap is_lt before) (ap is
 
 -- no two of them are the same
 pub rising_differ : (texts : Texts) → AllPairs (λ a b. a ≢ b) (rising texts)
-rising_differ texts = pairs_weaker Before (λ a b. a ≢ b) (λ a b before. before_apart a b (ap is_lt before)) (rising texts) (rising_rises texts)
+rising_differ texts = pairs_weaker Before (λ a b. a ≢ b) (λ a b before. before_apart a b (ap is_lt before)) (rising texts)
+    (rising_rises texts)
 
 -- there is one rising list of the same texts
-pub rising_only : (texts risen : Texts) → AllPairs Before risen → ((g : List ℕ) → Contains texts g → Contains risen g) → ((g : List ℕ) → Contains risen g → Contains texts g) → risen ≡ rising texts
+pub rising_only : (texts risen : Texts) → AllPairs Before risen → ((g : List ℕ) → Contains texts g → Contains risen g)
+    → ((g : List ℕ) → Contains risen g → Contains texts g) → risen ≡ rising texts
 rising_only texts risen rises also back =
     same_order Before no_way_back risen (rising texts) rises (rising_rises texts)
     (λ g there. contains_rising texts g (back g there)) (λ g there. also g (from_rising texts g there))
 
 -- texts of which one list contains what the other does are the same, rising
-pub rising_same : (texts others : Texts) → ((g : List ℕ) → Contains texts g → Contains others g) → ((g : List ℕ) → Contains others g → Contains texts g) → rising texts ≡ rising others
+pub rising_same : (texts others : Texts) → ((g : List ℕ) → Contains texts g → Contains others g) → ((g : List ℕ) → Contains others g
+    → Contains texts g) → rising texts ≡ rising others
 rising_same texts others also back =
     sym (rising_only texts (rising others) (rising_rises others)
     (λ g there. contains_rising others g (also g there)) (λ g there. back g (from_rising others g there)))
@@ -125,10 +132,12 @@ rising_same texts others also back =
 -- Falling
 
 pub contains_falling : (texts : Texts) (g : List ℕ) → Contains texts g → Contains (reverse (rising texts)) g
-contains_falling texts g there = Contains-permutation (rising texts) (reverse (rising texts)) g (IsPermutation-reverse (rising texts)) (contains_rising texts g there)
+contains_falling texts g there = Contains-permutation (rising texts) (reverse (rising texts)) g
+    (IsPermutation-reverse (rising texts)) (contains_rising texts g there)
 
 pub from_falling : (texts : Texts) (g : List ℕ) → Contains (reverse (rising texts)) g → Contains texts g
-from_falling texts g there = from_rising texts g (Contains-permutation (reverse (rising texts)) (rising texts) g (IsPermutation-sym (rising texts) (reverse (rising texts)) (IsPermutation-reverse (rising texts))) there)
+from_falling texts g there = from_rising texts g (Contains-permutation (reverse (rising texts)) (rising texts) g
+    (IsPermutation-sym (rising texts) (reverse (rising texts)) (IsPermutation-reverse (rising texts))) there)
 
 turned_differ : (texts : Texts) → AllPairs (λ a b. a ≢ b) texts → AllPairs (λ a b. a ≢ b) (reverse texts)
 turned_differ texts differ i j d before below same =

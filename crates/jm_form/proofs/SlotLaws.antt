@@ -1,5 +1,6 @@
 -- The fault of a slot, by what its offset word leads to.
-use Rattle.std.proofs.Common.{◌≡◌, ℕ, ◌+◌, ◌-◌, ◌≤◌, ◌⊎◌, inl, inr, ◌&&◌, ◌==◌, not, Bool, true, false, cond, List, [], ◌∷◌, length, Option, Some, None, is_none, refl, sym, ap, ◌∙◌, arith}
+use Rattle.std.proofs.Common.{◌≡◌, ℕ, ◌+◌, ◌-◌, ◌≤◌, ◌⊎◌, inl, inr, ◌&&◌, ◌==◌, not, Bool, true, false, cond}
+use Rattle.std.proofs.Common.{List, [], ◌∷◌, length, Option, Some, None, is_none, refl, sym, ap, ◌∙◌, arith}
 use Rattle.std.proofs.lemmas.Bool.{eqb-true, not-false}
 use Rattle.std.proofs.lemmas.Bool.Decides.{nat_tests}
 use Rattle.std.specs.Prelude.{nat_lt, nat_le}
@@ -33,11 +34,13 @@ checks_from i section size inside read =
 blank_or_spelled : (r : Row × ℕ) → (row_read (Some r) ≡ slot_row.Blank) ⊎ (row_read (Some r) ≡ slot_row.Spelled r.0)
 blank_or_spelled r = go (r.1 == 1)
   where
-    go : (b : Bool) → (cond b slot_row.Blank (slot_row.Spelled r.0) ≡ slot_row.Blank) ⊎ (cond b slot_row.Blank (slot_row.Spelled r.0) ≡ slot_row.Spelled r.0)
+    go : (b : Bool) → (cond b slot_row.Blank (slot_row.Spelled r.0) ≡ slot_row.Blank)
+        ⊎ (cond b slot_row.Blank (slot_row.Spelled r.0) ≡ slot_row.Spelled r.0)
     go true = inl refl
     go false = inr refl
 
-outside_fault : (i : ℕ) (section : List ℕ) (size : ℕ) (inside : Bool) (read : Option (Row × ℕ)) → slot_row_from inside read ≡ slot_row.Outside → first_fault (checks_from i section size inside read) ≡ Some (damage.Offset i)
+outside_fault : (i : ℕ) (section : List ℕ) (size : ℕ) (inside : Bool) (read : Option (Row × ℕ)) → slot_row_from inside read
+    ≡ slot_row.Outside → first_fault (checks_from i section size inside read) ≡ Some (damage.Offset i)
 outside_fault i section size false read e = refl
 outside_fault i section size true None e = cc
 outside_fault i section size true (Some r) e =
@@ -46,7 +49,8 @@ outside_fault i section size true (Some r) e =
       | inr spelled ↦ let both = sym spelled ∙ e in cc
     ]
 
-unspelled_fault : (i : ℕ) (section : List ℕ) (size : ℕ) (inside : Bool) (read : Option (Row × ℕ)) → slot_row_from inside read ≡ slot_row.Unspelled → first_fault (checks_from i section size inside read) ≡ Some (damage.Row i)
+unspelled_fault : (i : ℕ) (section : List ℕ) (size : ℕ) (inside : Bool) (read : Option (Row × ℕ)) → slot_row_from inside read
+    ≡ slot_row.Unspelled → first_fault (checks_from i section size inside read) ≡ Some (damage.Row i)
 unspelled_fault i section size false read e = cc
 unspelled_fault i section size true None e = refl
 unspelled_fault i section size true (Some r) e =
@@ -55,36 +59,44 @@ unspelled_fault i section size true (Some r) e =
       | inr spelled ↦ let both = sym spelled ∙ e in cc
     ]
 
-blank_fault : (i : ℕ) (section : List ℕ) (size : ℕ) (inside : Bool) (read : Option (Row × ℕ)) → slot_row_from inside read ≡ slot_row.Blank → first_fault (checks_from i section size inside read) ≡ None
+blank_fault : (i : ℕ) (section : List ℕ) (size : ℕ) (inside : Bool) (read : Option (Row × ℕ)) → slot_row_from inside read
+    ≡ slot_row.Blank → first_fault (checks_from i section size inside read) ≡ None
 blank_fault i section size false read e = cc
 blank_fault i section size true None e = cc
 blank_fault i section size true (Some r) e = ap (λ s. first_fault (entry_checks i section size (spelled_row s))) e
 
-spelled_fault : (i : ℕ) (section : List ℕ) (size : ℕ) (inside : Bool) (read : Option (Row × ℕ)) (row : Row) → slot_row_from inside read ≡ slot_row.Spelled row → first_fault (checks_from i section size inside read) ≡ first_fault (row_checks i section size row)
+spelled_fault : (i : ℕ) (section : List ℕ) (size : ℕ) (inside : Bool) (read : Option (Row × ℕ)) (row : Row)
+    → slot_row_from inside read ≡ slot_row.Spelled row → first_fault (checks_from i section size inside read)
+    ≡ first_fault (row_checks i section size row)
 spelled_fault i section size false read row e = cc
 spelled_fault i section size true None row e = cc
 spelled_fault i section size true (Some r) row e = ap (λ s. first_fault (entry_checks i section size (spelled_row s))) e
 
 -- The fault of a slot, with contents of so many bytes
 
-pub slot_outside : (b : List ℕ) (h : Header) (size i : ℕ) → row_of_slot b h i ≡ slot_row.Outside → slot_fault_with b h size i ≡ Some (damage.Offset i)
+pub slot_outside : (b : List ℕ) (h : Header) (size i : ℕ) → row_of_slot b h i ≡ slot_row.Outside → slot_fault_with b h size i
+    ≡ Some (damage.Offset i)
 slot_outside b h size i e = outside_fault i (strings b h) size (nat_lt (offset_word b h i) h.locations) (row_front (row_text b h i)) e
 
-pub slot_unspelled : (b : List ℕ) (h : Header) (size i : ℕ) → row_of_slot b h i ≡ slot_row.Unspelled → slot_fault_with b h size i ≡ Some (damage.Row i)
+pub slot_unspelled : (b : List ℕ) (h : Header) (size i : ℕ) → row_of_slot b h i ≡ slot_row.Unspelled → slot_fault_with b h size i
+    ≡ Some (damage.Row i)
 slot_unspelled b h size i e = unspelled_fault i (strings b h) size (nat_lt (offset_word b h i) h.locations) (row_front (row_text b h i)) e
 
 pub slot_blank_with : (b : List ℕ) (h : Header) (size i : ℕ) → row_of_slot b h i ≡ slot_row.Blank → slot_fault_with b h size i ≡ None
 slot_blank_with b h size i e = blank_fault i (strings b h) size (nat_lt (offset_word b h i) h.locations) (row_front (row_text b h i)) e
 
-pub slot_spelled_with : (b : List ℕ) (h : Header) (size i : ℕ) (row : Row) → row_of_slot b h i ≡ slot_row.Spelled row → slot_fault_with b h size i ≡ first_fault (row_checks i (strings b h) size row)
-slot_spelled_with b h size i row e = spelled_fault i (strings b h) size (nat_lt (offset_word b h i) h.locations) (row_front (row_text b h i)) row e
+pub slot_spelled_with : (b : List ℕ) (h : Header) (size i : ℕ) (row : Row) → row_of_slot b h i ≡ slot_row.Spelled row
+    → slot_fault_with b h size i ≡ first_fault (row_checks i (strings b h) size row)
+slot_spelled_with b h size i row e = spelled_fault i (strings b h) size (nat_lt (offset_word b h i) h.locations)
+    (row_front (row_text b h i)) row e
 
 -- with the contents of the bytes
 
 pub slot_blank : (b : List ℕ) (h : Header) (i : ℕ) → row_of_slot b h i ≡ slot_row.Blank → slot_fault b h i ≡ None
 slot_blank b h i e = slot_blank_with b h (length (contents b h)) i e
 
-pub slot_spelled : (b : List ℕ) (h : Header) (i : ℕ) (row : Row) → row_of_slot b h i ≡ slot_row.Spelled row → slot_fault b h i ≡ first_fault (row_checks i (strings b h) (length (contents b h)) row)
+pub slot_spelled : (b : List ℕ) (h : Header) (i : ℕ) (row : Row) → row_of_slot b h i ≡ slot_row.Spelled row → slot_fault b h i
+    ≡ first_fault (row_checks i (strings b h) (length (contents b h)) row)
 slot_spelled b h i row e = slot_spelled_with b h (length (contents b h)) i row e
 
 -- A slot without a fault
@@ -103,7 +115,8 @@ content_within : (offset size all : ℕ) → nat_le size all && nat_le offset (a
 content_within offset size all e = grind (arith, nat_tests)
 
 -- the test of a check that finds nothing holds
-test_holds : (test : Bool) (fault : Damage) (later : List (Option Damage)) → first_fault (fault_if (not test) fault ∷ later) ≡ None → test ≡ true
+test_holds : (test : Bool) (fault : Damage) (later : List (Option Damage)) → first_fault (fault_if (not test) fault ∷ later) ≡ None
+    → test ≡ true
 test_holds test fault later e = not-false test (fault_if_none (not test) fault (no_fault_head (fault_if (not test) fault) later e))
 
 pub checked_row : (s : List ℕ) (all i : ℕ) (row : Row) → first_fault (row_checks i s all row) ≡ None → SoundRowWith s all row
@@ -120,7 +133,8 @@ checked_row s all i row clear =
     let after_base = no_fault_tail bases (exts ∷ content ∷ []) after_parent in
     let after_ext = no_fault_tail exts (content ∷ []) after_base in
     record {
-      stored = eqb-true row.packed 0 (test_holds (row.packed == 0) (damage.Compressed i) (texts ∷ parents ∷ bases ∷ exts ∷ content ∷ []) clear);
+      stored = eqb-true row.packed 0 (test_holds (row.packed == 0) (damage.Compressed i) (texts ∷ parents ∷ bases ∷ exts ∷ content
+          ∷ []) clear);
       module_ends = test_holds (text_ends s row.module) (damage.Text i 1) (parents ∷ bases ∷ exts ∷ content ∷ []) after_stored;
       parent_ends = test_holds (text_ends s row.parent) (damage.Text i 2) (bases ∷ exts ∷ content ∷ []) after_module;
       base_ends = test_holds (text_ends s row.base) (damage.Text i 3) (exts ∷ content ∷ []) after_parent;
@@ -132,8 +146,10 @@ checked_row s all i row clear =
     text_check s kind place = fault_if (not (text_ends s place)) (damage.Text i kind)
 
 -- the row of a slot without a fault, where it isn't blank, is sound
-pub sound_row_with : (b : List ℕ) (h : Header) (size i : ℕ) (row : Row) → slot_fault_with b h size i ≡ None → row_at b h i ≡ Some row → SoundRowWith (strings b h) size row
-sound_row_with b h size i row clear there = checked_row (strings b h) size i row (sym (slot_spelled_with b h size i row (row_spelled b h i row there)) ∙ clear)
+pub sound_row_with : (b : List ℕ) (h : Header) (size i : ℕ) (row : Row) → slot_fault_with b h size i ≡ None → row_at b h i
+    ≡ Some row → SoundRowWith (strings b h) size row
+sound_row_with b h size i row clear there = checked_row (strings b h) size i row
+    (sym (slot_spelled_with b h size i row (row_spelled b h i row there)) ∙ clear)
 
 pub sound_row : (b : List ℕ) (h : Header) (i : ℕ) (row : Row) → slot_fault b h i ≡ None → row_at b h i ≡ Some row → SoundRow b h row
 sound_row b h i row clear there = sound_row_with b h (length (contents b h)) i row clear there

@@ -1,5 +1,7 @@
 -- The usual spelling of a row spells it, and is read back.
-use Rattle.std.proofs.Common.{◌≡◌, ℕ, zero, suc, ◌+◌, ◌^◌, ◌<◌, ◌≤◌, ◌==◌, nat_lt, Bool, true, false, cond, List, [], ◌∷◌, ◌++◌, length, take, Some, refl, sym, ap, ◌∙◌, arith, append_assoc, length-append}
+use Rattle.std.proofs.Common.{◌≡◌, ℕ, zero, suc, ◌+◌, ◌^◌, ◌<◌, ◌≤◌, ◌==◌, nat_lt, Bool, true, false, cond}
+use Rattle.std.proofs.Common.{List, [], ◌∷◌, ◌++◌, length, take, Some, refl, sym, ap, ◌∙◌, arith}
+use Rattle.std.proofs.Common.{append_assoc, length-append}
 use Rattle.std.proofs.lemmas.Bool.{ltb-true}
 use Rattle.std.proofs.lemmas.Bool.Decides.{nat_tests}
 use Rattle.std.proofs.lemmas.List.{append-nil, take_at}
@@ -20,11 +22,15 @@ pub record FitsIn (v low high n : ℕ) : Type 0 where
   pub most : n ≤ high
   pub fits : v < 256 ^ n
 
-found_in : (v low high a n : ℕ) → low ≤ a → low ≤ high → a + n ≤ high + 1 → v < 256 ^ high → FitsIn v low high (unwrap_or (find (λ k. nat_lt v (256 ^ k)) (range_with_len a n)) high)
+found_in : (v low high a n : ℕ) → low ≤ a → low ≤ high → a + n ≤ high + 1 → v < 256 ^ high
+    → FitsIn v low high (unwrap_or (find (λ k. nat_lt v (256 ^ k)) (range_with_len a n)) high)
 found_in v low high a zero from some to fits = record { least = some; most = omega arith; fits = fits }
-found_in v low high a (suc n) from some to fits = go (nat_lt v (256 ^ a)) refl (found_in v low high (a + 1) n (omega arith) some (omega arith) fits)
+found_in v low high a (suc n) from some to fits = go (nat_lt v (256 ^ a)) refl (found_in v low high (a + 1) n (omega arith) some
+    (omega arith) fits)
   where
-    go : (b : Bool) → nat_lt v (256 ^ a) ≡ b → FitsIn v low high (unwrap_or (find (λ k. nat_lt v (256 ^ k)) (range_with_len (a + 1) n)) high) → FitsIn v low high (unwrap_or (cond b (Some a) (find (λ k. nat_lt v (256 ^ k)) (range_with_len (a + 1) n))) high)
+    go : (b : Bool) → nat_lt v (256 ^ a) ≡ b
+        → FitsIn v low high (unwrap_or (find (λ k. nat_lt v (256 ^ k)) (range_with_len (a + 1) n)) high)
+        → FitsIn v low high (unwrap_or (cond b (Some a) (find (λ k. nat_lt v (256 ^ k)) (range_with_len (a + 1) n))) high)
     go true test more = record { least = from; most = omega arith; fits = ltb-true v (256 ^ a) test }
     go false test more = more
 
@@ -41,7 +47,8 @@ number_of_usual v small =
     let count = byte_count_fits v.1 small in
     let bytes : List ℕ = big_bytes (byte_count v.1) v.1 in
     let read : big_number (byte_count v.1) (bytes ++ []) ≡ v.1 = big_number-reads_back (byte_count v.1) v.1 [] count.fits in
-    ap (λ n. big_number n bytes) (length-bytes_high_first (byte_count v.1) v.1) ∙ ap (big_number (byte_count v.1)) (sym (append-nil bytes)) ∙ read
+    ap (λ n. big_number n bytes) (length-bytes_high_first (byte_count v.1) v.1) ∙ ap (big_number (byte_count v.1))
+    (sym (append-nil bytes)) ∙ read
 
 -- those whose value isn't 0
 abbrev pub usual_parts : List (ℕ × ℕ) → List Attribute
@@ -52,7 +59,9 @@ spelled_usual : (values : List (ℕ × ℕ)) → flat_map (λ v. usual_attribute
 spelled_usual [] = refl
 spelled_usual (v ∷ values) = go (v.1 == 0) (spelled_usual values)
   where
-    go : (b : Bool) → flat_map (λ w. usual_attribute w.0 w.1) values ≡ flat_map spelled (usual_parts values) → cond b [] (spelled (usual_of v)) ++ flat_map (λ w. usual_attribute w.0 w.1) values ≡ flat_map spelled (cond b (usual_parts values) (usual_of v ∷ usual_parts values))
+    go : (b : Bool) → flat_map (λ w. usual_attribute w.0 w.1) values ≡ flat_map spelled (usual_parts values)
+        → cond b [] (spelled (usual_of v)) ++ flat_map (λ w. usual_attribute w.0 w.1) values
+        ≡ flat_map spelled (cond b (usual_parts values) (usual_of v ∷ usual_parts values))
     go true rest = rest
     go false rest = ap (λ l. spelled (usual_of v) ++ l) rest
 
@@ -80,10 +89,12 @@ rising_usual above (v ∷ values) (rises, small, fits, rest) = go (v.1 == 0) (ri
     go false rising = (rises, small, omega (arith, size, count.least), omega (arith, size, count.most), rising)
 
 -- one attribute of a row: where the value is 0 the row has it as it is
-row_usual : (row : Row) (v : ℕ × ℕ) (values : List (ℕ × ℕ)) → v.1 < 2 ^ 64 → with_value row v.0 0 ≡ row → row_of row (usual_parts (v ∷ values)) ≡ row_of (with_value row v.0 v.1) (usual_parts values)
+row_usual : (row : Row) (v : ℕ × ℕ) (values : List (ℕ × ℕ)) → v.1 < 2 ^ 64 → with_value row v.0 0 ≡ row
+    → row_of row (usual_parts (v ∷ values)) ≡ row_of (with_value row v.0 v.1) (usual_parts values)
 row_usual row v values fits zero_is = go (v.1 == 0) refl
   where
-    go : (b : Bool) → (v.1 == 0) ≡ b → row_of row (cond b (usual_parts values) (usual_of v ∷ usual_parts values)) ≡ row_of (with_value row v.0 v.1) (usual_parts values)
+    go : (b : Bool) → (v.1 == 0) ≡ b → row_of row (cond b (usual_parts values) (usual_of v ∷ usual_parts values))
+        ≡ row_of (with_value row v.0 v.1) (usual_parts values)
     go true test =
         let is : 0 ≡ v.1 = grind (arith, nat_tests) in
         ap (λ r. row_of r (usual_parts values)) (sym zero_is ∙ ap (with_value row v.0) is)
@@ -101,7 +112,17 @@ pub record RowFits (row : Row) : Type 0 where
   pub packed : row.packed < 2 ^ 64
   pub size : row.size < 2 ^ 64
 
-row_is : (m p b e o c s : ℕ) → RowFits (record { «module» = m; parent = p; base = b; ext = e; offset = o; packed = c; size = s }) → row_of blank (usual_parts (values_of (record { «module» = m; parent = p; base = b; ext = e; offset = o; packed = c; size = s }))) ≡ record { «module» = m; parent = p; base = b; ext = e; offset = o; packed = c; size = s }
+row_is : (m p b e o c s : ℕ) → RowFits (record { «module» = m; parent = p; base = b; ext = e; offset = o; packed = c; size = s })
+    → row_of blank (usual_parts (values_of (record {
+      «module» = m;
+      parent = p;
+      base = b;
+      ext = e;
+      offset = o;
+      packed = c;
+      size =
+          s;
+    }))) ≡ record { «module» = m; parent = p; base = b; ext = e; offset = o; packed = c; size = s }
 row_is m p b e o c s fits =
     row_usual blank (1, m) ((2, p) ∷ (3, b) ∷ (4, e) ∷ (5, o) ∷ (6, c) ∷ (7, s) ∷ []) fits.«module» refl
     ∙ row_usual (record blank { «module» = m }) (2, p) ((3, b) ∷ (4, e) ∷ (5, o) ∷ (6, c) ∷ (7, s) ∷ []) fits.parent refl
@@ -160,9 +181,14 @@ usual_read_back row rest fits =
     let front : take (length (usual row)) (usual row ++ rest) ≡ usual row = take_at (usual row) rest (length (usual row)) refl in
     spelled_front (usual row ++ rest) (length (usual row)) row (omega (arith, size)) (rw front (usual_spells row fits))
 
-put_in_turn : {X : Type 0} (a b c d e f g h : List X) → (((((((([] ++ a) ++ b) ++ c) ++ d) ++ e) ++ f) ++ g) ++ h) ≡ (a ++ (b ++ (c ++ (d ++ (e ++ (f ++ (g ++ []))))))) ++ h
+put_in_turn : {X : Type 0} (a b c d e f g h : List X) → (((((((([] ++ a) ++ b) ++ c) ++ d) ++ e) ++ f) ++ g) ++ h)
+    ≡ (a ++ (b ++ (c ++ (d ++ (e ++ (f ++ (g ++ []))))))) ++ h
 put_in_turn a b c d e f g h = simp (append_assoc, append-nil) refl
 
 -- the attributes, put one behind the other
-pub usual_in_turn : (row : Row) → (((((((([] ++ usual_attribute 1 row.«module») ++ usual_attribute 2 row.parent) ++ usual_attribute 3 row.base) ++ usual_attribute 4 row.ext) ++ usual_attribute 5 row.offset) ++ usual_attribute 6 row.packed) ++ usual_attribute 7 row.size) ++ 0 ∷ []) ≡ usual row
-usual_in_turn row = put_in_turn (usual_attribute 1 row.«module») (usual_attribute 2 row.parent) (usual_attribute 3 row.base) (usual_attribute 4 row.ext) (usual_attribute 5 row.offset) (usual_attribute 6 row.packed) (usual_attribute 7 row.size) (0 ∷ [])
+pub usual_in_turn : (row : Row)
+    → (((((((([] ++ usual_attribute 1 row.«module») ++ usual_attribute 2 row.parent) ++ usual_attribute 3 row.base)
+    ++ usual_attribute 4 row.ext) ++ usual_attribute 5 row.offset) ++ usual_attribute 6 row.packed) ++ usual_attribute 7 row.size)
+    ++ 0 ∷ []) ≡ usual row
+usual_in_turn row = put_in_turn (usual_attribute 1 row.«module») (usual_attribute 2 row.parent) (usual_attribute 3 row.base)
+    (usual_attribute 4 row.ext) (usual_attribute 5 row.offset) (usual_attribute 6 row.packed) (usual_attribute 7 row.size) (0 ∷ [])

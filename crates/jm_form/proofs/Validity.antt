@@ -1,13 +1,17 @@
 -- Validity and the first damage are two forms of one rule.
-use Rattle.std.proofs.Common.{◌≡◌, ℕ, ◌==◌, not, List, [], ◌∷◌, ◌++◌, length, Option, Some, None, option_map, Result, Ok, Err, refl, sym, ap, ◌∙◌, arith}
+use Rattle.std.proofs.Common.{◌≡◌, ℕ, ◌==◌, not, List, [], ◌∷◌, ◌++◌, length, Option, Some, None, option_map}
+use Rattle.std.proofs.Common.{Result, Ok, Err, refl, sym, ap, ◌∙◌, arith}
 use Rattle.std.proofs.lemmas.Bool.{eqb-true, eq-eqb, not-false}
-use Rattle.jm_bytes.proofs.CheckLaws.{fault_if_false, fault_if_none, first_fault_append_none, first_fault_append_some, no_fault_between, no_fault_cons, no_fault_from_between, no_fault_head, no_fault_tail}
+use Rattle.jm_bytes.proofs.CheckLaws.{fault_if_false, fault_if_none, first_fault_append_none}
+use Rattle.jm_bytes.proofs.CheckLaws.{first_fault_append_some, no_fault_between, no_fault_cons}
+use Rattle.jm_bytes.proofs.CheckLaws.{no_fault_from_between, no_fault_head, no_fault_tail}
 use Rattle.jm_bytes.specs.Checks.{fault_if, first_fault}
 use Rattle.jm_form.specs.declared.container.Header.{Header}
 use Rattle.jm_form.specs.declared.container.HeaderFault.{HeaderFault}
 use Rattle.jm_form.specs.declared.damage.Damage.TheVariants as damage
 use Rattle.jm_form.specs.ComputedOverlap.{first_overlap}
-use Rattle.jm_form.specs.Damages.{damage_with, entries_checks, first_damage, image_checks, slot_fault, slot_fault_with, slot_faults, slot_faults_with}
+use Rattle.jm_form.specs.Damages.{damage_with, entries_checks, first_damage, image_checks, slot_fault}
+use Rattle.jm_form.specs.Damages.{slot_fault_with, slot_faults, slot_faults_with}
 use Rattle.jm_form.specs.Entries.{Entry, entries}
 use Rattle.jm_form.specs.Head.{header_of}
 use Rattle.jm_form.specs.Overlap.{Apart, ranges_of}
@@ -52,7 +56,8 @@ pub sound_entries : (stated : ℕ) (es : List Entry) → SoundEntries stated es 
 sound_entries stated es sound =
     let count = fault_if (not (stated == length es)) (damage.Count stated (length es)) in
     let overlap = option_map (λ o. damage.Overlap o.0 o.1) (first_overlap (ranges_of es)) in
-    let counted = fault_if_false (not (stated == length es)) (damage.Count stated (length es)) (ap not (eq-eqb stated (length es) sound.count)) in
+    let counted = fault_if_false (not (stated == length es)) (damage.Count stated (length es))
+    (ap not (eq-eqb stated (length es) sound.count)) in
     let alone = ap (option_map (λ o. damage.Overlap o.0 o.1)) (apart_no_overlap (ranges_of es) sound.apart) in
     no_fault_cons count (overlap ∷ []) counted (no_fault_cons overlap [] alone refl)
 

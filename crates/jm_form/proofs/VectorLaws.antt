@@ -95,7 +95,15 @@ overlapping_pair = refl
 empty_contents : first_damage side_by_side ≡ None
 empty_contents = refl
 
-overlapping_names : map (λ e. e.name) (entries overlapping (record { order = Little; flags = 0; count = 2; length = 2; locations = 15; strings = 13 })) ≡ codes "/m/b" ∷ codes "/m/a" ∷ []
+overlapping_names : map (λ e. e.name) (entries overlapping (record {
+  order = Little;
+  flags = 0;
+  count = 2;
+  length = 2;
+  locations =
+      15;
+  strings = 13;
+})) ≡ codes "/m/b" ∷ codes "/m/a" ∷ []
 overlapping_names = refl
 
 overlapping_first : option_map (λ r. r.1) (look overlapping (codes "/m/b")) ≡ Some (codes "hi")

@@ -13,7 +13,8 @@ use Rattle.jm_reader.proofs.HeadLaws.{content_there, head_is}
 use Rattle.jm_image_c.specs.Told.{content_told, row_content}
 
 -- the content of a sound row lies in the image
-pub row_within : (b : List ℕ) (h : Header) (row : Row) → header_of b ≡ Ok h → SoundRow b (head b) row → index_length h + row.offset + row.size ≤ length b
+pub row_within : (b : List ℕ) (h : Header) (row : Row) → header_of b ≡ Ok h → SoundRow b (head b) row → index_length h + row.offset
+    + row.size ≤ length b
 row_within b h row read sound =
     let fits = header_fits b h read in
     let all = length-drop (index_length h) b in
@@ -26,7 +27,8 @@ pub record Placed (b : List ℕ) (h : Header) (name : List ℕ) (row : Row) : Ty
   pub part : slice_range b (index_length h + row.offset) (index_length h + row.offset + row.size) ≡ content_of (contents b (head b)) row
   pub told : content_told b (look b name) ≡ row_content h row
 
-pub row_placed : (b : List ℕ) (h : Header) (name : List ℕ) (row : Row) → header_of b ≡ Ok h → SoundRow b (head b) row → ◌≡◌ {A = Option (Row × List ℕ)} (look b name) (Some (row, content_of (contents b (head b)) row)) → Placed b h name row
+pub row_placed : (b : List ℕ) (h : Header) (name : List ℕ) (row : Row) → header_of b ≡ Ok h → SoundRow b (head b) row
+    → ◌≡◌ {A = Option (Row × List ℕ)} (look b name) (Some (row, content_of (contents b (head b)) row)) → Placed b h name row
 row_placed b h name row read sound sought = record {
   within = row_within b h row read sound;
   part = content_there b h row read;

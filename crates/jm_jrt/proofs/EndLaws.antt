@@ -1,5 +1,6 @@
 -- A text of the strings that is a name: the name's bytes and a zero byte stand at its place.
-use Rattle.std.proofs.Common.{◌≡◌, ◌==◌, ℕ, ◌+◌, ◌-◌, ◌<◌, ◌≤◌, true, List, [], ◌∷◌, Ok, length, take, drop, get_or, slice_range, ap, sym, ◌∙◌, arith, length-drop}
+use Rattle.std.proofs.Common.{◌≡◌, ◌==◌, ℕ, ◌+◌, ◌-◌, ◌<◌, ◌≤◌, true, List, [], ◌∷◌, Ok, length, take, drop}
+use Rattle.std.proofs.Common.{get_or, slice_range, ap, sym, ◌∙◌, arith, length-drop}
 use Rattle.std.proofs.Math.Seq.{drop-cons}
 use Rattle.std.proofs.lemmas.Bool.{eqb-true, true_from_ne_false}
 use Rattle.std.proofs.lemmas.List.{drop-take, length-take-le, take-take}
@@ -19,7 +20,8 @@ use Rattle.jm_reader.proofs.HeadLaws.{head_is}
 use Rattle.jm_valid.proofs.PassageLaws.{long_stretch}
 
 -- a part of the strings is a part of the image
-pub part_of_strings : (b : List ℕ) (h : Header) (place n : ℕ) → place + n ≤ h.strings → slice_range b (strings_place h + place) (strings_place h + place + n) ≡ take n (drop place (strings b h))
+pub part_of_strings : (b : List ℕ) (h : Header) (place n : ℕ) → place + n ≤ h.strings → slice_range b (strings_place h + place)
+    (strings_place h + place + n) ≡ take n (drop place (strings b h))
 part_of_strings b h place n within =
     let start : ℕ = strings_place h in
     let size : start + place + n - (start + place) ≡ n = omega arith in
@@ -27,7 +29,8 @@ part_of_strings b h place n within =
     rw size (sym (ap (take n) from ∙ take-take n (h.strings - place) (drop (start + place) b) (omega arith)))
 
 -- the strings are that part of the image which the header says
-pub strings_part : (b : List ℕ) (h : Header) (buf : List ℕ) (at : ℕ) → header_of b ≡ Ok h → buf ≡ b → at ≡ strings_place h → slice_range buf at (at + h.strings) ≡ strings b (head b)
+pub strings_part : (b : List ℕ) (h : Header) (buf : List ℕ) (at : ℕ) → header_of b ≡ Ok h → buf ≡ b → at ≡ strings_place h
+    → slice_range buf at (at + h.strings) ≡ strings b (head b)
 strings_part b h buf at read same is =
     let size : strings_place h + h.strings - strings_place h ≡ h.strings = omega arith in
     ap (λ x. slice_range x at (at + h.strings)) same ∙ ap (λ n. slice_range b n (n + h.strings)) is
@@ -39,7 +42,8 @@ pub record Looked (b : List ℕ) (h : Header) (place : ℕ) (name part : List �
   pub size : length part ≡ length name + 1
   pub within : length name < length (drop place (strings b h))
 
-pub looked : (b : List ℕ) (h : Header) (place : ℕ) (name part : List ℕ) → header_of b ≡ Ok h → length name < h.strings - place → part ≡ slice_range b (strings_place h + place) (strings_place h + place + (length name + 1)) → Looked b h place name part
+pub looked : (b : List ℕ) (h : Header) (place : ℕ) (name part : List ℕ) → header_of b ≡ Ok h → length name < h.strings - place
+    → part ≡ slice_range b (strings_place h + place) (strings_place h + place + (length name + 1)) → Looked b h place name part
 looked b h place name part read short cut =
     let size = length-strings b h (header_fits b h read) in
     let rest = length-drop place (strings b h) in
@@ -56,7 +60,8 @@ pub record Begins (rest name : List ℕ) : Type 0 where
   pub end : drop (length name) (take (length name + 1) rest) ≡ 0 ∷ []
   pub cut : list_any (λ x. x == 0) (take (length name + 1) rest) ≡ true
 
-pub begins : (section name : List ℕ) (place : ℕ) → text_ends section place ≡ true → bytes_eq name (text_at section place) ≡ true → Begins (drop place section) name
+pub begins : (section name : List ℕ) (place : ℕ) → text_ends section place ≡ true → bytes_eq name (text_at section place) ≡ true
+    → Begins (drop place section) name
 begins section name place ends same =
     let rest : List ℕ = drop place section in
     let at : ℕ = position_or_len (λ x. x == 0) rest in
@@ -70,9 +75,11 @@ begins section name place ends same =
     record {
       within = omega arith;
       end = ap (λ k. drop k (take (k + 1) rest)) long ∙ last;
-      cut = true_from_ne_false (list_any (λ x. x == 0) (take (length name + 1) rest)) (λ none. let more = long_stretch rest (length name + 1) (omega arith) none in absurd (omega arith));
+      cut = true_from_ne_false (list_any (λ x. x == 0) (take (length name + 1) rest))
+          (λ none. let more = long_stretch rest (length name + 1) (omega arith) none in absurd (omega arith));
     }
 
 -- a text that ends within a front of the bytes is that front's
-pub text_of_front : (section : List ℕ) (place n : ℕ) → list_any (λ x. x == 0) (take n (drop place section)) ≡ true → text_at (take n (drop place section)) 0 ≡ text_at section place
+pub text_of_front : (section : List ℕ) (place n : ℕ) → list_any (λ x. x == 0) (take n (drop place section)) ≡ true
+    → text_at (take n (drop place section)) 0 ≡ text_at section place
 text_of_front section place n some = (before_first-take (λ x. x == 0) n (drop place section) some).0

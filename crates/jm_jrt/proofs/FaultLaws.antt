@@ -12,7 +12,8 @@ sound_none s k sound = fault_if_false (not (s k)) (BadNode (4 * k)) (ap not soun
 pub first_bad : (s : ℕ → Bool) (n k : ℕ) → k < n → ((j : ℕ) → j < k → s j ≡ true) → s k ≡ false → words_fault s n ≡ Some (BadNode (4 * k))
 first_bad s n k below before bad =
     let here : word_fault s k ≡ Some (BadNode (4 * k)) = ap (λ (b : Bool). fault_if (not b) (BadNode (4 * k))) bad in
-    first_fault_least (word_fault s) 0 n k (BadNode (4 * k)) (omega arith) (omega arith) (λ j least j_below. sound_none s j (before j j_below)) here
+    first_fault_least (word_fault s) 0 n k (BadNode (4 * k)) (omega arith) (omega arith) (λ j least j_below. sound_none s j
+    (before j j_below)) here
 
 pub none_bad : (s : ℕ → Bool) (n : ℕ) → ((j : ℕ) → j < n → s j ≡ true) → words_fault s n ≡ None
 none_bad s n sound = no_fault_from_between (word_fault s) 0 n (λ j least below. sound_none s j (sound j (omega arith)))

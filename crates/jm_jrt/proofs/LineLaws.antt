@@ -1,5 +1,6 @@
 -- The lines of a text that begins with some lines and their newlines.
-use Rattle.std.proofs.Common.{◌≡◌, ◌<◌, ◌≤◌, ◌-◌, ℕ, zero, suc, List, [], ◌∷◌, ◌++◌, All, Bool, true, false, refl, ap, ◌∙◌, length, take, arith, cond, append-nil}
+use Rattle.std.proofs.Common.{◌≡◌, ◌<◌, ◌≤◌, ◌-◌, ℕ, zero, suc, List, [], ◌∷◌, ◌++◌, All, Bool, true, false}
+use Rattle.std.proofs.Common.{refl, ap, ◌∙◌, length, take, arith, cond, append-nil}
 use Rattle.std.specs.List.{onto_first, slice_split}
 use Rattle.std.proofs.lemmas.Bool.{le-leb, lt-leb}
 use Rattle.std.proofs.lemmas.List.{append_assoc, length-append}
@@ -12,7 +13,8 @@ use Rattle.jm_jrt.specs.Sessions.{IsFree, IsLine, joined}
 
 -- the parts of a text that begins so
 
-pub split_joined : (done : List (List ℕ)) (behind : List ℕ) → All IsLine done → slice_split is_newline (joined done ++ behind) ≡ done ++ slice_split is_newline behind
+pub split_joined : (done : List (List ℕ)) (behind : List ℕ) → All IsLine done → slice_split is_newline (joined done ++ behind)
+    ≡ done ++ slice_split is_newline behind
 split_joined [] behind good = refl
 split_joined (first ∷ done) behind good =
     ap (slice_split is_newline) (append_assoc (line first) (joined done) behind ∙ append_assoc first (10 ∷ []) (joined done ++ behind))
@@ -26,7 +28,8 @@ but_empty_last-append : (front parts : List (List ℕ)) → 0 < length parts →
 but_empty_last-append [] parts some = refl
 but_empty_last-append (part ∷ []) [] some = absurd (omega arith)
 but_empty_last-append (part ∷ []) (next ∷ parts) some = refl
-but_empty_last-append (part ∷ other ∷ front) parts some = ap (λ (rest : List (List ℕ)). part ∷ rest) (but_empty_last-append (other ∷ front) parts some)
+but_empty_last-append (part ∷ other ∷ front) parts some = ap (λ (rest : List (List ℕ)). part ∷ rest)
+    (but_empty_last-append (other ∷ front) parts some)
 
 but_last-append : (front parts : List (List ℕ)) → 0 < length parts → but_last (front ++ parts) ≡ front ++ but_last parts
 but_last-append [] parts some = refl
@@ -37,7 +40,8 @@ but_last-append (part ∷ other ∷ front) parts some = ap (λ (rest : List (Lis
 -- its lines are these and those of what stands behind
 
 pub lines_joined : (done : List (List ℕ)) (behind : List ℕ) → All IsLine done → lines_of (joined done ++ behind) ≡ done ++ lines_of behind
-lines_joined done behind good = ap but_empty_last (split_joined done behind good) ∙ but_empty_last-append done (slice_split is_newline behind) (some_parts behind)
+lines_joined done behind good = ap but_empty_last (split_joined done behind good)
+    ∙ but_empty_last-append done (slice_split is_newline behind) (some_parts behind)
 
 pub lines_part : (part : List ℕ) → IsFree part → lines_of part ≡ last_line part
 lines_part part free = ap but_empty_last (slice_split_none is_newline part free)
@@ -64,7 +68,8 @@ pub record Begins (front text : List ℕ) : Type 0 where
   pub lines : lines_of text ≡ first ∷ later
   pub long : length front ≤ length first
 
-split_front : (front rest part : List ℕ) (parts : List (List ℕ)) → IsFree front → slice_split is_newline rest ≡ part ∷ parts → slice_split is_newline (front ++ rest) ≡ (front ++ part) ∷ parts
+split_front : (front rest part : List ℕ) (parts : List (List ℕ)) → IsFree front → slice_split is_newline rest ≡ part ∷ parts
+    → slice_split is_newline (front ++ rest) ≡ (front ++ part) ∷ parts
 split_front [] rest part parts free split = split
 split_front (b ∷ front) rest part parts free split =
     slice_split-cons_no is_newline b (front ++ rest) (All-head (λ c. is_newline c ≡ false) b front free)
@@ -74,12 +79,20 @@ pub line_begins : (front rest : List ℕ) → IsFree front → 0 < length front 
 line_begins [] rest free some = absurd (omega arith)
 line_begins (b ∷ front) rest free some = go (slice_split is_newline rest) refl
   where
-    from : (part : List ℕ) (parts : List (List ℕ)) → lines_of (b ∷ front ++ rest) ≡ but_empty_last ((b ∷ front ++ part) ∷ parts) → Begins (b ∷ front) (b ∷ front ++ rest)
+    from : (part : List ℕ) (parts : List (List ℕ)) → lines_of (b ∷ front ++ rest) ≡ but_empty_last ((b ∷ front ++ part) ∷ parts)
+        → Begins (b ∷ front) (b ∷ front ++ rest)
     from part [] lines = record { first = b ∷ front ++ part; later = []; lines = lines; long = omega (arith, length-append front part) }
-    from part (next ∷ parts) lines = record { first = b ∷ front ++ part; later = but_empty_last (next ∷ parts); lines = lines; long = omega (arith, length-append front part) }
+    from part (next ∷ parts) lines = record {
+      first = b ∷ front ++ part;
+      later = but_empty_last (next ∷ parts);
+      lines =
+          lines;
+      long = omega (arith, length-append front part);
+    }
 
     go : (parts : List (List ℕ)) → slice_split is_newline rest ≡ parts → Begins (b ∷ front) (b ∷ front ++ rest)
-    go [] split = let some = some_parts rest in let none : length (slice_split is_newline rest) ≡ 0 = ap length split in absurd (omega arith)
+    go [] split =
+        let some = some_parts rest in let none : length (slice_split is_newline rest) ≡ 0 = ap length split in absurd (omega arith)
     go (part ∷ parts) split = from part parts (ap but_empty_last (split_front (b ∷ front) rest part parts free split))
 
 -- a text of some bytes has a line
@@ -88,7 +101,8 @@ pub some_lines : (text : List ℕ) → 0 < length text → 0 < length (lines_of 
 some_lines [] some = absurd (omega arith)
 some_lines (b ∷ text) some = go (is_newline b) (slice_split is_newline text) (some_parts text)
   where
-    go : (test : Bool) (parts : List (List ℕ)) → 0 < length parts → 0 < length (but_empty_last (cond test ([] ∷ parts) (onto_first b parts)))
+    go : (test : Bool) (parts : List (List ℕ)) → 0 < length parts
+        → 0 < length (but_empty_last (cond test ([] ∷ parts) (onto_first b parts)))
     go test [] none = absurd (omega arith)
     go true (part ∷ parts) more = omega arith
     go false (part ∷ []) more = omega arith
@@ -96,13 +110,15 @@ some_lines (b ∷ text) some = go (is_newline b) (slice_split is_newline text) (
 
 -- which lines are answered
 
-pub answered_all : (most : ℕ) (done more : List (List ℕ)) → All IsLine done → length done ≤ most → answered most (done ++ more) ≡ done ++ answered (most - length done) more
+pub answered_all : (most : ℕ) (done more : List (List ℕ)) → All IsLine done → length done ≤ most → answered most (done ++ more)
+    ≡ done ++ answered (most - length done) more
 answered_all most [] more good within = ap (λ (n : ℕ). answered n more) (omega arith)
 answered_all zero (first ∷ done) more good within = absurd (omega arith)
 answered_all (suc most) (first ∷ done) more good within =
     take_while-cons is_short first (take most (done ++ more))
     ∙ ap (λ test. cond test (first ∷ answered most (done ++ more)) []) (le-leb (length first) 8192 (All-head IsLine first done good).short)
-    ∙ ap (λ (rest : List (List ℕ)). first ∷ rest) (answered_all most done more (All-tail IsLine first done good) (omega arith) ∙ ap (λ (n : ℕ). done ++ answered n more) (omega arith))
+    ∙ ap (λ (rest : List (List ℕ)). first ∷ rest) (answered_all most done more (All-tail IsLine first done good) (omega arith)
+    ∙ ap (λ (n : ℕ). done ++ answered n more) (omega arith))
 
 pub answered_none : (more : List (List ℕ)) → answered 0 more ≡ []
 answered_none more = refl

@@ -9,10 +9,12 @@ use Rattle.jm_form.specs.TreeView.{Link, item_of}
 use Rattle.jm_jrt.specs.declared.jrt_error.JrtError.TheVariants.{NotThere}
 use Rattle.jm_jrt.specs.Stat.{held, link_among}
 
-pub link_none : (name : List ℕ) (owners : List Owner) → list_any (λ o. bytes_eq name o.module) owners ≡ false → link_among name owners ≡ Err NotThere
+pub link_none : (name : List ℕ) (owners : List Owner) → list_any (λ o. bytes_eq name o.module) owners ≡ false
+    → link_among name owners ≡ Err NotThere
 link_none name owners none = rw none refl
 
-pub link_some : (name : List ℕ) (owners : List Owner) → list_any (λ o. bytes_eq name o.module) owners ≡ true → link_among name owners ≡ Ok (Link name)
+pub link_some : (name : List ℕ) (owners : List Owner) → list_any (λ o. bytes_eq name o.module) owners ≡ true
+    → link_among name owners ≡ Ok (Link name)
 link_some name owners some = rw some refl
 
 pub held_item : (holds : Holds) → held (Ok (item_of holds)) ≡ Ok holds

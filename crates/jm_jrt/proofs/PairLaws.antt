@@ -1,5 +1,7 @@
 -- What holds of a content without a bad word, and its items from one on.
-use Rattle.std.proofs.Common.{◌≡◌, ℕ, suc, ◌+◌, ◌-◌, ◌*◌, ◌%◌, ◌==◌, ◌<◌, ◌≤◌, ◌&&◌, nat_lt, Bool, true, false, List, [], ◌∷◌, length, Option, None, Some, is_some, IfSome, Bor, refl, ap, ◌∙◌, arith}
+use Rattle.std.proofs.Common.{◌≡◌, ℕ, suc, ◌+◌, ◌-◌, ◌*◌, ◌%◌, ◌==◌, ◌<◌, ◌≤◌, ◌&&◌, nat_lt, Bool, true}
+use Rattle.std.proofs.Common.{false, List, [], ◌∷◌, length, Option, None, Some, is_some, IfSome, Bor, refl}
+use Rattle.std.proofs.Common.{ap, ◌∙◌, arith}
 use Rattle.std.proofs.lemmas.List.{length-map}
 use Rattle.std.proofs.lemmas.List.FromFn.{length-range_with_len}
 use Rattle.std.specs.List.{list_any, range_with_len}
@@ -9,7 +11,9 @@ use Rattle.jm_jrt.specs.Stat.{first_full}
 use Rattle.jm_form.specs.Places.{strings}
 use Rattle.jm_form.specs.Texts.{text_ends}
 use Rattle.jm_reader.specs.Look.{head}
-use Rattle.jm_jrt.specs.Told.{fits, is_child_sound, is_half_sound, is_pair_sound, is_row_sound, name_told, names_from, names_left, owner_told, owners_from, owners_left, pair_count, row_told, word_count, word_of, words_fault}
+use Rattle.jm_jrt.specs.Told.{fits, is_child_sound, is_half_sound, is_pair_sound, is_row_sound, name_told}
+use Rattle.jm_jrt.specs.Told.{names_from, names_left, owner_told, owners_from, owners_left, pair_count}
+use Rattle.jm_jrt.specs.Told.{row_told, word_count, word_of, words_fault}
 use Rattle.jm_jrt.proofs.FaultLaws.{sound_below}
 
 pub both : (a b : Bool) → a && b ≡ true → (a ≡ true) × (b ≡ true)
@@ -23,12 +27,15 @@ pub record ChildAt (b : List ℕ) (content : List ℕ) (k : ℕ) : Type 0 where
   pub fits : fits content k ≡ true
   pub sound : is_row_sound (strings b (head b)) (row_told b (word_of b content k)) ≡ true
 
-pub child_at : (b : List ℕ) (content : List ℕ) (k : ℕ) → words_fault (is_child_sound b content) (word_count content) ≡ None → k < word_count content → ChildAt b content k
+pub child_at : (b : List ℕ) (content : List ℕ) (k : ℕ) → words_fault (is_child_sound b content) (word_count content) ≡ None
+    → k < word_count content → ChildAt b content k
 child_at b content k none below =
-    let parts = both (fits content k) (is_row_sound (strings b (head b)) (row_told b (word_of b content k))) (sound_below (is_child_sound b content) (word_count content) none k below) in
+    let parts = both (fits content k) (is_row_sound (strings b (head b)) (row_told b (word_of b content k)))
+    (sound_below (is_child_sound b content) (word_count content) none k below) in
     record { fits = parts.0; sound = parts.1 }
 
-pub names_more : (b : List ℕ) (content : List ℕ) (k : ℕ) → k < word_count content → names_left b content k ≡ name_told b (word_of b content k) ∷ names_left b content (k + 1)
+pub names_more : (b : List ℕ) (content : List ℕ) (k : ℕ) → k < word_count content → names_left b content k
+    ≡ name_told b (word_of b content k) ∷ names_left b content (k + 1)
 names_more b content k below =
     let size : word_count content - k ≡ suc (word_count content - (k + 1)) = omega arith in
     ap (λ (n : ℕ). names_from b content k n) size
@@ -40,7 +47,8 @@ names_end b content k past =
 
 pub names_length : (b : List ℕ) (content : List ℕ) (k : ℕ) → length (names_left b content k) ≡ word_count content - k
 names_length b content k =
-    length-map (range_with_len k (word_count content - k)) (λ k. name_told b (word_of b content k)) ∙ length-range_with_len k (word_count content - k)
+    length-map (range_with_len k (word_count content - k)) (λ k. name_told b (word_of b content k))
+    ∙ length-range_with_len k (word_count content - k)
 
 -- Pairs
 
@@ -56,10 +64,13 @@ first_half section k n even sound = rw even at sound
 second_half : (section : List ℕ) (k n : ℕ) → k % 2 == 0 ≡ false → is_half_sound section k n ≡ true → text_ends section n ≡ true
 second_half section k n odd sound = rw odd at sound
 
-pub pair_at : (b : List ℕ) (content : List ℕ) (k : ℕ) → words_fault (is_pair_sound b content) (2 * pair_count content) ≡ None → k < pair_count content → PairAt b content k
+pub pair_at : (b : List ℕ) (content : List ℕ) (k : ℕ) → words_fault (is_pair_sound b content) (2 * pair_count content) ≡ None
+    → k < pair_count content → PairAt b content k
 pair_at b content k none below =
-    let first = both (fits content (2 * k)) (is_half_sound (strings b (head b)) (2 * k) (word_of b content (2 * k))) (sound_below (is_pair_sound b content) (2 * pair_count content) none (2 * k) (omega arith)) in
-    let second = both (fits content (2 * k + 1)) (is_half_sound (strings b (head b)) (2 * k + 1) (word_of b content (2 * k + 1))) (sound_below (is_pair_sound b content) (2 * pair_count content) none (2 * k + 1) (omega arith)) in
+    let first = both (fits content (2 * k)) (is_half_sound (strings b (head b)) (2 * k) (word_of b content (2 * k)))
+    (sound_below (is_pair_sound b content) (2 * pair_count content) none (2 * k) (omega arith)) in
+    let second = both (fits content (2 * k + 1)) (is_half_sound (strings b (head b)) (2 * k + 1) (word_of b content (2 * k + 1)))
+    (sound_below (is_pair_sound b content) (2 * pair_count content) none (2 * k + 1) (omega arith)) in
     let even : 2 * k % 2 ≡ 0 = omega arith in
     let odd : (2 * k + 1) % 2 ≡ 1 = omega arith in
     record {
@@ -69,7 +80,8 @@ pair_at b content k none below =
       ends = second_half (strings b (head b)) (2 * k + 1) (word_of b content (2 * k + 1)) (ap (λ (n : ℕ). n == 0) odd) second.1;
     }
 
-pub owners_more : (b : List ℕ) (content : List ℕ) (k : ℕ) → k < pair_count content → owners_left b content k ≡ owner_told b content k ∷ owners_left b content (k + 1)
+pub owners_more : (b : List ℕ) (content : List ℕ) (k : ℕ) → k < pair_count content → owners_left b content k
+    ≡ owner_told b content k ∷ owners_left b content (k + 1)
 owners_more b content k below =
     let size : pair_count content - k ≡ suc (pair_count content - (k + 1)) = omega arith in
     ap (λ (n : ℕ). owners_from b content k n) size
@@ -93,14 +105,17 @@ full_later o os empty = rw empty refl
 
 -- An owner that is a module
 
-pub any_here : (name : List ℕ) (o : Owner) (os : List Owner) → bytes_eq name o.module ≡ true → list_any (λ o. bytes_eq name o.module) (o ∷ os) ≡ true
+pub any_here : (name : List ℕ) (o : Owner) (os : List Owner) → bytes_eq name o.module ≡ true
+    → list_any (λ o. bytes_eq name o.module) (o ∷ os) ≡ true
 any_here name o os same = rw same refl
 
-pub any_later : (name : List ℕ) (o : Owner) (os : List Owner) → bytes_eq name o.module ≡ false → list_any (λ o. bytes_eq name o.module) (o ∷ os) ≡ list_any (λ o. bytes_eq name o.module) os
+pub any_later : (name : List ℕ) (o : Owner) (os : List Owner) → bytes_eq name o.module ≡ false
+    → list_any (λ o. bytes_eq name o.module) (o ∷ os) ≡ list_any (λ o. bytes_eq name o.module) os
 any_later name o os other = rw other refl
 
 -- The text that is there
 
-pub text_there : (o : Option (Bor (List ℕ))) (x y : List ℕ) → is_some o ≡ true → IfSome o (λ t. t.now ≡ y) → IfSome o (λ t. x ≡ t.now) → x ≡ y
+pub text_there : (o : Option (Bor (List ℕ))) (x y : List ℕ) → is_some o ≡ true → IfSome o (λ t. t.now ≡ y)
+    → IfSome o (λ t. x ≡ t.now) → x ≡ y
 text_there None x y there first second = cc
 text_there (Some t) x y there first second = second ∙ first

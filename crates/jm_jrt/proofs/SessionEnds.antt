@@ -1,5 +1,6 @@
 -- What a session comes to, from how far it came.
-use Rattle.std.proofs.Common.{◌≡◌, ◌<◌, ◌≤◌, ◌+◌, ◌-◌, ◌*◌, ℕ, List, [], ◌∷◌, ◌++◌, All, Option, Some, None, option_map, Ok, Err, refl, sym, ap, ◌∙◌, subst, length, take, arith, append-nil}
+use Rattle.std.proofs.Common.{◌≡◌, ◌<◌, ◌≤◌, ◌+◌, ◌-◌, ◌*◌, ℕ, List, [], ◌∷◌, ◌++◌, All, Option, Some, None}
+use Rattle.std.proofs.Common.{option_map, Ok, Err, refl, sym, ap, ◌∙◌, subst, length, take, arith, append-nil}
 use Rattle.std.proofs.Math.Seq.{take-append-add, take-append_seam}
 use Rattle.std.proofs.lemmas.List.{append_assoc, length-append, take-append-le, take_all}
 use Rattle.std.proofs.lemmas.List.Elements.{All-push}
@@ -9,8 +10,10 @@ use Rattle.jm_jrt.specs.declared.serve_error.ServeError.{ServeError}
 use Rattle.jm_jrt.specs.declared.serve_error.ServeError.TheVariants.{ReadFault, WriteFault, LongLine, TooManyLines, Memory}
 use Rattle.jm_jrt.specs.Lines.{answered, ended_lines, last_line, lines_bytes, lines_of, replies}
 use Rattle.jm_jrt.specs.Reply.{IsWithin, line_bytes, reply}
-use Rattle.jm_jrt.specs.Sessions.{Bounded, Breaks, Ended, IsFree, IsLine, IsOpen, IsTooLong, IsTooMany, Moment, Passes, Put, PutBehind, PutFails, Serves, answered_in, joined}
-use Rattle.jm_jrt.proofs.LineLaws.{Begins, answered_all, answered_long, answered_nothing, ended_joined, line_begins, lines_joined, lines_next, lines_part, some_lines}
+use Rattle.jm_jrt.specs.Sessions.{Bounded, Breaks, Ended, IsFree, IsLine, IsOpen, IsTooLong, IsTooMany}
+use Rattle.jm_jrt.specs.Sessions.{Moment, Passes, Put, PutBehind, PutFails, Serves, answered_in, joined}
+use Rattle.jm_jrt.proofs.LineLaws.{Begins, answered_all, answered_long, answered_nothing, ended_joined}
+use Rattle.jm_jrt.proofs.LineLaws.{line_begins, lines_joined, lines_next, lines_part, some_lines}
 use Rattle.jm_jrt.proofs.SessionSteps.{breaks_at_once, breaks_more, put_then, replies_append}
 use Rattle.jm_jrt.proofs.WithinLaws.{within_append, within_one}
 
@@ -20,69 +23,94 @@ abbrev pub left_of : Option (List ℕ) → List ℕ
 left_of None = []
 left_of (Some left) = left
 
-told_left : (rest new_rest : Option (List ℕ)) (given : List ℕ) → Told rest new_rest (λ old new. old ≡ given ++ new) → Told rest new_rest (λ old new. (old ≡ given ++ left_of new_rest) × (new ≡ left_of new_rest))
+told_left : (rest new_rest : Option (List ℕ)) (given : List ℕ) → Told rest new_rest (λ old new. old ≡ given ++ new)
+    → Told rest new_rest (λ old new. (old ≡ given ++ left_of new_rest) × (new ≡ left_of new_rest))
 told_left None new_rest given told = tt
 told_left (Some old) None given told = absurd told
 told_left (Some old) (Some new) given told = (told, refl)
 
-pub told_then : (rest mid new_rest : Option (List ℕ)) (given piece : List ℕ) → Told rest mid (λ old new. old ≡ given ++ new) → Told mid new_rest (λ old new. old ≡ piece ++ new) → Told rest new_rest (λ old new. old ≡ (given ++ piece) ++ new)
+pub told_then : (rest mid new_rest : Option (List ℕ)) (given piece : List ℕ) → Told rest mid (λ old new. old ≡ given ++ new)
+    → Told mid new_rest (λ old new. old ≡ piece ++ new) → Told rest new_rest (λ old new. old ≡ (given ++ piece) ++ new)
 told_then None mid new_rest given piece first second = tt
 told_then (Some old) None new_rest given piece first second = absurd first
 told_then (Some old) (Some now) None given piece first second = absurd second
-told_then (Some old) (Some now) (Some new) given piece first second = first ∙ ap (λ (t : List ℕ). given ++ t) second ∙ sym (append_assoc given piece new)
+told_then (Some old) (Some now) (Some new) given piece first second = first ∙ ap (λ (t : List ℕ). given ++ t) second
+    ∙ sym (append_assoc given piece new)
 
 -- nothing more came at the end
-pub told_same : (rest mid new_rest : Option (List ℕ)) (given piece : List ℕ) (n : ℕ) → n ≡ 0 → Told rest mid (λ old new. old ≡ given ++ new) → Told mid new_rest (λ old new. old ≡ take n piece ++ new) → Told rest new_rest (λ old new. old ≡ given ++ new)
+pub told_same : (rest mid new_rest : Option (List ℕ)) (given piece : List ℕ) (n : ℕ) → n ≡ 0 → Told rest mid (λ old new. old
+    ≡ given ++ new) → Told mid new_rest (λ old new. old ≡ take n piece ++ new) → Told rest new_rest (λ old new. old ≡ given ++ new)
 told_same rest mid new_rest given piece n none first second =
-    subst (λ (t : List ℕ). Told rest new_rest (λ old new. old ≡ t ++ new)) (ap (λ (k : ℕ). given ++ take k piece) none ∙ append-nil given) (told_then rest mid new_rest given (take n piece) first second)
+    subst (λ (t : List ℕ). Told rest new_rest (λ old new. old ≡ t ++ new)) (ap (λ (k : ℕ). given ++ take k piece) none
+    ∙ append-nil given) (told_then rest mid new_rest given (take n piece) first second)
 
-pub told_none : (rest mid new_rest : Option (List ℕ)) (given piece : List ℕ) (n : ℕ) → n ≡ 0 → Told rest mid (λ old new. old ≡ given ++ new) → Told mid new_rest (λ old new. old ≡ take n piece ++ new) → Shows mid (λ left. left ≡ []) → Told rest new_rest (λ old new. new ≡ [])
+pub told_none : (rest mid new_rest : Option (List ℕ)) (given piece : List ℕ) (n : ℕ) → n ≡ 0 → Told rest mid (λ old new. old
+    ≡ given ++ new) → Told mid new_rest (λ old new. old ≡ take n piece ++ new) → Shows mid (λ left. left ≡ [])
+    → Told rest new_rest (λ old new. new ≡ [])
 told_none None mid new_rest given piece n none first second ends = tt
 told_none (Some old) None new_rest given piece n none first second ends = absurd first
 told_none (Some old) (Some now) None given piece n none first second ends = absurd second
-told_none (Some old) (Some now) (Some new) given piece n none first second ends = sym (sym ends ∙ second ∙ ap (λ (k : ℕ). take k piece ++ new) none)
+told_none (Some old) (Some now) (Some new) given piece n none first second ends = sym (sym ends ∙ second
+    ∙ ap (λ (k : ℕ). take k piece ++ new) none)
 
-told_end : (rest new_rest : Option (List ℕ)) (given : List ℕ) → Told rest new_rest (λ old new. old ≡ given ++ new) → Told rest new_rest (λ old new. new ≡ []) → Told rest new_rest (λ old new. (old ≡ given) × (new ≡ []))
+told_end : (rest new_rest : Option (List ℕ)) (given : List ℕ) → Told rest new_rest (λ old new. old ≡ given ++ new)
+    → Told rest new_rest (λ old new. new ≡ []) → Told rest new_rest (λ old new. (old ≡ given) × (new ≡ []))
 told_end None new_rest given told ends = tt
 told_end (Some old) None given told ends = absurd told
 told_end (Some old) (Some new) given told ends = (told ∙ ap (λ (t : List ℕ). given ++ t) ends ∙ append-nil given, ends)
 
 -- What is told of the sink
 
-told_front : (out new_out : Option (List ℕ)) (first last : List ℕ) (P : List ℕ → Type 0) → Told (option_map (λ put. put ++ first) out) new_out (λ old new. PutsFront old new last) → ((n : ℕ) → n ≤ length last → P (first ++ take n last)) → Told out new_out (λ old new. (m : List ℕ) × (new ≡ old ++ m) × P m)
+told_front : (out new_out : Option (List ℕ)) (first last : List ℕ) (P : List ℕ → Type 0)
+    → Told (option_map (λ put. put ++ first) out) new_out (λ old new. PutsFront old new last) → ((n : ℕ) → n ≤ length last
+    → P (first ++ take n last)) → Told out new_out (λ old new. (m : List ℕ) × (new ≡ old ++ m) × P m)
 told_front None new_out first last P told from = tt
 told_front (Some old) None first last P told from = absurd told
-told_front (Some old) (Some new) first last P told from = (first ++ take told.0 last, told.2 ∙ append_assoc old first (take told.0 last), from told.0 told.1)
+told_front (Some old) (Some new) first last P told from = (
+  first ++ take told.0 last,
+  told.2
+      ∙ append_assoc old first (take told.0 last),
+  from told.0 told.1,
+)
 
 -- Lines that were answered are those in front
 
-answered_joined : (text : List ℕ) (done : List (List ℕ)) (more : List (List ℕ)) → lines_of text ≡ done ++ more → All IsLine done → length done ≤ 1000000 → answered_in text ≡ done ++ answered (1000000 - length done) more
+answered_joined : (text : List ℕ) (done : List (List ℕ)) (more : List (List ℕ)) → lines_of text ≡ done ++ more → All IsLine done
+    → length done ≤ 1000000 → answered_in text ≡ done ++ answered (1000000 - length done) more
 answered_joined text done more lines good within = ap (answered 1000000) lines ∙ answered_all 1000000 done more good within
 
 -- a front of the replies, where one more line was due
-front_put : (b : List ℕ) (done : List (List ℕ)) (first : List ℕ) (more : List (List ℕ)) (n : ℕ) → n ≤ length (reply b first) → replies b done ++ take n (reply b first) ≡ take (length (replies b done) + n) (replies b (done ++ first ∷ more))
+front_put : (b : List ℕ) (done : List (List ℕ)) (first : List ℕ) (more : List (List ℕ)) (n : ℕ) → n ≤ length (reply b first)
+    → replies b done ++ take n (reply b first) ≡ take (length (replies b done) + n) (replies b (done ++ first ∷ more))
 front_put b done first more n within =
     sym (ap (take (length (replies b done) + n)) (replies_append b done (first ∷ more))
     ∙ take-append-add (replies b done) (reply b first ++ replies b more) n
     ∙ ap (λ (t : List ℕ). replies b done ++ t) (take-append-le n (reply b first) (replies b more) within))
 
 -- the line that is due is among those that are answered
-due_answered : (text : List ℕ) (done : List (List ℕ)) (first : List ℕ) (later : List (List ℕ)) → lines_of text ≡ done ++ first ∷ later → All IsLine done → IsLine first → length done < 1000000 → answered_in text ≡ done ++ first ∷ answered (1000000 - length (done ++ first ∷ [])) later
+due_answered : (text : List ℕ) (done : List (List ℕ)) (first : List ℕ) (later : List (List ℕ)) → lines_of text ≡ done ++ first
+    ∷ later → All IsLine done → IsLine first → length done < 1000000 → answered_in text ≡ done ++ first
+    ∷ answered (1000000 - length (done ++ first ∷ [])) later
 due_answered text done first later lines good line within =
-    answered_joined text (done ++ first ∷ []) later (lines ∙ sym (append_assoc done (first ∷ []) later)) (All-push IsLine done first good line) (omega (arith, length-append done (first ∷ [])))
+    answered_joined text (done ++ first ∷ []) later (lines ∙ sym (append_assoc done (first ∷ []) later)) (All-push IsLine done first
+    good line) (omega (arith, length-append done (first ∷ [])))
     ∙ append_assoc done (first ∷ []) (answered (1000000 - length (done ++ first ∷ [])) later)
 
 -- After a fault of the source
 
 -- the lines that ended in what came are among those that are answered
-given_answered : (given left part : List ℕ) (done : List (List ℕ)) → given ≡ joined done ++ part → All IsLine done → IsFree part → length done ≤ 1000000 → ended_lines given ≡ take (length done) (answered_in (given ++ left))
+given_answered : (given left part : List ℕ) (done : List (List ℕ)) → given ≡ joined done ++ part → All IsLine done → IsFree part
+    → length done ≤ 1000000 → ended_lines given ≡ take (length done) (answered_in (given ++ left))
 given_answered given left part done is good free within =
-    let lines : lines_of (given ++ left) ≡ done ++ lines_of (part ++ left) = ap lines_of (ap (λ (t : List ℕ). t ++ left) is ∙ append_assoc (joined done) part left) ∙ lines_joined done (part ++ left) good in
+    let lines : lines_of (given ++ left) ≡ done ++ lines_of (part ++ left) = ap lines_of (ap (λ (t : List ℕ). t ++ left) is
+    ∙ append_assoc (joined done) part left) ∙ lines_joined done (part ++ left) good in
     let all = answered_joined (given ++ left) done (lines_of (part ++ left)) lines good within in
     ap ended_lines is ∙ ended_joined done part good free
     ∙ sym (ap (take (length done)) all ∙ take-append_seam done (answered (1000000 - length done) (lines_of (part ++ left))))
 
-pub serves_given : (b : List ℕ) (rest new_rest : Option (List ℕ)) (given part : List ℕ) (old new : Moment) (reads new_reads : Metered) → Told rest new_rest (λ o n. o ≡ given ++ n) → Passes b given old part new → IsOpen new.lines part → Serves b (Err ReadFault) rest new_rest old.put new.put reads new_reads
+pub serves_given : (b : List ℕ) (rest new_rest : Option (List ℕ)) (given part : List ℕ) (old new : Moment)
+    (reads new_reads : Metered) → Told rest new_rest (λ o n. o ≡ given ++ n) → Passes b given old part new → IsOpen new.lines part
+    → Serves b (Err ReadFault) rest new_rest old.put new.put reads new_reads
 serves_given b rest new_rest given part old new reads new_reads told passes further_on =
     let most = further_on.within in
     let count = passes.lines in
@@ -101,7 +129,11 @@ serves_given b rest new_rest given part old new reads new_reads told passes furt
           given,
           refl,
           ap (replies b) (sym (ap ended_lines passes.is ∙ ended_joined passes.done part passes.good further_on.free)),
-          (length passes.done, given_answered given (left_of new_rest) part passes.done passes.is passes.good further_on.free (omega arith)),
+          (
+            length passes.done,
+            given_answered given (left_of new_rest) part passes.done passes.is passes.good further_on.free
+                (omega arith),
+          ),
         ),
       );
       reads = tt;
@@ -122,10 +154,12 @@ module _ (b text : List ℕ) (old : Moment) (none : old.lines ≡ 0) (new_put : 
       let front : Begins begins.front (begins.front ++ begins.rest) = line_begins begins.front begins.rest begins.free (omega arith) in
       let longer = front.long in
       let behind : lines_of breaks.behind ≡ front.first ∷ front.later = ap lines_of begins.is ∙ front.lines in
-      let lines : lines_of text ≡ breaks.done ++ front.first ∷ front.later = lines_behind (LongLine k) breaks ∙ ap (λ (l : List (List ℕ)). breaks.done ++ l) behind in
+      let lines : lines_of text ≡ breaks.done ++ front.first ∷ front.later = lines_behind (LongLine k) breaks
+      ∙ ap (λ (l : List (List ℕ)). breaks.done ++ l) behind in
       let all : answered_in text ≡ breaks.done =
       answered_joined text breaks.done (front.first ∷ front.later) lines breaks.good (omega arith)
-      ∙ ap (λ (l : List (List ℕ)). breaks.done ++ l) (answered_long (1000000 - length breaks.done) front.first front.later (omega arith)) ∙ append-nil breaks.done
+      ∙ ap (λ (l : List (List ℕ)). breaks.done ++ l) (answered_long (1000000 - length breaks.done) front.first front.later
+      (omega arith)) ∙ append-nil breaks.done
       in
       let count : length (answered_in text) ≡ length breaks.done = ap length all in (
         record {
@@ -162,12 +196,15 @@ module _ (b text : List ℕ) (old : Moment) (none : old.lines ≡ 0) (new_put : 
   ends_so (LongLine k) breaks left = (long_line k breaks).0
   ends_so TooManyLines breaks left = (many_lines breaks).0
 
-  bounded_so : (error : ServeError) (breaks : Breaks error b text old new_put) (given : List ℕ) → length given ≤ length (joined breaks.done) + (8192 + 65536) → Bounded (Err error) text given
+  bounded_so : (error : ServeError) (breaks : Breaks error b text old new_put) (given : List ℕ)
+      → length given ≤ length (joined breaks.done) + (8192 + 65536) → Bounded (Err error) text given
   bounded_so ReadFault breaks given within = tt
   bounded_so WriteFault breaks given within = tt
   bounded_so Memory breaks given within = tt
-  bounded_so (LongLine k) breaks given within = subst (λ (done : List (List ℕ)). length given ≤ length (joined done) + (8192 + 65536)) (sym (long_line k breaks).1) within
-  bounded_so TooManyLines breaks given within = subst (λ (done : List (List ℕ)). length given ≤ length (joined done) + (8192 + 65536)) (sym (many_lines breaks).1) within
+  bounded_so (LongLine k) breaks given within = subst (λ (done : List (List ℕ)). length given ≤ length (joined done)
+      + (8192 + 65536)) (sym (long_line k breaks).1) within
+  bounded_so TooManyLines breaks given within = subst (λ (done : List (List ℕ)). length given ≤ length (joined done)
+      + (8192 + 65536)) (sym (many_lines breaks).1) within
 
   puts_so : (error : ServeError) → Breaks error b text old new_put → (left : List ℕ) → PutBehind b (Err error) text left old.put new_put
   puts_so ReadFault breaks left = absurd breaks.fails
@@ -175,22 +212,39 @@ module _ (b text : List ℕ) (old : Moment) (none : old.lines ≡ 0) (new_put : 
       let first = breaks.fails.0 in
       let begins = breaks.fails.1 in
       let below = breaks.fails.2 in
-      let behind : lines_of breaks.behind ≡ first ∷ lines_of begins.rest = ap lines_of begins.is ∙ lines_next first begins.rest begins.good in
-      let lines : lines_of text ≡ breaks.done ++ first ∷ lines_of begins.rest = lines_behind WriteFault breaks ∙ ap (λ (l : List (List ℕ)). breaks.done ++ l) behind in
+      let behind : lines_of breaks.behind ≡ first ∷ lines_of begins.rest = ap lines_of begins.is
+      ∙ lines_next first begins.rest begins.good in
+      let lines : lines_of text ≡ breaks.done ++ first ∷ lines_of begins.rest = lines_behind WriteFault breaks
+      ∙ ap (λ (l : List (List ℕ)). breaks.done ++ l) behind in
       let later : List (List ℕ) = answered (1000000 - length (breaks.done ++ first ∷ [])) (lines_of begins.rest) in
-      let all : answered_in text ≡ breaks.done ++ first ∷ later = due_answered text breaks.done first (lines_of begins.rest) lines breaks.good begins.good (omega arith) in
+      let all : answered_in text ≡ breaks.done ++ first ∷ later = due_answered text breaks.done first (lines_of begins.rest) lines
+      breaks.good begins.good (omega arith) in
       told_front old.put new_put (replies b breaks.done) (reply b first) (λ m. Put b (Err WriteFault) text left m) breaks.fails.3
-      (λ n within. (length (replies b breaks.done) + n, front_put b breaks.done first later n within ∙ ap (λ (l : List (List ℕ)). take (length (replies b breaks.done) + n) (replies b l)) (sym all)))
+      (λ n within. (
+        length (replies b breaks.done) + n,
+        front_put b breaks.done first later n within
+            ∙ ap (λ (l : List (List ℕ)). take (length (replies b breaks.done) + n) (replies b l)) (sym all),
+      ))
   puts_so Memory breaks left =
       let most = breaks.most in
-      let all = answered_joined text breaks.done (lines_of breaks.behind) (lines_behind Memory breaks) breaks.good (omega arith) in
-      (replies b breaks.done, breaks.fails, (length breaks.done, ap (replies b) (sym (ap (take (length breaks.done)) all ∙ take-append_seam breaks.done (answered (1000000 - length breaks.done) (lines_of breaks.behind))))))
+      let all = answered_joined text breaks.done (lines_of breaks.behind) (lines_behind Memory breaks) breaks.good (omega arith) in (
+        replies b breaks.done,
+        breaks.fails,
+        (
+          length breaks.done,
+          ap (replies b) (sym (ap (take (length breaks.done)) all
+              ∙ take-append_seam breaks.done (answered (1000000 - length breaks.done) (lines_of breaks.behind)))),
+        ),
+      )
   puts_so (LongLine k) breaks left =
       (replies b breaks.done, breaks.fails.3, ap (replies b) (sym (long_line k breaks).1))
   puts_so TooManyLines breaks left =
       (replies b breaks.done, breaks.fails.2, ap (replies b) (sym (many_lines breaks).1))
 
-pub serves_broken : (error : ServeError) (b : List ℕ) (rest new_rest : Option (List ℕ)) (given : List ℕ) (old : Moment) (new_put : Option (List ℕ)) (reads new_reads : Metered) → old.lines ≡ 0 → Told rest new_rest (λ o n. o ≡ given ++ n) → (breaks : Breaks error b given old new_put) → length breaks.behind ≤ 8192 + 65536 → Serves b (Err error) rest new_rest old.put new_put reads new_reads
+pub serves_broken : (error : ServeError) (b : List ℕ) (rest new_rest : Option (List ℕ)) (given : List ℕ) (old : Moment)
+    (new_put : Option (List ℕ)) (reads new_reads : Metered) → old.lines ≡ 0 → Told rest new_rest (λ o n. o ≡ given ++ n)
+    → (breaks : Breaks error b given old new_put) → length breaks.behind ≤ 8192 + 65536 → Serves b (Err error) rest new_rest old.put
+    new_put reads new_reads
 serves_broken error b rest new_rest given old new_put reads new_reads none told breaks short =
     let left = left_of new_rest in
     let longer = breaks_more error b given old new_put left breaks in
@@ -214,14 +268,20 @@ told_start None = tt
 told_start (Some rest) = refl
 
 -- no memory was found at once
-pub serves_nothing : (b : List ℕ) (rest : Option (List ℕ)) (old : Moment) (reads new_reads : Metered) → old.lines ≡ 0 → Serves b (Err Memory) rest rest old.put old.put reads new_reads
+pub serves_nothing : (b : List ℕ) (rest : Option (List ℕ)) (old : Moment) (reads new_reads : Metered) → old.lines ≡ 0
+    → Serves b (Err Memory) rest rest old.put old.put reads new_reads
 serves_nothing b rest old reads new_reads none =
     let most : length {A = ℕ} [] ≤ 8192 + 65536 = omega arith in
-    serves_broken Memory b rest rest [] old old.put reads new_reads none (told_start rest) (breaks_at_once Memory b [] old old.put (omega arith) refl) most
+    serves_broken Memory b rest rest [] old old.put reads new_reads none (told_start rest) (breaks_at_once Memory b [] old old.put
+    (omega arith) refl) most
 
 -- After the last line
 
-serves_whole : (b : List ℕ) (rest new_rest : Option (List ℕ)) (given : List ℕ) (lines : List (List ℕ)) (n : ℕ) (put new_put : Option (List ℕ)) (reads new_reads : Metered) → Told rest new_rest (λ o n. o ≡ given ++ n) → Told rest new_rest (λ o n. n ≡ []) → lines_of given ≡ lines → All IsLine lines → length lines ≤ 1000000 → n ≡ length lines → new_put ≡ option_map (λ text. text ++ replies b lines) put → IsWithin (lines_bytes b lines) reads new_reads → Serves b (Ok n) rest new_rest put new_put reads new_reads
+serves_whole : (b : List ℕ) (rest new_rest : Option (List ℕ)) (given : List ℕ) (lines : List (List ℕ)) (n : ℕ)
+    (put new_put : Option (List ℕ)) (reads new_reads : Metered) → Told rest new_rest (λ o n. o ≡ given ++ n)
+    → Told rest new_rest (λ o n. n ≡ []) → lines_of given ≡ lines → All IsLine lines → length lines ≤ 1000000 → n ≡ length lines
+    → new_put ≡ option_map (λ text. text ++ replies b lines) put → IsWithin (lines_bytes b lines) reads new_reads
+    → Serves b (Ok n) rest new_rest put new_put reads new_reads
 serves_whole b rest new_rest given lines n put new_put reads new_reads told ends are good within count is cost =
     let all : answered_in given ≡ lines =
     answered_joined given lines [] (are ∙ sym (append-nil lines)) good within
@@ -240,23 +300,33 @@ serves_whole b rest new_rest given lines n put new_put reads new_reads told ends
     }
 
 -- no line had begun
-pub serves_all : (b : List ℕ) (rest new_rest : Option (List ℕ)) (given part : List ℕ) (old new : Moment) → old.lines ≡ 0 → Told rest new_rest (λ o n. o ≡ given ++ n) → Told rest new_rest (λ o n. n ≡ []) → Passes b given old part new → IsOpen new.lines part → part ≡ [] → Serves b (Ok new.lines) rest new_rest old.put new.put old.reads new.reads
+pub serves_all : (b : List ℕ) (rest new_rest : Option (List ℕ)) (given part : List ℕ) (old new : Moment) → old.lines ≡ 0
+    → Told rest new_rest (λ o n. o ≡ given ++ n) → Told rest new_rest (λ o n. n ≡ []) → Passes b given old part new
+    → IsOpen new.lines part → part ≡ [] → Serves b (Ok new.lines) rest new_rest old.put new.put old.reads new.reads
 serves_all b rest new_rest given part old new none told ends passes further_on empty =
     let count = passes.lines in
     let most = further_on.within in
-    let are : lines_of given ≡ passes.done = ap lines_of passes.is ∙ ap (λ (t : List ℕ). lines_of (joined passes.done ++ t)) empty ∙ lines_joined passes.done [] passes.good ∙ append-nil passes.done in
-    serves_whole b rest new_rest given passes.done new.lines old.put new.put old.reads new.reads told ends are passes.good (omega arith) (omega arith) passes.put passes.reads
+    let are : lines_of given ≡ passes.done = ap lines_of passes.is ∙ ap (λ (t : List ℕ). lines_of (joined passes.done ++ t)) empty
+    ∙ lines_joined passes.done [] passes.good ∙ append-nil passes.done in
+    serves_whole b rest new_rest given passes.done new.lines old.put new.put old.reads new.reads told ends are passes.good
+    (omega arith) (omega arith) passes.put passes.reads
 
-last_lines : (b given part : List ℕ) (old new : Moment) (passes : Passes b given old part new) → IsFree part → 0 < length part → lines_of given ≡ passes.done ++ part ∷ []
+last_lines : (b given part : List ℕ) (old new : Moment) (passes : Passes b given old part new) → IsFree part → 0 < length part
+    → lines_of given ≡ passes.done ++ part ∷ []
 last_lines b given part old new passes free some =
-    ap lines_of passes.is ∙ lines_joined passes.done part passes.good ∙ ap (λ (l : List (List ℕ)). passes.done ++ l) (lines_part part free ∙ go part some)
+    ap lines_of passes.is ∙ lines_joined passes.done part passes.good ∙ ap (λ (l : List (List ℕ)). passes.done ++ l)
+    (lines_part part free ∙ go part some)
   where
     go : (part : List ℕ) → 0 < length part → last_line part ≡ part ∷ []
     go [] some = absurd (omega arith)
     go (x ∷ part) some = refl
 
 -- one had begun, and was answered
-pub serves_last : (b : List ℕ) (rest new_rest : Option (List ℕ)) (given part : List ℕ) (old new : Moment) (last_put : Option (List ℕ)) (last_reads : Metered) → old.lines ≡ 0 → Told rest new_rest (λ o n. o ≡ given ++ n) → Told rest new_rest (λ o n. n ≡ []) → Passes b given old part new → IsOpen new.lines part → 0 < length part → last_put ≡ option_map (λ text. text ++ reply b part) new.put → IsWithin (line_bytes b part) new.reads last_reads → Serves b (Ok (new.lines + 1)) rest new_rest old.put last_put old.reads last_reads
+pub serves_last : (b : List ℕ) (rest new_rest : Option (List ℕ)) (given part : List ℕ) (old new : Moment)
+    (last_put : Option (List ℕ)) (last_reads : Metered) → old.lines ≡ 0 → Told rest new_rest (λ o n. o ≡ given ++ n)
+    → Told rest new_rest (λ o n. n ≡ []) → Passes b given old part new → IsOpen new.lines part → 0 < length part → last_put
+    ≡ option_map (λ text. text ++ reply b part) new.put → IsWithin (line_bytes b part) new.reads last_reads
+    → Serves b (Ok (new.lines + 1)) rest new_rest old.put last_put old.reads last_reads
 serves_last b rest new_rest given part old new last_put last_reads none told ends passes further_on some put cost =
     let count = passes.lines in
     let below = further_on.numbered some in
@@ -265,11 +335,15 @@ serves_last b rest new_rest given part old new last_put last_reads none told end
     (last_lines b given part old new passes further_on.free some)
     (All-push IsLine passes.done part passes.good (record { free = further_on.free; short = further_on.short }))
     (omega arith) (omega arith)
-    (put ∙ ap (λ (more : List ℕ). option_map (λ text. text ++ more) new.put) (sym (append-nil (reply b part))) ∙ put_then b passes.done (part ∷ []) old.put new.put passes.put)
+    (put ∙ ap (λ (more : List ℕ). option_map (λ text. text ++ more) new.put) (sym (append-nil (reply b part)))
+    ∙ put_then b passes.done (part ∷ []) old.put new.put passes.put)
     (within_append b passes.done (part ∷ []) old.reads new.reads last_reads passes.reads (within_one b part new.reads last_reads cost))
 
 -- one had begun, and wasn't
-pub serves_not_last : (error : ServeError) (b : List ℕ) (rest new_rest : Option (List ℕ)) (given part : List ℕ) (old new : Moment) (last_put : Option (List ℕ)) (reads new_reads : Metered) → old.lines ≡ 0 → Told rest new_rest (λ o n. o ≡ given ++ n) → Told rest new_rest (λ o n. n ≡ []) → Passes b given old part new → IsOpen new.lines part → 0 < length part → PutFails error (reply b part) new.put last_put → Serves b (Err error) rest new_rest old.put last_put reads new_reads
+pub serves_not_last : (error : ServeError) (b : List ℕ) (rest new_rest : Option (List ℕ)) (given part : List ℕ) (old new : Moment)
+    (last_put : Option (List ℕ)) (reads new_reads : Metered) → old.lines ≡ 0 → Told rest new_rest (λ o n. o ≡ given ++ n)
+    → Told rest new_rest (λ o n. n ≡ []) → Passes b given old part new → IsOpen new.lines part → 0 < length part
+    → PutFails error (reply b part) new.put last_put → Serves b (Err error) rest new_rest old.put last_put reads new_reads
 serves_not_last error b rest new_rest given part old new last_put reads new_reads none told ends passes further_on some fails =
     record {
       text = given;
@@ -301,17 +375,31 @@ serves_not_last error b rest new_rest given part old new last_put reads new_read
     all =
         let count = passes.lines in
         let below = further_on.numbered some in
-        due_answered given passes.done part [] (last_lines b given part old new passes further_on.free some) passes.good (record { free = further_on.free; short = further_on.short }) (omega arith)
+        due_answered given passes.done part [] (last_lines b given part old new passes further_on.free some) passes.good
+        (record { free = further_on.free; short = further_on.short }) (omega arith)
 
     puts : (error : ServeError) → PutFails error (reply b part) new.put last_put → PutBehind b (Err error) given [] old.put last_put
     puts ReadFault fails = absurd fails
     puts (LongLine k) fails = absurd fails
     puts TooManyLines fails = absurd fails
     puts WriteFault fails =
-        told_front old.put last_put (replies b passes.done) (reply b part) (λ m. Put b (Err WriteFault) given [] m) (subst (λ (put : Option (List ℕ)). Told put last_put (λ o n. PutsFront o n (reply b part))) passes.put fails)
-        (λ n within. (length (replies b passes.done) + n, front_put b passes.done part (answered (1000000 - length (passes.done ++ part ∷ [])) []) n within ∙ ap (λ (l : List (List ℕ)). take (length (replies b passes.done) + n) (replies b l)) (sym all)))
-    puts Memory fails =
-        (replies b passes.done, fails ∙ passes.put, (length passes.done, ap (replies b) (sym (ap (take (length passes.done)) all ∙ take-append_seam passes.done (part ∷ answered (1000000 - length (passes.done ++ part ∷ [])) [])))))
+        told_front old.put last_put (replies b passes.done) (reply b part) (λ m. Put b (Err WriteFault) given [] m)
+        (subst (λ (put : Option (List ℕ)). Told put last_put (λ o n. PutsFront o n (reply b part))) passes.put fails)
+        (λ n within. (
+          length (replies b passes.done) + n,
+          front_put b passes.done part
+              (answered (1000000 - length (passes.done ++ part ∷ [])) []) n within
+              ∙ ap (λ (l : List (List ℕ)). take (length (replies b passes.done) + n) (replies b l)) (sym all),
+        ))
+    puts Memory fails = (
+      replies b passes.done,
+      fails ∙ passes.put,
+      (
+        length passes.done,
+        ap (replies b) (sym (ap (take (length passes.done)) all
+            ∙ take-append_seam passes.done (part ∷ answered (1000000 - length (passes.done ++ part ∷ [])) []))),
+      ),
+    )
 
 -- Each piece brings a session further
 
@@ -319,10 +407,12 @@ serves_not_last error b rest new_rest given part old new last_put reads new_read
 pub written : (now into rest : List ℕ) (len : ℕ) → length into ≡ len → now ≡ take len (into ++ rest) → now ≡ into
 written now into rest len fits is = is ∙ take-append-le len into rest (omega arith) ∙ take_all len into (omega arith)
 
-pub comes_further : (b part piece new_part : List ℕ) (old new : Moment) → Passes b (part ++ piece) old new_part new → IsOpen old.lines part → 0 < length piece → 8193 * old.lines + length part < 8193 * new.lines + length new_part
+pub comes_further : (b part piece new_part : List ℕ) (old new : Moment) → Passes b (part ++ piece) old new_part new
+    → IsOpen old.lines part → 0 < length piece → 8193 * old.lines + length part < 8193 * new.lines + length new_part
 comes_further b part piece new_part old new passes further_on some = go passes.done passes.is passes.lines
   where
-    go : (done : List (List ℕ)) → part ++ piece ≡ joined done ++ new_part → new.lines ≡ old.lines + length done → 8193 * old.lines + length part < 8193 * new.lines + length new_part
+    go : (done : List (List ℕ)) → part ++ piece ≡ joined done ++ new_part → new.lines ≡ old.lines + length done → 8193 * old.lines
+        + length part < 8193 * new.lines + length new_part
     go [] is lines =
         let sum = length-append part piece in
         let same : length (part ++ piece) ≡ length new_part = ap length is in

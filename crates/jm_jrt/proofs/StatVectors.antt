@@ -68,7 +68,8 @@ nameless_link = refl
 
 -- Pairs: the owners that 16 bytes tell, and the place of their first bad word
 
-both_owners : stat two_owners (codes "/packages/p") ≡ Ok (Package (record { empty = false; «module» = codes "a" } ∷ record { empty = true; «module» = codes "class" } ∷ []))
+both_owners : stat two_owners (codes "/packages/p")
+    ≡ Ok (Package (record { empty = false; «module» = codes "a" } ∷ record { empty = true; «module» = codes "class" } ∷ []))
 both_owners = refl
 
 bad_first_flag : stat (with_byte 182 2 two_owners) (codes "/packages/p") ≡ Err (BadNode 0)

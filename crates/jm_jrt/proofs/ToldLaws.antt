@@ -16,7 +16,8 @@ entry_told b e there =
     let entry = entry_from b (head b) e there in
     ap (λ o. name_of (strings b (head b)) (unwrap_or o blank)) entry.row ∙ sym (ap (λ (f : Entry). f.name) entry.is)
 
-pub entry_sound : (b : List ℕ) (e : Entry) → ValidAs b (head b) → Contains (entries b (head b)) e → is_row_sound (strings b (head b)) (row_told b (offset_word b (head b) e.slot)) ≡ true
+pub entry_sound : (b : List ℕ) (e : Entry) → ValidAs b (head b) → Contains (entries b (head b)) e
+    → is_row_sound (strings b (head b)) (row_told b (offset_word b (head b) e.slot)) ≡ true
 entry_sound b e valid there =
     let entry = entry_from b (head b) e there in
     let sound = sound_row b (head b) e.slot e.row (valid.slots e.slot entry.below) entry.row in

@@ -1,5 +1,6 @@
 -- Files below `/modules/`: the look-up of an image that stands for resources answers these.
-use Rattle.std.proofs.Common.{◌≡◌, ℕ, inl, inr, Bool, true, false, cond, not, List, [], ◌∷◌, Option, Some, None, All, Contains, Ok, Err, option_map, refl, sym, ap, ◌∙◌, subst}
+use Rattle.std.proofs.Common.{◌≡◌, ℕ, inl, inr, Bool, true, false, cond, not, List, [], ◌∷◌, Option, Some}
+use Rattle.std.proofs.Common.{None, All, Contains, Ok, Err, option_map, refl, sym, ap, ◌∙◌, subst}
 use Rattle.std.specs.Prelude.{if◌then◌else◌}
 use Rattle.std.specs.Option.{ok_or}
 use Rattle.std.specs.Map.{lookup}
@@ -10,7 +11,8 @@ use Rattle.std.proofs.lemmas.Slice.Eq.{bytes_eq-Decides}
 use Rattle.jm_bytes.proofs.Choice.{same_some}
 use Rattle.std.proofs.lemmas.List.Sorted.{Contains-permutation, IsPermutation-sym}
 use Rattle.std.specs.List.{filter}
-use Rattle.jm_bytes.proofs.Members.{all_from_contains, from_filter, from_map, contains_cases, contains_here, contains_later, contains_map, contains_none}
+use Rattle.jm_bytes.proofs.Members.{all_from_contains, from_filter, from_map, contains_cases, contains_here}
+use Rattle.jm_bytes.proofs.Members.{contains_later, contains_map, contains_none}
 use Rattle.jm_names.specs.Names.{is_node}
 use Rattle.jm_form.specs.declared.rows.Row.{Row}
 use Rattle.jm_form.specs.TreeView.{File, file_of, names_of}
@@ -28,7 +30,8 @@ lookup_pair : (m : Pairs) (n v : List ℕ) → lookup (bytes_eq n) m ≡ Some v 
 lookup_pair [] n v e = cc
 lookup_pair (p ∷ m) n v e = go (bytes_eq n p.0) refl e (lookup_pair m n v)
   where
-    go : (same : Bool) → bytes_eq n p.0 ≡ same → cond same (Some p.1) (lookup (bytes_eq n) m) ≡ Some v → (lookup (bytes_eq n) m ≡ Some v → Contains m (n, v)) → Contains (p ∷ m) (n, v)
+    go : (same : Bool) → bytes_eq n p.0 ≡ same → cond same (Some p.1) (lookup (bytes_eq n) m) ≡ Some v
+        → (lookup (bytes_eq n) m ≡ Some v → Contains m (n, v)) → Contains (p ∷ m) (n, v)
     go true is e later =
         let name : p.0 ≡ n = sym ((bytes_eq-Decides n p.0).0 is) in
         let value : p.1 ≡ v = same_some p.1 v e in
@@ -41,7 +44,8 @@ lookup_nowhere : (m : Pairs) (n v : List ℕ) → lookup (bytes_eq n) m ≡ None
 lookup_nowhere [] n v e there = contains_none (n, v) there
 lookup_nowhere (p ∷ m) n v e there = go (bytes_eq n p.0) refl e (lookup_nowhere m n v)
   where
-    go : (same : Bool) → bytes_eq n p.0 ≡ same → cond same (Some p.1) (lookup (bytes_eq n) m) ≡ None → (lookup (bytes_eq n) m ≡ None → Contains m (n, v) → ⊥) → ⊥
+    go : (same : Bool) → bytes_eq n p.0 ≡ same → cond same (Some p.1) (lookup (bytes_eq n) m) ≡ None → (lookup (bytes_eq n) m ≡ None
+        → Contains m (n, v) → ⊥) → ⊥
     go true is e later = cc
     go false is e later =
         elim (contains_cases p m (n, v) there) [
@@ -55,7 +59,8 @@ file_there : (found : Option (Row × List ℕ)) (v : List ℕ) → option_map (�
 file_there None v e = cc
 file_there (Some found) v e = ap (λ (c : List ℕ). Ok (File c)) (same_some found.1 v e)
 
-file_is : (b : List ℕ) (m : Pairs) (n : List ℕ) → Stands b m → is_node n ≡ false → file (look b n) ≡ ok_or (file_of (lookup (bytes_eq n) m)) NotThere
+file_is : (b : List ℕ) (m : Pairs) (n : List ℕ) → Stands b m → is_node n ≡ false → file (look b n)
+    ≡ ok_or (file_of (lookup (bytes_eq n) m)) NotThere
 file_is b m n stands other = go (lookup (bytes_eq n) m) refl
   where
     go : (o : Option (List ℕ)) → lookup (bytes_eq n) m ≡ o → file (look b n) ≡ ok_or (file_of o) NotThere
@@ -89,9 +94,11 @@ stands_free b m (h, valid, same) = all_from_contains (λ name. is_node name ≡ 
         let names : name ≡ e.name = sym named ∙ ap (λ (q : List ℕ × List ℕ). q.0) (sym is) in
         ap is_node names ∙ fails (is_node e.name) passes
 
-pub resource_is : (b : List ℕ) (m : Pairs) (n : List ℕ) → Stands b m → (if is_node n then Err NotThere else file (look b n)) ≡ ok_or (file_of (lookup (bytes_eq n) m)) NotThere
+pub resource_is : (b : List ℕ) (m : Pairs) (n : List ℕ) → Stands b m → (if is_node n then Err NotThere else file (look b n))
+    ≡ ok_or (file_of (lookup (bytes_eq n) m)) NotThere
 resource_is b m n stands = go (is_node n) refl
   where
-    go : (node : Bool) → is_node n ≡ node → (if node then Err NotThere else file (look b n)) ≡ ok_or (file_of (lookup (bytes_eq n) m)) NotThere
+    go : (node : Bool) → is_node n ≡ node → (if node then Err NotThere else file (look b n))
+        ≡ ok_or (file_of (lookup (bytes_eq n) m)) NotThere
     go true is = ap (λ (o : Option (List ℕ)). ok_or (file_of o) NotThere) (sym (no_file m n (stands_free b m stands) is))
     go false is = file_is b m n stands is

@@ -1,6 +1,7 @@
 -- The law of the trees: an image that stands for resources and whose nodes tell their trees shows at
 -- every path what these trees have there.
-use Rattle.std.proofs.Common.{◌≡◌, ◌≢◌, ℕ, ◌^◌, ◌<◌, ◌≤◌, List, length, Option, Some, None, Result, Ok, Err, sym, ap, ◌∙◌, subst, slice_index, arith}
+use Rattle.std.proofs.Common.{◌≡◌, ◌≢◌, ℕ, ◌^◌, ◌<◌, ◌≤◌, List, length, Option, Some, None, Result, Ok, Err}
+use Rattle.std.proofs.Common.{sym, ap, ◌∙◌, subst, slice_index, arith}
 use Rattle.std.specs.Option.{ok_or}
 use Rattle.jm_bytes.proofs.WordLaws.{word-lt}
 use Rattle.jm_bytes.specs.Checks.{first_fault}
@@ -27,7 +28,11 @@ pub bytes_have : (b : List ℕ) (h : Header) → ((k : ℕ) → slice_index b k 
 bytes_have b h bytes header =
     let first = word-lt (read_order b) b 20 bytes in
     let second = word-lt (read_order b) b 24 bytes in
-    subst HasSections (header_found b h (first_fault (header_checks b)) header).1 (record { locations = omega arith; strings = omega arith })
+    subst HasSections (header_found b h (first_fault (header_checks b)) header).1 (record {
+      locations = omega arith;
+      strings =
+          omega arith;
+    })
 
 -- those of a short file
 pub short_has : (b : List ℕ) (h : Header) → length b ≤ 2 ^ 32 → header_of b ≡ Ok h → HasSections h
@@ -36,25 +41,32 @@ short_has b h short header = let fits = header_fits b h header in record { locat
 -- The law
 
 -- an image whose header has sections that words reach
-pub trees_with : (b : List ℕ) (resources : List (List ℕ × List ℕ)) → HasSections (head b) → NodesOf b (names_of resources) → Stands b resources → ShowsTrees b resources
+pub trees_with : (b : List ℕ) (resources : List (List ℕ × List ℕ)) → HasSections (head b) → NodesOf b (names_of resources)
+    → Stands b resources → ShowsTrees b resources
 trees_with b resources has (h, nodes) (g, valid, same) = record {
   stats = λ path. ap (stat_read b path) nodes.header ∙ stat_of_tree b resources nodes_here (head_valid b g valid) (g, valid, same) has path;
-  owners = λ path. ap (owner_read b path) nodes.header ∙ owner_of_tree b resources nodes_here (head_valid b g valid) (g, valid, same) has path;
+  owners = λ path. ap (owner_read b path) nodes.header ∙ owner_of_tree b resources nodes_here (head_valid b g valid)
+      (g, valid, same) has path;
 }
   where
     nodes_here : NodesAs b (head b) (names_of resources)
     nodes_here = subst (λ h. NodesAs b h (names_of resources)) (sym (head_is b h nodes.header)) nodes
 
 -- of bytes
-pub trees_shown : (b : List ℕ) (resources : List (List ℕ × List ℕ)) → ((k : ℕ) → slice_index b k < 256) → NodesOf b (names_of resources) → Stands b resources → ShowsTrees b resources
-trees_shown b resources bytes (h, nodes) stands = trees_with b resources (subst HasSections (sym (head_is b h nodes.header)) (bytes_have b h bytes nodes.header)) (h, nodes) stands
+pub trees_shown : (b : List ℕ) (resources : List (List ℕ × List ℕ)) → ((k : ℕ) → slice_index b k < 256)
+    → NodesOf b (names_of resources) → Stands b resources → ShowsTrees b resources
+trees_shown b resources bytes (h, nodes) stands = trees_with b resources (subst HasSections (sym (head_is b h nodes.header))
+    (bytes_have b h bytes nodes.header)) (h, nodes) stands
 
 -- of a file that isn't too long
-pub trees_shown_short : (b : List ℕ) (resources : List (List ℕ × List ℕ)) → length b ≤ 2 ^ 32 → NodesOf b (names_of resources) → Stands b resources → ShowsTrees b resources
-trees_shown_short b resources short (h, nodes) stands = trees_with b resources (subst HasSections (sym (head_is b h nodes.header)) (short_has b h short nodes.header)) (h, nodes) stands
+pub trees_shown_short : (b : List ℕ) (resources : List (List ℕ × List ℕ)) → length b ≤ 2 ^ 32 → NodesOf b (names_of resources)
+    → Stands b resources → ShowsTrees b resources
+trees_shown_short b resources short (h, nodes) stands = trees_with b resources (subst HasSections (sym (head_is b h nodes.header))
+    (short_has b h short nodes.header)) (h, nodes) stands
 
 -- where the trees are shown no node is bad
-pub no_bad_node : (b : List ℕ) (resources : List (List ℕ × List ℕ)) → ShowsTrees b resources → (path : List ℕ) (at : ℕ) → stat b path ≢ Err (BadNode at)
+pub no_bad_node : (b : List ℕ) (resources : List (List ℕ × List ℕ)) → ShowsTrees b resources → (path : List ℕ) (at : ℕ)
+    → stat b path ≢ Err (BadNode at)
 no_bad_node b resources shows path at bad = go (tree resources path) (sym (shows.stats path) ∙ bad)
   where
     go : (o : Option TreeItem) → ◌≡◌ {A = Result TreeItem JrtError} (ok_or o NotThere) (Err (BadNode at)) → ⊥

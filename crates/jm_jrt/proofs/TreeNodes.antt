@@ -38,7 +38,8 @@ from_listed names path listed =
 pub to_listed : (names : List (List ℕ)) (path : List ℕ) → Contains names path → list_any (bytes_eq path) names ≡ true
 to_listed names path there = any_contains (bytes_eq path) names path there ((bytes_eq-Decides path path).1 refl)
 
-pub node_there : (b : List ℕ) (h : Header) (names : List (List ℕ)) (path : List ℕ) → NodesAs b h names → Contains (node_names names) path → NodeThere b h names path
+pub node_there : (b : List ℕ) (h : Header) (names : List (List ℕ)) (path : List ℕ) → NodesAs b h names
+    → Contains (node_names names) path → NodeThere b h names path
 node_there b h names path nodes there =
     let all : List (List ℕ) = map (λ e. e.name) (nodes_among (entries b h)) in
     let back = Contains-permutation (node_names names) all path (IsPermutation-sym all (node_names names) nodes.all) there in
@@ -53,13 +54,15 @@ node_there b h names path nodes there =
     }
 
 -- an entry with the name of a node is one of the nodes
-entry_listed : (b : List ℕ) (h : Header) (names : List (List ℕ)) (e : Entry) → NodesAs b h names → Contains (entries b h) e → is_node e.name ≡ true → Contains (node_names names) e.name
+entry_listed : (b : List ℕ) (h : Header) (names : List (List ℕ)) (e : Entry) → NodesAs b h names → Contains (entries b h) e
+    → is_node e.name ≡ true → Contains (node_names names) e.name
 entry_listed b h names e nodes there node =
     let among = contains_filter (λ e. is_node e.name) (entries b h) e there node in
     let named = contains_map (λ e. e.name) (nodes_among (entries b h)) e among in
     Contains-permutation (map (λ e. e.name) (nodes_among (entries b h))) (node_names names) e.name nodes.all named
 
-pub node_cases : (b : List ℕ) (h : Header) (names : List (List ℕ)) (path : List ℕ) → NodesAs b h names → is_node path ≡ true → NodeThere b h names path ⊎ NodeMissing b names path
+pub node_cases : (b : List ℕ) (h : Header) (names : List (List ℕ)) (path : List ℕ) → NodesAs b h names → is_node path ≡ true
+    → NodeThere b h names path ⊎ NodeMissing b names path
 node_cases b h names path nodes node =
     elim (cases_Bool (list_any (bytes_eq path) (node_names names))) [
       | inl listed ↦ inl (node_there b h names path nodes (from_listed (node_names names) path listed))

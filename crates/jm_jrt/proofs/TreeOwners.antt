@@ -18,7 +18,9 @@ use Rattle.jm_jrt.specs.Stat.{full_among, is_package, owner_with, owners_of}
 use Rattle.jm_jrt.specs.TreesShown.{full_owner}
 use Rattle.jm_jrt.proofs.TreeCases.{no_link_node, pairs_told, tree_file, tree_link, tree_node, tree_none, tree_root}
 use Rattle.jm_jrt.proofs.TreeContents.{HasSections}
-use Rattle.jm_jrt.proofs.TreeNames.{begun, HoldsNames, NodeLook, Inner, OfPackage, Root, inner_holds, is_inner, no_package_above, node_looks, package_holds, package_is_node, root_holds}
+use Rattle.jm_jrt.proofs.TreeNames.{begun, HoldsNames, NodeLook, Inner, OfPackage, Root, inner_holds}
+use Rattle.jm_jrt.proofs.TreeNames.{is_inner, no_package_above, node_looks, package_holds, package_is_node}
+use Rattle.jm_jrt.proofs.TreeNames.{root_holds}
 use Rattle.jm_jrt.proofs.TreeNodes.{from_listed, node_cases}
 
 abbrev Pairs : Type 0
@@ -51,7 +53,8 @@ no_owner m path no_package =
       | inr other ↦
           elim (cases_Bool (list_any (bytes_eq path) (node_names (names_of m)))) [
             | inl listed ↦
-                let named = names_held (names_of m) path no_package (node_looks (names_of m) path (from_listed (node_names (names_of m)) path listed)) in
+                let named = names_held (names_of m) path no_package (node_looks (names_of m) path
+                (from_listed (node_names (names_of m)) path listed)) in
                 ap full_owner (tree_node m path other listed) ∙ holds_no_owner (holds_of (names_of m) path) named.list named.holds
             | inr none ↦
                 elim (cases_Bool (is_inner path)) [
@@ -78,19 +81,22 @@ package_alone path is =
     looks : (rest : List ℕ) → LooksPackage (codes "/packages/" ++ rest)
     looks rest = record { no_slash = refl; no_inner = refl }
 
-pub owner_of_tree : (b : List ℕ) (m : Pairs) → NodesAs b (head b) (names_of m) → ValidAs b (head b) → Stands b m → HasSections (head b) → (path : List ℕ) → owner_with b path ≡ full_owner (tree m path)
+pub owner_of_tree : (b : List ℕ) (m : Pairs) → NodesAs b (head b) (names_of m) → ValidAs b (head b) → Stands b m
+    → HasSections (head b) → (path : List ℕ) → owner_with b path ≡ full_owner (tree m path)
 owner_of_tree b m nodes valid stands has path =
     elim (cases_Bool (is_package path)) [
       | inl is ↦
           let alone = package_alone path is in
           elim (node_cases b (head b) (names_of m) path nodes (package_is_node path is)) [
             | inl there ↦
-                with_package b path is ∙ ap (λ o. full_among (owners_of b o)) there.found ∙ ap full_among (pairs_told b m nodes valid stands has path there is)
+                with_package b path is ∙ ap (λ o. full_among (owners_of b o)) there.found
+                ∙ ap full_among (pairs_told b m nodes valid stands has path there is)
                 ∙ sym (ap (λ (x : Holds). full_owner (Some (item_of x))) (package_holds (names_of m) path is))
                 ∙ sym (ap full_owner (tree_node m path alone.no_slash there.listed))
             | inr missing ↦
                 with_package b path is ∙ ap (λ o. full_among (owners_of b o)) missing.none
-                ∙ sym (ap full_owner (tree_none m path alone.no_slash missing.unlisted alone.no_inner (no_link_node (names_of m) path (no_package_above path is))))
+                ∙ sym (ap full_owner (tree_none m path alone.no_slash missing.unlisted alone.no_inner (no_link_node (names_of m)
+                path (no_package_above path is))))
           ]
       | inr no_package ↦ without_package b path no_package ∙ sym (no_owner m path no_package)
     ]

@@ -15,7 +15,8 @@ given = (codes "/a/p/A", codes "hi") ∷ []
 abbrev paths : List (List ℕ)
 paths =
     codes "/" ∷ codes "/modules" ∷ codes "/packages" ∷ codes "/modules/a" ∷ codes "/modules/a/p" ∷ codes "/modules/a/p/A"
-    ∷ codes "/packages/p" ∷ codes "/packages/p/a" ∷ codes "/packages/p/a/x" ∷ codes "/packages/q" ∷ codes "/modules/modules/a" ∷ codes "/a/p/A" ∷ []
+    ∷ codes "/packages/p" ∷ codes "/packages/p/a" ∷ codes "/packages/p/a/x" ∷ codes "/packages/q" ∷ codes "/modules/modules/a"
+    ∷ codes "/a/p/A" ∷ []
 
 one_trees : map (tree given) paths
     ≡ Some (Folder (codes "/modules" ∷ codes "/packages" ∷ []))

@@ -13,7 +13,8 @@ within_later None old new later = later
 within_later (Some n) old new cost = record { bytes = cost.bytes; count = cost.count.least }
 
 pub later_then : (old now new : Metered) → IsLater old now → IsLater now new → IsLater old new
-later_then old now new first second = let one = first.count in let two = second.count in record { bytes = second.bytes ∙ first.bytes; count = omega arith }
+later_then old now new first second =
+    let one = first.count in let two = second.count in record { bytes = second.bytes ∙ first.bytes; count = omega arith }
 
 pub within_then : (m n : Option ℕ) (old now new : Metered) → IsWithin m old now → IsWithin n now new → IsWithin (both_bounds m n) old new
 within_then None n old now new first second = later_then old now new first (within_later n now new second)
@@ -38,15 +39,19 @@ both_assoc (Some k) None n = refl
 both_assoc (Some k) (Some m) None = refl
 both_assoc (Some k) (Some m) (Some n) = ap (λ (j : ℕ). Some j) (omega arith)
 
-pub bytes_append : (b : List ℕ) (front lines : List (List ℕ)) → lines_bytes b (front ++ lines) ≡ both_bounds (lines_bytes b front) (lines_bytes b lines)
+pub bytes_append : (b : List ℕ) (front lines : List (List ℕ)) → lines_bytes b (front ++ lines) ≡ both_bounds (lines_bytes b front)
+    (lines_bytes b lines)
 bytes_append b [] lines = sym (both_zero (lines_bytes b lines))
 bytes_append b (first ∷ front) lines =
     ap (both_bounds (line_bytes b first)) (bytes_append b front lines)
     ∙ both_assoc (line_bytes b first) (lines_bytes b front) (lines_bytes b lines)
 
-pub within_append : (b : List ℕ) (front lines : List (List ℕ)) (old now new : Metered) → IsWithin (lines_bytes b front) old now → IsWithin (lines_bytes b lines) now new → IsWithin (lines_bytes b (front ++ lines)) old new
+pub within_append : (b : List ℕ) (front lines : List (List ℕ)) (old now new : Metered) → IsWithin (lines_bytes b front) old now
+    → IsWithin (lines_bytes b lines) now new → IsWithin (lines_bytes b (front ++ lines)) old new
 within_append b front lines old now new first second =
-    subst (λ (bound : Option ℕ). IsWithin bound old new) (sym (bytes_append b front lines)) (within_then (lines_bytes b front) (lines_bytes b lines) old now new first second)
+    subst (λ (bound : Option ℕ). IsWithin bound old new) (sym (bytes_append b front lines)) (within_then (lines_bytes b front)
+    (lines_bytes b lines) old now new first second)
 
-pub within_one : (b first : List ℕ) (old new : Metered) → IsWithin (line_bytes b first) old new → IsWithin (lines_bytes b (first ∷ [])) old new
+pub within_one : (b first : List ℕ) (old new : Metered) → IsWithin (line_bytes b first) old new
+    → IsWithin (lines_bytes b (first ∷ [])) old new
 within_one b first old new within = subst (λ (bound : Option ℕ). IsWithin bound old new) (sym (zero_both (line_bytes b first))) within

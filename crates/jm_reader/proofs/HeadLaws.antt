@@ -20,7 +20,8 @@ pub head_valid : (b : List ℕ) (h : Header) → ValidAs b h → ValidAs b (head
 head_valid b h valid = subst (ValidAs b) (sym (head_is b h valid.header)) valid
 
 -- the row that was read of a slot, by the header that was read, is the slot's
-pub row_there : (b : List ℕ) (h : Header) (buf : List ℕ) (slot : ℕ) (row : Option Row) (read : SlotRow) → header_of b ≡ Ok h → buf ≡ b → row ≡ spelled_row read → read ≡ row_of_slot buf h slot → row_at b (head b) slot ≡ row
+pub row_there : (b : List ℕ) (h : Header) (buf : List ℕ) (slot : ℕ) (row : Option Row) (read : SlotRow) → header_of b ≡ Ok h → buf
+    ≡ b → row ≡ spelled_row read → read ≡ row_of_slot buf h slot → row_at b (head b) slot ≡ row
 row_there b h buf slot row read header same is from =
     sym (is ∙ ap spelled_row from ∙ ap (λ x. spelled_row (row_of_slot x h slot)) same
     ∙ ap (λ g. spelled_row (row_of_slot b g slot)) (sym (head_is b h header)))
@@ -31,7 +32,8 @@ pub record TextThere (b : List ℕ) (place at : ℕ) : Type 0 where
   pub ends : EndsWithin b at
   pub text : text_at b at ≡ text_at (strings b (head b)) place
 
-pub text_there : (b : List ℕ) (h : Header) (place at : ℕ) → header_of b ≡ Ok h → text_ends (strings b (head b)) place ≡ true → at ≡ strings_place h + place → TextThere b place at
+pub text_there : (b : List ℕ) (h : Header) (place at : ℕ) → header_of b ≡ Ok h → text_ends (strings b (head b)) place ≡ true → at
+    ≡ strings_place h + place → TextThere b place at
 text_there b h place at read ends is =
     let back = sym (head_is b h read) in
     let placed = text_placed b h place (header_fits b h read) (ap (λ g. text_ends (strings b g) place) back ∙ ends) in
@@ -43,5 +45,6 @@ text_there b h place at read ends is =
     }
 
 -- the part of the image that a row says is its content
-pub content_there : (b : List ℕ) (h : Header) (row : Row) → header_of b ≡ Ok h → slice_range b (index_length h + row.offset) (index_length h + row.offset + row.size) ≡ content_of (contents b (head b)) row
+pub content_there : (b : List ℕ) (h : Header) (row : Row) → header_of b ≡ Ok h → slice_range b (index_length h + row.offset)
+    (index_length h + row.offset + row.size) ≡ content_of (contents b (head b)) row
 content_there b h row read = sym (content_placed b h row) ∙ ap (λ g. content_of (contents b g) row) (sym (head_is b h read))

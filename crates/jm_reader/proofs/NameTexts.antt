@@ -47,7 +47,8 @@ abbrev pub TextEnds : List ℕ → MarkedText → Type 0
 TextEnds bytes text = EndsWithin bytes text.place
 
 -- the four texts end within the image where each does
-pub four_end : (bytes : List ℕ) (m p b e : ℕ) → EndsWithin bytes m → EndsWithin bytes p → EndsWithin bytes b → EndsWithin bytes e → All (TextEnds bytes) (four m p b e)
+pub four_end : (bytes : List ℕ) (m p b e : ℕ) → EndsWithin bytes m → EndsWithin bytes p → EndsWithin bytes b → EndsWithin bytes e
+    → All (TextEnds bytes) (four m p b e)
 four_end bytes m p b e first second third last =
     All-cons (TextEnds bytes) (module_text m) (parent_text p ∷ base_text b ∷ ext_text e ∷ []) first
     (All-cons (TextEnds bytes) (parent_text p) (base_text b ∷ ext_text e ∷ []) second
@@ -55,7 +56,16 @@ four_end bytes m p b e first second third last =
     (All-cons (TextEnds bytes) (ext_text e) [] last (All-nil (TextEnds bytes)))))
 
 -- and spell the row's name where they are the row's
-pub four_spell : (bytes section : List ℕ) (row : Row) (m p b e : ℕ) → text_at bytes m ≡ text_at section row.module → text_at bytes p ≡ text_at section row.parent → text_at bytes b ≡ text_at section row.base → text_at bytes e ≡ text_at section row.ext → spelling bytes (four m p b e) ≡ name_of section row
+pub four_spell : (bytes section : List ℕ) (row : Row) (m p b e : ℕ) → text_at bytes m ≡ text_at section row.module → text_at bytes p
+    ≡ text_at section row.parent → text_at bytes b ≡ text_at section row.base → text_at bytes e ≡ text_at section row.ext
+    → spelling bytes (four m p b e) ≡ name_of section row
 four_spell bytes section row m p b e text_m text_p text_b text_e =
     rw (text_m, text_p, text_b, text_e)
-    (rw (module_marked (text_at section row.module), parent_marked (text_at section row.parent), base_marked (text_at section row.base), ext_marked (text_at section row.ext), append-nil (ext_end (text_at section row.ext))) refl)
+    (rw (
+      module_marked (text_at section row.module),
+      parent_marked (text_at section row.parent),
+      base_marked
+          (text_at section row.base),
+      ext_marked (text_at section row.ext),
+      append-nil (ext_end (text_at section row.ext)),
+    ) refl)

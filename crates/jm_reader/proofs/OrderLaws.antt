@@ -15,7 +15,8 @@ then_assoc Equal p q = refl
 then_assoc Greater p q = refl
 
 -- fronts of the same length decide, and then what stands behind them
-pub fronts_first : (front other xs ys : List ℕ) → length front ≡ length other → slice_cmp nat_cmp (front ++ xs) (other ++ ys) ≡ ordering_then (slice_cmp nat_cmp front other) (slice_cmp nat_cmp xs ys)
+pub fronts_first : (front other xs ys : List ℕ) → length front ≡ length other → slice_cmp nat_cmp (front ++ xs) (other ++ ys)
+    ≡ ordering_then (slice_cmp nat_cmp front other) (slice_cmp nat_cmp xs ys)
 fronts_first [] [] xs ys same = refl
 fronts_first [] (c ∷ other) xs ys same = absurd (omega arith)
 fronts_first (b ∷ front) [] xs ys same = absurd (omega arith)
@@ -29,14 +30,19 @@ same_front front xs ys =
     fronts_first front front xs ys refl ∙ ap (λ (o : Ordering). ordering_then o (slice_cmp nat_cmp xs ys)) (cmp_self front)
 
 -- where one of two texts has ended, its part alone decides
-pub one_ended : (part bytes other_part other_bytes : List ℕ) → min (length part) (length other_part) ≡ 0 → (part ≡ [] → bytes ≡ []) → (other_part ≡ [] → other_bytes ≡ []) → slice_cmp nat_cmp part other_part ≡ slice_cmp nat_cmp (part ++ bytes) (other_part ++ other_bytes)
+pub one_ended : (part bytes other_part other_bytes : List ℕ) → min (length part) (length other_part) ≡ 0 → (part ≡ [] → bytes ≡ [])
+    → (other_part ≡ [] → other_bytes ≡ []) → slice_cmp nat_cmp part other_part ≡ slice_cmp nat_cmp (part ++ bytes) (other_part
+    ++ other_bytes)
 one_ended [] bytes [] other_bytes ended end other_end = rw (end refl, other_end refl) refl
 one_ended [] bytes (c ∷ other_part) other_bytes ended end other_end = rw (end refl) refl
 one_ended (b ∷ part) bytes [] other_bytes ended end other_end = rw (other_end refl) refl
 one_ended (b ∷ part) bytes (c ∷ other_part) other_bytes ended end other_end = absurd (omega (arith, ended))
 
 -- the same number of bytes in front of both parts decides, and then what stands behind them
-pub cut_first : (n : ℕ) (part bytes other_part other_bytes : List ℕ) → n ≡ min (length part) (length other_part) → slice_cmp nat_cmp (part ++ bytes) (other_part ++ other_bytes) ≡ ordering_then (slice_cmp nat_cmp (take n part) (take n other_part)) (slice_cmp nat_cmp (drop n part ++ bytes) (drop n other_part ++ other_bytes))
+pub cut_first : (n : ℕ) (part bytes other_part other_bytes : List ℕ) → n ≡ min (length part) (length other_part)
+    → slice_cmp nat_cmp (part ++ bytes) (other_part ++ other_bytes)
+    ≡ ordering_then (slice_cmp nat_cmp (take n part) (take n other_part)) (slice_cmp nat_cmp (drop n part ++ bytes)
+    (drop n other_part ++ other_bytes))
 cut_first n part bytes other_part other_bytes is =
     let size = length-take-le n part (omega (arith, is)) in
     let other_size = length-take-le n other_part (omega (arith, is)) in
@@ -54,8 +60,10 @@ decided Equal p some = absurd (some refl)
 decided Greater p some = refl
 
 -- names of one folder stand as their bases and extensions do
-pub same_folder : (one other : Cut) → one.module ≡ other.module → one.parent ≡ other.parent → slice_cmp nat_cmp (join (without_folder one)) (join (without_folder other)) ≡ slice_cmp nat_cmp (join one) (join other)
+pub same_folder : (one other : Cut) → one.module ≡ other.module → one.parent ≡ other.parent
+    → slice_cmp nat_cmp (join (without_folder one)) (join (without_folder other)) ≡ slice_cmp nat_cmp (join one) (join other)
 same_folder one other same_module same_parent =
     rw (same_module, same_parent)
-    (sym (same_front (module_front other.module) (parent_front other.parent ++ (one.base ++ ext_end one.ext)) (parent_front other.parent ++ (other.base ++ ext_end other.ext))
+    (sym (same_front (module_front other.module) (parent_front other.parent ++ (one.base ++ ext_end one.ext))
+    (parent_front other.parent ++ (other.base ++ ext_end other.ext))
     ∙ same_front (parent_front other.parent) (one.base ++ ext_end one.ext) (other.base ++ ext_end other.ext)))

@@ -21,13 +21,18 @@ ext_marks : (piece : List ℕ) → ext_end piece ≡ mark_of piece (46 ∷ []) +
 ext_marks [] = refl
 ext_marks (b ∷ piece) = refl
 
-pub joined_marks : (m p b e : List ℕ) → joined m p b e ≡ mark_of m (47 ∷ []) ++ (m ++ (mark_of m (47 ∷ []) ++ (p ++ (mark_of p (47 ∷ []) ++ (b ++ (mark_of e (46 ∷ []) ++ e))))))
+pub joined_marks : (m p b e : List ℕ) → joined m p b e ≡ mark_of m (47 ∷ [])
+    ++ (m ++ (mark_of m (47 ∷ []) ++ (p ++ (mark_of p (47 ∷ []) ++ (b ++ (mark_of e (46 ∷ []) ++ e))))))
 joined_marks m p b e =
     ap (λ l. module_front m ++ (parent_front p ++ (b ++ l))) (ext_marks e)
     ∙ ap (λ l. module_front m ++ l) (parent_marks p (b ++ (mark_of e (46 ∷ []) ++ e)))
     ∙ module_marks m (p ++ (mark_of p (47 ∷ []) ++ (b ++ (mark_of e (46 ∷ []) ++ e))))
 
 -- bytes that are the front and more, or no front and more, begin with it, or don't
-pub begins : (bytes front rest : List ℕ) (answer : Bool) → (answer ≡ true → bytes ≡ front ++ rest) → (answer ≡ false → (more : List ℕ) → bytes ≢ front ++ more) → answer ≡ starts_with nat_eq bytes front
-begins bytes front rest true whole none = let is = starts_is Decides-eqb bytes front (starts_with nat_eq bytes front) refl in sym (is.1 rest (whole refl))
-begins bytes front rest false whole none = let is = starts_is Decides-eqb bytes front (starts_with nat_eq bytes front) refl in sym (false_from_ne_true (starts_with nat_eq bytes front) (λ there. none refl (drop (length front) bytes) (is.0 there)))
+pub begins : (bytes front rest : List ℕ) (answer : Bool) → (answer ≡ true → bytes ≡ front ++ rest)
+    → (answer ≡ false → (more : List ℕ) → bytes ≢ front ++ more) → answer ≡ starts_with nat_eq bytes front
+begins bytes front rest true whole none =
+    let is = starts_is Decides-eqb bytes front (starts_with nat_eq bytes front) refl in sym (is.1 rest (whole refl))
+begins bytes front rest false whole none =
+    let is = starts_is Decides-eqb bytes front (starts_with nat_eq bytes front) refl in
+    sym (false_from_ne_true (starts_with nat_eq bytes front) (λ there. none refl (drop (length front) bytes) (is.0 there)))

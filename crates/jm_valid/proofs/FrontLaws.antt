@@ -20,20 +20,23 @@ sections_damage f size s are =
     ap (λ l. first_fault (image_checks_with l s.header s.size)) are.bytes ∙ ap (λ n. first_fault (image_checks_with f s.header n)) are.size
     ∙ sym (ap (front_damage_with f size) are.header)
 
-pub sections_index : (f : List ℕ) (size : ℕ) (s : Sections) (h : Header) → HoldsIndex f size → AreSectionsOf f size s → h ≡ s.header → body_damage_in s ≡ None → IsIndexOf f size h
+pub sections_index : (f : List ℕ) (size : ℕ) (s : Sections) (h : Header) → HoldsIndex f size → AreSectionsOf f size s → h ≡ s.header
+    → body_damage_in s ≡ None → IsIndexOf f size h
 sections_index f size s h holds are same none = record {
   holds = holds;
   header = are.header ∙ ap Ok (sym same);
   sound = sym (sections_damage f size s are) ∙ none;
 }
 
-pub sections_report : (f : List ℕ) (size : ℕ) (s : Sections) (e : OpenError) → AreSectionsOf f size s → Reports (body_damage_in s) e → Reports (front_damage f size) e
+pub sections_report : (f : List ℕ) (size : ℕ) (s : Sections) (e : OpenError) → AreSectionsOf f size s → Reports (body_damage_in s) e
+    → Reports (front_damage f size) e
 sections_report f size s e are = subst (λ d. Reports d e) (sections_damage f size s are)
 
 -- Files
 
 -- a damage that was found in the front is the first one of the file
-pub reported : (f : List ℕ) (size : ℕ) (b : List ℕ) (e : OpenError) → IsFileOf f size b → HoldsIndex f size → Reports (front_damage f size) e → IsDamageOf b e
+pub reported : (f : List ℕ) (size : ℕ) (b : List ℕ) (e : OpenError) → IsFileOf f size b → HoldsIndex f size
+    → Reports (front_damage f size) e → IsDamageOf b e
 reported f size b (Damaged damage) file holds says = sym (damage_same f size b file holds) ∙ says
 reported f size b Memory file holds says = tt
 

@@ -1,5 +1,6 @@
 -- The texts of a row's name in the strings' front, and the states after them.
-use Rattle.std.proofs.Common.{◌≡◌, ℕ, suc, ◌+◌, ◌<◌, ◌==◌, ◌&&◌, not, Bool, true, false, cond, List, [], ◌∷◌, ◌++◌, length, take, drop, get_or, refl, sym, ap, ◌∙◌, arith}
+use Rattle.std.proofs.Common.{◌≡◌, ℕ, suc, ◌+◌, ◌<◌, ◌==◌, ◌&&◌, not, Bool, true, false, cond, List, [], ◌∷◌}
+use Rattle.std.proofs.Common.{◌++◌, length, take, drop, get_or, refl, sym, ap, ◌∙◌, arith}
 use Rattle.std.proofs.Math.Seq.{drop-cons}
 use Rattle.std.proofs.lemmas.Bool.{ltb-true}
 use Rattle.std.proofs.lemmas.List.{length-take-le}
@@ -38,7 +39,8 @@ empty_first x xs = go (x == 0)
 -- a text is empty where a zero byte stands at its place
 pub empty_at : (texts : List ℕ) (place : ℕ) → place < length texts → (get_or texts place 0 == 0) ≡ is_empty (text_at texts place)
 empty_at texts place below =
-    sym (ap (λ (l : List ℕ). is_empty (before_first (λ x. x == 0) l)) (drop-cons texts place 0 below) ∙ empty_first (get_or texts place 0) (drop (suc place) texts))
+    sym (ap (λ (l : List ℕ). is_empty (before_first (λ x. x == 0) l)) (drop-cons texts place 0 below)
+    ∙ empty_first (get_or texts place 0) (drop (suc place) texts))
 
 -- The marks of the pieces that aren't empty
 
@@ -46,7 +48,8 @@ pub module_none : (t : List ℕ) (s : ℕ) → is_empty t ≡ true → s ≡ sta
 module_none [] s none = refl
 module_none (x ∷ t) s none = cc
 
-pub module_some : (t : List ℕ) (s : ℕ) → is_empty t ≡ false → state_after (state_after (state_after s (47 ∷ [])) t) (47 ∷ []) ≡ state_after s (module_front t)
+pub module_some : (t : List ℕ) (s : ℕ) → is_empty t ≡ false → state_after (state_after (state_after s (47 ∷ [])) t) (47 ∷ [])
+    ≡ state_after s (module_front t)
 module_some [] s some = cc
 module_some (x ∷ t) s some = sym (state_after-append (state_after s (47 ∷ [])) (x ∷ t) (47 ∷ []))
 
@@ -66,13 +69,16 @@ pub ext_some : (t : List ℕ) (s : ℕ) → is_empty t ≡ false → state_after
 ext_some [] s some = cc
 ext_some (x ∷ t) s some = refl
 
-pub joined_state : (cut : Cut) (s : ℕ) → state_after (state_after (state_after (state_after s (module_front cut.module)) (parent_front cut.parent)) cut.base) (ext_end cut.ext) ≡ state_after s (join cut)
+pub joined_state : (cut : Cut) (s : ℕ)
+    → state_after (state_after (state_after (state_after s (module_front cut.module)) (parent_front cut.parent)) cut.base)
+    (ext_end cut.ext) ≡ state_after s (join cut)
 joined_state cut s =
     let m = module_front cut.module in
     let p = parent_front cut.parent in
     let e = ext_end cut.ext in
     sym (
-    state_after-append s m (p ++ (cut.base ++ e)) ∙ state_after-append (state_after s m) p (cut.base ++ e) ∙ state_after-append (state_after (state_after s m) p) cut.base e
+    state_after-append s m (p ++ (cut.base ++ e)) ∙ state_after-append (state_after s m) p (cut.base ++ e)
+    ∙ state_after-append (state_after (state_after s m) p) cut.base e
     )
 
 -- each of the four texts ends where all do

@@ -1,5 +1,7 @@
 -- The parts of a table, and the entries of one part behind those of others.
-use Rattle.std.proofs.Common.{◌≡◌, ℕ, zero, suc, ◌+◌, ◌-◌, ◌<◌, ◌^◌, min, List, [], ◌∷◌, ◌++◌, length, take, get_or, flat_map, Result, Ok, Err, IfOk, IsOkAnd, refl, sym, ap, subst, ◌∙◌, arith, length-append, append-nil}
+use Rattle.std.proofs.Common.{◌≡◌, ℕ, zero, suc, ◌+◌, ◌-◌, ◌<◌, ◌^◌, min, List, [], ◌∷◌, ◌++◌, length, take}
+use Rattle.std.proofs.Common.{get_or, flat_map, Result, Ok, Err, IfOk, IsOkAnd, refl, sym, ap, subst, ◌∙◌}
+use Rattle.std.proofs.Common.{arith, length-append, append-nil}
 use Rattle.std.proofs.lemmas.Grind.{flat_map-append}
 use Rattle.std.proofs.lemmas.List.{map-append, take_all, take_more}
 use Rattle.std.proofs.lemmas.List.Elements.{filter-append}
@@ -23,7 +25,9 @@ flat_map-push : (f : ℕ → List ℕ) (xs : List ℕ) (x : ℕ) → flat_map f 
 flat_map-push f xs x = flat_map-append f xs (x ∷ []) ∙ ap (λ ys. flat_map f xs ++ ys) (append-nil (f x))
 
 -- one part more, up to the next one's first slot or the end
-pub parts_more : (all : ℕ) (firsts : List ℕ) (first next : ℕ) → first < all → min next all ≡ min (first + 4096) all → flat_map (part_slots all) firsts ≡ range_with_len 0 (min first all) → flat_map (part_slots all) (firsts ++ first ∷ []) ≡ range_with_len 0 (min next all)
+pub parts_more : (all : ℕ) (firsts : List ℕ) (first next : ℕ) → first < all → min next all ≡ min (first + 4096) all
+    → flat_map (part_slots all) firsts ≡ range_with_len 0 (min first all) → flat_map (part_slots all) (firsts ++ first ∷ [])
+    ≡ range_with_len 0 (min next all)
 parts_more all firsts first next below end before =
     let here : min first all ≡ first = omega arith in
     let more = min (first + 4096) all - first in
@@ -35,7 +39,8 @@ parts_more all firsts first next below end before =
 
 -- Answers beside the items
 
-pub zip_at : {A B : Type 0} (R : A → B → Type 0) (xs : List A) (ys : List B) (i : ℕ) (d : A) (e : B) → AllZip R xs ys → i < length ys → (i < length xs) × R (get_or xs i d) (get_or ys i e)
+pub zip_at : {A B : Type 0} (R : A → B → Type 0) (xs : List A) (ys : List B) (i : ℕ) (d : A) (e : B) → AllZip R xs ys
+    → i < length ys → (i < length xs) × R (get_or xs i d) (get_or ys i e)
 zip_at R [] [] i d e zipped inside = absurd (omega arith)
 zip_at R [] (y ∷ ys) i d e zipped inside = absurd zipped
 zip_at R (x ∷ xs) [] i d e zipped inside = absurd zipped
@@ -55,34 +60,48 @@ zip_length R (x ∷ xs) (y ∷ ys) zipped = ap (λ (n : ℕ). suc n) (zip_length
 abbrev pub IsPart : Sections → ℕ → Result Contents NoMemory → Type 0
 IsPart s first part = IfOk part (ContentsAt s (part_slots s.header.length first))
 
-ranges_append : (es fs : List Entry) → ranges_with_bytes (ranges_of (es ++ fs)) ≡ ranges_with_bytes (ranges_of es) ++ ranges_with_bytes (ranges_of fs)
-ranges_append es fs = ap ranges_with_bytes (map-append range_of es fs) ∙ filter-append (λ (r : Range). nat_lt r.start r.end) (ranges_of es) (ranges_of fs)
+ranges_append : (es fs : List Entry) → ranges_with_bytes (ranges_of (es ++ fs)) ≡ ranges_with_bytes (ranges_of es)
+    ++ ranges_with_bytes (ranges_of fs)
+ranges_append es fs = ap ranges_with_bytes (map-append range_of es fs) ∙ filter-append (λ (r : Range). nat_lt r.start r.end)
+    (ranges_of es) (ranges_of fs)
 
-joined : (s : Sections) (is js : List ℕ) (old new part : Contents) → ContentsAt s is old → ContentsAt s js part → Joins old new part → ContentsAt s (is ++ js) new
+joined : (s : Sections) (is js : List ℕ) (old new part : Contents) → ContentsAt s is old → ContentsAt s js part → Joins old new part
+    → ContentsAt s (is ++ js) new
 joined s is js old new part front back joins =
     let whole = entries_append s is js in
     let sum = length-append (entries_at s is) (entries_at s js) in
     record {
-      count = joins.count ∙ ap (λ (n : ℕ). n + part.count) front.count ∙ ap (λ (n : ℕ). length (entries_at s is) + n) back.count ∙ sym sum ∙ sym (ap length whole);
+      count = joins.count ∙ ap (λ (n : ℕ). n + part.count) front.count ∙ ap (λ (n : ℕ). length (entries_at s is) + n) back.count
+          ∙ sym sum ∙ sym (ap length whole);
       ranges =
-          joins.ranges ∙ ap (λ rs. rs ++ part.ranges.items) front.ranges ∙ ap (λ rs. ranges_with_bytes (ranges_of (entries_at s is)) ++ rs) back.ranges
+          joins.ranges ∙ ap (λ rs. rs ++ part.ranges.items) front.ranges ∙ ap (λ rs. ranges_with_bytes (ranges_of (entries_at s is))
+          ++ rs) back.ranges
           ∙ sym (ranges_append (entries_at s is) (entries_at s js)) ∙ sym (ap (λ es. ranges_with_bytes (ranges_of es)) whole);
     }
 
 -- the slots of the first parts, with one part more
-slots_more : (s : Sections) (firsts : List ℕ) (i : ℕ) → i < length firsts → flat_map (part_slots s.header.length) (take (i + 1) firsts) ≡ flat_map (part_slots s.header.length) (take i firsts) ++ part_slots s.header.length (get_or firsts i 0)
-slots_more s firsts i inside = ap (flat_map (part_slots s.header.length)) (take_more firsts i 0 inside) ∙ flat_map-push (part_slots s.header.length) (take i firsts) (get_or firsts i 0)
+slots_more : (s : Sections) (firsts : List ℕ) (i : ℕ) → i < length firsts → flat_map (part_slots s.header.length)
+    (take (i + 1) firsts) ≡ flat_map (part_slots s.header.length) (take i firsts) ++ part_slots s.header.length (get_or firsts i 0)
+slots_more s firsts i inside = ap (flat_map (part_slots s.header.length)) (take_more firsts i 0 inside)
+    ∙ flat_map-push (part_slots s.header.length) (take i firsts) (get_or firsts i 0)
 
-pub part_joined : (s : Sections) (firsts : List ℕ) (parts : List (Result Contents NoMemory)) (i : ℕ) (part : Result Contents NoMemory) (old new : Contents) → AllZip (IsPart s) firsts parts → i < length parts → part ≡ get_or parts i part → ContentsAt s (flat_map (part_slots s.header.length) (take i firsts)) old → IsOkAnd part (Joins old new) → ContentsAt s (flat_map (part_slots s.header.length) (take (i + 1) firsts)) new
+pub part_joined : (s : Sections) (firsts : List ℕ) (parts : List (Result Contents NoMemory)) (i : ℕ)
+    (part : Result Contents NoMemory) (old new : Contents) → AllZip (IsPart s) firsts parts → i < length parts → part
+    ≡ get_or parts i part → ContentsAt s (flat_map (part_slots s.header.length) (take i firsts)) old → IsOkAnd part (Joins old new)
+    → ContentsAt s (flat_map (part_slots s.header.length) (take (i + 1) firsts)) new
 part_joined s firsts parts i (Err none) old new zipped inside is before joins = absurd joins
 part_joined s firsts parts i (Ok part) old new zipped inside is before joins =
     let here = zip_at (IsPart s) firsts parts i 0 (Ok part) zipped inside in
     let own : IsPart s (get_or firsts i 0) (Ok part) = subst (IsPart s (get_or firsts i 0)) (sym is) here.1 in
     subst (λ slots. ContentsAt s slots new) (sym (slots_more s firsts i here.0))
-    (joined s (flat_map (part_slots s.header.length) (take i firsts)) (part_slots s.header.length (get_or firsts i 0)) old new part before own joins)
+    (joined s (flat_map (part_slots s.header.length) (take i firsts)) (part_slots s.header.length (get_or firsts i 0)) old new part
+    before own joins)
 
 -- there is room for the count of one part more
-pub part_room : (s : Sections) (firsts : List ℕ) (parts : List (Result Contents NoMemory)) (i : ℕ) (part : Result Contents NoMemory) (old : Contents) → AllZip (IsPart s) firsts parts → i < length parts → part ≡ get_or parts i part → ContentsAt s (flat_map (part_slots s.header.length) (take i firsts)) old → length (flat_map (part_slots s.header.length) firsts) < 2 ^ 32 → IfOk part (λ p. old.count + p.count < 2 ^ 32)
+pub part_room : (s : Sections) (firsts : List ℕ) (parts : List (Result Contents NoMemory)) (i : ℕ) (part : Result Contents NoMemory)
+    (old : Contents) → AllZip (IsPart s) firsts parts → i < length parts → part ≡ get_or parts i part
+    → ContentsAt s (flat_map (part_slots s.header.length) (take i firsts)) old
+    → length (flat_map (part_slots s.header.length) firsts) < 2 ^ 32 → IfOk part (λ p. old.count + p.count < 2 ^ 32)
 part_room s firsts parts i (Err none) old zipped inside is before few = tt
 part_room s firsts parts i (Ok part) old zipped inside is before few =
     let here = zip_at (IsPart s) firsts parts i 0 (Ok part) zipped inside in
@@ -93,7 +112,9 @@ part_room s firsts parts i (Ok part) old zipped inside is before few =
     omega (arith, before.count, own.count, front, back, sum, few)
 
 -- the parts are all
-pub parts_all : (s : Sections) (firsts : List ℕ) (parts : List (Result Contents NoMemory)) (i : ℕ) (all : Contents) → AllZip (IsPart s) firsts parts → i ≡ length parts → ContentsAt s (flat_map (part_slots s.header.length) (take i firsts)) all → ContentsAt s (flat_map (part_slots s.header.length) firsts) all
+pub parts_all : (s : Sections) (firsts : List ℕ) (parts : List (Result Contents NoMemory)) (i : ℕ) (all : Contents)
+    → AllZip (IsPart s) firsts parts → i ≡ length parts → ContentsAt s (flat_map (part_slots s.header.length) (take i firsts)) all
+    → ContentsAt s (flat_map (part_slots s.header.length) firsts) all
 parts_all s firsts parts i all zipped end contents =
     let count = zip_length (IsPart s) firsts parts zipped in
     subst (λ fs. ContentsAt s (flat_map (part_slots s.header.length) fs) all) (take_all i firsts (omega (arith, count, end))) contents

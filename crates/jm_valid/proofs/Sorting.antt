@@ -15,14 +15,17 @@ range_cmp a b = ordering_then (nat_cmp a.start b.start) (ordering_then (nat_cmp 
 
 range_total : IsTotalOrder range_cmp
 range_total =
-    then_total (on_total (λ (r : Range). r.start) nat_cmp_total) (then_total (on_total (λ (r : Range). r.slot) nat_cmp_total) (on_total (λ (r : Range). r.end) nat_cmp_total))
+    then_total (on_total (λ (r : Range). r.start) nat_cmp_total) (then_total (on_total (λ (r : Range). r.slot) nat_cmp_total)
+    (on_total (λ (r : Range). r.end) nat_cmp_total))
 
 start_le : (a b : Range) → is_lt (range_cmp b a) ≡ false → a.start ≤ b.start
 start_le a b not_below = grind (arith, nat_tests)
 
-starts_rise : (rs : List Range) → IsSorted range_cmp rs → (i j : ℕ) (d : Range) → i < j → j < length rs → (get_or rs i d).start ≤ (get_or rs j d).start
+starts_rise : (rs : List Range) → IsSorted range_cmp rs → (i j : ℕ) (d : Range) → i < j → j < length rs → (get_or rs i d).start
+    ≤ (get_or rs j d).start
 starts_rise rs sorted i j d before inside =
-    start_le (get_or rs i d) (get_or rs j d) (sorted_far (λ x y. is_lt (range_cmp x y)) (ranks_by range_total (λ (r : Range). r)) rs sorted i j d (omega arith) inside)
+    start_le (get_or rs i d) (get_or rs j d) (sorted_far (λ x y. is_lt (range_cmp x y)) (ranks_by range_total (λ (r : Range). r)) rs
+    sorted i j d (omega arith) inside)
 
 abbrev same_slot : Range → Range → Bool
 same_slot r s = r.slot == s.slot
@@ -36,12 +39,19 @@ below_apart a b below = grind (arith, nat_tests)
 apart_differ : (a b : ℕ) → a == b ≡ false → a ≢ b
 apart_differ a b apart same = grind (arith, nat_tests)
 
-slots_differ : (rs ss : List Range) → AllPairs (λ r s. r.slot < s.slot) rs → IsPermutation rs ss → (i j : ℕ) (d : Range) → i < j → j < length ss → (get_or ss i d).slot ≢ (get_or ss j d).slot
+slots_differ : (rs ss : List Range) → AllPairs (λ r s. r.slot < s.slot) rs → IsPermutation rs ss → (i j : ℕ) (d : Range) → i < j
+    → j < length ss → (get_or ss i d).slot ≢ (get_or ss j d).slot
 slots_differ rs ss rising moved i j d before inside =
-    let distinct = IsDistinct-from_apart same_slot rs (λ k l e front below. below_apart (get_or rs k e).slot (get_or rs l e).slot (rising k l e front below)) in
+    let distinct = IsDistinct-from_apart same_slot rs (λ k l e front below. below_apart (get_or rs k e).slot (get_or rs l e).slot
+    (rising k l e front below)) in
     let still = IsDistinct-IsPermutation same_slot (λ r s. flips r.slot s.slot) rs ss moved distinct in
     apart_differ (get_or ss i d).slot (get_or ss j d).slot (apart_from_distinct same_slot ss i j d still before inside)
 
 -- ranges by rising slot that were sorted
-pub sorted_follow : (rs ss : List Range) → AllPairs (λ r s. r.slot < s.slot) rs → IsPermutation rs ss → IsSorted range_cmp ss → AllPairs Follows ss
-sorted_follow rs ss rising moved sorted i j d before inside = (starts_rise ss sorted i j d before inside, slots_differ rs ss rising moved i j d before inside)
+pub sorted_follow : (rs ss : List Range) → AllPairs (λ r s. r.slot < s.slot) rs → IsPermutation rs ss → IsSorted range_cmp ss
+    → AllPairs Follows ss
+sorted_follow rs ss rising moved sorted i j d before inside = (
+  starts_rise ss sorted i j d before inside,
+  slots_differ rs ss rising
+      moved i j d before inside,
+)

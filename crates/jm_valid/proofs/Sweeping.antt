@@ -1,5 +1,7 @@
 -- One step of the sweep over ranges by rising start.
-use Rattle.std.proofs.Common.{◌≡◌, ◌≢◌, ℕ, ◌+◌, ◌<◌, ◌≤◌, ◌⊎◌, inl, inr, List, [], ◌∷◌, ◌++◌, length, take, get_or, Option, Some, None, IfSome, All, AllPairs, Contains, refl, sym, ap, ◌∙◌, subst, add-one, arith}
+use Rattle.std.proofs.Common.{◌≡◌, ◌≢◌, ℕ, ◌+◌, ◌<◌, ◌≤◌, ◌⊎◌, inl, inr, List, [], ◌∷◌, ◌++◌, length, take}
+use Rattle.std.proofs.Common.{get_or, Option, Some, None, IfSome, All, AllPairs, Contains, refl, sym, ap, ◌∙◌}
+use Rattle.std.proofs.Common.{subst, add-one, arith}
 use Rattle.std.proofs.lemmas.List.{take_all, take_more}
 use Rattle.std.proofs.lemmas.List.Elements.{All-contains, Contains-append_left, Contains-push, Contains-push_cases}
 use Rattle.jm_form.specs.declared.ranges.Range.{Range}
@@ -36,12 +38,16 @@ meets_one_more rs ss r there (s, inside, met) = (s, there s inside, met)
 
 -- The next range t overlaps the furthest one
 
-takes_next : (seen : List Range) (sweep : Sweep) (t m : Range) → Swept seen sweep → All (λ r. Follows r t) seen → t.start < t.end → t.start < sweep.furthest.end → (sweep.least ≡ Some m) ⊎ ((m ≡ sweep.furthest) ⊎ (m ≡ t)) → IfSome sweep.least (λ r. m.slot ≤ r.slot) → m.slot ≤ sweep.furthest.slot → m.slot ≤ t.slot → IsLeastIfAny (MeetsOne (seen ++ t ∷ [])) (seen ++ t ∷ []) (Some m)
+takes_next : (seen : List Range) (sweep : Sweep) (t m : Range) → Swept seen sweep → All (λ r. Follows r t) seen → t.start < t.end
+    → t.start < sweep.furthest.end → (sweep.least ≡ Some m) ⊎ ((m ≡ sweep.furthest) ⊎ (m ≡ t))
+    → IfSome sweep.least (λ r. m.slot ≤ r.slot) → m.slot ≤ sweep.furthest.slot → m.slot ≤ t.slot
+    → IsLeastIfAny (MeetsOne (seen ++ t ∷ [])) (seen ++ t ∷ []) (Some m)
 takes_next seen sweep t m swept follows some over from below below_furthest below_next =
     let f = sweep.furthest in
     let now = seen ++ t ∷ [] in
     let on : (s : Range) → Contains seen s → Contains now s = λ s inside. Contains-append_left seen (t ∷ []) s inside in
-    let behind : (s : Range) → Contains seen s → Follows s t = λ s inside. All-contains (λ (r : Range). Follows r t) seen s follows inside in
+    let behind : (s : Range) → Contains seen s → Follows s t = λ s inside. All-contains (λ (r : Range). Follows r t) seen s follows
+    inside in
     let f_behind = behind f swept.seen in
     let in_f = on f swept.seen in
     let in_t = Contains-push seen t in
@@ -61,7 +67,8 @@ takes_next seen sweep t m swept follows some over from below below_furthest belo
         | inr same ↦ subst (MeetsOne now) (sym same) meets_t
       ]
     ] in
-    let old_least : (s : Range) → Contains seen s → MeetsOne seen s → m.slot ≤ s.slot = λ s s_inside one. least_below (MeetsOne seen) seen sweep.least m.slot swept.least below s s_inside one in
+    let old_least : (s : Range) → Contains seen s → MeetsOne seen s → m.slot ≤ s.slot = λ s s_inside one. least_below
+    (MeetsOne seen) seen sweep.least m.slot swept.least below s s_inside one in
     let by_next : (s : Range) → Contains seen s → Meets s t → m.slot ≤ s.slot = λ s s_inside met.
     let s_behind = behind s s_inside in
     let reaches = meets_later s t met in
@@ -82,7 +89,10 @@ takes_next seen sweep t m swept follows some over from below below_furthest belo
     }
 
 -- by the lesser one x of the furthest range and the next one
-pub takes_lesser : (seen : List Range) (sweep : Sweep) (t x m : Range) → Swept seen sweep → All (λ r. Follows r t) seen → t.start < t.end → t.start < sweep.furthest.end → (x ≡ sweep.furthest) ⊎ (x ≡ t) → x.slot ≤ sweep.furthest.slot → x.slot ≤ t.slot → (sweep.least ≡ Some m) ⊎ (m ≡ x) → IfSome sweep.least (λ r. m.slot ≤ r.slot) → m.slot ≤ x.slot → IsLeastIfAny (MeetsOne (seen ++ t ∷ [])) (seen ++ t ∷ []) (Some m)
+pub takes_lesser : (seen : List Range) (sweep : Sweep) (t x m : Range) → Swept seen sweep → All (λ r. Follows r t) seen
+    → t.start < t.end → t.start < sweep.furthest.end → (x ≡ sweep.furthest) ⊎ (x ≡ t) → x.slot ≤ sweep.furthest.slot
+    → x.slot ≤ t.slot → (sweep.least ≡ Some m) ⊎ (m ≡ x) → IfSome sweep.least (λ r. m.slot ≤ r.slot) → m.slot ≤ x.slot
+    → IsLeastIfAny (MeetsOne (seen ++ t ∷ [])) (seen ++ t ∷ []) (Some m)
 takes_lesser seen sweep t x m swept follows some over of_both x_furthest x_next from below m_lesser =
     let from_three : (sweep.least ≡ Some m) ⊎ ((m ≡ sweep.furthest) ⊎ (m ≡ t)) = elim from [
       | inl old ↦ inl old
@@ -95,9 +105,11 @@ takes_lesser seen sweep t x m swept follows some over of_both x_furthest x_next 
 
 -- The next range starts where the furthest one has ended
 
-met_before : (seen : List Range) (sweep : Sweep) (t s : Range) → Swept seen sweep → All (λ r. Follows r t) seen → sweep.furthest.end ≤ t.start → Contains (seen ++ t ∷ []) s → MeetsOne (seen ++ t ∷ []) s → Contains seen s × MeetsOne seen s
+met_before : (seen : List Range) (sweep : Sweep) (t s : Range) → Swept seen sweep → All (λ r. Follows r t) seen → sweep.furthest.end
+    ≤ t.start → Contains (seen ++ t ∷ []) s → MeetsOne (seen ++ t ∷ []) s → Contains seen s × MeetsOne seen s
 met_before seen sweep t s swept follows clear inside one =
-    let behind : (r : Range) → Contains seen r → Follows r t = λ r in_seen. All-contains (λ (u : Range). Follows u t) seen r follows in_seen in
+    let behind : (r : Range) → Contains seen r → Follows r t = λ r in_seen. All-contains (λ (u : Range). Follows u t) seen r follows
+    in_seen in
     elim (Contains-push_cases seen t s inside) [
       | inl before ↦ elim (Contains-push_cases seen t one.0 one.1) [
         | inl with ↦ (before, (one.0, with, one.2))
@@ -120,7 +132,8 @@ met_before seen sweep t s swept follows clear inside one =
       ]
     ]
 
-pub skips_next : (seen : List Range) (sweep : Sweep) (t : Range) → Swept seen sweep → All (λ r. Follows r t) seen → sweep.furthest.end ≤ t.start → IsLeastIfAny (MeetsOne (seen ++ t ∷ [])) (seen ++ t ∷ []) sweep.least
+pub skips_next : (seen : List Range) (sweep : Sweep) (t : Range) → Swept seen sweep → All (λ r. Follows r t) seen
+    → sweep.furthest.end ≤ t.start → IsLeastIfAny (MeetsOne (seen ++ t ∷ [])) (seen ++ t ∷ []) sweep.least
 skips_next seen sweep t swept follows clear = go sweep.least swept.least
   where
     go : (least : Option Range) → IsLeastIfAny (MeetsOne seen) seen least → IsLeastIfAny (MeetsOne (seen ++ t ∷ [])) (seen ++ t ∷ []) least
@@ -134,7 +147,9 @@ skips_next seen sweep t swept follows clear = go sweep.least swept.least
 
 -- Both
 
-pub swept_next : (seen : List Range) (sweep : Sweep) (t f : Range) (least : Option Range) → Swept seen sweep → (f ≡ sweep.furthest) ⊎ (f ≡ t) → sweep.furthest.end ≤ f.end → t.end ≤ f.end → IsLeastIfAny (MeetsOne (seen ++ t ∷ [])) (seen ++ t ∷ []) least → Swept (seen ++ t ∷ []) (record { furthest = f; least = least })
+pub swept_next : (seen : List Range) (sweep : Sweep) (t f : Range) (least : Option Range) → Swept seen sweep → (f ≡ sweep.furthest)
+    ⊎ (f ≡ t) → sweep.furthest.end ≤ f.end → t.end ≤ f.end → IsLeastIfAny (MeetsOne (seen ++ t ∷ [])) (seen ++ t ∷ []) least
+    → Swept (seen ++ t ∷ []) (record { furthest = f; least = least })
 swept_next seen sweep t f least swept from first second is = record {
   seen = elim from [
     | inl old ↦ subst (Contains (seen ++ t ∷ [])) (sym old) (Contains-append_left seen (t ∷ []) sweep.furthest swept.seen)
@@ -171,19 +186,24 @@ next_at rs rest r i d is = rw (is, add-one) refl
 inside_next : (rs rest : List Range) (r : Range) (i : ℕ) → rs ≡ r ∷ rest → i < length rest → i + 1 < length rs
 inside_next rs rest r i is inside = rw is (omega arith)
 
-pub follows_next : (rs rest : List Range) (r : Range) (i : ℕ) (d : Range) → rs ≡ r ∷ rest → i < length rest → AllPairs Follows rs → All (λ s. Follows s (get_or rest i d)) (take (i + 1) rs)
+pub follows_next : (rs rest : List Range) (r : Range) (i : ℕ) (d : Range) → rs ≡ r ∷ rest → i < length rest → AllPairs Follows rs
+    → All (λ s. Follows s (get_or rest i d)) (take (i + 1) rs)
 follows_next rs rest r i d is inside order =
-    subst (λ (t : Range). All (λ s. Follows s t) (take (i + 1) rs)) (next_at rs rest r i d is) (pairs_before Follows rs (i + 1) d order (inside_next rs rest r i is inside))
+    subst (λ (t : Range). All (λ s. Follows s t) (take (i + 1) rs)) (next_at rs rest r i d is) (pairs_before Follows rs (i + 1) d
+    order (inside_next rs rest r i is inside))
 
-pub some_next : (rs rest : List Range) (r : Range) (i : ℕ) (d : Range) → rs ≡ r ∷ rest → i < length rest → All (λ s. s.start < s.end) rs → (get_or rest i d).start < (get_or rest i d).end
+pub some_next : (rs rest : List Range) (r : Range) (i : ℕ) (d : Range) → rs ≡ r ∷ rest → i < length rest
+    → All (λ s. s.start < s.end) rs → (get_or rest i d).start < (get_or rest i d).end
 some_next rs rest r i d is inside each =
     subst (λ (t : Range). t.start < t.end) (next_at rs rest r i d is) (each (i + 1) d (inside_next rs rest r i is inside))
 
-pub swept_more : (rs rest : List Range) (r : Range) (i : ℕ) (d : Range) (sweep : Sweep) → rs ≡ r ∷ rest → i < length rest → Swept (take (i + 1) rs ++ get_or rest i d ∷ []) sweep → Swept (take (i + 1 + 1) rs) sweep
+pub swept_more : (rs rest : List Range) (r : Range) (i : ℕ) (d : Range) (sweep : Sweep) → rs ≡ r ∷ rest → i < length rest
+    → Swept (take (i + 1) rs ++ get_or rest i d ∷ []) sweep → Swept (take (i + 1 + 1) rs) sweep
 swept_more rs rest r i d sweep is inside swept =
     rw (take_more rs (i + 1) d (inside_next rs rest r i is inside), next_at rs rest r i d is) swept
 
-pub swept_all : (rs rest : List Range) (r : Range) (i : ℕ) (sweep : Sweep) → rs ≡ r ∷ rest → length rest ≤ i → Swept (take (i + 1) rs) sweep → IsLeastIfAny (MeetsOne rs) rs sweep.least
+pub swept_all : (rs rest : List Range) (r : Range) (i : ℕ) (sweep : Sweep) → rs ≡ r ∷ rest → length rest ≤ i
+    → Swept (take (i + 1) rs) sweep → IsLeastIfAny (MeetsOne rs) rs sweep.least
 swept_all rs rest r i sweep is end swept =
     let all : take (i + 1) rs ≡ rs = take_all (i + 1) rs (rw is (omega arith)) in
     subst (λ (ss : List Range). IsLeastIfAny (MeetsOne ss) ss sweep.least) all swept.least

@@ -28,6 +28,7 @@ loop-byte-preserved c =
     let byte = c.from.ensures in
     let small = c.type_inv.bytes n in
     record {
-      number = ap (λ x. x * 256 + c.from.result) l.invariant.number ∙ ap (λ x. big_number n c.args.bytes.now * 256 + x) byte ∙ sym (number_more n c.args.bytes.now);
+      number = ap (λ x. x * 256 + c.from.result) l.invariant.number ∙ ap (λ x. big_number n c.args.bytes.now * 256 + x) byte
+          ∙ sym (number_more n c.args.bytes.now);
       fits = omega (arith, power);
     }

@@ -4,7 +4,8 @@ use Rattle.jm_form.proofs.rows.read_row.Goals as goal
 
 pub returns-in_err-row-clause-none : goal.returns-in_err-row-clause-none
 returns-in_err-row-clause-none c =
-    rw c.from_residual.ensures (nothing_spelled c.args.bytes.now (sym (ap (option_map (with_length c.args.bytes.now)) c.in_err-row.ensures)))
+    rw c.from_residual.ensures (nothing_spelled c.args.bytes.now
+    (sym (ap (option_map (with_length c.args.bytes.now)) c.in_err-row.ensures)))
 
 pub overflow_sub-result : goal.overflow_sub-result
 overflow_sub-result c =

@@ -39,6 +39,7 @@ loop-first-preserved c =
     let small = c.if-kind-gt7.false in
     let fits = c.if-after-len.false in
     let size : length (take n after) ≡ n = length-take-le n after fits in
-    let value : c.number_of.result ≡ big_number n after = rw (c.split_at.ensures.front, size) at c.number_of.ensures ∙ big_from-take 0 n n after (omega arith) in
+    let value : c.number_of.result ≡ big_number n after = rw (c.split_at.ensures.front, size) at c.number_of.ensures
+    ∙ big_from-take 0 n n after (omega arith) in
     let on = row_goes_on l.above l.row b after n len c.if-first-lt8.false rises (omega arith) fits in
     rw (c.set.ensures, value, c.split_at.ensures.back) (sym on ∙ ap (row_from (7 - l.above) l.above l.row) (sym rest) ∙ l.invariant)

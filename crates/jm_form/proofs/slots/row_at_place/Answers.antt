@@ -22,8 +22,11 @@ returns-clause-row g c =
     let place = c.args.place in
     let fits = header_fits b h c.requires.read in
     let below = c.if-place-header.false in
-    let part : c.part.result.now ≡ slice_range b (locations_place h + place) (locations_place h + place + c.min-size.result) = rw c.locations_place.ensures at c.part.ensures.part in
-    let front : row_front c.part.result.now ≡ row_front (drop place (locations b h)) = ap row_front part ∙ row_in_part b h place c.min-size.result fits (omega arith) c.min-size.ensures in
-    let there : c.row_read.result ≡ row_read (row_front (drop place (locations b h))) = c.row_read.ensures ∙ ap row_read (c.read_row.ensures.value ∙ front) in
+    let part : c.part.result.now ≡ slice_range b (locations_place h + place) (locations_place h + place + c.min-size.result) =
+    rw c.locations_place.ensures at c.part.ensures.part in
+    let front : row_front c.part.result.now ≡ row_front (drop place (locations b h)) = ap row_front part
+    ∙ row_in_part b h place c.min-size.result fits (omega arith) c.min-size.ensures in
+    let there : c.row_read.result ≡ row_read (row_front (drop place (locations b h))) = c.row_read.ensures
+    ∙ ap row_read (c.read_row.ensures.value ∙ front) in
     let inside : nat_lt place h.locations ≡ true = lt-ltb place h.locations (omega arith) in
     rw inside there

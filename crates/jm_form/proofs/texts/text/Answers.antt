@@ -10,7 +10,8 @@ returns-clause-text g c =
     let size = c.strings_length-strings.ensures in
     let below = c.if-place-from.false in
     let from = c.from.ensures in
-    let cut : c.part.result.now ≡ drop c.args.place (strings b h) = rw (c.strings_place.ensures, size) at c.part.ensures.part ∙ strings_from b h c.args.place (omega arith) in
+    let cut : c.part.result.now ≡ drop c.args.place (strings b h) = rw (c.strings_place.ensures, size) at c.part.ensures.part
+    ∙ strings_from b h c.args.place (omega arith) in
     rw cut at c.front.ensures.text
 
 pub returns-clause-ends : goal.returns-clause-ends
@@ -20,5 +21,6 @@ returns-clause-ends g c =
     let size = c.strings_length-strings.ensures in
     let below = c.if-place-from.false in
     let from = c.from.ensures in
-    let cut : c.part.result.now ≡ drop c.args.place (strings b h) = rw (c.strings_place.ensures, size) at c.part.ensures.part ∙ strings_from b h c.args.place (omega arith) in
+    let cut : c.part.result.now ≡ drop c.args.place (strings b h) = rw (c.strings_place.ensures, size) at c.part.ensures.part
+    ∙ strings_from b h c.args.place (omega arith) in
     rw cut at c.front.ensures.ends

@@ -18,7 +18,8 @@ returns-in_err-name-clause-end g c =
     let count = c.word_count.ensures in
     let below = c.if-next-word_count.false in
     let sound = (child_at b c.args.content.now c.args.next c.requires.sound (omega arith)).sound in
-    absurd (false≢true (c.in_err-name.ensures.sound ∙ ap (λ (n : ℕ). is_row_sound (strings b (head b)) (row_told b n)) c.word.ensures ∙ sound))
+    absurd (false≢true (c.in_err-name.ensures.sound ∙ ap (λ (n : ℕ). is_row_sound (strings b (head b)) (row_told b n))
+    c.word.ensures ∙ sound))
 
 pub returns-clause-child : goal.returns-clause-child
 returns-clause-child g c =
@@ -27,4 +28,5 @@ returns-clause-child g c =
     let next = c.args.next in
     let count = c.word_count.ensures in
     let below = c.if-next-word_count.false in
-    names_more b content next (omega arith) ∙ ap (λ (n : List ℕ). n ∷ names_left b content (next + 1)) (sym (c.in_ok-name.ensures.name ∙ ap (name_told b) c.word.ensures))
+    names_more b content next (omega arith) ∙ ap (λ (n : List ℕ). n ∷ names_left b content (next + 1))
+    (sym (c.in_ok-name.ensures.name ∙ ap (name_told b) c.word.ensures))

@@ -37,7 +37,8 @@ loop-k-preserved g c =
     let left : List Owner = owners_left b content (k + 1) in
     let here : owners_left b content k ≡ owner_told b content k ∷ left = owners_more b content k (omega arith) in
     let place : word_of b content (2 * k + 1) ≡ c.word-place.result = sym c.word-place.ensures in
-    let found : c.is_some.result ≡ bytes_eq asked (text_at (strings b (head b)) c.word-place.result) = c.is_some.ensures ∙ c.text_if-found.ensures.found in
+    let found : c.is_some.result ≡ bytes_eq asked (text_at (strings b (head b)) c.word-place.result) = c.is_some.ensures
+    ∙ c.text_if-found.ensures.found in
     let missed : bytes_eq asked (text_at (strings b (head b)) c.word-place.result) ≡ false = sym found ∙ c.if-is_some.false in
     let other : bytes_eq asked (text_at (strings b (head b)) (word_of b content (2 * k + 1))) ≡ false =
     ap (λ n. bytes_eq asked (text_at (strings b (head b)) n)) place ∙ missed in

@@ -21,8 +21,10 @@ returns-then-word-ne1-clause-found g c =
     let below = c.loop-k-test.true in
     let left : List Owner = owners_left b content (k + 1) in
     let here : owners_left b content k ≡ owner_told b content k ∷ left = owners_more b content k (omega arith) in
-    let full : word_of b content (2 * k) == 1 ≡ false = ap (λ n. n == 1) (sym c.word.ensures) ∙ false_from_ne_true (c.word.result == 1) (λ is. c.if-word-ne1.true (eqb-true c.word.result 1 is)) in
-    sym (c.loop-k.invariant.rest ∙ ap first_full here ∙ full_here (owner_told b content k) left full ∙ ap (λ (o : Owner). Some o.module) (sym c.owner_at.ensures.owner))
+    let full : word_of b content (2 * k) == 1 ≡ false = ap (λ n. n == 1) (sym c.word.ensures)
+    ∙ false_from_ne_true (c.word.result == 1) (λ is. c.if-word-ne1.true (eqb-true c.word.result 1 is)) in
+    sym (c.loop-k.invariant.rest ∙ ap first_full here ∙ full_here (owner_told b content k) left full
+    ∙ ap (λ (o : Owner). Some o.module) (sym c.owner_at.ensures.owner))
 
 pub loop-k-preserved : goal.loop-k-preserved
 loop-k-preserved g c =

@@ -19,9 +19,16 @@ returns-clause-owner g c =
     let b = c.args.image.now in
     let at = pair_at b c.args.content.now c.args.k c.requires.sound c.requires.below in
     let place : c.from.result ≡ word_of b c.args.content.now (2 * c.args.k + 1) = c.from.ensures ∙ c.word-place.ensures in
-    let section : strings c.buf.result c.header.result ≡ strings b (head b) = ap (λ x. strings x c.header.result) c.buf.ensures ∙ ap (strings b) (sym (head_is b c.header.result c.header.ensures.header)) in
-    let text = text_there c.text.result c.text_or_empty-module.result.now (text_at (strings c.buf.result c.header.result) c.from.result) (c.text.ensures.ends ∙ ap (λ l. text_ends l c.from.result) section ∙ ap (text_ends (strings b (head b))) place ∙ at.ends) c.text.ensures.text c.text_or_empty-module.ensures in
-    same_owner (nat_eq c.word-empty.result 1) (nat_eq (word_of b c.args.content.now (2 * c.args.k)) 1) c.text_or_empty-module.result.now (text_at (strings b (head b)) (word_of b c.args.content.now (2 * c.args.k + 1))) (ap (λ (n : ℕ). nat_eq n 1) c.word-empty.ensures) (text ∙ ap (λ l. text_at l c.from.result) section ∙ ap (text_at (strings b (head b))) place)
+    let section : strings c.buf.result c.header.result ≡ strings b (head b) = ap (λ x. strings x c.header.result) c.buf.ensures
+    ∙ ap (strings b) (sym (head_is b c.header.result c.header.ensures.header)) in
+    let text = text_there c.text.result c.text_or_empty-module.result.now (text_at (strings c.buf.result c.header.result)
+    c.from.result) (c.text.ensures.ends ∙ ap (λ l. text_ends l c.from.result) section ∙ ap (text_ends (strings b (head b)))
+    place ∙ at.ends) c.text.ensures.text c.text_or_empty-module.ensures in
+    same_owner (nat_eq c.word-empty.result 1) (nat_eq (word_of b c.args.content.now (2 * c.args.k)) 1)
+    c.text_or_empty-module.result.now (text_at (strings b (head b)) (word_of b c.args.content.now (2 * c.args.k + 1)))
+    (ap (λ (n : ℕ). nat_eq n 1) c.word-empty.ensures) (text ∙ ap (λ l. text_at l c.from.result) section
+    ∙ ap (text_at (strings b (head b))) place)
   where
-    same_owner : (e f : Bool) (m n : List ℕ) → e ≡ f → m ≡ n → ◌≡◌ {A = Owner} (record { empty = e; «module» = m }) (record { empty = f; «module» = n })
+    same_owner : (e f : Bool) (m n : List ℕ) → e ≡ f → m ≡ n → ◌≡◌ {A = Owner} (record { empty = e; «module» = m })
+        (record { empty = f; «module» = n })
     same_owner e f m n flags texts = rw (flags, texts) refl

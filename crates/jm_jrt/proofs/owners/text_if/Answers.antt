@@ -20,7 +20,10 @@ returns-then-asked-behind-clause-found g c =
     let long = c.if-asked-behind.true in
     let size = length-strings b h (header_fits b h c.header-header.ensures.header) in
     let rest = length-drop place (strings b h) in
-    sym (false_from_ne_true (bytes_eq asked (text_at (strings b h) place)) (λ same. let within = (begins (strings b h) asked place (ap (λ g. text_ends (strings b g) place) (sym at) ∙ c.requires.ends) same).within in absurd (omega arith))) ∙ ap (λ g. bytes_eq asked (text_at (strings b g) place)) (sym at)
+    sym (false_from_ne_true (bytes_eq asked (text_at (strings b h) place))
+    (λ same. let within = (begins (strings b h) asked place
+    (ap (λ g. text_ends (strings b g) place) (sym at) ∙ c.requires.ends) same).within in absurd (omega arith)))
+    ∙ ap (λ g. bytes_eq asked (text_at (strings b g) place)) (sym at)
 
 pub part-part-requires-clause-inside : goal.part-part-requires-clause-inside
 part-part-requires-clause-inside g c =
@@ -32,7 +35,8 @@ part-part-requires-clause-inside g c =
 pub split_at-requires : goal.split_at-requires
 split_at-requires g c =
     let short = c.if-asked-behind.false in
-    let part = looked c.args.image.now c.header-header.result c.args.place c.args.asked.now c.part-part.result.now c.header-header.ensures.header (omega arith) (rw (c.strings_place.ensures, c.buf-buf.ensures) at c.part-part.ensures.part) in
+    let part = looked c.args.image.now c.header-header.result c.args.place c.args.asked.now c.part-part.result.now
+    c.header-header.ensures.header (omega arith) (rw (c.strings_place.ensures, c.buf-buf.ensures) at c.part-part.ensures.part) in
     let size = part.size in
     omega arith
 
@@ -44,9 +48,14 @@ returns-then-not-ended-clause-found g c =
     let place = c.args.place in
     let asked : List ℕ = c.args.asked.now in
     let short = c.if-asked-behind.false in
-    let part = looked b h place asked c.part-part.result.now c.header-header.ensures.header (omega arith) (rw (c.strings_place.ensures, c.buf-buf.ensures) at c.part-part.ensures.part) in
-    let end : c.split_at.result.1.now ≡ drop (length asked) (take (length asked + 1) (drop place (strings b h))) = c.split_at.ensures.back ∙ ap (drop (length asked)) part.is in
-    sym (false_from_ne_true (bytes_eq asked (text_at (strings b h) place)) (λ same. false≢true (sym c.if-not-ended.true ∙ c.eq-ended.ensures ∙ (bytes_eq-Decides c.split_at.result.1.now c.as_slice.result.now).1 (end ∙ (begins (strings b h) asked place (ap (λ g. text_ends (strings b g) place) (sym at) ∙ c.requires.ends) same).end ∙ sym c.as_slice.ensures)))) ∙ ap (λ g. bytes_eq asked (text_at (strings b g) place)) (sym at)
+    let part = looked b h place asked c.part-part.result.now c.header-header.ensures.header (omega arith)
+    (rw (c.strings_place.ensures, c.buf-buf.ensures) at c.part-part.ensures.part) in
+    let end : c.split_at.result.1.now ≡ drop (length asked) (take (length asked + 1) (drop place (strings b h))) =
+    c.split_at.ensures.back ∙ ap (drop (length asked)) part.is in
+    sym (false_from_ne_true (bytes_eq asked (text_at (strings b h) place)) (λ same. false≢true (sym c.if-not-ended.true
+    ∙ c.eq-ended.ensures ∙ (bytes_eq-Decides c.split_at.result.1.now c.as_slice.result.now).1 (end
+    ∙ (begins (strings b h) asked place (ap (λ g. text_ends (strings b g) place) (sym at) ∙ c.requires.ends) same).end
+    ∙ sym c.as_slice.ensures)))) ∙ ap (λ g. bytes_eq asked (text_at (strings b g) place)) (sym at)
 
 pub returns-in_err-text-clause-found : goal.returns-in_err-text-clause-found
 returns-in_err-text-clause-found g c =
@@ -56,9 +65,13 @@ returns-in_err-text-clause-found g c =
     let place = c.args.place in
     let asked : List ℕ = c.args.asked.now in
     let short = c.if-asked-behind.false in
-    let part = looked b h place asked c.part-part.result.now c.header-header.ensures.header (omega arith) (rw (c.strings_place.ensures, c.buf-buf.ensures) at c.part-part.ensures.part) in
-    let none : false ≡ list_any (λ x. x == 0) (take (length asked + 1) (drop place (strings b h))) = c.in_err-text.ensures.ends ∙ ap (λ l. text_ends l 0) part.is in
-    rw c.from_residual.ensures (sym (false_from_ne_true (bytes_eq asked (text_at (strings b h) place)) (λ same. false≢true (none ∙ (begins (strings b h) asked place (ap (λ g. text_ends (strings b g) place) (sym at) ∙ c.requires.ends) same).cut))) ∙ ap (λ g. bytes_eq asked (text_at (strings b g) place)) (sym at))
+    let part = looked b h place asked c.part-part.result.now c.header-header.ensures.header (omega arith)
+    (rw (c.strings_place.ensures, c.buf-buf.ensures) at c.part-part.ensures.part) in
+    let none : false ≡ list_any (λ x. x == 0) (take (length asked + 1) (drop place (strings b h))) = c.in_err-text.ensures.ends
+    ∙ ap (λ l. text_ends l 0) part.is in
+    rw c.from_residual.ensures (sym (false_from_ne_true (bytes_eq asked (text_at (strings b h) place)) (λ same. false≢true (none
+    ∙ (begins (strings b h) asked place (ap (λ g. text_ends (strings b g) place) (sym at) ∙ c.requires.ends) same).cut)))
+    ∙ ap (λ g. bytes_eq asked (text_at (strings b g) place)) (sym at))
 
 pub returns-then-eq-clause-found : goal.returns-then-eq-clause-found
 returns-then-eq-clause-found g c =
@@ -68,9 +81,12 @@ returns-then-eq-clause-found g c =
     let place = c.args.place in
     let asked : List ℕ = c.args.asked.now in
     let short = c.if-asked-behind.false in
-    let part = looked b h place asked c.part-part.result.now c.header-header.ensures.header (omega arith) (rw (c.strings_place.ensures, c.buf-buf.ensures) at c.part-part.ensures.part) in
-    let some : true ≡ list_any (λ x. x == 0) (take (length asked + 1) (drop place (strings b h))) = c.in_ok-text.ensures.ends ∙ ap (λ l. text_ends l 0) part.is in
-    let text : c.in_ok-text.text.now ≡ text_at (strings b h) place = c.in_ok-text.ensures.text ∙ ap (λ l. text_at l 0) part.is ∙ text_of_front (strings b h) place (length asked + 1) (sym some) in
+    let part = looked b h place asked c.part-part.result.now c.header-header.ensures.header (omega arith)
+    (rw (c.strings_place.ensures, c.buf-buf.ensures) at c.part-part.ensures.part) in
+    let some : true ≡ list_any (λ x. x == 0) (take (length asked + 1) (drop place (strings b h))) = c.in_ok-text.ensures.ends
+    ∙ ap (λ l. text_ends l 0) part.is in
+    let text : c.in_ok-text.text.now ≡ text_at (strings b h) place = c.in_ok-text.ensures.text ∙ ap (λ l. text_at l 0) part.is
+    ∙ text_of_front (strings b h) place (length asked + 1) (sym some) in
     sym (ap (bytes_eq asked) (sym text) ∙ sym c.eq.ensures ∙ c.if-eq.true) ∙ ap (λ g. bytes_eq asked (text_at (strings b g) place)) (sym at)
 
 pub returns-else-eq-clause-found : goal.returns-else-eq-clause-found
@@ -81,7 +97,11 @@ returns-else-eq-clause-found g c =
     let place = c.args.place in
     let asked : List ℕ = c.args.asked.now in
     let short = c.if-asked-behind.false in
-    let part = looked b h place asked c.part-part.result.now c.header-header.ensures.header (omega arith) (rw (c.strings_place.ensures, c.buf-buf.ensures) at c.part-part.ensures.part) in
-    let some : true ≡ list_any (λ x. x == 0) (take (length asked + 1) (drop place (strings b h))) = c.in_ok-text.ensures.ends ∙ ap (λ l. text_ends l 0) part.is in
-    let text : c.in_ok-text.text.now ≡ text_at (strings b h) place = c.in_ok-text.ensures.text ∙ ap (λ l. text_at l 0) part.is ∙ text_of_front (strings b h) place (length asked + 1) (sym some) in
-    sym (ap (bytes_eq asked) (sym text) ∙ sym c.eq.ensures ∙ c.if-eq.false) ∙ ap (λ g. bytes_eq asked (text_at (strings b g) place)) (sym at)
+    let part = looked b h place asked c.part-part.result.now c.header-header.ensures.header (omega arith)
+    (rw (c.strings_place.ensures, c.buf-buf.ensures) at c.part-part.ensures.part) in
+    let some : true ≡ list_any (λ x. x == 0) (take (length asked + 1) (drop place (strings b h))) = c.in_ok-text.ensures.ends
+    ∙ ap (λ l. text_ends l 0) part.is in
+    let text : c.in_ok-text.text.now ≡ text_at (strings b h) place = c.in_ok-text.ensures.text ∙ ap (λ l. text_at l 0) part.is
+    ∙ text_of_front (strings b h) place (length asked + 1) (sym some) in
+    sym (ap (bytes_eq asked) (sym text) ∙ sym c.eq.ensures ∙ c.if-eq.false) ∙ ap (λ g. bytes_eq asked (text_at (strings b g) place))
+    (sym at)

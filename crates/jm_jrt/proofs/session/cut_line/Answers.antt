@@ -7,7 +7,8 @@ returns-in_err-at-clause-none c = rw c.from_residual.ensures (none_free c.args.b
 pub returns-clause-cut : goal.returns-clause-cut
 returns-clause-cut c =
     let found = c.in_ok-at.ensures in
-    cut_whole c.args.bytes.now c.in_ok-at.at c.split_at.result.0.now c.split_at.result.1.now c.split_at-2.result.1.now found c.split_at.ensures.front c.split_at.ensures.back c.split_at-2.ensures.back
+    cut_whole c.args.bytes.now c.in_ok-at.at c.split_at.result.0.now c.split_at.result.1.now c.split_at-2.result.1.now found
+    c.split_at.ensures.front c.split_at.ensures.back c.split_at-2.ensures.back
 
 pub returns-clause-free : goal.returns-clause-free
 returns-clause-free c =

@@ -9,7 +9,9 @@ pub returns-in_err-progress-clause-serves : goal.returns-in_err-progress-clause-
 returns-in_err-progress-clause-serves g c =
     let rest = g.I.Source.rest in
     let content = g.O.Sink.content in
-    serves_err c.args.image.now c.from_residual.result c.in_err-progress.field-0.0 (rest c.args.input.now) (rest c.serve_ended.new.input) (content c.args.out.now) (content c.serve_ended.new.out) c.args.reads.now c.serve_ended.new.reads c.from_residual.ensures.1 c.in_err-progress.ensures.err
+    serves_err c.args.image.now c.from_residual.result c.in_err-progress.field-0.0 (rest c.args.input.now)
+    (rest c.serve_ended.new.input) (content c.args.out.now) (content c.serve_ended.new.out) c.args.reads.now
+    c.serve_ended.new.reads c.from_residual.ensures.1 c.in_err-progress.ensures.err
 
 pub returns-clause-serves : goal.returns-clause-serves
 returns-clause-serves g c =
@@ -17,8 +19,11 @@ returns-clause-serves g c =
     let content = g.O.Sink.content in
     let arrives = c.in_ok-progress.ensures.ok in
     let old : Moment = moment (content c.args.out.now) 0 c.args.hashes.now c.args.reads.now in
-    let new : Moment = moment (content c.serve_ended.new.out) c.in_ok-progress.progress.lines c.serve_ended.new.hashes c.serve_ended.new.reads in
-    serves_all c.args.image.now (rest c.args.input.now) (rest c.serve_ended.new.input) arrives.given c.in_ok-progress.progress.part.items old new refl arrives.told c.in_ok-progress.ensures.end arrives.passes arrives.goes_on (c.has_bytes.ensures.no c.if-has_bytes.false)
+    let new : Moment = moment (content c.serve_ended.new.out) c.in_ok-progress.progress.lines c.serve_ended.new.hashes
+    c.serve_ended.new.reads in
+    serves_all c.args.image.now (rest c.args.input.now) (rest c.serve_ended.new.input) arrives.given
+    c.in_ok-progress.progress.part.items old new refl arrives.told c.in_ok-progress.ensures.end arrives.passes arrives.goes_on
+    (c.has_bytes.ensures.no c.if-has_bytes.false)
 
 pub returns-in_err-put_reply-clause-serves : goal.returns-in_err-put_reply-clause-serves
 returns-in_err-put_reply-clause-serves g c =
@@ -27,11 +32,18 @@ returns-in_err-put_reply-clause-serves g c =
     let content = g.O.Sink.content in
     let arrives = c.in_ok-progress.ensures.ok in
     let old : Moment = moment (content c.args.out.now) 0 c.args.hashes.now c.args.reads.now in
-    let new : Moment = moment (content c.serve_ended.new.out) c.in_ok-progress.progress.lines c.serve_ended.new.hashes c.serve_ended.new.reads in
+    let new : Moment = moment (content c.serve_ended.new.out) c.in_ok-progress.progress.lines c.serve_ended.new.hashes
+    c.serve_ended.new.reads in
     let error = c.in_err-put_reply.field-0.0 in
-    let fails : PutFails error (reply b c.in_ok-progress.progress.part.items) (content c.serve_ended.new.out) (content c.put_reply.new.out) = subst (λ (l : List ℕ). PutFails error (reply b l) (content c.serve_ended.new.out) (content c.put_reply.new.out)) c.as_slice.ensures.value c.in_err-put_reply.ensures.err in
-    serves_err b c.from_residual-in_err-put_reply.result error (rest c.args.input.now) (rest c.serve_ended.new.input) (content c.args.out.now) (content c.put_reply.new.out) c.args.reads.now c.put_reply.new.reads c.from_residual-in_err-put_reply.ensures.1
-    (serves_not_last error b (rest c.args.input.now) (rest c.serve_ended.new.input) arrives.given c.in_ok-progress.progress.part.items old new (content c.put_reply.new.out) c.args.reads.now c.put_reply.new.reads refl arrives.told c.in_ok-progress.ensures.end arrives.passes arrives.goes_on (c.has_bytes.ensures.yes c.if-has_bytes.true) fails)
+    let fails : PutFails error (reply b c.in_ok-progress.progress.part.items) (content c.serve_ended.new.out)
+    (content c.put_reply.new.out) = subst (λ (l : List ℕ). PutFails error (reply b l) (content c.serve_ended.new.out)
+    (content c.put_reply.new.out)) c.as_slice.ensures.value c.in_err-put_reply.ensures.err in
+    serves_err b c.from_residual-in_err-put_reply.result error (rest c.args.input.now) (rest c.serve_ended.new.input)
+    (content c.args.out.now) (content c.put_reply.new.out) c.args.reads.now c.put_reply.new.reads
+    c.from_residual-in_err-put_reply.ensures.1
+    (serves_not_last error b (rest c.args.input.now) (rest c.serve_ended.new.input) arrives.given
+    c.in_ok-progress.progress.part.items old new (content c.put_reply.new.out) c.args.reads.now c.put_reply.new.reads refl
+    arrives.told c.in_ok-progress.ensures.end arrives.passes arrives.goes_on (c.has_bytes.ensures.yes c.if-has_bytes.true) fails)
 
 pub returns-then-has_bytes-clause-serves : goal.returns-then-has_bytes-clause-serves
 returns-then-has_bytes-clause-serves g c =
@@ -40,8 +52,12 @@ returns-then-has_bytes-clause-serves g c =
     let content = g.O.Sink.content in
     let arrives = c.in_ok-progress.ensures.ok in
     let old : Moment = moment (content c.args.out.now) 0 c.args.hashes.now c.args.reads.now in
-    let new : Moment = moment (content c.serve_ended.new.out) c.in_ok-progress.progress.lines c.serve_ended.new.hashes c.serve_ended.new.reads in
+    let new : Moment = moment (content c.serve_ended.new.out) c.in_ok-progress.progress.lines c.serve_ended.new.hashes
+    c.serve_ended.new.reads in
     let same : c.as_slice.result.now ≡ c.in_ok-progress.progress.part.items = c.as_slice.ensures.value in
-    serves_last b (rest c.args.input.now) (rest c.serve_ended.new.input) arrives.given c.in_ok-progress.progress.part.items old new (content c.put_reply.new.out) c.put_reply.new.reads refl arrives.told c.in_ok-progress.ensures.end arrives.passes arrives.goes_on (c.has_bytes.ensures.yes c.if-has_bytes.true)
-    (subst (λ (l : List ℕ). content c.put_reply.new.out ≡ option_map (λ text. text ++ reply b l) (content c.serve_ended.new.out)) same c.in_ok-put_reply.ensures.ok)
+    serves_last b (rest c.args.input.now) (rest c.serve_ended.new.input) arrives.given c.in_ok-progress.progress.part.items old new
+    (content c.put_reply.new.out) c.put_reply.new.reads refl arrives.told c.in_ok-progress.ensures.end arrives.passes
+    arrives.goes_on (c.has_bytes.ensures.yes c.if-has_bytes.true)
+    (subst (λ (l : List ℕ). content c.put_reply.new.out ≡ option_map (λ text. text ++ reply b l) (content c.serve_ended.new.out))
+    same c.in_ok-put_reply.ensures.ok)
     (subst (λ (l : List ℕ). IsWithin (line_bytes b l) c.serve_ended.new.reads c.put_reply.new.reads) same c.put_reply.ensures.reads)

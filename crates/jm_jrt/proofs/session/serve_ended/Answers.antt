@@ -6,7 +6,8 @@ use Rattle.jm_jrt.specs.declared.serve_error.ServeError.TheVariants.{Memory}
 use Rattle.jm_jrt.specs.Lines.{is_newline}
 use Rattle.jm_jrt.specs.Sessions.{IsFree, Moment, Passes, Serves, joined, moment}
 use Rattle.jm_jrt.proofs.ServeErrors.{err_with}
-use Rattle.jm_jrt.proofs.SessionEnds.{comes_further, serves_broken, serves_given, serves_nothing, told_none, told_same, told_start, told_then, written, written_length}
+use Rattle.jm_jrt.proofs.SessionEnds.{comes_further, serves_broken, serves_given, serves_nothing, told_none}
+use Rattle.jm_jrt.proofs.SessionEnds.{told_same, told_start, told_then, written, written_length}
 use Rattle.jm_jrt.proofs.SessionSteps.{breaks_then, passes_more, passes_nothing, passes_then}
 use Rattle.jm_jrt.proofs.WithinLaws.{later_then}
 use Rattle.jm_jrt.proofs.session.serve_ended.Goals as goal
@@ -17,7 +18,8 @@ returns-in_err-piece-clause-err g c =
     let rest = g.I.Source.rest c.args.input.now in
     let put = g.O.Sink.content c.args.out.now in
     let reads = c.args.reads.now in
-    err_with (λ e. Serves b (Err e) rest rest put put reads reads) c.from_residual.result Memory c.from_residual.ensures.1 (serves_nothing b rest (moment put 0 c.args.hashes.now reads) reads reads refl)
+    err_with (λ e. Serves b (Err e) rest rest put put reads reads) c.from_residual.result Memory c.from_residual.ensures.1
+    (serves_nothing b rest (moment put 0 c.args.hashes.now reads) reads reads refl)
 
 pub loop-progress-init : goal.loop-progress-init
 loop-progress-init g c =
@@ -54,10 +56,15 @@ returns-in_err-count-clause-err g c =
     let old : Moment = moment (content c.args.out.now) 0 c.args.hashes.now c.args.reads.now in
     let now : Moment = moment (content c.loop-progress.out) c.loop-progress.progress.lines c.loop-progress.hashes c.loop-progress.reads in
     let arrives = c.loop-progress.invariant.arrives in
-    let told : Told (rest c.args.input.now) (rest c.take.new.input) (λ o n. o ≡ arrives.given ++ n) = subst (λ r. Told (rest c.args.input.now) r (λ o n. o ≡ arrives.given ++ n)) (sym c.in_err-count.ensures.err) arrives.told in
-    err_with (λ e. Serves b (Err e) (rest c.args.input.now) (rest c.take.new.input) (content c.args.out.now) (content c.loop-progress.out) c.args.reads.now c.loop-progress.reads) c.from_residual-in_err-count.result c.in_err-count.field-0.0 c.from_residual-in_err-count.ensures.1
-    (subst (λ e. Serves b (Err e) (rest c.args.input.now) (rest c.take.new.input) (content c.args.out.now) (content c.loop-progress.out) c.args.reads.now c.loop-progress.reads) (sym c.in_err-count.ensures.fault)
-    (serves_given b (rest c.args.input.now) (rest c.take.new.input) arrives.given c.loop-progress.progress.part.items old now c.args.reads.now c.loop-progress.reads told arrives.passes arrives.goes_on))
+    let told : Told (rest c.args.input.now) (rest c.take.new.input) (λ o n. o ≡ arrives.given ++ n) =
+    subst (λ r. Told (rest c.args.input.now) r (λ o n. o ≡ arrives.given ++ n)) (sym c.in_err-count.ensures.err) arrives.told in
+    err_with (λ e. Serves b (Err e) (rest c.args.input.now) (rest c.take.new.input) (content c.args.out.now)
+    (content c.loop-progress.out) c.args.reads.now c.loop-progress.reads) c.from_residual-in_err-count.result
+    c.in_err-count.field-0.0 c.from_residual-in_err-count.ensures.1
+    (subst (λ e. Serves b (Err e) (rest c.args.input.now) (rest c.take.new.input) (content c.args.out.now)
+    (content c.loop-progress.out) c.args.reads.now c.loop-progress.reads) (sym c.in_err-count.ensures.fault)
+    (serves_given b (rest c.args.input.now) (rest c.take.new.input) arrives.given c.loop-progress.progress.part.items old now
+    c.args.reads.now c.loop-progress.reads told arrives.passes arrives.goes_on))
 
 pub returns-then-count-eq0-clause-ok : goal.returns-then-count-eq0-clause-ok
 returns-then-count-eq0-clause-ok g c =
@@ -65,7 +72,8 @@ returns-then-count-eq0-clause-ok g c =
     let arrives = c.loop-progress.invariant.arrives in
     record {
       given = arrives.given;
-      told = told_same (rest c.args.input.now) (rest c.loop-progress.input) (rest c.take.new.input) arrives.given c.take.new.into c.in_ok-count.count c.if-count-eq0.true arrives.told c.in_ok-count.ensures.moved;
+      told = told_same (rest c.args.input.now) (rest c.loop-progress.input) (rest c.take.new.input) arrives.given c.take.new.into
+          c.in_ok-count.count c.if-count-eq0.true arrives.told c.in_ok-count.ensures.moved;
       passes = arrives.passes;
       goes_on = arrives.goes_on;
     }
@@ -75,20 +83,25 @@ returns-then-count-eq0-clause-end g c =
     let rest = g.I.Source.rest in
     let arrives = c.loop-progress.invariant.arrives in
     let none = c.if-count-eq0.true in
-    told_none (rest c.args.input.now) (rest c.loop-progress.input) (rest c.take.new.input) arrives.given c.take.new.into c.in_ok-count.count none arrives.told c.in_ok-count.ensures.moved (c.in_ok-count.ensures.end none)
+    told_none (rest c.args.input.now) (rest c.loop-progress.input) (rest c.take.new.input) arrives.given c.take.new.into
+    c.in_ok-count.count none arrives.told c.in_ok-count.ensures.moved (c.in_ok-count.ensures.end none)
 
 pub loop-progress-smaller : goal.loop-progress-smaller
 loop-progress-smaller g c =
     let b = c.args.image.now in
     let content = g.O.Sink.content in
     let now : Moment = moment (content c.loop-progress.out) c.loop-progress.progress.lines c.loop-progress.hashes c.loop-progress.reads in
-    let new : Moment = moment (content c.take_piece.new.out) c.take_piece.new.progress.lines c.take_piece.new.hashes c.take_piece.new.reads in
+    let new : Moment = moment (content c.take_piece.new.out) c.take_piece.new.progress.lines c.take_piece.new.hashes
+    c.take_piece.new.reads in
     let bytes = c.split_at.result.0.now in
     let some : c.in_ok-count.count ≢ 0 = c.if-count-eq0.false in
     let within = c.in_ok-count.ensures.within in
-    let front : length bytes ≡ length (take c.in_ok-count.count c.take.new.into) = ap length (c.split_at.ensures.front ∙ ap (take c.in_ok-count.count) (written c.as_slice.result.now c.take.new.into _ c.loop-progress.piece.len (c.take.ensures.length ∙ c.as_mut_slice.ensures.len) c.as_slice.ensures.value)) in
+    let front : length bytes ≡ length (take c.in_ok-count.count c.take.new.into) = ap length (c.split_at.ensures.front
+    ∙ ap (take c.in_ok-count.count) (written c.as_slice.result.now c.take.new.into _ c.loop-progress.piece.len
+    (c.take.ensures.length ∙ c.as_mut_slice.ensures.len) c.as_slice.ensures.value)) in
     let len = length-take c.in_ok-count.count c.take.new.into in
-    let further = comes_further b c.loop-progress.progress.part.items bytes c.take_piece.new.progress.part.items now new c.in_ok-take_piece.ensures.passes c.loop-progress.invariant.arrives.goes_on (omega arith) in
+    let further = comes_further b c.loop-progress.progress.part.items bytes c.take_piece.new.progress.part.items now new
+    c.in_ok-take_piece.ensures.passes c.loop-progress.invariant.arrives.goes_on (omega arith) in
     let further_on = c.in_ok-take_piece.ensures.open_new in
     let most = further_on.within in
     let short = further_on.short in
@@ -101,22 +114,29 @@ loop-progress-preserved g c =
     let content = g.O.Sink.content in
     let old : Moment = moment (content c.args.out.now) 0 c.args.hashes.now c.args.reads.now in
     let now : Moment = moment (content c.loop-progress.out) c.loop-progress.progress.lines c.loop-progress.hashes c.loop-progress.reads in
-    let new : Moment = moment (content c.take_piece.new.out) c.take_piece.new.progress.lines c.take_piece.new.hashes c.take_piece.new.reads in
+    let new : Moment = moment (content c.take_piece.new.out) c.take_piece.new.progress.lines c.take_piece.new.hashes
+    c.take_piece.new.reads in
     let before = c.loop-progress.invariant in
     let given = before.arrives.given in
     let part = c.loop-progress.progress.part.items in
     let bytes = c.split_at.result.0.now in
     let new_part = c.take_piece.new.progress.part.items in
-    let moved : Told (rest c.loop-progress.input) (rest c.take.new.input) (λ o n. o ≡ bytes ++ n) = subst (λ (t : List ℕ). Told (rest c.loop-progress.input) (rest c.take.new.input) (λ o n. o ≡ t ++ n)) (sym (c.split_at.ensures.front ∙ ap (take c.in_ok-count.count) (written c.as_slice.result.now c.take.new.into _ c.loop-progress.piece.len (c.take.ensures.length ∙ c.as_mut_slice.ensures.len) c.as_slice.ensures.value))) c.in_ok-count.ensures.moved in
+    let moved : Told (rest c.loop-progress.input) (rest c.take.new.input) (λ o n. o ≡ bytes ++ n) =
+    subst (λ (t : List ℕ). Told (rest c.loop-progress.input) (rest c.take.new.input) (λ o n. o ≡ t ++ n))
+    (sym (c.split_at.ensures.front ∙ ap (take c.in_ok-count.count) (written c.as_slice.result.now c.take.new.into _
+    c.loop-progress.piece.len (c.take.ensures.length ∙ c.as_mut_slice.ensures.len) c.as_slice.ensures.value)))
+    c.in_ok-count.ensures.moved in
     let hashes = c.take_piece.ensures.hashes in
     let hashes_before = before.hashes in
     record {
       metered = c.take_piece.ensures.reads.bytes ∙ before.metered;
-      piece = written_length c.take.new.into _ c.loop-progress.piece.len (c.take.ensures.length ∙ c.as_mut_slice.ensures.len) ∙ c.take.ensures.length ∙ ap length c.as_mut_slice.ensures.value ∙ before.piece;
+      piece = written_length c.take.new.into _ c.loop-progress.piece.len (c.take.ensures.length ∙ c.as_mut_slice.ensures.len)
+          ∙ c.take.ensures.length ∙ ap length c.as_mut_slice.ensures.value ∙ before.piece;
       arrives = record {
         given = given ++ bytes;
         told = told_then (rest c.args.input.now) (rest c.loop-progress.input) (rest c.take.new.input) given bytes before.arrives.told moved;
-        passes = passes_then b (given ++ bytes) old (part ++ bytes) now new_part new (passes_more b given old part now bytes before.arrives.passes) c.in_ok-take_piece.ensures.passes;
+        passes = passes_then b (given ++ bytes) old (part ++ bytes) now new_part new (passes_more b given old part now bytes
+            before.arrives.passes) c.in_ok-take_piece.ensures.passes;
         goes_on = c.in_ok-take_piece.ensures.open_new;
       };
       input_faults = c.in_ok-count.ensures.faults.kept refl ∙ before.input_faults;
@@ -137,8 +157,13 @@ returns-in_err-take_piece-clause-err g c =
     let part = c.loop-progress.progress.part.items in
     let bytes = c.split_at.result.0.now in
     let put = content c.take_piece.new.out in
-    let moved : Told (rest c.loop-progress.input) (rest c.take.new.input) (λ o n. o ≡ bytes ++ n) = subst (λ (t : List ℕ). Told (rest c.loop-progress.input) (rest c.take.new.input) (λ o n. o ≡ t ++ n)) (sym (c.split_at.ensures.front ∙ ap (take c.in_ok-count.count) (written c.as_slice.result.now c.take.new.into _ c.loop-progress.piece.len (c.take.ensures.length ∙ c.as_mut_slice.ensures.len) c.as_slice.ensures.value))) c.in_ok-count.ensures.moved in
-    let told = told_then (rest c.args.input.now) (rest c.loop-progress.input) (rest c.take.new.input) given bytes before.arrives.told moved in
+    let moved : Told (rest c.loop-progress.input) (rest c.take.new.input) (λ o n. o ≡ bytes ++ n) =
+    subst (λ (t : List ℕ). Told (rest c.loop-progress.input) (rest c.take.new.input) (λ o n. o ≡ t ++ n))
+    (sym (c.split_at.ensures.front ∙ ap (take c.in_ok-count.count) (written c.as_slice.result.now c.take.new.into _
+    c.loop-progress.piece.len (c.take.ensures.length ∙ c.as_mut_slice.ensures.len) c.as_slice.ensures.value)))
+    c.in_ok-count.ensures.moved in
+    let told = told_then (rest c.args.input.now) (rest c.loop-progress.input) (rest c.take.new.input) given bytes
+    before.arrives.told moved in
     let error = c.in_err-take_piece.field-0.0 in
     let breaks = c.in_err-take_piece.ensures.err in
     let parts : length (part ++ bytes) ≡ length (joined breaks.done ++ breaks.behind) = ap length breaks.is in
@@ -149,9 +174,14 @@ returns-in_err-take_piece-clause-err g c =
     let room = before.piece in
     let within = c.in_ok-count.ensures.within in
     let into : length c.take.new.into ≡ 65536 = c.take.ensures.length ∙ ap length c.as_mut_slice.ensures.value ∙ before.piece in
-    let front : length bytes ≡ length (take c.in_ok-count.count c.take.new.into) = ap length (c.split_at.ensures.front ∙ ap (take c.in_ok-count.count) (written c.as_slice.result.now c.take.new.into _ c.loop-progress.piece.len (c.take.ensures.length ∙ c.as_mut_slice.ensures.len) c.as_slice.ensures.value)) in
+    let front : length bytes ≡ length (take c.in_ok-count.count c.take.new.into) = ap length (c.split_at.ensures.front
+    ∙ ap (take c.in_ok-count.count) (written c.as_slice.result.now c.take.new.into _ c.loop-progress.piece.len
+    (c.take.ensures.length ∙ c.as_mut_slice.ensures.len) c.as_slice.ensures.value)) in
     let len = length-take c.in_ok-count.count c.take.new.into in
     let most : length breaks.behind ≤ 8192 + 65536 = omega arith in
-    err_with (λ e. Serves b (Err e) (rest c.args.input.now) (rest c.take.new.input) (content c.args.out.now) put c.args.reads.now c.take_piece.new.reads) c.from_residual-in_err-take_piece.result error c.from_residual-in_err-take_piece.ensures.1
-    (serves_broken error b (rest c.args.input.now) (rest c.take.new.input) (given ++ bytes) old put c.args.reads.now c.take_piece.new.reads refl told
-    (breaks_then error b (given ++ bytes) old (part ++ bytes) now put (passes_more b given old part now bytes before.arrives.passes) breaks) most)
+    err_with (λ e. Serves b (Err e) (rest c.args.input.now) (rest c.take.new.input) (content c.args.out.now) put c.args.reads.now
+    c.take_piece.new.reads) c.from_residual-in_err-take_piece.result error c.from_residual-in_err-take_piece.ensures.1
+    (serves_broken error b (rest c.args.input.now) (rest c.take.new.input) (given ++ bytes) old put c.args.reads.now
+    c.take_piece.new.reads refl told
+    (breaks_then error b (given ++ bytes) old (part ++ bytes) now put (passes_more b given old part now bytes before.arrives.passes)
+    breaks) most)

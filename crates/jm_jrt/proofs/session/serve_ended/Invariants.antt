@@ -10,7 +10,8 @@ invariant-loop-progress g l =
     record {
       metered : l.reads.bytes ≡ l.image;
       piece : length l.piece.items ≡ 65536;
-      arrives : Arrives l.image (rest l.fn.input) (rest l.input) (moment (content l.fn.out) 0 l.fn.hashes l.fn.reads) l.progress.part.items (moment (content l.out) l.progress.lines l.hashes l.reads);
+      arrives : Arrives l.image (rest l.fn.input) (rest l.input) (moment (content l.fn.out) 0 l.fn.hashes l.fn.reads)
+          l.progress.part.items (moment (content l.out) l.progress.lines l.hashes l.reads);
       input_faults : g.I.Source.faults l.input ≡ g.I.Source.faults l.fn.input;
       out_faults : g.O.Sink.faults l.out ≡ g.O.Sink.faults l.fn.out;
       hashes : l.fn.hashes ≤ l.hashes;

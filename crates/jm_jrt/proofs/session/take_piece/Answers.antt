@@ -13,7 +13,8 @@ pub loop-bytes-init : goal.loop-bytes-init
 loop-bytes-init g c = record {
   metered = c.requires.metered;
   goes_on = c.requires.open;
-  passes = passes_nothing c.args.image.now (c.args.progress.now.part.items ++ c.args.piece.now) (moment (g.O.Sink.content c.args.out.now) c.args.progress.now.lines c.args.hashes.now c.args.reads.now);
+  passes = passes_nothing c.args.image.now (c.args.progress.now.part.items ++ c.args.piece.now)
+      (moment (g.O.Sink.content c.args.out.now) c.args.progress.now.lines c.args.hashes.now c.args.reads.now);
   faults = refl;
   hashes = omega arith;
   reads = record { bytes = refl; count = omega arith };
@@ -31,12 +32,15 @@ returns-in_err-end_line-clause-err g c =
     let behind = c.in-Some.behind.now in
     let now = moment (content c.loop-bytes.out) c.loop-bytes.progress.lines c.loop-bytes.hashes c.loop-bytes.reads in
     let free : IsFree (part ++ bytes) = All-append (λ x. is_newline x ≡ false) part bytes before.goes_on.free c.in-Some.ensures.free in
-    let cut : part ++ c.loop-bytes.rest.now ≡ (part ++ bytes) ++ 10 ∷ behind = ap (λ (t : List ℕ). part ++ t) c.in-Some.ensures.cut ∙ sym (append_assoc part bytes (10 ∷ behind)) in
-    let passes : Passes b text old ((part ++ bytes) ++ 10 ∷ behind) now = subst (λ (t : List ℕ). Passes b text old t now) cut before.passes in
+    let cut : part ++ c.loop-bytes.rest.now ≡ (part ++ bytes) ++ 10 ∷ behind = ap (λ (t : List ℕ). part ++ t) c.in-Some.ensures.cut
+    ∙ sym (append_assoc part bytes (10 ∷ behind)) in
+    let passes : Passes b text old ((part ++ bytes) ++ 10 ∷ behind) now = subst (λ (t : List ℕ). Passes b text old t now) cut
+    before.passes in
     let put = content c.end_line.new.out in
     let error = c.in_err-end_line.field-0.0 in
     err_with (λ e. Breaks e b text old put) c.from_residual.result error c.from_residual.ensures.1
-    (breaks_then error b text old ((part ++ bytes) ++ 10 ∷ behind) now put passes (breaks_line error b (part ++ bytes) behind now put before.goes_on.within free c.in_err-end_line.ensures.err))
+    (breaks_then error b text old ((part ++ bytes) ++ 10 ∷ behind) now put passes (breaks_line error b (part ++ bytes) behind now
+    put before.goes_on.within free c.in_err-end_line.ensures.err))
 
 pub loop-bytes-preserved : goal.loop-bytes-preserved
 loop-bytes-preserved g c =
@@ -51,10 +55,14 @@ loop-bytes-preserved g c =
     let now = moment (content c.loop-bytes.out) c.loop-bytes.progress.lines c.loop-bytes.hashes c.loop-bytes.reads in
     let new = moment (content c.end_line.new.out) c.end_line.new.progress.lines c.end_line.new.hashes c.end_line.new.reads in
     let free : IsFree (part ++ bytes) = All-append (λ x. is_newline x ≡ false) part bytes before.goes_on.free c.in-Some.ensures.free in
-    let cut : part ++ c.loop-bytes.rest.now ≡ (part ++ bytes) ++ 10 ∷ behind = ap (λ (t : List ℕ). part ++ t) c.in-Some.ensures.cut ∙ sym (append_assoc part bytes (10 ∷ behind)) in
-    let passes : Passes b text old ((part ++ bytes) ++ 10 ∷ behind) now = subst (λ (t : List ℕ). Passes b text old t now) cut before.passes in
+    let cut : part ++ c.loop-bytes.rest.now ≡ (part ++ bytes) ++ 10 ∷ behind = ap (λ (t : List ℕ). part ++ t) c.in-Some.ensures.cut
+    ∙ sym (append_assoc part bytes (10 ∷ behind)) in
+    let passes : Passes b text old ((part ++ bytes) ++ 10 ∷ behind) now = subst (λ (t : List ℕ). Passes b text old t now) cut
+    before.passes in
     let answered = c.in_ok-end_line.ensures.line in
-    let step : Passes b ((part ++ bytes) ++ 10 ∷ behind) now behind new = passes_line b (part ++ bytes) behind now new (record { free = free; short = answered.short }) answered.next c.in_ok-end_line.ensures.put c.end_line.ensures.hashes c.end_line.ensures.reads in
+    let step : Passes b ((part ++ bytes) ++ 10 ∷ behind) now behind new = passes_line b (part ++ bytes) behind now new
+    (record { free = free; short = answered.short }) answered.next c.in_ok-end_line.ensures.put c.end_line.ensures.hashes
+    c.end_line.ensures.reads in
     let later = within_later (line_bytes b (part ++ bytes)) c.loop-bytes.reads c.end_line.new.reads c.end_line.ensures.reads in
     let empty : c.end_line.new.progress.part.items ≡ [] = answered.begun in
     let none : length c.end_line.new.progress.part.items ≡ 0 = ap length empty in
@@ -71,7 +79,8 @@ loop-bytes-preserved g c =
         within = omega arith;
         numbered = λ some. absurd (omega arith);
       };
-      passes = subst (λ (t : List ℕ). Passes b text old (t ++ behind) new) (sym empty) (passes_then b text old ((part ++ bytes) ++ 10 ∷ behind) now behind new passes step);
+      passes = subst (λ (t : List ℕ). Passes b text old (t ++ behind) new) (sym empty) (passes_then b text old ((part ++ bytes)
+          ++ 10 ∷ behind) now behind new passes step);
       faults = c.in_ok-end_line.ensures.faults.kept refl ∙ before.faults;
       hashes = omega arith;
       reads = later_then c.args.reads.now c.loop-bytes.reads c.end_line.new.reads before.reads later;
@@ -88,5 +97,7 @@ returns-clause-err g c =
     let rest = c.loop-bytes.rest.now in
     let now = moment (content c.loop-bytes.out) c.loop-bytes.progress.lines c.loop-bytes.hashes c.loop-bytes.reads in
     let free : IsFree (part ++ rest) = All-append (λ x. is_newline x ≡ false) part rest before.goes_on.free c.in_default.ensures.none in
-    err_from (λ e. Refuses e c.loop-bytes.progress.lines (length (part ++ rest))) (λ e. Breaks e b text old (content c.loop-bytes.out)) c.keep_part.result c.keep_part.ensures.err c.keep_part.ensures.begun
-    (λ error refuses begun. breaks_then error b text old (part ++ rest) now (content c.loop-bytes.out) before.passes (breaks_part error b (part ++ rest) now before.goes_on.within free (omega (arith, length-append part rest)) refuses))
+    err_from (λ e. Refuses e c.loop-bytes.progress.lines (length (part ++ rest)))
+    (λ e. Breaks e b text old (content c.loop-bytes.out)) c.keep_part.result c.keep_part.ensures.err c.keep_part.ensures.begun
+    (λ error refuses begun. breaks_then error b text old (part ++ rest) now (content c.loop-bytes.out) before.passes
+    (breaks_part error b (part ++ rest) now before.goes_on.within free (omega (arith, length-append part rest)) refuses))

@@ -9,7 +9,8 @@ invariant-loop-bytes g l =
     record {
       metered : l.reads.bytes ≡ l.image;
       goes_on : IsOpen l.progress.lines l.progress.part.items;
-      passes : Passes l.image (l.fn.progress.part.items ++ l.piece) (moment (content l.fn.out) l.fn.progress.lines l.fn.hashes l.fn.reads) (l.progress.part.items ++ l.rest) (moment (content l.out) l.progress.lines l.hashes l.reads);
+      passes : Passes l.image (l.fn.progress.part.items ++ l.piece) (moment (content l.fn.out) l.fn.progress.lines l.fn.hashes
+          l.fn.reads) (l.progress.part.items ++ l.rest) (moment (content l.out) l.progress.lines l.hashes l.reads);
       faults : g.O.Sink.faults l.out ≡ g.O.Sink.faults l.fn.out;
       hashes : l.fn.hashes ≤ l.hashes;
       reads : IsLater l.fn.reads l.reads;

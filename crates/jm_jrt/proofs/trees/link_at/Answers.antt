@@ -21,7 +21,8 @@ returns-in-Some-clause-link g c =
     let asked : List ℕ = c.args.asked.now in
     let owners : List Owner = owners_left c.args.image.now c.in_ok-content.content.now 0 in
     let some : list_any (λ (o : Owner). bytes_eq asked o.module) owners ≡ true = sym (c.in-Some.ensures.found) in
-    renamed c.in-Some.module.now asked c.in-Some.ensures.same ∙ sym (ap (link asked) (sym c.in_ok-content.ensures.owners) ∙ link_some asked owners some)
+    renamed c.in-Some.module.now asked c.in-Some.ensures.same ∙ sym (ap (link asked) (sym c.in_ok-content.ensures.owners)
+    ∙ link_some asked owners some)
   where
     renamed : (m n : List ℕ) → m ≡ n → ◌≡◌ {A = Result TreeItem JrtError} (Ok (Link m)) (Ok (Link n))
     renamed m n same = rw same refl

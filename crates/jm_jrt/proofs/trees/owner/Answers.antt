@@ -13,5 +13,6 @@ returns-clause-trees g c = λ m stands nodes.
     let b = c.args.image.now in
     let longest = c.longest_section-longest.type_inv in
     let within = c.longest_section-longest.ensures in
-    let has = subst HasSections (sym (head_is b c.header-header.result c.header-header.ensures.header)) (record { locations = omega arith; strings = omega arith }) in
+    let has = subst HasSections (sym (head_is b c.header-header.result c.header-header.ensures.header))
+    (record { locations = omega arith; strings = omega arith }) in
     returns-clause-owner g c ∙ (trees_with b m has nodes stands).owners c.args.path.now

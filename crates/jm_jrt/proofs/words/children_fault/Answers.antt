@@ -37,5 +37,6 @@ loop-k-preserved g c =
     record {
       bytes = later.bytes ∙ loop.bytes;
       count = omega arith;
-      sound = sound_more (is_child_sound b c.args.content.now) c.loop-k.k loop.sound (sym c.is_child_sound.ensures.sound ∙ c.if-not-is_child_sound.false);
+      sound = sound_more (is_child_sound b c.args.content.now) c.loop-k.k loop.sound (sym c.is_child_sound.ensures.sound
+          ∙ c.if-not-is_child_sound.false);
     }

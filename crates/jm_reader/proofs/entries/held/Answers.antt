@@ -12,7 +12,8 @@ returns-in_err-pieces-clause-spare g c =
     let b = c.args.image.now in
     let h = c.header-header.result in
     let valid = head_valid b h c.header-header.ensures in
-    let there = row_there b h c.buf-buf.result c.args.slot (Some c.in_ok-row.row) c.row_of_slot.result c.header-header.ensures.header c.buf-buf.ensures c.in_ok-row.ensures c.row_of_slot.ensures.row in
+    let there = row_there b h c.buf-buf.result c.args.slot (Some c.in_ok-row.row) c.row_of_slot.result
+    c.header-header.ensures.header c.buf-buf.ensures c.in_ok-row.ensures c.row_of_slot.ensures.row in
     let sound = sound_row b (head b) c.args.slot c.in_ok-row.row (valid.slots c.args.slot c.requires.below) there in
     let read = subst (λ h. SoundRow b h c.in_ok-row.row) (head_is b h c.header-header.ensures.header) sound in
     let ends = rw c.buf-buf.ensures at c.in_err-pieces.ensures.ends in
@@ -23,5 +24,6 @@ returns-then-is_led_to-clause-sound g c =
     let b = c.args.image.now in
     let h = c.header-header.result in
     let valid = head_valid b h c.header-header.ensures in
-    let there = row_there b h c.buf-buf.result c.args.slot (Some c.in_ok-row.row) c.row_of_slot.result c.header-header.ensures.header c.buf-buf.ensures c.in_ok-row.ensures c.row_of_slot.ensures.row in
+    let there = row_there b h c.buf-buf.result c.args.slot (Some c.in_ok-row.row) c.row_of_slot.result
+    c.header-header.ensures.header c.buf-buf.ensures c.in_ok-row.ensures c.row_of_slot.ensures.row in
     sound_row b (head b) c.args.slot c.in_ok-row.row (valid.slots c.args.slot c.requires.below) there

@@ -17,7 +17,8 @@ returns-in_err-last-clause-other g c =
     let front = rw rest at c.in_ok-n.ensures.front in
     let some : 0 < c.in_ok-n.n = (let not_zero = c.if-n-eq0.false in omega arith) in
     let other = rw rest at c.in_err-last.ensures.none in
-    rw c.from_residual-in_err-last.ensures (no_mark_behind text.before text.after (text_at c.args.buf.now text.place) c.args.name.now c.in_ok-n.n some front.0 front.1 other)
+    rw c.from_residual-in_err-last.ensures (no_mark_behind text.before text.after (text_at c.args.buf.now text.place)
+    c.args.name.now c.in_ok-n.n some front.0 front.1 other)
 
 pub returns-clause-front : goal.returns-clause-front
 returns-clause-front g c =
@@ -27,5 +28,6 @@ returns-clause-front g c =
     let front = rw rest at c.in_ok-n.ensures.front in
     let some : 0 < c.in_ok-n.n = (let not_zero = c.if-n-eq0.false in omega arith) in
     let there = rw rest at c.in_ok-last.ensures.there in
-    let whole = front_marked text.before text.after (text_at c.args.buf.now text.place) c.args.name.now c.in_ok-n.n c.in_ok-last.last some there.0 front.1 there.1 in
+    let whole = front_marked text.before text.after (text_at c.args.buf.now text.place) c.args.name.now c.in_ok-n.n
+    c.in_ok-last.last some there.0 front.1 there.1 in
     rw taken (whole.1, whole.0)

@@ -24,12 +24,25 @@ pub returns-in-Equal : goal.returns-in-Equal
 returns-in-Equal t c =
     let one = c.part_or_next-part.ensures in
     let other = c.part_or_next-other_part.ensures in
-    let cut = cut_first c.min-len.result c.part_or_next-part.result.now c.part_or_next-part.new.bytes c.part_or_next-other_part.result.now c.part_or_next-other_part.new.bytes c.min-len.ensures in
-    rw (one.same, other.same, cut, sym c.split_at.ensures.front, sym c.split_at-2.ensures.front, sym c.cmp-2.ensures, c.in-Equal.is, sym c.split_at.ensures.back, sym c.split_at-2.ensures.back) c.order_from.ensures
+    let cut = cut_first c.min-len.result c.part_or_next-part.result.now c.part_or_next-part.new.bytes
+    c.part_or_next-other_part.result.now c.part_or_next-other_part.new.bytes c.min-len.ensures in
+    rw (
+      one.same,
+      other.same,
+      cut,
+      sym c.split_at.ensures.front,
+      sym c.split_at-2.ensures.front,
+      sym c.cmp-2.ensures,
+      c.in-Equal.is,
+      sym c.split_at.ensures.back,
+      sym c.split_at-2.ensures.back,
+    ) c.order_from.ensures
 
 pub returns-in_default : goal.returns-in_default
 returns-in_default t c =
     let one = c.part_or_next-part.ensures in
     let other = c.part_or_next-other_part.ensures in
-    let cut = cut_first c.min-len.result c.part_or_next-part.result.now c.part_or_next-part.new.bytes c.part_or_next-other_part.result.now c.part_or_next-other_part.new.bytes c.min-len.ensures in
-    rw (one.same, other.same, cut, sym c.split_at.ensures.front, sym c.split_at-2.ensures.front, sym c.cmp-2.ensures) (decided _ _ c.in_default.not-Equal)
+    let cut = cut_first c.min-len.result c.part_or_next-part.result.now c.part_or_next-part.new.bytes
+    c.part_or_next-other_part.result.now c.part_or_next-other_part.new.bytes c.min-len.ensures in
+    rw (one.same, other.same, cut, sym c.split_at.ensures.front, sym c.split_at-2.ensures.front, sym c.cmp-2.ensures)
+    (decided _ _ c.in_default.not-Equal)

@@ -3,7 +3,9 @@ use Rattle.jm_reader.proofs.HeadLaws.{text_there}
 use Rattle.jm_reader.proofs.texts.place_of.Goals as goal
 
 pub returns-clause-ends : goal.returns-clause-ends
-returns-clause-ends c = (text_there c.args.image.now c.header.result c.args.place (c.strings_place.result + c.args.place) c.header.ensures.header c.requires (ap (λ (n : ℕ). n + c.args.place) c.strings_place.ensures)).ends
+returns-clause-ends c = (text_there c.args.image.now c.header.result c.args.place (c.strings_place.result + c.args.place)
+    c.header.ensures.header c.requires (ap (λ (n : ℕ). n + c.args.place) c.strings_place.ensures)).ends
 
 pub returns-clause-text : goal.returns-clause-text
-returns-clause-text c = (text_there c.args.image.now c.header.result c.args.place (c.strings_place.result + c.args.place) c.header.ensures.header c.requires (ap (λ (n : ℕ). n + c.args.place) c.strings_place.ensures)).text
+returns-clause-text c = (text_there c.args.image.now c.header.result c.args.place (c.strings_place.result + c.args.place)
+    c.header.ensures.header c.requires (ap (λ (n : ℕ). n + c.args.place) c.strings_place.ensures)).text

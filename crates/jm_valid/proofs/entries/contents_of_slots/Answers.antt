@@ -28,7 +28,8 @@ overflow_add-range c =
     let s = c.args.names.now.sections in
     let there = row_reached s c.loop-slot.slot c.in-Some.row (sym c.in-Some.ensures) in
     let below : c.loop-slot.slot < s.header.length = omega arith in
-    let sound = sound_row_with s.bytes.now s.header s.size c.loop-slot.slot c.in-Some.row (c.requires.sound c.loop-slot.slot below) there.0 in
+    let sound = sound_row_with s.bytes.now s.header s.size c.loop-slot.slot c.in-Some.row (c.requires.sound c.loop-slot.slot below)
+    there.0 in
     let fits = sound.within in
     omega arith
 
@@ -47,8 +48,10 @@ loop-slot-preserved c =
           let done = w.in_ok-add_entry.ensures in
           let same = w.contents-is in
           record {
-            count = ap (λ x. x.count) same ∙ done.count ∙ ap (λ n. n + 1) c.loop-slot.invariant.count ∙ sym (ap length more ∙ length_push before e);
-            ranges = ap (λ x. x.ranges.items) same ∙ done.ranges ∙ ap (λ rs. rs ++ ranges_with_bytes (range_of e ∷ [])) c.loop-slot.invariant.ranges ∙ sym (ap (λ es. ranges_with_bytes (ranges_of es)) more ∙ ranges_more before e);
+            count = ap (λ x. x.count) same ∙ done.count ∙ ap (λ n. n + 1) c.loop-slot.invariant.count
+                ∙ sym (ap length more ∙ length_push before e);
+            ranges = ap (λ x. x.ranges.items) same ∙ done.ranges ∙ ap (λ rs. rs ++ ranges_with_bytes (range_of e ∷ []))
+                c.loop-slot.invariant.ranges ∙ sym (ap (λ es. ranges_with_bytes (ranges_of es)) more ∙ ranges_more before e);
           }
       | in_default w ↦
           let none = ap (entries_at s) next ∙ entry_same s slots i (sym w.in_default.ensures) in

@@ -18,7 +18,8 @@ only_check None = refl
 only_check (Some fault) = refl
 
 -- where the count is right, the damage is the overlap
-entries_overlap : (stated : ℕ) (es : List Entry) → fault_if (not (stated == length es)) (damage.Count stated (length es)) ≡ None → first_fault (entries_checks stated es) ≡ overlap_damage (first_overlap (ranges_of es))
+entries_overlap : (stated : ℕ) (es : List Entry) → fault_if (not (stated == length es)) (damage.Count stated (length es)) ≡ None
+    → first_fault (entries_checks stated es) ≡ overlap_damage (first_overlap (ranges_of es))
 entries_overlap stated es counted = rw counted (only_check (overlap_damage (first_overlap (ranges_of es))))
 
 pub first_overlap-requires-clause-rising : goal.first_overlap-requires-clause-rising
@@ -27,7 +28,8 @@ first_overlap-requires-clause-rising c =
 
 pub first_overlap-requires-clause-some : goal.first_overlap-requires-clause-some
 first_overlap-requires-clause-some c =
-    rw (c.as_mut_slice.ensures.value ∙ c.requires.ranges) (ranges_some (ranges_of (entries c.args.sections.now.bytes.now c.args.sections.now.header)))
+    rw (c.as_mut_slice.ensures.value ∙ c.requires.ranges)
+    (ranges_some (ranges_of (entries c.args.sections.now.bytes.now c.args.sections.now.header)))
 
 pub returns : goal.returns
 returns c =

@@ -6,12 +6,16 @@ use Rattle.jm_valid.proofs.LeastRanges.{least_meet, none_meets}
 use Rattle.jm_valid.proofs.overlap.first_overlap.Goals as goal
 
 pub least_meeting-requires-clause-some : goal.least_meeting-requires-clause-some
-least_meeting-requires-clause-some c = All-permutation (λ (r : Range). r.start < r.end) c.args.ranges.now c.sort_by_start.new.ranges c.sort_by_start.ensures.moved c.requires.some
+least_meeting-requires-clause-some c = All-permutation (λ (r : Range). r.start < r.end) c.args.ranges.now c.sort_by_start.new.ranges
+    c.sort_by_start.ensures.moved c.requires.some
 
 pub returns-in_err-first : goal.returns-in_err-first
 returns-in_err-first c =
-    c.from_residual.ensures ∙ sym (ap (option_map (λ o. damage.Overlap o.0 o.1)) (none_meets c.args.ranges.now c.sort_by_start.new.ranges c.sort_by_start.ensures.moved c.in_err-first.ensures))
+    c.from_residual.ensures
+    ∙ sym (ap (option_map (λ o. damage.Overlap o.0 o.1)) (none_meets c.args.ranges.now c.sort_by_start.new.ranges
+    c.sort_by_start.ensures.moved c.in_err-first.ensures))
 
 pub returns : goal.returns
 returns c =
-    sym (ap (option_map (λ o. damage.Overlap o.0 o.1)) (least_meet c.args.ranges.now c.sort_by_start.new.ranges c.in_ok-first.first c.in_ok-second.second c.requires.rising c.sort_by_start.ensures.moved c.in_ok-first.ensures c.in_ok-second.ensures))
+    sym (ap (option_map (λ o. damage.Overlap o.0 o.1)) (least_meet c.args.ranges.now c.sort_by_start.new.ranges c.in_ok-first.first
+    c.in_ok-second.second c.requires.rising c.sort_by_start.ensures.moved c.in_ok-first.ensures c.in_ok-second.ensures))

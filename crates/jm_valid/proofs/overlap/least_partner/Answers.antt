@@ -22,11 +22,16 @@ loop-other-preserved c =
       | then-overlaps w ↦
           let met = from_meets range other (sym c.overlaps.ensures ∙ w.if-overlaps.true) in
           let least = w.least_with.ensures in
-          subst (IsLeastIfAny (Meets range) (take (i + 1) ranges)) (sym w.least-is) (least_takes_at (Meets range) ranges c.loop-other.least i none w.least_with.result c.loop-other-test.true c.loop-other.invariant met least.from least.below least.last)
+          subst (IsLeastIfAny (Meets range) (take (i + 1) ranges)) (sym w.least-is) (least_takes_at (Meets range) ranges
+          c.loop-other.least i none w.least_with.result c.loop-other-test.true c.loop-other.invariant met least.from least.below
+          least.last)
       | else-overlaps w ↦
           let apart = sym w.if-overlaps.false ∙ c.overlaps.ensures in
-          subst (IsLeastIfAny (Meets range) (take (i + 1) ranges)) (sym w.least-is) (least_skips_at (Meets range) ranges c.loop-other.least i none c.loop-other-test.true c.loop-other.invariant (λ met. false≢true (apart ∙ meets_from range other met)))
+          subst (IsLeastIfAny (Meets range) (take (i + 1) ranges)) (sym w.least-is) (least_skips_at (Meets range) ranges
+          c.loop-other.least i none c.loop-other-test.true c.loop-other.invariant (λ met. false≢true (apart
+          ∙ meets_from range other met)))
     ]
 
 pub returns : goal.returns
-returns c = least_all (Meets c.args.range.now) c.args.ranges.now c.loop-other.least c.loop-other.other-index c.loop-other-test.false c.loop-other.invariant
+returns c = least_all (Meets c.args.range.now) c.args.ranges.now c.loop-other.least c.loop-other.other-index c.loop-other-test.false
+    c.loop-other.invariant

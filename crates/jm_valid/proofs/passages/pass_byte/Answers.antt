@@ -8,4 +8,5 @@ pub loop-state-preserved : goal.loop-state-preserved
 loop-state-preserved c =
     let states = c.loop-state.states in
     let i = c.loop-state.state-index in
-    replaced (λ s. state_after s (c.args.byte ∷ [])) c.args.states.now states i 0 _ c.loop-state.invariant (omega arith) (ap (λ b. bit_xor (get_or states i 0 * 0x01000193 % 2 ^ 32) b) c.from.ensures)
+    replaced (λ s. state_after s (c.args.byte ∷ [])) c.args.states.now states i 0 _ c.loop-state.invariant (omega arith)
+    (ap (λ b. bit_xor (get_or states i 0 * 0x01000193 % 2 ^ 32) b) c.from.ensures)

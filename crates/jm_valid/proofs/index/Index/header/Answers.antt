@@ -7,4 +7,5 @@ use Rattle.jm_valid.proofs.index.Index.header.Goals as goal
 pub returns-clause-valid : goal.returns-clause-valid
 returns-clause-valid c b file =
     let inside = c.self.inside in
-    index_valid inside.buf inside.length b inside.header (subst (λ (v : Front). IsFileOf v.bytes v.length b) (sym c.self.view_is) file) c.self.invariant
+    index_valid inside.buf inside.length b inside.header (subst (λ (v : Front). IsFileOf v.bytes v.length b) (sym c.self.view_is)
+    file) c.self.invariant

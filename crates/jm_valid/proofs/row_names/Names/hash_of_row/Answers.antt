@@ -16,6 +16,8 @@ returns c =
       base = text_at section row.base;
       ext = text_at section row.ext;
     } in
-    let behind_parent = c.state_after_parent-state.ensures ∙ ap (λ s. state_after s (parent_front cut.parent)) c.state_after_module-state.ensures in
+    let behind_parent = c.state_after_parent-state.ensures ∙ ap (λ s. state_after s (parent_front cut.parent))
+    c.state_after_module-state.ensures in
     let behind_base = c.state_after_text-state.ensures ∙ ap (λ s. state_after s cut.base) behind_parent in
-    c.hash_of_state.ensures ∙ ap (λ s. s % 2 ^ 31) (c.state_after_ext.ensures ∙ ap (λ s. state_after s (ext_end cut.ext)) behind_base ∙ joined_state cut c.args.seed)
+    c.hash_of_state.ensures ∙ ap (λ s. s % 2 ^ 31) (c.state_after_ext.ensures ∙ ap (λ s. state_after s (ext_end cut.ext))
+    behind_base ∙ joined_state cut c.args.seed)
