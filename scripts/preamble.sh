@@ -1,3 +1,4 @@
+# shellcheck shell=bash disable=SC2034
 # What the scripts in bash share; each begins by sourcing it.
 set -u
 script=${0##*/}
