@@ -1,6 +1,5 @@
 //! The reply to a line of a session.
-ghost use Rattle.std.specs.Prelude.{◌≡◌, ◌++◌, codes, false, IfOk};
-ghost use Rattle.std.specs.Str.{bytes_eq};
+ghost use Rattle.std.specs.Prelude.{◌≡◌, ◌++◌, codes, IfOk};
 ghost use Rattle.jm_bytes.specs.Metered.{CostsAtMost, RisesAtMost};
 ghost use Rattle.jm_form.specs.Validity.{look};
 ghost use Rattle.jm_reader.specs.Walk.{IsLater};
@@ -119,34 +118,6 @@ fn answer_owner<H: Ledger, R: Ledger>(
     }
 }
 
-/// The reply to a request that isn't `find`.
-fn answer_other<H: Ledger, R: Ledger>(
-    alloc: Global,
-    image: &Image,
-    verb: &[u8],
-    argument: &[u8],
-    hashes: &mut Steps<H>,
-    reads: &mut Meter<R>,
-) -> Result<Vec<u8>, NoMemory>
-    requires metered { reads.old.bytes ≡ image.now }
-    requires other { bytes_eq verb.now (codes "find") ≡ false }
-    ensures reply { IfOk result (λ text. text.items
-        ≡ reply.request_reply image.now verb.now argument.now) }
-    ensures hashes { RisesAtMost hashes.old hashes.new 4 }
-    ensures reads { IsLater reads.old reads.new }
-{
-    if verb == b"stat".as_slice() {
-        return answer_stat(alloc, image, argument, hashes, reads);
-    }
-    if verb == b"ls".as_slice() {
-        return answer_ls(alloc, image, argument, hashes, reads);
-    }
-    if verb == b"owner".as_slice() {
-        return answer_owner(alloc, image, argument, hashes, reads);
-    }
-    line(alloc, b"error Request")
-}
-
 /// The text of the reply to a line.
 fn reply_to<H: Ledger, R: Ledger>(
     alloc: Global,
@@ -167,7 +138,16 @@ fn reply_to<H: Ledger, R: Ledger>(
     if verb == b"find".as_slice() {
         return answer_find(alloc, image, argument.as_slice(), hashes, reads);
     }
-    answer_other(alloc, image, verb, argument.as_slice(), hashes, reads)
+    if verb == b"stat".as_slice() {
+        return answer_stat(alloc, image, argument.as_slice(), hashes, reads);
+    }
+    if verb == b"ls".as_slice() {
+        return answer_ls(alloc, image, argument.as_slice(), hashes, reads);
+    }
+    if verb == b"owner".as_slice() {
+        return answer_owner(alloc, image, argument.as_slice(), hashes, reads);
+    }
+    line(alloc, b"error Request")
 }
 
 /// The reply to a line of a session, which is given without its newline (this project's rule).

@@ -1,9 +1,9 @@
-ghost use Rattle.std.specs.Prelude.{◌≡◌, ◌≤◌, ◌+◌, ◌*◌, length, IfOk, None, option_map};
+ghost use Rattle.std.specs.Prelude.{◌≡◌, ◌≤◌, ◌*◌, length, IfOk, None, option_map};
 ghost use Rattle.std.specs.List.{after_last, before_last};
 ghost use Rattle.jm_names.specs.Names.{is_slash};
-ghost use Rattle.jm_bytes.specs.Metered.{CostsAtMost, RisesAtMost};
-ghost use Rattle.jm_form.specs.declared.trees.Holds.TheVariants.{Children, Owners};
-ghost use Rattle.jm_form.specs.TreeView.{File, Link};
+ghost use Rattle.jm_bytes.specs.Metered.{RisesAtMost};
+ghost use Rattle.jm_form.specs.declared.trees.Holds.TheVariants.{Owners};
+ghost use Rattle.jm_form.specs.TreeView.{Link};
 ghost use Rattle.jm_form.specs.Validity.{look};
 ghost use Rattle.jm_reader.specs.Walk.{IsLater};
 ghost use Rattle.jm_jrt.specs.Nodes.{IsOf, item_as, on_ok, StatCosts};
@@ -69,31 +69,6 @@ fn pairs_at<'a, H: Ledger, R: Ledger>(
     }
 }
 
-/// The bytes of the file at a path that begins with `/modules`.
-fn file_at<'a, H: Ledger, R: Ledger>(
-    image: &Image<'a>,
-    path: &[u8],
-    hashes: &mut Steps<H>,
-    reads: &mut Meter<R>,
-) -> Result<&'a [u8], JrtError>
-    requires metered { reads.old.bytes ≡ image.now }
-    requires long { 8 ≤ length path.now }
-    ensures file { on_ok (λ bytes. File bytes.now) result ≡ answers.resource image.now path.now }
-    ensures hashes { RisesAtMost hashes.old hashes.new 2 }
-    ensures cost { IfOk result (λ bytes. CostsAtMost reads.old reads.new
-        (length path.now + 76 + length bytes.now)) }
-    ensures reads { IsLater reads.old reads.new }
-{
-    let (_, name) = path.split_at(8);
-    if is_node(name) {
-        return Err(JrtError::NotThere);
-    }
-    match find(image, name, hashes, reads) {
-        None => Err(JrtError::NotThere),
-        Some(found) => Ok(found.bytes),
-    }
-}
-
 /// The module as the image has it, if it is an owner of the package of this path.
 fn link_at<'a, H: Ledger, R: Ledger>(
     image: &Image<'a>,
@@ -131,29 +106,21 @@ fn in_modules<'a, H: Ledger, R: Ledger>(
     ensures cost { StatCosts result path.now reads.old reads.new }
 {
     match find(image, path, hashes, reads) {
-        None => Ok(Node::File(file_at(image, path, hashes, reads)?)),
+        None => {
+            let (_, name) = path.split_at(8);
+            if is_node(name) {
+                return Err(JrtError::NotThere);
+            }
+            match find(image, name, hashes, reads) {
+                None => Err(JrtError::NotThere),
+                Some(found) => Ok(Node::File(found.bytes)),
+            }
+        }
         Some(found) => {
             let list = read_children(image, found.bytes, reads)?;
             Ok(Node::Folder(list))
         }
     }
-}
-
-/// The roots of the two trees that the image has.
-fn roots<'a, H: Ledger, R: Ledger>(
-    image: &Image<'a>,
-    hashes: &mut Steps<H>,
-    reads: &mut Meter<R>,
-) -> ChildList<'a>
-    requires metered { reads.old.bytes ≡ image.now }
-    ensures rest { result.rest ≡ Children (answers.roots image.now) }
-    ensures bytes { result.bytes ≡ image.now }
-    ensures hashes { RisesAtMost hashes.old hashes.new 4 }
-    ensures reads { IsLater reads.old reads.new }
-{
-    let modules = find(image, b"/modules", hashes, reads).is_some();
-    let packages = find(image, b"/packages", hashes, reads).is_some();
-    ChildList::of(image, ToCome::Roots { modules, packages })
 }
 
 /// What stands at a path that isn't below `/modules/`.
@@ -197,7 +164,10 @@ fn stat_in<'a, H: Ledger, R: Ledger>(
     ensures cost { StatCosts result path.now reads.old reads.new }
 {
     if path == b"/".as_slice() {
-        return Ok(Node::Folder(roots(image, hashes, reads)));
+        let modules = find(image, b"/modules", hashes, reads).is_some();
+        let packages = find(image, b"/packages", hashes, reads).is_some();
+        let left = ToCome::Roots { modules, packages };
+        return Ok(Node::Folder(ChildList::of(image, left)));
     }
     if path == b"/modules".as_slice() || path == b"/packages".as_slice() {
         return match find(image, path, hashes, reads) {
