@@ -32,7 +32,7 @@ fn read_children<'a, R: Ledger>(
     content: &'a [u8],
     reads: &mut Meter<R>,
 ) -> Result<ChildList<'a>, JrtError>
-    requires metered { reads.old.bytes ≡ image.now }
+    requires { reads.old.bytes ≡ image.now }
     ensures rest { held_by result ≡ children_told image.now content.now }
     ensures bytes { IfOk result (λ list. list.bytes ≡ image.now) }
     ensures reads { IsLater reads.old reads.new }
@@ -50,7 +50,7 @@ fn pairs_at<'a, H: Ledger, R: Ledger>(
     hashes: &mut Steps<H>,
     reads: &mut Meter<R>,
 ) -> Result<&'a [u8], JrtError>
-    requires metered { reads.old.bytes ≡ image.now }
+    requires { reads.old.bytes ≡ image.now }
     ensures owners { on_ok
         (λ content. Owners (owners_left image.now content.now 0)) result
         ≡ answers.owners_of image.now (look image.now path.now) }
@@ -77,7 +77,7 @@ fn link_at<'a, H: Ledger, R: Ledger>(
     hashes: &mut Steps<H>,
     reads: &mut Meter<R>,
 ) -> Result<&'a [u8], JrtError>
-    requires metered { reads.old.bytes ≡ image.now }
+    requires { reads.old.bytes ≡ image.now }
     ensures link { on_ok (λ name. Link name.now) result ≡ answers.link asked.now
         (answers.owners_of image.now (look image.now path.now)) }
     ensures hashes { RisesAtMost hashes.old hashes.new 2 }
@@ -130,7 +130,7 @@ fn in_packages<'a, H: Ledger, R: Ledger>(
     hashes: &mut Steps<H>,
     reads: &mut Meter<R>,
 ) -> Result<Node<'a>, JrtError>
-    requires metered { reads.old.bytes ≡ image.now }
+    requires { reads.old.bytes ≡ image.now }
     ensures item { item_as result ≡ answers.in_packages image.now path.now }
     ensures bytes { IfOk result (λ node. IsOf image.now node) }
     ensures hashes { RisesAtMost hashes.old hashes.new 2 }

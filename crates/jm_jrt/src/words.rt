@@ -46,7 +46,7 @@ struct Ended<'b, 'a> {
 impl<'b, 'a> Ended<'b, 'a> {
     /// Looks for the last zero byte of the strings, which count as read.
     fn of<R: Ledger>(image: &'b Image<'a>, reads: &mut Meter<R>) -> Ended<'b, 'a>
-        requires metered { reads.old.bytes ≡ image.now }
+        requires { reads.old.bytes ≡ image.now }
         ensures image { result.image.now ≡ image.now }
         ensures reads { IsLater reads.old reads.new }
     {
