@@ -29,7 +29,8 @@ pub struct Found<'a> {
 fn texts_of(image: &Image, row: &Row) -> [MarkedText; 4]
     requires { SoundRow image.now (head image.now) row.now }
     ensures ends { All (λ text. EndsWithin image.now text.place) result }
-    ensures name { spelling image.now result ≡ name_of (strings image.now (head image.now)) row.now }
+    ensures name { spelling image.now result
+        ≡ name_of (strings image.now (head image.now)) row.now }
 {
     [
         MarkedText {
