@@ -25,8 +25,10 @@ use Rattle.jm_commands.specs.Stops.{Refuses}
 use Rattle.jm_commands.proofs.StepLaws.{complained, no_memory}
 
 -- a file that is refused; nothing was put
-pub refused_step : (due : Outcome) (path : List ℕ) (fault : DescriptorFault) (is : Stop) (out new_out : Seen (List ℕ)) → due ≡ bad_info path fault → Refuses path fault is → new_out.told ≡ out.told → PutDoes due (Err is) out new_out
-refused_step due path fault (stop.Complaint given) out new_out is refuses unput = rw refuses (complained due (complaint.Refused (refusal.BadInfo path fault)) out new_out is unput)
+pub refused_step : (due : Outcome) (path : List ℕ) (fault : DescriptorFault) (is : Stop) (out new_out : Seen (List ℕ)) → due
+    ≡ bad_info path fault → Refuses path fault is → new_out.told ≡ out.told → PutDoes due (Err is) out new_out
+refused_step due path fault (stop.Complaint given) out new_out is refuses unput =
+    rw refuses (complained due (complaint.Refused (refusal.BadInfo path fault)) out new_out is unput)
 refused_step due path fault stop.Outside out new_out is refuses unput = absurd refuses
 refused_step due path fault stop.Memory out new_out is refuses unput = no_memory due out new_out unput
 
@@ -36,7 +38,8 @@ class_faulty : (read : Result ClassData ClassFault) (fault : ClassFault) → fau
 class_faulty (Ok c) fault is = cc
 class_faulty (Err other) fault is = cc
 
-pub no_class_due : (path b : List ℕ) (fault : ClassFault) → class_fault b ≡ Some fault → describe_outcome path b ≡ bad_info path (kind.Class fault)
+pub no_class_due : (path b : List ℕ) (fault : ClassFault) → class_fault b ≡ Some fault → describe_outcome path b
+    ≡ bad_info path (kind.Class fault)
 no_class_due path b fault is = ap (class_outcome path) (class_faulty (class_of b) fault is)
 
 pub class_due : (path b : List ℕ) (c : ClassData) → ReadsAs b c → describe_outcome path b ≡ descriptor_outcome path (info_of c)
@@ -48,8 +51,10 @@ info_faulty : (read : Result Descriptor InfoFault) (fault : InfoFault) → info.
 info_faulty (Ok d) fault is = cc
 info_faulty (Err other) fault is = cc
 
-pub no_module_due : (path : List ℕ) (c : ClassData) (fault : InfoFault) → info_fault c ≡ Some fault → descriptor_outcome path (info_of c) ≡ bad_info path (kind.Info fault)
+pub no_module_due : (path : List ℕ) (c : ClassData) (fault : InfoFault) → info_fault c ≡ Some fault
+    → descriptor_outcome path (info_of c) ≡ bad_info path (kind.Info fault)
 no_module_due path c fault is = ap (descriptor_outcome path) (info_faulty (info_of c) fault (sym (info_fault-of c) ∙ is))
 
-pub module_due : (path : List ℕ) (c : ClassData) (d : Descriptor) → InfoOf c d → descriptor_outcome path (info_of c) ≡ done (describe_text d)
+pub module_due : (path : List ℕ) (c : ClassData) (d : Descriptor) → InfoOf c d → descriptor_outcome path (info_of c)
+    ≡ done (describe_text d)
 module_due path c d says = ap (descriptor_outcome path) (info-computed c d says)

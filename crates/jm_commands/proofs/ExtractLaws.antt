@@ -30,12 +30,14 @@ extract_session dir (Ok entries) = refl
 extract_session dir (Err refusal) = refl
 
 -- files that were broken off were made in part
-broken_part : (dir : List ℕ) (due : Result (List Named) Refusal) (old new : Option Files) → BreaksOff due dir old new → MadePart (extract_outcome dir due).writes old new
+broken_part : (dir : List ℕ) (due : Result (List Named) Refusal) (old new : Option Files) → BreaksOff due dir old new
+    → MadePart (extract_outcome dir due).writes old new
 broken_part dir (Ok entries) old new part = part
 broken_part dir (Err refusal) old new same = stays_part [] old new same
 
 -- the shelf may fail before either
-shelf_failed : (dir : List ℕ) (due : Result (List Named) Refusal) (old new : World) → ShelfFailed old.shelf new.shelf → WorkFailed (extract_outcome dir due).session (extract_outcome dir due).status old new
+shelf_failed : (dir : List ℕ) (due : Result (List Named) Refusal) (old new : World) → ShelfFailed old.shelf new.shelf
+    → WorkFailed (extract_outcome dir due).session (extract_outcome dir due).status old new
 shelf_failed dir (Ok entries) old new failed = inl failed
 shelf_failed dir (Err refusal) old new failed = failed
 
@@ -47,7 +49,9 @@ module _ (dir : List ℕ) (due : Result (List Named) Refusal) (old new : World) 
   source = ap (λ (s : Seen (List ℕ)). s.told) input
 
   -- the files were made, and then the text was put
-  pub extract_put : (count : ℕ) (answer : Result (Unit {0}) Stop) → Extracts due dir (Ok count) old.shelf.told new.shelf.told → IsTrue new.shelf.whole → new.shelf.faults ≡ old.shelf.faults → PutDoes (done (extract_text count)) answer old.out new.out → Does answer
+  pub extract_put : (count : ℕ) (answer : Result (Unit {0}) Stop) → Extracts due dir (Ok count) old.shelf.told new.shelf.told
+      → IsTrue new.shelf.whole → new.shelf.faults ≡ old.shelf.faults → PutDoes (done (extract_text count)) answer old.out new.out
+      → Does answer
   extract_put count answer (entries, is, counted, made) whole kept put =
       subst (λ (d : Result (List Named) Refusal). StepDoes (extract_outcome dir d) answer old new) (sym is)
       (go answer (subst (λ (n : ℕ). PutDoes (done (extract_text n)) answer old.out new.out) counted put))
@@ -61,7 +65,8 @@ module _ (dir : List ℕ) (due : Result (List Named) Refusal) (old new : World) 
       part : MadePart makes.writes old.shelf.told new.shelf.told
       part = part_of_all makes.writes old.shelf.told new.shelf.told made
 
-      go : (answer : Result (Unit {0}) Stop) → PutDoes (done (extract_text (length entries))) answer old.out new.out → StepDoes makes answer old new
+      go : (answer : Result (Unit {0}) Stop) → PutDoes (done (extract_text (length entries))) answer old.out new.out
+          → StepDoes makes answer old new
       go (Ok _) put = record {
         answers = (refl, refl);
         output = put.output;
@@ -72,14 +77,34 @@ module _ (dir : List ℕ) (due : Result (List Named) Refusal) (old new : World) 
         none_rose = λ ok. record { shelf = kept; input = ap (λ (s : Seen (List ℕ)). s.faults) input; out = put.kept ok };
       }
       go (Err (stop.Complaint given)) put = absurd (never_done given (extract_text (length entries)) put.answers)
-      go (Err stop.Outside) put = record { answers = tt; output = put.output; files = part; files_first = inl all; source = source; outside = λ failed. inr (put.outside failed); none_rose = λ ok. cc }
-      go (Err stop.Memory) put = record { answers = tt; output = put.output; files = part; files_first = inl all; source = source; outside = λ failed. cc; none_rose = λ ok. cc }
+      go (Err stop.Outside) put = record {
+        answers = tt;
+        output = put.output;
+        files = part;
+        files_first = inl all;
+        source =
+            source;
+        outside = λ failed. inr (put.outside failed);
+        none_rose = λ ok. cc;
+      }
+      go (Err stop.Memory) put = record {
+        answers = tt;
+        output = put.output;
+        files = part;
+        files_first = inl all;
+        source =
+            source;
+        outside = λ failed. cc;
+        none_rose = λ ok. cc;
+      }
 
   -- it stopped before anything was put
-  pub extract_stopped : (given : ExtractStop) → Extracts due dir (Err given) old.shelf.told new.shelf.told → (given ≡ extract_stop.Outside → ShelfFailed old.shelf new.shelf) → new.out.told ≡ old.out.told → Does (Err (stop_of_extract given))
+  pub extract_stopped : (given : ExtractStop) → Extracts due dir (Err given) old.shelf.told new.shelf.told
+      → (given ≡ extract_stop.Outside → ShelfFailed old.shelf new.shelf) → new.out.told ≡ old.out.told → Does (Err (stop_of_extract given))
   extract_stopped (extract_stop.Refused refusal) (is, files) rose unput =
       subst (λ (d : Result (List Named) Refusal). StepDoes (extract_outcome dir d) answer old new) (sym is)
-      (put_step (refusing refusal) old new files source refl answer (complained (refusing refusal) (complaint.Refused refusal) old.out new.out refl unput) (λ ok. cc))
+      (put_step (refusing refusal) old new files source refl answer (complained (refusing refusal) (complaint.Refused refusal)
+      old.out new.out refl unput) (λ ok. cc))
     where
       answer : Result (Unit {0}) Stop
       answer = Err (stop.Complaint (complaint.Refused refusal))

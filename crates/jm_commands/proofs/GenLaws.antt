@@ -29,7 +29,8 @@ answers_behind made due (Err stop.Outside) is = tt
 answers_behind made due (Err stop.Memory) is = tt
 
 -- files that were made behind others
-all_behind : (made writes : Writes) (shelf now new : ShelfSeen) → MadeAll made shelf.told now.told → IsTrue new.whole → StandAll writes now new → StandAll (made ++ writes) shelf new
+all_behind : (made writes : Writes) (shelf now new : ShelfSeen) → MadeAll made shelf.told now.told → IsTrue new.whole
+    → StandAll writes now new → StandAll (made ++ writes) shelf new
 all_behind made writes shelf now new first whole more = record {
   made = made_append made writes shelf.told now.told new.told first more.made;
   whole = λ some. whole;
@@ -39,28 +40,40 @@ all_behind made writes shelf now new first whole more = record {
 abbrev pub EndsFiles : Result (Unit {0}) Stop → World → World → Type 0
 EndsFiles answer now new = IsTrue new.shelf.whole ⊎ ((IsOk answer → ⊥) × (new.out.told ≡ now.out.told))
 
-files_behind : (made writes : Writes) (answer : Result (Unit {0}) Stop) (shelf : ShelfSeen) (now new : World) → MadeAll made shelf.told now.shelf.told → EndsFiles answer now new → FilesMade answer writes now.shelf new.shelf → FilesMade answer (made ++ writes) shelf new.shelf
+files_behind : (made writes : Writes) (answer : Result (Unit {0}) Stop) (shelf : ShelfSeen) (now new : World)
+    → MadeAll made shelf.told now.shelf.told → EndsFiles answer now new → FilesMade answer writes now.shelf new.shelf
+    → FilesMade answer (made ++ writes) shelf new.shelf
 files_behind made writes (Ok _) shelf now new first (inl whole) more = all_behind made writes shelf now.shelf new.shelf first whole more
 files_behind made writes (Ok _) shelf now new first (inr (undone, unput)) more = absurd (undone refl)
-files_behind made writes (Err (stop.Complaint given)) shelf now new first ends more = made_append made writes shelf.told now.shelf.told new.shelf.told first more
-files_behind made writes (Err stop.Outside) shelf now new first ends more = part_append made writes shelf.told now.shelf.told new.shelf.told first more
-files_behind made writes (Err stop.Memory) shelf now new first ends more = part_append made writes shelf.told now.shelf.told new.shelf.told first more
+files_behind made writes (Err (stop.Complaint given)) shelf now new first ends more = made_append made writes shelf.told
+    now.shelf.told new.shelf.told first more
+files_behind made writes (Err stop.Outside) shelf now new first ends more = part_append made writes shelf.told now.shelf.told
+    new.shelf.told first more
+files_behind made writes (Err stop.Memory) shelf now new first ends more = part_append made writes shelf.told now.shelf.told
+    new.shelf.told first more
 
 -- the output is put behind all of them
-first_behind_made : (made writes : Writes) (answer : Result (Unit {0}) Stop) (shelf : ShelfSeen) (now new : World) → MadeAll made shelf.told now.shelf.told → EndsFiles answer now new → FilesFirst writes now new → StandAll (made ++ writes) shelf new.shelf ⊎ (new.out.told ≡ now.out.told)
-first_behind_made made writes answer shelf now new first (inl whole) (inl more) = inl (all_behind made writes shelf now.shelf new.shelf first whole more)
+first_behind_made : (made writes : Writes) (answer : Result (Unit {0}) Stop) (shelf : ShelfSeen) (now new : World)
+    → MadeAll made shelf.told now.shelf.told → EndsFiles answer now new → FilesFirst writes now new
+    → StandAll (made ++ writes) shelf new.shelf ⊎ (new.out.told ≡ now.out.told)
+first_behind_made made writes answer shelf now new first (inl whole) (inl more) =
+    inl (all_behind made writes shelf now.shelf new.shelf first whole more)
 first_behind_made made writes answer shelf now new first (inl whole) (inr unput) = inr unput
 first_behind_made made writes answer shelf now new first (inr (undone, unput)) files = inr unput
 
-module _ (made : Writes) (shelf : ShelfSeen) (now new : World) (first : MadeAll made shelf.told now.shelf.told) (kept : now.shelf.faults ≡ shelf.faults) where
+module _ (made : Writes) (shelf : ShelfSeen) (now new : World) (first : MadeAll made shelf.told now.shelf.told)
+    (kept : now.shelf.faults ≡ shelf.faults) where
   abbrev old : World
   old = record { shelf = shelf; input = now.input; out = now.out }
 
   -- a step behind the making of files
-  pub step_after : (Due : Outcome → Type 0) (answer : Result (Unit {0}) Stop) → EndsFiles answer now new → StepComesTo Due reading answer now new → StepComesTo (λ due. (last : Outcome) × Due last × (due ≡ behind made last)) (making made) answer old new
+  pub step_after : (Due : Outcome → Type 0) (answer : Result (Unit {0}) Stop) → EndsFiles answer now new
+      → StepComesTo Due reading answer now new → StepComesTo (λ due. (last : Outcome) × Due last × (due ≡ behind made last))
+      (making made) answer old new
   step_after Due answer ends (inl fails) = inl (record {
     failed = fails.failed;
-    files = subst (λ (writes : Writes). MadePart writes shelf.told new.shelf.told) (append-nil made) (part_append made [] shelf.told now.shelf.told new.shelf.told first fails.files);
+    files = subst (λ (writes : Writes). MadePart writes shelf.told new.shelf.told) (append-nil made) (part_append made [] shelf.told
+        now.shelf.told new.shelf.told first fails.files);
     source = fails.source;
     output = fails.output;
     outside = λ failed. early_sooner shelf now new kept reading (fails.outside failed);
@@ -80,7 +93,9 @@ module _ (made : Writes) (shelf : ShelfSeen) (now new : World) (first : MadeAll 
   )
 
 -- the link of a `gen`, by the folder that its modules were made in
-pub links_as : (gen : GenTask) (mods : List ℕ) (answer : Result Summary LinkStop) (old new : ShelfSeen) → mods ≡ modules_path gen → Links (mods ∷ []) (request_of (gen_link gen)) (image_path gen) answer old new → Links (modules_path gen ∷ []) (request_of (gen_link gen)) (image_path gen) answer old new
+pub links_as : (gen : GenTask) (mods : List ℕ) (answer : Result Summary LinkStop) (old new : ShelfSeen) → mods ≡ modules_path gen
+    → Links (mods ∷ []) (request_of (gen_link gen)) (image_path gen) answer old new
+    → Links (modules_path gen ∷ []) (request_of (gen_link gen)) (image_path gen) answer old new
 links_as gen mods answer old new one links =
     subst (λ (path : List ℕ). Links (path ∷ []) (request_of (gen_link gen)) (image_path gen) answer old new) one links
 
@@ -92,22 +107,34 @@ module _ (gen : GenTask) (shelf : ShelfSeen) (now new : World) where
   Does answer = StepComesTo (GenComesTo shelf.told gen) (making (made_first gen)) answer before new
 
   -- the link of all that was made
-  linked_after : (answer : Result (Unit {0}) Stop) → MadeAll (made_first gen) shelf.told now.shelf.told → now.shelf.faults ≡ shelf.faults → EndsFiles answer now new → StepComesTo (LinkComesTo gen_text now.shelf.told (gen_link gen)) reading answer now new → Does answer
+  linked_after : (answer : Result (Unit {0}) Stop) → MadeAll (made_first gen) shelf.told now.shelf.told → now.shelf.faults
+      ≡ shelf.faults → EndsFiles answer now new → StepComesTo (LinkComesTo gen_text now.shelf.told (gen_link gen)) reading answer
+      now new → Does answer
   linked_after answer made kept ends step =
-      subst (λ (told : Option Files). StepComesTo (λ due. (last : Outcome) × LinkComesTo gen_text told (gen_link gen) last × (due ≡ behind (made_first gen) last)) (making (made_first gen)) answer before new) made
+      subst (λ (told : Option Files). StepComesTo (λ due. (last : Outcome) × LinkComesTo gen_text told (gen_link gen) last
+      × (due ≡ behind (made_first gen) last)) (making (made_first gen)) answer before new) made
       (step_after (made_first gen) shelf now new made kept (LinkComesTo gen_text now.shelf.told (gen_link gen)) answer ends step)
 
   -- all was made and linked, and then the text was put
-  pub gen_put : (summary : Summary) (answer : Result (Unit {0}) Stop) → MadeAll (made_first gen) shelf.told now.shelf.told → now.shelf.faults ≡ shelf.faults → new.input ≡ now.input → Links (modules_path gen ∷ []) (request_of (gen_link gen)) (image_path gen) (Ok summary) now.shelf new.shelf → PutDoes (done (gen_text summary)) answer now.out new.out → Does answer
+  pub gen_put : (summary : Summary) (answer : Result (Unit {0}) Stop) → MadeAll (made_first gen) shelf.told now.shelf.told
+      → now.shelf.faults ≡ shelf.faults → new.input ≡ now.input → Links (modules_path gen ∷ []) (request_of (gen_link gen))
+      (image_path gen) (Ok summary) now.shelf new.shelf → PutDoes (done (gen_text summary)) answer now.out new.out → Does answer
   gen_put summary answer made kept input links put =
       linked_after answer made kept (inl links.3.whole) (link_put gen_text (gen_link gen) now new input summary answer links put)
 
   -- all was made, and the link stopped
-  pub gen_stopped : (given : LinkStop) → MadeAll (made_first gen) shelf.told now.shelf.told → now.shelf.faults ≡ shelf.faults → new.input ≡ now.input → Links (modules_path gen ∷ []) (request_of (gen_link gen)) (image_path gen) (Err given) now.shelf new.shelf → new.out.told ≡ now.out.told → Does (Err (stop_of_link given))
+  pub gen_stopped : (given : LinkStop) → MadeAll (made_first gen) shelf.told now.shelf.told → now.shelf.faults ≡ shelf.faults
+      → new.input ≡ now.input → Links (modules_path gen ∷ []) (request_of (gen_link gen)) (image_path gen) (Err given) now.shelf
+      new.shelf → new.out.told ≡ now.out.told → Does (Err (stop_of_link given))
   gen_stopped given made kept input links unput =
-      linked_after (Err (stop_of_link given)) made kept (inr ((λ ok. cc), unput)) (link_stopped gen_text (gen_link gen) now new input given links unput)
+      linked_after (Err (stop_of_link given)) made kept (inr ((λ ok. cc), unput)) (link_stopped gen_text (gen_link gen) now new
+      input given links unput)
 
 -- the making was broken off
-pub gen_unmade : (gen : GenTask) (error : ShelfError) (old new : World) → MadePart (made_first gen) old.shelf.told new.shelf.told → new.input.told ≡ old.input.told → new.out.told ≡ old.out.told → (error ≡ shelf_error.Failed → ShelfFailed old.shelf new.shelf) → StepComesTo (GenComesTo old.shelf.told gen) (making (made_first gen)) (Err (stop_of_shelf error)) old new
-gen_unmade gen shelf_error.Failed old new part source unput rose = inl (record { failed = tt; files = part; source = source; output = unput; outside = λ failed. (refl, rose refl) })
-gen_unmade gen shelf_error.Memory old new part source unput rose = inl (record { failed = tt; files = part; source = source; output = unput; outside = λ failed. cc })
+pub gen_unmade : (gen : GenTask) (error : ShelfError) (old new : World) → MadePart (made_first gen) old.shelf.told new.shelf.told
+    → new.input.told ≡ old.input.told → new.out.told ≡ old.out.told → (error ≡ shelf_error.Failed → ShelfFailed old.shelf new.shelf)
+    → StepComesTo (GenComesTo old.shelf.told gen) (making (made_first gen)) (Err (stop_of_shelf error)) old new
+gen_unmade gen shelf_error.Failed old new part source unput rose =
+    inl (record { failed = tt; files = part; source = source; output = unput; outside = λ failed. (refl, rose refl) })
+gen_unmade gen shelf_error.Memory old new part source unput rose =
+    inl (record { failed = tt; files = part; source = source; output = unput; outside = λ failed. cc })

@@ -15,7 +15,8 @@ gets_nothing old new same = same ∙ go old.told
 
 -- a sink that got nothing got a front
 pub front_of_nothing : (text : List ℕ) (old new : Seen (List ℕ)) → new.told ≡ old.told → GetsFront text old new
-front_of_nothing text old new same = subst (λ (told : Option (List ℕ)). Told old.told told (λ before after. PutsFront before after text)) (sym same) (go old.told)
+front_of_nothing text old new same = subst (λ (told : Option (List ℕ)). Told old.told told (λ before after. PutsFront before after
+    text)) (sym same) (go old.told)
   where
     go : (told : Option (List ℕ)) → Told told told (λ before after. PutsFront before after text)
     go None = tt
@@ -25,8 +26,13 @@ front_of_nothing text old new same = subst (λ (told : Option (List ℕ)). Told 
 pub front_of_all : (text : List ℕ) (old new : Seen (List ℕ)) → Gets text old new → GetsFront text old new
 front_of_all text old new gets = go old.told new.told gets
   where
-    go : (told after : Option (List ℕ)) → after ≡ option_map (λ put. put ++ text) told → Told told after (λ before after. PutsFront before after text)
+    go : (told after : Option (List ℕ)) → after ≡ option_map (λ put. put ++ text) told
+        → Told told after (λ before after. PutsFront before after text)
     go None after gets = tt
     go (Some put) None gets = cc
-    go (Some put) (Some all) gets =
-        (length text, omega arith, same_some all (put ++ text) gets ∙ ap (λ more. put ++ more) (sym (take_all (length text) text (omega arith))))
+    go (Some put) (Some all) gets = (
+      length text,
+      omega arith,
+      same_some all (put ++ text) gets
+          ∙ ap (λ more. put ++ more) (sym (take_all (length text) text (omega arith))),
+    )

@@ -19,7 +19,8 @@ use Rattle.jm_commands.specs.declared.complaint.Complaint.TheVariants as complai
 use Rattle.jm_commands.specs.declared.stop.Stop.{Stop}
 use Rattle.jm_commands.specs.declared.stop.Stop.TheVariants as stop
 use Rattle.jm_commands.specs.Outcome.{Outcome, done, link_outcome, linked, not_there, reading, refusing}
-use Rattle.jm_commands.specs.Run.{ImageLinkComesTo, LinkComesFrom, LinkComesTo, PathLinkComesTo, PutDoes, ShowsLinked, StandAll, StepComesTo, StepDoes, outcome_of}
+use Rattle.jm_commands.specs.Run.{ImageLinkComesTo, LinkComesFrom, LinkComesTo, PathLinkComesTo, PutDoes}
+use Rattle.jm_commands.specs.Run.{ShowsLinked, StandAll, StepComesTo, StepDoes, outcome_of}
 use Rattle.jm_commands.specs.Sinks.{Seen}
 use Rattle.jm_commands.specs.Stops.{stop_of_link}
 use Rattle.jm_commands.specs.World.{World}
@@ -33,7 +34,8 @@ linked_shown order (Err refusal) laid = tt
 linked_shown order (Ok image) laid =
     trees_shown_short image.bytes image.resources (omega (arith, laid.within)) laid.nodes laid.stands
 
-comes_shown : (told : Option Files) (directories : List (List ℕ)) (asked : Request) (result : Result LinkedImage Refusal) → ComesTo told directories asked result → Shows told (λ files. ShowsLinked result)
+comes_shown : (told : Option Files) (directories : List (List ℕ)) (asked : Request) (result : Result LinkedImage Refusal)
+    → ComesTo told directories asked result → Shows told (λ files. ShowsLinked result)
 comes_shown None directories asked result comes = tt
 comes_shown (Some files) directories asked result comes = linked_shown asked.order result comes.1
 
@@ -42,7 +44,9 @@ pub never_done : (given : Complaint) (text : List ℕ) → done text ≡ outcome
 never_done given text is = complains_undone given (ap (λ o. o.status) is)
 
 -- of a link that comes to one of these results, or finds a listed file missing, from what is due then
-module _ (text : Summary → List ℕ) (link : LinkTask) (Comes : Result LinkedImage Refusal → Type 0) (Absent : Type 0) (Due : Outcome → Type 0) (old new : World) (input : new.input ≡ old.input) (as_due : (result : Result LinkedImage Refusal) → Comes result → Due (link_outcome text link result)) (as_absent : (listed : List ℕ) → Absent → Due (not_there listed)) where
+module _ (text : Summary → List ℕ) (link : LinkTask) (Comes : Result LinkedImage Refusal → Type 0) (Absent : Type 0) (Due : Outcome
+    → Type 0) (old new : World) (input : new.input ≡ old.input) (as_due : (result : Result LinkedImage Refusal) → Comes result
+    → Due (link_outcome text link result)) (as_absent : (listed : List ℕ) → Absent → Due (not_there listed)) where
   abbrev Does : Result (Unit {0}) Stop → Type 0
   Does answer = StepComesTo Due reading answer old new
 
@@ -50,7 +54,8 @@ module _ (text : Summary → List ℕ) (link : LinkTask) (Comes : Result LinkedI
   source = ap (λ (s : Seen (List ℕ)). s.told) input
 
   -- the image was written, and then the text was put
-  pub put_linked : (summary : Summary) (answer : Result (Unit {0}) Stop) → LinksBy Comes Absent link.output (Ok summary) old.shelf new.shelf → PutDoes (done (text summary)) answer old.out new.out → Does answer
+  pub put_linked : (summary : Summary) (answer : Result (Unit {0}) Stop) → LinksBy Comes Absent link.output (Ok summary) old.shelf
+      new.shelf → PutDoes (done (text summary)) answer old.out new.out → Does answer
   put_linked summary answer (image, comes, is, stands) put =
       inr (due, as_due (Ok image) comes, go answer (subst (λ (s : Summary). PutDoes (done (text s)) answer old.out new.out) is put))
     where
@@ -74,19 +79,47 @@ module _ (text : Summary → List ℕ) (link : LinkTask) (Comes : Result LinkedI
         none_rose = λ ok. record { shelf = stands.kept; input = ap (λ (s : Seen (List ℕ)). s.faults) input; out = put.kept ok };
       }
       go (Err (stop.Complaint given)) put = absurd (never_done given (text (summary_of image)) put.answers)
-      go (Err stop.Outside) put = record { answers = tt; output = put.output; files = part; files_first = inl all; source = source; outside = λ failed. inr (put.outside failed); none_rose = λ ok. cc }
-      go (Err stop.Memory) put = record { answers = tt; output = put.output; files = part; files_first = inl all; source = source; outside = λ failed. cc; none_rose = λ ok. cc }
+      go (Err stop.Outside) put = record {
+        answers = tt;
+        output = put.output;
+        files = part;
+        files_first = inl all;
+        source =
+            source;
+        outside = λ failed. inr (put.outside failed);
+        none_rose = λ ok. cc;
+      }
+      go (Err stop.Memory) put = record {
+        answers = tt;
+        output = put.output;
+        files = part;
+        files_first = inl all;
+        source =
+            source;
+        outside = λ failed. cc;
+        none_rose = λ ok. cc;
+      }
 
   -- it stopped before anything was put
-  pub stopped_linked : (given : LinkStop) → LinksBy Comes Absent link.output (Err given) old.shelf new.shelf → new.out.told ≡ old.out.told → Does (Err (stop_of_link given))
+  pub stopped_linked : (given : LinkStop) → LinksBy Comes Absent link.output (Err given) old.shelf new.shelf → new.out.told
+      ≡ old.out.told → Does (Err (stop_of_link given))
   stopped_linked (link_stop.Refused refusal) (comes, files) unput =
-      complains Due reading (refusing refusal) (complaint.Refused refusal) (complaint.Refused refusal) old new (as_due (Err refusal) comes) refl refl (record { files = files; source = source; output = unput })
+      complains Due reading (refusing refusal) (complaint.Refused refusal) (complaint.Refused refusal) old new
+      (as_due (Err refusal) comes) refl refl (record { files = files; source = source; output = unput })
   stopped_linked (link_stop.NotThere listed) (none, files) unput =
-      complains Due reading (not_there listed) (complaint.NotThere listed) (complaint.NotThere listed) old new (as_absent listed none) refl refl (record { files = files; source = source; output = unput })
+      complains Due reading (not_there listed) (complaint.NotThere listed) (complaint.NotThere listed) old new
+      (as_absent listed none) refl refl (record { files = files; source = source; output = unput })
   stopped_linked link_stop.Outside (breaks, rose) unput = broken breaks
     where
       broken : BreaksOff Comes link.output old.shelf new.shelf → Does (Err stop.Outside)
-      broken (inl files) = inl (record { failed = tt; files = stays_part [] old.shelf.told new.shelf.told files; source = source; output = unput; outside = λ failed. (refl, rose) })
+      broken (inl files) = inl (record {
+        failed = tt;
+        files = stays_part [] old.shelf.told new.shelf.told files;
+        source =
+            source;
+        output = unput;
+        outside = λ failed. (refl, rose);
+      })
       broken (inr (image, comes, part)) = inr (
         linked text link image,
         as_due (Ok image) comes,
@@ -103,7 +136,14 @@ module _ (text : Summary → List ℕ) (link : LinkTask) (Comes : Result LinkedI
   stopped_linked link_stop.Memory breaks unput = broken breaks
     where
       broken : BreaksOff Comes link.output old.shelf new.shelf → Does (Err stop.Memory)
-      broken (inl files) = inl (record { failed = tt; files = stays_part [] old.shelf.told new.shelf.told files; source = source; output = unput; outside = λ failed. cc })
+      broken (inl files) = inl (record {
+        failed = tt;
+        files = stays_part [] old.shelf.told new.shelf.told files;
+        source =
+            source;
+        output = unput;
+        outside = λ failed. cc;
+      })
       broken (inr (image, comes, part)) = inr (
         linked text link image,
         as_due (Ok image) comes,
@@ -121,31 +161,45 @@ module _ (text : Summary → List ℕ) (link : LinkTask) (Comes : Result LinkedI
 -- From a module path
 
 module _ (text : Summary → List ℕ) (link : LinkTask) (old new : World) (input : new.input ≡ old.input) where
-  path_due : (result : Result LinkedImage Refusal) → ComesTo old.shelf.told link.dirs (request_of link) result → PathLinkComesTo text old.shelf.told link (link_outcome text link result)
+  path_due : (result : Result LinkedImage Refusal) → ComesTo old.shelf.told link.dirs (request_of link) result
+      → PathLinkComesTo text old.shelf.told link (link_outcome text link result)
   path_due result comes = inl (result, comes, comes_shown old.shelf.told link.dirs (request_of link) result comes, refl)
 
   path_absent : (listed : List ℕ) → TellsNothing old.shelf.told → PathLinkComesTo text old.shelf.told link (not_there listed)
   path_absent listed none = inr (listed, none, refl)
 
-  pub link_put : (summary : Summary) (answer : Result (Unit {0}) Stop) → Links link.dirs (request_of link) link.output (Ok summary) old.shelf new.shelf → PutDoes (done (text summary)) answer old.out new.out → StepComesTo (PathLinkComesTo text old.shelf.told link) reading answer old new
-  link_put = put_linked text link (ComesTo old.shelf.told link.dirs (request_of link)) (TellsNothing old.shelf.told) (PathLinkComesTo text old.shelf.told link) old new input path_due path_absent
+  pub link_put : (summary : Summary) (answer : Result (Unit {0}) Stop) → Links link.dirs (request_of link) link.output (Ok summary)
+      old.shelf new.shelf → PutDoes (done (text summary)) answer old.out new.out
+      → StepComesTo (PathLinkComesTo text old.shelf.told link) reading answer old new
+  link_put = put_linked text link (ComesTo old.shelf.told link.dirs (request_of link)) (TellsNothing old.shelf.told)
+      (PathLinkComesTo text old.shelf.told link) old new input path_due path_absent
 
-  pub link_stopped : (given : LinkStop) → Links link.dirs (request_of link) link.output (Err given) old.shelf new.shelf → new.out.told ≡ old.out.told → StepComesTo (PathLinkComesTo text old.shelf.told link) reading (Err (stop_of_link given)) old new
-  link_stopped = stopped_linked text link (ComesTo old.shelf.told link.dirs (request_of link)) (TellsNothing old.shelf.told) (PathLinkComesTo text old.shelf.told link) old new input path_due path_absent
+  pub link_stopped : (given : LinkStop) → Links link.dirs (request_of link) link.output (Err given) old.shelf new.shelf
+      → new.out.told ≡ old.out.told → StepComesTo (PathLinkComesTo text old.shelf.told link) reading (Err (stop_of_link given)) old new
+  link_stopped = stopped_linked text link (ComesTo old.shelf.told link.dirs (request_of link)) (TellsNothing old.shelf.told)
+      (PathLinkComesTo text old.shelf.told link) old new input path_due path_absent
 
 -- From an image
 
 module _ (text : Summary → List ℕ) (link : LinkTask) (b : List ℕ) (old new : World) (input : new.input ≡ old.input) where
-  image_due : (result : Result LinkedImage Refusal) → ImageComesTo b (request_of link) result → ImageLinkComesTo text link b (link_outcome text link result)
+  image_due : (result : Result LinkedImage Refusal) → ImageComesTo b (request_of link) result
+      → ImageLinkComesTo text link b (link_outcome text link result)
   image_due result comes = (result, comes, linked_shown link.order result comes.1, refl)
 
-  pub image_put : (summary : Summary) (answer : Result (Unit {0}) Stop) → ImageLinks b (request_of link) link.output (Ok summary) old.shelf new.shelf → PutDoes (done (text summary)) answer old.out new.out → StepComesTo (ImageLinkComesTo text link b) reading answer old new
-  image_put = put_linked text link (ImageComesTo b (request_of link)) ⊥ (ImageLinkComesTo text link b) old new input image_due (λ listed never. absurd never)
+  pub image_put : (summary : Summary) (answer : Result (Unit {0}) Stop) → ImageLinks b (request_of link) link.output (Ok summary)
+      old.shelf new.shelf → PutDoes (done (text summary)) answer old.out new.out → StepComesTo (ImageLinkComesTo text link b)
+      reading answer old new
+  image_put = put_linked text link (ImageComesTo b (request_of link)) ⊥ (ImageLinkComesTo text link b) old new input image_due
+      (λ listed never. absurd never)
 
-  pub image_stopped : (given : LinkStop) → ImageLinks b (request_of link) link.output (Err given) old.shelf new.shelf → new.out.told ≡ old.out.told → StepComesTo (ImageLinkComesTo text link b) reading (Err (stop_of_link given)) old new
-  image_stopped = stopped_linked text link (ImageComesTo b (request_of link)) ⊥ (ImageLinkComesTo text link b) old new input image_due (λ listed never. absurd never)
+  pub image_stopped : (given : LinkStop) → ImageLinks b (request_of link) link.output (Err given) old.shelf new.shelf → new.out.told
+      ≡ old.out.told → StepComesTo (ImageLinkComesTo text link b) reading (Err (stop_of_link given)) old new
+  image_stopped = stopped_linked text link (ImageComesTo b (request_of link)) ⊥ (ImageLinkComesTo text link b) old new input
+      image_due (λ listed never. absurd never)
 
 -- by where the modules are
-pub link_comes : (text : Summary → List ℕ) (told : Option Files) (link : LinkTask) (image : Option (List ℕ)) (answer : Result (Unit {0}) Stop) (old new : World) → link.from_image ≡ image → StepComesTo (LinkComesFrom text told link image) reading answer old new → StepComesTo (LinkComesTo text told link) reading answer old new
+pub link_comes : (text : Summary → List ℕ) (told : Option Files) (link : LinkTask) (image : Option (List ℕ))
+    (answer : Result (Unit {0}) Stop) (old new : World) → link.from_image ≡ image → StepComesTo (LinkComesFrom text told link image)
+    reading answer old new → StepComesTo (LinkComesTo text told link) reading answer old new
 link_comes text told link image answer old new is step =
     subst (λ (o : Option (List ℕ)). StepComesTo (LinkComesFrom text told link o) reading answer old new) (sym is) step

@@ -23,7 +23,9 @@ use Rattle.jm_words.specs.declared.tasks.Task.{Task}
 use Rattle.jm_words.specs.declared.tasks.Task.TheVariants as task
 use Rattle.jm_commands.specs.declared.complaint.Complaint.{Complaint}
 use Rattle.jm_commands.specs.Run.{OpenedComesTo, TaskComesTo, TextComesTo}
-use Rattle.jm_commands.specs.Outcome.{Outcome, cat_outcome, class_outcome, describe_outcome, descriptor_outcome, ls_outcome, session_fault, session_with, image_outcome}
+use Rattle.jm_commands.specs.Outcome.{Outcome, cat_outcome, class_outcome, describe_outcome}
+use Rattle.jm_commands.specs.Outcome.{descriptor_outcome, ls_outcome, session_fault, session_with}
+use Rattle.jm_commands.specs.Outcome.{image_outcome}
 
 -- Whether a session is due
 
@@ -71,10 +73,12 @@ makes_files (task.Link link) = true
 makes_files (task.Gen gen) = true
 makes_files _ = false
 
-image_writes : (image : List ℕ) (does : ImageWork) (b text : List ℕ) → makes_files (task.Image image does) ≡ false → (image_outcome does b text).writes ≡ []
+image_writes : (image : List ℕ) (does : ImageWork) (b text : List ℕ) → makes_files (task.Image image does) ≡ false
+    → (image_outcome does b text).writes ≡ []
 image_writes image (work.Cat name) b text other = cat_writes name (look b name)
 image_writes image (work.Ls folder) b text other = ls_writes folder (held (stat b folder))
-image_writes image work.Serve b text other = session_writes b (replies b (answered_in text)) (session_fault (length (lines_of text)) (length (answered_in text)))
+image_writes image work.Serve b text other = session_writes b (replies b (answered_in text)) (session_fault (length (lines_of text))
+    (length (answered_in text)))
 image_writes image (work.Extract dir include) b text other = cc
 image_writes image _ b text other = refl
 
@@ -87,7 +91,8 @@ class_writes path (Ok c) = descriptor_writes path (info_of c)
 class_writes path (Err fault) = refl
 
 -- only `link`, `gen` and `extract` make files
-pub task_writes : (told : Option Files) (rest : Option (List ℕ)) (given : Task) (due : Outcome) → makes_files given ≡ false → TaskComesTo told rest given due → due.writes ≡ []
+pub task_writes : (told : Option Files) (rest : Option (List ℕ)) (given : Task) (due : Outcome) → makes_files given ≡ false
+    → TaskComesTo told rest given due → due.writes ≡ []
 task_writes told rest task.Help due other is = ap (λ o. o.writes) is
 task_writes told rest task.Version due other is = ap (λ o. o.writes) is
 task_writes told rest (task.Describe file) due other (None, has, is) = ap (λ o. o.writes) is

@@ -1,5 +1,7 @@
 -- Texts that a sink gets piece by piece.
-use Rattle.std.proofs.Common.{◌≡◌, ℕ, ◌+◌, ◌<◌, ◌≤◌, List, [], ◌∷◌, ◌++◌, drop, flat_map, get_or, length, map, take, Option, Some, None, option_map, Result, Ok, Err, OnOk, IsOk, IsErrOf, inl, refl, sym, ap, subst, ◌∙◌, arith, append-nil}
+use Rattle.std.proofs.Common.{◌≡◌, ℕ, ◌+◌, ◌<◌, ◌≤◌, List, [], ◌∷◌, ◌++◌, drop, flat_map, get_or, length, map}
+use Rattle.std.proofs.Common.{take, Option, Some, None, option_map, Result, Ok, Err, OnOk, IsOk, IsErrOf, inl}
+use Rattle.std.proofs.Common.{refl, sym, ap, subst, ◌∙◌, arith, append-nil}
 use Rattle.std.proofs.Math.Seq.{take-append-add}
 use Rattle.std.proofs.lemmas.List.{append_assoc, drop_all, drop_more, length-append, take-append-le}
 use Rattle.jm_form.specs.declared.trees.Holds.{Holds}
@@ -21,7 +23,8 @@ use Rattle.jm_commands.proofs.Gotten.{front_of_nothing, gets_nothing}
 gets_both : (xs ys : List ℕ) (old now new : Seen (List ℕ)) → Gets xs old now → Gets ys now new → Gets (xs ++ ys) old new
 gets_both xs ys old now new first second = go old.told now.told new.told first second
   where
-    go : (a b c : Option (List ℕ)) → b ≡ option_map (λ put. put ++ xs) a → c ≡ option_map (λ put. put ++ ys) b → c ≡ option_map (λ put. put ++ (xs ++ ys)) a
+    go : (a b c : Option (List ℕ)) → b ≡ option_map (λ put. put ++ xs) a → c ≡ option_map (λ put. put ++ ys) b
+        → c ≡ option_map (λ put. put ++ (xs ++ ys)) a
     go None b c one two = two ∙ ap (option_map (λ put. put ++ ys)) one
     go (Some put) b c one two = two ∙ ap (option_map (λ put. put ++ ys)) one ∙ ap (λ l. Some l) (append_assoc put xs ys)
 
@@ -29,24 +32,36 @@ front_behind : (xs ys : List ℕ) (old now new : Seen (List ℕ)) → Gets xs ol
 front_behind xs ys old now new first front = go old.told now.told new.told first front
   where
     cut : (put all : List ℕ) → PutsFront (put ++ xs) all ys → PutsFront put all (xs ++ ys)
-    cut put all (n, within, is) =
-        (length xs + n, omega (arith, within, length-append xs ys), is ∙ append_assoc put xs (take n ys) ∙ ap (λ l. put ++ l) (sym (take-append-add xs ys n)))
+    cut put all (n, within, is) = (
+      length xs + n,
+      omega (arith, within, length-append xs ys),
+      is ∙ append_assoc put xs (take n ys)
+          ∙ ap (λ l. put ++ l) (sym (take-append-add xs ys n)),
+    )
 
-    told : (put : List ℕ) (c : Option (List ℕ)) → Told (Some (put ++ xs)) c (λ before after. PutsFront before after ys) → Told (Some put) c (λ before after. PutsFront before after (xs ++ ys))
+    told : (put : List ℕ) (c : Option (List ℕ)) → Told (Some (put ++ xs)) c (λ before after. PutsFront before after ys)
+        → Told (Some put) c (λ before after. PutsFront before after (xs ++ ys))
     told put None lost = lost
     told put (Some all) is = cut put all is
 
-    go : (a b c : Option (List ℕ)) → b ≡ option_map (λ put. put ++ xs) a → Told b c (λ before after. PutsFront before after ys) → Told a c (λ before after. PutsFront before after (xs ++ ys))
+    go : (a b c : Option (List ℕ)) → b ≡ option_map (λ put. put ++ xs) a → Told b c (λ before after. PutsFront before after ys)
+        → Told a c (λ before after. PutsFront before after (xs ++ ys))
     go None b c one two = tt
     go (Some put) b c one two = told put c (subst (λ (o : Option (List ℕ)). Told o c (λ before after. PutsFront before after ys)) one two)
 
 front_longer : (xs ys : List ℕ) (old new : Seen (List ℕ)) → GetsFront xs old new → GetsFront (xs ++ ys) old new
 front_longer xs ys old new front = go old.told new.told front
   where
-    go : (a b : Option (List ℕ)) → Told a b (λ before after. PutsFront before after xs) → Told a b (λ before after. PutsFront before after (xs ++ ys))
+    go : (a b : Option (List ℕ)) → Told a b (λ before after. PutsFront before after xs)
+        → Told a b (λ before after. PutsFront before after (xs ++ ys))
     go None b is = tt
     go (Some put) None lost = lost
-    go (Some put) (Some all) (n, within, is) = (n, omega (arith, within, length-append xs ys), is ∙ ap (λ l. put ++ l) (sym (take-append-le n xs ys within)))
+    go (Some put) (Some all) (n, within, is) = (
+      n,
+      omega (arith, within, length-append xs ys),
+      is
+          ∙ ap (λ l. put ++ l) (sym (take-append-le n xs ys within)),
+    )
 
 -- A step
 
@@ -59,7 +74,8 @@ held_back text now = record {
 }
 
 -- a piece was put
-pub piece_put : (text holds : List ℕ) (answer : Result (Unit {0}) SinkError) (old new : Seen (List ℕ)) → PutsText text answer old new → OnOk answer (holds ≡ []) → PassesText [] text holds answer old new
+pub piece_put : (text holds : List ℕ) (answer : Result (Unit {0}) SinkError) (old new : Seen (List ℕ))
+    → PutsText text answer old new → OnOk answer (holds ≡ []) → PassesText [] text holds answer old new
 piece_put text holds (Ok _) old new put emptied = record {
   passed = (text, put.all, ap (λ l. text ++ l) (sym emptied));
   front = tt;
@@ -72,7 +88,8 @@ piece_put text holds (Err e) old new put emptied = record {
 }
 
 -- a line was added to what is held back, and then some of it was put
-pub line_passed : (line held more holds : List ℕ) (answer : Result (Unit {0}) SinkError) (old new : Seen (List ℕ)) → more ≡ held ++ line → PassesText [] more holds answer old new → PassesText line held holds answer old new
+pub line_passed : (line held more holds : List ℕ) (answer : Result (Unit {0}) SinkError) (old new : Seen (List ℕ)) → more
+    ≡ held ++ line → PassesText [] more holds answer old new → PassesText line held holds answer old new
 line_passed line held more holds (Ok _) old new is text = record {
   passed = (text.passed.0, text.passed.1, sym is ∙ sym (append-nil more) ∙ text.passed.2);
   front = tt;
@@ -95,35 +112,52 @@ pub all_left : (whole : List ℕ) (now : Seen (List ℕ)) → Left whole whole n
 all_left whole now = (([], gets_nothing now now refl, refl), refl)
 
 -- a line more was passed on
-pub less_left : (whole held line rest holds : List ℕ) (old now new : Seen (List ℕ)) → Left whole (held ++ (line ++ rest)) old now → PassesText line held holds (Ok tt) now new → Left whole (holds ++ rest) old new
+pub less_left : (whole held line rest holds : List ℕ) (old now new : Seen (List ℕ)) → Left whole (held ++ (line ++ rest)) old now
+    → PassesText line held holds (Ok tt) now new → Left whole (holds ++ rest) old new
 less_left whole held line rest holds old now new ((got, gets, is), kept) text =
-    let put = text.passed in
-    ((got ++ put.0, gets_both got put.0 old now new gets put.1, is ∙ ap (λ l. got ++ l) (sym (append_assoc held line rest) ∙ ap (λ l. l ++ rest) put.2 ∙ append_assoc put.0 holds rest) ∙ sym (append_assoc got put.0 (holds ++ rest))), text.faults.kept refl ∙ kept)
+    let put = text.passed in (
+      (
+        got ++ put.0,
+        gets_both got put.0 old now new gets put.1,
+        is ∙ ap (λ l. got ++ l) (sym (append_assoc held line rest)
+            ∙ ap (λ l. l ++ rest) put.2 ∙ append_assoc put.0 holds rest) ∙ sym (append_assoc got put.0 (holds ++ rest)),
+      ),
+      text.faults.kept refl ∙ kept,
+    )
 
 -- a piece was put
-pub piece_left : (whole text rest : List ℕ) (old now new : Seen (List ℕ)) → Left whole (text ++ rest) old now → PutsText text (Ok tt) now new → Left whole rest old new
+pub piece_left : (whole text rest : List ℕ) (old now new : Seen (List ℕ)) → Left whole (text ++ rest) old now
+    → PutsText text (Ok tt) now new → Left whole rest old new
 piece_left whole text rest old now new ((got, gets, is), kept) put =
     ((got ++ text, gets_both got text old now new gets put.all, is ∙ sym (append_assoc got text rest)), put.faults.kept refl ∙ kept)
 
 -- it broke off
-pub broken : (whole text rest : List ℕ) (error : SinkError) (old now new : Seen (List ℕ)) → Left whole (text ++ rest) old now → GetsFront text now new → CountsFaults now.faults new.faults (IsOk {T = Unit {0}} (Err error)) (IsErrOf {T = Unit {0}} (Err error) sink_error.Failed) → PutsText whole (Err error) old new
+pub broken : (whole text rest : List ℕ) (error : SinkError) (old now new : Seen (List ℕ)) → Left whole (text ++ rest) old now
+    → GetsFront text now new → CountsFaults now.faults new.faults (IsOk {T = Unit {0}} (Err error))
+    (IsErrOf {T = Unit {0}} (Err error) sink_error.Failed) → PutsText whole (Err error) old new
 broken whole text rest error old now new ((got, gets, is), kept) front faults = record {
   all = tt;
-  front = subst (λ l. GetsFront l old new) (sym is) (front_behind got (text ++ rest) old now new gets (front_longer text rest now new front));
-  faults = subst (λ (count : ℕ). CountsFaults count new.faults (IsOk {T = Unit {0}} (Err error)) (IsErrOf {T = Unit {0}} (Err error) sink_error.Failed)) kept faults;
+  front = subst (λ l. GetsFront l old new) (sym is) (front_behind got (text ++ rest) old now new gets (front_longer text rest now
+      new front));
+  faults = subst (λ (count : ℕ). CountsFaults count new.faults (IsOk {T = Unit {0}} (Err error)) (IsErrOf {T = Unit {0}} (Err error)
+      sink_error.Failed)) kept faults;
 }
 
-pub line_broken : (whole held line rest holds : List ℕ) (error : SinkError) (old now new : Seen (List ℕ)) → Left whole (held ++ (line ++ rest)) old now → PassesText line held holds (Err error) now new → PutsText whole (Err error) old new
+pub line_broken : (whole held line rest holds : List ℕ) (error : SinkError) (old now new : Seen (List ℕ))
+    → Left whole (held ++ (line ++ rest)) old now → PassesText line held holds (Err error) now new → PutsText whole (Err error) old new
 line_broken whole held line rest holds error old now new left text =
-    broken whole (held ++ line) rest error old now new (subst (λ l. Left whole l old now) (sym (append_assoc held line rest)) left) text.front text.faults
+    broken whole (held ++ line) rest error old now new (subst (λ l. Left whole l old now) (sym (append_assoc held line rest)) left)
+    text.front text.faults
 
 -- no memory was found for what was left
 pub unput : (whole left : List ℕ) (old now : Seen (List ℕ)) → Left whole left old now → PutsText whole (Err sink_error.Memory) old now
 unput whole left old now is =
-    broken whole left [] sink_error.Memory old now now (subst (λ l. Left whole l old now) (sym (append-nil left)) is) (front_of_nothing left now now refl) (record { count = omega arith; kept = λ ok. cc; rose = λ failed. cc })
+    broken whole left [] sink_error.Memory old now now (subst (λ l. Left whole l old now) (sym (append-nil left)) is)
+    (front_of_nothing left now now refl) (record { count = omega arith; kept = λ ok. cc; rose = λ failed. cc })
 
 -- all that was left was put
-pub last_put : (whole text : List ℕ) (answer : Result (Unit {0}) SinkError) (old now new : Seen (List ℕ)) → Left whole text old now → PutsText text answer now new → PutsText whole answer old new
+pub last_put : (whole text : List ℕ) (answer : Result (Unit {0}) SinkError) (old now new : Seen (List ℕ)) → Left whole text old now
+    → PutsText text answer now new → PutsText whole answer old new
 last_put whole text (Ok _) old now new ((got, gets, is), kept) put = record {
   all = subst (λ l. Gets l old new) (sym is) (gets_both got text old now new gets put.all);
   front = tt;
@@ -136,7 +170,8 @@ last_put whole text (Err error) old now new left put =
 
 module _ {T U : Type 0} (line : U → List ℕ) (seen_as : T → U) (ts : List T) (i : ℕ) where
   -- the next one's comes first
-  pub next_line : (t : T) → i < length ts → get_or ts i t ≡ t → flat_map line (map seen_as (drop i ts)) ≡ line (seen_as t) ++ flat_map line (map seen_as (drop (i + 1) ts))
+  pub next_line : (t : T) → i < length ts → get_or ts i t ≡ t → flat_map line (map seen_as (drop i ts)) ≡ line (seen_as t)
+      ++ flat_map line (map seen_as (drop (i + 1) ts))
   next_line t within is =
       ap (λ us. flat_map line (map seen_as us)) (drop_more ts i t within ∙ ap (λ (u : T). u ∷ drop (i + 1) ts) is)
 
@@ -154,8 +189,30 @@ no_child path (Owners (owner ∷ owners)) none = cc
 -- The step of a run
 
 pub text_put : (text : List ℕ) (out new_out : Seen (List ℕ)) → PutsText text (Ok tt) out new_out → PutDoes (done text) (Ok tt) out new_out
-text_put text out new_out put = record { answers = refl; output = put.all; outside = λ failed. cc; kept = λ ok. put.faults.kept refl; memory = λ failed. cc }
+text_put text out new_out put = record {
+  answers = refl;
+  output = put.all;
+  outside = λ failed. cc;
+  kept =
+      λ ok. put.faults.kept refl;
+  memory = λ failed. cc;
+}
 
-pub text_unput : (text : List ℕ) (error : SinkError) (out new_out : Seen (List ℕ)) → PutsText text (Err error) out new_out → PutDoes (done text) (Err (stop_of_sink error)) out new_out
-text_unput text sink_error.Failed out new_out put = record { answers = refl; output = put.front; outside = λ failed. put.faults.rose refl; kept = λ ok. cc; memory = λ failed. cc }
-text_unput text sink_error.Memory out new_out put = record { answers = tt; output = put.front; outside = λ failed. cc; kept = λ ok. cc; memory = λ same. inl refl }
+pub text_unput : (text : List ℕ) (error : SinkError) (out new_out : Seen (List ℕ)) → PutsText text (Err error) out new_out
+    → PutDoes (done text) (Err (stop_of_sink error)) out new_out
+text_unput text sink_error.Failed out new_out put = record {
+  answers = refl;
+  output = put.front;
+  outside =
+      λ failed. put.faults.rose refl;
+  kept = λ ok. cc;
+  memory = λ failed. cc;
+}
+text_unput text sink_error.Memory out new_out put = record {
+  answers = tt;
+  output = put.front;
+  outside = λ failed. cc;
+  kept =
+      λ ok. cc;
+  memory = λ same. inl refl;
+}

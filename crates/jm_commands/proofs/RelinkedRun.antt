@@ -21,7 +21,9 @@ use Rattle.jm_commands.specs.declared.status.Status.TheVariants as status
 use Rattle.jm_commands.specs.LinkText.{link_text}
 use Rattle.jm_commands.specs.Outcome.{Early, Outcome, link_outcome}
 use Rattle.jm_commands.specs.RelinkedRun.{IsRelinked, RelinksFile, RelinksRun, RelinksTask}
-use Rattle.jm_commands.specs.Run.{EndsWith, FoundComesTo, HasFile, ImageComes, ImageLinkComesTo, IsFailed, LinkComesFrom, LinkComesTo, OpenedComesTo, RunComesTo, RunDoes, TaskComesTo, WordsComeTo}
+use Rattle.jm_commands.specs.Run.{EndsWith, FoundComesTo, HasFile, ImageComes, ImageLinkComesTo, IsFailed}
+use Rattle.jm_commands.specs.Run.{LinkComesFrom, LinkComesTo, OpenedComesTo, RunComesTo, RunDoes, TaskComesTo}
+use Rattle.jm_commands.specs.Run.{WordsComeTo}
 use Rattle.jm_commands.specs.Sinks.{Seen}
 use Rattle.jm_commands.specs.World.{World}
 
@@ -31,7 +33,8 @@ failed_free output b is old new (inr same) = subst (λ s. IsRelinked output b s 
 
 module _ (link : LinkTask) (b : List ℕ) where
   -- an outcome that makes these bytes ends so
-  ends_so : (due : Outcome) (is : Status) (old new : World) (err new_err : Seen (List ℕ)) → due.status ≡ status.Done → due.writes ≡ (link.output, b) ∷ [] → EndsWith due is old new err new_err → IsRelinked link.output b is old.shelf.told new.shelf.told
+  ends_so : (due : Outcome) (is : Status) (old new : World) (err new_err : Seen (List ℕ)) → due.status ≡ status.Done → due.writes
+      ≡ (link.output, b) ∷ [] → EndsWith due is old new err new_err → IsRelinked link.output b is old.shelf.told new.shelf.told
   ends_so due status.Done old new err new_err done writes ends = subst (λ ws. MadeAll ws old.shelf.told new.shelf.told) writes ends.1.files
   ends_so due status.Outside old new err new_err done writes ends = tt
   ends_so due status.Memory old new err new_err done writes ends = tt
@@ -58,7 +61,8 @@ module _ (link : LinkTask) (b : List ℕ) where
 
   module _ (told : Option Files) (file : RelinksFile link told b) (due : Outcome) where
     -- what is due makes these bytes
-    by_result : (result : Result LinkedImage Refusal) → ImageComesTo b (request_of link) result → due ≡ link_outcome link_text link result → (due.status ≡ status.Done) × (due.writes ≡ (link.output, b) ∷ [])
+    by_result : (result : Result LinkedImage Refusal) → ImageComesTo b (request_of link) result → due
+        ≡ link_outcome link_text link result → (due.status ≡ status.Done) × (due.writes ≡ (link.output, b) ∷ [])
     by_result (Ok image) comes is =
         let same = same_bytes b (request_of link) file.relinks image comes.0 in
         (ap (λ (d : Outcome). d.status) is, ap (λ (d : Outcome). d.writes) is ∙ ap (λ x. (link.output, x) ∷ []) same)
@@ -67,7 +71,8 @@ module _ (link : LinkTask) (b : List ℕ) where
     valid : Valid b
     valid = subst Valid (sym file.relinks.made) (laid b (request_of link) file.relinks).valid
 
-    opened : OpenedComesTo (ImageLinkComesTo link_text link b) (first_damage b) due → (due.status ≡ status.Done) × (due.writes ≡ (link.output, b) ∷ [])
+    opened : OpenedComesTo (ImageLinkComesTo link_text link b) (first_damage b) due → (due.status ≡ status.Done)
+        × (due.writes ≡ (link.output, b) ∷ [])
     opened comes = go (subst (λ d. OpenedComesTo (ImageLinkComesTo link_text link b) d due) (valid_sound b valid) comes)
       where
         go : ImageLinkComesTo link_text link b due → (due.status ≡ status.Done) × (due.writes ≡ (link.output, b) ∷ [])
@@ -79,8 +84,11 @@ module _ (link : LinkTask) (b : List ℕ) where
         files_at : Files → Option (List ℕ)
         files_at files = read files file.path
 
-    by_image : ImageComes told file.path (ImageLinkComesTo link_text link) due → (due.status ≡ status.Done) × (due.writes ≡ (link.output, b) ∷ [])
-    by_image (found, has, comes) = opened (subst (λ o. FoundComesTo (λ bytes. OpenedComesTo (ImageLinkComesTo link_text link bytes) (first_damage bytes)) file.path o due) (found_is found has) comes)
+    by_image : ImageComes told file.path (ImageLinkComesTo link_text link) due → (due.status ≡ status.Done)
+        × (due.writes ≡ (link.output, b) ∷ [])
+    by_image (found, has, comes) =
+        opened (subst (λ o. FoundComesTo (λ bytes. OpenedComesTo (ImageLinkComesTo link_text link bytes) (first_damage bytes))
+        file.path o due) (found_is found has) comes)
 
     by_link : LinkComesTo link_text told link due → (due.status ≡ status.Done) × (due.writes ≡ (link.output, b) ∷ [])
     by_link comes = by_image (subst (λ o. LinkComesFrom link_text told link o due) file.image comes)
@@ -92,11 +100,14 @@ module _ (due : Outcome) (is : Status) (old new : World) (err new_err : Seen (Li
       ends_so link b due is old new err new_err makes.0 makes.1 does.ends
   by_task _ comes = tt
 
-  by_words : (asked : Result Command WordsError) → WordsComeTo old.shelf.told old.input.told asked due → RelinksRun asked is old.shelf.told new.shelf.told
+  by_words : (asked : Result Command WordsError) → WordsComeTo old.shelf.told old.input.told asked due
+      → RelinksRun asked is old.shelf.told new.shelf.told
   by_words (Ok given) comes = by_task given.task comes
   by_words (Err fault) comes = tt
 
-pub run_relinks : (asked : Result Command WordsError) (early : Early) (is : Status) (old new : World) (err new_err : Seen (List ℕ)) → RunComesTo (WordsComeTo old.shelf.told old.input.told asked) early is old new err new_err → RelinksRun asked is old.shelf.told new.shelf.told
+pub run_relinks : (asked : Result Command WordsError) (early : Early) (is : Status) (old new : World) (err new_err : Seen (List ℕ))
+    → RunComesTo (WordsComeTo old.shelf.told old.input.told asked) early is old new err new_err → RelinksRun asked is old.shelf.told
+    new.shelf.told
 run_relinks asked early is old new err new_err (inl stops) = go asked
   where
     by_task : (given : Task) → RelinksTask given is old.shelf.told new.shelf.told

@@ -20,7 +20,8 @@ use Rattle.jm_commands.proofs.Gotten.{front_of_all, front_of_nothing, gets_nothi
 use Rattle.jm_commands.proofs.StepLaws.{complains_undone}
 
 -- a complaint's line was put
-pub reported : (given : Complaint) (is : Status) (err new_err : Seen (List ℕ)) → is ≡ status_of given → Gets (line_of given) err new_err → ReportDoes given is err new_err
+pub reported : (given : Complaint) (is : Status) (err new_err : Seen (List ℕ)) → is ≡ status_of given
+    → Gets (line_of given) err new_err → ReportDoes given is err new_err
 reported given is err new_err same put = subst (λ (s : Status). ReportDoes given s err new_err) (sym same) (go given put)
   where
     go : (c : Complaint) → Gets (line_of c) err new_err → ReportDoes c (status_of c) err new_err
@@ -51,9 +52,18 @@ line_failed complaint.TooManyLines err new_err failed = failed
 
 -- What was read from the source
 
-source_map : (session : Option (List ℕ)) (Ends Also : Result ℕ ServeError → Type 0) (old new : World) → ((answered : Result ℕ ServeError) → Ends answered → Also answered) → SourceRead session Ends old new → SourceRead session Also old new
+source_map : (session : Option (List ℕ)) (Ends Also : Result ℕ ServeError → Type 0) (old new : World)
+    → ((answered : Result ℕ ServeError) → Ends answered → Also answered) → SourceRead session Ends old new → SourceRead session Also old new
 source_map None Ends Also old new f read = read
-source_map (Some b) Ends Also old new f held = record { answered = held.answered; ends = f held.answered held.ends; ended_by = held.ended_by; reads = held.reads; new_reads = held.new_reads; serves = held.serves }
+source_map (Some b) Ends Also old new f held = record {
+  answered = held.answered;
+  ends = f held.answered held.ends;
+  ended_by =
+      held.ended_by;
+  reads = held.reads;
+  new_reads = held.new_reads;
+  serves = held.serves;
+}
 
 -- nothing was put to the error sink
 module _ (err : Seen (List ℕ)) where
@@ -97,7 +107,8 @@ module _ (given : Complaint) (err new_err : Seen (List ℕ)) where
   broken status.NotThere report same = inl (report.0 ∙ same)
   broken status.Session report same = inl refl
 
-  ends_complaint : (is : Status) → ReportDoes given is err new_err → (answered : Result ℕ ServeError) → StopsAs (Err (stop.Complaint given)) answered → EndsAs is err new_err answered
+  ends_complaint : (is : Status) → ReportDoes given is err new_err → (answered : Result ℕ ServeError)
+      → StopsAs (Err (stop.Complaint given)) answered → EndsAs is err new_err answered
   ends_complaint is report (Ok n) stops = cc
   ends_complaint is report (Err serve_error.ReadFault) stops = cc
   ends_complaint is report (Err serve_error.WriteFault) stops = cc
@@ -127,7 +138,16 @@ module _ (due : Outcome) (old new : World) where
   -- the outside failed
   pub ran_outside : (err : Seen (List ℕ)) → StepDoes due (Err stop.Outside) old new → RunDoes due status.Outside old new err err
   ran_outside err step = record {
-    ends = (record { output = step.output; line = front_of_nothing due.line err err refl; files = step.files; files_first = step.files_first }, inl (step.outside refl));
+    ends = (
+      record {
+        output = step.output;
+        line = front_of_nothing due.line err err refl;
+        files = step.files;
+        files_first =
+            step.files_first;
+      },
+      inl (step.outside refl),
+    );
     source = source_map due.session (StopsAs (Err stop.Outside)) (EndsAs status.Outside err err) old new (ends_outside err) step.source;
     stand = λ done. cc;
     none_rose = λ done. cc;
@@ -136,23 +156,35 @@ module _ (due : Outcome) (old new : World) where
   -- no memory was found
   pub ran_memory : (err : Seen (List ℕ)) → StepDoes due (Err stop.Memory) old new → RunDoes due status.Memory old new err err
   ran_memory err step = record {
-    ends = record { output = step.output; line = front_of_nothing due.line err err refl; files = step.files; files_first = step.files_first };
+    ends = record {
+      output = step.output;
+      line = front_of_nothing due.line err err refl;
+      files = step.files;
+      files_first =
+          step.files_first;
+    };
     source = source_map due.session (StopsAs (Err stop.Memory)) (EndsAs status.Memory err err) old new (ends_memory err) step.source;
     stand = λ done. cc;
     none_rose = λ done. cc;
   }
 
   -- a complaint was reported
-  pub ran_complaint : (given : Complaint) (is : Status) (err new_err : Seen (List ℕ)) → StepDoes due (Err (stop.Complaint given)) old new → ReportDoes given is err new_err → RunDoes due is old new err new_err
+  pub ran_complaint : (given : Complaint) (is : Status) (err new_err : Seen (List ℕ)) → StepDoes due (Err (stop.Complaint given))
+      old new → ReportDoes given is err new_err → RunDoes due is old new err new_err
   ran_complaint given is err new_err step report = record {
     ends = go is report;
-    source = source_map due.session (StopsAs (Err (stop.Complaint given))) (EndsAs is err new_err) old new (ends_complaint given err new_err is report) step.source;
+    source = source_map due.session (StopsAs (Err (stop.Complaint given))) (EndsAs is err new_err) old new
+        (ends_complaint given err new_err is report) step.source;
     stand = λ done. absurd (reported_undone given is err new_err report done);
     none_rose = λ done. absurd (reported_undone given is err new_err report done);
   }
     where
       all : Gets (line_of given) err new_err → DoesAll due old new err new_err
-      all put = record { output = step.output; line = subst (λ (text : List ℕ). Gets text err new_err) (sym step.answers.1) put; files = step.files }
+      all put = record {
+        output = step.output;
+        line = subst (λ (text : List ℕ). Gets text err new_err) (sym step.answers.1) put;
+        files = step.files;
+      }
 
       front : GetsFront (line_of given) err new_err → DoesFront due old new err new_err
       front put = record {
@@ -163,7 +195,11 @@ module _ (due : Outcome) (old new : World) where
       }
 
       go : (s : Status) → ReportDoes given s err new_err → EndsWith due s old new err new_err
-      go status.Outside report = (front report.0, inr (subst (λ (s : Status). LineFailed s err new_err) (sym step.answers.0) (line_failed given err new_err report.1)))
+      go status.Outside report = (
+        front report.0,
+        inr (subst (λ (s : Status). LineFailed s err new_err) (sym step.answers.0)
+            (line_failed given err new_err report.1)),
+      )
       go status.Memory report = front report
       go status.Done report = (report.0 ∙ sym step.answers.0, all report.1)
       go status.Words report = (report.0 ∙ sym step.answers.0, all report.1)
@@ -178,7 +214,8 @@ module _ (Due : Outcome → Type 0) (early : Early) (old new : World) where
   comes_done err (inl fails) = absurd fails.failed
   comes_done err (inr (due, is, step)) = inr (due, is, ran_done due old new err step)
 
-  comes_outside : (err : Seen (List ℕ)) → StepComesTo Due early (Err stop.Outside) old new → RunComesTo Due early status.Outside old new err err
+  comes_outside : (err : Seen (List ℕ)) → StepComesTo Due early (Err stop.Outside) old new → RunComesTo Due early status.Outside old
+      new err err
   comes_outside err (inl fails) = inl (record {
     failed = inl refl;
     files = fails.files;
@@ -189,15 +226,32 @@ module _ (Due : Outcome → Type 0) (early : Early) (old new : World) where
   })
   comes_outside err (inr (due, is, step)) = inr (due, is, ran_outside due old new err step)
 
-  comes_memory : (err : Seen (List ℕ)) → StepComesTo Due early (Err stop.Memory) old new → RunComesTo Due early status.Memory old new err err
-  comes_memory err (inl fails) = inl (record { failed = inr refl; files = fails.files; source = fails.source; output = fails.output; line = refl; outside = λ failed. cc })
+  comes_memory : (err : Seen (List ℕ)) → StepComesTo Due early (Err stop.Memory) old new → RunComesTo Due early status.Memory old
+      new err err
+  comes_memory err (inl fails) = inl (record {
+    failed = inr refl;
+    files = fails.files;
+    source = fails.source;
+    output =
+        fails.output;
+    line = refl;
+    outside = λ failed. cc;
+  })
   comes_memory err (inr (due, is, step)) = inr (due, is, ran_memory due old new err step)
 
-  comes_complaint : (given : Complaint) (is : Status) (err new_err : Seen (List ℕ)) → StepComesTo Due early (Err (stop.Complaint given)) old new → ReportDoes given is err new_err → RunComesTo Due early is old new err new_err
+  comes_complaint : (given : Complaint) (is : Status) (err new_err : Seen (List ℕ))
+      → StepComesTo Due early (Err (stop.Complaint given)) old new → ReportDoes given is err new_err
+      → RunComesTo Due early is old new err new_err
   comes_complaint given is err new_err (inl fails) report = absurd fails.failed
-  comes_complaint given is err new_err (inr (due, comes, step)) report = inr (due, comes, ran_complaint due old new given is err new_err step report)
+  comes_complaint given is err new_err (inr (due, comes, step)) report = inr (
+    due,
+    comes,
+    ran_complaint due old new given is err
+        new_err step report,
+  )
 
-  pub comes_ended : (answer : Result (Unit {0}) Stop) (is : Status) (err new_err : Seen (List ℕ)) → StepComesTo Due early answer old new → EndsStep answer is err new_err → RunComesTo Due early is old new err new_err
+  pub comes_ended : (answer : Result (Unit {0}) Stop) (is : Status) (err new_err : Seen (List ℕ))
+      → StepComesTo Due early answer old new → EndsStep answer is err new_err → RunComesTo Due early is old new err new_err
   comes_ended (Ok _) is err new_err step (same, stays) = rw (same, stays) (comes_done err step)
   comes_ended (Err (stop.Complaint given)) is err new_err step report = comes_complaint given is err new_err step report
   comes_ended (Err stop.Outside) is err new_err step (same, stays) = rw (same, stays) (comes_outside err step)

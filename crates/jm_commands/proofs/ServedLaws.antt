@@ -1,5 +1,6 @@
 -- What a run did to the source: nothing, but by a session.
-use Rattle.std.proofs.Common.{◌≡◌, ℕ, zero, suc, List, [], ◌++◌, take, Option, Some, None, option_map, Result, Ok, Err, inl, inr, refl, ap, ◌∙◌, subst, append-nil}
+use Rattle.std.proofs.Common.{◌≡◌, ℕ, zero, suc, List, [], ◌++◌, take, Option, Some, None, option_map, Result}
+use Rattle.std.proofs.Common.{Ok, Err, inl, inr, refl, ap, ◌∙◌, subst, append-nil}
 use Rattle.jm_bytes.proofs.Choice.{same_some}
 use Rattle.jm_extract.specs.Extracted.{extracted}
 use Rattle.jm_outside.specs.Made.{written}
@@ -27,7 +28,8 @@ use Rattle.jm_commands.specs.declared.status.Status.TheVariants as status
 use Rattle.jm_commands.specs.Gen.{gen_link, made_first}
 use Rattle.jm_commands.specs.LinkText.{gen_text, link_text}
 use Rattle.jm_commands.specs.Outcome.{Early, Outcome, image_outcome, link_outcome, session_outcome, session_with}
-use Rattle.jm_commands.specs.Run.{EndsWith, HasFile, ImageLinkComesTo, LinkComesFrom, LinkComesTo, OpenedComesTo, RunComesTo, RunDoes, TaskComesTo, TextComesTo, WordsComeTo}
+use Rattle.jm_commands.specs.Run.{EndsWith, HasFile, ImageLinkComesTo, LinkComesFrom, LinkComesTo}
+use Rattle.jm_commands.specs.Run.{OpenedComesTo, RunComesTo, RunDoes, TaskComesTo, TextComesTo, WordsComeTo}
 use Rattle.jm_commands.specs.Served.{ServesRun, served, served_in}
 use Rattle.jm_commands.specs.SessionHeld.{EndsAs, NotBegun, SourceRead}
 use Rattle.jm_commands.specs.Sinks.{Gets, GetsFront, Seen}
@@ -38,24 +40,28 @@ use Rattle.jm_commands.proofs.StepLaws.{not_begun}
 
 -- A session is due of `serve` alone
 
-image_session : (image : List ℕ) (does : ImageWork) (b text : List ℕ) → served (task.Image image does) ≡ None → (image_outcome does b text).session ≡ None
+image_session : (image : List ℕ) (does : ImageWork) (b text : List ℕ) → served (task.Image image does) ≡ None
+    → (image_outcome does b text).session ≡ None
 image_session image (work.Cat name) b text none = cat_session name (look b name)
 image_session image (work.Ls folder) b text none = ls_session folder (held (stat b folder))
 image_session image (work.Extract dir include) b text none = extract_session dir (extracted b include)
 image_session image work.Serve b text none = cc
 image_session image _ b text none = refl
 
-link_session : (text : Summary → List ℕ) (link : LinkTask) (result : Result LinkedImage Refusal) → (link_outcome text link result).session ≡ None
+link_session : (text : Summary → List ℕ) (link : LinkTask) (result : Result LinkedImage Refusal)
+    → (link_outcome text link result).session ≡ None
 link_session text link (Ok image) = refl
 link_session text link (Err refusal) = refl
 
 -- an image is opened, and what comes of it without a damage has no session
-opened_session : (Sound : Outcome → Type 0) (due : Outcome) → (Sound due → due.session ≡ None) → (damage : Option Damage) → OpenedComesTo Sound damage due → due.session ≡ None
+opened_session : (Sound : Outcome → Type 0) (due : Outcome) → (Sound due → due.session ≡ None) → (damage : Option Damage)
+    → OpenedComesTo Sound damage due → due.session ≡ None
 opened_session Sound due alone None comes = alone comes
 opened_session Sound due alone (Some damage) is = ap (λ o. o.session) is
 
 -- what a link comes to
-linked_session : (text : Summary → List ℕ) (told : Option Files) (link : LinkTask) (due : Outcome) → LinkComesTo text told link due → due.session ≡ None
+linked_session : (text : Summary → List ℕ) (told : Option Files) (link : LinkTask) (due : Outcome) → LinkComesTo text told link due
+    → due.session ≡ None
 linked_session text told link due comes = from link.from_image comes
   where
     from : (image : Option (List ℕ)) → LinkComesFrom text told link image due → due.session ≡ None
@@ -63,16 +69,19 @@ linked_session text told link due comes = from link.from_image comes
     from None (inr (listed, never, is)) = ap (λ o. o.session) is
     from (Some path) (None, has, is) = ap (λ o. o.session) is
     from (Some path) (Some b, has, comes) =
-        opened_session (ImageLinkComesTo text link b) due (λ (result, comes, shows, is). ap (λ o. o.session) is ∙ link_session text link result) (first_damage b) comes
+        opened_session (ImageLinkComesTo text link b) due (λ (result, comes, shows, is). ap (λ o. o.session) is
+        ∙ link_session text link result) (first_damage b) comes
 
-due_session : (told : Option Files) (rest : Option (List ℕ)) (given : Task) (due : Outcome) → served given ≡ None → TaskComesTo told rest given due → due.session ≡ None
+due_session : (told : Option Files) (rest : Option (List ℕ)) (given : Task) (due : Outcome) → served given ≡ None
+    → TaskComesTo told rest given due → due.session ≡ None
 due_session told rest task.Help due none is = ap (λ o. o.session) is
 due_session told rest task.Version due none is = ap (λ o. o.session) is
 due_session told rest (task.Describe file) due none (None, has, is) = ap (λ o. o.session) is
 due_session told rest (task.Describe file) due none (Some b, has, is) = ap (λ o. o.session) is ∙ describe_session file b
 due_session told rest (task.Image image does) due none (None, has, is) = ap (λ o. o.session) is
 due_session told rest (task.Image image does) due none (Some b, has, comes) =
-    opened_session (TextComesTo rest (image_outcome does b)) due (λ (text, told_text, is). ap (λ o. o.session) is ∙ image_session image does b text none) (first_damage b) comes
+    opened_session (TextComesTo rest (image_outcome does b)) due (λ (text, told_text, is). ap (λ o. o.session) is
+    ∙ image_session image does b text none) (first_damage b) comes
 due_session told rest (task.Link link) due none comes = linked_session link_text told link due comes
 due_session told rest (task.Gen gen) due none (linked, comes, is) =
     ap (λ o. o.session) is ∙ linked_session gen_text (option_map (λ files. written files (made_first gen)) told) (gen_link gen) linked comes
@@ -88,7 +97,8 @@ none_in_front : (n : ℕ) → ◌≡◌ {A = List ℕ} (take n []) []
 none_in_front zero = refl
 none_in_front (suc n) = refl
 
-unput_front : (old new : Option (List ℕ)) → Told old new (λ before after. PutsFront before after []) → Told old new (λ before after. after ≡ before)
+unput_front : (old new : Option (List ℕ)) → Told old new (λ before after. PutsFront before after [])
+    → Told old new (λ before after. after ≡ before)
 unput_front None new told = tt
 unput_front (Some old) None told = told
 unput_front (Some old) (Some new) (n, within, is) = is ∙ ap (λ (t : List ℕ). old ++ t) (none_in_front n) ∙ append-nil old
@@ -127,24 +137,37 @@ module _ (due : Outcome) (is : Status) (old new : World) (err new_err : Seen (Li
   unbegun : due.session ≡ None → due.output ≡ [] → NotBegun old new
   unbegun none nothing = record { source = unread none; output = ends_unput due old new err new_err nothing is does.ends }
 
-  by_damage : (image b : List ℕ) → HasFile old.shelf.told image (Some b) → (damage : Option Damage) → first_damage b ≡ damage → OpenedComesTo (TextComesTo old.input.told (session_outcome b)) damage due → ServesRun (Some image) is old new err new_err
+  by_damage : (image b : List ℕ) → HasFile old.shelf.told image (Some b) → (damage : Option Damage) → first_damage b ≡ damage
+      → OpenedComesTo (TextComesTo old.input.told (session_outcome b)) damage due → ServesRun (Some image) is old new err new_err
   by_damage image b has (Some damage) found same = inl (unbegun (ap (λ o. o.session) same) (ap (λ o. o.output) same))
-  by_damage image b has None sound (text, told_text, same) = inr (b, has, sound, subst (λ (o : Option (List ℕ)). SourceRead o (EndsAs is err new_err) old new) (ap (λ o. o.session) same ∙ session_is b (replies b (answered_in text)) _) does.source)
+  by_damage image b has None sound (text, told_text, same) =
+      inr (
+        b,
+        has,
+        sound,
+        subst (λ (o : Option (List ℕ)). SourceRead o (EndsAs is err new_err) old new) (ap (λ o. o.session) same
+            ∙ session_is b (replies b (answered_in text)) _) does.source,
+      )
 
-  by_image : (image : List ℕ) → TaskComesTo old.shelf.told old.input.told (task.Image image work.Serve) due → ServesRun (Some image) is old new err new_err
+  by_image : (image : List ℕ) → TaskComesTo old.shelf.told old.input.told (task.Image image work.Serve) due
+      → ServesRun (Some image) is old new err new_err
   by_image image (None, has, same) = inl (unbegun (ap (λ o. o.session) same) (ap (λ o. o.output) same))
   by_image image (Some b, has, comes) = by_damage image b has (first_damage b) refl comes
 
-  by_task : (given : Task) (session : Option (List ℕ)) → served given ≡ session → TaskComesTo old.shelf.told old.input.told given due → ServesRun session is old new err new_err
+  by_task : (given : Task) (session : Option (List ℕ)) → served given ≡ session → TaskComesTo old.shelf.told old.input.told given
+      due → ServesRun session is old new err new_err
   by_task given None none comes = unread (due_session old.shelf.told old.input.told given due none comes)
   by_task given (Some image) serves comes =
       by_image image (subst (λ (t : Task). TaskComesTo old.shelf.told old.input.told t due) (serve_of given image serves) comes)
 
-  by_words : (asked : Result Command WordsError) → WordsComeTo old.shelf.told old.input.told asked due → ServesRun (served_in asked) is old new err new_err
+  by_words : (asked : Result Command WordsError) → WordsComeTo old.shelf.told old.input.told asked due
+      → ServesRun (served_in asked) is old new err new_err
   by_words (Ok given) comes = by_task given.task (served given.task) refl comes
   by_words (Err fault) comes = unread (ap (λ o. o.session) comes)
 
-pub run_serves : (asked : Result Command WordsError) (early : Early) (is : Status) (old new : World) (err new_err : Seen (List ℕ)) → RunComesTo (WordsComeTo old.shelf.told old.input.told asked) early is old new err new_err → ServesRun (served_in asked) is old new err new_err
+pub run_serves : (asked : Result Command WordsError) (early : Early) (is : Status) (old new : World) (err new_err : Seen (List ℕ))
+    → RunComesTo (WordsComeTo old.shelf.told old.input.told asked) early is old new err new_err → ServesRun (served_in asked) is old
+    new err new_err
 run_serves asked early is old new err new_err (inl stops) = go (served_in asked)
   where
     go : (session : Option (List ℕ)) → ServesRun session is old new err new_err

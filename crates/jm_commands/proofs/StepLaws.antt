@@ -1,5 +1,6 @@
 -- What a step does, from what its calls answered.
-use Rattle.std.proofs.Common.{◌≡◌, ℕ, true, false, List, [], Option, Some, None, is_some, Result, Ok, Err, IsOk, inl, inr, refl, sym, ap, ◌∙◌, subst, IsErrAnd}
+use Rattle.std.proofs.Common.{◌≡◌, ℕ, true, false, List, [], Option, Some, None, is_some, Result, Ok, Err}
+use Rattle.std.proofs.Common.{IsOk, inl, inr, refl, sym, ap, ◌∙◌, subst, IsErrAnd}
 use Rattle.jm_outside.specs.Made.{MadeAll, MadePart, Writes}
 use Rattle.jm_form.specs.declared.rows.Row.{Row}
 use Rattle.jm_form.specs.Damages.{first_damage}
@@ -23,8 +24,11 @@ use Rattle.jm_outside.specs.declared.streams.SinkError.{SinkError}
 use Rattle.jm_outside.specs.declared.streams.SinkError.TheVariants as sink_error
 use Rattle.jm_commands.specs.Cat.{content_of}
 use Rattle.jm_commands.specs.FailedBefore.{FailedEarly, WorkFailed}
-use Rattle.jm_commands.specs.Outcome.{Early, Outcome, cat_outcome, damaged, done, early_in, early_of, faulty, not_there, reading, without_files}
-use Rattle.jm_commands.specs.Run.{FileComesTo, FilesFirst, FilesMade, IsFailure, OpenedComesTo, Opens, PutDoes, ReadsFile, StandAll, StepComesTo, StepDoes, StepOnText, TaskComesTo, WordsComeTo, outcome_of, status_of}
+use Rattle.jm_commands.specs.Outcome.{Early, Outcome, cat_outcome, damaged, done, early_in, early_of, faulty}
+use Rattle.jm_commands.specs.Outcome.{not_there, reading, without_files}
+use Rattle.jm_commands.specs.Run.{FileComesTo, FilesFirst, FilesMade, IsFailure, OpenedComesTo, Opens}
+use Rattle.jm_commands.specs.Run.{PutDoes, ReadsFile, StandAll, StepComesTo, StepDoes, StepOnText}
+use Rattle.jm_commands.specs.Run.{TaskComesTo, WordsComeTo, outcome_of, status_of}
 use Rattle.jm_commands.specs.SessionHeld.{EndedBy, NotBegun, SourceRead}
 use Rattle.jm_commands.specs.Sinks.{Failed, Gets, GetsFront, Seen}
 use Rattle.jm_commands.specs.Stops.{stop_of_sink, stop_of_words}
@@ -52,10 +56,18 @@ complains_undone complaint.TooManyLines same = cc
 
 -- nothing was put for want of memory
 pub no_memory : (due : Outcome) (out new_out : Seen (List ℕ)) → new_out.told ≡ out.told → PutDoes due (Err stop.Memory) out new_out
-no_memory due out new_out unput = record { answers = tt; output = front_of_nothing due.output out new_out unput; outside = λ failed. cc; kept = λ ok. cc; memory = λ failed. inr unput }
+no_memory due out new_out unput = record {
+  answers = tt;
+  output = front_of_nothing due.output out new_out unput;
+  outside =
+      λ failed. cc;
+  kept = λ ok. cc;
+  memory = λ failed. inr unput;
+}
 
 -- nothing was put, and a complaint is all
-pub complained : (due : Outcome) (given : Complaint) (out new_out : Seen (List ℕ)) → due ≡ outcome_of given → new_out.told ≡ out.told → PutDoes due (Err (stop.Complaint given)) out new_out
+pub complained : (due : Outcome) (given : Complaint) (out new_out : Seen (List ℕ)) → due ≡ outcome_of given → new_out.told
+    ≡ out.told → PutDoes due (Err (stop.Complaint given)) out new_out
 complained due given out new_out is unput = record {
   answers = is;
   output = subst (λ (text : List ℕ). Gets text out new_out) (sym (ap (λ o. o.output) is)) (gets_nothing out new_out unput);
@@ -67,15 +79,39 @@ complained due given out new_out is unput = record {
 -- `cat`
 
 -- the content was put
-pub content_put : (found : Option (Row × List ℕ)) (name : List ℕ) (out new_out : Seen (List ℕ)) → true ≡ is_some found → Gets (content_of found) out new_out → new_out.faults ≡ out.faults → PutDoes (cat_outcome name found) (Ok tt) out new_out
+pub content_put : (found : Option (Row × List ℕ)) (name : List ℕ) (out new_out : Seen (List ℕ)) → true ≡ is_some found
+    → Gets (content_of found) out new_out → new_out.faults ≡ out.faults → PutDoes (cat_outcome name found) (Ok tt) out new_out
 content_put None name out new_out there put kept = cc
-content_put (Some found) name out new_out there put kept = record { answers = refl; output = put; outside = λ failed. cc; kept = λ ok. kept; memory = λ failed. cc }
+content_put (Some found) name out new_out there put kept = record {
+  answers = refl;
+  output = put;
+  outside = λ failed. cc;
+  kept =
+      λ ok. kept;
+  memory = λ failed. cc;
+}
 
 -- the put of the content failed
-pub content_unput : (found : Option (Row × List ℕ)) (name : List ℕ) (error : SinkError) (out new_out : Seen (List ℕ)) → is_some found ≡ true → GetsFront (content_of found) out new_out → (error ≡ sink_error.Failed → Failed out new_out) → (error ≡ sink_error.Memory → new_out.told ≡ out.told) → PutDoes (cat_outcome name found) (Err (stop_of_sink error)) out new_out
+pub content_unput : (found : Option (Row × List ℕ)) (name : List ℕ) (error : SinkError) (out new_out : Seen (List ℕ))
+    → is_some found ≡ true → GetsFront (content_of found) out new_out → (error ≡ sink_error.Failed → Failed out new_out)
+    → (error ≡ sink_error.Memory → new_out.told ≡ out.told) → PutDoes (cat_outcome name found) (Err (stop_of_sink error)) out new_out
 content_unput None name error out new_out there front failed unput = cc
-content_unput (Some found) name sink_error.Failed out new_out there front failed unput = record { answers = refl; output = front; outside = λ same. failed refl; kept = λ ok. cc; memory = λ same. cc }
-content_unput (Some found) name sink_error.Memory out new_out there front failed unput = record { answers = tt; output = front; outside = λ same. cc; kept = λ ok. cc; memory = λ same. inr (unput refl) }
+content_unput (Some found) name sink_error.Failed out new_out there front failed unput = record {
+  answers = refl;
+  output =
+      front;
+  outside = λ same. failed refl;
+  kept = λ ok. cc;
+  memory = λ same. cc;
+}
+content_unput (Some found) name sink_error.Memory out new_out there front failed unput = record {
+  answers = tt;
+  output =
+      front;
+  outside = λ same. cc;
+  kept = λ ok. cc;
+  memory = λ same. inr (unput refl);
+}
 
 -- there is no content to put
 pub nothing_found : (found : Option (Row × List ℕ)) (name : List ℕ) → false ≡ is_some found → cat_outcome name found ≡ not_there (utf name)
@@ -112,7 +148,8 @@ not_begun old new source output = record {
     go (Some put) = refl
 
 -- whatever was due
-pub fails_at_once : (Due : Outcome → Type 0) (early : Early) (answer : Result (Unit {0}) Stop) (old new : World) → IsFailure answer → Unmoved old new → (answer ≡ Err stop.Outside → FailedEarly early old new) → StepComesTo Due early answer old new
+pub fails_at_once : (Due : Outcome → Type 0) (early : Early) (answer : Result (Unit {0}) Stop) (old new : World) → IsFailure answer
+    → Unmoved old new → (answer ≡ Err stop.Outside → FailedEarly early old new) → StepComesTo Due early answer old new
 fails_at_once Due early answer old new fails unmoved failed = inl (record {
   failed = fails;
   files = stays_part early.writes old.shelf.told new.shelf.told unmoved.files;
@@ -123,12 +160,18 @@ fails_at_once Due early answer old new fails unmoved failed = inl (record {
 
 -- no memory was found
 pub out_of_memory : (Due : Outcome → Type 0) (early : Early) (now : World) → StepComesTo Due early (Err stop.Memory) now now
-out_of_memory Due early now = fails_at_once Due early (Err stop.Memory) now now tt (record { files = refl; source = refl; output = refl }) (λ failed. cc)
+out_of_memory Due early now = fails_at_once Due early (Err stop.Memory) now now tt (record {
+  files = refl;
+  source = refl;
+  output =
+      refl;
+}) (λ failed. cc)
 
 -- A put
 
 -- where a put failed, an output was due
-output_failed : (due : Outcome) (old new : World) → due ≡ done due.output → Failed old.out new.out → WorkFailed due.session due.status old new
+output_failed : (due : Outcome) (old new : World) → due ≡ done due.output → Failed old.out new.out
+    → WorkFailed due.session due.status old new
 output_failed due old new is failed = subst (λ (o : Outcome). WorkFailed o.session o.status old new) (sym is) (inr failed)
 
 -- where the step is done, the calls of the shelf and of the source didn't fail
@@ -136,9 +179,11 @@ abbrev pub Quiet : Result (Unit {0}) Stop → World → World → Type 0
 Quiet answer old new = IsOk answer → (new.shelf.faults ≡ old.shelf.faults) × (new.input.faults ≡ old.input.faults)
 
 -- a put, behind calls that changed no file and read nothing from the source
-module _ (due : Outcome) (old new : World) (files : new.shelf.told ≡ old.shelf.told) (source : new.input.told ≡ old.input.told) (alone : due.session ≡ None) where
+module _ (due : Outcome) (old new : World) (files : new.shelf.told ≡ old.shelf.told) (source : new.input.told ≡ old.input.told)
+    (alone : due.session ≡ None) where
   unmade : due.writes ≡ [] → MadeAll due.writes old.shelf.told new.shelf.told
-  unmade none = subst (λ (writes : Writes). MadeAll writes old.shelf.told new.shelf.told) (sym none) (stays_all old.shelf.told new.shelf.told files)
+  unmade none = subst (λ (writes : Writes). MadeAll writes old.shelf.told new.shelf.told) (sym none)
+      (stays_all old.shelf.told new.shelf.told files)
 
   stand : due.writes ≡ [] → StandAll due.writes old.shelf new.shelf
   stand none = record { made = unmade none; whole = λ some. absurd (some none) }
@@ -185,29 +230,44 @@ module _ (due : Outcome) (old new : World) (files : new.shelf.told ≡ old.shelf
   }
 
 -- a put, which is due
-pub put_comes : (Due : Outcome → Type 0) (early : Early) (due : Outcome) (answer : Result (Unit {0}) Stop) (old new : World) → Due due → PutDoes due answer old.out new.out → new.shelf.told ≡ old.shelf.told → new.input.told ≡ old.input.told → due.session ≡ None → Quiet answer old new → StepComesTo Due early answer old new
-put_comes Due early due answer old new comes put files source alone quiet = inr (due, comes, put_step due old new files source alone answer put quiet)
+pub put_comes : (Due : Outcome → Type 0) (early : Early) (due : Outcome) (answer : Result (Unit {0}) Stop) (old new : World)
+    → Due due → PutDoes due answer old.out new.out → new.shelf.told ≡ old.shelf.told → new.input.told ≡ old.input.told → due.session
+    ≡ None → Quiet answer old new → StepComesTo Due early answer old new
+put_comes Due early due answer old new comes put files source alone quiet = inr (
+  due,
+  comes,
+  put_step due old new files source alone
+      answer put quiet,
+)
 
 -- nothing was done, and a complaint is due
-pub complains : (Due : Outcome → Type 0) (early : Early) (due : Outcome) (given same : Complaint) (old new : World) → Due due → due ≡ outcome_of same → given ≡ same → Unmoved old new → StepComesTo Due early (Err (stop.Complaint given)) old new
+pub complains : (Due : Outcome → Type 0) (early : Early) (due : Outcome) (given same : Complaint) (old new : World) → Due due → due
+    ≡ outcome_of same → given ≡ same → Unmoved old new → StepComesTo Due early (Err (stop.Complaint given)) old new
 complains Due early due given same old new comes is as_given unmoved =
     subst (λ (c : Complaint). StepComesTo Due early (Err (stop.Complaint c)) old new) (sym as_given)
-    (put_comes Due early due (Err (stop.Complaint same)) old new comes (complained due same old.out new.out is unmoved.output) unmoved.files unmoved.source (ap (λ o. o.session) is) (λ ok. cc))
+    (put_comes Due early due (Err (stop.Complaint same)) old new comes (complained due same old.out new.out is unmoved.output)
+    unmoved.files unmoved.source (ap (λ o. o.session) is) (λ ok. cc))
 
 -- what is due is the same for each text
-pub on_any_text : (of_text : List ℕ → Outcome) (same : Outcome) (answer : Result (Unit {0}) Stop) (old new : World) → ((text : List ℕ) → of_text text ≡ same) → StepDoes same answer old new → StepOnText of_text answer old new
+pub on_any_text : (of_text : List ℕ → Outcome) (same : Outcome) (answer : Result (Unit {0}) Stop) (old new : World)
+    → ((text : List ℕ) → of_text text ≡ same) → StepDoes same answer old new → StepOnText of_text answer old new
 on_any_text of_text same answer old new is does =
     let text = told_text old.input.told in
     inr (same, (text, has_told_text old.input.told, sym (is text)), does)
 
 -- a put, where what is due is the same for each text
-pub put_on_text : (of_text : List ℕ → Outcome) (same : Outcome) (answer : Result (Unit {0}) Stop) (old new : World) → PutDoes same answer old.out new.out → new.shelf.told ≡ old.shelf.told → new.input.told ≡ old.input.told → same.session ≡ None → Quiet answer old new → ((text : List ℕ) → of_text text ≡ same) → StepOnText of_text answer old new
-put_on_text of_text same answer old new put files source alone quiet is = on_any_text of_text same answer old new is (put_step same old new files source alone answer put quiet)
+pub put_on_text : (of_text : List ℕ → Outcome) (same : Outcome) (answer : Result (Unit {0}) Stop) (old new : World)
+    → PutDoes same answer old.out new.out → new.shelf.told ≡ old.shelf.told → new.input.told ≡ old.input.told → same.session ≡ None
+    → Quiet answer old new → ((text : List ℕ) → of_text text ≡ same) → StepOnText of_text answer old new
+put_on_text of_text same answer old new put files source alone quiet is = on_any_text of_text same answer old new is
+    (put_step same old new files source alone answer put quiet)
 
 -- the bytes are no image
-pub image_unopened : (Sound : Outcome → Type 0) (b : List ℕ) (given : Stop) (now : World) → Opens {A = List ℕ} b (Err given) → StepComesTo (OpenedComesTo Sound (first_damage b)) reading (Err given) now now
+pub image_unopened : (Sound : Outcome → Type 0) (b : List ℕ) (given : Stop) (now : World) → Opens {A = List ℕ} b (Err given)
+    → StepComesTo (OpenedComesTo Sound (first_damage b)) reading (Err given) now now
 image_unopened Sound b (stop.Complaint given) now (damage, found, is) =
-    complains (OpenedComesTo Sound (first_damage b)) reading (damaged damage) given (complaint.Damaged damage) now now (rw found refl) refl is (record { files = refl; source = refl; output = refl })
+    complains (OpenedComesTo Sound (first_damage b)) reading (damaged damage) given (complaint.Damaged damage) now now
+    (rw found refl) refl is (record { files = refl; source = refl; output = refl })
 image_unopened Sound b stop.Outside now never = absurd never
 image_unopened Sound b stop.Memory now none = out_of_memory (OpenedComesTo Sound (first_damage b)) reading now
 
@@ -225,9 +285,18 @@ module _ (shelf : ShelfSeen) (now new : World) where
   ended_behind (Err serve_error.TooManyLines) ended = tt
   ended_behind (Err serve_error.Memory) ended = tt
 
-  pub source_behind : (session : Option (List ℕ)) (Ends : Result ℕ ServeError → Type 0) → SourceRead session Ends now new → SourceRead session Ends old new
+  pub source_behind : (session : Option (List ℕ)) (Ends : Result ℕ ServeError → Type 0) → SourceRead session Ends now new
+      → SourceRead session Ends old new
   source_behind None Ends read = read
-  source_behind (Some b) Ends held = record { answered = held.answered; ends = held.ends; ended_by = ended_behind held.answered held.ended_by; reads = held.reads; new_reads = held.new_reads; serves = held.serves }
+  source_behind (Some b) Ends held = record {
+    answered = held.answered;
+    ends = held.ends;
+    ended_by = ended_behind held.answered
+        held.ended_by;
+    reads = held.reads;
+    new_reads = held.new_reads;
+    serves = held.serves;
+  }
 
   module _ (kept : now.shelf.faults ≡ shelf.faults) where
     sooner : ShelfFailed now.shelf new.shelf → ShelfFailed shelf new.shelf
@@ -252,9 +321,13 @@ module _ (shelf : ShelfSeen) (now new : World) where
     work_sooner None status.Memory failed = absurd failed
 
   pub stand_behind : (writes : Writes) → now.shelf.told ≡ shelf.told → StandAll writes now.shelf new.shelf → StandAll writes shelf new.shelf
-  stand_behind writes same all = record { made = subst (λ (told : Option Files). MadeAll writes told new.shelf.told) same all.made; whole = all.whole }
+  stand_behind writes same all = record {
+    made = subst (λ (told : Option Files). MadeAll writes told new.shelf.told) same all.made;
+    whole = all.whole;
+  }
 
-  made_behind : (writes : Writes) (answer : Result (Unit {0}) Stop) → now.shelf.told ≡ shelf.told → FilesMade answer writes now.shelf new.shelf → FilesMade answer writes shelf new.shelf
+  made_behind : (writes : Writes) (answer : Result (Unit {0}) Stop) → now.shelf.told ≡ shelf.told
+      → FilesMade answer writes now.shelf new.shelf → FilesMade answer writes shelf new.shelf
   made_behind writes (Ok _) same made = stand_behind writes same made
   made_behind writes (Err (stop.Complaint given)) same made = subst (λ (told : Option Files). MadeAll writes told new.shelf.told) same made
   made_behind writes (Err stop.Outside) same made = subst (λ (told : Option Files). MadePart writes told new.shelf.told) same made
@@ -264,7 +337,8 @@ module _ (shelf : ShelfSeen) (now new : World) where
   first_behind writes same (inl all) = inl (stand_behind writes same all)
   first_behind writes same (inr unput) = inr unput
 
-  pub step_behind : (due : Outcome) (answer : Result (Unit {0}) Stop) → now.shelf.told ≡ shelf.told → now.shelf.faults ≡ shelf.faults → StepDoes due answer now new → StepDoes due answer old new
+  pub step_behind : (due : Outcome) (answer : Result (Unit {0}) Stop) → now.shelf.told ≡ shelf.told → now.shelf.faults
+      ≡ shelf.faults → StepDoes due answer now new → StepDoes due answer old new
   step_behind due answer same kept step = record {
     answers = step.answers;
     output = step.output;
@@ -278,7 +352,10 @@ module _ (shelf : ShelfSeen) (now new : World) where
 -- A step on the file of a path
 
 -- behind the read of the file
-pub file_read : (Bytes : List ℕ → Outcome → Type 0) (path b : List ℕ) (shelf : ShelfSeen) (now new : World) (answer : Result (Unit {0}) Stop) → ReadsFile shelf.told path (Ok b) → now.shelf.told ≡ shelf.told → now.shelf.faults ≡ shelf.faults → StepComesTo (Bytes b) reading answer now new → StepComesTo (FileComesTo shelf.told path Bytes) reading answer (record { shelf = shelf; input = now.input; out = now.out }) new
+pub file_read : (Bytes : List ℕ → Outcome → Type 0) (path b : List ℕ) (shelf : ShelfSeen) (now new : World)
+    (answer : Result (Unit {0}) Stop) → ReadsFile shelf.told path (Ok b) → now.shelf.told ≡ shelf.told → now.shelf.faults
+    ≡ shelf.faults → StepComesTo (Bytes b) reading answer now new → StepComesTo (FileComesTo shelf.told path Bytes) reading answer
+    (record { shelf = shelf; input = now.input; out = now.out }) new
 file_read Bytes path b shelf now new answer has same kept (inl fails) = inl (record {
   failed = fails.failed;
   files = subst (λ (told : Option Files). MadePart [] told new.shelf.told) same fails.files;
@@ -290,27 +367,38 @@ file_read Bytes path b shelf now new answer has same kept (inr (due, is, step)) 
     inr (due, (Some b, has, is), step_behind shelf now new due answer same kept step)
 
 -- the file isn't there, or its read failed
-pub file_unread : (Bytes : List ℕ → Outcome → Type 0) (path : List ℕ) (given : Stop) (old new : World) → ReadsFile old.shelf.told path (Err given) → Unmoved old new → (given ≡ stop.Outside → ShelfFailed old.shelf new.shelf) → StepComesTo (FileComesTo old.shelf.told path Bytes) reading (Err given) old new
+pub file_unread : (Bytes : List ℕ → Outcome → Type 0) (path : List ℕ) (given : Stop) (old new : World)
+    → ReadsFile old.shelf.told path (Err given) → Unmoved old new → (given ≡ stop.Outside → ShelfFailed old.shelf new.shelf)
+    → StepComesTo (FileComesTo old.shelf.told path Bytes) reading (Err given) old new
 file_unread Bytes path (stop.Complaint given) old new (none, is) unmoved rose =
-    complains (FileComesTo old.shelf.told path Bytes) reading (not_there path) given (complaint.NotThere path) old new (None, none, refl) refl is unmoved
-file_unread Bytes path stop.Outside old new read unmoved rose = fails_at_once (FileComesTo old.shelf.told path Bytes) reading (Err stop.Outside) old new tt unmoved (λ failed. (refl, rose refl))
-file_unread Bytes path stop.Memory old new read unmoved rose = fails_at_once (FileComesTo old.shelf.told path Bytes) reading (Err stop.Memory) old new tt unmoved (λ failed. cc)
+    complains (FileComesTo old.shelf.told path Bytes) reading (not_there path) given (complaint.NotThere path) old new
+    (None, none, refl) refl is unmoved
+file_unread Bytes path stop.Outside old new read unmoved rose = fails_at_once (FileComesTo old.shelf.told path Bytes) reading
+    (Err stop.Outside) old new tt unmoved (λ failed. (refl, rose refl))
+file_unread Bytes path stop.Memory old new read unmoved rose = fails_at_once (FileComesTo old.shelf.told path Bytes) reading
+    (Err stop.Memory) old new tt unmoved (λ failed. cc)
 
 -- All words
 
 -- words that were read to a command
-pub words_read : (asked : Result Command WordsError) (given : Command) (answer : Result (Unit {0}) Stop) (old new : World) → UnlessMemory error.Memory (Ok given) asked → StepComesTo (TaskComesTo old.shelf.told old.input.told given.task) (early_of given.task) answer old new → StepComesTo (WordsComeTo old.shelf.told old.input.told asked) (early_in asked) answer old new
+pub words_read : (asked : Result Command WordsError) (given : Command) (answer : Result (Unit {0}) Stop) (old new : World)
+    → UnlessMemory error.Memory (Ok given) asked → StepComesTo (TaskComesTo old.shelf.told old.input.told given.task)
+    (early_of given.task) answer old new → StepComesTo (WordsComeTo old.shelf.told old.input.told asked) (early_in asked) answer old new
 words_read asked given answer old new (inl memory) step = cc
 words_read asked given answer old new (inr read) step =
-    subst (λ (a : Result Command WordsError). StepComesTo (WordsComeTo old.shelf.told old.input.told a) (early_in a) answer old new) read step
+    subst (λ (a : Result Command WordsError). StepComesTo (WordsComeTo old.shelf.told old.input.told a) (early_in a) answer old new)
+    read step
 
 -- words that weren't read to a command
-pub words_unread : (asked : Result Command WordsError) (fault : WordsError) (now : World) → UnlessMemory error.Memory (Err fault) asked → StepComesTo (WordsComeTo now.shelf.told now.input.told asked) (early_in asked) (Err (stop_of_words fault)) now now
+pub words_unread : (asked : Result Command WordsError) (fault : WordsError) (now : World) → UnlessMemory error.Memory (Err fault)
+    asked → StepComesTo (WordsComeTo now.shelf.told now.input.told asked) (early_in asked) (Err (stop_of_words fault)) now now
 words_unread asked error.Memory now read = out_of_memory (WordsComeTo now.shelf.told now.input.told asked) (early_in asked) now
 words_unread asked (error.Fault at kind) now (inl memory) = cc
 words_unread asked (error.Fault at kind) now (inr read) =
-    subst (λ (a : Result Command WordsError). StepComesTo (WordsComeTo now.shelf.told now.input.told a) (early_in a) (Err (stop.Complaint given)) now now) read
-    (complains (λ due. due ≡ faulty (error.Fault at kind)) without_files (faulty (error.Fault at kind)) given given now now refl refl refl (record { files = refl; source = refl; output = refl }))
+    subst (λ (a : Result Command WordsError). StepComesTo (WordsComeTo now.shelf.told now.input.told a) (early_in a)
+    (Err (stop.Complaint given)) now now) read
+    (complains (λ due. due ≡ faulty (error.Fault at kind)) without_files (faulty (error.Fault at kind)) given given now now refl
+    refl refl (record { files = refl; source = refl; output = refl }))
   where
     given : Complaint
     given = complaint.Words (error.Fault at kind)

@@ -31,17 +31,20 @@ shelf b = Some ((codes "img", b) ∷ [])
 content : TaskComesTo (shelf tiny) None (task.Image (codes "img") (work.Cat (codes "/m/a"))) (done (codes "hi"))
 content = (Some tiny, refl, ([], tt, refl))
 
-no_entry : TaskComesTo (shelf tiny) None (task.Image (codes "img") (work.Cat (codes "/m/b"))) (refused status.NotThere (codes "not there: /m/b"))
+no_entry : TaskComesTo (shelf tiny) None (task.Image (codes "img") (work.Cat (codes "/m/b")))
+    (refused status.NotThere (codes "not there: /m/b"))
 no_entry = (Some tiny, refl, ([], tt, refl))
 
 no_file : TaskComesTo (Some []) None (task.Image (codes "img") (work.Cat (codes "/m/b"))) (refused status.NotThere (codes "not there: img"))
 no_file = (None, refl, refl)
 
-cut_short : TaskComesTo (shelf (take 54 tiny)) None (task.Image (codes "img") (work.Cat (codes "/m/a"))) (refused status.Damaged (codes "damaged: Header Sizes"))
+cut_short : TaskComesTo (shelf (take 54 tiny)) None (task.Image (codes "img") (work.Cat (codes "/m/a")))
+    (refused status.Damaged (codes "damaged: Header Sizes"))
 cut_short = (Some (take 54 tiny), refl, refl)
 
 -- a name is said in UTF-8: U+1F600 is stored as two surrogates
-no_entry_above_ffff : image_outcome (work.Cat (0xED ∷ 0xA0 ∷ 0xBD ∷ 0xED ∷ 0xB8 ∷ 0x80 ∷ [])) tiny [] ≡ refused status.NotThere (codes "not there: " ++ 0xF0 ∷ 0x9F ∷ 0x98 ∷ 0x80 ∷ [])
+no_entry_above_ffff : image_outcome (work.Cat (0xED ∷ 0xA0 ∷ 0xBD ∷ 0xED ∷ 0xB8 ∷ 0x80 ∷ [])) tiny []
+    ≡ refused status.NotThere (codes "not there: " ++ 0xF0 ∷ 0x9F ∷ 0x98 ∷ 0x80 ∷ [])
 no_entry_above_ffff = refl
 
 -- `verify` and `info`
@@ -54,11 +57,13 @@ no_entry_at_all : image_outcome work.Verify no_entries [] ≡ done (codes "valid
 unfolding digits
 no_entry_at_all = refl
 
-overlap : TaskComesTo (shelf overlapping) None (task.Image (codes "img") work.Verify) (refused status.Damaged (codes "damaged: Overlap 0 1"))
+overlap : TaskComesTo (shelf overlapping) None (task.Image (codes "img") work.Verify)
+    (refused status.Damaged (codes "damaged: Overlap 0 1"))
 unfolding digits
 overlap = (Some overlapping, refl, refl)
 
-header : image_outcome work.Info tiny [] ≡ done (codes "order little\nversion 1.0\nflags 0\nentries 1\nslots 1\nlocations 8\nstrings 11\nindex 55\ncontents 2\n")
+header : image_outcome work.Info tiny []
+    ≡ done (codes "order little\nversion 1.0\nflags 0\nentries 1\nslots 1\nlocations 8\nstrings 11\nindex 55\ncontents 2\n")
 unfolding digits
 header = refl
 
@@ -93,16 +98,19 @@ version = refl
 
 -- Files that are made
 
-same_path_twice : written ((codes "a", codes "1") ∷ []) ((codes "b", codes "2") ∷ (codes "a", codes "3") ∷ []) ≡ (codes "a", codes "3") ∷ (codes "b", codes "2") ∷ []
+same_path_twice : written ((codes "a", codes "1") ∷ []) ((codes "b", codes "2") ∷ (codes "a", codes "3") ∷ [])
+    ≡ (codes "a", codes "3") ∷ (codes "b", codes "2") ∷ []
 same_path_twice = refl
 
-first_paths : map (λ write. write.0) (early_of (task.Gen (record { dir = codes "d"; modules = 1; classes = 1; seed = 0 }))).writes ≡ codes "d/mods/m000/module-info.class" ∷ codes "d/mods/m000/m000/p0/C0000.class" ∷ []
+first_paths : map (λ write. write.0) (early_of (task.Gen (record { dir = codes "d"; modules = 1; classes = 1; seed = 0 }))).writes
+    ≡ codes "d/mods/m000/module-info.class" ∷ codes "d/mods/m000/m000/p0/C0000.class" ∷ []
 first_paths = refl
 
 no_first_paths : (early_of (task.Image (codes "img") work.Verify)).writes ≡ []
 no_first_paths = refl
 
-all_roots : (gen_link (record { dir = codes "d"; modules = 3; classes = 1; seed = 0 })).roots ≡ codes "m000" ∷ codes "m001" ∷ codes "m002" ∷ []
+all_roots : (gen_link (record { dir = codes "d"; modules = 3; classes = 1; seed = 0 })).roots ≡ codes "m000" ∷ codes "m001"
+    ∷ codes "m002" ∷ []
 all_roots = refl
 
 -- What failed in place of what was due
@@ -112,25 +120,29 @@ module _ (old new : World) (err new_err : Seen (List ℕ)) where
   for_words (inl never) = absurd never
   for_words (inr line) = line
 
-  for_damage : FailedBefore (refused status.Damaged (codes "damaged: BadNode 0")) old new err new_err → ShelfFailed old.shelf new.shelf ⊎ Failed err new_err
+  for_damage : FailedBefore (refused status.Damaged (codes "damaged: BadNode 0")) old new err new_err
+      → ShelfFailed old.shelf new.shelf ⊎ Failed err new_err
   for_damage failed = failed
 
   for_output : FailedBefore (done (codes "hi")) old new err new_err → ShelfFailed old.shelf new.shelf ⊎ Failed old.out new.out
   for_output (inl work) = work
   for_output (inr never) = absurd never
 
-  for_session : (b output : List ℕ) → FailedBefore (session_with b output None) old new err new_err → Failed old.input new.input ⊎ Failed old.out new.out
+  for_session : (b output : List ℕ) → FailedBefore (session_with b output None) old new err new_err → Failed old.input new.input
+      ⊎ Failed old.out new.out
   for_session b output (inl work) = work
   for_session b output (inr never) = absurd never
 
-  for_broken_session : (b output : List ℕ) → FailedBefore (session_with b output (Some complaint.TooManyLines)) old new err new_err → (Failed old.input new.input ⊎ Failed old.out new.out) ⊎ Failed err new_err
+  for_broken_session : (b output : List ℕ) → FailedBefore (session_with b output (Some complaint.TooManyLines)) old new err new_err
+      → (Failed old.input new.input ⊎ Failed old.out new.out) ⊎ Failed err new_err
   for_broken_session b output failed = failed
 
   no_file_read : FailedEarly (early_in (Ok (record { jobs = 1; task = task.Help }))) old new → ⊥
   no_file_read (reads, failed) = cc
 
   -- a session that a run ends with 6 ended by the object whose count rose
-  session_failed : (b : List ℕ) → Held b (EndsAs status.Outside err new_err) old new → Failed old.input new.input ⊎ (Failed old.out new.out ⊎ Failed err new_err)
+  session_failed : (b : List ℕ) → Held b (EndsAs status.Outside err new_err) old new → Failed old.input new.input
+      ⊎ (Failed old.out new.out ⊎ Failed err new_err)
   session_failed b held = go held.answered held.ends held.ended_by
     where
       broken : EndsBroken status.Outside err new_err → Failed err new_err
@@ -138,7 +150,8 @@ module _ (old new : World) (err new_err : Seen (List ℕ)) where
       broken (inr (inl (same, failed))) = failed
       broken (inr (inr same)) = cc
 
-      go : (answered : Result ℕ ServeError) → EndsAs status.Outside err new_err answered → EndedBy answered old new → Failed old.input new.input ⊎ (Failed old.out new.out ⊎ Failed err new_err)
+      go : (answered : Result ℕ ServeError) → EndsAs status.Outside err new_err answered → EndedBy answered old new
+          → Failed old.input new.input ⊎ (Failed old.out new.out ⊎ Failed err new_err)
       go (Ok n) ends ended_by = cc
       go (Err serve_error.ReadFault) ends ended_by = inl ended_by
       go (Err serve_error.WriteFault) ends ended_by = inr (inl ended_by)

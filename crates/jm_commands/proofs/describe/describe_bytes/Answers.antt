@@ -11,5 +11,6 @@ returns-in-Ok g c =
 pub returns-in-Err-Fault : goal.returns-in-Err-Fault
 returns-in-Err-Fault g c =
     let fault = c.in-Err-Fault.fault in
-    let due = no_class_due c.args.path.now c.args.bytes.now fault (c.in-Err-Fault.ensures.fault fault (ap (λ e. Err e) c.in-Err-Fault.field-0-is)) in
+    let due = no_class_due c.args.path.now c.args.bytes.now fault (c.in-Err-Fault.ensures.fault fault
+    (ap (λ e. Err e) c.in-Err-Fault.field-0-is)) in
     refused_step _ c.args.path.now (kind.Class fault) c.refuse.result _ _ due c.refuse.ensures refl

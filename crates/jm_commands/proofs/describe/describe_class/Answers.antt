@@ -19,5 +19,6 @@ returns-in_ok-text-in-Ok g c =
 pub returns-in-Err-Fault : goal.returns-in-Err-Fault
 returns-in-Err-Fault g c =
     let fault = c.in-Err-Fault.fault in
-    let due = no_module_due c.args.path.now (plain c.args.class.now) fault (c.in-Err-Fault.ensures.fault fault (ap (λ e. Err e) c.in-Err-Fault.field-0-is)) in
+    let due = no_module_due c.args.path.now (plain c.args.class.now) fault (c.in-Err-Fault.ensures.fault fault
+    (ap (λ e. Err e) c.in-Err-Fault.field-0-is)) in
     refused_step _ c.args.path.now (kind.Info fault) c.refuse.result _ _ due c.refuse.ensures refl

@@ -15,9 +15,11 @@ returns-in-Ok g c source =
     file_read (λ bytes due. due ≡ describe_outcome path bytes) path b (shelf_at g.S.Shelf c.args.shelf.now)
     (world (shelf_at g.S.Shelf c.file_bytes.new.shelf) source (sink_at g.O.Sink c.args.out.now))
     _ _ read.reads read.files (read.faults.kept refl)
-    (put_comes (λ due. due ≡ describe_outcome path b) reading (describe_outcome path b) _ _ _ refl put refl refl (describe_session path b) (λ ok. (refl, refl)))
+    (put_comes (λ due. due ≡ describe_outcome path b) reading (describe_outcome path b) _ _ _ refl put refl refl
+    (describe_session path b) (λ ok. (refl, refl)))
 
 pub returns-in-Err : goal.returns-in-Err
 returns-in-Err g c source =
     let read = c.in-Err.ensures in
-    file_unread _ c.args.path.now c.in-Err.stop _ _ read.reads (record { files = read.files; source = refl; output = refl }) (λ failed. read.faults.rose (rw failed refl))
+    file_unread _ c.args.path.now c.in-Err.stop _ _ read.reads (record { files = read.files; source = refl; output = refl })
+    (λ failed. read.faults.rose (rw failed refl))

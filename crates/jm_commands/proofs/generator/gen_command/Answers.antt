@@ -12,18 +12,24 @@ pub returns : goal.returns
 returns g c source =
     let gen = c.args.task.now in
     let path : c.in_ok-mods.mods ≡ modules_path gen = c.in_ok-mods.ensures.path ∙ rw (c.as_slice.ensures, c.as_bytes.ensures.value) refl in
-    let made = subst (λ (dir : List ℕ). MadeAll (generated dir gen.modules gen.classes gen.seed) (g.S.Shelf.files c.args.shelf.now) (g.S.Shelf.files c.generate.new.shelf)) (c.as_slice-2.ensures ∙ path) c.in_ok-generate.ensures.ok in
-    let links = links_as gen _ (Ok c.in_ok-summary.summary) (shelf_at g.S.Shelf c.generate.new.shelf) (shelf_at g.S.Shelf c.link_generated.new.shelf) path c.in_ok-summary.ensures in
-    gen_put gen (shelf_at g.S.Shelf c.args.shelf.now) (world (shelf_at g.S.Shelf c.generate.new.shelf) source (sink_at g.O.Sink c.args.out.now))
+    let made = subst (λ (dir : List ℕ). MadeAll (generated dir gen.modules gen.classes gen.seed) (g.S.Shelf.files c.args.shelf.now)
+    (g.S.Shelf.files c.generate.new.shelf)) (c.as_slice-2.ensures ∙ path) c.in_ok-generate.ensures.ok in
+    let links = links_as gen _ (Ok c.in_ok-summary.summary) (shelf_at g.S.Shelf c.generate.new.shelf)
+    (shelf_at g.S.Shelf c.link_generated.new.shelf) path c.in_ok-summary.ensures in
+    gen_put gen (shelf_at g.S.Shelf c.args.shelf.now) (world (shelf_at g.S.Shelf c.generate.new.shelf) source
+    (sink_at g.O.Sink c.args.out.now))
     _ _ _ made (c.in_ok-generate.ensures.faults.kept refl) refl links c.put_generated.ensures
 
 pub returns-in_err-summary : goal.returns-in_err-summary
 returns-in_err-summary g c source =
     let gen = c.args.task.now in
     let path : c.in_ok-mods.mods ≡ modules_path gen = c.in_ok-mods.ensures.path ∙ rw (c.as_slice.ensures, c.as_bytes.ensures.value) refl in
-    let made = subst (λ (dir : List ℕ). MadeAll (generated dir gen.modules gen.classes gen.seed) (g.S.Shelf.files c.args.shelf.now) (g.S.Shelf.files c.generate.new.shelf)) (c.as_slice-2.ensures ∙ path) c.in_ok-generate.ensures.ok in
-    let links = links_as gen _ (Err c.in_err-summary.field-0.0) (shelf_at g.S.Shelf c.generate.new.shelf) (shelf_at g.S.Shelf c.link_generated.new.shelf) path c.in_err-summary.ensures in
+    let made = subst (λ (dir : List ℕ). MadeAll (generated dir gen.modules gen.classes gen.seed) (g.S.Shelf.files c.args.shelf.now)
+    (g.S.Shelf.files c.generate.new.shelf)) (c.as_slice-2.ensures ∙ path) c.in_ok-generate.ensures.ok in
+    let links = links_as gen _ (Err c.in_err-summary.field-0.0) (shelf_at g.S.Shelf c.generate.new.shelf)
+    (shelf_at g.S.Shelf c.link_generated.new.shelf) path c.in_err-summary.ensures in
     let is = from_stop c.from_residual-in_err-summary.result _ c.from_residual-in_err-summary.ensures.1 in
     rw is
-    (gen_stopped gen (shelf_at g.S.Shelf c.args.shelf.now) (world (shelf_at g.S.Shelf c.generate.new.shelf) source (sink_at g.O.Sink c.args.out.now))
+    (gen_stopped gen (shelf_at g.S.Shelf c.args.shelf.now) (world (shelf_at g.S.Shelf c.generate.new.shelf) source
+    (sink_at g.O.Sink c.args.out.now))
     _ _ made (c.in_ok-generate.ensures.faults.kept refl) refl links refl)

@@ -30,4 +30,5 @@ pub returns : goal.returns
 returns g c =
     let put = c.in_ok-there.ensures in
     let found = nothing_found (look c.args.image.now c.args.name.now) c.args.name.now (sym c.if-there.false ∙ put.there) in
-    rw (found, c.in_ok-text.ensures.utf) (complained (not_there (utf c.args.name.now)) (complaint.NotThere (utf c.args.name.now)) _ _ refl (put.nothing (ap (λ there. Ok there) c.if-there.false)))
+    rw (found, c.in_ok-text.ensures.utf) (complained (not_there (utf c.args.name.now)) (complaint.NotThere (utf c.args.name.now)) _
+    _ refl (put.nothing (ap (λ there. Ok there) c.if-there.false)))

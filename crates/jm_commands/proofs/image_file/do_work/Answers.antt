@@ -11,7 +11,8 @@ pub returns-in-Cat : goal.returns-in-Cat
 returns-in-Cat g c =
     let name = c.as_slice.result.now in
     let found = look c.args.image.now name in
-    rw c.in-Cat.is (put_on_text _ (cat_outcome name found) _ _ _ c.cat_step.ensures refl refl (cat_session name found) (λ ok. (refl, refl)) (λ text. rw c.as_slice.ensures refl))
+    rw c.in-Cat.is (put_on_text _ (cat_outcome name found) _ _ _ c.cat_step.ensures refl refl (cat_session name found)
+    (λ ok. (refl, refl)) (λ text. rw c.as_slice.ensures refl))
 
 pub returns-in-List : goal.returns-in-List
 returns-in-List g c =
@@ -25,7 +26,8 @@ pub returns-in-Extract : goal.returns-in-Extract
 returns-in-Extract g c =
     let dir = c.as_slice-in-Extract.result.now in
     let due = extracted c.args.image.now c.in-Extract.include in
-    rw c.in-Extract.is (on_any_text _ (extract_outcome dir due) _ _ _ (λ text. rw c.as_slice-in-Extract.ensures refl) (c.extract_command.ensures _))
+    rw c.in-Extract.is (on_any_text _ (extract_outcome dir due) _ _ _ (λ text. rw c.as_slice-in-Extract.ensures refl)
+    (c.extract_command.ensures _))
 
 pub returns-in-Verify : goal.returns-in-Verify
 returns-in-Verify g c =
@@ -35,7 +37,8 @@ pub returns-in-Ls : goal.returns-in-Ls
 returns-in-Ls g c =
     let path = c.as_slice-in-Ls.result.now in
     let holds = held (stat c.args.image.now path) in
-    rw c.in-Ls.is (put_on_text _ (ls_outcome path holds) _ _ _ c.ls_command.ensures refl refl (ls_session path holds) (λ ok. (refl, refl)) (λ text. rw c.as_slice-in-Ls.ensures refl))
+    rw c.in-Ls.is (put_on_text _ (ls_outcome path holds) _ _ _ c.ls_command.ensures refl refl (ls_session path holds)
+    (λ ok. (refl, refl)) (λ text. rw c.as_slice-in-Ls.ensures refl))
 
 pub returns-in-Serve : goal.returns-in-Serve
 returns-in-Serve g c = rw c.in-Serve.is (c.serve_command.ensures _)

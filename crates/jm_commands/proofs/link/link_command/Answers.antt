@@ -6,7 +6,8 @@ use Rattle.jm_commands.proofs.link.link_command.Goals as goal
 
 pub returns-in-Some : goal.returns-in-Some
 returns-in-Some g c source =
-    link_comes link_text (g.S.Shelf.files c.args.shelf.now) c.args.task.now (Some c.in-Some.path) _ _ _ c.in-Some.is (c.link_from_image.ensures source)
+    link_comes link_text (g.S.Shelf.files c.args.shelf.now) c.args.task.now (Some c.in-Some.path) _ _ _ c.in-Some.is
+    (c.link_from_image.ensures source)
 
 pub returns-in_err-summary-in-None : goal.returns-in_err-summary-in-None
 returns-in_err-summary-in-None g c source =

@@ -13,7 +13,8 @@ returns-in-Ok-of g c source =
     let b = c.as_slice-bytes.result.now in
     let link = c.args.task.now in
     let does = rw c.in-Ok-of.ensures.same at c.link_opened.ensures source in
-    file_read (λ bytes. OpenedComesTo (ImageLinkComesTo link_text link bytes) (first_damage bytes)) c.args.path.now b (shelf_at g.S.Shelf c.args.shelf.now)
+    file_read (λ bytes. OpenedComesTo (ImageLinkComesTo link_text link bytes) (first_damage bytes)) c.args.path.now b
+    (shelf_at g.S.Shelf c.args.shelf.now)
     (world (shelf_at g.S.Shelf c.file_bytes.new.shelf) source (sink_at g.O.Sink c.args.out.now)) _ _
     (rw c.as_slice-bytes.ensures read.reads) read.files (read.faults.kept refl) (rw c.in-Ok-of.ensures.opens does)
 
@@ -23,10 +24,12 @@ returns-in-Ok g c source =
     let b = c.as_slice-bytes.result.now in
     let link = c.args.task.now in
     file_read (λ bytes. OpenedComesTo (ImageLinkComesTo link_text link bytes) (first_damage bytes)) c.args.path.now b _ _ _ _
-    (rw c.as_slice-bytes.ensures read.reads) read.files (read.faults.kept refl) (image_unopened (ImageLinkComesTo link_text link b) b c.in-Err-of.stop _ c.in-Err-of.ensures.opens)
+    (rw c.as_slice-bytes.ensures read.reads) read.files (read.faults.kept refl) (image_unopened (ImageLinkComesTo link_text link b)
+    b c.in-Err-of.stop _ c.in-Err-of.ensures.opens)
 
 pub returns : goal.returns
 returns g c source =
     let read = c.in-Err.ensures in
     let link = c.args.task.now in
-    file_unread (λ bytes. OpenedComesTo (ImageLinkComesTo link_text link bytes) (first_damage bytes)) c.args.path.now c.in-Err.stop _ _ read.reads (record { files = read.files; source = refl; output = refl }) (λ failed. read.faults.rose (rw failed refl))
+    file_unread (λ bytes. OpenedComesTo (ImageLinkComesTo link_text link bytes) (first_damage bytes)) c.args.path.now c.in-Err.stop
+    _ _ read.reads (record { files = read.files; source = refl; output = refl }) (λ failed. read.faults.rose (rw failed refl))

@@ -19,7 +19,8 @@ returns-in_err-pass_line g c =
     let next = next_line list_line taken_as entries i c.entry-item.result c.loop-entry-test.true (sym c.entry-item.is) in
     let left = subst (λ l. Left whole (held ++ l) old now) next c.loop-entry.invariant in
     rw (passed_on c.from_residual.result c.in_err-pass_line.field-0.0 c.from_residual.ensures.1)
-    (line_broken whole held line rest c.pass_line.new.text.items c.in_err-pass_line.field-0.0 old now (sink_at g.O.Sink c.pass_line.new.out) left c.in_err-pass_line.ensures)
+    (line_broken whole held line rest c.pass_line.new.text.items c.in_err-pass_line.field-0.0 old now
+    (sink_at g.O.Sink c.pass_line.new.out) left c.in_err-pass_line.ensures)
 
 pub loop-entry-preserved : goal.loop-entry-preserved
 loop-entry-preserved g c =

@@ -25,7 +25,8 @@ loop-text-preserved g c =
     record {
       bytes = added.reads.bytes ∙ before.bytes ∙ sym added.bytes;
       empty = put.emptied;
-      left = piece_left whole text rest old now (sink_at g.O.Sink c.put_piece.new.out) (subst (λ l. Left whole l old now) lines before.left) put.puts;
+      left = piece_left whole text rest old now (sink_at g.O.Sink c.put_piece.new.out) (subst (λ l. Left whole l old now) lines
+          before.left) put.puts;
     }
 
 pub returns-in_err-put_piece : goal.returns-in_err-put_piece
@@ -41,7 +42,8 @@ returns-in_err-put_piece g c =
     let now = sink_at g.O.Sink c.loop-text.out in
     let lines = sym (added.lines ∙ ap (λ l. l ++ held_lines path c.loop-text.list.rest) before.empty) in
     rw (passed_on c.from_residual-in_err-put_piece.result c.in_err-put_piece.field-0.0 c.from_residual-in_err-put_piece.ensures.1)
-    (broken whole text rest c.in_err-put_piece.field-0.0 old now (sink_at g.O.Sink c.put_piece.new.out) (subst (λ l. Left whole l old now) lines before.left) put.puts.front put.puts.faults)
+    (broken whole text rest c.in_err-put_piece.field-0.0 old now (sink_at g.O.Sink c.put_piece.new.out)
+    (subst (λ l. Left whole l old now) lines before.left) put.puts.front put.puts.faults)
 
 pub returns : goal.returns
 returns g c =
@@ -56,5 +58,6 @@ returns g c =
     let none = no_child path left (added.end (ap (λ b. Ok b) c.if-branch.false)) in
     let lines = sym (added.lines ∙ ap (λ l. l ++ held_lines path c.loop-text.list.rest) before.empty) in
     let last = lines ∙ ap (λ l. text ++ l) none ∙ append-nil text ∙ sym c.as_slice.ensures.value in
-    last_put whole c.as_slice.result.now c.put.result old now (sink_at g.O.Sink c.put.new.self) (subst (λ l. Left whole l old now) last before.left)
+    last_put whole c.as_slice.result.now c.put.result old now (sink_at g.O.Sink c.put.new.self) (subst (λ l. Left whole l old now)
+    last before.left)
     (record { all = c.put.ensures.ok; front = c.put.ensures.err; faults = c.put.ensures.faults })

@@ -5,4 +5,5 @@ pub returns-then-len-lt-PIECE : goal.returns-then-len-lt-PIECE
 returns-then-len-lt-PIECE g c = held_back c.args.text.now.items _
 
 pub returns : goal.returns
-returns g c = piece_put c.args.text.now.items c.put_piece.new.text.items c.put_piece.result _ _ c.put_piece.ensures.puts c.put_piece.ensures.emptied
+returns g c = piece_put c.args.text.now.items c.put_piece.new.text.items c.put_piece.result _ _ c.put_piece.ensures.puts
+    c.put_piece.ensures.emptied

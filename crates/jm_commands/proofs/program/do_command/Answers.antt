@@ -18,7 +18,9 @@ pub returns-in-Describe : goal.returns-in-Describe
 returns-in-Describe g c = rw c.in-Describe.is (c.describe_command.ensures _)
 
 pub returns-in-Help : goal.returns-in-Help
-returns-in-Help g c = rw c.in-Help.is (put_comes (λ due. due ≡ done help_text) without_files (done help_text) _ _ _ refl c.help_command.ensures refl refl refl (λ ok. (refl, refl)))
+returns-in-Help g c = rw c.in-Help.is (put_comes (λ due. due ≡ done help_text) without_files (done help_text) _ _ _ refl
+    c.help_command.ensures refl refl refl (λ ok. (refl, refl)))
 
 pub returns-in-Version : goal.returns-in-Version
-returns-in-Version g c = rw c.in-Version.is (put_comes (λ due. due ≡ done version_text) without_files (done version_text) _ _ _ refl c.version_command.ensures refl refl refl (λ ok. (refl, refl)))
+returns-in-Version g c = rw c.in-Version.is (put_comes (λ due. due ≡ done version_text) without_files (done version_text) _ _ _ refl
+    c.version_command.ensures refl refl refl (λ ok. (refl, refl)))
