@@ -7,9 +7,8 @@ use Rattle.std.proofs.Common.{subst, arith, length-drop}
 use Rattle.std.proofs.Math.Nat.{le_refl, mod-lt}
 use Rattle.std.proofs.lemmas.Bool.{eqb-false}
 use Rattle.std.proofs.lemmas.List.{drop-take, length-map, take-take, take_all}
-use Rattle.std.specs.List.{cons_option, filter_map, find, range_with_len}
+use Rattle.std.specs.List.{cons_option, filter_map, range_with_len}
 use Rattle.std.specs.Prelude.{nat_lt}
-use Rattle.std.specs.Str.{bytes_eq}
 use Rattle.byteorder.specs.Numbers.{big_from-take, little_from-take}
 use Rattle.jm_bytes.specs.Checks.{fault_if, first_fault, unless_fault}
 use Rattle.jm_bytes.specs.Word.{word}
@@ -29,8 +28,8 @@ use Rattle.jm_form.specs.ComputedRows.{row_front}
 use Rattle.jm_form.specs.Damages.{damage_with, entries_checks, entry_checks, first_damage, front_damage}
 use Rattle.jm_form.specs.Damages.{front_damage_with, image_checks, image_checks_with, slot_fault_with}
 use Rattle.jm_form.specs.Damages.{slot_faults_with}
-use Rattle.jm_form.specs.Entries.{Entry, entries, entry_at, entry_of, entry_with, indexed, is_reached}
-use Rattle.jm_form.specs.Entries.{name_of, row_at, row_at_place, row_of_slot, row_read, row_text, spelled_row}
+use Rattle.jm_form.specs.Entries.{Entry, entries, entry_at, entry_of, indexed, is_reached, name_of, row_at}
+use Rattle.jm_form.specs.Entries.{row_at_place, row_of_slot, row_read, row_text, spelled_row}
 use Rattle.jm_form.specs.Head.{HoldsHead, HoldsIndex, IsFileOf, fields_in, fields_of, header_of, header_with}
 use Rattle.jm_form.specs.Head.{index_length, order_of, read_order, version_of}
 use Rattle.jm_form.specs.Overlap.{range_of, ranges_of}
@@ -255,23 +254,6 @@ module _ (f b : List ℕ) (h : Header) (same : SameIndex f b h) where
       by_index : (es : List Entry) → ranges_of es ≡ map range_by (map indexed es)
       by_index [] = refl
       by_index (e ∷ es) = ap (λ rs. range_of e ∷ rs) (by_index es)
-
-  -- the one of a name is the same, but for its content
-  pub same_entry_with : (name : List ℕ) → option_map indexed (entry_with name (entries f h))
-      ≡ option_map indexed (entry_with name (entries b h))
-  same_entry_with name = by_index (entries f h) ∙ ap (find named) same_entries ∙ sym (by_index (entries b h))
-    where
-      named : ℕ × Row × List ℕ → Bool
-      named x = bytes_eq name x.2
-
-      first_or : (t : Bool) (e : Entry) (o : Option Entry) (p : Option (ℕ × Row × List ℕ)) → option_map indexed o ≡ p
-          → option_map indexed (cond t (Some e) o) ≡ cond t (Some (indexed e)) p
-      first_or true e o p later = refl
-      first_or false e o p later = later
-
-      by_index : (es : List Entry) → option_map indexed (entry_with name es) ≡ find named (map indexed es)
-      by_index [] = refl
-      by_index (e ∷ es) = first_or (bytes_eq name e.name) e (entry_with name es) (find named (map indexed es)) (by_index es)
 
   -- Images
 
