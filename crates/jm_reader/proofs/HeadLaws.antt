@@ -26,23 +26,17 @@ row_there b h buf slot row read header same is from =
     sym (is ∙ ap spelled_row from ∙ ap (λ x. spelled_row (row_of_slot x h slot)) same
     ∙ ap (λ g. spelled_row (row_of_slot b g slot)) (sym (head_is b h header)))
 
--- a text of the strings stands in the image, and ends there
-pub record TextThere (b : List ℕ) (place at : ℕ) : Type 0 where
-  pub is : at ≡ strings_place (head b) + place
+-- a text of the strings stands in the bytes that hold the index, and ends there
+pub record TextThere (b : List ℕ) (h : Header) (place at : ℕ) : Type 0 where
   pub ends : EndsWithin b at
-  pub text : text_at b at ≡ text_at (strings b (head b)) place
+  pub text : text_at b at ≡ text_at (strings b h) place
 
-pub text_there : (b : List ℕ) (h : Header) (place at : ℕ) → header_of b ≡ Ok h → text_ends (strings b (head b)) place ≡ true → at
-    ≡ strings_place h + place → TextThere b place at
+pub text_there : (b : List ℕ) (h : Header) (place at : ℕ) → header_of b ≡ Ok h → text_ends (strings b h) place ≡ true → at
+    ≡ strings_place h + place → TextThere b h place at
 text_there b h place at read ends is =
-    let back = sym (head_is b h read) in
-    let placed = text_placed b h place (header_fits b h read) (ap (λ g. text_ends (strings b g) place) back ∙ ends) in
+    let placed = text_placed b h place (header_fits b h read) ends in
     let within = placed.ends in
-    record {
-      is = is ∙ ap (λ g. strings_place g + place) back;
-      ends = record { within = rw is within };
-      text = ap (text_at b) is ∙ sym placed.text ∙ ap (λ g. text_at (strings b g) place) back;
-    }
+    record { ends = record { within = rw is within }; text = ap (text_at b) is ∙ sym placed.text }
 
 -- the part of the image that a row says is its content
 pub content_there : (b : List ℕ) (h : Header) (row : Row) → header_of b ≡ Ok h → slice_range b (index_length h + row.offset)

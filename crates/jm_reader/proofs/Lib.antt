@@ -1,4 +1,5 @@
 pub mod HeadLaws
+pub mod IndexLaws
 pub mod MarkLaws
 pub mod NameTexts
 pub mod OrderLaws

@@ -12,8 +12,9 @@ mod order;
 mod table;
 mod texts;
 
+pub use contents::place_of_content;
 pub use entries::{Entries, Entry, held, walk};
-pub use look_up::{Found, find, find_row};
+pub use look_up::{Found, find, find_row, find_row_in};
 pub use name_bytes::NameBytes;
 pub use name_view::NameView;
 pub use texts::place_of;

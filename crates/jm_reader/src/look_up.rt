@@ -1,19 +1,22 @@
-ghost use Rattle.std.specs.Prelude.{◌≡◌, ◌+◌, IsTrue, ◌↔◌, All, length, option_map, IfSome, Some};
+ghost use Rattle.std.specs.Prelude.{◌≡◌, ◌+◌, true, ℕ, All, List, length, option_map, IfSome, Some, Ok};
+ghost use Rattle.std.specs.Str.{bytes_eq};
 ghost use Rattle.jm_bytes.specs.Metered.{CostsAtMost, RisesAtMost};
-ghost use Rattle.jm_form.specs.Entries.{content_of, name_of};
+ghost use Rattle.jm_form.specs.Entries.{content_of, name_of, texts_end};
+ghost use Rattle.jm_form.specs.Head.{header_of, IsFileOf};
 ghost use Rattle.jm_form.specs.Places.{contents, strings};
 ghost use Rattle.jm_form.specs.Texts.{EndsWithin};
 ghost use Rattle.jm_form.specs.Validity.{look, SoundRow};
-ghost use Rattle.jm_reader.specs.Look.{answer_length, found_as, head};
+ghost use Rattle.jm_reader.specs.Look.{answer_length, found_as, head, row_of_name, SoundIn};
+ghost use Rattle.jm_reader.specs.Look.{TextsEnd};
 ghost use Rattle.jm_reader.specs.Marks.{spelling};
 
 use crate::contents::content;
 use crate::marks::{MarkedText, spells};
 use crate::table::probe;
-use crate::texts::place_of;
-use jm_bytes::{Meter, Steps};
-use jm_form::{Row, row_of_slot};
-use jm_valid::Image;
+use crate::texts::text_place;
+use jm_bytes::{Buf, Meter, Steps};
+use jm_form::{Header, Row, row_of_slot};
+use jm_valid::{Image, Index};
 use std::sync::ledger::Ledger;
 
 /// The entry that a look-up found.
@@ -26,30 +29,30 @@ pub struct Found<'a> {
 }
 
 /// The four texts of a row's name, with their marks: `/module/parent/base.extension`.
-fn texts_of(image: &Image, row: &Row) -> [MarkedText; 4]
-    requires { SoundRow image.now (head image.now) row.now }
-    ensures ends { All (λ text. EndsWithin image.now text.place) result }
-    ensures name { spelling image.now result
-        ≡ name_of (strings image.now (head image.now)) row.now }
+fn texts_of(buf: &Buf, header: &Header, row: &Row) -> [MarkedText; 4]
+    requires read { header_of buf.now ≡ Ok header.now }
+    requires ends { texts_end (strings buf.now header.now) row.now ≡ true }
+    ensures ends { All (λ text. EndsWithin buf.now text.place) result }
+    ensures name { spelling buf.now result ≡ name_of (strings buf.now header.now) row.now }
 {
     [
         MarkedText {
-            place: place_of(image, row.module),
+            place: text_place(buf, header, row.module),
             before: Some(b'/'),
             after: Some(b'/'),
         },
         MarkedText {
-            place: place_of(image, row.parent),
+            place: text_place(buf, header, row.parent),
             before: None,
             after: Some(b'/'),
         },
         MarkedText {
-            place: place_of(image, row.base),
+            place: text_place(buf, header, row.base),
             before: None,
             after: None,
         },
         MarkedText {
-            place: place_of(image, row.ext),
+            place: text_place(buf, header, row.ext),
             before: Some(b'.'),
             after: None,
         },
@@ -57,14 +60,45 @@ fn texts_of(image: &Image, row: &Row) -> [MarkedText; 4]
 }
 
 /// Whether a row's four texts, with their marks, are the name.
-fn is_named<R: Ledger>(image: &Image, row: &Row, name: &[u8], reads: &mut Meter<R>) -> bool
-    requires sound { SoundRow image.now (head image.now) row.now }
-    requires metered { reads.old.bytes ≡ image.now }
-    ensures answer { IsTrue result
-        ↔ (name.now ≡ name_of (strings image.now (head image.now)) row.now) }
+fn is_named<R: Ledger>(
+    buf: &Buf,
+    header: &Header,
+    row: &Row,
+    name: &[u8],
+    reads: &mut Meter<R>,
+) -> bool
+    requires read { header_of buf.now ≡ Ok header.now }
+    requires ends { texts_end (strings buf.now header.now) row.now ≡ true }
+    requires metered { reads.old.bytes ≡ buf.now }
+    ensures answer { result ≡ bytes_eq name.now (name_of (strings buf.now header.now) row.now) }
     ensures reads { CostsAtMost reads.old reads.new (length name.now + 4) }
 {
-    spells(&image.buf(), &texts_of(image, row), name, reads)
+    spells(buf, &texts_of(buf, header, row), name, reads)
+}
+
+/// The row of the slot to which the table leads a name, if the row has that name, by bytes that
+/// hold an image's index. It costs what `find_row` does.
+fn row_of_name<H: Ledger, R: Ledger>(
+    buf: &Buf,
+    header: &Header,
+    name: &[u8],
+    hashes: &mut Steps<H>,
+    reads: &mut Meter<R>,
+) -> Option<Row>
+    requires read { header_of buf.now ≡ Ok header.now }
+    requires ends { TextsEnd buf.now header.now }
+    requires metered { reads.old.bytes ≡ buf.now }
+    ensures row { result ≡ row_of_name buf.now header.now name.now }
+    ensures hashes { RisesAtMost hashes.old hashes.new 2 }
+    ensures reads { CostsAtMost reads.old reads.new (length name.now + 76) }
+{
+    let slot = probe(buf, header, name, hashes, reads)?;
+    let row = row_of_slot(buf, header, slot, reads).row()?;
+    if is_named(buf, header, &row, name, reads) {
+        Some(row)
+    } else {
+        None
+    }
 }
 
 /// The row of the entry of that name, or None where no entry has it (jimage 1.0). The name is
@@ -86,14 +120,36 @@ pub fn find_row<H: Ledger, R: Ledger>(
     ensures hashes { RisesAtMost hashes.old hashes.new 2 }
     ensures reads { CostsAtMost reads.old reads.new (length name.now + 76) }
 {
-    let header = image.header();
-    let slot = probe(image, name, hashes, reads)?;
-    let row = row_of_slot(&image.buf(), &header, slot, reads).row()?;
-    if is_named(image, &row, name, reads) {
-        Some(row)
-    } else {
-        None
+    row_of_name(&image.buf(), &image.header(), name, hashes, reads)
+}
+
+/// The row of the entry of that name in each file of this index, or None where none has it: what
+/// `find_row` answers for the whole file. No byte of a content is looked at.
+///
+/// It costs what `find_row` does.
+pub fn find_row_in<H: Ledger, R: Ledger>(
+    index: &Index,
+    name: &[u8],
+    hashes: &mut Steps<H>,
+    reads: &mut Meter<R>,
+) -> Option<Row>
+    requires { reads.old.bytes ≡ index.now.bytes }
+    ensures found { (b : List ℕ) → IsFileOf index.now.bytes index.now.length b
+        → result ≡ option_map (λ found. found.0) (look b name.now) }
+    ensures sound { (b : List ℕ) → IsFileOf index.now.bytes index.now.length b
+        → IfSome result (λ row. SoundRow b (head b) row) }
+    ensures content { (b : List ℕ) → IsFileOf index.now.bytes index.now.length b
+        → IfSome result (λ row. look b name.now ≡ Some (row, content_of (contents b (head b)) row)) }
+    ensures row { IfSome result (SoundIn index.now) }
+    ensures hashes { RisesAtMost hashes.old hashes.new 2 }
+    ensures reads { CostsAtMost reads.old reads.new (length name.now + 76) }
+{
+    let (buf, header) = (index.buf(), index.header());
+    // No file begins with more bytes than it has.
+    if buf.len() as u64 > index.length() {
+        return None;
     }
+    row_of_name(&buf, &header, name, hashes, reads)
 }
 
 /// The entry of that name, or None where no entry has it: what `find_row` answers, and the content

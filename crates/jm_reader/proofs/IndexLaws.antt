@@ -1,0 +1,175 @@
+-- What an index says of names and rows is what each file says that begins so.
+use Rattle.std.proofs.Common.{◌≡◌, ℕ, ◌+◌, ◌-◌, ◌≤◌, Bool, true, false, cond, List, ◌++◌, length, take, drop}
+use Rattle.std.proofs.Common.{Option, Some, None, option_map, Ok, refl, sym, ap, ◌∙◌, subst, arith, length-append, length-drop}
+use Rattle.std.proofs.Common.{length-take}
+use Rattle.std.proofs.lemmas.List.{drop-drop, length-replicate, take_at}
+use Rattle.std.proofs.lemmas.Slice.Eq.{bytes_eq-Decides}
+use Rattle.std.proofs.Math.ListN.{replicate}
+use Rattle.std.specs.Prelude.{IfSome}
+use Rattle.std.specs.Str.{bytes_eq}
+use Rattle.jm_form.specs.declared.container.Header.{Header}
+use Rattle.jm_form.specs.declared.rows.Row.{Row}
+use Rattle.jm_form.specs.Entries.{content_of, name_of, row_at, texts_end}
+use Rattle.jm_form.specs.Head.{header_of, index_length, IsFileOf}
+use Rattle.jm_form.specs.Places.{contents, contents_size, strings}
+use Rattle.jm_form.specs.Table.{probe}
+use Rattle.jm_form.specs.Validity.{look, SoundRow, SoundRowWith, ValidAs}
+use Rattle.jm_form.proofs.HeadLaws.{header_fits}
+use Rattle.jm_form.proofs.LocalityLaws.{same_index, same_probe, same_row, SameIndex}
+use Rattle.jm_form.proofs.LookLaws.{look_blank, look_found, look_nowhere, look_other, look_row, probe_within}
+use Rattle.jm_form.proofs.SlotLaws.{sound_row, sound_texts}
+use Rattle.jm_reader.specs.Look.{head, if_named, row_led, row_of_name, SoundIn, TextsEnd}
+use Rattle.jm_reader.proofs.HeadLaws.{head_is, head_valid}
+
+-- Images
+
+-- the texts of the rows of a valid image end
+pub texts_of_valid : (b : List ℕ) (h : Header) → ValidAs b h → TextsEnd b h
+texts_of_valid b h valid slot row below there = sound_texts b h row (sound_row b h slot row (valid.slots slot below) there)
+
+different : (b : Bool) → b ≡ false → b ≡ true → ⊥
+different b no_answer answer = cc
+
+-- the row of the slot to which a name leads is that of its entry
+pub row_found : (b : List ℕ) (h : Header) (name : List ℕ) → ValidAs b h → row_of_name b h name
+    ≡ option_map (λ (found : Row × List ℕ). found.0) (look b name)
+row_found b h name valid = led (probe b h name) refl
+  where
+    answer : Option (Row × List ℕ) → Option Row
+    answer found = option_map (λ (found : Row × List ℕ). found.0) found
+
+    named : (slot : ℕ) (row : Row) → probe b h name ≡ Some slot → row_at b h slot ≡ Some row → (t : Bool)
+        → bytes_eq name (name_of (strings b h) row) ≡ t → cond t (Some row) None ≡ answer (look b name)
+    named slot row there is true same =
+        let named = (bytes_eq-Decides name (name_of (strings b h) row)).0 same in
+        sym (ap answer (look_found b h name slot row valid there (probe_within b h name slot there) is named))
+    named slot row there is false differs =
+        let other : name ≡ name_of (strings b h) row → ⊥ = λ same. different (bytes_eq name (name_of (strings b h) row)) differs
+        ((bytes_eq-Decides name (name_of (strings b h) row)).1 same) in
+        sym (ap answer (look_other b h name slot row valid there (probe_within b h name slot there) is other))
+
+    held : (slot : ℕ) → probe b h name ≡ Some slot → (row : Option Row) → row_at b h slot ≡ row → if_named (strings b h) name row
+        ≡ answer (look b name)
+    held slot there None is = sym (ap answer (look_blank b h name slot valid there (probe_within b h name slot there) is))
+    held slot there (Some row) is = named slot row there is (bytes_eq name (name_of (strings b h) row)) refl
+
+    led : (slot : Option ℕ) → probe b h name ≡ slot → row_led b h name slot ≡ answer (look b name)
+    led None there = sym (ap answer (look_nowhere b h name valid there))
+    led (Some slot) there = held slot there (row_at b h slot) refl
+
+-- a row that was found in an image is the look-up's
+pub record IsRowFound (b name : List ℕ) (result : Option Row) : Type 0 where
+  pub found : result ≡ option_map (λ (found : Row × List ℕ). found.0) (look b name)
+  pub sound : IfSome result (λ row. SoundRow b (head b) row)
+  pub content : IfSome result (λ row. look b name ≡ Some (row, content_of (contents b (head b)) row))
+
+pub is_found : (b : List ℕ) (h : Header) (name : List ℕ) (result : Option Row) → ValidAs b h → result ≡ row_of_name b h name
+    → IsRowFound b name result
+is_found b h name result valid is = go result (is ∙ row_found b h name valid)
+  where
+    go : (result : Option Row) → result ≡ option_map (λ (found : Row × List ℕ). found.0) (look b name) → IsRowFound b name result
+    go None is = record { found = is; sound = tt; content = tt }
+    go (Some row) is =
+        let both = look_row b (head b) name row (head_valid b h valid) (sym is) in
+        record { found = is; sound = both.0; content = both.1 }
+
+-- Files of an index
+
+abbrev zeros : ℕ → List ℕ
+zeros n = replicate n 0
+
+-- a front that is no longer than the file begins one
+abbrev pub file_with : List ℕ → ℕ → List ℕ
+file_with f size = f ++ zeros (size - length f)
+
+pub file_begins : (f : List ℕ) (size : ℕ) → length f ≤ size → IsFileOf f size (file_with f size)
+file_begins f size within =
+    let more : length (zeros (size - length f)) ≡ size - length f = length-replicate (size - length f) 0 in
+    let all : length (file_with f size) ≡ length f + length (zeros (size - length f)) = length-append f (zeros (size - length f)) in
+    record { begins = take_at f (zeros (size - length f)) (length f) refl; length_is = omega (arith, more, all, within) }
+
+-- and a longer one begins none
+pub file_within : (f : List ℕ) (size : ℕ) (b : List ℕ) → IsFileOf f size b → length f ≤ size
+file_within f size b file =
+    let cut = length-take (length f) b in
+    let same = ap length file.begins in
+    let all = file.length_is in
+    omega arith
+
+module _ (f : List ℕ) (size : ℕ) (b : List ℕ) (h : Header) (file : IsFileOf f size b) (fits : index_length h ≤ length f) where
+  same : SameIndex f b h
+  same = same_index f size b h file fits
+
+  -- a row ends its texts in the front if it does in the file
+  pub same_texts_end : TextsEnd b h → TextsEnd f h
+  same_texts_end ends slot row below there =
+      ap (λ s. texts_end s row) same.strings ∙ ends slot row below (sym (same_row f b h same slot below) ∙ there)
+
+  -- a name has the same row in both
+  pub same_row_of_name : (name : List ℕ) → row_of_name f h name ≡ row_of_name b h name
+  same_row_of_name name = ap (row_led f h name) (same_probe f b h same name) ∙ go (probe b h name) refl
+    where
+      go : (slot : Option ℕ) → probe b h name ≡ slot → row_led f h name slot ≡ row_led b h name slot
+      go None there = refl
+      go (Some slot) there =
+          ap (λ s. if_named s name (row_at f h slot)) same.strings
+          ∙ ap (if_named (strings b h) name) (same_row f b h same slot (probe_within b h name slot there))
+
+  -- so many bytes stand behind the index
+  pub same_size : length (contents b h) ≡ contents_size size h
+  same_size = length-drop (index_length h) b ∙ ap (λ n. n - index_length h) file.length_is
+
+  -- and a row is sound in both
+  pub same_sound : (row : Row) → SoundRow b h row → SoundRowWith (strings f h) (contents_size size h) row
+  same_sound row sound = subst (λ s. SoundRowWith s (contents_size size h) row) (sym same.strings)
+      (subst (λ n. SoundRowWith (strings b h) n row) same_size sound)
+
+-- An index, by which each file that begins so is valid
+
+module _ (f : List ℕ) (size : ℕ) (h : Header) (read : header_of f ≡ Ok h) (valid : (b : List ℕ) → IsFileOf f size b → ValidAs b h) where
+  -- the texts of its rows end in its strings
+  pub front_texts_end : length f ≤ size → TextsEnd f h
+  front_texts_end within =
+      let b : List ℕ = file_with f size in
+      let file = file_begins f size within in
+      same_texts_end f size b h file (header_fits f h read) (texts_of_valid b h (valid b file))
+
+  -- a row that it says of a name is the look-up's in each file
+  pub front_found : (name : List ℕ) (result : Option Row) → result ≡ row_of_name f h name → (b : List ℕ) → IsFileOf f size b
+      → IsRowFound b name result
+  front_found name result is b file =
+      is_found b h name result (valid b file) (is ∙ same_row_of_name f size b h file (header_fits f h read) name)
+
+  -- and sound
+  pub front_sound : (name : List ℕ) (result : Option Row) → length f ≤ size → result ≡ row_of_name f h name
+      → IfSome result (SoundIn (record { bytes = f; length = size }))
+  front_sound name result within is = go result (front_found name result is b file).sound
+    where
+      b : List ℕ
+      b = file_with f size
+
+      file : IsFileOf f size b
+      file = file_begins f size within
+
+      go : (result : Option Row) → IfSome result (λ row. SoundRow b (head b) row)
+          → IfSome result (SoundIn (record { bytes = f; length = size }))
+      go None sound = tt
+      go (Some row) sound = subst (λ g. SoundRowWith (strings f g) (contents_size size g) row) (sym (head_is f h read))
+          (same_sound f size b h file (header_fits f h read) row
+          (subst (λ g. SoundRow b g row) (head_is b h (valid b file).header) sound))
+
+-- Contents
+
+-- so many bytes of contents in which a row's content lies
+pub lies_within : (f : List ℕ) (size : ℕ) (h : Header) (row : Row) → header_of f ≡ Ok h → SoundIn (record { bytes = f; length = size }) row
+    → row.offset + row.size ≤ size - index_length h
+lies_within f size h row read sound =
+    (subst (λ g. SoundRowWith (strings f g) (contents_size size g) row) (head_is f h read) sound).within
+
+-- the content of a row stands behind the index of the file
+pub content_from : (b : List ℕ) (h : Header) (row : Row) (place : ℕ) → header_of b ≡ Ok h → place ≡ index_length h + row.offset
+    → take row.size (drop place b) ≡ content_of (contents b (head b)) row
+content_from b h row place read is =
+    ap (λ n. take row.size (drop n b)) is
+    ∙ sym (ap (take row.size) (drop-drop row.offset (index_length h) b))
+    ∙ ap (λ g. content_of (contents b g) row) (sym (head_is b h read))

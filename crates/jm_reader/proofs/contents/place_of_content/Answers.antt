@@ -1,0 +1,13 @@
+use Rattle.std.proofs.Common.{arith}
+use Rattle.jm_form.proofs.HeadLaws.{header_fits}
+use Rattle.jm_reader.proofs.IndexLaws.{file_within, lies_within}
+use Rattle.jm_reader.proofs.contents.place_of_content.Goals as goal
+
+pub returns-clause-within : goal.returns-clause-within
+returns-clause-within c b file =
+    let f = c.args.index.now.bytes in
+    let h = c.header.result in
+    let lies = lies_within f c.args.index.now.length h c.args.row.now c.header.ensures.front c.requires in
+    let fits = header_fits f h c.header.ensures.front in
+    let within = file_within f c.args.index.now.length b file in
+    omega (arith, lies, fits, within, c.place_behind.ensures)
