@@ -1,23 +1,26 @@
 -- What an index says of names and rows is what each file says that begins so.
 use Rattle.std.proofs.Common.{◌≡◌, ℕ, ◌+◌, ◌-◌, ◌≤◌, Bool, true, false, cond, List, ◌++◌, length, take, drop}
 use Rattle.std.proofs.Common.{Option, Some, None, option_map, Ok, refl, sym, ap, ◌∙◌, subst, arith, length-append, length-drop}
-use Rattle.std.proofs.Common.{length-take}
+use Rattle.std.proofs.Common.{[], ◌∷◌, ◌<◌, map, length-take}
 use Rattle.std.proofs.lemmas.List.{drop-drop, length-replicate, take_at}
 use Rattle.std.proofs.lemmas.Slice.Eq.{bytes_eq-Decides}
 use Rattle.std.proofs.Math.ListN.{replicate}
+use Rattle.std.specs.List.{range_with_len}
 use Rattle.std.specs.Prelude.{IfSome}
 use Rattle.std.specs.Str.{bytes_eq}
 use Rattle.jm_form.specs.declared.container.Header.{Header}
 use Rattle.jm_form.specs.declared.rows.Row.{Row}
-use Rattle.jm_form.specs.Entries.{content_of, name_of, row_at, texts_end}
+use Rattle.jm_form.specs.Entries.{Entry, content_of, entries, indexed, name_of, row_at, texts_end}
 use Rattle.jm_form.specs.Head.{header_of, index_length, IsFileOf}
 use Rattle.jm_form.specs.Places.{contents, contents_size, strings}
 use Rattle.jm_form.specs.Table.{probe}
 use Rattle.jm_form.specs.Validity.{look, SoundRow, SoundRowWith, ValidAs}
 use Rattle.jm_form.proofs.HeadLaws.{header_fits}
-use Rattle.jm_form.proofs.LocalityLaws.{same_index, same_probe, same_row, SameIndex}
+use Rattle.jm_form.proofs.LocalityLaws.{same_entries, same_index, same_probe, same_row, SameIndex}
 use Rattle.jm_form.proofs.LookLaws.{look_blank, look_found, look_nowhere, look_other, look_row, probe_within}
 use Rattle.jm_form.proofs.SlotLaws.{sound_row, sound_texts}
+use Rattle.jm_reader.specs.Listing.{listed, listed_from}
+use Rattle.jm_reader.specs.Walk.{entries_in, entries_of, entries_with}
 use Rattle.jm_reader.specs.Look.{head, if_named, row_led, row_of_name, SoundIn, TextsEnd}
 use Rattle.jm_reader.proofs.HeadLaws.{head_is, head_valid}
 
@@ -56,6 +59,11 @@ row_found b h name valid = led (probe b h name) refl
     led : (slot : Option ℕ) → probe b h name ≡ slot → row_led b h name slot ≡ answer (look b name)
     led None there = sym (ap answer (look_nowhere b h name valid there))
     led (Some slot) there = held slot there (row_at b h slot) refl
+
+-- what was read of a buffer was read of its bytes
+pub read_of : (b : List ℕ) (h : Header) (name buf : List ℕ) (result : Option Row) → buf ≡ b → result ≡ row_of_name buf h name
+    → result ≡ row_of_name b h name
+read_of b h name buf result same is = is ∙ ap (λ l. row_of_name l h name) same
 
 -- a row that was found in an image is the look-up's
 pub record IsRowFound (b name : List ℕ) (result : Option Row) : Type 0 where
@@ -127,12 +135,12 @@ module _ (f : List ℕ) (size : ℕ) (b : List ℕ) (h : Header) (file : IsFileO
 -- An index, by which each file that begins so is valid
 
 module _ (f : List ℕ) (size : ℕ) (h : Header) (read : header_of f ≡ Ok h) (valid : (b : List ℕ) → IsFileOf f size b → ValidAs b h) where
-  -- the texts of its rows end in its strings
+  -- the texts of its rows end in its strings, if there is such a file
+  pub texts_end_by : (b : List ℕ) → IsFileOf f size b → TextsEnd f h
+  texts_end_by b file = same_texts_end f size b h file (header_fits f h read) (texts_of_valid b h (valid b file))
+
   pub front_texts_end : length f ≤ size → TextsEnd f h
-  front_texts_end within =
-      let b : List ℕ = file_with f size in
-      let file = file_begins f size within in
-      same_texts_end f size b h file (header_fits f h read) (texts_of_valid b h (valid b file))
+  front_texts_end within = texts_end_by (file_with f size) (file_begins f size within)
 
   -- a row that it says of a name is the look-up's in each file
   pub front_found : (name : List ℕ) (result : Option Row) → result ≡ row_of_name f h name → (b : List ℕ) → IsFileOf f size b
@@ -157,6 +165,31 @@ module _ (f : List ℕ) (size : ℕ) (h : Header) (read : header_of f ≡ Ok h) 
       go (Some row) sound = subst (λ g. SoundRowWith (strings f g) (contents_size size g) row) (sym (head_is f h read))
           (same_sound f size b h file (header_fits f h read) row
           (subst (λ g. SoundRow b g row) (head_is b h (valid b file).header) sound))
+
+  -- and its entries are listed as each file's
+  pub listed_same : (b : List ℕ) → IsFileOf f size b → listed_from f h 0 ≡ map listed (entries_of b)
+  listed_same b file =
+      let all : h.length - 0 ≡ h.length = omega arith in
+      let index = same_index f size b h file (header_fits f h read) in
+      ap (λ (n : ℕ). map listed (entries_in f h (range_with_len 0 n))) all
+      ∙ by_index (entries f h) ∙ ap (map listed_by) (same_entries f b h index) ∙ sym (by_index (entries b h))
+      ∙ ap (λ r. map listed (entries_with b r)) (sym (valid b file).header)
+    where
+      listed_by : ℕ × Row × List ℕ → ℕ × List ℕ × ℕ
+      listed_by x = (x.0, x.2, x.1.size)
+
+      by_index : (es : List Entry) → map listed es ≡ map listed_by (map indexed es)
+      by_index [] = refl
+      by_index (e ∷ es) = ap (λ rest. listed e ∷ rest) (by_index es)
+
+-- Rows that were read of a slot
+
+-- a row of a slot is sound
+pub held_sound : {A : Type 0} (b : List ℕ) (h : Header) (slot : ℕ) (held : Option (Row × A)) → ValidAs b h → slot < h.length
+    → IfSome held (λ held. row_at b h slot ≡ Some held.0) → IfSome held (λ held. SoundRow b (head b) held.0)
+held_sound b h slot None valid below there = tt
+held_sound b h slot (Some held) valid below there =
+    subst (λ g. SoundRow b g held.0) (sym (head_is b h valid.header)) (sound_row b h slot held.0 (valid.slots slot below) there)
 
 -- Contents
 

@@ -10,10 +10,9 @@ use Rattle.jm_form.specs.Head.{header_of}
 use Rattle.jm_form.specs.Places.{contents, strings}
 use Rattle.jm_form.proofs.EntryLaws.{names_differ, slots_rise}
 use Rattle.jm_reader.specs.declared.entries.Entry as handed
-use Rattle.jm_reader.specs.Look.{head, head_with}
-use Rattle.jm_reader.specs.Walk.{entries_from, entries_to_come, to_come_with, entries_in, entry_alone, IsFirst, IsLater}
+use Rattle.jm_reader.specs.Walk.{entries_from, entries_to_come, to_come_with, entries_in, IsFirst, IsLater}
 
-from_more : (b : List ℕ) (h : Header) (slot : ℕ) → slot < h.length → entries_from b h slot ≡ entries_in b h (slot ∷ [])
+pub from_more : (b : List ℕ) (h : Header) (slot : ℕ) → slot < h.length → entries_from b h slot ≡ entries_in b h (slot ∷ [])
     ++ entries_from b h (slot + 1)
 from_more b h slot below =
     let later : List ℕ = range_with_len (slot + 1) (h.length - (slot + 1)) in
@@ -23,37 +22,25 @@ from_more b h slot below =
     ∙ ap (filter (is_reached b h)) read
     ∙ filter-append (is_reached b h) (filter_map (entry_at b h) (slot ∷ [])) (filter_map (entry_at b h) later)
 
-with_header : (b : List ℕ) (h : Header) (slot : ℕ) → header_of b ≡ Ok h → entries_to_come b slot ≡ entries_from b h slot
+pub with_header : (b : List ℕ) (h : Header) (slot : ℕ) → header_of b ≡ Ok h → entries_to_come b slot ≡ entries_from b h slot
 with_header b h slot header = ap (to_come_with b slot) header
 
--- the entries from a slot on are that slot's and those behind it
-pub to_come_more : (b : List ℕ) (h : Header) (slot : ℕ) → header_of b ≡ Ok h → slot < h.length → entries_to_come b slot
-    ≡ entry_alone b slot ++ entries_to_come b (slot + 1)
-to_come_more b h slot header below =
-    with_header b h slot header ∙ from_more b h slot below
-    ∙ ap (λ es. entries_in b h (slot ∷ []) ++ es) (sym (with_header b h (slot + 1) header))
-    ∙ ap (λ r. entries_in b (head_with b r) (slot ∷ []) ++ entries_to_come b (slot + 1)) (sym header)
-
--- behind a spare slot all of them follow
-pub to_come_spare : (b : List ℕ) (h : Header) (slot : ℕ) → header_of b ≡ Ok h → slot < h.length → entry_alone b slot ≡ []
-    → entries_to_come b slot ≡ entries_to_come b (slot + 1)
-to_come_spare b h slot header below spare = to_come_more b h slot header below ∙ ap (λ es. es ++ entries_to_come b (slot + 1)) spare
-
 -- what is handed out of a row has the row's name and content
-pub record IsOfRow (b : List ℕ) (k : ℕ) (row : Row) (given : handed.Entry) : Type 0 where
+pub record IsOfRow (b : List ℕ) (h : Header) (k : ℕ) (row : Row) (given : handed.Entry) : Type 0 where
   pub slot : given.slot ≡ k
-  pub name : given.name ≡ name_of (strings b (head b)) row
-  pub content : given.bytes.now ≡ content_of (contents b (head b)) row
+  pub name : given.name ≡ name_of (strings b h) row
+  pub content : given.bytes.now ≡ content_of (contents b h) row
 
--- and the entry of a slot is the first from there on
+-- and is the first of the entries from a slot on, where the row's entry is
 pub first_to_come : (b : List ℕ) (h : Header) (start slot : ℕ) (row : Row) (given : handed.Entry) → header_of b ≡ Ok h
-    → slot < h.length → entries_to_come b start ≡ entries_to_come b slot → entry_alone b slot ≡ entry_of b (head b) slot row ∷ []
-    → IsOfRow b slot row given → IsFirst (entries_to_come b start) given (entries_to_come b (given.slot + 1))
-first_to_come b h start slot row given header below rest alone of = record {
-  entry = entry_of b (head b) slot row;
+    → entries_from b h start ≡ entry_of b h slot row ∷ entries_from b h (slot + 1) → IsOfRow b h slot row given
+    → IsFirst (entries_to_come b start) given (entries_to_come b (given.slot + 1))
+first_to_come b h start slot row given header first of = record {
+  entry = entry_of b h slot row;
   first =
-      rest ∙ to_come_more b h slot header below ∙ ap (λ es. es ++ entries_to_come b (slot + 1)) alone
-      ∙ ap (λ (n : ℕ). entry_of b (head b) slot row ∷ entries_to_come b (n + 1)) (sym of.slot);
+      with_header b h start header ∙ first
+      ∙ ap (λ es. entry_of b h slot row ∷ es) (sym (with_header b h (slot + 1) header))
+      ∙ ap (λ (n : ℕ). entry_of b h slot row ∷ entries_to_come b (n + 1)) (sym of.slot);
   slot = of.slot;
   name = of.name;
   content = of.content;

@@ -1,3 +1,4 @@
+pub mod Listing
 pub mod Look
 pub mod Marks
 pub mod Views

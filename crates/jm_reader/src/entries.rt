@@ -1,14 +1,16 @@
-ghost use Rattle.std.specs.Prelude.{◌≡◌, ◌<◌, ◌+◌, ◌-◌, ◌^◌, [], ◌∷◌, IfSome, IfNone};
-ghost use Rattle.jm_form.specs.Entries.{entry_of, name_of};
+ghost use Rattle.std.specs.Prelude.{◌≡◌, ◌<◌, ◌+◌, ◌-◌, ◌^◌, [], ◌∷◌, IfSome, IfNone, Some, Ok};
+ghost use Rattle.jm_form.specs.Entries.{entry_of, name_of, row_at};
+ghost use Rattle.jm_form.specs.Head.{header_of};
 ghost use Rattle.jm_form.specs.Places.{strings};
 ghost use Rattle.jm_form.specs.Validity.{SoundRow};
-ghost use Rattle.jm_reader.specs.Look.{head};
+ghost use Rattle.jm_reader.specs.Look.{head, TextsEnd};
 ghost use Rattle.jm_reader.specs.Walk.{entries_to_come, entries_of, entry_alone, IsFirst, IsLater};
+ghost use Rattle.jm_reader.specs.Walk.{entries_from, entries_in};
 
 use crate::contents::content;
 use crate::name_view::NameView;
-use jm_bytes::Meter;
-use jm_form::{Row, is_led_to, pieces_of, row_of_slot};
+use jm_bytes::{Buf, Meter};
+use jm_form::{Header, Row, is_led_to, pieces_of, row_of_slot};
 use jm_valid::Image;
 use std::marker::Model;
 use std::sync::ledger::Ledger;
@@ -39,6 +41,66 @@ impl<'a> Model for Entries<'a> {
     ghost view = { λ a. record { bytes = a.image; rest = entries_to_come a.image a.slot } };
 }
 
+/// The row and the name of the entry that a slot holds, by bytes that hold an image's index, or
+/// None where the slot is spare.
+fn held_by<'a, R: Ledger>(
+    buf: &Buf<'a>,
+    header: &Header,
+    slot: u32,
+    reads: &mut Meter<R>,
+) -> Option<(Row, NameView<'a>)>
+    requires read { header_of buf.now ≡ Ok header.now }
+    requires below { slot < header.now.length }
+    requires metered { reads.old.bytes ≡ buf.now }
+    ensures entry { IfSome result (λ held. entries_in buf.now header.now (slot ∷ [])
+        ≡ entry_of buf.now header.now slot held.0 ∷ []) }
+    ensures name { IfSome result (λ held.
+        held.1 ≡ name_of (strings buf.now header.now) held.0) }
+    ensures row { IfSome result (λ held. row_at buf.now header.now slot ≡ Some held.0) }
+    ensures spare { TextsEnd buf.now header.now
+        → IfNone result (entries_in buf.now header.now (slot ∷ []) ≡ []) }
+    ensures reads { IsLater reads.old reads.new }
+{
+    let row = row_of_slot(buf, header, slot, reads).row()?;
+    let pieces = pieces_of(buf, header, &row, reads)?;
+    if is_led_to(buf, header, slot, &pieces, reads) {
+        Some((row, NameView::of(&pieces)))
+    } else {
+        None
+    }
+}
+
+/// The least slot from `start` on that holds an entry, with the entry's row and name, by bytes that
+/// hold an image's index.
+pub(crate) fn next_held<'a, R: Ledger>(
+    buf: &Buf<'a>,
+    header: &Header,
+    start: u32,
+    reads: &mut Meter<R>,
+) -> Option<(u32, Row, NameView<'a>)>
+    requires read { header_of buf.now ≡ Ok header.now }
+    requires metered { reads.old.bytes ≡ buf.now }
+    ensures entry { TextsEnd buf.now header.now
+        → IfSome result (λ held. entries_from buf.now header.now start
+        ≡ entry_of buf.now header.now held.0 held.1
+        ∷ entries_from buf.now header.now (held.0 + 1)) }
+    ensures name { IfSome result (λ held.
+        held.2 ≡ name_of (strings buf.now header.now) held.1) }
+    ensures row { IfSome result (λ held. row_at buf.now header.now held.0 ≡ Some held.1) }
+    ensures below { IfSome result (λ held. held.0 < header.now.length) }
+    ensures slot { IfSome result (λ held. held.0 < 2 ^ 32 - 1) }
+    ensures end { TextsEnd buf.now header.now
+        → IfNone result (entries_from buf.now header.now start ≡ []) }
+    ensures reads { IsLater reads.old reads.new }
+{
+    for slot in start..header.length {
+        if let Some((row, name)) = held_by(buf, header, slot, reads) {
+            return Some((slot, row, name));
+        }
+    }
+    None
+}
+
 /// The row and the name of the entry that a slot holds, or None where the slot is spare.
 pub fn held<'a, R: Ledger>(
     image: &Image<'a>,
@@ -55,14 +117,7 @@ pub fn held<'a, R: Ledger>(
     ensures spare { IfNone result (entry_alone image.now slot ≡ []) }
     ensures reads { IsLater reads.old reads.new }
 {
-    let (buf, header) = (image.buf(), image.header());
-    let row = row_of_slot(&buf, &header, slot, reads).row()?;
-    let pieces = pieces_of(&buf, &header, &row, reads)?;
-    if is_led_to(&buf, &header, slot, &pieces, reads) {
-        Some((row, NameView::of(&pieces)))
-    } else {
-        None
-    }
+    held_by(&image.buf(), &image.header(), slot, reads)
 }
 
 /// The entry of the least slot that holds one, of the slots from `start` on.
@@ -78,13 +133,9 @@ fn next_entry<'a, R: Ledger>(
     ensures end { IfNone result (entries_to_come image.now start ≡ []) }
     ensures reads { IsLater reads.old reads.new }
 {
-    for slot in start..image.header().length {
-        if let Some((row, name)) = held(image, slot, reads) {
-            let bytes = content(image, &row, reads);
-            return Some(Entry { slot, name, bytes });
-        }
-    }
-    None
+    let (slot, row, name) = next_held(&image.buf(), &image.header(), start, reads)?;
+    let bytes = content(image, &row, reads);
+    Some(Entry { slot, name, bytes })
 }
 
 /// The entries of an image, by rising slot. Spare slots hold none.

@@ -4,6 +4,7 @@
 mod compare;
 mod contents;
 mod entries;
+mod listing;
 mod look_up;
 mod marks;
 mod name_bytes;
@@ -14,6 +15,7 @@ mod texts;
 
 pub use contents::place_of_content;
 pub use entries::{Entries, Entry, held, walk};
+pub use listing::{Listed, Listing, list};
 pub use look_up::{Found, find, find_row, find_row_in};
 pub use name_bytes::NameBytes;
 pub use name_view::NameView;

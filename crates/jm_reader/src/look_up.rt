@@ -1,5 +1,5 @@
-ghost use Rattle.std.specs.Prelude.{◌≡◌, ◌+◌, true, ℕ, All, List, length, option_map, IfSome};
-ghost use Rattle.std.specs.Prelude.{Some, Ok};
+ghost use Rattle.std.specs.Prelude.{◌≡◌, ◌+◌, true, ℕ, All, List, length, option_map, Ok};
+ghost use Rattle.std.specs.Prelude.{IfSome, Some};
 ghost use Rattle.std.specs.Str.{bytes_eq};
 ghost use Rattle.jm_bytes.specs.Metered.{CostsAtMost, RisesAtMost};
 ghost use Rattle.jm_form.specs.Entries.{content_of, name_of, texts_end};
@@ -140,8 +140,8 @@ pub fn find_row_in<H: Ledger, R: Ledger>(
     ensures sound { (b : List ℕ) → IsFileOf index.now.bytes index.now.length b
         → IfSome result (λ row. SoundRow b (head b) row) }
     ensures content { (b : List ℕ) → IsFileOf index.now.bytes index.now.length b
-        → IfSome result (λ row.
-        look b name.now ≡ Some (row, content_of (contents b (head b)) row)) }
+        → IfSome result (λ row. look b name.now
+        ≡ Some (row, content_of (contents b (head b)) row)) }
     ensures row { IfSome result (SoundIn index.now) }
     ensures hashes { RisesAtMost hashes.old hashes.new 2 }
     ensures reads { CostsAtMost reads.old reads.new (length name.now + 76) }

@@ -1,29 +1,22 @@
-use Rattle.std.proofs.Common.{◌∙◌, Some, subst}
-use Rattle.std.proofs.lemmas.Bool.{false≢true}
-use Rattle.jm_form.specs.Validity.{SoundRow}
-use Rattle.jm_form.proofs.SlotLaws.{sound_row, sound_texts}
-use Rattle.jm_reader.specs.Look.{head}
-use Rattle.jm_reader.proofs.HeadLaws.{head_is, head_valid, row_there}
+use Rattle.std.proofs.Common.{◌≡◌, ◌<◌, ◌∷◌, [], subst, sym}
+use Rattle.std.specs.Prelude.{IfNone}
+use Rattle.jm_form.specs.declared.container.Header.{Header}
+use Rattle.jm_reader.specs.Walk.{entries_in}
+use Rattle.jm_reader.proofs.HeadLaws.{head_is}
+use Rattle.jm_reader.proofs.IndexLaws.{held_sound, texts_of_valid}
 use Rattle.jm_reader.proofs.entries.held.Goals as goal
 
--- the texts of the row end, so it has its pieces
-pub returns-in_err-pieces-clause-spare : goal.returns-in_err-pieces-clause-spare
-returns-in_err-pieces-clause-spare g c =
+pub returns-clause-sound : goal.returns-clause-sound
+returns-clause-sound g c =
     let b = c.args.image.now in
-    let h = c.header-header.result in
-    let valid = head_valid b h c.header-header.ensures in
-    let there = row_there b h c.buf-buf.result c.args.slot (Some c.in_ok-row.row) c.row_of_slot.result
-    c.header-header.ensures.header c.buf-buf.ensures c.in_ok-row.ensures c.row_of_slot.ensures.row in
-    let sound = sound_row b (head b) c.args.slot c.in_ok-row.row (valid.slots c.args.slot c.requires.below) there in
-    let read = subst (λ h. SoundRow b h c.in_ok-row.row) (head_is b h c.header-header.ensures.header) sound in
-    let ends = rw c.buf-buf.ensures at c.in_err-pieces.ensures.ends in
-    absurd (false≢true (ends ∙ sound_texts b h c.in_ok-row.row read))
+    let h = c.header.result in
+    let below = subst (λ (h : Header). c.args.slot < h.length) (head_is b h c.header.ensures.header) c.requires.below in
+    held_sound b h c.args.slot c.held_by.result c.header.ensures below (rw c.buf.ensures at c.held_by.ensures.row)
 
-pub returns-then-is_led_to-clause-sound : goal.returns-then-is_led_to-clause-sound
-returns-then-is_led_to-clause-sound g c =
+pub returns-clause-spare : goal.returns-clause-spare
+returns-clause-spare g c =
     let b = c.args.image.now in
-    let h = c.header-header.result in
-    let valid = head_valid b h c.header-header.ensures in
-    let there = row_there b h c.buf-buf.result c.args.slot (Some c.in_ok-row.row) c.row_of_slot.result
-    c.header-header.ensures.header c.buf-buf.ensures c.in_ok-row.ensures c.row_of_slot.ensures.row in
-    sound_row b (head b) c.args.slot c.in_ok-row.row (valid.slots c.args.slot c.requires.below) there
+    let h = c.header.result in
+    let spare = rw c.buf.ensures at c.held_by.ensures.spare in
+    subst (λ h. IfNone c.held_by.result (entries_in b h (c.args.slot ∷ []) ≡ [])) (sym (head_is b h c.header.ensures.header))
+    (spare (texts_of_valid b h c.header.ensures))
