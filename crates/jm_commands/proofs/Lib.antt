@@ -1,5 +1,6 @@
 pub mod DescribeLaws
 pub mod ExtractLaws
+pub mod FrontLaws
 pub mod GenLaws
 pub mod Gotten
 pub mod LinkLaws

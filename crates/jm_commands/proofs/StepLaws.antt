@@ -37,7 +37,7 @@ use Rattle.jm_commands.proofs.Gotten.{front_of_nothing, gets_nothing}
 use Rattle.jm_commands.proofs.Made.{stays_all, stays_part}
 
 -- an error of a step, by what it was made of
-pub from_stop : (answer : Result (Unit {0}) Stop) (is : Stop) → IsErrAnd answer (λ stop. stop ≡ is) → answer ≡ Err is
+pub from_stop : {A : Type 0} (answer : Result A Stop) (is : Stop) → IsErrAnd answer (λ stop. stop ≡ is) → answer ≡ Err is
 from_stop (Ok _) is gives = absurd gives
 from_stop (Err stop) is gives = ap (λ s. Err s) gives
 

@@ -1,6 +1,7 @@
 pub mod Cat
 pub mod ExtractText
 pub mod FailedBefore
+pub mod FileParts
 pub mod Gen
 pub mod HelpText
 pub mod LinkText
@@ -14,6 +15,7 @@ pub mod SessionHeld
 pub mod Sinks
 pub mod StatusValue
 pub mod Stops
+pub mod Taken
 pub mod Texts
 pub mod VerifyText
 pub mod World

@@ -17,6 +17,7 @@ use Rattle.jm_outside.specs.Outcome.{Shows}
 use Rattle.jm_words.specs.declared.errors.WordsError.{WordsError}
 use Rattle.jm_words.specs.declared.tasks.Command.{Command}
 use Rattle.jm_words.specs.declared.tasks.GenTask.{GenTask}
+use Rattle.jm_words.specs.declared.tasks.ImageWork.{ImageWork}
 use Rattle.jm_words.specs.declared.tasks.LinkTask.{LinkTask}
 use Rattle.jm_words.specs.declared.tasks.Task.{Task}
 use Rattle.jm_words.specs.declared.tasks.Task.TheVariants as task
@@ -70,6 +71,11 @@ abbrev pub TextComesTo : Option (List ℕ) → (List ℕ → Outcome) → Outcom
 TextComesTo rest of_text due =
     (text : List ℕ) × Shows rest (λ told. text ≡ told) × (due ≡ of_text text)
 
+-- what comes of a work on the image in the file of a path, by the told text of the source
+abbrev pub WorkComesTo : Option Files → Option (List ℕ) → List ℕ → ImageWork → Outcome → Type 0
+WorkComesTo told rest path work due =
+    ImageComes told path (λ b. TextComesTo rest (image_outcome work b)) due
+
 -- at every path of an image's trees stands what the trees of its resources have there, and nothing
 -- else; of a refusal, nothing
 abbrev pub ShowsLinked : Result LinkedImage Refusal → Type 0
@@ -112,8 +118,7 @@ GenComesTo told gen due =
 -- what a task comes to, by the told files and the told text of the source
 abbrev pub TaskComesTo : Option Files → Option (List ℕ) → Task → Outcome → Type 0
 TaskComesTo told rest (task.Link link) due = LinkComesTo link_text told link due
-TaskComesTo told rest (task.Image image work) due =
-    ImageComes told image (λ b. TextComesTo rest (image_outcome work b)) due
+TaskComesTo told rest (task.Image image work) due = WorkComesTo told rest image work due
 TaskComesTo told rest (task.Gen gen) due = GenComesTo told gen due
 TaskComesTo told rest (task.Describe file) due =
     FileComesTo told file (λ b described. described ≡ describe_outcome file b) due

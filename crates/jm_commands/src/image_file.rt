@@ -4,8 +4,8 @@ ghost use Rattle.jm_outside.specs.Outcome.{CountsFaults};
 ghost use Rattle.jm_words.specs.Paths.{FolderIsText};
 ghost use Rattle.jm_commands.specs.Cat.{CatDoes};
 ghost use Rattle.jm_commands.specs.Outcome.{cat_outcome, image_outcome, reading};
-ghost use Rattle.jm_commands.specs.Run.{ImageComes, PutDoes, ReadsFile, StepComesTo};
-ghost use Rattle.jm_commands.specs.Run.{StepOnText, TextComesTo};
+ghost use Rattle.jm_commands.specs.Run.{PutDoes, ReadsFile, StepComesTo, StepOnText, WorkComesTo};
+ghost use Rattle.jm_commands.specs.Taken.{ReadsWhole, WorkTakes};
 ghost use Rattle.jm_commands.specs.World.{sink_at, world_of};
 
 use crate::cat::cat_command;
@@ -84,7 +84,7 @@ fn cat_step<O: Sink>(alloc: Global, image: &Opened, name: &[u8], out: &mut O) ->
     Err(Stop::Complaint(Complaint::NotThere(text)))
 }
 
-/// Does a work on an image.
+/// Does a work on an image that reads its whole file.
 fn do_work<S: Shelf, I: Source, O: Sink>(
     alloc: Global,
     work: &ImageWork,
@@ -94,6 +94,7 @@ fn do_work<S: Shelf, I: Source, O: Sink>(
     out: &mut O,
 ) -> Result<(), Stop>
     requires text { FolderIsText work.now }
+    requires whole { ReadsWhole work.now }
     ensures { StepOnText (image_outcome work.now image.now) result
         (world_of S.Shelf I.Source O.Sink shelf.old input.old out.old)
         (world_of S.Shelf I.Source O.Sink shelf.new input.new out.new) }
@@ -102,17 +103,16 @@ fn do_work<S: Shelf, I: Source, O: Sink>(
         ImageWork::Cat { name } => cat_step(alloc, image, name.as_slice(), out),
         ImageWork::List { include } => list_command(alloc, image, include, out),
         ImageWork::Ls { path } => ls_command(alloc, image, path.as_slice(), out),
-        ImageWork::Info => info_command(alloc, image, out),
         ImageWork::Extract { dir, include } => {
             extract_command(alloc, image, include, dir.as_slice(), shelf, out)
         }
-        ImageWork::Verify => verify_command(alloc, image, out),
         ImageWork::Serve => serve_command(alloc, image, input, out),
+        ImageWork::Info | ImageWork::Verify => unreachable!(),
     }
 }
 
-/// Reads the file at a path, opens the image that its bytes are, and does a work on it.
-pub fn on_image<T: Threads + Sync, S: Shelf, I: Source, O: Sink, G: Gate + Sync>(
+/// Reads the whole file at a path, opens the image that its bytes are, and does a work on it.
+fn on_whole<T: Threads + Sync, S: Shelf, I: Source, O: Sink, G: Gate + Sync>(
     workers: &Workers<T, G>,
     path: &Text,
     work: &ImageWork,
@@ -123,8 +123,9 @@ pub fn on_image<T: Threads + Sync, S: Shelf, I: Source, O: Sink, G: Gate + Sync>
     requires jobs { 0 < workers.now.jobs }
     requires path { IsUtf8 path.now }
     requires text { FolderIsText work.now }
-    ensures { StepComesTo (ImageComes (S.files shelf.old) path.now
-        (λ b. TextComesTo (I.rest input.old) (image_outcome work.now b))) reading result
+    requires whole { ReadsWhole work.now }
+    ensures { StepComesTo (WorkComesTo (S.files shelf.old) (I.rest input.old) path.now work.now)
+        reading result
         (world_of S.Shelf I.Source O.Sink shelf.old input.old out.old)
         (world_of S.Shelf I.Source O.Sink shelf.new input.new out.new) }
 {
@@ -137,5 +138,35 @@ pub fn on_image<T: Threads + Sync, S: Shelf, I: Source, O: Sink, G: Gate + Sync>
             }
         }
         Err(stop) => Err(stop),
+    }
+}
+
+/// Does a work on the image in the file at a path: `info` and `verify` by its index.
+pub fn on_image<T: Threads + Sync, S: Shelf, I: Source, O: Sink, G: Gate + Sync>(
+    workers: &Workers<T, G>,
+    path: &Text,
+    work: &ImageWork,
+    shelf: &mut S,
+    input: &mut I,
+    out: &mut O,
+) -> Result<(), Stop>
+    requires jobs { 0 < workers.now.jobs }
+    requires path { IsUtf8 path.now }
+    requires text { FolderIsText work.now }
+    ensures comes { StepComesTo
+        (WorkComesTo (S.files shelf.old) (I.rest input.old) path.now work.now) reading result
+        (world_of S.Shelf I.Source O.Sink shelf.old input.old out.old)
+        (world_of S.Shelf I.Source O.Sink shelf.new input.new out.new) }
+    ensures takes { WorkTakes (S.files shelf.old) path.now work.now
+        (S.handed shelf.old) (S.handed shelf.new) }
+{
+    match work {
+        ImageWork::Info => info_command(workers, path, shelf, out),
+        ImageWork::Verify => verify_command(workers, path, shelf, out),
+        ImageWork::Cat { .. }
+        | ImageWork::List { .. }
+        | ImageWork::Ls { .. }
+        | ImageWork::Extract { .. }
+        | ImageWork::Serve => on_whole(workers, path, work, shelf, input, out),
     }
 }

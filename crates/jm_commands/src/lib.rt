@@ -5,6 +5,7 @@ mod cat;
 mod complaint;
 mod describe;
 mod extract;
+mod front;
 mod generator;
 mod help;
 mod image_file;

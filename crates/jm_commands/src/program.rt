@@ -7,6 +7,7 @@ ghost use Rattle.jm_commands.specs.Run.{EndsStep, ReportDoes, RunComesTo, StepCo
 ghost use Rattle.jm_commands.specs.Run.{TaskComesTo, WordsComeTo};
 ghost use Rattle.jm_commands.specs.RelinkedRun.{RelinksRun};
 ghost use Rattle.jm_commands.specs.Served.{ServesRun, served_in};
+ghost use Rattle.jm_commands.specs.Taken.{TakesNoMore, TaskTakes};
 ghost use Rattle.jm_commands.specs.World.{sink_at, world_of};
 
 use crate::complaint::Complaint;
@@ -64,10 +65,12 @@ fn do_command<T: Threads + Sync, S: Shelf, I: Source, O: Sink, G: Gate + Sync>(
     requires jobs { 0 < workers.now.jobs }
     requires paths { FilePathsAreText task.now }
     requires numbers { NumbersFit task.now }
-    ensures { StepComesTo (TaskComesTo (S.files shelf.old) (I.rest input.old) task.now)
+    ensures comes { StepComesTo (TaskComesTo (S.files shelf.old) (I.rest input.old) task.now)
         (early_of task.now) result
         (world_of S.Shelf I.Source O.Sink shelf.old input.old out.old)
         (world_of S.Shelf I.Source O.Sink shelf.new input.new out.new) }
+    ensures takes { TaskTakes (S.files shelf.old) task.now
+        (S.handed shelf.old) (S.handed shelf.new) }
 {
     match task {
         Task::Link(task) => link_command(workers, task, shelf, out),
@@ -104,6 +107,8 @@ pub fn run<T: Threads + Sync, S: Shelf, I: Source, O: Sink, E: Sink, G: Gate + S
         (sink_at E.Sink err.old) (sink_at E.Sink err.new)) }
     ensures relinks { Says (map string_bytes words.now) (λ asked. RelinksRun asked result
         (S.files shelf.old) (S.files shelf.new)) }
+    ensures takes { Says (map string_bytes words.now) (λ asked. TakesNoMore
+        (S.files shelf.old) asked (S.handed shelf.old) (S.handed shelf.new)) }
 {
     match read_words(alloc, words) {
         Ok(command) => {

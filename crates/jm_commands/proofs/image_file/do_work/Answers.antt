@@ -18,20 +18,12 @@ pub returns-in-List : goal.returns-in-List
 returns-in-List g c =
     rw c.in-List.is (put_on_text _ _ _ _ _ c.list_command.ensures refl refl refl (λ ok. (refl, refl)) (λ text. refl))
 
-pub returns-in-Info : goal.returns-in-Info
-returns-in-Info g c =
-    rw c.in-Info.is (put_on_text _ _ _ _ _ c.info_command.ensures refl refl refl (λ ok. (refl, refl)) (λ text. refl))
-
 pub returns-in-Extract : goal.returns-in-Extract
 returns-in-Extract g c =
     let dir = c.as_slice-in-Extract.result.now in
     let due = extracted c.args.image.now c.in-Extract.include in
     rw c.in-Extract.is (on_any_text _ (extract_outcome dir due) _ _ _ (λ text. rw c.as_slice-in-Extract.ensures refl)
     (c.extract_command.ensures _))
-
-pub returns-in-Verify : goal.returns-in-Verify
-returns-in-Verify g c =
-    rw c.in-Verify.is (put_on_text _ _ _ _ _ c.verify_command.ensures refl refl refl (λ ok. (refl, refl)) (λ text. refl))
 
 pub returns-in-Ls : goal.returns-in-Ls
 returns-in-Ls g c =

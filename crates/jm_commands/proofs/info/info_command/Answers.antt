@@ -1,9 +1,28 @@
 use Rattle.std.proofs.Common.{refl}
-use Rattle.jm_commands.specs.declared.stop.Stop.TheVariants as stop
-use Rattle.jm_commands.proofs.StepLaws.{from_stop, no_memory}
+use Rattle.jm_valid.specs.Opened.{Front}
+use Rattle.jm_outside.specs.Shelves.{shelf_at}
+use Rattle.jm_words.specs.declared.tasks.ImageWork.TheVariants as work
+use Rattle.jm_texts.specs.InfoText.{info_text}
+use Rattle.jm_commands.proofs.FrontLaws.{front_unread, index_put, index_unopened}
 use Rattle.jm_commands.proofs.info.info_command.Goals as goal
 
-pub returns-in_err-text : goal.returns-in_err-text
-returns-in_err-text g c =
-    let is = from_stop c.from_residual.result stop.Memory c.from_residual.ensures.1 in
-    rw is (no_memory _ _ _ refl)
+pub returns-in-Ok-open_front-clause-comes : goal.returns-in-Ok-open_front-clause-comes
+returns-in-Ok-open_front-clause-comes g c source =
+    let read = c.in-Ok.ensures in
+    let front = c.in-Ok.front in
+    index_put work.Info c.args.path.now (shelf_at g.S.Shelf c.args.shelf.now) (shelf_at g.S.Shelf c.file_front.new.shelf) source
+    front.bytes front.length read.reads read.files (read.faults.kept refl) info_text _ _ _ (λ b t. refl) c.in-Ok-open_front.ensures.opens
+    (rw (c.in-Ok-open_front.ensures.bytes, c.in-Ok-open_front.ensures.length) at c.put_info.ensures)
+
+pub returns-in-Ok-clause-comes : goal.returns-in-Ok-clause-comes
+returns-in-Ok-clause-comes g c source =
+    let read = c.in-Ok.ensures in
+    let front = c.in-Ok.front in
+    index_unopened work.Info c.args.path.now (shelf_at g.S.Shelf c.args.shelf.now) (shelf_at g.S.Shelf c.file_front.new.shelf) source
+    front.bytes front.length read.reads read.files (read.faults.kept refl) Front c.in-Err-open_front.stop _ c.in-Err-open_front.ensures.opens
+
+pub returns-clause-comes : goal.returns-clause-comes
+returns-clause-comes g c source =
+    let read = c.in-Err.ensures in
+    front_unread work.Info c.args.path.now (shelf_at g.S.Shelf c.args.shelf.now) (shelf_at g.S.Shelf c.file_front.new.shelf) source
+    c.in-Err.stop _ read.reads read.files (λ failed. read.faults.rose (rw failed refl))

@@ -3,6 +3,7 @@ use Rattle.jm_words.specs.Commands.{command_in}
 use Rattle.jm_words.proofs.RuleLaws.{command_says}
 use Rattle.jm_commands.specs.Outcome.{early_in}
 use Rattle.jm_commands.specs.Run.{WordsComeTo}
+use Rattle.jm_commands.proofs.FrontLaws.{words_take, words_take_nothing}
 use Rattle.jm_commands.proofs.RelinkedRun.{run_relinks}
 use Rattle.jm_commands.proofs.RunLaws.{comes_ended}
 use Rattle.jm_commands.proofs.ServedLaws.{run_serves}
@@ -16,7 +17,7 @@ returns-in-Ok-clause-comes g c =
       asked,
       command_says words,
       comes_ended (WordsComeTo (g.S.Shelf.files c.args.shelf.now) (g.I.Source.rest c.args.input.now) asked) (early_in asked) _ _ _ _ _ _
-          (words_read asked c.in-Ok.command _ _ _ c.in-Ok.ensures.command c.do_command.ensures) c.end.ensures,
+          (words_read asked c.in-Ok.command _ _ _ c.in-Ok.ensures.command c.do_command.ensures.comes) c.end.ensures,
     )
 
 pub returns-in-Ok-clause-session : goal.returns-in-Ok-clause-session
@@ -49,3 +50,15 @@ pub returns-in-Err-clause-relinks : goal.returns-in-Err-clause-relinks
 returns-in-Err-clause-relinks g c =
     let comes = returns-in-Err-clause-comes g c in
     (comes.0, comes.1, run_relinks comes.0 _ _ _ _ _ _ comes.2)
+
+pub returns-in-Ok-clause-takes : goal.returns-in-Ok-clause-takes
+returns-in-Ok-clause-takes g c =
+    let words = map (string_bytes {Z = Global}) c.args.words.now in
+    let asked = command_in words in
+    (asked, command_says words, words_take (g.S.Shelf.files c.args.shelf.now) asked c.in-Ok.command _ _ c.in-Ok.ensures.command c.do_command.ensures.takes)
+
+pub returns-in-Err-clause-takes : goal.returns-in-Err-clause-takes
+returns-in-Err-clause-takes g c =
+    let words = map (string_bytes {Z = Global}) c.args.words.now in
+    let asked = command_in words in
+    (asked, command_says words, words_take_nothing (g.S.Shelf.files c.args.shelf.now) asked (g.S.Shelf.handed c.args.shelf.now))

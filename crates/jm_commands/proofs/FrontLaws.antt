@@ -1,0 +1,376 @@
+-- The first bytes of a file: what is known of the file, and how many were taken.
+use Rattle.std.proofs.Common.{◌≡◌, ◌≢◌, ◌+◌, ◌-◌, ◌≤◌, ℕ, List, [], ◌++◌, length, take, drop, min, replicate, Option, Some, None, option_map}
+use Rattle.std.proofs.Common.{inl, inr, Result, Ok, Err, refl, sym, ap, ◌∙◌, subst, arith}
+use Rattle.std.proofs.lemmas.List.{append_assoc, length-append, length-replicate, length-take, length-drop, take_at, take-take, drop-take, take-append-drop}
+use Rattle.jm_bytes.proofs.Choice.{same_ok, same_some}
+use Rattle.jm_form.specs.declared.container.Header.{Header}
+use Rattle.jm_form.specs.declared.container.HeaderFault.{HeaderFault}
+use Rattle.jm_form.specs.Head.{HoldsHead, IsFileOf, header_of, header_with, index_length}
+use Rattle.jm_form.specs.Damages.{first_damage}
+use Rattle.jm_form.specs.Validity.{ValidAs}
+use Rattle.jm_form.proofs.HeadLaws.{head_read}
+use Rattle.jm_form.proofs.LocalityLaws.{header_same}
+use Rattle.jm_outside.specs.Files.{Files, file, file_length, file_part, part}
+use Rattle.jm_outside.specs.Outcome.{Shows}
+use Rattle.jm_outside.specs.Shelves.{ShelfFailed, ShelfSeen}
+use Rattle.jm_reader.specs.Walk.{entries_of, entries_with}
+use Rattle.jm_texts.specs.InfoText.{header_text, info_text, info_with}
+use Rattle.jm_bytes.specs.Results.{UnlessMemory}
+use Rattle.jm_words.specs.declared.errors.WordsError.{WordsError}
+use Rattle.jm_words.specs.declared.errors.WordsError.TheVariants as error
+use Rattle.jm_words.specs.declared.tasks.Command.{Command}
+use Rattle.jm_words.specs.declared.tasks.ImageWork.{ImageWork}
+use Rattle.jm_words.specs.declared.tasks.ImageWork.TheVariants as work_of
+use Rattle.jm_words.specs.declared.tasks.Task.{Task}
+use Rattle.jm_words.specs.declared.tasks.Task.TheVariants as task
+use Rattle.jm_commands.specs.declared.stop.Stop.{Stop}
+use Rattle.jm_commands.specs.declared.stop.Stop.TheVariants as stop
+use Rattle.jm_commands.specs.Outcome.{Outcome, done, image_outcome, reading}
+use Rattle.jm_commands.specs.Run.{OpenedComesTo, Opens, PutDoes, ReadsFile, StepComesTo, StepOnText, TextComesTo, WorkComesTo}
+use Rattle.jm_commands.specs.Sinks.{Seen}
+use Rattle.jm_commands.specs.World.{world}
+use Rattle.jm_commands.proofs.StepLaws.{file_read, file_unread, image_unopened, put_on_text}
+use Rattle.jm_commands.specs.FileParts.{Comes, ReadsFront, ReadsMore, Adds, HasFront, HasLength, HasPart, IsFrontOf, IsHeadOf, LacksPart}
+use Rattle.jm_commands.specs.Run.{HasFile}
+use Rattle.jm_commands.specs.Taken.{TakesFrom, TakesNoMore, TakesOf, TaskTakes, WorkTakes, front_size, front_with}
+
+-- A told file
+
+module _ (files : Files) (path b : List ℕ) (is : file files path ≡ Some b) where
+  size_of : (size : ℕ) → Some size ≡ file_length files path → length b ≡ size
+  size_of size long = sym (same_some _ _ (long ∙ ap (λ f. option_map (λ bytes. length bytes) f) is))
+
+  part_of : (at count : ℕ) (bytes : List ℕ) → Some bytes ≡ file_part files path at count → bytes ≡ part b at count
+  part_of at count bytes has = same_some _ _ (has ∙ ap (λ f. option_map (λ bytes. part bytes at count) f) is)
+
+  of_part : (at count : ℕ) (bytes : List ℕ) → bytes ≡ part b at count → Some bytes ≡ file_part files path at count
+  of_part at count bytes same = ap (λ l. Some l) same ∙ sym (ap (λ f. option_map (λ bytes. part bytes at count) f) is)
+
+-- a file with a length is there
+no_length : (files : Files) (path : List ℕ) (size : ℕ) → file files path ≡ None → Some size ≡ file_length files path → ⊥
+no_length files path size is long = let none : Some size ≡ None = long ∙ ap (λ f. option_map (λ bytes. length bytes) f) is in cc
+
+-- no file is there
+pub none_there : (told : Option Files) (path : List ℕ) → HasLength told path None → HasFile told path None
+none_there None path none = tt
+none_there (Some files) path none = go (file files path) refl
+  where
+    go : (found : Option (List ℕ)) → file files path ≡ found → None ≡ file files path
+    go None is = sym is
+    go (Some b) is = let some : None ≡ Some (length b) = none ∙ ap (λ f. option_map (λ bytes. length bytes) f) is in cc
+
+-- a part within the length of a file is there
+pub never_lacks : (told : Option Files) (path : List ℕ) (size at count : ℕ) → HasLength told path (Some size) → at + count ≤ size
+    → LacksPart told path at count → HasFile told path None
+never_lacks None path size at count long within lacks = tt
+never_lacks (Some files) path size at count long within lacks = go (file files path) refl
+  where
+    go : (found : Option (List ℕ)) → file files path ≡ found → None ≡ file files path
+    go None is = sym is
+    go (Some b) is =
+        absurd (lacks (part b at count) (of_part files path b is at count (part b at count) refl)
+        (omega (arith, length-take count (drop at b), length-drop at b, size_of files path b is size long, within)))
+
+pub lacks_none : (told : Option Files) (path : List ℕ) (at count : ℕ) → Shows told (λ files. None ≡ file_part files path at count)
+    → LacksPart told path at count
+lacks_none None path at count none = tt
+lacks_none (Some files) path at count none = λ bytes some same. let never : None ≡ Some bytes = none ∙ sym some in cc
+
+pub lacks_short : (told : Option Files) (path : List ℕ) (at count : ℕ) (short : List ℕ) → HasPart told path at count short
+    → length short ≢ count → LacksPart told path at count
+lacks_short None path at count short has other = tt
+lacks_short (Some files) path at count short has other = λ bytes some same.
+    let one : short ≡ bytes = same_some _ _ (has ∙ sym some) in other (ap (λ l. length l) one ∙ same)
+
+-- Fronts
+
+-- a file begins so and has so many bytes
+pub has_front : (told : Option Files) (path front : List ℕ) (size : ℕ) → HasLength told path (Some size)
+    → HasPart told path 0 (length front) front → length front ≤ size → HasFront told path front size
+has_front None path front size long begins within =
+    let zeros : List ℕ = replicate (size - length front) 0 in (
+      front ++ zeros,
+      tt,
+      record {
+        begins = take_at front zeros (length front) refl;
+        length_is = omega (arith, length-append front zeros, length-replicate {A = ℕ} (size - length front) 0, within);
+      },
+    )
+has_front (Some files) path front size long begins within = go (file files path) refl
+  where
+    go : (found : Option (List ℕ)) → file files path ≡ found
+        → (b : List ℕ) × (Some b ≡ file files path) × IsFileOf front size b
+    go None is = absurd (no_length files path size is long)
+    go (Some b) is = (
+      b,
+      sym is,
+      record {
+        begins = sym (part_of files path b is 0 (length front) front begins);
+        length_is = size_of files path b is size long;
+      },
+    )
+
+pub front_there : (told : Option Files) (path front : List ℕ) (size : ℕ) → IsFrontOf told path front size → HasFront told path front size
+front_there told path front size is = has_front told path front size is.size_is is.begins is.holds.within
+
+-- a front and what follows it
+two_parts : (b : List ℕ) (n m : ℕ) → take n b ++ take m (drop n b) ≡ take (n + m) b
+two_parts b n m =
+    let front : take n (take (n + m) b) ≡ take n b = take-take n (n + m) b (omega arith) in
+    let rest : drop n (take (n + m) b) ≡ take m (drop n b) = drop-take n m b in
+    ap (λ l. l ++ take m (drop n b)) (sym front) ∙ ap (λ l. take n (take (n + m) b) ++ l) (sym rest) ∙ take-append-drop n (take (n + m) b)
+
+pub parts_joined : (told : Option Files) (path front more : List ℕ) (count : ℕ) → HasPart told path 0 (length front) front
+    → length more ≡ count → HasPart told path (length front) count more
+    → HasPart told path 0 (length (front ++ more)) (front ++ more)
+parts_joined None path front more count begins long follows = tt
+parts_joined (Some files) path front more count begins long follows = go (file files path) refl
+  where
+    go : (found : Option (List ℕ)) → file files path ≡ found
+        → Some (front ++ more) ≡ file_part files path 0 (length (front ++ more))
+    go None is = let never : Some front ≡ None = begins ∙ ap (λ f. option_map (λ bytes. part bytes 0 (length front)) f) is in cc
+    go (Some b) is =
+        let first : front ≡ take (length front) b = part_of files path b is 0 (length front) front begins in
+        let second : more ≡ take count (drop (length front) b) = part_of files path b is (length front) count more follows in
+        let size : length front + count ≡ length (front ++ more) = omega (arith, length-append front more, long) in
+        of_part files path b is 0 (length (front ++ more)) (front ++ more)
+        (ap (λ l. l ++ more) first ∙ ap (λ l. take (length front) b ++ l) second ∙ two_parts b (length front) count
+        ∙ ap (λ k. take k b) size)
+
+-- the first bytes of a file
+pub head_is : (told : Option Files) (path head : List ℕ) (size : ℕ) → HasLength told path (Some size)
+    → Adds told path [] (min size 28) head → IsHeadOf told path head size
+head_is told path head size long (more, is, count, has) = record {
+  size_is = long;
+  length_is = ap (λ l. length l) is ∙ count;
+  begins = subst (λ (l : List ℕ). HasPart told path 0 (length l) l) (sym is)
+      (subst (λ (k : ℕ). HasPart told path 0 k more) (sym count) has);
+}
+
+pub holds_head : (told : Option Files) (path head : List ℕ) (size : ℕ) → IsHeadOf told path head size → HoldsHead head size
+holds_head told path head size is = omega (arith, is.length_is)
+
+-- without a header they are all
+pub head_alone : (told : Option Files) (path head : List ℕ) (size : ℕ) (fault : HeaderFault) → IsHeadOf told path head size
+    → header_with head size ≡ Err fault → IsFrontOf told path head size
+head_alone told path head size fault is damaged = record {
+  size_is = is.size_is;
+  begins = is.begins;
+  holds = record {
+    within = omega (arith, is.length_is);
+    head = omega (arith, is.length_is);
+    index = λ h found. let never : Ok h ≡ Err fault = sym found ∙ damaged in cc;
+  };
+  ends = λ h found. let never : Ok h ≡ Err fault = sym found ∙ damaged in cc;
+}
+
+-- more bytes behind them leave the header
+header_longer : (head more : List ℕ) (size : ℕ) → HoldsHead head size → length (head ++ more) ≤ size
+    → header_with (head ++ more) size ≡ header_with head size
+header_longer head more size holds within =
+    let zeros : List ℕ = replicate (size - length (head ++ more)) 0 in
+    let long : length (head ++ (more ++ zeros)) ≡ size = omega (
+      arith,
+      length-append head (more ++ zeros),
+      length-append more zeros,
+      length-append head more,
+      length-replicate {A = ℕ} (size - length (head ++ more)) 0,
+      within,
+    ) in
+    let first : IsFileOf head size (head ++ (more ++ zeros)) = record {
+      begins = take_at head (more ++ zeros) (length head) refl;
+      length_is = long;
+    } in
+    let both : IsFileOf (head ++ more) size (head ++ (more ++ zeros)) = record {
+      begins = ap (take (length (head ++ more))) (sym (append_assoc head more zeros)) ∙ take_at (head ++ more) zeros (length (head ++ more)) refl;
+      length_is = long;
+    } in
+    header_same (head ++ more) size (head ++ (more ++ zeros)) both (omega (arith, holds, length-append head more))
+    ∙ sym (header_same head size (head ++ (more ++ zeros)) first holds)
+
+-- the index, if they have a header
+pub front_is : (told : Option Files) (path head front : List ℕ) (size : ℕ) (h : Header) → IsHeadOf told path head size
+    → header_with head size ≡ Ok h → Adds told path head (index_length h - 28) front → IsFrontOf told path front size
+front_is told path head front size h is found (more, same, count, has) =
+    let fits : index_length h ≤ size = (head_read head size h found).fits in
+    let holds : HoldsHead head size = holds_head told path head size is in
+    let long : length (head ++ more) ≡ index_length h = omega (arith, length-append head more, count, is.length_is, fits) in
+    let longer : header_with (head ++ more) size ≡ Ok h = header_longer head more size holds (omega (arith, long, fits)) ∙ found in
+    let ends : (other : Header) → header_with (head ++ more) size ≡ Ok other → length (head ++ more) ≡ index_length other
+    = λ other also. long ∙ ap index_length (same_ok {E = HeaderFault} _ _ (sym longer ∙ also)) in
+    subst (λ (l : List ℕ). IsFrontOf told path l size) (sym same) (record {
+      size_is = is.size_is;
+      begins = parts_joined told path head more (index_length h - 28) is.begins count has;
+      holds = record {
+        within = omega (arith, long, fits);
+        head = omega (arith, holds, length-append head more);
+        index = λ other also. omega (arith, ends other also);
+      };
+      ends = ends;
+    })
+
+-- within the length
+pub head_within : (size : ℕ) → 0 + min size 28 ≤ size
+head_within size = omega arith
+
+pub index_within : (told : Option Files) (path head : List ℕ) (size : ℕ) (h : Header) → IsHeadOf told path head size
+    → header_with head size ≡ Ok h → length head + (index_length h - 28) ≤ size
+index_within told path head size h is found = omega (arith, is.length_is, (head_read head size h found).fits)
+
+-- What was taken
+
+pub takes_nothing : (told : Option Files) (path : List ℕ) (most : List ℕ → ℕ) (n : ℕ) → TakesFrom told path most n n
+takes_nothing None path most n = tt
+takes_nothing (Some files) path most n = go (file files path)
+  where
+    go : (found : Option (List ℕ)) → TakesOf most found n n
+    go None = refl
+    go (Some b) = omega arith
+
+-- of a file that is there
+pub takes_there : (told : Option Files) (path : List ℕ) (most : List ℕ → ℕ) (size old new : ℕ) → HasLength told path (Some size)
+    → ((b : List ℕ) → new ≤ old + most b) → TakesFrom told path most old new
+takes_there None path most size old new long within = tt
+takes_there (Some files) path most size old new long within = go (file files path) refl
+  where
+    go : (found : Option (List ℕ)) → file files path ≡ found → TakesOf most (file files path) old new
+    go None is = absurd (no_length files path size is long)
+    go (Some b) is = subst (λ (f : Option (List ℕ)). TakesOf most f old new) (sym is) (within b)
+
+pub takes_more : (told : Option Files) (path : List ℕ) (most also : List ℕ → ℕ) (old new : ℕ) → ((b : List ℕ) → most b ≤ also b)
+    → TakesFrom told path most old new → TakesFrom told path also old new
+takes_more None path most also old new less takes = tt
+takes_more (Some files) path most also old new less takes = go (file files path) takes
+  where
+    go : (found : Option (List ℕ)) → TakesOf most found old new → TakesOf also found old new
+    go None same = same
+    go (Some b) within = omega (arith, within, less b)
+
+-- a header is taken in any case
+pub head_in_front : (b : List ℕ) → 28 ≤ front_size b
+head_in_front b = go (header_of b)
+  where
+    go : (r : Result Header HeaderFault) → 28 ≤ front_with r
+    go (Ok h) = omega arith
+    go (Err fault) = omega arith
+
+-- behind the head the rest of the index
+pub takes_index : (told : Option Files) (path head : List ℕ) (size : ℕ) (h : Header) (old mid new : ℕ) → IsHeadOf told path head size
+    → header_with head size ≡ Ok h → TakesFrom told path (λ b. 28) old mid → new ≤ mid + (index_length h - 28)
+    → TakesFrom told path front_size old new
+takes_index None path head size h old mid new is found takes rest = tt
+takes_index (Some files) path head size h old mid new is found takes rest = go (file files path) refl takes
+  where
+    go : (f : Option (List ℕ)) → file files path ≡ f → TakesOf (λ b. 28) f old mid → TakesOf front_size (file files path) old new
+    go None none takes = absurd (no_length files path size none is.size_is)
+    go (Some b) some takes =
+        let whole : IsFileOf head size b = record {
+          begins = sym (part_of files path b some 0 (length head) head is.begins);
+          length_is = size_of files path b some size is.size_is;
+        } in
+        let header : header_of b ≡ Ok h = sym (header_same head size b whole (holds_head (Some files) path head size is)) ∙ found in
+        let most : front_size b ≡ index_length h = ap front_with header in
+        subst (λ (f : Option (List ℕ)). TakesOf front_size f old new) (sym some) (omega (arith, takes, rest, most))
+
+-- An answer with nothing there
+
+-- a complaint holds of the file that isn't there
+refused : {A B : Type 0} (path : List ℕ) (Is : A → Type 0) (Also : B → Type 0) (Lacks NotThere : Type 0) (given : Stop)
+    → (Lacks → NotThere) → Comes path Is Lacks (Err given) → Comes path Also NotThere (Err given)
+refused path Is Also Lacks NotThere (stop.Complaint given) follows (lacks, is) = (follows lacks, is)
+refused path Is Also Lacks NotThere stop.Outside follows read = tt
+refused path Is Also Lacks NotThere stop.Memory follows read = tt
+
+-- no more was read of a file that has so many bytes, where they would be within them
+pub unextended : {B : Type 0} (told mid : Option Files) (path old new : List ℕ) (Also : B → Type 0) (size count more : ℕ) (given : Stop)
+    → mid ≡ told → HasLength told path (Some size) → more ≡ count → length old + count ≤ size
+    → ReadsMore mid path old more new (Err given) → Comes path Also (HasFile told path None) (Err given)
+unextended told mid path old new Also size count more given same long counted within read =
+    refused {A = Unit {0}} path (λ done. Adds mid path old more new) Also (LacksPart mid path (length old) more) (HasFile told path None) given
+    (λ lacks. never_lacks told path size (length old) count long within (subst (λ (t : Option Files). LacksPart t path (length old) count) same
+    (subst (λ (k : ℕ). LacksPart mid path (length old) k) counted lacks))) read
+
+unread : (told : Option Files) (path : List ℕ) (given : Stop) → ReadsFront told path (Err given) → ReadsFile told path (Err given)
+unread told path (stop.Complaint given) read = read
+unread told path stop.Outside read = tt
+unread told path stop.Memory read = tt
+
+opens_as : (A B : Type 0) (b : List ℕ) (given : Stop) → Opens {A = A} b (Err given) → Opens {A = B} b (Err given)
+opens_as A B b (stop.Complaint given) opens = opens
+opens_as A B b stop.Outside never = absurd never
+opens_as A B b stop.Memory opens = tt
+
+-- A work on an image by its index
+
+module _ (work : ImageWork) (path : List ℕ) (shelf mid : ShelfSeen) (source : Seen (List ℕ)) where
+  abbrev comes : List ℕ → Outcome → Type 0
+  comes b = OpenedComesTo (TextComesTo source.told (image_outcome work b)) (first_damage b)
+
+  module _ (front : List ℕ) (size : ℕ) (is : IsFrontOf shelf.told path front size) (same : mid.told ≡ shelf.told) (kept : mid.faults ≡ shelf.faults) where
+    -- what it puts is due of each file with this front
+    pub index_put : (text : List ℕ → List ℕ) (answer : Result (Unit {0}) Stop) (out new_out : Seen (List ℕ))
+        → ((b t : List ℕ) → image_outcome work b t ≡ done (text b))
+        → ((b : List ℕ) → IsFileOf front size b → first_damage b ≡ None)
+        → ((b : List ℕ) → IsFileOf front size b → PutDoes (done (text b)) answer out new_out)
+        → StepComesTo (WorkComesTo shelf.told source.told path work) reading answer (world shelf source out) (world mid source new_out)
+    index_put text answer out new_out puts sound put =
+        let found = front_there shelf.told path front size is in
+        let b = found.0 in
+        let step : StepOnText (image_outcome work b) answer (world mid source out) (world mid source new_out) =
+        put_on_text (image_outcome work b) (done (text b)) answer (world mid source out) (world mid source new_out) (put b found.2) refl refl refl (λ ok. (refl, refl)) (puts b) in
+        file_read comes path b shelf (world mid source out) (world mid source new_out) answer found.1 same kept (rw (sound b found.2) step)
+
+    -- each file with this front has a damage
+    pub index_unopened : (A : Type 0) (given : Stop) (out : Seen (List ℕ)) → ((b : List ℕ) → IsFileOf front size b → Opens {A = A} b (Err given))
+        → StepComesTo (WorkComesTo shelf.told source.told path work) reading (Err given) (world shelf source out) (world mid source out)
+    index_unopened A given out opens =
+        let found = front_there shelf.told path front size is in
+        let b = found.0 in
+        file_read comes path b shelf (world mid source out) (world mid source out) (Err given) found.1 same kept
+        (image_unopened (TextComesTo source.told (image_outcome work b)) b given (world mid source out) (opens_as A (List ℕ) b given (opens b found.2)))
+
+  -- no file is there, or its front wasn't read
+  pub front_unread : (given : Stop) (out : Seen (List ℕ)) → ReadsFront shelf.told path (Err given) → mid.told ≡ shelf.told
+      → (given ≡ stop.Outside → ShelfFailed shelf mid)
+      → StepComesTo (WorkComesTo shelf.told source.told path work) reading (Err given) (world shelf source out) (world mid source out)
+  front_unread given out read same failed =
+      file_unread comes path given (world shelf source out) (world mid source out) (unread shelf.told path given read)
+      (record { files = same; source = refl; output = refl }) failed
+
+-- What is put
+
+pub info_is : (b : List ℕ) (h : Header) (size : ℕ) → header_of b ≡ Ok h → length b ≡ size → header_text h (size - index_length h) ≡ info_text b
+info_is b h size header long = ap (λ k. header_text h (k - index_length h)) (sym long) ∙ ap (info_with b) (sym header)
+
+pub count_is : (b : List ℕ) (h : Header) → ValidAs b h → h.count ≡ length (entries_of b)
+count_is b h valid = valid.count ∙ ap (λ r. length (entries_with b r)) (sym valid.header)
+
+-- A run
+
+work_takes_nothing : (told : Option Files) (path : List ℕ) (does : ImageWork) (n : ℕ) → WorkTakes told path does n n
+work_takes_nothing told path work_of.Info n = takes_nothing told path front_size n
+work_takes_nothing told path work_of.Verify n = takes_nothing told path front_size n
+work_takes_nothing told path (work_of.Cat name) n = tt
+work_takes_nothing told path (work_of.List include) n = tt
+work_takes_nothing told path (work_of.Ls folder) n = tt
+work_takes_nothing told path (work_of.Extract dir include) n = tt
+work_takes_nothing told path work_of.Serve n = tt
+
+task_takes_nothing : (told : Option Files) (given : Task) (n : ℕ) → TaskTakes told given n n
+task_takes_nothing told (task.Image image does) n = work_takes_nothing told image does n
+task_takes_nothing told (task.Link link) n = tt
+task_takes_nothing told (task.Gen gen) n = tt
+task_takes_nothing told (task.Describe file) n = tt
+task_takes_nothing told task.Help n = tt
+task_takes_nothing told task.Version n = tt
+
+-- words that weren't read to a command take nothing
+pub words_take_nothing : (told : Option Files) (asked : Result Command WordsError) (n : ℕ) → TakesNoMore told asked n n
+words_take_nothing told (Ok command) n = task_takes_nothing told command.task n
+words_take_nothing told (Err fault) n = tt
+
+-- words that were read to a command take what its task does
+pub words_take : (told : Option Files) (asked : Result Command WordsError) (given : Command) (old new : ℕ)
+    → UnlessMemory error.Memory (Ok given) asked → TaskTakes told given.task old new → TakesNoMore told asked old new
+words_take told asked given old new (inl memory) takes = cc
+words_take told asked given old new (inr read) takes = subst (λ (a : Result Command WordsError). TakesNoMore told a old new) read takes

@@ -1,0 +1,14 @@
+use Rattle.jm_commands.specs.declared.front.FileFront.{FileFront}
+use Rattle.jm_commands.specs.FileParts.{IsHeadOf}
+use Rattle.jm_commands.proofs.FrontLaws.{head_within, unextended}
+use Rattle.jm_commands.proofs.StepLaws.{from_stop}
+use Rattle.jm_commands.proofs.front.file_head.Goals as goal
+
+pub returns-in_err-extend_front-clause-reads : goal.returns-in_err-extend_front-clause-reads
+returns-in_err-extend_front-clause-reads g c =
+    let told = g.S.Shelf.files c.args.shelf.now in
+    let size = c.in_ok-length.length in
+    let is = from_stop c.from_residual-in_err-extend_front.result _ c.from_residual-in_err-extend_front.ensures.1 in
+    rw is (unextended {B = FileFront} told _ c.args.path.now c.new-bytes.result c.extend_front.new.front
+    (λ head. IsHeadOf told c.args.path.now head.bytes head.length) size _ _ c.in_err-extend_front.field-0.0 c.file_length.ensures.files
+    c.in_ok-length.ensures.reads c.min-count.ensures (rw c.new-bytes.ensures (head_within size)) c.in_err-extend_front.ensures.reads)

@@ -1,0 +1,145 @@
+//! The first bytes of a file, up to the end of an image's index.
+ghost use Rattle.std.specs.Prelude.{◌≡◌, ◌≤◌, ◌<◌, ◌+◌, ℕ, List, IfOk, IsOk, IsErrOf, IsUtf8};
+ghost use Rattle.jm_form.specs.Head.{HoldsIndex, IsFileOf};
+ghost use Rattle.jm_outside.specs.Outcome.{CountsFaults};
+ghost use Rattle.jm_commands.specs.FileParts.{ReadsFront, ReadsHead, ReadsLength, ReadsMore};
+ghost use Rattle.jm_commands.specs.Run.{Opens};
+ghost use Rattle.jm_commands.specs.Taken.{TakesFrom, front_size};
+
+use crate::complaint::Complaint;
+use crate::stop::Stop;
+use crate::workers::Workers;
+use jm_bytes::{NoMemory, Text};
+use jm_form::read_header_of;
+use jm_halves::Gate;
+use jm_outside::Shelf;
+use jm_valid::{Index, OpenError, open_index};
+use std::alloc::Global;
+use std::thread::Threads;
+
+/// How many bytes a header has.
+const HEADER_LENGTH: usize = 28;
+
+/// The first bytes of a file, and how many bytes it has.
+#[derive(Drop)]
+pub struct FileFront {
+    pub bytes: Text,
+    pub length: u64,
+}
+
+/// The complaint that no file is at a path.
+fn not_there(alloc: Global, path: &Text) -> Result<Complaint, NoMemory>
+    ensures { IfOk result (λ given. given ≡ Complaint.NotThere path.now) }
+{
+    Ok(Complaint::NotThere(Text::copy_of(alloc, path.as_slice())?))
+}
+
+/// How many bytes the file at a path has.
+fn file_length<S: Shelf>(alloc: Global, path: &Text, shelf: &mut S) -> Result<u64, Stop>
+    requires { IsUtf8 path.now }
+    ensures files { S.files shelf.new ≡ S.files shelf.old }
+    ensures reads { ReadsLength (S.files shelf.old) path.now result }
+    ensures handed { S.handed shelf.new ≡ S.handed shelf.old }
+    ensures faults { CountsFaults (S.faults shelf.old) (S.faults shelf.new) (IsOk result)
+        (IsErrOf result Stop.Outside) }
+{
+    match shelf.length(alloc, path.as_slice()) {
+        Ok(Some(length)) => Ok(length),
+        Ok(None) => {
+            let given = not_there(alloc, path)?;
+            Err(Stop::Complaint(given))
+        }
+        Err(error) => Err(Stop::from(error)),
+    }
+}
+
+/// Adds to the first bytes of a file those that follow, so many. Where the file has fewer, it isn't
+/// the one whose length was asked for, and counts as one that isn't there.
+fn extend_front<S: Shelf>(
+    alloc: Global,
+    path: &Text,
+    front: &mut Text,
+    count: usize,
+    shelf: &mut S,
+) -> Result<(), Stop>
+    requires { IsUtf8 path.now }
+    ensures files { S.files shelf.new ≡ S.files shelf.old }
+    ensures reads { ReadsMore (S.files shelf.old) path.now front.old count front.new result }
+    ensures handed { S.handed shelf.new ≤ S.handed shelf.old + count }
+    ensures faults { CountsFaults (S.faults shelf.old) (S.faults shelf.new) (IsOk result)
+        (IsErrOf result Stop.Outside) }
+{
+    match shelf.read_part(alloc, path.as_slice(), front.len() as u64, count) {
+        Ok(Some(more)) if more.len() == count => {
+            front.extend(more.as_slice())?;
+            Ok(())
+        }
+        Ok(_) => {
+            let given = not_there(alloc, path)?;
+            Err(Stop::Complaint(given))
+        }
+        Err(error) => Err(Stop::from(error)),
+    }
+}
+
+/// The first bytes of the file at a path, 28 or all.
+fn file_head<S: Shelf>(alloc: Global, path: &Text, shelf: &mut S) -> Result<FileFront, Stop>
+    requires { IsUtf8 path.now }
+    ensures files { S.files shelf.new ≡ S.files shelf.old }
+    ensures reads { ReadsHead (S.files shelf.old) path.now result }
+    ensures takes { TakesFrom (S.files shelf.old) path.now (λ b. 28)
+        (S.handed shelf.old) (S.handed shelf.new) }
+    ensures faults { CountsFaults (S.faults shelf.old) (S.faults shelf.new) (IsOk result)
+        (IsErrOf result Stop.Outside) }
+{
+    let length = file_length(alloc, path, shelf)?;
+    let mut bytes = Text::new(alloc);
+    let count = length.min(HEADER_LENGTH as u64) as usize;
+    extend_front(alloc, path, &mut bytes, count, shelf)?;
+    Ok(FileFront { bytes, length })
+}
+
+/// The first bytes of the file at a path: its index and no more, if it has a header.
+pub fn file_front<S: Shelf>(alloc: Global, path: &Text, shelf: &mut S) -> Result<FileFront, Stop>
+    requires { IsUtf8 path.now }
+    ensures files { S.files shelf.new ≡ S.files shelf.old }
+    ensures reads { ReadsFront (S.files shelf.old) path.now result }
+    ensures takes { TakesFrom (S.files shelf.old) path.now front_size
+        (S.handed shelf.old) (S.handed shelf.new) }
+    ensures faults { CountsFaults (S.faults shelf.old) (S.faults shelf.new) (IsOk result)
+        (IsErrOf result Stop.Outside) }
+{
+    let FileFront { mut bytes, length } = file_head(alloc, path, shelf)?;
+    match read_header_of(bytes.as_slice(), length) {
+        Ok(header) => {
+            let count = header.contents_place() - HEADER_LENGTH;
+            extend_front(alloc, path, &mut bytes, count, shelf)?;
+            Ok(FileFront { bytes, length })
+        }
+        Err(_) => Ok(FileFront { bytes, length }),
+    }
+}
+
+/// Opens the index of the image that is a file with this front, on all jobs.
+pub fn open_front<'a, T: Threads + Sync, G: Gate + Sync>(
+    workers: &Workers<T, G>,
+    front: &'a FileFront,
+) -> Result<Index<'a>, Stop>
+    requires jobs { 0 < workers.now.jobs }
+    requires holds { HoldsIndex front.now.bytes front.now.length }
+    ensures bytes { IfOk result (λ index. index.bytes ≡ front.now.bytes) }
+    ensures length { IfOk result (λ index. index.length ≡ front.now.length) }
+    ensures opens { (b : List ℕ) → IsFileOf front.now.bytes front.now.length b → Opens b result }
+{
+    let Workers {
+        rt,
+        alloc,
+        jobs,
+        gate,
+    } = *workers;
+    match open_index(rt, alloc, jobs, front.bytes.as_slice(), front.length, gate) {
+        Ok(index) => Ok(index),
+        Err(OpenError::Damaged(damage)) => Err(Stop::Complaint(Complaint::Damaged(damage))),
+        Err(OpenError::Memory) => Err(Stop::Memory),
+    }
+}
