@@ -17,7 +17,8 @@ pub enum Reason {
     NotText,
     /// A file or a folder went away while its folder was listed.
     Vanished,
-    /// The file gave more or fewer bytes than it had when it was opened.
+    /// The file gave more or fewer bytes than it had when it was opened, or fewer than its length
+    /// that was told.
     Changed,
     /// What is to be replaced, or to be read in parts, is neither a file nor a link to one.
     NotFile,

@@ -178,14 +178,15 @@ impl<'a, R: Files + AllocGlobal> Shelf for FileShelf<'a, R> {
     /// that is open has the length that it has by now.
     fn length(&mut self, alloc: Global, path: &[u8]) -> Result<Option<u64>, ShelfError> {
         self.open(alloc, path)?;
-        let Some(file) = &self.parted else {
+        let Some(file) = &mut self.parted else {
             return Ok(None);
         };
         let answer = file.length();
         Ok(Some(self.judge(alloc, path, answer)?))
     }
 
-    /// None and a fault as `length`. A file that got shorter gives fewer bytes, or none.
+    /// None and a fault as `length`. Fewer bytes than the length that was told last promises are a
+    /// fault: the file got shorter.
     fn read_part(
         &mut self,
         alloc: Global,

@@ -11,11 +11,13 @@ use std::fs::OpenFile;
 use std::io::{Read, Seek, SeekFrom};
 use std::rt::Files;
 
-/// A file that is open to be read in parts, and the path at which it stood when it was opened.
+/// A file that is open to be read in parts, the path at which it stood when it was opened, and the
+/// length that was told of it last.
 #[derive(Drop)]
 pub struct PartedFile<F: Read + Seek + OpenFile + Drop> {
     path: String,
     file: F,
+    told_length: u64,
 }
 
 /// The file of a path: the one that was kept, if it is for this path, and else the one that stands
@@ -44,25 +46,35 @@ fn open_at<R: Files + AllocGlobal>(
         return Err(FileError::from(Reason::NotFile));
     }
     let path = String::from_str(rt.alloc(), path)?;
-    Ok(Some(PartedFile { path, file }))
+    Ok(Some(PartedFile {
+        path,
+        file,
+        told_length: 0,
+    }))
 }
 
 impl<F: Read + Seek + OpenFile + Drop> PartedFile<F> {
-    /// How many bytes the file has now.
-    pub fn length(&self) -> Result<u64, FileError> {
-        Ok(self.file.metadata()?.len())
+    /// How many bytes the file has now, which is told.
+    pub fn length(&mut self) -> Result<u64, FileError> {
+        self.told_length = self.file.metadata()?.len();
+        Ok(self.told_length)
     }
 
-    /// The bytes from a place on, so many or as many as the file has there now.
+    /// The bytes from a place on, so many or as many as the file has there now. Fewer than there
+    /// were by the length that was told last are a fault.
     pub fn part(&mut self, alloc: Global, at: u64, count: usize) -> Result<Text, FileError>
         ensures { IfOk result (λ text. length text ≤ count) }
     {
-        let rest = self.length()?.saturating_sub(at) as usize;
+        let rest = self.file.metadata()?.len().saturating_sub(at) as usize;
         let mut bytes = Vec::new(alloc);
         // The system takes no place that is far behind the end.
         if rest > 0 {
             self.file.seek(SeekFrom::Start(at))?;
             read_up_to(&mut self.file, count.min(rest), &mut bytes)?;
+        }
+        let told = self.told_length.saturating_sub(at) as usize;
+        if bytes.len() < count.min(told) {
+            return Err(FileError::from(Reason::Changed));
         }
         Ok(Text::from_vec(bytes))
     }

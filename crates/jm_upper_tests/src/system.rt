@@ -156,20 +156,22 @@ fn open_now<R: Files + AllocGlobal>(
     Ok(format!(in alloc; "{length} {part}")?)
 }
 
-/// What that file has; then, when it got shorter; and when another file has its name.
+/// What that file has; then, when it got shorter, whether a part fails that its length promised, and
+/// what it has by its new length; and when another file has its name.
 fn kept_open<R: Files + AllocGlobal>(rt: &R) -> Result<String, Fail> {
     let alloc = rt.alloc();
     let mut shelf = FileShelf::new(rt);
     fs::write(rt, "open", "abcdef")?;
     let whole = open_now(alloc, &mut shelf)?;
     fs::write(rt, "open", "ab")?;
+    let is_lost = shelf.read_part(alloc, b"open", 1, 3).is_err();
     let shorter = open_now(alloc, &mut shelf)?;
     fs::write(rt, "other", "123456")?;
     fs::rename(rt, "other", "open")?;
     let same = open_now(alloc, &mut shelf)?;
     shelf.finish(alloc)?;
     let other = open_now(alloc, &mut shelf)?;
-    Ok(format!(in alloc; "{whole}, {shorter}, {same}, {other}")?)
+    Ok(format!(in alloc; "{whole}, {is_lost}, {shorter}, {same}, {other}")?)
 }
 
 #[test]
@@ -187,7 +189,7 @@ fn the_system_keeps_files(rt: HostRuntime) -> Result<(), Fail> {
         assert_eq!(rt; shelf.last_failure(), *failure, "{shows}");
     }
     assert_eq!(rt; given_up(&rt)?.as_str(), "55555 false 333 false");
-    assert_eq!(rt; kept_open(&rt)?.as_str(), "6 bcd, 2 b, 2 b, 6 234");
+    assert_eq!(rt; kept_open(&rt)?.as_str(), "6 bcd, true, 2 b, 2 b, 6 234");
     let mut sink = StdSink::new(fs::create(&rt, "stream")?);
     assert_eq!(rt; put_marks(rt.alloc(), &mut sink)?.as_str(), "...");
     let mut source = StdSource::new(fs::open(&rt, "stream")?);
