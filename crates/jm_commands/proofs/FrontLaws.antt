@@ -1,7 +1,9 @@
 -- The first bytes of a file: what is known of the file, and how many were taken.
-use Rattle.std.proofs.Common.{◌≡◌, ◌≢◌, ◌+◌, ◌-◌, ◌≤◌, ℕ, List, [], ◌++◌, length, take, drop, min, replicate, Option, Some, None, option_map}
+use Rattle.std.proofs.Common.{◌≡◌, ◌≢◌, ◌+◌, ◌-◌, ◌≤◌, ℕ, List, [], ◌++◌}
+use Rattle.std.proofs.Common.{length, take, drop, min, replicate, Option, Some, None, option_map}
 use Rattle.std.proofs.Common.{inl, inr, Result, Ok, Err, refl, sym, ap, ◌∙◌, subst, arith}
-use Rattle.std.proofs.lemmas.List.{append_assoc, length-append, length-replicate, length-take, length-drop, take_at, take-take, drop-take, take-append-drop}
+use Rattle.std.proofs.lemmas.List.{append_assoc, length-append, length-replicate, length-take}
+use Rattle.std.proofs.lemmas.List.{length-drop, take_at, take-take, drop-take, take-append-drop}
 use Rattle.jm_bytes.proofs.Choice.{same_ok, same_some}
 use Rattle.jm_form.specs.declared.container.Header.{Header}
 use Rattle.jm_form.specs.declared.container.HeaderFault.{HeaderFault}
@@ -182,7 +184,8 @@ header_longer head more size holds within =
       length_is = long;
     } in
     let both : IsFileOf (head ++ more) size (head ++ (more ++ zeros)) = record {
-      begins = ap (take (length (head ++ more))) (sym (append_assoc head more zeros)) ∙ take_at (head ++ more) zeros (length (head ++ more)) refl;
+      begins = ap (take (length (head ++ more))) (sym (append_assoc head more zeros)) ∙ take_at (head ++ more) zeros (length
+          (head ++ more)) refl;
       length_is = long;
     } in
     header_same (head ++ more) size (head ++ (more ++ zeros)) both (omega (arith, holds, length-append head more))
@@ -286,8 +289,10 @@ pub unextended : {B : Type 0} (told mid : Option Files) (path old new : List ℕ
     → mid ≡ told → HasLength told path (Some size) → more ≡ count → length old + count ≤ size
     → ReadsMore mid path old more new (Err given) → Comes path Also (HasFile told path None) (Err given)
 unextended told mid path old new Also size count more given same long counted within read =
-    refused {A = Unit {0}} path (λ done. Adds mid path old more new) Also (LacksPart mid path (length old) more) (HasFile told path None) given
-    (λ lacks. never_lacks told path size (length old) count long within (subst (λ (t : Option Files). LacksPart t path (length old) count) same
+    refused {A = Unit {0}} path (λ done. Adds mid path old more new) Also (LacksPart mid path (length old) more) (HasFile told
+        path None) given
+    (λ lacks. never_lacks told path size (length old) count long within (subst (λ (t : Option Files). LacksPart t path (length
+        old) count) same
     (subst (λ (k : ℕ). LacksPart mid path (length old) k) counted lacks))) read
 
 unread : (told : Option Files) (path : List ℕ) (given : Stop) → ReadsFront told path (Err given) → ReadsFile told path (Err given)
@@ -306,7 +311,8 @@ module _ (work : ImageWork) (path : List ℕ) (shelf mid : ShelfSeen) (source : 
   abbrev comes : List ℕ → Outcome → Type 0
   comes b = OpenedComesTo (TextComesTo source.told (image_outcome work b)) (first_damage b)
 
-  module _ (front : List ℕ) (size : ℕ) (is : IsFrontOf shelf.told path front size) (same : mid.told ≡ shelf.told) (kept : mid.faults ≡ shelf.faults) where
+  module _ (front : List ℕ) (size : ℕ) (is : IsFrontOf shelf.told path front size) (same : mid.told ≡ shelf.told) (kept :
+      mid.faults ≡ shelf.faults) where
     -- what it puts is due of each file with this front
     pub index_put : (text : List ℕ → List ℕ) (answer : Result (Unit {0}) Stop) (out new_out : Seen (List ℕ))
         → ((b t : List ℕ) → image_outcome work b t ≡ done (text b))
@@ -317,17 +323,20 @@ module _ (work : ImageWork) (path : List ℕ) (shelf mid : ShelfSeen) (source : 
         let found = front_there shelf.told path front size is in
         let b = found.0 in
         let step : StepOnText (image_outcome work b) answer (world mid source out) (world mid source new_out) =
-        put_on_text (image_outcome work b) (done (text b)) answer (world mid source out) (world mid source new_out) (put b found.2) refl refl refl (λ ok. (refl, refl)) (puts b) in
+        put_on_text (image_outcome work b) (done (text b)) answer (world mid source out) (world mid source new_out) (put b
+            found.2) refl refl refl (λ ok. (refl, refl)) (puts b) in
         file_read comes path b shelf (world mid source out) (world mid source new_out) answer found.1 same kept (rw (sound b found.2) step)
 
     -- each file with this front has a damage
-    pub index_unopened : (A : Type 0) (given : Stop) (out : Seen (List ℕ)) → ((b : List ℕ) → IsFileOf front size b → Opens {A = A} b (Err given))
+    pub index_unopened : (A : Type 0) (given : Stop) (out : Seen (List ℕ)) → ((b : List ℕ) → IsFileOf front size b → Opens {A =
+        A} b (Err given))
         → StepComesTo (WorkComesTo shelf.told source.told path work) reading (Err given) (world shelf source out) (world mid source out)
     index_unopened A given out opens =
         let found = front_there shelf.told path front size is in
         let b = found.0 in
         file_read comes path b shelf (world mid source out) (world mid source out) (Err given) found.1 same kept
-        (image_unopened (TextComesTo source.told (image_outcome work b)) b given (world mid source out) (opens_as A (List ℕ) b given (opens b found.2)))
+        (image_unopened (TextComesTo source.told (image_outcome work b)) b given (world mid source out) (opens_as A (List ℕ) b
+            given (opens b found.2)))
 
   -- no file is there, or its front wasn't read
   pub front_unread : (given : Stop) (out : Seen (List ℕ)) → ReadsFront shelf.told path (Err given) → mid.told ≡ shelf.told
@@ -339,7 +348,8 @@ module _ (work : ImageWork) (path : List ℕ) (shelf mid : ShelfSeen) (source : 
 
 -- What is put
 
-pub info_is : (b : List ℕ) (h : Header) (size : ℕ) → header_of b ≡ Ok h → length b ≡ size → header_text h (size - index_length h) ≡ info_text b
+pub info_is : (b : List ℕ) (h : Header) (size : ℕ) → header_of b ≡ Ok h → length b ≡ size → header_text h (size - index_length
+    h) ≡ info_text b
 info_is b h size header long = ap (λ k. header_text h (k - index_length h)) (sym long) ∙ ap (info_with b) (sym header)
 
 pub count_is : (b : List ℕ) (h : Header) → ValidAs b h → h.count ≡ length (entries_of b)

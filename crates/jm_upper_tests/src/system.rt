@@ -156,8 +156,8 @@ fn open_now<R: Files + AllocGlobal>(
     Ok(format!(in alloc; "{length} {part}")?)
 }
 
-/// What that file has; then, when it got shorter, whether a part fails that its length promised, and
-/// what it has by its new length; and when another file has its name.
+/// What that file has; then, when it got shorter, whether a part fails that its length promised,
+/// and what it has by its new length; and when another file has its name.
 fn kept_open<R: Files + AllocGlobal>(rt: &R) -> Result<String, Fail> {
     let alloc = rt.alloc();
     let mut shelf = FileShelf::new(rt);
