@@ -290,9 +290,9 @@ pub unextended : {B : Type 0} (told mid : Option Files) (path old new : List ℕ
     → ReadsMore mid path old more new (Err given) → Comes path Also (HasFile told path None) (Err given)
 unextended told mid path old new Also size count more given same long counted within read =
     refused {A = Unit {0}} path (λ done. Adds mid path old more new) Also (LacksPart mid path (length old) more) (HasFile told
-        path None) given
+    path None) given
     (λ lacks. never_lacks told path size (length old) count long within (subst (λ (t : Option Files). LacksPart t path (length
-        old) count) same
+    old) count) same
     (subst (λ (k : ℕ). LacksPart mid path (length old) k) counted lacks))) read
 
 unread : (told : Option Files) (path : List ℕ) (given : Stop) → ReadsFront told path (Err given) → ReadsFile told path (Err given)
@@ -324,7 +324,7 @@ module _ (work : ImageWork) (path : List ℕ) (shelf mid : ShelfSeen) (source : 
         let b = found.0 in
         let step : StepOnText (image_outcome work b) answer (world mid source out) (world mid source new_out) =
         put_on_text (image_outcome work b) (done (text b)) answer (world mid source out) (world mid source new_out) (put b
-            found.2) refl refl refl (λ ok. (refl, refl)) (puts b) in
+        found.2) refl refl refl (λ ok. (refl, refl)) (puts b) in
         file_read comes path b shelf (world mid source out) (world mid source new_out) answer found.1 same kept (rw (sound b found.2) step)
 
     -- each file with this front has a damage
@@ -336,7 +336,7 @@ module _ (work : ImageWork) (path : List ℕ) (shelf mid : ShelfSeen) (source : 
         let b = found.0 in
         file_read comes path b shelf (world mid source out) (world mid source out) (Err given) found.1 same kept
         (image_unopened (TextComesTo source.told (image_outcome work b)) b given (world mid source out) (opens_as A (List ℕ) b
-            given (opens b found.2)))
+        given (opens b found.2)))
 
   -- no file is there, or its front wasn't read
   pub front_unread : (given : Stop) (out : Seen (List ℕ)) → ReadsFront shelf.told path (Err given) → mid.told ≡ shelf.told

@@ -13,10 +13,10 @@ returns-in_err-extend_front-in-Ok-clause-reads g c =
     let is = from_stop c.from_residual-in_err-extend_front-in-Ok.result _ c.from_residual-in_err-extend_front-in-Ok.ensures.1 in
     rw is (unextended {B = FileFront} told _ c.args.path.now head.bytes c.extend_front.new.front
     (λ front. IsFrontOf told c.args.path.now front.bytes front.length) head.length _ _ c.in_err-extend_front-in-Ok.field-0.0
-        c.file_head.ensures.files
+    c.file_head.ensures.files
     c.in_ok-bytes.ensures.reads.size_is (ap (λ k. k - 28) c.contents_place-count.ensures)
     (index_within told c.args.path.now head.bytes head.length c.in-Ok.header c.in_ok-bytes.ensures.reads found)
-        c.in_err-extend_front-in-Ok.ensures.reads)
+    c.in_err-extend_front-in-Ok.ensures.reads)
 
 pub returns-in_err-extend_front-in-Ok-clause-takes : goal.returns-in_err-extend_front-in-Ok-clause-takes
 returns-in_err-extend_front-in-Ok-clause-takes g c =

@@ -23,10 +23,12 @@ returns-in-Ok g c =
     let b = c.as_slice-bytes.result.now in
     let due : List ℕ → Outcome → Type 0 = λ bytes. TextComesTo (g.I.Source.rest c.args.input.now) (image_outcome c.args.work.now bytes) in
     file_read (λ bytes. OpenedComesTo (due bytes) (first_damage bytes)) c.args.path.now b _ _ _ _
-    (rw c.as_slice-bytes.ensures read.reads) read.files (read.faults.kept refl) (image_unopened (due b) b c.in-Err-of.stop _ c.in-Err-of.ensures.opens)
+    (rw c.as_slice-bytes.ensures read.reads) read.files (read.faults.kept refl) (image_unopened (due b) b c.in-Err-of.stop _
+    c.in-Err-of.ensures.opens)
 
 pub returns : goal.returns
 returns g c =
     let read = c.in-Err.ensures in
     let due : List ℕ → Outcome → Type 0 = λ bytes. TextComesTo (g.I.Source.rest c.args.input.now) (image_outcome c.args.work.now bytes) in
-    file_unread (λ bytes. OpenedComesTo (due bytes) (first_damage bytes)) c.args.path.now c.in-Err.stop _ _ read.reads (record { files = read.files; source = refl; output = refl }) (λ failed. read.faults.rose (rw failed refl))
+    file_unread (λ bytes. OpenedComesTo (due bytes) (first_damage bytes)) c.args.path.now c.in-Err.stop _ _ read.reads
+    (record { files = read.files; source = refl; output = refl }) (λ failed. read.faults.rose (rw failed refl))

@@ -20,7 +20,7 @@ returns-in-Ok-clause-comes g c source =
     let front = c.in-Ok.front in
     index_unopened work.Info c.args.path.now (shelf_at g.S.Shelf c.args.shelf.now) (shelf_at g.S.Shelf c.file_front.new.shelf) source
     front.bytes front.length read.reads read.files (read.faults.kept refl) Front c.in-Err-open_front.stop _
-        c.in-Err-open_front.ensures.opens
+    c.in-Err-open_front.ensures.opens
 
 pub returns-clause-comes : goal.returns-clause-comes
 returns-clause-comes g c source =

@@ -19,5 +19,5 @@ returns g c b file =
     = omega (arith, c.saturating_sub-contents.ensures, c.length.ensures, c.contents_place.ensures) in
     let text : c.as_bytes.result.now ≡ info_text b
     = c.as_bytes.ensures.value ∙ c.in_ok-text.ensures ∙ ap (header_text h) sizes ∙ info_is b h c.args.index.now.length
-        valid.header file.length_is in
+    valid.header file.length_is in
     rw (sym text) c.put_output.ensures

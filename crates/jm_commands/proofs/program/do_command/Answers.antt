@@ -18,10 +18,12 @@ pub returns-in-Describe-clause-comes : goal.returns-in-Describe-clause-comes
 returns-in-Describe-clause-comes g c = rw c.in-Describe.is (c.describe_command.ensures _)
 
 pub returns-in-Help-clause-comes : goal.returns-in-Help-clause-comes
-returns-in-Help-clause-comes g c = rw c.in-Help.is (put_comes (λ due. due ≡ done help_text) without_files (done help_text) _ _ _ refl c.help_command.ensures refl refl refl (λ ok. (refl, refl)))
+returns-in-Help-clause-comes g c = rw c.in-Help.is (put_comes (λ due. due ≡ done help_text) without_files (done help_text) _ _ _
+    refl c.help_command.ensures refl refl refl (λ ok. (refl, refl)))
 
 pub returns-in-Version-clause-comes : goal.returns-in-Version-clause-comes
-returns-in-Version-clause-comes g c = rw c.in-Version.is (put_comes (λ due. due ≡ done version_text) without_files (done version_text) _ _ _ refl c.version_command.ensures refl refl refl (λ ok. (refl, refl)))
+returns-in-Version-clause-comes g c = rw c.in-Version.is (put_comes (λ due. due ≡ done version_text) without_files
+    (done version_text) _ _ _ refl c.version_command.ensures refl refl refl (λ ok. (refl, refl)))
 
 pub returns-in-Image-clause-takes : goal.returns-in-Image-clause-takes
 returns-in-Image-clause-takes g c = rw c.in-Image.is c.on_image.ensures.takes

@@ -54,9 +54,12 @@ returns-in-Err-clause-relinks g c =
 pub returns-in-Ok-clause-takes : goal.returns-in-Ok-clause-takes
 returns-in-Ok-clause-takes g c =
     let words = map (string_bytes {Z = Global}) c.args.words.now in
-    let asked = command_in words in
-    (asked, command_says words, words_take (g.S.Shelf.files c.args.shelf.now) asked c.in-Ok.command _ _ c.in-Ok.ensures.command
-        c.do_command.ensures.takes)
+    let asked = command_in words in (
+      asked,
+      command_says words,
+      words_take (g.S.Shelf.files c.args.shelf.now) asked c.in-Ok.command _ _ c.in-Ok.ensures.command
+          c.do_command.ensures.takes,
+    )
 
 pub returns-in-Err-clause-takes : goal.returns-in-Err-clause-takes
 returns-in-Err-clause-takes g c =

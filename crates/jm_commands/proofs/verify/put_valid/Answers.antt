@@ -16,5 +16,5 @@ pub returns : goal.returns
 returns g c b file =
     let text : c.as_bytes.result.now ≡ verify_text b
     = c.as_bytes.ensures.value ∙ c.in_ok-line.ensures ∙ ap (λ n. codes "valid " ++ decimal n ++ codes "\n") (count_is b
-        c.header.result (c.header.ensures.valid b file)) in
+    c.header.result (c.header.ensures.valid b file)) in
     rw (sym text) c.put_output.ensures
