@@ -34,22 +34,22 @@ use Rattle.jm_commands.specs.World.{world}
 use Rattle.jm_commands.proofs.StepLaws.{file_read, file_unread, image_unopened, put_on_text}
 use Rattle.jm_commands.specs.FileParts.{Comes, ReadsFront, ReadsMore, Adds, HasFront, HasLength, HasPart, IsFrontOf, IsHeadOf, LacksPart}
 use Rattle.jm_commands.specs.Run.{HasFile}
-use Rattle.jm_commands.specs.Taken.{TakesFrom, TakesNoMore, TakesOf, TaskTakes, WorkTakes, front_size, front_with}
+use Rattle.jm_commands.specs.Taken.{TakesFrom, TakesNoMore, TakesOf, TaskTakes, WorkTakes, cat_size, front_size, front_with}
 
 -- A told file
 
 module _ (files : Files) (path b : List ℕ) (is : file files path ≡ Some b) where
-  size_of : (size : ℕ) → Some size ≡ file_length files path → length b ≡ size
+  pub size_of : (size : ℕ) → Some size ≡ file_length files path → length b ≡ size
   size_of size long = sym (same_some _ _ (long ∙ ap (λ f. option_map (λ bytes. length bytes) f) is))
 
-  part_of : (at count : ℕ) (bytes : List ℕ) → Some bytes ≡ file_part files path at count → bytes ≡ part b at count
+  pub part_of : (at count : ℕ) (bytes : List ℕ) → Some bytes ≡ file_part files path at count → bytes ≡ part b at count
   part_of at count bytes has = same_some _ _ (has ∙ ap (λ f. option_map (λ bytes. part bytes at count) f) is)
 
   of_part : (at count : ℕ) (bytes : List ℕ) → bytes ≡ part b at count → Some bytes ≡ file_part files path at count
   of_part at count bytes same = ap (λ l. Some l) same ∙ sym (ap (λ f. option_map (λ bytes. part bytes at count) f) is)
 
 -- a file with a length is there
-no_length : (files : Files) (path : List ℕ) (size : ℕ) → file files path ≡ None → Some size ≡ file_length files path → ⊥
+pub no_length : (files : Files) (path : List ℕ) (size : ℕ) → file files path ≡ None → Some size ≡ file_length files path → ⊥
 no_length files path size is long = let none : Some size ≡ None = long ∙ ap (λ f. option_map (λ bytes. length bytes) f) is in cc
 
 -- no file is there
@@ -311,6 +311,18 @@ module _ (work : ImageWork) (path : List ℕ) (shelf mid : ShelfSeen) (source : 
   abbrev comes : List ℕ → Outcome → Type 0
   comes b = OpenedComesTo (TextComesTo source.told (image_outcome work b)) (first_damage b)
 
+  module _ (same : mid.told ≡ shelf.told) (kept : mid.faults ≡ shelf.faults) where
+    -- what it puts is due of a file
+    pub file_put : (due : Outcome) (answer : Result (Unit {0}) Stop) (out new_out : Seen (List ℕ)) (b : List ℕ)
+        → HasFile shelf.told path (Some b) → first_damage b ≡ None → due.session ≡ None → ((t : List ℕ) → image_outcome work b t ≡ due)
+        → PutDoes due answer out new_out
+        → StepComesTo (WorkComesTo shelf.told source.told path work) reading answer (world shelf source out) (world mid source new_out)
+    file_put due answer out new_out b has sound alone puts put =
+        let step : StepOnText (image_outcome work b) answer (world mid source out) (world mid source new_out) =
+        put_on_text (image_outcome work b) due answer (world mid source out) (world mid source new_out) put refl refl alone
+        (λ ok. (refl, refl)) puts in
+        file_read comes path b shelf (world mid source out) (world mid source new_out) answer has same kept (rw sound step)
+
   module _ (front : List ℕ) (size : ℕ) (is : IsFrontOf shelf.told path front size) (same : mid.told ≡ shelf.told) (kept :
       mid.faults ≡ shelf.faults) where
     -- what it puts is due of each file with this front
@@ -322,10 +334,7 @@ module _ (work : ImageWork) (path : List ℕ) (shelf mid : ShelfSeen) (source : 
     index_put text answer out new_out puts sound put =
         let found = front_there shelf.told path front size is in
         let b = found.0 in
-        let step : StepOnText (image_outcome work b) answer (world mid source out) (world mid source new_out) =
-        put_on_text (image_outcome work b) (done (text b)) answer (world mid source out) (world mid source new_out) (put b
-        found.2) refl refl refl (λ ok. (refl, refl)) (puts b) in
-        file_read comes path b shelf (world mid source out) (world mid source new_out) answer found.1 same kept (rw (sound b found.2) step)
+        file_put same kept (done (text b)) answer out new_out b found.1 (sound b found.2) refl (puts b) (put b found.2)
 
     -- each file with this front has a damage
     pub index_unopened : (A : Type 0) (given : Stop) (out : Seen (List ℕ)) → ((b : List ℕ) → IsFileOf front size b → Opens {A =
@@ -338,13 +347,19 @@ module _ (work : ImageWork) (path : List ℕ) (shelf mid : ShelfSeen) (source : 
         (image_unopened (TextComesTo source.told (image_outcome work b)) b given (world mid source out) (opens_as A (List ℕ) b
         given (opens b found.2)))
 
+  -- no file is there, or a call on it failed
+  pub file_unseen : (given : Stop) (out : Seen (List ℕ)) → ReadsFile shelf.told path (Err given) → mid.told ≡ shelf.told
+      → (given ≡ stop.Outside → ShelfFailed shelf mid)
+      → StepComesTo (WorkComesTo shelf.told source.told path work) reading (Err given) (world shelf source out) (world mid source out)
+  file_unseen given out read same failed =
+      file_unread comes path given (world shelf source out) (world mid source out) read
+      (record { files = same; source = refl; output = refl }) failed
+
   -- no file is there, or its front wasn't read
   pub front_unread : (given : Stop) (out : Seen (List ℕ)) → ReadsFront shelf.told path (Err given) → mid.told ≡ shelf.told
       → (given ≡ stop.Outside → ShelfFailed shelf mid)
       → StepComesTo (WorkComesTo shelf.told source.told path work) reading (Err given) (world shelf source out) (world mid source out)
-  front_unread given out read same failed =
-      file_unread comes path given (world shelf source out) (world mid source out) (unread shelf.told path given read)
-      (record { files = same; source = refl; output = refl }) failed
+  front_unread given out read same failed = file_unseen given out (unread shelf.told path given read) same failed
 
 -- What is put
 
@@ -360,7 +375,7 @@ count_is b h valid = valid.count ∙ ap (λ r. length (entries_with b r)) (sym v
 work_takes_nothing : (told : Option Files) (path : List ℕ) (does : ImageWork) (n : ℕ) → WorkTakes told path does n n
 work_takes_nothing told path work_of.Info n = takes_nothing told path front_size n
 work_takes_nothing told path work_of.Verify n = takes_nothing told path front_size n
-work_takes_nothing told path (work_of.Cat name) n = tt
+work_takes_nothing told path (work_of.Cat name) n = takes_nothing told path (cat_size name) n
 work_takes_nothing told path (work_of.List include) n = tt
 work_takes_nothing told path (work_of.Ls folder) n = tt
 work_takes_nothing told path (work_of.Extract dir include) n = tt

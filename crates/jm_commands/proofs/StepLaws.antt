@@ -1,12 +1,10 @@
 -- What a step does, from what its calls answered.
-use Rattle.std.proofs.Common.{◌≡◌, ℕ, true, false, List, [], Option, Some, None, is_some, Result, Ok, Err}
+use Rattle.std.proofs.Common.{◌≡◌, ℕ, List, [], Option, Some, None, Result, Ok, Err}
 use Rattle.std.proofs.Common.{IsOk, inl, inr, refl, sym, ap, ◌∙◌, subst, IsErrAnd}
 use Rattle.jm_outside.specs.Made.{MadeAll, MadePart, Writes}
-use Rattle.jm_form.specs.declared.rows.Row.{Row}
 use Rattle.jm_form.specs.Damages.{first_damage}
 use Rattle.jm_jrt.specs.declared.serve_error.ServeError.{ServeError}
 use Rattle.jm_jrt.specs.declared.serve_error.ServeError.TheVariants as serve_error
-use Rattle.jm_names.specs.UtfForms.{utf}
 use Rattle.jm_outside.specs.Files.{Files}
 use Rattle.jm_outside.specs.Outcome.{Rose, Shows, Told}
 use Rattle.jm_outside.specs.Shelves.{ShelfFailed, ShelfSeen}
@@ -20,18 +18,15 @@ use Rattle.jm_commands.specs.declared.status.Status.{Status}
 use Rattle.jm_commands.specs.declared.status.Status.TheVariants as status
 use Rattle.jm_commands.specs.declared.stop.Stop.{Stop}
 use Rattle.jm_commands.specs.declared.stop.Stop.TheVariants as stop
-use Rattle.jm_outside.specs.declared.streams.SinkError.{SinkError}
-use Rattle.jm_outside.specs.declared.streams.SinkError.TheVariants as sink_error
-use Rattle.jm_commands.specs.Cat.{content_of}
 use Rattle.jm_commands.specs.FailedBefore.{FailedEarly, WorkFailed}
-use Rattle.jm_commands.specs.Outcome.{Early, Outcome, cat_outcome, damaged, done, early_in, early_of, faulty}
+use Rattle.jm_commands.specs.Outcome.{Early, Outcome, damaged, done, early_in, early_of, faulty}
 use Rattle.jm_commands.specs.Outcome.{not_there, reading, without_files}
 use Rattle.jm_commands.specs.Run.{FileComesTo, FilesFirst, FilesMade, IsFailure, OpenedComesTo, Opens}
 use Rattle.jm_commands.specs.Run.{PutDoes, ReadsFile, StandAll, StepComesTo, StepDoes, StepOnText}
 use Rattle.jm_commands.specs.Run.{TaskComesTo, WordsComeTo, outcome_of, status_of}
 use Rattle.jm_commands.specs.SessionHeld.{EndedBy, NotBegun, SourceRead}
-use Rattle.jm_commands.specs.Sinks.{Failed, Gets, GetsFront, Seen}
-use Rattle.jm_commands.specs.Stops.{stop_of_sink, stop_of_words}
+use Rattle.jm_commands.specs.Sinks.{Failed, Gets, Seen}
+use Rattle.jm_commands.specs.Stops.{stop_of_words}
 use Rattle.jm_commands.specs.World.{NoneRose, World}
 use Rattle.jm_commands.proofs.Gotten.{front_of_nothing, gets_nothing}
 use Rattle.jm_commands.proofs.Made.{stays_all, stays_part}
@@ -75,48 +70,6 @@ complained due given out new_out is unput = record {
   kept = λ ok. cc;
   memory = λ failed. cc;
 }
-
--- `cat`
-
--- the content was put
-pub content_put : (found : Option (Row × List ℕ)) (name : List ℕ) (out new_out : Seen (List ℕ)) → true ≡ is_some found
-    → Gets (content_of found) out new_out → new_out.faults ≡ out.faults → PutDoes (cat_outcome name found) (Ok tt) out new_out
-content_put None name out new_out there put kept = cc
-content_put (Some found) name out new_out there put kept = record {
-  answers = refl;
-  output = put;
-  outside = λ failed. cc;
-  kept =
-      λ ok. kept;
-  memory = λ failed. cc;
-}
-
--- the put of the content failed
-pub content_unput : (found : Option (Row × List ℕ)) (name : List ℕ) (error : SinkError) (out new_out : Seen (List ℕ))
-    → is_some found ≡ true → GetsFront (content_of found) out new_out → (error ≡ sink_error.Failed → Failed out new_out)
-    → (error ≡ sink_error.Memory → new_out.told ≡ out.told) → PutDoes (cat_outcome name found) (Err (stop_of_sink error)) out new_out
-content_unput None name error out new_out there front failed unput = cc
-content_unput (Some found) name sink_error.Failed out new_out there front failed unput = record {
-  answers = refl;
-  output =
-      front;
-  outside = λ same. failed refl;
-  kept = λ ok. cc;
-  memory = λ same. cc;
-}
-content_unput (Some found) name sink_error.Memory out new_out there front failed unput = record {
-  answers = tt;
-  output =
-      front;
-  outside = λ same. cc;
-  kept = λ ok. cc;
-  memory = λ same. inr (unput refl);
-}
-
--- there is no content to put
-pub nothing_found : (found : Option (Row × List ℕ)) (name : List ℕ) → false ≡ is_some found → cat_outcome name found ≡ not_there (utf name)
-nothing_found None name there = refl
-nothing_found (Some found) name there = cc
 
 -- Steps that read
 

@@ -19,6 +19,10 @@ HasLength told path size = Shows told (λ files. size ≡ file_length files path
 abbrev pub HasPart : Option Files → List ℕ → ℕ → ℕ → List ℕ → Type 0
 HasPart told path at count bytes = Shows told (λ files. Some bytes ≡ file_part files path at count)
 
+-- these are so many bytes of the file of a path from a place on
+abbrev pub IsPart : Option Files → List ℕ → ℕ → ℕ → List ℕ → Type 0
+IsPart told path at count bytes = (length bytes ≡ count) × HasPart told path at count bytes
+
 -- the file of a path hasn't so many bytes from a place on, or isn't there
 abbrev pub LacksPart : Option Files → List ℕ → ℕ → ℕ → Type 0
 LacksPart told path at count =
@@ -65,6 +69,11 @@ Comes path Is IsNot (Err stop.Memory) = Unit {0}
 abbrev pub ReadsLength : Option Files → List ℕ → Result ℕ Stop → Type 0
 ReadsLength told path result =
     Comes path (λ size. HasLength told path (Some size)) (HasLength told path None) result
+
+-- what reading a part of a file comes to
+abbrev pub ReadsPart : Option Files → List ℕ → ℕ → ℕ → Result (List ℕ) Stop → Type 0
+ReadsPart told path at count result =
+    Comes path (λ bytes. IsPart told path at count bytes) (LacksPart told path at count) result
 
 -- what reading more of a file comes to, behind its first bytes
 abbrev pub ReadsMore : Option Files → List ℕ → List ℕ → ℕ → List ℕ → Result (Unit {0}) Stop

@@ -1,9 +1,10 @@
 -- How many bytes of its image a command takes from the shelf (promise reads-what-it-needs; this
 -- project's rule).
-use Rattle.std.specs.Prelude.{ℕ, ◌+◌, ◌≡◌, ◌≤◌, List, Option, Some, None, Result, Ok, Err}
+use Rattle.std.specs.Prelude.{ℕ, ◌+◌, ◌≡◌, ◌≤◌, List, length, Option, Some, None, Result, Ok, Err}
 use Rattle.jm_form.specs.declared.container.Header.{Header}
 use Rattle.jm_form.specs.declared.container.HeaderFault.{HeaderFault}
 use Rattle.jm_form.specs.Head.{header_of, index_length}
+use Rattle.jm_form.specs.Validity.{look}
 use Rattle.jm_outside.specs.Files.{Files, file}
 use Rattle.jm_outside.specs.Outcome.{Shows}
 use Rattle.jm_words.specs.declared.errors.WordsError.{WordsError}
@@ -12,6 +13,7 @@ use Rattle.jm_words.specs.declared.tasks.ImageWork.{ImageWork}
 use Rattle.jm_words.specs.declared.tasks.ImageWork.TheVariants as work
 use Rattle.jm_words.specs.declared.tasks.Task.{Task}
 use Rattle.jm_words.specs.declared.tasks.Task.TheVariants as task
+use Rattle.jm_commands.specs.Cat.{content_of}
 
 -- the first bytes that are taken, by what was read as the header: the index; 28 where there is none
 abbrev pub front_with : Result Header HeaderFault → ℕ
@@ -21,6 +23,10 @@ front_with (Err fault) = 28
 -- the first bytes that are taken of a file
 abbrev pub front_size : List ℕ → ℕ
 front_size b = front_with (header_of b)
+
+-- the bytes that `cat` takes of a file: the front, and the content that the look-up of the name has
+abbrev pub cat_size : List ℕ → List ℕ → ℕ
+cat_size name b = front_size b + length (content_of (look b name))
 
 -- of the file of a path, if it is there, at most so many bytes were taken, and nothing besides
 abbrev pub TakesOf : (List ℕ → ℕ) → Option (List ℕ) → (old new : ℕ) → Type 0
@@ -33,14 +39,17 @@ TakesFrom told path most old new = Shows told (λ files. TakesOf most (file file
 
 -- a work that reads its whole file
 abbrev pub ReadsWhole : ImageWork → Type 0
+ReadsWhole (work.Cat name) = ⊥
 ReadsWhole work.Info = ⊥
 ReadsWhole work.Verify = ⊥
 ReadsWhole _ = Unit {0}
 
--- what a work on the image in the file of a path takes: `info` and `verify` the front
+-- what a work on the image in the file of a path takes: `info` and `verify` the front, `cat` the
+-- front and the content
 abbrev pub WorkTakes : Option Files → List ℕ → ImageWork → (old new : ℕ) → Type 0
 WorkTakes told path work.Info old new = TakesFrom told path front_size old new
 WorkTakes told path work.Verify old new = TakesFrom told path front_size old new
+WorkTakes told path (work.Cat name) old new = TakesFrom told path (cat_size name) old new
 WorkTakes told path _ old new = Unit {0}
 
 -- what a task takes, if it is such a work

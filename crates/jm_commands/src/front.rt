@@ -3,6 +3,7 @@ ghost use Rattle.std.specs.Prelude.{◌≡◌, ◌≤◌, ◌<◌, ◌+◌, ℕ,
 ghost use Rattle.jm_form.specs.Head.{HoldsIndex, IsFileOf};
 ghost use Rattle.jm_outside.specs.Outcome.{CountsFaults};
 ghost use Rattle.jm_commands.specs.FileParts.{ReadsFront, ReadsHead, ReadsLength, ReadsMore};
+ghost use Rattle.jm_commands.specs.FileParts.{ReadsPart};
 ghost use Rattle.jm_commands.specs.Run.{Opens};
 ghost use Rattle.jm_commands.specs.Taken.{TakesFrom, front_size};
 
@@ -53,8 +54,33 @@ fn file_length<S: Shelf>(alloc: Global, path: &Text, shelf: &mut S) -> Result<u6
     }
 }
 
-/// Adds to the first bytes of a file those that follow, so many. Where the file has fewer, it isn't
+/// So many bytes of the file at a path, from a place on. Where the file has fewer there, it isn't
 /// the one whose length was asked for, and counts as one that isn't there.
+pub fn file_part<S: Shelf>(
+    alloc: Global,
+    path: &Text,
+    at: u64,
+    count: usize,
+    shelf: &mut S,
+) -> Result<Text, Stop>
+    requires { IsUtf8 path.now }
+    ensures files { S.files shelf.new ≡ S.files shelf.old }
+    ensures reads { ReadsPart (S.files shelf.old) path.now at count result }
+    ensures handed { S.handed shelf.new ≤ S.handed shelf.old + count }
+    ensures faults { CountsFaults (S.faults shelf.old) (S.faults shelf.new) (IsOk result)
+        (IsErrOf result Stop.Outside) }
+{
+    match shelf.read_part(alloc, path.as_slice(), at, count) {
+        Ok(Some(bytes)) if bytes.len() == count => Ok(bytes),
+        Ok(_) => {
+            let given = not_there(alloc, path)?;
+            Err(Stop::Complaint(given))
+        }
+        Err(error) => Err(Stop::from(error)),
+    }
+}
+
+/// Adds to the first bytes of a file those that follow, so many.
 fn extend_front<S: Shelf>(
     alloc: Global,
     path: &Text,
@@ -69,17 +95,9 @@ fn extend_front<S: Shelf>(
     ensures faults { CountsFaults (S.faults shelf.old) (S.faults shelf.new) (IsOk result)
         (IsErrOf result Stop.Outside) }
 {
-    match shelf.read_part(alloc, path.as_slice(), front.len() as u64, count) {
-        Ok(Some(more)) if more.len() == count => {
-            front.extend(more.as_slice())?;
-            Ok(())
-        }
-        Ok(_) => {
-            let given = not_there(alloc, path)?;
-            Err(Stop::Complaint(given))
-        }
-        Err(error) => Err(Stop::from(error)),
-    }
+    let more = file_part(alloc, path, front.len() as u64, count, shelf)?;
+    front.extend(more.as_slice())?;
+    Ok(())
 }
 
 /// The first bytes of the file at a path, 28 or all.

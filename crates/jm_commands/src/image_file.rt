@@ -1,14 +1,12 @@
 ghost use Rattle.std.specs.Prelude.{◌≡◌, ◌<◌, IsOk, IsErrOf, IsUtf8};
-ghost use Rattle.jm_form.specs.Validity.{look};
 ghost use Rattle.jm_outside.specs.Outcome.{CountsFaults};
 ghost use Rattle.jm_words.specs.Paths.{FolderIsText};
-ghost use Rattle.jm_commands.specs.Cat.{CatDoes};
-ghost use Rattle.jm_commands.specs.Outcome.{cat_outcome, image_outcome, reading};
-ghost use Rattle.jm_commands.specs.Run.{PutDoes, ReadsFile, StepComesTo, StepOnText, WorkComesTo};
+ghost use Rattle.jm_commands.specs.Outcome.{image_outcome, reading};
+ghost use Rattle.jm_commands.specs.Run.{ReadsFile, StepComesTo, StepOnText, WorkComesTo};
 ghost use Rattle.jm_commands.specs.Taken.{ReadsWhole, WorkTakes};
-ghost use Rattle.jm_commands.specs.World.{sink_at, world_of};
+ghost use Rattle.jm_commands.specs.World.{world_of};
 
-use crate::cat::cat_command;
+use crate::cat_file::cat_file;
 use crate::complaint::Complaint;
 use crate::extract::extract_command;
 use crate::info::info_command;
@@ -19,14 +17,11 @@ use crate::serve::serve_command;
 use crate::stop::Stop;
 use crate::verify::verify_command;
 use crate::workers::Workers;
-use jm_bytes::{Meter, Steps, Text};
+use jm_bytes::Text;
 use jm_halves::Gate;
-use jm_names::to_utf8;
-use jm_outside::{Shelf, Sink, SinkError, Source};
+use jm_outside::{Shelf, Sink, Source};
 use jm_words::ImageWork;
 use std::alloc::Global;
-use std::marker::Brand;
-use std::sync::ledger::{Blank, Ledger};
 use std::thread::Threads;
 
 /// The bytes of the file at a path.
@@ -47,43 +42,6 @@ pub fn file_bytes<S: Shelf>(alloc: Global, path: &Text, shelf: &mut S) -> Result
     }
 }
 
-/// Does what `cat_command` does, with counters of its own.
-fn cat_counted<O: Sink, H: Ledger, R: Ledger>(
-    alloc: Global,
-    image: &Opened,
-    name: &[u8],
-    out: &mut O,
-    hashes: Blank,
-    reads: Blank,
-) -> Result<bool, SinkError>
-    requires hashes_name { hashes.name ≡ H.name }
-    requires hashes_parts { hashes.parts ≡ H.parts }
-    requires hashes_some { 0 < hashes.parts }
-    requires reads_name { reads.name ≡ R.name }
-    requires reads_parts { reads.parts ≡ R.parts }
-    requires reads_some { 0 < reads.parts }
-    ensures { CatDoes (look image.now name.now) result
-        (sink_at O.Sink out.old) (sink_at O.Sink out.new) }
-{
-    let mut hashes = Steps::<H>::new(hashes);
-    let mut reads = Meter::<R>::new(image.bytes(), reads);
-    cat_command(alloc, image.as_image(), name, out, &mut hashes, &mut reads)
-}
-
-/// `cat`: the content of the entry of a name of the image.
-fn cat_step<O: Sink>(alloc: Global, image: &Opened, name: &[u8], out: &mut O) -> Result<(), Stop>
-    ensures { PutDoes (cat_outcome name.now (look image.now name.now)) result
-        (sink_at O.Sink out.old) (sink_at O.Sink out.new) }
-{
-    let (hashes, reads) = (Blank::new(1), Blank::new(1));
-    let there = cat_counted::<O, Brand, Brand>(alloc, image, name, out, hashes, reads)?;
-    if there {
-        return Ok(());
-    }
-    let text = to_utf8(alloc, name)?;
-    Err(Stop::Complaint(Complaint::NotThere(text)))
-}
-
 /// Does a work on an image that reads its whole file.
 fn do_work<S: Shelf, I: Source, O: Sink>(
     alloc: Global,
@@ -100,14 +58,13 @@ fn do_work<S: Shelf, I: Source, O: Sink>(
         (world_of S.Shelf I.Source O.Sink shelf.new input.new out.new) }
 {
     match work {
-        ImageWork::Cat { name } => cat_step(alloc, image, name.as_slice(), out),
         ImageWork::List { include } => list_command(alloc, image, include, out),
         ImageWork::Ls { path } => ls_command(alloc, image, path.as_slice(), out),
         ImageWork::Extract { dir, include } => {
             extract_command(alloc, image, include, dir.as_slice(), shelf, out)
         }
         ImageWork::Serve => serve_command(alloc, image, input, out),
-        ImageWork::Info | ImageWork::Verify => unreachable!(),
+        ImageWork::Cat { .. } | ImageWork::Info | ImageWork::Verify => unreachable!(),
     }
 }
 
@@ -141,7 +98,7 @@ fn on_whole<T: Threads + Sync, S: Shelf, I: Source, O: Sink, G: Gate + Sync>(
     }
 }
 
-/// Does a work on the image in the file at a path: `info` and `verify` by its index.
+/// Does a work on the image in the file at a path: `cat`, `info` and `verify` by its index.
 pub fn on_image<T: Threads + Sync, S: Shelf, I: Source, O: Sink, G: Gate + Sync>(
     workers: &Workers<T, G>,
     path: &Text,
@@ -161,10 +118,10 @@ pub fn on_image<T: Threads + Sync, S: Shelf, I: Source, O: Sink, G: Gate + Sync>
         (S.handed shelf.old) (S.handed shelf.new) }
 {
     match work {
+        ImageWork::Cat { name } => cat_file(workers, path, name.as_slice(), shelf, out),
         ImageWork::Info => info_command(workers, path, shelf, out),
         ImageWork::Verify => verify_command(workers, path, shelf, out),
-        ImageWork::Cat { .. }
-        | ImageWork::List { .. }
+        ImageWork::List { .. }
         | ImageWork::Ls { .. }
         | ImageWork::Extract { .. }
         | ImageWork::Serve => on_whole(workers, path, work, shelf, input, out),

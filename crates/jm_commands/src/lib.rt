@@ -2,6 +2,7 @@
 #![tactic(auto)]
 
 mod cat;
+mod cat_file;
 mod complaint;
 mod describe;
 mod extract;

@@ -1,18 +1,10 @@
 use Rattle.std.proofs.Common.{refl}
-use Rattle.jm_form.specs.Validity.{look}
 use Rattle.jm_extract.specs.Extracted.{extracted}
 use Rattle.jm_jrt.specs.Stat.{held, stat}
-use Rattle.jm_commands.specs.Outcome.{cat_outcome, extract_outcome, ls_outcome}
-use Rattle.jm_commands.proofs.OutcomeLaws.{cat_session, ls_session}
+use Rattle.jm_commands.specs.Outcome.{extract_outcome, ls_outcome}
+use Rattle.jm_commands.proofs.OutcomeLaws.{ls_session}
 use Rattle.jm_commands.proofs.StepLaws.{on_any_text, put_on_text}
 use Rattle.jm_commands.proofs.image_file.do_work.Goals as goal
-
-pub returns-in-Cat : goal.returns-in-Cat
-returns-in-Cat g c =
-    let name = c.as_slice.result.now in
-    let found = look c.args.image.now name in
-    rw c.in-Cat.is (put_on_text _ (cat_outcome name found) _ _ _ c.cat_step.ensures refl refl (cat_session name found)
-    (λ ok. (refl, refl)) (λ text. rw c.as_slice.ensures refl))
 
 pub returns-in-List : goal.returns-in-List
 returns-in-List g c =
@@ -27,10 +19,10 @@ returns-in-Extract g c =
 
 pub returns-in-Ls : goal.returns-in-Ls
 returns-in-Ls g c =
-    let path = c.as_slice-in-Ls.result.now in
+    let path = c.as_slice.result.now in
     let holds = held (stat c.args.image.now path) in
     rw c.in-Ls.is (put_on_text _ (ls_outcome path holds) _ _ _ c.ls_command.ensures refl refl (ls_session path holds)
-    (λ ok. (refl, refl)) (λ text. rw c.as_slice-in-Ls.ensures refl))
+    (λ ok. (refl, refl)) (λ text. rw c.as_slice.ensures refl))
 
 pub returns-in-Serve : goal.returns-in-Serve
 returns-in-Serve g c = rw c.in-Serve.is (c.serve_command.ensures _)

@@ -1,5 +1,13 @@
+use Rattle.std.proofs.Common.{sym}
 use Rattle.jm_commands.specs.World.{source_at}
 use Rattle.jm_commands.proofs.image_file.on_image.Goals as goal
+
+pub returns-in-Cat-clause-comes : goal.returns-in-Cat-clause-comes
+returns-in-Cat-clause-comes g c =
+    rw (c.in-Cat.is, sym c.as_slice.ensures) (c.cat_file.ensures.comes (source_at g.I.Source c.args.input.now))
+
+pub returns-in-Cat-clause-takes : goal.returns-in-Cat-clause-takes
+returns-in-Cat-clause-takes g c = rw (c.in-Cat.is, sym c.as_slice.ensures) c.cat_file.ensures.takes
 
 pub returns-in-Info-clause-comes : goal.returns-in-Info-clause-comes
 returns-in-Info-clause-comes g c = rw c.in-Info.is (c.info_command.ensures.comes (source_at g.I.Source c.args.input.now))
