@@ -1,14 +1,15 @@
--- The content of a name, read from its file by the index.
+-- The content that a look-up leads to, read from its file by the index.
 use Rattle.std.proofs.Common.{◌≡◌, ◌+◌, ◌-◌, ◌≤◌, ℕ, List, ◌++◌, length, take, drop, replicate, Option, Some, None}
-use Rattle.std.proofs.Common.{Ok, Err, option_map, refl, sym, ap, ◌∙◌, subst, arith}
+use Rattle.std.proofs.Common.{Result, Ok, Err, option_map, refl, sym, ap, ◌∙◌, subst, arith}
 use Rattle.std.proofs.lemmas.List.{length-append, length-drop, length-replicate, length-take, take_at, drop_at}
+use Rattle.jm_bytes.proofs.Choice.{same_ok}
 use Rattle.jm_form.specs.declared.container.Header.{Header}
 use Rattle.jm_form.specs.declared.rows.Row.{Row}
 use Rattle.jm_form.specs.Damages.{first_damage}
 use Rattle.jm_form.specs.Entries.{content_of}
 use Rattle.jm_form.specs.Head.{IsFileOf, header_of, header_with, index_length}
 use Rattle.jm_form.specs.Places.{contents}
-use Rattle.jm_form.specs.Validity.{look}
+use Rattle.jm_names.specs.UtfForms.{utf}
 use Rattle.jm_form.proofs.LocalityLaws.{header_of_front, header_same}
 use Rattle.jm_form.proofs.Validity.{sound_valid}
 use Rattle.jm_outside.specs.Files.{Files, file}
@@ -18,10 +19,11 @@ use Rattle.jm_reader.proofs.IndexLaws.{lies_within}
 use Rattle.jm_commands.specs.declared.stop.Stop.{Stop}
 use Rattle.jm_commands.specs.declared.stop.Stop.TheVariants as stop
 use Rattle.jm_commands.specs.Cat.{content_of as content_found}
-use Rattle.jm_commands.specs.FileParts.{IsFrontOf, IsPart, ReadsPart}
-use Rattle.jm_commands.specs.Outcome.{cat_outcome, done}
+use Rattle.jm_commands.specs.FileParts.{Comes, IsFrontOf, IsPart, LacksPart, ReadsPart}
+use Rattle.jm_commands.specs.Outcome.{Outcome, cat_outcome, done, not_there}
 use Rattle.jm_commands.specs.Run.{HasFile, ReadsFile}
-use Rattle.jm_commands.specs.Taken.{TakesFrom, TakesOf, cat_size, front_size}
+use Rattle.jm_commands.specs.Sought.{BeginsAt, IsContent, LookUp, ReadsContent, Seeks, row_size}
+use Rattle.jm_commands.specs.Taken.{TakesFrom, TakesOf, front_size, sought_size}
 use Rattle.jm_commands.proofs.FrontLaws.{front_there, never_lacks, no_length, part_of, size_of}
 
 -- A file of an index, with a content
@@ -29,11 +31,6 @@ use Rattle.jm_commands.proofs.FrontLaws.{front_there, never_lacks, no_length, pa
 -- each file with this front is valid
 abbrev pub AllSound : List ℕ → ℕ → Type 0
 AllSound front size = (b : List ℕ) → IsFileOf front size b → first_damage b ≡ None
-
--- the content of the row begins at a place of each of them
-abbrev pub BeginsAt : List ℕ → ℕ → Row → ℕ → Type 0
-BeginsAt front size row place =
-    (b : List ℕ) → IsFileOf front size b → take row.size (drop place b) ≡ content_of (contents b (head b)) row
 
 -- they have a header, which is that of the front
 front_header : (told : Option Files) (path front : List ℕ) (size : ℕ) → IsFrontOf told path front size → AllSound front size
@@ -99,9 +96,9 @@ has_content told path front size h row content is read sound long = (whole, same
 
 -- what was read where the content of a row begins is the content of a file with this front, which
 -- is that of the path where the files are told
-pub content_there : (told : Option Files) (path front : List ℕ) (size : ℕ) (row : Row) (place : ℕ) (content : List ℕ)
+content_there : (told : Option Files) (path front : List ℕ) (size : ℕ) (row : Row) (place : ℕ) (content : List ℕ)
     → IsFrontOf told path front size → AllSound front size → SoundIn (record { bytes = front; length = size }) row
-    → BeginsAt front size row place → IsPart told path place row.size content
+    → BeginsAt (record { bytes = front; length = size }) row place → IsPart told path place row.size content
     → (b : List ℕ) × HasFile told path (Some b) × IsFileOf front size b × (content_of (contents b (head b)) row ≡ content)
 content_there None path front size row place content is sound lies begins (long, has) =
     let read = front_header None path front size is sound in
@@ -110,22 +107,45 @@ content_there None path front size row place content is sound lies begins (long,
 content_there (Some files) path front size row place content is sound lies begins (long, has) =
     let found = front_there (Some files) path front size is in
     let part = part_of files path found.0 (sym found.1) place row.size content has in
-    (found.0, found.1, found.2, sym (begins found.0 found.2) ∙ sym part)
+    (found.0, found.1, found.2, sym (begins.content found.0 found.2) ∙ sym part)
 
--- What the look-up has
+-- What a look-up finds
 
-pub nothing_due : (name : List ℕ) (found : Option (Row × List ℕ)) → None ≡ option_map (λ (f : Row × List ℕ). f.0) found
-    → cat_outcome name found ≡ cat_outcome name None
-nothing_due name None none = refl
-nothing_due name (Some found) none = cc
+nothing_found : (found : Option (Row × List ℕ)) → None ≡ option_map (λ (f : Row × List ℕ). f.0) found
+    → option_map (λ (f : Row × List ℕ). f.1) found ≡ None
+nothing_found None none = refl
+nothing_found (Some found) none = cc
 
-pub content_due : (name : List ℕ) (found : Option (Row × List ℕ)) (row : Row) (has content : List ℕ) → found ≡ Some (row, has)
-    → has ≡ content → cat_outcome name found ≡ done content
-content_due name found row has content is same = ap (cat_outcome name) is ∙ ap done same
+-- what was read of a row's content is what the look-up finds in a file of this front
+pub sought_there : (told : Option Files) (path front : List ℕ) (size : ℕ) (sought : LookUp) (row : Option Row)
+    (content : Option (List ℕ)) → IsFrontOf told path front size → AllSound front size
+    → Seeks sought (record { bytes = front; length = size }) row
+    → ReadsContent told path (record { bytes = front; length = size }) row (Ok content)
+    → (b : List ℕ) × HasFile told path (Some b) × IsFileOf front size b × (option_map (λ (f : Row × List ℕ). f.1) (sought b) ≡ content)
+sought_there told path front size sought None content is sound seeks reads =
+    let found = front_there told path front size is in
+    let none : None ≡ content = sym (same_ok {E = Stop} _ _ reads) in
+    (found.0, found.1, found.2, nothing_found (sought found.0) (seeks.found found.0 found.2) ∙ none)
+sought_there told path front size sought (Some row) None is sound seeks (place, begins, never) = absurd never
+sought_there told path front size sought (Some row) (Some content) is sound seeks (place, begins, part) =
+    let there = content_there told path front size row place content is sound seeks.sound begins part in
+    let b = there.0 in
+    (b, there.1, there.2, ap (option_map (λ (f : Row × List ℕ). f.1)) (seeks.content b there.2) ∙ ap (λ l. Some l) there.3)
+
+-- what `cat` comes to by the content alone
+abbrev pub cat_of : List ℕ → Option (List ℕ) → Outcome
+cat_of name None = not_there (utf name)
+cat_of name (Some content) = done content
+
+-- `cat` puts it
+pub cat_due : (name : List ℕ) (found : Option (Row × List ℕ)) (content : Option (List ℕ))
+    → option_map (λ (f : Row × List ℕ). f.1) found ≡ content → cat_outcome name found ≡ cat_of name content
+cat_due name None content same = ap (cat_of name) same
+cat_due name (Some found) content same = ap (cat_of name) same
 
 -- The content wasn't read
 
-pub part_unread : (told mid : Option Files) (path front : List ℕ) (size place count : ℕ) (given : Stop) → mid ≡ told
+part_unread : (told mid : Option Files) (path front : List ℕ) (size place count : ℕ) (given : Stop) → mid ≡ told
     → IsFrontOf told path front size → ((b : List ℕ) → IsFileOf front size b → place + count ≤ size)
     → ReadsPart mid path place count (Err given) → ReadsFile told path (Err given)
 part_unread told mid path front size place count (stop.Complaint given) same is within (lacks, given_is) =
@@ -134,33 +154,57 @@ part_unread told mid path front size place count (stop.Complaint given) same is 
 part_unread told mid path front size place count stop.Outside same is within read = tt
 part_unread told mid path front size place count stop.Memory same is within read = tt
 
+pub sought_unread : (told mid : Option Files) (path front : List ℕ) (size : ℕ) (row : Option Row) (given : Stop) → mid ≡ told
+    → IsFrontOf told path front size → ReadsContent mid path (record { bytes = front; length = size }) row (Err given)
+    → ReadsFile told path (Err given)
+sought_unread told mid path front size None given same is reads = cc
+sought_unread told mid path front size (Some row) given same is (place, begins, reads) =
+    part_unread told mid path front size place row.size given same is begins.within (go given reads)
+  where
+    go : (given : Stop) → Comes path (λ content. IsContent mid path place (Some row) content)
+        (LacksPart mid path place row.size) (Err given) → ReadsPart mid path place row.size (Err given)
+    go (stop.Complaint given) reads = reads
+    go stop.Outside reads = tt
+    go stop.Memory reads = tt
+
 -- What was taken
 
 -- a content within the file is as long as its row says
-content_long : (b name : List ℕ) (row : Row) (place : ℕ) → look b name ≡ Some (row, content_of (contents b (head b)) row)
+content_long : (b : List ℕ) (found : Option (Row × List ℕ)) (row : Row) (place : ℕ)
+    → found ≡ Some (row, content_of (contents b (head b)) row)
     → take row.size (drop place b) ≡ content_of (contents b (head b)) row → place + row.size ≤ length b
-    → row.size ≤ length (content_found (look b name))
-content_long b name row place is begins within =
-    let found : length (content_found (look b name)) ≡ length (take row.size (drop place b))
+    → row.size ≤ length (content_found found)
+content_long b found row place is begins within =
+    let long : length (content_found found) ≡ length (take row.size (drop place b))
     = ap (λ f. length (content_found f)) is ∙ ap (λ l. length l) (sym begins) in
-    omega (arith, found, length-take row.size (drop place b), length-drop place b, within)
+    omega (arith, long, length-take row.size (drop place b), length-drop place b, within)
 
-pub takes_content : (told : Option Files) (path front name : List ℕ) (size : ℕ) (row : Row) (place old mid new : ℕ)
-    → IsFrontOf told path front size → TakesFrom told path front_size old mid → new ≤ mid + row.size
-    → ((b : List ℕ) → IsFileOf front size b → look b name ≡ Some (row, content_of (contents b (head b)) row))
-    → BeginsAt front size row place → ((b : List ℕ) → IsFileOf front size b → place + row.size ≤ size)
-    → TakesFrom told path (cat_size name) old new
-takes_content None path front name size row place old mid new is takes more has begins within = tt
-takes_content (Some files) path front name size row place old mid new is takes more has begins within =
+found_long : (mid : Option Files) (path front : List ℕ) (size : ℕ) (sought : LookUp) (row : Option Row)
+    (result : Result (Option (List ℕ)) Stop) → Seeks sought (record { bytes = front; length = size }) row
+    → ReadsContent mid path (record { bytes = front; length = size }) row result → (b : List ℕ) → IsFileOf front size b
+    → row_size row ≤ length (content_found (sought b))
+found_long mid path front size sought None result seeks reads b whole = omega arith
+found_long mid path front size sought (Some row) result seeks (place, begins, reads) b whole =
+    content_long b (sought b) row place (seeks.content b whole) (begins.content b whole)
+    (omega (arith, begins.within b whole, whole.length_is))
+
+-- behind the front the content of what the look-up finds
+pub takes_sought : (told mid : Option Files) (path front : List ℕ) (size : ℕ) (sought : LookUp) (row : Option Row)
+    (result : Result (Option (List ℕ)) Stop) (old now new : ℕ) → IsFrontOf told path front size
+    → TakesFrom told path front_size old now → new ≤ now + row_size row
+    → Seeks sought (record { bytes = front; length = size }) row
+    → ReadsContent mid path (record { bytes = front; length = size }) row result
+    → TakesFrom told path (sought_size sought) old new
+takes_sought None mid path front size sought row result old now new is takes more seeks reads = tt
+takes_sought (Some files) mid path front size sought row result old now new is takes more seeks reads =
     go (file files path) refl takes
   where
-    go : (f : Option (List ℕ)) → file files path ≡ f → TakesOf front_size f old mid → TakesOf (cat_size name) (file files path) old new
+    go : (f : Option (List ℕ)) → file files path ≡ f → TakesOf front_size f old now → TakesOf (sought_size sought) (file files path) old new
     go None none takes = absurd (no_length files path size none is.size_is)
     go (Some b) some takes =
         let whole : IsFileOf front size b = record {
           begins = sym (part_of files path b some 0 (length front) front is.begins);
           length_is = size_of files path b some size is.size_is;
         } in
-        let fits : place + row.size ≤ length b = omega (arith, within b whole, whole.length_is) in
-        let long = content_long b name row place (has b whole) (begins b whole) fits in
-        subst (λ (f : Option (List ℕ)). TakesOf (cat_size name) f old new) (sym some) (omega (arith, takes, more, long))
+        let long = found_long mid path front size sought row result seeks reads b whole in
+        subst (λ (f : Option (List ℕ)). TakesOf (sought_size sought) f old new) (sym some) (omega (arith, takes, more, long))

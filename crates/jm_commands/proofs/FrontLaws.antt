@@ -9,9 +9,10 @@ use Rattle.jm_form.specs.declared.container.Header.{Header}
 use Rattle.jm_form.specs.declared.container.HeaderFault.{HeaderFault}
 use Rattle.jm_form.specs.Head.{HoldsHead, IsFileOf, header_of, header_with, index_length}
 use Rattle.jm_form.specs.Damages.{first_damage}
-use Rattle.jm_form.specs.Validity.{ValidAs}
+use Rattle.jm_form.specs.Validity.{ValidAs, look}
 use Rattle.jm_form.proofs.HeadLaws.{head_read}
 use Rattle.jm_form.proofs.LocalityLaws.{header_same}
+use Rattle.jm_jrt.specs.Stat.{node_sought}
 use Rattle.jm_outside.specs.Files.{Files, file, file_length, file_part, part}
 use Rattle.jm_outside.specs.Outcome.{Shows}
 use Rattle.jm_outside.specs.Shelves.{ShelfFailed, ShelfSeen}
@@ -34,7 +35,7 @@ use Rattle.jm_commands.specs.World.{world}
 use Rattle.jm_commands.proofs.StepLaws.{file_read, file_unread, image_unopened, put_on_text}
 use Rattle.jm_commands.specs.FileParts.{Comes, ReadsFront, ReadsMore, Adds, HasFront, HasLength, HasPart, IsFrontOf, IsHeadOf, LacksPart}
 use Rattle.jm_commands.specs.Run.{HasFile}
-use Rattle.jm_commands.specs.Taken.{TakesFrom, TakesNoMore, TakesOf, TaskTakes, WorkTakes, cat_size, front_size, front_with}
+use Rattle.jm_commands.specs.Taken.{TakesFrom, TakesNoMore, TakesOf, TaskTakes, WorkTakes, front_size, front_with, sought_size}
 
 -- A told file
 
@@ -375,9 +376,9 @@ count_is b h valid = valid.count ∙ ap (λ r. length (entries_with b r)) (sym v
 work_takes_nothing : (told : Option Files) (path : List ℕ) (does : ImageWork) (n : ℕ) → WorkTakes told path does n n
 work_takes_nothing told path work_of.Info n = takes_nothing told path front_size n
 work_takes_nothing told path work_of.Verify n = takes_nothing told path front_size n
-work_takes_nothing told path (work_of.Cat name) n = takes_nothing told path (cat_size name) n
-work_takes_nothing told path (work_of.List include) n = tt
-work_takes_nothing told path (work_of.Ls folder) n = tt
+work_takes_nothing told path (work_of.List include) n = takes_nothing told path front_size n
+work_takes_nothing told path (work_of.Cat name) n = takes_nothing told path (sought_size (λ b. look b name)) n
+work_takes_nothing told path (work_of.Ls folder) n = takes_nothing told path (sought_size (λ b. node_sought b folder)) n
 work_takes_nothing told path (work_of.Extract dir include) n = tt
 work_takes_nothing told path work_of.Serve n = tt
 

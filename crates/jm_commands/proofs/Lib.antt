@@ -5,6 +5,7 @@ pub mod FrontLaws
 pub mod GenLaws
 pub mod Gotten
 pub mod LinkLaws
+pub mod ListingLaws
 mod ListingVectors
 pub mod Made
 pub mod OutcomeLaws

@@ -22,10 +22,13 @@ use Rattle.jm_words.specs.declared.tasks.ImageWork.TheVariants as work
 use Rattle.jm_words.specs.declared.tasks.Task.{Task}
 use Rattle.jm_words.specs.declared.tasks.Task.TheVariants as task
 use Rattle.jm_commands.specs.declared.complaint.Complaint.{Complaint}
+use Rattle.jm_commands.specs.declared.shown.Shown.{Shown}
+use Rattle.jm_commands.specs.declared.shown.Shown.TheVariants as shown
+use Rattle.jm_commands.specs.ShownText.{shown_text, work_shown}
 use Rattle.jm_commands.specs.Run.{OpenedComesTo, TaskComesTo, TextComesTo}
 use Rattle.jm_commands.specs.Outcome.{Outcome, cat_outcome, class_outcome, describe_outcome}
 use Rattle.jm_commands.specs.Outcome.{descriptor_outcome, ls_outcome, session_fault, session_with}
-use Rattle.jm_commands.specs.Outcome.{image_outcome}
+use Rattle.jm_commands.specs.Outcome.{done, image_outcome}
 
 -- Whether a session is due
 
@@ -105,3 +108,9 @@ task_writes told rest (task.Image image does) due other (Some b, has, comes) = o
     opened : (damage : Option Damage) → OpenedComesTo (TextComesTo rest (image_outcome does b)) damage due → due.writes ≡ []
     opened None (text, told_text, is) = ap (λ o. o.writes) is ∙ image_writes image does b text other
     opened (Some damage) is = ap (λ o. o.writes) is
+
+-- what an index shows is the output
+pub shown_due : (given : Shown) (b text : List ℕ) → image_outcome (work_shown given) b text ≡ done (shown_text given b)
+shown_due shown.Info b text = refl
+shown_due shown.Verify b text = refl
+shown_due (shown.List include) b text = refl

@@ -12,7 +12,9 @@ pub mod RelinkedRun
 pub mod Run
 pub mod Served
 pub mod SessionHeld
+pub mod ShownText
 pub mod Sinks
+pub mod Sought
 pub mod StatusValue
 pub mod Stops
 pub mod Taken

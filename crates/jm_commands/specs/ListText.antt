@@ -1,15 +1,24 @@
 -- The text of `list` (this project's rule).
-use Rattle.std.specs.Prelude.{ℕ, List, [], ◌∷◌, ◌++◌, length, flat_map, Option}
+use Rattle.std.specs.Prelude.{ℕ, List, [], ◌∷◌, ◌++◌, length, map, flat_map, Option}
 use Rattle.std.specs.Fmt.{decimal}
 use Rattle.jm_names.specs.UtfForms.{utf}
 use Rattle.jm_pattern.specs.declared.signs.Sign.{Sign}
 use Rattle.jm_names.specs.ByName.{Named}
 use Rattle.jm_extract.specs.Taken.{taken}
+use Rattle.jm_extract.specs.declared.taking.TakenEntry.{TakenEntry}
 
--- the line of an entry: its size in bytes, a space, its name in UTF-8 and a newline
-abbrev pub list_line : Named → List ℕ
-list_line e = decimal (length e.1) ++ 32 ∷ utf e.0 ++ 10 ∷ []
+-- a line: a size in bytes, a space, a name in UTF-8 and a newline
+abbrev pub sized_line : ℕ × List ℕ → List ℕ
+sized_line e = decimal e.0 ++ 32 ∷ utf e.1 ++ 10 ∷ []
+
+-- the size and the name of an entry
+abbrev pub sized : Named → ℕ × List ℕ
+sized e = (length e.1, e.0)
+
+-- the same of an entry that an index hands out, whose row says the size
+abbrev pub sized_as : TakenEntry → ℕ × List ℕ
+sized_as t = (t.row.size, t.name)
 
 -- the text of `list`: a line for each entry that is taken
 abbrev pub list_text : List ℕ → Option (List (List Sign)) → List ℕ
-list_text b include = flat_map list_line (taken b include)
+list_text b include = flat_map sized_line (map sized (taken b include))

@@ -4,7 +4,9 @@ use Rattle.std.specs.Prelude.{ℕ, ◌+◌, ◌≡◌, ◌≤◌, List, length, 
 use Rattle.jm_form.specs.declared.container.Header.{Header}
 use Rattle.jm_form.specs.declared.container.HeaderFault.{HeaderFault}
 use Rattle.jm_form.specs.Head.{header_of, index_length}
+use Rattle.jm_form.specs.declared.rows.Row.{Row}
 use Rattle.jm_form.specs.Validity.{look}
+use Rattle.jm_jrt.specs.Stat.{node_sought}
 use Rattle.jm_outside.specs.Files.{Files, file}
 use Rattle.jm_outside.specs.Outcome.{Shows}
 use Rattle.jm_words.specs.declared.errors.WordsError.{WordsError}
@@ -24,9 +26,9 @@ front_with (Err fault) = 28
 abbrev pub front_size : List ℕ → ℕ
 front_size b = front_with (header_of b)
 
--- the bytes that `cat` takes of a file: the front, and the content that the look-up of the name has
-abbrev pub cat_size : List ℕ → List ℕ → ℕ
-cat_size name b = front_size b + length (content_of (look b name))
+-- the bytes that are taken of a file for a content that is found in it: the front, and that content
+abbrev pub sought_size : (List ℕ → Option (Row × List ℕ)) → List ℕ → ℕ
+sought_size sought b = front_size b + length (content_of (sought b))
 
 -- of the file of a path, if it is there, at most so many bytes were taken, and nothing besides
 abbrev pub TakesOf : (List ℕ → ℕ) → Option (List ℕ) → (old new : ℕ) → Type 0
@@ -37,20 +39,19 @@ TakesOf most (Some b) old new = new ≤ old + most b
 abbrev pub TakesFrom : Option Files → List ℕ → (List ℕ → ℕ) → (old new : ℕ) → Type 0
 TakesFrom told path most old new = Shows told (λ files. TakesOf most (file files path) old new)
 
--- a work that reads its whole file
-abbrev pub ReadsWhole : ImageWork → Type 0
-ReadsWhole (work.Cat name) = ⊥
-ReadsWhole work.Info = ⊥
-ReadsWhole work.Verify = ⊥
-ReadsWhole _ = Unit {0}
-
--- what a work on the image in the file of a path takes: `info` and `verify` the front, `cat` the
--- front and the content
+-- what a work on the image in the file of a path takes: `info`, `verify` and `list` the front,
+-- `cat` and `ls` the front and the content of the name or of the folder's node; the others read the
+-- whole file
 abbrev pub WorkTakes : Option Files → List ℕ → ImageWork → (old new : ℕ) → Type 0
 WorkTakes told path work.Info old new = TakesFrom told path front_size old new
 WorkTakes told path work.Verify old new = TakesFrom told path front_size old new
-WorkTakes told path (work.Cat name) old new = TakesFrom told path (cat_size name) old new
-WorkTakes told path _ old new = Unit {0}
+WorkTakes told path (work.List include) old new = TakesFrom told path front_size old new
+WorkTakes told path (work.Cat name) old new =
+    TakesFrom told path (sought_size (λ b. look b name)) old new
+WorkTakes told path (work.Ls folder) old new =
+    TakesFrom told path (sought_size (λ b. node_sought b folder)) old new
+WorkTakes told path (work.Extract dir include) old new = Unit {0}
+WorkTakes told path work.Serve old new = Unit {0}
 
 -- what a task takes, if it is such a work
 abbrev pub TaskTakes : Option Files → Task → (old new : ℕ) → Type 0

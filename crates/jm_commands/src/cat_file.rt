@@ -1,21 +1,18 @@
 //! `cat` on the image in a file: by its index, and then the one content.
-ghost use Rattle.std.specs.Prelude.{◌≡◌, ◌<◌, ℕ, List, None, Err, Some, IfSome, IsUtf8};
-ghost use Rattle.std.specs.Prelude.{option_map};
-ghost use Rattle.jm_form.specs.Entries.{content_of};
-ghost use Rattle.jm_form.specs.Head.{IsFileOf};
-ghost use Rattle.jm_form.specs.Places.{contents};
+ghost use Rattle.std.specs.Prelude.{◌≡◌, ◌<◌, ℕ, List, None, Err, IsUtf8};
 ghost use Rattle.jm_form.specs.Validity.{look};
 ghost use Rattle.jm_outside.specs.Shelves.{shelf_at};
-ghost use Rattle.jm_reader.specs.Look.{head, SoundIn};
 ghost use Rattle.jm_commands.specs.Outcome.{cat_outcome, reading};
 ghost use Rattle.jm_commands.specs.Run.{PutDoes, StepComesTo, WorkComesTo};
 ghost use Rattle.jm_commands.specs.Sinks.{Seen};
-ghost use Rattle.jm_commands.specs.Taken.{TakesFrom, cat_size};
+ghost use Rattle.jm_commands.specs.Sought.{Seeks};
+ghost use Rattle.jm_commands.specs.Taken.{TakesFrom, sought_size};
 ghost use Rattle.jm_commands.specs.World.{sink_at, world};
 
 use crate::complaint::Complaint;
-use crate::front::{file_front, file_part, open_front};
+use crate::front::{OpenFront, file_front};
 use crate::output::put_output;
+use crate::sought::sought_content;
 use crate::stop::Stop;
 use crate::workers::Workers;
 use jm_bytes::{Meter, Steps, Text};
@@ -23,18 +20,16 @@ use jm_form::Row;
 use jm_halves::Gate;
 use jm_names::to_utf8;
 use jm_outside::{Shelf, Sink};
-use jm_reader::{find_row_in, place_of_content};
-use jm_valid::Index;
+use jm_reader::find_row_in;
 use jm_words::ImageWork;
 use std::alloc::Global;
 use std::marker::Brand;
 use std::sync::ledger::{Blank, Ledger};
 use std::thread::Threads;
 
-/// Does what `find_row_in` does on the index of these bytes, with counters of its own.
+/// Does what `find_row_in` does, with counters of its own.
 fn find_counted<H: Ledger, R: Ledger>(
-    index: &Index,
-    bytes: &[u8],
+    front: &OpenFront,
     name: &[u8],
     hashes: Blank,
     reads: Blank,
@@ -45,17 +40,11 @@ fn find_counted<H: Ledger, R: Ledger>(
     requires reads_name { reads.name ≡ R.name }
     requires reads_parts { reads.parts ≡ R.parts }
     requires reads_some { 0 < reads.parts }
-    requires bytes { bytes.now ≡ index.now.bytes }
-    ensures found { (b : List ℕ) → IsFileOf index.now.bytes index.now.length b
-        → result ≡ option_map (λ found. found.0) (look b name.now) }
-    ensures content { (b : List ℕ) → IsFileOf index.now.bytes index.now.length b
-        → IfSome result (λ row. look b name.now
-        ≡ Some (row, content_of (contents b (head b)) row)) }
-    ensures row { IfSome result (SoundIn index.now) }
+    ensures { Seeks (λ b. look b name.now) front.now result }
 {
     let mut hashes = Steps::<H>::new(hashes);
-    let mut reads = Meter::<R>::new(bytes, reads);
-    find_row_in(index, name, &mut hashes, &mut reads)
+    let mut reads = Meter::<R>::new(front.bytes(), reads);
+    find_row_in(front.as_index(), name, &mut hashes, &mut reads)
 }
 
 /// What ends the run where no entry has the name.
@@ -84,17 +73,14 @@ pub fn cat_file<T: Threads + Sync, S: Shelf, O: Sink, G: Gate + Sync>(
         reading result
         (world (shelf_at S.Shelf shelf.old) source (sink_at O.Sink out.old))
         (world (shelf_at S.Shelf shelf.new) source (sink_at O.Sink out.new)) }
-    ensures takes { TakesFrom (S.files shelf.old) path.now (cat_size name.now)
+    ensures takes { TakesFrom (S.files shelf.old) path.now (sought_size (λ b. look b name.now))
         (S.handed shelf.old) (S.handed shelf.new) }
 {
-    let front = file_front(workers.alloc, path, shelf)?;
-    let index = open_front(workers, &front)?;
-    let (hashes, reads) = (Blank::new(1), Blank::new(1));
-    let bytes = front.bytes.as_slice();
-    let Some(row) = find_counted::<Brand, Brand>(&index, bytes, name, hashes, reads) else {
-        return Err(no_entry(workers.alloc, name));
-    };
-    let place = place_of_content(&index, &row);
-    let content = file_part(workers.alloc, path, place, row.size as usize, shelf)?;
-    put_output(workers.alloc, content.as_slice(), out)
+    let bytes = file_front(workers.alloc, path, shelf)?;
+    let front = OpenFront::of(workers, &bytes)?;
+    let row = find_counted::<Brand, Brand>(&front, name, Blank::new(1), Blank::new(1));
+    match sought_content(workers.alloc, path, &front, &row, shelf)? {
+        Some(content) => put_output(workers.alloc, content.as_slice(), out),
+        None => Err(no_entry(workers.alloc, name)),
+    }
 }

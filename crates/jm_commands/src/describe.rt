@@ -10,7 +10,7 @@ ghost use Rattle.jm_commands.specs.Stops.{Refuses};
 ghost use Rattle.jm_commands.specs.World.{sink_at, world};
 
 use crate::complaint::Complaint;
-use crate::image_file::file_bytes;
+use crate::opened::file_bytes;
 use crate::output::put_output;
 use crate::stop::Stop;
 use jm_bytes::Text;

@@ -5,22 +5,26 @@ ghost use Rattle.jm_outside.specs.Outcome.{CountsFaults};
 ghost use Rattle.jm_outside.specs.Shelves.{shelf_at};
 ghost use Rattle.jm_extract.specs.Extracted.{Extracts, extracted};
 ghost use Rattle.jm_commands.specs.ExtractText.{extract_text};
-ghost use Rattle.jm_commands.specs.Outcome.{done, extract_outcome};
-ghost use Rattle.jm_commands.specs.Run.{PutDoes, StepDoes};
+ghost use Rattle.jm_commands.specs.Outcome.{done, extract_outcome, reading};
+ghost use Rattle.jm_commands.specs.Run.{PutDoes, StepComesTo, StepDoes, WorkComesTo};
 ghost use Rattle.jm_commands.specs.Sinks.{Seen};
 ghost use Rattle.jm_commands.specs.World.{sink_at, world};
 
-use crate::opened::Opened;
+use crate::opened::{Opened, file_bytes};
 use crate::output::put_output;
 use crate::stop::Stop;
+use crate::workers::Workers;
 use itoa::Buffer;
 use jm_bytes::{List, Meter, NoMemory, Text, extend};
 use jm_extract::{ExtractStop, extract};
+use jm_halves::Gate;
 use jm_outside::{Shelf, Sink};
 use jm_pattern::Pattern;
+use jm_words::ImageWork;
 use std::alloc::Global;
 use std::marker::Brand;
 use std::sync::ledger::{Blank, Ledger};
+use std::thread::Threads;
 
 /// The line on how many files were made.
 fn extract_text(alloc: Global, count: usize) -> Result<Text, NoMemory>
@@ -43,46 +47,81 @@ fn put_count<O: Sink>(alloc: Global, count: usize, out: &mut O) -> Result<(), St
     put_output(alloc, text.as_slice(), out)
 }
 
+/// What is taken out of an image, and the directory for it.
+#[derive(Clone, Copy)]
+pub struct Extraction<'w> {
+    /// Where files are made, in UTF-8.
+    pub dir: &'w [u8],
+    /// Patterns, of which one must match a name; None takes all resources.
+    pub include: &'w Option<List<Pattern>>,
+}
+
 /// Does what `extract` of jm_extract does, with a meter of its own.
 fn extract_counted<S: Shelf, R: Ledger>(
     alloc: Global,
     image: &Opened,
-    include: &Option<List<Pattern>>,
-    dir: &[u8],
+    work: Extraction,
     shelf: &mut S,
     reads: Blank,
 ) -> Result<usize, ExtractStop>
-    requires text { IsUtf8 dir.now }
+    requires text { IsUtf8 work.dir.now }
     requires reads_name { reads.name ≡ R.name }
     requires reads_parts { reads.parts ≡ R.parts }
     requires reads_some { 0 < reads.parts }
-    ensures extracts { Extracts (extracted image.now include.now) dir.now result
-        (S.files shelf.old) (S.files shelf.new) }
+    ensures extracts { Extracts (extracted image.now work.entry.include.now) work.entry.dir.now
+        result (S.files shelf.old) (S.files shelf.new) }
     ensures whole { OnOk result (IsTrue (S.whole shelf.new)) }
     ensures faults { CountsFaults (S.faults shelf.old) (S.faults shelf.new) (IsOk result)
         (IsErrOf result ExtractStop.Outside) }
 {
     let mut reads = Meter::<R>::new(image.bytes(), reads);
+    let Extraction { dir, include } = work;
     extract(alloc, image.as_image(), include, dir, shelf, &mut reads)
 }
 
 /// Makes, below the directory, a file of each taken entry of the image, and then puts how many they
 /// are. A refusal changes no file; if the put fails, all files stand.
-pub fn extract_command<S: Shelf, O: Sink>(
+fn extract_command<S: Shelf, O: Sink>(
     alloc: Global,
     image: &Opened,
-    include: &Option<List<Pattern>>,
-    dir: &[u8],
+    work: Extraction,
     shelf: &mut S,
     out: &mut O,
 ) -> Result<(), Stop>
-    requires text { IsUtf8 dir.now }
+    requires text { IsUtf8 work.dir.now }
     ensures { (source : Seen (List ℕ)) →
-        StepDoes (extract_outcome dir.now (extracted image.now include.now)) result
+        StepDoes (extract_outcome work.entry.dir.now (extracted image.now work.entry.include.now))
+        result
         (world (shelf_at S.Shelf shelf.old) source (sink_at O.Sink out.old))
         (world (shelf_at S.Shelf shelf.new) source (sink_at O.Sink out.new)) }
 {
     let reads = Blank::new(1);
-    let count = extract_counted::<S, Brand>(alloc, image, include, dir, shelf, reads)?;
+    let count = extract_counted::<S, Brand>(alloc, image, work, shelf, reads)?;
     put_count(alloc, count, out)
+}
+
+/// `extract`, on the image in the file at a path. The source of the run isn't lent to it.
+pub fn extract_file<T: Threads + Sync, S: Shelf, O: Sink, G: Gate + Sync>(
+    workers: &Workers<T, G>,
+    path: &Text,
+    work: Extraction,
+    shelf: &mut S,
+    out: &mut O,
+) -> Result<(), Stop>
+    requires jobs { 0 < workers.now.jobs }
+    requires path { IsUtf8 path.now }
+    requires text { IsUtf8 work.dir.now }
+    ensures { (source : Seen (List ℕ)) →
+        StepComesTo (WorkComesTo (S.files shelf.old) source.told path.now
+        (ImageWork.Extract work.entry.dir.now work.entry.include.now)) reading result
+        (world (shelf_at S.Shelf shelf.old) source (sink_at O.Sink out.old))
+        (world (shelf_at S.Shelf shelf.new) source (sink_at O.Sink out.new)) }
+{
+    match file_bytes(workers.alloc, path, shelf) {
+        Ok(bytes) => match Opened::of(workers, bytes.as_slice()) {
+            Ok(image) => extract_command(workers.alloc, &image, work, shelf, out),
+            Err(stop) => Err(stop),
+        },
+        Err(stop) => Err(stop),
+    }
 }

@@ -16,6 +16,7 @@ use jm_halves::Gate;
 use jm_outside::Shelf;
 use jm_valid::{Index, OpenError, open_index};
 use std::alloc::Global;
+use std::marker::Model;
 use std::thread::Threads;
 
 /// How many bytes a header has.
@@ -138,26 +139,63 @@ pub fn file_front<S: Shelf>(alloc: Global, path: &Text, shelf: &mut S) -> Result
     }
 }
 
-/// Opens the index of the image that is a file with this front, on all jobs.
-pub fn open_front<'a, T: Threads + Sync, G: Gate + Sync>(
-    workers: &Workers<T, G>,
-    front: &'a FileFront,
-) -> Result<Index<'a>, Stop>
-    requires jobs { 0 < workers.now.jobs }
-    requires holds { HoldsIndex front.now.bytes front.now.length }
-    ensures bytes { IfOk result (λ index. index.bytes ≡ front.now.bytes) }
-    ensures length { IfOk result (λ index. index.length ≡ front.now.length) }
-    ensures opens { (b : List ℕ) → IsFileOf front.now.bytes front.now.length b → Opens b result }
-{
-    let Workers {
-        rt,
-        alloc,
-        jobs,
-        gate,
-    } = *workers;
-    match open_index(rt, alloc, jobs, front.bytes.as_slice(), front.length, gate) {
-        Ok(index) => Ok(index),
-        Err(OpenError::Damaged(damage)) => Err(Stop::Complaint(Complaint::Damaged(damage))),
-        Err(OpenError::Memory) => Err(Stop::Memory),
+/// The index of an image beside the first bytes of its file: a meter of what is read of the index
+/// is made of them.
+#[derive(Drop)]
+pub struct OpenFront<'a> {
+    index: Index<'a>,
+    bytes: &'a [u8],
+}
+
+impl<'a> Model for OpenFront<'a> {
+    ghost use Rattle.std.specs.Prelude.{◌≡◌};
+    ghost use Rattle.jm_valid.specs.Opened.{Front};
+
+    ghost Value = { Front };
+
+    ghost view = { λ a. a.index };
+
+    ghost invariant = { λ a. a.index.bytes ≡ a.bytes.now };
+}
+
+impl<'a> OpenFront<'a> {
+    /// Opens the index of the image that is a file with this front, on all jobs.
+    pub fn of<T: Threads + Sync, G: Gate + Sync>(
+        workers: &Workers<T, G>,
+        front: &'a FileFront,
+    ) -> Result<OpenFront<'a>, Stop>
+        requires jobs { 0 < workers.now.jobs }
+        requires holds { HoldsIndex front.now.bytes front.now.length }
+        ensures bytes { IfOk result (λ index. index.bytes ≡ front.now.bytes) }
+        ensures length { IfOk result (λ index. index.length ≡ front.now.length) }
+        ensures opens { (b : List ℕ) → IsFileOf front.now.bytes front.now.length b
+            → Opens b result }
+    {
+        let Workers {
+            rt,
+            alloc,
+            jobs,
+            gate,
+        } = *workers;
+        let bytes = front.bytes.as_slice();
+        match open_index(rt, alloc, jobs, bytes, front.length, gate) {
+            Ok(index) => Ok(OpenFront { index, bytes }),
+            Err(OpenError::Damaged(damage)) => Err(Stop::Complaint(Complaint::Damaged(damage))),
+            Err(OpenError::Memory) => Err(Stop::Memory),
+        }
+    }
+
+    /// The index.
+    pub fn as_index(&self) -> &Index<'a>
+        ensures { result.now ≡ self.now }
+    {
+        &self.index
+    }
+
+    /// The first bytes of the file.
+    pub fn bytes(&self) -> &'a [u8]
+        ensures { result.now ≡ self.now.bytes }
+    {
+        self.bytes
     }
 }

@@ -19,6 +19,8 @@ mod output;
 mod pieces;
 mod program;
 mod serve;
+mod shown;
+mod sought;
 mod status;
 mod stop;
 mod verify;

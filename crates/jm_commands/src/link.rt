@@ -11,8 +11,7 @@ ghost use Rattle.jm_commands.specs.Run.{StepComesTo};
 ghost use Rattle.jm_commands.specs.Sinks.{Seen};
 ghost use Rattle.jm_commands.specs.World.{sink_at, world};
 
-use crate::image_file::file_bytes;
-use crate::opened::Opened;
+use crate::opened::{Opened, file_bytes};
 use crate::output::put_output;
 use crate::stop::Stop;
 use crate::workers::Workers;

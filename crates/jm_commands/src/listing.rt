@@ -1,12 +1,12 @@
-ghost use Rattle.std.specs.Prelude.{◌≡◌, ◌<◌, ◌++◌, OnOk, map, flat_map};
-ghost use Rattle.jm_commands.specs.ListText.{list_line, list_text};
+ghost use Rattle.std.specs.Prelude.{◌≡◌, ◌<◌, ◌++◌, ℕ, List, OnOk, map, flat_map};
+ghost use Rattle.jm_form.specs.Head.{IsFileOf};
+ghost use Rattle.jm_commands.specs.ListText.{list_text, sized_as, sized_line};
 ghost use Rattle.jm_commands.specs.Outcome.{done};
 ghost use Rattle.jm_commands.specs.Pieces.{PassesText, PutsText};
 ghost use Rattle.jm_commands.specs.Run.{PutDoes};
-ghost use Rattle.jm_extract.specs.Taken.{taken_as};
 ghost use Rattle.jm_commands.specs.World.{sink_at};
 
-use crate::opened::Opened;
+use crate::front::OpenFront;
 use crate::pieces::put_full;
 use crate::stop::Stop;
 use itoa::Buffer;
@@ -21,11 +21,11 @@ use std::sync::ledger::{Blank, Ledger};
 
 /// Adds the line of an entry at the end: its size in bytes, a space, its name in UTF-8.
 fn extend_line(alloc: Global, text: &mut Vec<u8>, entry: &TakenEntry) -> Result<(), NoMemory>
-    ensures { OnOk result (text.new.items ≡ text.old.items ++ list_line (taken_as entry.now)) }
+    ensures { OnOk result (text.new.items ≡ text.old.items ++ sized_line (sized_as entry.now)) }
 {
     let name = entry.name.view().to_text(alloc)?;
     let mut size = Buffer::new();
-    extend(text, size.format(entry.bytes.len()).as_bytes())?;
+    extend(text, size.format(entry.row.size).as_bytes())?;
     extend(text, b" ")?;
     extend_utf8(alloc, text, name.as_slice())?;
     extend(text, b"\n")
@@ -39,7 +39,7 @@ fn pass_line<O: Sink>(
     entry: &TakenEntry,
     out: &mut O,
 ) -> Result<(), SinkError>
-    ensures { PassesText (list_line (taken_as entry.now)) text.old.items text.new.items result
+    ensures { PassesText (sized_line (sized_as entry.now)) text.old.items text.new.items result
         (sink_at O.Sink out.old) (sink_at O.Sink out.new) }
 {
     extend_line(alloc, text, entry)?;
@@ -48,7 +48,7 @@ fn pass_line<O: Sink>(
 
 /// Puts the lines of some entries, piece by piece; the last piece may be empty.
 fn put_lines<O: Sink>(alloc: Global, entries: &[TakenEntry], out: &mut O) -> Result<(), SinkError>
-    ensures { PutsText (flat_map list_line (map taken_as entries.now)) result
+    ensures { PutsText (flat_map sized_line (map sized_as entries.now)) result
         (sink_at O.Sink out.old) (sink_at O.Sink out.new) }
 {
     let mut text = Vec::new(alloc);
@@ -59,9 +59,9 @@ fn put_lines<O: Sink>(alloc: Global, entries: &[TakenEntry], out: &mut O) -> Res
 }
 
 /// Puts the text of `list`, with a meter of its own.
-fn put_list<O: Sink, R: Ledger>(
+fn put_taken<O: Sink, R: Ledger>(
     alloc: Global,
-    image: &Opened,
+    front: &OpenFront,
     include: &Option<List<Pattern>>,
     out: &mut O,
     reads: Blank,
@@ -69,24 +69,26 @@ fn put_list<O: Sink, R: Ledger>(
     requires reads_name { reads.name ≡ R.name }
     requires reads_parts { reads.parts ≡ R.parts }
     requires reads_some { 0 < reads.parts }
-    ensures { PutsText (list_text image.now include.now) result
+    ensures { (b : List ℕ) → IsFileOf front.now.bytes front.now.length b →
+        PutsText (list_text b include.now) result
         (sink_at O.Sink out.old) (sink_at O.Sink out.new) }
 {
-    let mut reads = Meter::<R>::new(image.bytes(), reads);
-    let entries = taken(alloc, image.as_image(), include, &mut reads)?;
+    let mut reads = Meter::<R>::new(front.bytes(), reads);
+    let entries = taken(alloc, front.as_index(), include, &mut reads)?;
     put_lines(alloc, entries.as_slice(), out)
 }
 
-/// Puts the lines of the taken entries of the image, piece by piece.
-pub fn list_command<O: Sink>(
+/// Puts the lines of the taken entries of an image, piece by piece.
+pub fn put_list<O: Sink>(
     alloc: Global,
-    image: &Opened,
+    front: &OpenFront,
     include: &Option<List<Pattern>>,
     out: &mut O,
 ) -> Result<(), Stop>
-    ensures { PutDoes (done (list_text image.now include.now)) result
+    ensures { (b : List ℕ) → IsFileOf front.now.bytes front.now.length b →
+        PutDoes (done (list_text b include.now)) result
         (sink_at O.Sink out.old) (sink_at O.Sink out.new) }
 {
-    put_list::<O, Brand>(alloc, image, include, out, Blank::new(1))?;
+    put_taken::<O, Brand>(alloc, front, include, out, Blank::new(1))?;
     Ok(())
 }

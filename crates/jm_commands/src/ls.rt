@@ -1,23 +1,42 @@
-//! The command `ls`.
-ghost use Rattle.std.specs.Prelude.{◌≡◌, ◌<◌, Err, IfOk};
+//! `ls` on the image in a file: by its index, and then the content of the folder's node.
+ghost use Rattle.std.specs.Prelude.{◌≡◌, ◌<◌, ℕ, List, Err, IfOk, IsUtf8, option_map};
+ghost use Rattle.jm_form.specs.Head.{IsFileOf};
+ghost use Rattle.jm_outside.specs.Shelves.{shelf_at};
 ghost use Rattle.jm_jrt.specs.Reply.{held_lines};
-ghost use Rattle.jm_jrt.specs.Stat.{held, stat};
-ghost use Rattle.jm_commands.specs.Outcome.{done, ls_outcome};
+ghost use Rattle.jm_jrt.specs.Stat.{held, node_content, node_sought, stat};
+ghost use Rattle.jm_commands.specs.Outcome.{done, ls_outcome, reading};
 ghost use Rattle.jm_commands.specs.Pieces.{PutsText};
-ghost use Rattle.jm_commands.specs.Run.{PutDoes, outcome_of};
-ghost use Rattle.jm_commands.specs.World.{sink_at};
+ghost use Rattle.jm_commands.specs.Run.{PutDoes, StepComesTo, WorkComesTo, outcome_of};
+ghost use Rattle.jm_commands.specs.Sinks.{Seen};
+ghost use Rattle.jm_commands.specs.Sought.{Seeks};
+ghost use Rattle.jm_commands.specs.Taken.{TakesFrom, sought_size};
+ghost use Rattle.jm_commands.specs.World.{sink_at, world};
 
 use crate::complaint::Complaint;
-use crate::opened::Opened;
+use crate::front::{OpenFront, file_front};
 use crate::pieces::{PIECE, put_piece};
+use crate::sought::sought_content;
 use crate::stop::Stop;
-use jm_bytes::{Meter, NoMemory, Steps};
-use jm_jrt::{ChildList, JrtError, children, extend_next_children};
+use crate::workers::Workers;
+use jm_bytes::{Meter, NoMemory, Steps, Text};
+use jm_form::Row;
+use jm_halves::Gate;
+use jm_jrt::{ChildList, JrtError, children_in, extend_next_children, node_row};
 use jm_names::to_utf8;
-use jm_outside::{Sink, SinkError};
+use jm_outside::{Shelf, Sink, SinkError};
+use jm_words::ImageWork;
 use std::alloc::Global;
 use std::marker::Brand;
 use std::sync::ledger::{Blank, Ledger};
+use std::thread::Threads;
+
+/// The folder of an image that is asked for, and the content of its node, if it has one.
+#[derive(Clone, Copy)]
+struct AskedFolder<'f, 'p, 'c, 'a> {
+    front: &'f OpenFront<'a>,
+    path: &'p [u8],
+    content: Option<&'c [u8]>,
+}
 
 /// Why no folder of a path is listed.
 fn ls_complaint(alloc: Global, path: &[u8], error: JrtError) -> Result<Complaint, NoMemory>
@@ -66,11 +85,40 @@ fn put_listing<O: Sink, R: Ledger>(
     Ok(())
 }
 
-/// Does what `ls_command` does, with counters of its own.
-fn ls_counted<O: Sink, H: Ledger, R: Ledger>(
-    alloc: Global,
-    image: &Opened,
+/// The row of the node that says what stands at a path, with counters of its own.
+fn node_counted<H: Ledger, R: Ledger>(
+    front: &OpenFront,
     path: &[u8],
+    hashes: Blank,
+    reads: Blank,
+) -> Option<Row>
+    requires hashes_name { hashes.name ≡ H.name }
+    requires hashes_parts { hashes.parts ≡ H.parts }
+    requires hashes_some { 0 < hashes.parts }
+    requires reads_name { reads.name ≡ R.name }
+    requires reads_parts { reads.parts ≡ R.parts }
+    requires reads_some { 0 < reads.parts }
+    ensures { Seeks (λ b. node_sought b path.now) front.now result }
+{
+    let mut hashes = Steps::<H>::new(hashes);
+    let mut reads = Meter::<R>::new(front.bytes(), reads);
+    node_row(front.as_index(), path, &mut hashes, &mut reads)
+}
+
+/// The bytes of a text, if there is one.
+fn bytes_of(text: &Option<Text>) -> Option<&[u8]>
+    ensures { option_map (λ c. c.now) result ≡ text.now }
+{
+    match text {
+        Some(text) => Some(text.as_slice()),
+        None => None,
+    }
+}
+
+/// Lists a folder, with counters of its own.
+fn list_folder<O: Sink, H: Ledger, R: Ledger>(
+    alloc: Global,
+    asked: AskedFolder,
     out: &mut O,
     hashes: Blank,
     reads: Blank,
@@ -81,27 +129,52 @@ fn ls_counted<O: Sink, H: Ledger, R: Ledger>(
     requires reads_name { reads.name ≡ R.name }
     requires reads_parts { reads.parts ≡ R.parts }
     requires reads_some { 0 < reads.parts }
-    ensures { PutDoes (ls_outcome path.now (held (stat image.now path.now))) result
+    ensures { (b : List ℕ)
+        → IsFileOf asked.entry.front.now.bytes asked.entry.front.now.length b
+        → node_content b asked.entry.path.now ≡ option_map (λ c. c.now) asked.entry.content
+        → PutDoes (ls_outcome asked.entry.path.now (held (stat b asked.entry.path.now))) result
         (sink_at O.Sink out.old) (sink_at O.Sink out.new) }
 {
+    let AskedFolder {
+        front,
+        path,
+        content,
+    } = asked;
     let mut hashes = Steps::<H>::new(hashes);
-    let mut reads = Meter::<R>::new(image.bytes(), reads);
-    match children(image.as_image(), path, &mut hashes, &mut reads) {
+    let mut reads = Meter::<R>::new(front.bytes(), reads);
+    match children_in(front.as_index(), path, content, &mut hashes, &mut reads) {
         Ok(mut list) => put_listing(alloc, path, &mut list, out, &mut reads),
         Err(error) => Err(Stop::Complaint(ls_complaint(alloc, path, error)?)),
     }
 }
 
-/// `ls`: the children of the folder at a path of the image, in the image's order.
-pub fn ls_command<O: Sink>(
-    alloc: Global,
-    image: &Opened,
+/// `ls`: the children of the folder at a path of the image in a file, in the image's order. The
+/// source of the run isn't lent to it.
+pub fn ls_file<T: Threads + Sync, S: Shelf, O: Sink, G: Gate + Sync>(
+    workers: &Workers<T, G>,
+    image: &Text,
     path: &[u8],
+    shelf: &mut S,
     out: &mut O,
 ) -> Result<(), Stop>
-    ensures { PutDoes (ls_outcome path.now (held (stat image.now path.now))) result
-        (sink_at O.Sink out.old) (sink_at O.Sink out.new) }
+    requires jobs { 0 < workers.now.jobs }
+    requires image { IsUtf8 image.now }
+    ensures comes { (source : Seen (List ℕ)) →
+        StepComesTo (WorkComesTo (S.files shelf.old) source.told image.now (ImageWork.Ls path.now))
+        reading result
+        (world (shelf_at S.Shelf shelf.old) source (sink_at O.Sink out.old))
+        (world (shelf_at S.Shelf shelf.new) source (sink_at O.Sink out.new)) }
+    ensures takes { TakesFrom (S.files shelf.old) image.now
+        (sought_size (λ b. node_sought b path.now)) (S.handed shelf.old) (S.handed shelf.new) }
 {
-    let (hashes, reads) = (Blank::new(1), Blank::new(1));
-    ls_counted::<O, Brand, Brand>(alloc, image, path, out, hashes, reads)
+    let bytes = file_front(workers.alloc, image, shelf)?;
+    let front = OpenFront::of(workers, &bytes)?;
+    let row = node_counted::<Brand, Brand>(&front, path, Blank::new(1), Blank::new(1));
+    let content = sought_content(workers.alloc, image, &front, &row, shelf)?;
+    let asked = AskedFolder {
+        front: &front,
+        path,
+        content: bytes_of(&content),
+    };
+    list_folder::<O, Brand, Brand>(workers.alloc, asked, out, Blank::new(1), Blank::new(1))
 }

@@ -1,23 +1,27 @@
 //! The command `serve`.
-ghost use Rattle.std.specs.Prelude.{◌≡◌, ◌<◌, IsOk, IsErrOf};
+ghost use Rattle.std.specs.Prelude.{◌≡◌, ◌<◌, IsOk, IsErrOf, IsUtf8};
 ghost use Rattle.jm_bytes.specs.Metered.{Metered};
 ghost use Rattle.jm_outside.specs.Outcome.{CountsFaults};
 ghost use Rattle.jm_outside.specs.Shelves.{ShelfSeen};
 ghost use Rattle.jm_jrt.specs.Sessions.{Serves};
-ghost use Rattle.jm_commands.specs.Outcome.{session_outcome};
-ghost use Rattle.jm_commands.specs.Run.{StepOnText};
+ghost use Rattle.jm_commands.specs.Outcome.{reading, session_outcome};
+ghost use Rattle.jm_commands.specs.Run.{StepComesTo, StepOnText, WorkComesTo};
 ghost use Rattle.jm_commands.specs.Stops.{stop_of_session};
-ghost use Rattle.jm_commands.specs.World.{sink_at, source_at, world};
+ghost use Rattle.jm_commands.specs.World.{sink_at, source_at, world, world_of};
 
 use crate::complaint::Complaint;
-use crate::opened::Opened;
+use crate::opened::{Opened, file_bytes};
 use crate::stop::Stop;
-use jm_bytes::{Meter, Steps};
+use crate::workers::Workers;
+use jm_bytes::{Meter, Steps, Text};
+use jm_halves::Gate;
 use jm_jrt::{ServeError, serve};
-use jm_outside::{Sink, Source};
+use jm_outside::{Shelf, Sink, Source};
+use jm_words::ImageWork;
 use std::alloc::Global;
 use std::marker::Brand;
 use std::sync::ledger::{Blank, Ledger};
+use std::thread::Threads;
 
 /// Does what `serve` of jm_jrt does, with counters of its own.
 fn serve_counted<I: Source, O: Sink, H: Ledger, R: Ledger>(
@@ -63,7 +67,7 @@ fn stop_of_session(answered: Result<u64, ServeError>) -> Result<(), Stop>
 
 /// `serve`: puts the replies to the lines of the source, one `put` for each, until the source ends
 /// or the session breaks its limits. The shelf of the run isn't lent to it.
-pub fn serve_command<I: Source, O: Sink>(
+fn serve_command<I: Source, O: Sink>(
     alloc: Global,
     image: &Opened,
     input: &mut I,
@@ -77,4 +81,28 @@ pub fn serve_command<I: Source, O: Sink>(
     let (hashes, reads) = (Blank::new(1), Blank::new(1));
     let answered = serve_counted::<I, O, Brand, Brand>(alloc, image, input, out, hashes, reads);
     stop_of_session(answered)
+}
+
+/// `serve`, on the image in the file at a path.
+pub fn serve_file<T: Threads + Sync, S: Shelf, I: Source, O: Sink, G: Gate + Sync>(
+    workers: &Workers<T, G>,
+    path: &Text,
+    shelf: &mut S,
+    input: &mut I,
+    out: &mut O,
+) -> Result<(), Stop>
+    requires jobs { 0 < workers.now.jobs }
+    requires path { IsUtf8 path.now }
+    ensures { StepComesTo
+        (WorkComesTo (S.files shelf.old) (I.rest input.old) path.now ImageWork.Serve) reading result
+        (world_of S.Shelf I.Source O.Sink shelf.old input.old out.old)
+        (world_of S.Shelf I.Source O.Sink shelf.new input.new out.new) }
+{
+    match file_bytes(workers.alloc, path, shelf) {
+        Ok(bytes) => match Opened::of(workers, bytes.as_slice()) {
+            Ok(image) => serve_command(workers.alloc, &image, input, out),
+            Err(stop) => Err(stop),
+        },
+        Err(stop) => Err(stop),
+    }
 }

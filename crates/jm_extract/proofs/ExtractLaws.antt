@@ -19,36 +19,36 @@ use Rattle.jm_extract.specs.Taken.{taken_as}
 
 -- One file more
 
-next_write : (dir : List ℕ) (ts : List TakenEntry) (i : ℕ) (t : TakenEntry) → i < length ts → get_or ts i t ≡ t
-    → writes_of dir (map taken_as (take i ts)) ++ write_of dir (taken_as t) ∷ [] ≡ writes_of dir (map taken_as (take (i + 1) ts))
-next_write dir ts i t within is =
-    sym (ap (λ us. writes_of dir (map taken_as us)) (take_more ts i t within)
-    ∙ ap (writes_of dir) (map-append taken_as (take i ts) (get_or ts i t ∷ []))
-    ∙ map-append (write_of dir) (map taken_as (take i ts)) (taken_as (get_or ts i t) ∷ [])
-    ∙ ap (λ (s : TakenEntry). writes_of dir (map taken_as (take i ts)) ++ write_of dir (taken_as s) ∷ []) is)
+next_write : (b dir : List ℕ) (ts : List TakenEntry) (i : ℕ) (t : TakenEntry) → i < length ts → get_or ts i t ≡ t
+    → writes_of dir (map (taken_as b) (take i ts)) ++ write_of dir (taken_as b t) ∷ [] ≡ writes_of dir (map (taken_as b) (take (i + 1) ts))
+next_write b dir ts i t within is =
+    sym (ap (λ us. writes_of dir (map (taken_as b) us)) (take_more ts i t within)
+    ∙ ap (writes_of dir) (map-append (taken_as b) (take i ts) (get_or ts i t ∷ []))
+    ∙ map-append (write_of dir) (map (taken_as b) (take i ts)) (taken_as b (get_or ts i t) ∷ [])
+    ∙ ap (λ (s : TakenEntry). writes_of dir (map (taken_as b) (take i ts)) ++ write_of dir (taken_as b s) ∷ []) is)
 
-pub made_next : (dir : List ℕ) (ts : List TakenEntry) (i : ℕ) (t : TakenEntry) (old now new : Option Files) → i < length ts
-    → get_or ts i t ≡ t → MadeAll (writes_of dir (map taken_as (take i ts))) old now → MadeAll (write_of dir (taken_as t) ∷ []) now
-    new → MadeAll (writes_of dir (map taken_as (take (i + 1) ts))) old new
-made_next dir ts i t old now new within is done made =
-    subst (λ (ws : Writes). MadeAll ws old new) (next_write dir ts i t within is)
-    (made_append (writes_of dir (map taken_as (take i ts))) (write_of dir (taken_as t) ∷ []) old now new done made)
+pub made_next : (b dir : List ℕ) (ts : List TakenEntry) (i : ℕ) (t : TakenEntry) (old now new : Option Files) → i < length ts
+    → get_or ts i t ≡ t → MadeAll (writes_of dir (map (taken_as b) (take i ts))) old now → MadeAll (write_of dir (taken_as b t) ∷ []) now
+    new → MadeAll (writes_of dir (map (taken_as b) (take (i + 1) ts))) old new
+made_next b dir ts i t old now new within is done made =
+    subst (λ (ws : Writes). MadeAll ws old new) (next_write b dir ts i t within is)
+    (made_append (writes_of dir (map (taken_as b) (take i ts))) (write_of dir (taken_as b t) ∷ []) old now new done made)
 
-pub part_next : (dir : List ℕ) (ts : List TakenEntry) (i : ℕ) (t : TakenEntry) (old now new : Option Files) → i < length ts
-    → get_or ts i t ≡ t → MadeAll (writes_of dir (map taken_as (take i ts))) old now → MadePart (write_of dir (taken_as t) ∷ []) now
-    new → MadePart (writes_of dir (map taken_as ts)) old new
-part_next dir ts i t old now new within is done part =
+pub part_next : (b dir : List ℕ) (ts : List TakenEntry) (i : ℕ) (t : TakenEntry) (old now new : Option Files) → i < length ts
+    → get_or ts i t ≡ t → MadeAll (writes_of dir (map (taken_as b) (take i ts))) old now → MadePart (write_of dir (taken_as b t) ∷ []) now
+    new → MadePart (writes_of dir (map (taken_as b) ts)) old new
+part_next b dir ts i t old now new within is done part =
     subst (λ (ws : Writes). MadePart ws old new) whole
-    (part_longer (writes_of dir (map taken_as (take (i + 1) ts))) (writes_of dir (map taken_as (drop (i + 1) ts))) old new
-    (subst (λ (ws : Writes). MadePart ws old new) (next_write dir ts i t within is)
-    (part_append (writes_of dir (map taken_as (take i ts))) (write_of dir (taken_as t) ∷ []) old now new done part)))
+    (part_longer (writes_of dir (map (taken_as b) (take (i + 1) ts))) (writes_of dir (map (taken_as b) (drop (i + 1) ts))) old new
+    (subst (λ (ws : Writes). MadePart ws old new) (next_write b dir ts i t within is)
+    (part_append (writes_of dir (map (taken_as b) (take i ts))) (write_of dir (taken_as b t) ∷ []) old now new done part)))
   where
-    whole : writes_of dir (map taken_as (take (i + 1) ts)) ++ writes_of dir (map taken_as (drop (i + 1) ts))
-        ≡ writes_of dir (map taken_as ts)
+    whole : writes_of dir (map (taken_as b) (take (i + 1) ts)) ++ writes_of dir (map (taken_as b) (drop (i + 1) ts))
+        ≡ writes_of dir (map (taken_as b) ts)
     whole =
-        sym (map-append (write_of dir) (map taken_as (take (i + 1) ts)) (map taken_as (drop (i + 1) ts)))
-        ∙ ap (writes_of dir) (sym (map-append taken_as (take (i + 1) ts) (drop (i + 1) ts)))
-        ∙ ap (λ us. writes_of dir (map taken_as us)) (take-append-drop (i + 1) ts)
+        sym (map-append (write_of dir) (map (taken_as b) (take (i + 1) ts)) (map (taken_as b) (drop (i + 1) ts)))
+        ∙ ap (writes_of dir) (sym (map-append (taken_as b) (take (i + 1) ts) (drop (i + 1) ts)))
+        ∙ ap (λ us. writes_of dir (map (taken_as b) us)) (take-append-drop (i + 1) ts)
 
 -- The answer
 

@@ -16,7 +16,7 @@ use Rattle.jm_bytes.specs.ByteOrder.{is_before}
 use Rattle.jm_bytes.proofs.ByteOrderLaws.{before_further, before_one_way}
 use Rattle.jm_names.specs.ByName.{Named, RisesByName}
 use Rattle.jm_extract.specs.Extracted.{begins}
-use Rattle.jm_extract.specs.Taken.{taken_as}
+use Rattle.jm_extract.specs.Taken.{name_alone}
 use Rattle.jm_extract.specs.declared.taking.TakenEntry.{TakenEntry}
 
 -- One name
@@ -62,18 +62,18 @@ begins_between (a ∷ front) (b ∷ name) (c ∷ other) above below is =
 -- Entries
 
 -- of two entries that rise by name
-rises_at : (ts : List TakenEntry) (i j : ℕ) (d : TakenEntry) → RisesByName (map taken_as ts) → i < j → j < length ts
+rises_at : (ts : List TakenEntry) (i j : ℕ) (d : TakenEntry) → RisesByName (map name_alone ts) → i < j → j < length ts
     → is_before (get_or ts i d).name (get_or ts j d).name ≡ true
 rises_at ts i j d rises below within =
-    let size = length-map ts taken_as in
-    let one = get_or-map taken_as ts i d (taken_as d) (omega (arith, below, within)) in
-    let other = get_or-map taken_as ts j d (taken_as d) within in
+    let size = length-map ts name_alone in
+    let one = get_or-map name_alone ts i d (name_alone d) (omega (arith, below, within)) in
+    let other = get_or-map name_alone ts j d (name_alone d) within in
     subst (λ (e : Named). is_before (get_or ts i d).name e.0 ≡ true) other
-    (subst (λ (e : Named). is_before e.0 (get_or (map taken_as ts) j (taken_as d)).0 ≡ true) one
-    (rises i j (taken_as d) below (omega (arith, within, size))))
+    (subst (λ (e : Named). is_before e.0 (get_or (map name_alone ts) j (name_alone d)).0 ≡ true) one
+    (rises i j (name_alone d) below (omega (arith, within, size))))
 
 -- the names before some bytes come first
-pub parted : (ts : List TakenEntry) (front : List ℕ) → RisesByName (map taken_as ts)
+pub parted : (ts : List TakenEntry) (front : List ℕ) → RisesByName (map name_alone ts)
     → IsPartitionedBy (λ (t : TakenEntry). is_before t.name front) ts
 parted ts front rises i j d order within before = go (nat_lt i j) refl
   where
@@ -84,11 +84,11 @@ parted ts front rises i j d order within before = go (nat_lt i j) refl
         subst (λ (k : ℕ). is_before (get_or ts k d).name front ≡ true) same before
 
 none_begins : (ts : List TakenEntry) (front : List ℕ) → ((t : TakenEntry) → Contains ts t → starts_with nat_eq t.name front ≡ true
-    → ⊥) → begins (map taken_as ts) front ≡ false
+    → ⊥) → begins (map name_alone ts) front ≡ false
 none_begins ts front none =
-    false_from_ne_true (begins (map taken_as ts) front) (λ is.
-    let found = from_any (λ (e : Named). starts_with nat_eq e.0 front) (map taken_as ts) is in
-    let made = from_map taken_as ts found.0 found.1 in
+    false_from_ne_true (begins (map name_alone ts) front) (λ is.
+    let found = from_any (λ (e : Named). starts_with nat_eq e.0 front) (map name_alone ts) is in
+    let made = from_map name_alone ts found.0 found.1 in
     none made.0 made.1 (ap (λ (e : Named). starts_with nat_eq e.0 front) made.2 ∙ found.2))
 
 -- what stands before the bytes doesn't begin so
@@ -101,7 +101,7 @@ IsPoint ts front at = IsPartitionPoint (λ (t : TakenEntry). is_before t.name fr
 
 -- all names stand before the bytes, so none begins so
 pub begins_nowhere : (ts : List TakenEntry) (front : List ℕ) (at : ℕ) → IsPoint ts front at → length ts ≤ at
-    → begins (map taken_as ts) front ≡ false
+    → begins (map name_alone ts) front ≡ false
 begins_nowhere ts front at point all = none_begins ts front go
   where
     go : (t : TakenEntry) → Contains ts t → starts_with nat_eq t.name front ≡ true → ⊥
@@ -110,8 +110,8 @@ begins_nowhere ts front at point all = none_begins ts front go
         (omega (arith, all, within)))) so
 
 -- the first name that doesn't stand before the bytes tells whether one begins so
-pub begins_at : (ts : List TakenEntry) (front : List ℕ) (at : ℕ) (t : TakenEntry) → RisesByName (map taken_as ts)
-    → IsPoint ts front at → at < length ts → get_or ts at t ≡ t → begins (map taken_as ts) front ≡ starts_with nat_eq t.name front
+pub begins_at : (ts : List TakenEntry) (front : List ℕ) (at : ℕ) (t : TakenEntry) → RisesByName (map name_alone ts)
+    → IsPoint ts front at → at < length ts → get_or ts at t ≡ t → begins (map name_alone ts) front ≡ starts_with nat_eq t.name front
 begins_at ts front at t rises point within here = go (starts_with nat_eq t.name front) refl
   where
     above : is_before t.name front ≡ false
@@ -135,7 +135,7 @@ begins_at ts front at t rises point within here = go (starts_with nat_eq t.name 
             (rises_at ts at k s rises below inside)) in
             false≢true (sym not_so ∙ begins_between front t.name s.name above (before_one_way t.name s.name up) so)
 
-    go : (b : Bool) → starts_with nat_eq t.name front ≡ b → begins (map taken_as ts) front ≡ b
-    go true is = any_contains (λ (e : Named). starts_with nat_eq e.0 front) (map taken_as ts) (taken_as t)
-        (contains_map taken_as ts t (at, within, here)) is
+    go : (b : Bool) → starts_with nat_eq t.name front ≡ b → begins (map name_alone ts) front ≡ b
+    go true is = any_contains (λ (e : Named). starts_with nat_eq e.0 front) (map name_alone ts) (name_alone t)
+        (contains_map name_alone ts t (at, within, here)) is
     go false is = none_begins ts front (other is)

@@ -3,5 +3,6 @@ pub mod FrontLaws
 pub mod FrontNames
 pub mod PathLaws
 pub mod RefusalLaws
+pub mod SizeLaws
 pub mod TakingLaws
 mod Vectors

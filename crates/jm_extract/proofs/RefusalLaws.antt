@@ -1,10 +1,56 @@
 -- The refusal of entries, from those of their names and of their clashes.
-use Rattle.std.proofs.Common.{◌≡◌, List, [], ◌∷◌, Option, Some, None, Result, Ok, Err, IfOk, refl, ap, ◌∙◌}
-use Rattle.jm_bytes.specs.Checks.{first_fault}
-use Rattle.jm_names.specs.ByName.{Named}
-use Rattle.jm_texts.specs.NameRefusals.{first_bad_name}
+use Rattle.std.proofs.Common.{◌≡◌, ℕ, true, ◌||◌, nat_eq, List, [], ◌∷◌, ◌++◌, map, Option, Some, None, Result, Ok, Err, IfOk}
+use Rattle.std.proofs.Common.{refl, sym, subst, ap, ◌∙◌}
+use Rattle.std.specs.List.{starts_with}
+use Rattle.jm_bytes.proofs.Pairs.{pairs_map}
+use Rattle.jm_bytes.specs.ByteOrder.{is_before}
+use Rattle.jm_bytes.specs.Checks.{fault_if, first_fault}
+use Rattle.jm_names.specs.ByName.{Named, RisesByName}
+use Rattle.jm_texts.specs.NameRefusals.{first_bad_name, name_refusal}
 use Rattle.jm_texts.specs.declared.refusal.Refusal.{Refusal}
-use Rattle.jm_extract.specs.Extracted.{first_clash, refusal_of}
+use Rattle.jm_texts.specs.declared.refusal.Refusal.TheVariants as refusal
+use Rattle.jm_extract.specs.declared.taking.TakenEntry.{TakenEntry}
+use Rattle.jm_extract.specs.Extracted.{begins, clash_refusal, first_clash, refusal_of}
+use Rattle.jm_extract.specs.Taken.{name_alone, taken_as}
+
+-- Names alone
+
+-- pairs without what stands under their names
+abbrev bare : Named → Named
+bare e = (e.0, [])
+
+bare_names : (b : List ℕ) (ts : List TakenEntry) → map name_alone ts ≡ map bare (map (taken_as b) ts)
+bare_names b [] = refl
+bare_names b (t ∷ ts) = ap (λ es. name_alone t ∷ es) (bare_names b ts)
+
+pub rises_alone : (b : List ℕ) (ts : List TakenEntry) → RisesByName (map (taken_as b) ts) → RisesByName (map name_alone ts)
+rises_alone b ts rises =
+    subst RisesByName (sym (bare_names b ts)) (pairs_map (λ (e f : Named). is_before e.0 f.0 ≡ true) bare (map (taken_as b) ts) rises)
+
+bad_bare : (es : List Named) → map name_refusal (map bare es) ≡ map name_refusal es
+bad_bare [] = refl
+bad_bare (e ∷ es) = ap (λ os. name_refusal e ∷ os) (bad_bare es)
+
+begins_bare : (front : List ℕ) (es : List Named) → begins (map bare es) front ≡ begins es front
+begins_bare front [] = refl
+begins_bare front (e ∷ es) = ap (λ o. starts_with nat_eq e.0 front || o) (begins_bare front es)
+
+clash_bare : (all es : List Named) → map (clash_refusal (map bare all)) (map bare es) ≡ map (clash_refusal all) es
+clash_bare all [] = refl
+clash_bare all (e ∷ es) =
+    ap (λ o. fault_if o (refusal.Clash e.0) ∷ map (clash_refusal (map bare all)) (map bare es)) (begins_bare (e.0 ++ 47 ∷ []) all)
+    ∙ ap (λ os. clash_refusal all e ∷ os) (clash_bare all es)
+
+-- the refusal hangs on the names alone
+pub refused_alone : (b : List ℕ) (ts : List TakenEntry) → refusal_of (map name_alone ts) ≡ refusal_of (map (taken_as b) ts)
+unfolding refusal_of
+refused_alone b ts =
+    let es = map (taken_as b) ts in
+    ap refusal_of (bare_names b ts)
+    ∙ ap (λ os. first_fault (first_fault os ∷ first_clash (map bare es) ∷ [])) (bad_bare es)
+    ∙ ap (λ os. first_fault (first_bad_name es ∷ first_fault os ∷ [])) (clash_bare es es)
+
+-- The first refusal
 
 -- a bad name comes first
 pub refused_name : (es : List Named) (refused : Refusal) → Some refused ≡ first_bad_name es → Some refused ≡ refusal_of es

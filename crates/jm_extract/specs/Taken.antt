@@ -4,9 +4,11 @@ use Rattle.std.specs.Prelude.{ℕ, ◌&&◌, not, Bool, true, List, [], ◌∷�
 use Rattle.std.specs.Prelude.{Option, Some, None, if◌then◌else◌}
 use Rattle.std.specs.List.{list_any}
 use Rattle.jm_names.specs.Names.{is_node}
-use Rattle.jm_form.specs.Entries.{Entry}
+use Rattle.jm_form.specs.Entries.{Entry, content_of}
+use Rattle.jm_form.specs.Places.{contents}
 use Rattle.jm_pattern.specs.ComputedMatching.{matches}
 use Rattle.jm_pattern.specs.declared.signs.Sign.{Sign}
+use Rattle.jm_reader.specs.Look.{head}
 use Rattle.jm_reader.specs.Walk.{entries_of}
 use Rattle.jm_names.specs.ByName.{Named, by_name}
 use Rattle.jm_extract.specs.declared.taking.TakenEntry.{TakenEntry}
@@ -15,9 +17,13 @@ use Rattle.jm_extract.specs.declared.taking.TakenEntry.{TakenEntry}
 abbrev pub named : Entry → Named
 named e = (e.name, e.content)
 
--- the name and the content of what the code hands out
-abbrev pub taken_as : TakenEntry → Named
-taken_as t = (t.name, t.bytes.now)
+-- the name of what the code hands out, and the content that its row says in a file
+abbrev pub taken_as : List ℕ → TakenEntry → Named
+taken_as b t = (t.name, content_of (contents b (head b)) t.row)
+
+-- the name alone, with no content
+abbrev pub name_alone : TakenEntry → Named
+name_alone t = (t.name, [])
 
 -- one of the patterns matches a name, or none are given
 abbrev pub is_included : Option (List (List Sign)) → List ℕ → Bool

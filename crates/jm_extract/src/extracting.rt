@@ -6,6 +6,8 @@ ghost use Rattle.jm_names.specs.NameFaults.{IsSound};
 ghost use Rattle.jm_names.specs.UtfForms.{utf};
 ghost use Rattle.jm_outside.specs.Outcome.{CountsFaults};
 ghost use Rattle.jm_outside.specs.Made.{MadeAll, MadePart};
+ghost use Rattle.jm_form.specs.Validity.{SoundRow};
+ghost use Rattle.jm_reader.specs.Look.{head};
 ghost use Rattle.jm_reader.specs.Walk.{IsLater};
 ghost use Rattle.jm_names.specs.ByName.{RisesByName};
 ghost use Rattle.jm_extract.specs.Extracted.{Extracts, extracted, unless_refused, write_of};
@@ -14,11 +16,13 @@ ghost use Rattle.jm_extract.specs.Stops.{stop_of};
 ghost use Rattle.jm_extract.specs.Taken.{taken_as};
 
 use crate::refusals::refusal_of;
+use crate::taken_name::TakenName;
 use crate::taking::{TakenEntry, taken};
 use jm_bytes::{List, Meter, NoMemory, Text, extend};
 use jm_names::to_utf8;
 use jm_outside::{Shelf, ShelfError, make_file};
 use jm_pattern::Pattern;
+use jm_reader::content;
 use jm_texts::Refusal;
 use jm_valid::Image;
 use std::alloc::Global;
@@ -67,69 +71,81 @@ fn path_of(alloc: Global, dir: &[u8], name: &[u8]) -> Result<Text, NoMemory>
     Ok(Text::from_vec(path))
 }
 
-/// Makes the file of an entry.
+/// Makes the file of an entry with this content.
 fn make_entry<S: Shelf>(
     alloc: Global,
     shelf: &mut S,
     dir: &[u8],
-    entry: &TakenEntry,
+    name: &TakenName,
+    content: &[u8],
 ) -> Result<(), ShelfError>
     requires text { IsUtf8 dir.now }
-    requires sound { IsSound entry.now.name }
-    ensures ok { OnOk result (MadeAll (write_of dir.now (taken_as entry.now) ∷ [])
+    requires sound { IsSound name.now }
+    ensures ok { OnOk result (MadeAll (write_of dir.now (name.now, content.now) ∷ [])
         (S.files shelf.old) (S.files shelf.new)) }
-    ensures err { OnErr result (MadePart (write_of dir.now (taken_as entry.now) ∷ [])
+    ensures err { OnErr result (MadePart (write_of dir.now (name.now, content.now) ∷ [])
         (S.files shelf.old) (S.files shelf.new)) }
     ensures faults { CountsFaults (S.faults shelf.old) (S.faults shelf.new) (IsOk result)
         (IsErrOf result ShelfError.Failed) }
 {
-    let name = entry.name.view().to_text(alloc)?;
+    let name = name.view().to_text(alloc)?;
     let path = path_of(alloc, dir, name.as_slice())?;
-    make_file(alloc, shelf, path.as_slice(), entry.bytes)
+    make_file(alloc, shelf, path.as_slice(), content)
 }
 
-/// Makes the files of some entries in their order.
-fn make_entries<S: Shelf>(
+/// Makes the files of some entries of an image in their order.
+fn make_entries<S: Shelf, R: Ledger>(
     alloc: Global,
-    shelf: &mut S,
+    image: &Image,
     dir: &[u8],
     entries: &[TakenEntry],
+    shelf: &mut S,
+    reads: &mut Meter<R>,
 ) -> Result<(), ShelfError>
+    requires metered { reads.old.bytes ≡ image.now }
     requires text { IsUtf8 dir.now }
-    requires sound { All (λ e. IsSound e.name) entries.now }
-    ensures ok { OnOk result (MadeAll (writes_of dir.now (map taken_as entries.now))
+    requires names { All (λ e. IsSound e.name) entries.now }
+    requires rows { All (λ e. SoundRow image.now (head image.now) e.row) entries.now }
+    ensures ok { OnOk result (MadeAll (writes_of dir.now (map (taken_as image.now) entries.now))
         (S.files shelf.old) (S.files shelf.new)) }
-    ensures err { OnErr result (MadePart (writes_of dir.now (map taken_as entries.now))
+    ensures err { OnErr result (MadePart (writes_of dir.now (map (taken_as image.now) entries.now))
         (S.files shelf.old) (S.files shelf.new)) }
     ensures faults { CountsFaults (S.faults shelf.old) (S.faults shelf.new) (IsOk result)
         (IsErrOf result ShelfError.Failed) }
+    ensures reads { IsLater reads.old reads.new }
 {
     for entry in entries {
-        make_entry(alloc, shelf, dir, entry)?;
+        let content = content(image, &entry.row, reads);
+        make_entry(alloc, shelf, dir, &entry.name, content)?;
     }
     Ok(())
 }
 
-/// Makes the files of some entries, which rise by name, unless they are refused. They stand under
-/// their own names then.
-fn extract_entries<S: Shelf>(
+/// Makes the files of some entries of an image, which rise by name, unless they are refused. They
+/// stand under their own names then.
+fn extract_entries<S: Shelf, R: Ledger>(
     alloc: Global,
-    shelf: &mut S,
+    image: &Image,
     dir: &[u8],
     entries: &[TakenEntry],
+    shelf: &mut S,
+    reads: &mut Meter<R>,
 ) -> Result<usize, ExtractStop>
+    requires metered { reads.old.bytes ≡ image.now }
     requires text { IsUtf8 dir.now }
-    requires rises { RisesByName (map taken_as entries.now) }
-    ensures extracts { Extracts (unless_refused (map taken_as entries.now)) dir.now result
-        (S.files shelf.old) (S.files shelf.new) }
+    requires rises { RisesByName (map (taken_as image.now) entries.now) }
+    requires rows { All (λ e. SoundRow image.now (head image.now) e.row) entries.now }
+    ensures extracts { Extracts (unless_refused (map (taken_as image.now) entries.now)) dir.now
+        result (S.files shelf.old) (S.files shelf.new) }
     ensures whole { OnOk result (IsTrue (S.whole shelf.new)) }
     ensures faults { CountsFaults (S.faults shelf.old) (S.faults shelf.new) (IsOk result)
         (IsErrOf result ExtractStop.Outside) }
+    ensures reads { IsLater reads.old reads.new }
 {
     if let Some(refusal) = refusal_of(alloc, entries)? {
         return Err(ExtractStop::Refused(refusal));
     }
-    make_entries(alloc, shelf, dir, entries)?;
+    make_entries(alloc, image, dir, entries, shelf, reads)?;
     shelf.finish(alloc)?;
     Ok(entries.len())
 }
@@ -158,6 +174,6 @@ pub fn extract<S: Shelf, R: Ledger>(
         (IsErrOf result ExtractStop.Outside) }
     ensures reads { IsLater reads.old reads.new }
 {
-    let entries = taken(alloc, image, include, reads)?;
-    extract_entries(alloc, shelf, dir, entries.as_slice())
+    let entries = taken(alloc, &image.index(), include, reads)?;
+    extract_entries(alloc, image, dir, entries.as_slice(), shelf, reads)
 }

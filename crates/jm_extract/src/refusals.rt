@@ -1,10 +1,10 @@
 //! Why entries are not extracted.
-ghost use Rattle.std.specs.Prelude.{◌≡◌, ◌∷◌, ◌++◌, [], None, Ok, All, IfOk, map};
+ghost use Rattle.std.specs.Prelude.{◌≡◌, ◌∷◌, ◌++◌, ℕ, List, [], None, Ok, All, IfOk, map};
 ghost use Rattle.jm_names.specs.NameFaults.{IsSound};
 ghost use Rattle.jm_names.specs.ByName.{RisesByName};
 ghost use Rattle.jm_texts.specs.NameRefusals.{first_bad_name, name_refusal};
 ghost use Rattle.jm_extract.specs.Extracted.{begins, clash_refusal, first_clash, refusal_of};
-ghost use Rattle.jm_extract.specs.Taken.{taken_as};
+ghost use Rattle.jm_extract.specs.Taken.{name_alone, taken_as};
 
 use crate::taking::TakenEntry;
 use jm_bytes::{NoMemory, Text};
@@ -16,8 +16,8 @@ use std::alloc::Global;
 /// Whether the name of one of the entries begins so. Such names stand side by side, so a binary
 /// search finds the first of them.
 fn begins(entries: &[TakenEntry], front: &[u8]) -> bool
-    requires { RisesByName (map taken_as entries.now) }
-    ensures { result ≡ begins (map taken_as entries.now) front.now }
+    requires { RisesByName (map name_alone entries.now) }
+    ensures { result ≡ begins (map name_alone entries.now) front.now }
 {
     let place = entries.partition_point(|entry| entry.name.view().is_before(front));
     match entries.get(place) {
@@ -41,9 +41,9 @@ fn clash_refusal(
     entries: &[TakenEntry],
     entry: &TakenEntry,
 ) -> Result<Option<Refusal>, NoMemory>
-    requires { RisesByName (map taken_as entries.now) }
+    requires { RisesByName (map name_alone entries.now) }
     ensures { IfOk result (λ refusal.
-        refusal ≡ clash_refusal (map taken_as entries.now) (taken_as entry.now)) }
+        refusal ≡ clash_refusal (map name_alone entries.now) (name_alone entry.now)) }
 {
     let folder = as_folder(alloc, entry.name.view())?;
     if !begins(entries, folder.as_slice()) {
@@ -55,8 +55,8 @@ fn clash_refusal(
 
 /// The refusal of the first name that is another one's folder.
 fn first_clash(alloc: Global, entries: &[TakenEntry]) -> Result<Option<Refusal>, NoMemory>
-    requires { RisesByName (map taken_as entries.now) }
-    ensures { IfOk result (λ refusal. refusal ≡ first_clash (map taken_as entries.now)) }
+    requires { RisesByName (map name_alone entries.now) }
+    ensures { IfOk result (λ refusal. refusal ≡ first_clash (map name_alone entries.now)) }
 {
     for entry in entries {
         if let Some(refusal) = clash_refusal(alloc, entries, entry)? {
@@ -68,7 +68,7 @@ fn first_clash(alloc: Global, entries: &[TakenEntry]) -> Result<Option<Refusal>,
 
 /// The refusal of an entry whose name may not stand in an image.
 fn name_refusal(alloc: Global, entry: &TakenEntry) -> Result<Option<Refusal>, NoMemory>
-    ensures { IfOk result (λ refusal. refusal ≡ name_refusal (taken_as entry.now)) }
+    ensures { IfOk result (λ refusal. refusal ≡ name_refusal (name_alone entry.now)) }
 {
     let name = entry.name.view().to_text(alloc)?;
     match check_name(name.as_slice()) {
@@ -79,7 +79,7 @@ fn name_refusal(alloc: Global, entry: &TakenEntry) -> Result<Option<Refusal>, No
 
 /// The refusal of the first name that may not stand in an image.
 fn first_bad_name(alloc: Global, entries: &[TakenEntry]) -> Result<Option<Refusal>, NoMemory>
-    ensures { IfOk result (λ refusal. refusal ≡ first_bad_name (map taken_as entries.now)) }
+    ensures { IfOk result (λ refusal. refusal ≡ first_bad_name (map name_alone entries.now)) }
 {
     for entry in entries {
         if let Some(refusal) = name_refusal(alloc, entry)? {
@@ -93,8 +93,9 @@ fn first_bad_name(alloc: Global, entries: &[TakenEntry]) -> Result<Option<Refusa
 /// where there is none, of the first name that is another one's folder. At one time two names at
 /// most take memory of their own.
 pub fn refusal_of(alloc: Global, entries: &[TakenEntry]) -> Result<Option<Refusal>, NoMemory>
-    requires { RisesByName (map taken_as entries.now) }
-    ensures refusal { IfOk result (λ refusal. refusal ≡ refusal_of (map taken_as entries.now)) }
+    requires rises { RisesByName (map name_alone entries.now) }
+    ensures refusal { (b : List ℕ) → IfOk result (λ refusal.
+        refusal ≡ refusal_of (map (taken_as b) entries.now)) }
     ensures sound { result ≡ Ok None → All (λ e. IsSound e.name) entries.now }
 {
     match first_bad_name(alloc, entries)? {

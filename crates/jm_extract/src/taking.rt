@@ -1,26 +1,32 @@
-//! The entries of an image that are taken, by rising name.
-ghost use Rattle.std.specs.Prelude.{◌≡◌, ◌++◌, IfOk, OnOk, IsPermutation, map};
+//! The entries of an image that are taken, by rising name, as its index says them.
+ghost use Rattle.std.specs.Prelude.{◌≡◌, ◌++◌, ℕ, List, All, IfOk, OnOk, IsPermutation, map};
 ghost use Rattle.std.specs.List.{list_any};
+ghost use Rattle.jm_form.specs.Head.{IsFileOf};
 ghost use Rattle.jm_pattern.specs.ComputedMatching.{matches};
+ghost use Rattle.jm_valid.specs.Opened.{Front};
+ghost use Rattle.jm_reader.specs.Listing.{entry_listed, handed};
+ghost use Rattle.jm_reader.specs.Look.{SoundIn};
 ghost use Rattle.jm_reader.specs.Walk.{entries_of, IsLater};
 ghost use Rattle.jm_names.specs.ByName.{NeverFalls, RisesByName};
-ghost use Rattle.jm_extract.specs.Taken.{is_included, taken, taken_alone, taken_among, taken_as};
+ghost use Rattle.jm_extract.specs.Taken.{is_included, named, taken, taken_alone, taken_among};
+ghost use Rattle.jm_extract.specs.Taken.{taken_as};
 
 use crate::taken_name::TakenName;
 use jm_bytes::{List, Meter, NoMemory};
+use jm_form::Row;
 use jm_pattern::Pattern;
-use jm_reader::{Entry, walk};
-use jm_valid::Image;
+use jm_reader::{Listed, list};
+use jm_valid::Index;
 use std::alloc::Global;
 use std::sync::ledger::Ledger;
 
-/// An entry that `list` or `extract` takes, which borrows its name and its content from the image.
+/// An entry that `list` or `extract` takes, which borrows its name from the index.
 #[derive(Debug, Drop)]
 pub struct TakenEntry<'a> {
     /// Its name.
     pub name: TakenName<'a>,
-    /// Its content.
-    pub bytes: &'a [u8],
+    /// Its location row, which says where its content lies and how many bytes it has.
+    pub row: Row,
 }
 
 /// One of these patterns matches the name.
@@ -44,11 +50,14 @@ fn is_included(include: &Option<List<Pattern>>, name: &[u8]) -> bool
 fn take_entry<'a>(
     alloc: Global,
     list: &mut List<TakenEntry<'a>>,
-    entry: Entry<'a>,
+    entry: Listed<'a>,
     include: &Option<List<Pattern>>,
 ) -> Result<(), NoMemory>
-    ensures { OnOk result (map taken_as list.new ≡ map taken_as list.old
-        ++ taken_alone include.now (entry.entry.name, entry.entry.bytes.now)) }
+    ensures taken { (b : List ℕ) → OnOk result (map (taken_as b) list.new
+        ≡ map (taken_as b) list.old
+        ++ taken_alone include.now (named (entry_listed b (handed entry.entry)))) }
+    ensures sound { (front : Front) → All (λ t. SoundIn front t.row) list.old
+        → SoundIn front entry.entry.row → OnOk result (All (λ t. SoundIn front t.row) list.new) }
 {
     if entry.name.is_node() {
         return Ok(());
@@ -57,7 +66,7 @@ fn take_entry<'a>(
     if is_included(include, name.as_slice()) {
         list.push(TakenEntry {
             name: TakenName::of(entry.name, name.as_slice()),
-            bytes: entry.bytes,
+            row: entry.row,
         })?;
     }
     Ok(())
@@ -66,27 +75,28 @@ fn take_entry<'a>(
 /// The taken entries by rising slot.
 fn taken_by_slot<'a, R: Ledger>(
     alloc: Global,
-    image: &Image<'a>,
+    index: &Index<'a>,
     include: &Option<List<Pattern>>,
     reads: &mut Meter<R>,
 ) -> Result<List<TakenEntry<'a>>, NoMemory>
-    requires { reads.old.bytes ≡ image.now }
-    ensures taken { IfOk result (λ list. map taken_as list
-        ≡ taken_among include.now (entries_of image.now)) }
+    requires { reads.old.bytes ≡ index.now.bytes }
+    ensures taken { (b : List ℕ) → IsFileOf index.now.bytes index.now.length b
+        → IfOk result (λ list. map (taken_as b) list ≡ taken_among include.now (entries_of b)) }
+    ensures sound { IfOk result (λ list. All (λ t. SoundIn index.now t.row) list) }
     ensures reads { IsLater reads.old reads.new }
 {
-    let mut entries = walk(image);
-    let mut list = List::new(alloc);
+    let mut entries = list(index);
+    let mut taken = List::new(alloc);
     while let Some(entry) = entries.step(reads) {
-        take_entry(alloc, &mut list, entry, include)?;
+        take_entry(alloc, &mut taken, entry, include)?;
     }
-    Ok(list)
+    Ok(taken)
 }
 
 /// The same entries in byte order of their names.
 fn sorted_by_name<'a>(entries: List<TakenEntry<'a>>) -> List<TakenEntry<'a>>
     ensures moved { IsPermutation entries.entry result }
-    ensures sorted { NeverFalls (map taken_as result) }
+    ensures sorted { (b : List ℕ) → NeverFalls (map (taken_as b) result) }
 {
     let mut sorted = entries.into_vec();
     sorted.sort_unstable_by(|one, other| one.name.order(&other.name));
@@ -94,19 +104,22 @@ fn sorted_by_name<'a>(entries: List<TakenEntry<'a>>) -> List<TakenEntry<'a>>
 }
 
 /// The entries of an image whose names are no node's and, where patterns are given, are matched by
-/// one of them, by rising name. Names and contents are the image's: at one time one name at most
-/// takes memory of its own.
+/// one of them, by rising name, in each file of this index. Names are the index's: at one time one
+/// name at most takes memory of its own.
 pub fn taken<'a, R: Ledger>(
     alloc: Global,
-    image: &Image<'a>,
+    index: &Index<'a>,
     include: &Option<List<Pattern>>,
     reads: &mut Meter<R>,
 ) -> Result<List<TakenEntry<'a>>, NoMemory>
-    requires { reads.old.bytes ≡ image.now }
-    ensures taken { IfOk result (λ list. map taken_as list ≡ taken image.now include.now) }
-    ensures rises { IfOk result (λ list. RisesByName (map taken_as list)) }
+    requires { reads.old.bytes ≡ index.now.bytes }
+    ensures taken { (b : List ℕ) → IsFileOf index.now.bytes index.now.length b
+        → IfOk result (λ list. map (taken_as b) list ≡ taken b include.now) }
+    ensures rises { (b : List ℕ) → IsFileOf index.now.bytes index.now.length b
+        → IfOk result (λ list. RisesByName (map (taken_as b) list)) }
+    ensures sound { IfOk result (λ list. All (λ t. SoundIn index.now t.row) list) }
     ensures reads { IsLater reads.old reads.new }
 {
-    let entries = taken_by_slot(alloc, image, include, reads)?;
+    let entries = taken_by_slot(alloc, index, include, reads)?;
     Ok(sorted_by_name(entries))
 }

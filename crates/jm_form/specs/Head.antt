@@ -72,7 +72,7 @@ pub record IsFileOf (front : List ℕ) (size : ℕ) (b : List ℕ) : Type 0 wher
   pub begins : take (length front) b ≡ front
   pub length_is : length b ≡ size
 
--- these bytes, with which a file of so many begins, are enough to read its header: they are 28, or
+-- these bytes, with which a file of so many begins, are enough to read its header: 28 at least, or
 -- the whole file
 abbrev pub HoldsHead : List ℕ → ℕ → Type 0
 HoldsHead front size = min size 28 ≤ length front

@@ -1,8 +1,10 @@
 mod EndLaws
+pub mod FileLaws
 pub mod FaultLaws
 pub mod PairLaws
 pub mod LinkLaws
 mod SessionVectors
+pub mod StandingLaws
 mod StatVectors
 pub mod Vectors
 pub mod FreeLaws

@@ -4,6 +4,7 @@ pub mod Lists
 pub mod Nodes
 pub mod Reply
 pub mod Sessions
+pub mod Standings
 pub mod Stat
 pub mod Told
 pub mod TreesShown

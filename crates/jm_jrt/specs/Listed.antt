@@ -1,11 +1,11 @@
 -- The children of a folder that are still to come.
-use Rattle.std.specs.Prelude.{ℕ, ◌*◌, ◌≡◌, Bool, List, [], ◌∷◌, ◌++◌, codes, if◌then◌else◌, None}
+use Rattle.std.specs.Prelude.{ℕ, ◌≡◌, Bool, List, [], ◌∷◌, ◌++◌, codes, if◌then◌else◌, None}
 use Rattle.jm_form.specs.declared.trees.Holds.{Holds}
 use Rattle.jm_form.specs.declared.trees.Holds.TheVariants.{Children, Owners}
 use Rattle.jm_jrt.specs.declared.child_list.ToCome.{ToCome}
 use Rattle.jm_jrt.specs.declared.child_list.ToCome.TheVariants as to_come
-use Rattle.jm_jrt.specs.Told.{is_child_sound, is_pair_sound, names_left, owners_left, pair_count}
-use Rattle.jm_jrt.specs.Told.{word_count, words_fault}
+use Rattle.jm_jrt.specs.declared.words.Form.TheVariants as form
+use Rattle.jm_jrt.specs.Told.{fault_of, names_left, owners_left}
 
 -- an image's bytes and the children that are still to come
 pub record Listed : Type 0 where
@@ -30,7 +30,5 @@ rest_of b (to_come.Pairs content next) = Owners (owners_left b content.now next)
 -- the content was read and has no bad word
 abbrev pub IsRead : List ℕ → ToCome → Type 0
 IsRead b (to_come.Roots modules packages) = Unit {0}
-IsRead b (to_come.Words content next) =
-    words_fault (is_child_sound b content.now) (word_count content.now) ≡ None
-IsRead b (to_come.Pairs content next) =
-    words_fault (is_pair_sound b content.now) (2 * pair_count content.now) ≡ None
+IsRead b (to_come.Words content next) = fault_of b content.now form.Children ≡ None
+IsRead b (to_come.Pairs content next) = fault_of b content.now form.Owners ≡ None

@@ -1,7 +1,8 @@
 -- What stands at a path of the two trees of an image (JEP 220: the `jrt` file system; the answers
 -- are this project's rule).
 use Rattle.std.specs.Prelude.{ℕ, nat_eq, Bool, ◌&&◌, ◌||◌, not, List, [], ◌∷◌, drop, filter, codes}
-use Rattle.std.specs.Prelude.{Option, Some, None, option_map, is_some, Result, Ok, Err}
+use Rattle.std.specs.Prelude.{Option, Some, None, option_and_then, option_map, is_none, is_some}
+use Rattle.std.specs.Prelude.{Result, Ok, Err}
 use Rattle.std.specs.Prelude.{if◌then◌else◌}
 use Rattle.std.specs.List.{after_last, before_last, find, list_any, starts_with}
 use Rattle.std.specs.Str.{bytes_eq}
@@ -108,6 +109,34 @@ stat_read b path (Ok h) = stat_with b path
 -- what stands at a path: nothing, an item of the trees, or a node whose content is bad at a place
 abbrev pub stat : List ℕ → List ℕ → Result TreeItem JrtError
 stat b path = stat_read b path (header_of b)
+
+-- The node that says what stands at a path
+
+-- a path is that of a node, if one is there, whose content tells children
+abbrev pub has_children : List ℕ → Bool
+has_children path = is_root path || starts_with nat_eq path (codes "/modules/")
+
+-- the path of the node whose content says what stands at a path: the path itself for a root, below
+-- `/modules/` and for a package, and that of its package for a link; none elsewhere, as at `/`
+abbrev pub node_path : List ℕ → Option (List ℕ)
+node_path path =
+    if has_children path || is_package path then Some path
+    else if is_package (before_last is_slash path) then Some (before_last is_slash path)
+    else None
+
+-- the look-up of that path, if there is one
+abbrev pub node_sought : List ℕ → List ℕ → Sought
+node_sought b path = option_and_then (look b) (node_path path)
+
+-- the content of that node
+abbrev pub node_content : List ℕ → List ℕ → Option (List ℕ)
+node_content b path = option_map (λ found. found.1) (node_sought b path)
+
+-- how many hashes that look-up takes at most
+abbrev pub node_hashes : List ℕ → ℕ
+node_hashes path = if is_none (node_path path) then 0 else 2
+
+-- Folders and owners
 
 -- what a folder holds
 abbrev pub held : Result TreeItem JrtError → Result Holds JrtError

@@ -17,6 +17,8 @@ use Rattle.jm_form.specs.Texts.{text_at, text_ends}
 use Rattle.jm_reader.specs.Look.{head}
 use Rattle.jm_jrt.specs.declared.jrt_error.JrtError.{JrtError}
 use Rattle.jm_jrt.specs.declared.jrt_error.JrtError.TheVariants.{BadNode}
+use Rattle.jm_jrt.specs.declared.words.Form.{Form}
+use Rattle.jm_jrt.specs.declared.words.Form.TheVariants as form
 
 -- Words of a content: word k stands at the place 4k
 
@@ -110,3 +112,29 @@ abbrev pub owners_told : List ℕ → List ℕ → Result Holds JrtError
 owners_told b content =
     unless_fault (words_fault (is_pair_sound b content) (2 * pair_count content))
     (Owners (owners_left b content 0))
+
+-- Either form
+
+-- word k is as it must be in a content of this form
+abbrev pub is_word_sound : List ℕ → List ℕ → Form → ℕ → Bool
+is_word_sound b content form.Children = is_child_sound b content
+is_word_sound b content form.Owners = is_pair_sound b content
+
+-- how many words a content of this form is read as
+abbrev pub words_read : List ℕ → Form → ℕ
+words_read content form.Children = word_count content
+words_read content form.Owners = 2 * pair_count content
+
+-- the first bad word of a content of this form
+abbrev pub fault_of : List ℕ → List ℕ → Form → Option JrtError
+fault_of b content form = words_fault (is_word_sound b content form) (words_read content form)
+
+-- all that a content of this form tells
+abbrev pub all_told : List ℕ → List ℕ → Form → Holds
+all_told b content form.Children = Children (names_left b content 0)
+all_told b content form.Owners = Owners (owners_left b content 0)
+
+-- what it tells, or the place of its first bad word
+abbrev pub told_in : List ℕ → List ℕ → Form → Result Holds JrtError
+told_in b content form.Children = children_told b content
+told_in b content form.Owners = owners_told b content

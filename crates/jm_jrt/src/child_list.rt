@@ -1,19 +1,16 @@
-ghost use Rattle.std.specs.Prelude.{◌≡◌, ◌+◌, ◌*◌, ◌<◌, ◌≤◌, false, [], IfSome, IfNone, None};
-ghost use Rattle.jm_form.specs.declared.trees.Holds.TheVariants.{Children, Owners};
+ghost use Rattle.std.specs.Prelude.{◌≡◌, false, [], IfSome, IfNone};
+ghost use Rattle.jm_form.specs.declared.trees.Holds.TheVariants.{Children};
 ghost use Rattle.jm_reader.specs.Walk.{IsLater};
 ghost use Rattle.jm_jrt.specs.Listed.{IsRead, rest_of, roots_if};
-ghost use Rattle.jm_jrt.specs.Told.{is_child_sound, is_pair_sound};
-ghost use Rattle.jm_jrt.specs.Told.{names_left, owners_left, words_fault};
-ghost use Rattle.jm_jrt.specs.Told as told;
 ghost use Rattle.jm_jrt.specs.Views.{count_of, IsFirst};
 
-use crate::owners::owner_at;
+use crate::owners::{Owned, owner_at};
 use crate::rows::name_at;
-use crate::words::{pair_count, word, word_count};
+use crate::words::{pair_count, word_count};
 use jm_bytes::Meter;
 use jm_names::Pieces;
 use jm_reader::NameView;
-use jm_valid::Image;
+use jm_valid::Index;
 use std::marker::Model;
 use std::sync::ledger::Ledger;
 
@@ -40,7 +37,7 @@ pub enum ToCome<'a> {
 /// The children of a folder that are still to come. Its content was checked when the list was made.
 #[derive(Drop)]
 pub struct ChildList<'a> {
-    image: Image<'a>,
+    index: Index<'a>,
     left: ToCome<'a>,
 }
 
@@ -49,9 +46,9 @@ impl<'a> Model for ChildList<'a> {
 
     ghost Value = { Listed };
 
-    ghost view = { λ a. record { bytes = a.image; rest = rest_of a.image a.left } };
+    ghost view = { λ a. record { bytes = a.index.bytes; rest = rest_of a.index.bytes a.left } };
 
-    ghost invariant = { λ a. IsRead a.image a.left };
+    ghost invariant = { λ a. IsRead a.index.bytes a.left };
 }
 
 /// The first of the roots that are there, and whether `/packages` follows it.
@@ -74,67 +71,15 @@ fn root_child<'a>(modules: bool, packages: bool) -> Option<(Child<'a>, bool)>
     Some((Child::Entry(name), rest))
 }
 
-/// The child that word `next` of a content tells, and the number of the word behind it; None
-/// exactly where no word is left.
-fn word_child<'a, R: Ledger>(
-    image: &Image<'a>,
-    content: &[u8],
-    next: usize,
-    reads: &mut Meter<R>,
-) -> Option<(Child<'a>, usize)>
-    requires metered { reads.old.bytes ≡ image.now }
-    requires sound { words_fault (is_child_sound image.now content.now)
-        (told.word_count content.now) ≡ None }
-    ensures child { IfSome result (λ r. IsFirst
-        (Children (names_left image.now content.now next)) r.0
-        (Children (names_left image.now content.now r.1))) }
-    ensures end { IfNone result (told.word_count content.now ≤ next) }
-    ensures reads { IsLater reads.old reads.new }
-{
-    if next >= word_count(content) {
-        return None;
-    }
-    let name = name_at(image, word(image, content, next), reads)?;
-    Some((Child::Entry(name), next + 1))
-}
-
-/// The child that pair `next` of a content tells, and the number of the pair behind it; None
-/// exactly where no pair is left.
-fn pair_child<'a, R: Ledger>(
-    image: &Image<'a>,
-    content: &[u8],
-    next: usize,
-    reads: &mut Meter<R>,
-) -> Option<(Child<'a>, usize)>
-    requires metered { reads.old.bytes ≡ image.now }
-    requires sound { words_fault (is_pair_sound image.now content.now)
-        (2 * told.pair_count content.now) ≡ None }
-    ensures child { IfSome result (λ r. IsFirst
-        (Owners (owners_left image.now content.now next)) r.0
-        (Owners (owners_left image.now content.now r.1))) }
-    ensures end { IfNone result (told.pair_count content.now ≤ next) }
-    ensures reads { IsLater reads.old reads.new }
-{
-    if next >= pair_count(content) {
-        return None;
-    }
-    let owner = owner_at(image, content, next, reads);
-    let child = Child::Owner {
-        empty: owner.empty,
-        module: owner.module,
-    };
-    Some((child, next + 1))
-}
-
 impl<'a> ChildList<'a> {
     /// The list of the roots that are there, or of what a content without a bad word tells.
-    pub(crate) fn of(image: &Image<'a>, left: ToCome<'a>) -> ChildList<'a>
-        requires { IsRead image.now left }
-        ensures bytes { result.bytes ≡ image.now }
-        ensures rest { result.rest ≡ rest_of image.now left.entry }
+    pub(crate) fn of(index: &Index<'a>, left: ToCome<'a>) -> ChildList<'a>
+        requires { IsRead index.now.bytes left }
+        ensures bytes { result.bytes ≡ index.now.bytes }
+        ensures rest { result.rest ≡ rest_of index.now.bytes left.entry }
     {
         ChildList {
-            image: image.again(),
+            index: index.again(),
             left,
         }
     }
@@ -169,14 +114,20 @@ impl<'a> ChildList<'a> {
                 Some(child)
             }
             ToCome::Words { content, next } => {
-                let (child, next) = word_child(&self.image, content, next, reads)?;
+                // `next` is below this, and so the number behind it is a `usize`
+                let _count = word_count(content);
+                let name = name_at(&self.index, content, next, reads)?;
+                let next = next + 1;
                 self.left = ToCome::Words { content, next };
-                Some(child)
+                Some(Child::Entry(name))
             }
             ToCome::Pairs { content, next } => {
-                let (child, next) = pair_child(&self.image, content, next, reads)?;
+                // `next` is below this, and so the number behind it is a `usize`
+                let _count = pair_count(content);
+                let Owned { empty, module } = owner_at(&self.index, content, next, reads)?;
+                let next = next + 1;
                 self.left = ToCome::Pairs { content, next };
-                Some(child)
+                Some(Child::Owner { empty, module })
             }
         }
     }

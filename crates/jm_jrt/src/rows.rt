@@ -1,29 +1,37 @@
-ghost use Rattle.std.specs.Prelude.{◌≡◌, is_some, IfSome};
-ghost use Rattle.jm_form.specs.Places.{strings};
-ghost use Rattle.jm_reader.specs.Look.{head};
+ghost use Rattle.std.specs.Prelude.{◌≡◌, ◌<◌, ◌≤◌, IfSome, IfNone, None};
+ghost use Rattle.jm_jrt.specs.declared.words.Form.TheVariants as form;
 ghost use Rattle.jm_reader.specs.Walk.{IsLater};
-ghost use Rattle.jm_jrt.specs.Told.{is_row_sound, name_told, row_told};
+ghost use Rattle.jm_jrt.specs.Told.{fault_of};
+ghost use Rattle.jm_jrt.specs.Told.{name_told, word_count, word_of};
 
+use crate::words::{word, word_count};
 use jm_bytes::Meter;
 use jm_form::{pieces_of, row_at_place};
 use jm_reader::NameView;
-use jm_valid::Image;
+use jm_valid::Index;
 use std::sync::ledger::Ledger;
 
-/// The name that is spelled at a place of the locations, or None where the row there is blank,
-/// isn't there, or has a text that doesn't end.
+/// The name that word `k` of a content without a bad word tells; None exactly where no word is
+/// left.
 pub fn name_at<'a, R: Ledger>(
-    image: &Image<'a>,
-    place: u32,
+    index: &Index<'a>,
+    content: &[u8],
+    k: usize,
     reads: &mut Meter<R>,
 ) -> Option<NameView<'a>>
-    requires { reads.old.bytes ≡ image.now }
-    ensures name { IfSome result (λ name. name ≡ name_told image.now place) }
-    ensures sound { is_some result
-        ≡ is_row_sound (strings image.now (head image.now)) (row_told image.now place) }
+    requires metered { reads.old.bytes ≡ index.now.bytes }
+    requires sound { fault_of index.now.bytes content.now form.Children ≡ None }
+    ensures name { IfSome result (λ name.
+        name ≡ name_told index.now.bytes (word_of index.now.bytes content.now k)) }
+    ensures there { IfSome result (λ name. k < word_count content.now) }
+    ensures end { IfNone result (word_count content.now ≤ k) }
     ensures reads { IsLater reads.old reads.new }
 {
-    let (buf, header) = (image.buf(), image.header());
+    if k >= word_count(content) {
+        return None;
+    }
+    let (buf, header) = (index.buf(), index.header());
+    let place = word(index, content, k);
     let row = row_at_place(&buf, &header, place, reads).row()?;
     let pieces = pieces_of(&buf, &header, &row, reads)?;
     Some(NameView::of(&pieces))

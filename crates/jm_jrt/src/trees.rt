@@ -1,15 +1,15 @@
-ghost use Rattle.std.specs.Prelude.{◌≡◌, ◌≤◌, ◌*◌, length, IfOk, None, option_map};
-ghost use Rattle.std.specs.List.{after_last, before_last};
-ghost use Rattle.jm_names.specs.Names.{is_slash};
-ghost use Rattle.jm_bytes.specs.Metered.{RisesAtMost};
-ghost use Rattle.jm_form.specs.declared.trees.Holds.TheVariants.{Owners};
-ghost use Rattle.jm_form.specs.TreeView.{Link};
-ghost use Rattle.jm_form.specs.Validity.{look};
+ghost use Rattle.std.specs.Prelude.{◌≡◌, ◌≤◌, ◌+◌, ◌-◌, ℕ, List, length, None, Some};
+ghost use Rattle.std.specs.Prelude.{IfNone, IfOk, IfSome};
+ghost use Rattle.std.specs.Prelude.{false, is_some, option_map, true};
+ghost use Rattle.jm_bytes.specs.Metered.{CostsAtMost, RisesAtMost};
+ghost use Rattle.jm_form.specs.Entries.{content_of};
+ghost use Rattle.jm_form.specs.Head.{IsFileOf};
+ghost use Rattle.jm_form.specs.Places.{contents};
+ghost use Rattle.jm_reader.specs.Look.{head, SoundIn};
 ghost use Rattle.jm_reader.specs.Walk.{IsLater};
 ghost use Rattle.jm_jrt.specs.Nodes.{IsOf, item_as, on_ok, StatCosts};
+ghost use Rattle.jm_jrt.specs.Standings.{IsIn, StandingCosts, standing_as};
 ghost use Rattle.jm_jrt.specs.Stat as answers;
-ghost use Rattle.jm_jrt.specs.Told.{children_told, is_pair_sound, owners_left, words_fault};
-ghost use Rattle.jm_jrt.specs.Told as told;
 ghost use Rattle.jm_jrt.specs.TreesShown.{IsItemOfTrees, IsOwnerOfTrees};
 ghost use Rattle.jm_jrt.specs.Views.{held_by};
 
@@ -17,137 +17,176 @@ use crate::child_list::{ChildList, ToCome};
 use crate::jrt_error::JrtError;
 use crate::node::Node;
 use crate::owners::{find_owner, first_full};
-use crate::paths::{cut_last, is_package};
-use crate::words::{children_fault, owners_fault};
+use crate::paths::{has_children, is_package, node_path};
+use crate::words::{Form, check};
 use jm_bytes::{Meter, Steps};
-use jm_form::Header;
-use jm_names::is_node;
-use jm_reader::find;
-use jm_valid::Image;
+use jm_form::{Header, Row};
+use jm_names::{cut_at_last, is_node};
+use jm_reader::{find, find_row_in};
+use jm_valid::{Image, Index};
 use std::sync::ledger::Ledger;
 
-/// The children that the content of a node tells.
-fn read_children<'a, R: Ledger>(
-    image: &Image<'a>,
+/// What stands at a path, as an index and the content of the path's node say it.
+#[derive(Drop)]
+enum Standing<'a> {
+    /// A folder, by its children.
+    Folder(ChildList<'a>),
+    /// A file, by its row.
+    File(Row),
+    /// A link to `/modules/m`, by the module's name m.
+    Link(&'a [u8]),
+}
+
+/// The row of the node whose content says what stands at a path, in each file of the index; None
+/// where no node says it, as at `/` and at the path of a file. It costs at most two hashes.
+pub fn node_row<H: Ledger, R: Ledger>(
+    index: &Index,
+    path: &[u8],
+    hashes: &mut Steps<H>,
+    reads: &mut Meter<R>,
+) -> Option<Row>
+    requires { reads.old.bytes ≡ index.now.bytes }
+    ensures found { (b : List ℕ) → IsFileOf index.now.bytes index.now.length b
+        → result ≡ option_map (λ found. found.0) (answers.node_sought b path.now) }
+    ensures content { (b : List ℕ) → IsFileOf index.now.bytes index.now.length b
+        → IfSome result (λ row. answers.node_sought b path.now
+        ≡ Some (row, content_of (contents b (head b)) row)) }
+    ensures none { (b : List ℕ) → IsFileOf index.now.bytes index.now.length b
+        → IfNone result (answers.node_sought b path.now ≡ None) }
+    ensures row { IfSome result (SoundIn index.now) }
+    ensures hashes { RisesAtMost hashes.old hashes.new 2 }
+    ensures reads { IsLater reads.old reads.new }
+{
+    find_row_in(index, node_path(path)?, hashes, reads)
+}
+
+/// What stands at a path, by the content of the path's node.
+fn said_by<'a, R: Ledger>(
+    index: &Index<'a>,
+    path: &[u8],
     content: &'a [u8],
     reads: &mut Meter<R>,
-) -> Result<ChildList<'a>, JrtError>
-    requires { reads.old.bytes ≡ image.now }
-    ensures rest { held_by result ≡ children_told image.now content.now }
-    ensures bytes { IfOk result (λ list. list.bytes ≡ image.now) }
-    ensures reads { IsLater reads.old reads.new }
+) -> Result<Standing<'a>, JrtError>
+    requires { reads.old.bytes ≡ index.now.bytes }
+    ensures item { (b : List ℕ) → IsFileOf index.now.bytes index.now.length b
+        → answers.node_content b path.now ≡ Some content.now
+        → standing_as b result ≡ answers.stat b path.now }
+    ensures within { IfOk result (IsIn index.now) }
+    ensures reads { StandingCosts result true path.now reads.old reads.new }
 {
-    match children_fault(image, content, reads) {
-        Some(fault) => Err(fault),
-        None => Ok(ChildList::of(image, ToCome::Words { content, next: 0 })),
+    if has_children(path) {
+        check(index, content, Form::Children, reads)?;
+        let left = ToCome::Words { content, next: 0 };
+        return Ok(Standing::Folder(ChildList::of(index, left)));
     }
-}
-
-/// The content of the package of this path, which has no bad word.
-fn pairs_at<'a, H: Ledger, R: Ledger>(
-    image: &Image<'a>,
-    path: &[u8],
-    hashes: &mut Steps<H>,
-    reads: &mut Meter<R>,
-) -> Result<&'a [u8], JrtError>
-    requires { reads.old.bytes ≡ image.now }
-    ensures owners { on_ok
-        (λ content. Owners (owners_left image.now content.now 0)) result
-        ≡ answers.owners_of image.now (look image.now path.now) }
-    ensures sound { IfOk result (λ content. words_fault
-        (is_pair_sound image.now content.now) (2 * told.pair_count content.now)
-        ≡ None) }
-    ensures hashes { RisesAtMost hashes.old hashes.new 2 }
-    ensures reads { IsLater reads.old reads.new }
-{
-    let Some(found) = find(image, path, hashes, reads) else {
-        return Err(JrtError::NotThere);
-    };
-    match owners_fault(image, found.bytes, reads) {
-        Some(fault) => Err(fault),
-        None => Ok(found.bytes),
-    }
-}
-
-/// The module as the image has it, if it is an owner of the package of this path.
-fn link_at<'a, H: Ledger, R: Ledger>(
-    image: &Image<'a>,
-    path: &[u8],
-    asked: &[u8],
-    hashes: &mut Steps<H>,
-    reads: &mut Meter<R>,
-) -> Result<&'a [u8], JrtError>
-    requires { reads.old.bytes ≡ image.now }
-    ensures link { on_ok (λ name. Link name.now) result ≡ answers.link asked.now
-        (answers.owners_of image.now (look image.now path.now)) }
-    ensures hashes { RisesAtMost hashes.old hashes.new 2 }
-    ensures reads { IsLater reads.old reads.new }
-{
-    let content = pairs_at(image, path, hashes, reads)?;
-    match find_owner(image, content, asked, reads) {
-        None => Err(JrtError::NotThere),
-        Some(module) => Ok(module),
-    }
-}
-
-/// What stands at a path that begins with `/modules/`.
-fn in_modules<'a, H: Ledger, R: Ledger>(
-    image: &Image<'a>,
-    path: &[u8],
-    hashes: &mut Steps<H>,
-    reads: &mut Meter<R>,
-) -> Result<Node<'a>, JrtError>
-    requires metered { reads.old.bytes ≡ image.now }
-    requires long { 8 ≤ length path.now }
-    ensures item { item_as result
-        ≡ answers.in_modules image.now path.now (look image.now path.now) }
-    ensures bytes { IfOk result (λ node. IsOf image.now node) }
-    ensures hashes { RisesAtMost hashes.old hashes.new 4 }
-    ensures cost { StatCosts result path.now reads.old reads.new }
-{
-    match find(image, path, hashes, reads) {
-        None => {
-            let (_, name) = path.split_at(8);
-            if is_node(name) {
-                return Err(JrtError::NotThere);
-            }
-            match find(image, name, hashes, reads) {
-                None => Err(JrtError::NotThere),
-                Some(found) => Ok(Node::File(found.bytes)),
-            }
-        }
-        Some(found) => {
-            let list = read_children(image, found.bytes, reads)?;
-            Ok(Node::Folder(list))
-        }
-    }
-}
-
-/// What stands at a path that isn't below `/modules/`.
-fn in_packages<'a, H: Ledger, R: Ledger>(
-    image: &Image<'a>,
-    path: &[u8],
-    hashes: &mut Steps<H>,
-    reads: &mut Meter<R>,
-) -> Result<Node<'a>, JrtError>
-    requires { reads.old.bytes ≡ image.now }
-    ensures item { item_as result ≡ answers.in_packages image.now path.now }
-    ensures bytes { IfOk result (λ node. IsOf image.now node) }
-    ensures hashes { RisesAtMost hashes.old hashes.new 2 }
-    ensures cost { StatCosts result path.now reads.old reads.new }
-{
+    check(index, content, Form::Owners, reads)?;
     if is_package(path) {
-        let content = pairs_at(image, path, hashes, reads)?;
         let left = ToCome::Pairs { content, next: 0 };
-        return Ok(Node::Folder(ChildList::of(image, left)));
+        return Ok(Standing::Folder(ChildList::of(index, left)));
     }
-    let Some((package, module)) = cut_last(path) else {
+    let Some((_, module)) = cut_at_last(b'/', path) else {
         return Err(JrtError::NotThere);
     };
-    if !is_package(package) {
+    match find_owner(index, content, module, reads) {
+        None => Err(JrtError::NotThere),
+        Some(module) => Ok(Standing::Link(module)),
+    }
+}
+
+/// What stands at a path where no node says it: the roots, a file, or nothing.
+fn said_by_none<'a, H: Ledger, R: Ledger>(
+    index: &Index<'a>,
+    path: &[u8],
+    hashes: &mut Steps<H>,
+    reads: &mut Meter<R>,
+) -> Result<Standing<'a>, JrtError>
+    requires { reads.old.bytes ≡ index.now.bytes }
+    ensures item { (b : List ℕ) → IsFileOf index.now.bytes index.now.length b
+        → answers.node_content b path.now ≡ None
+        → standing_as b result ≡ answers.stat b path.now }
+    ensures within { IfOk result (IsIn index.now) }
+    ensures hashes { RisesAtMost hashes.old hashes.new (4 - answers.node_hashes path.now) }
+    ensures reads { StandingCosts result false path.now reads.old reads.new }
+{
+    let _header = index.header();
+    if path == b"/".as_slice() {
+        let modules = find_row_in(index, b"/modules", hashes, reads).is_some();
+        let packages = find_row_in(index, b"/packages", hashes, reads).is_some();
+        let left = ToCome::Roots { modules, packages };
+        return Ok(Standing::Folder(ChildList::of(index, left)));
+    }
+    if !path.starts_with(b"/modules/") {
         return Err(JrtError::NotThere);
     }
-    Ok(Node::Link(link_at(image, package, module, hashes, reads)?))
+    let (_, name) = path.split_at(8);
+    if is_node(name) {
+        return Err(JrtError::NotThere);
+    }
+    match find_row_in(index, name, hashes, reads) {
+        None => Err(JrtError::NotThere),
+        Some(row) => Ok(Standing::File(row)),
+    }
+}
+
+/// What stands at a path, by the content of the path's node, if there is one.
+fn said_at<'a, H: Ledger, R: Ledger>(
+    index: &Index<'a>,
+    path: &[u8],
+    content: Option<&'a [u8]>,
+    hashes: &mut Steps<H>,
+    reads: &mut Meter<R>,
+) -> Result<Standing<'a>, JrtError>
+    requires { reads.old.bytes ≡ index.now.bytes }
+    ensures item { (b : List ℕ) → IsFileOf index.now.bytes index.now.length b
+        → answers.node_content b path.now ≡ option_map (λ c. c.now) content.entry
+        → standing_as b result ≡ answers.stat b path.now }
+    ensures within { IfOk result (IsIn index.now) }
+    ensures hashes { RisesAtMost hashes.old hashes.new (4 - answers.node_hashes path.now) }
+    ensures reads { StandingCosts result (is_some content.entry) path.now reads.old reads.new }
+{
+    match content {
+        Some(content) => said_by(index, path, content, reads),
+        None => said_by_none(index, path, hashes, reads),
+    }
+}
+
+/// The children of the folder at a path, as an index and the content of the path's node say them;
+/// `NotFolder` exactly where a file or a link stands there. It costs at most four hashes.
+pub fn children_in<'a, H: Ledger, R: Ledger>(
+    index: &Index<'a>,
+    path: &[u8],
+    content: Option<&'a [u8]>,
+    hashes: &mut Steps<H>,
+    reads: &mut Meter<R>,
+) -> Result<ChildList<'a>, JrtError>
+    requires { reads.old.bytes ≡ index.now.bytes }
+    ensures rest { (b : List ℕ) → IsFileOf index.now.bytes index.now.length b
+        → answers.node_content b path.now ≡ option_map (λ c. c.now) content.entry
+        → held_by result ≡ answers.held (answers.stat b path.now) }
+    ensures bytes { IfOk result (λ list. list.bytes ≡ index.now.bytes) }
+    ensures hashes { RisesAtMost hashes.old hashes.new 4 }
+    ensures reads { IsLater reads.old reads.new }
+{
+    match said_at(index, path, content, hashes, reads)? {
+        Standing::Folder(list) => Ok(list),
+        Standing::File(_) | Standing::Link(_) => Err(JrtError::NotFolder),
+    }
+}
+
+/// The content of the node that says what stands at a path.
+fn node_content<'a, H: Ledger, R: Ledger>(
+    image: &Image<'a>,
+    path: &[u8],
+    hashes: &mut Steps<H>,
+    reads: &mut Meter<R>,
+) -> Option<&'a [u8]>
+    requires { reads.old.bytes ≡ image.now }
+    ensures content { option_map (λ c. c.now) result ≡ answers.node_content image.now path.now }
+    ensures hashes { RisesAtMost hashes.old hashes.new (answers.node_hashes path.now) }
+    ensures later { IsLater reads.old reads.new }
+    ensures none { IfNone result (CostsAtMost reads.old reads.new (length path.now + 76)) }
+{
+    Some(find(image, node_path(path)?, hashes, reads)?.bytes)
 }
 
 /// What stands at a path, whether or not the trees of some resources are there.
@@ -158,27 +197,18 @@ fn stat_in<'a, H: Ledger, R: Ledger>(
     reads: &mut Meter<R>,
 ) -> Result<Node<'a>, JrtError>
     requires { reads.old.bytes ≡ image.now }
-    ensures item { item_as result ≡ answers.stat_with image.now path.now }
+    ensures item { item_as result ≡ answers.stat image.now path.now }
     ensures bytes { IfOk result (λ node. IsOf image.now node) }
     ensures hashes { RisesAtMost hashes.old hashes.new 4 }
     ensures cost { StatCosts result path.now reads.old reads.new }
 {
-    if path == b"/".as_slice() {
-        let modules = find(image, b"/modules", hashes, reads).is_some();
-        let packages = find(image, b"/packages", hashes, reads).is_some();
-        let left = ToCome::Roots { modules, packages };
-        return Ok(Node::Folder(ChildList::of(image, left)));
+    let index = image.index();
+    let content = node_content(image, path, hashes, reads);
+    match said_at(&index, path, content, hashes, reads)? {
+        Standing::Folder(list) => Ok(Node::Folder(list)),
+        Standing::File(row) => Ok(Node::File(jm_reader::content(image, &row, reads))),
+        Standing::Link(module) => Ok(Node::Link(module)),
     }
-    if path == b"/modules".as_slice() || path == b"/packages".as_slice() {
-        return match find(image, path, hashes, reads) {
-            None => Err(JrtError::NotThere),
-            Some(found) => Ok(Node::Folder(read_children(image, found.bytes, reads)?)),
-        };
-    }
-    if path.starts_with(b"/modules/") {
-        return in_modules(image, path, hashes, reads);
-    }
-    in_packages(image, path, hashes, reads)
 }
 
 /// No fewer bytes than the locations or the strings have: so words reach each place in them.
@@ -239,15 +269,20 @@ fn owner_in<'a, H: Ledger, R: Ledger>(
 ) -> Result<Option<&'a [u8]>, JrtError>
     requires { reads.old.bytes ≡ image.now }
     ensures owner { on_ok (λ name. option_map (λ n. n.now) name) result
-        ≡ answers.owner_with image.now path.now }
+        ≡ answers.owner image.now path.now }
     ensures hashes { RisesAtMost hashes.old hashes.new 2 }
     ensures reads { IsLater reads.old reads.new }
 {
+    let _header = image.header();
     if !is_package(path) {
         return Err(JrtError::NotThere);
     }
-    let content = pairs_at(image, path, hashes, reads)?;
-    Ok(first_full(image, content, reads))
+    let Some(found) = find(image, path, hashes, reads) else {
+        return Err(JrtError::NotThere);
+    };
+    let index = image.index();
+    check(&index, found.bytes, Form::Owners, reads)?;
+    Ok(first_full(&index, found.bytes, reads))
 }
 
 /// The first owner, of the package at a path such as `/packages/java.lang`, for which it isn't

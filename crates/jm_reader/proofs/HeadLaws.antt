@@ -1,10 +1,9 @@
 -- The header of an image's bytes is the one that was read.
-use Rattle.std.proofs.Common.{◌≡◌, ℕ, ◌+◌, true, List, Option, Ok, sym, ap, ◌∙◌, subst}
+use Rattle.std.proofs.Common.{◌≡◌, ℕ, ◌+◌, true, List, Ok, sym, ap, ◌∙◌, subst}
 use Rattle.std.specs.Prelude.{slice_range}
 use Rattle.jm_form.specs.declared.container.Header.{Header}
 use Rattle.jm_form.specs.declared.rows.Row.{Row}
-use Rattle.jm_form.specs.declared.slots.SlotRow.{SlotRow}
-use Rattle.jm_form.specs.Entries.{content_of, row_at, row_of_slot, spelled_row}
+use Rattle.jm_form.specs.Entries.{content_of}
 use Rattle.jm_form.specs.Head.{header_of, index_length}
 use Rattle.jm_form.specs.Places.{contents, strings, strings_place}
 use Rattle.jm_form.specs.Texts.{text_at, text_ends, EndsWithin}
@@ -18,13 +17,6 @@ head_is b h read = ap (head_with b) read
 
 pub head_valid : (b : List ℕ) (h : Header) → ValidAs b h → ValidAs b (head b)
 head_valid b h valid = subst (ValidAs b) (sym (head_is b h valid.header)) valid
-
--- the row that was read of a slot, by the header that was read, is the slot's
-pub row_there : (b : List ℕ) (h : Header) (buf : List ℕ) (slot : ℕ) (row : Option Row) (read : SlotRow) → header_of b ≡ Ok h → buf
-    ≡ b → row ≡ spelled_row read → read ≡ row_of_slot buf h slot → row_at b (head b) slot ≡ row
-row_there b h buf slot row read header same is from =
-    sym (is ∙ ap spelled_row from ∙ ap (λ x. spelled_row (row_of_slot x h slot)) same
-    ∙ ap (λ g. spelled_row (row_of_slot b g slot)) (sym (head_is b h header)))
 
 -- a text of the strings stands in the bytes that hold the index, and ends there
 pub record TextThere (b : List ℕ) (h : Header) (place at : ℕ) : Type 0 where

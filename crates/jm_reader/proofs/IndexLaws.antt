@@ -1,14 +1,16 @@
 -- What an index says of names and rows is what each file says that begins so.
 use Rattle.std.proofs.Common.{◌≡◌, ℕ, ◌+◌, ◌-◌, ◌≤◌, Bool, true, false, cond, List, ◌++◌, length, take, drop}
 use Rattle.std.proofs.Common.{Option, Some, None, option_map, Ok, refl, sym, ap, ◌∙◌, subst, arith, length-append, length-drop}
-use Rattle.std.proofs.Common.{[], ◌∷◌, ◌<◌, map, length-take}
+use Rattle.std.proofs.Common.{[], ◌∷◌, ◌<◌, All, Err, Result, map, length-take}
 use Rattle.std.proofs.lemmas.List.{drop-drop, length-replicate, take_at}
+use Rattle.std.proofs.lemmas.List.Elements.{All-head, All-tail}
 use Rattle.std.proofs.lemmas.Slice.Eq.{bytes_eq-Decides}
 use Rattle.std.proofs.Math.ListN.{replicate}
 use Rattle.std.specs.List.{range_with_len}
-use Rattle.std.specs.Prelude.{IfSome}
+use Rattle.std.specs.Prelude.{Contains, IfSome}
 use Rattle.std.specs.Str.{bytes_eq}
 use Rattle.jm_form.specs.declared.container.Header.{Header}
+use Rattle.jm_form.specs.declared.container.HeaderFault.{HeaderFault}
 use Rattle.jm_form.specs.declared.rows.Row.{Row}
 use Rattle.jm_form.specs.Entries.{Entry, content_of, entries, indexed, name_of, row_at, texts_end}
 use Rattle.jm_form.specs.Head.{header_of, index_length, IsFileOf}
@@ -16,12 +18,15 @@ use Rattle.jm_form.specs.Places.{contents, contents_size, strings}
 use Rattle.jm_form.specs.Table.{probe}
 use Rattle.jm_form.specs.Validity.{look, SoundRow, SoundRowWith, ValidAs}
 use Rattle.jm_form.proofs.HeadLaws.{header_fits}
-use Rattle.jm_form.proofs.LocalityLaws.{same_entries, same_index, same_probe, same_row, SameIndex}
+use Rattle.jm_form.proofs.EntryLaws.{entry_from}
+use Rattle.jm_form.proofs.LocalityLaws.{same_entries, same_index, same_probe, same_row, SameIndex, whole_file}
 use Rattle.jm_form.proofs.LookLaws.{look_blank, look_found, look_nowhere, look_other, look_row, probe_within}
 use Rattle.jm_form.proofs.SlotLaws.{sound_row, sound_texts}
-use Rattle.jm_reader.specs.Listing.{listed, listed_from}
+use Rattle.jm_valid.specs.Opened.{Front}
+use Rattle.jm_reader.specs.Listing.{IsIndex, entry_listed, listed, listed_from}
 use Rattle.jm_reader.specs.Walk.{entries_in, entries_of, entries_with}
 use Rattle.jm_reader.specs.Look.{head, if_named, row_led, row_of_name, SoundIn, TextsEnd}
+use Rattle.jm_bytes.proofs.Members.{all_from_contains}
 use Rattle.jm_reader.proofs.HeadLaws.{head_is, head_valid}
 
 -- Images
@@ -59,11 +64,6 @@ row_found b h name valid = led (probe b h name) refl
     led : (slot : Option ℕ) → probe b h name ≡ slot → row_led b h name slot ≡ answer (look b name)
     led None there = sym (ap answer (look_nowhere b h name valid there))
     led (Some slot) there = held slot there (row_at b h slot) refl
-
--- what was read of a buffer was read of its bytes
-pub read_of : (b : List ℕ) (h : Header) (name buf : List ℕ) (result : Option Row) → buf ≡ b → result ≡ row_of_name buf h name
-    → result ≡ row_of_name b h name
-read_of b h name buf result same is = is ∙ ap (λ l. row_of_name l h name) same
 
 -- a row that was found in an image is the look-up's
 pub record IsRowFound (b name : List ℕ) (result : Option Row) : Type 0 where
@@ -175,12 +175,60 @@ module _ (f : List ℕ) (size : ℕ) (h : Header) (read : header_of f ≡ Ok h) 
       ∙ by_index (entries f h) ∙ ap (map listed_by) (same_entries f b h index) ∙ sym (by_index (entries b h))
       ∙ ap (λ r. map listed (entries_with b r)) (sym (valid b file).header)
     where
-      listed_by : ℕ × Row × List ℕ → ℕ × List ℕ × ℕ
-      listed_by x = (x.0, x.2, x.1.size)
+      listed_by : ℕ × Row × List ℕ → ℕ × List ℕ × Row
+      listed_by x = (x.0, x.2, x.1)
 
       by_index : (es : List Entry) → map listed es ≡ map listed_by (map indexed es)
       by_index [] = refl
       by_index (e ∷ es) = ap (λ rest. listed e ∷ rest) (by_index es)
+
+-- The index that an image is
+
+-- it begins with itself
+pub own_file : (front : Front) (b : List ℕ) → front.bytes ≡ b → front.length ≡ length b → IsFileOf front.bytes front.length b
+own_file front b bytes size = subst (λ l. IsFileOf l front.length b) (sym bytes) (subst (λ n. IsFileOf b n b) (sym size) (whole_file b))
+
+own_size : (front : Front) (b : List ℕ) → front.bytes ≡ b → front.length ≡ length b → contents_size front.length (head front.bytes)
+    ≡ length (contents b (head b))
+own_size front b bytes size =
+    ap (λ l. contents_size front.length (head l)) bytes ∙ ap (λ n. contents_size n (head b)) size
+    ∙ sym (length-drop (index_length (head b)) b)
+
+-- a row that is sound in the image is in the index, and back
+pub sound_in : (front : Front) (b : List ℕ) (row : Row) → front.bytes ≡ b → front.length ≡ length b → SoundRow b (head b) row
+    → SoundIn front row
+sound_in front b row bytes size sound =
+    subst (λ l. SoundRowWith (strings l (head l)) (contents_size front.length (head front.bytes)) row) (sym bytes)
+    (subst (λ n. SoundRowWith (strings b (head b)) n row) (sym (own_size front b bytes size)) sound)
+
+pub sound_of : (front : Front) (b : List ℕ) (row : Row) → front.bytes ≡ b → front.length ≡ length b → SoundIn front row
+    → SoundRow b (head b) row
+sound_of front b row bytes size sound =
+    subst (λ n. SoundRowWith (strings b (head b)) n row) (own_size front b bytes size)
+    (subst (λ l. SoundRowWith (strings l (head l)) (contents_size front.length (head front.bytes)) row) bytes sound)
+
+-- an image's entries are those that are listed
+pub relisted : (b : List ℕ) → map (entry_listed b) (map listed (entries_of b)) ≡ entries_of b
+relisted b = go (header_of b) refl
+  where
+    as_listed : (h : Header) → header_of b ≡ Ok h → (e : Entry) → Contains (entries b h) e → entry_listed b (listed e) ≡ e
+    as_listed h read e there =
+        let own = ap (λ (f : Entry). f.content) (entry_from b h e there).is in
+        ap (λ c. record { slot = e.slot; row = e.row; name = e.name; content = c }) (ap (λ g. content_of (contents b g) e.row)
+        (head_is b h read) ∙ sym own)
+
+    fixed : Entry → Type 0
+    fixed e = entry_listed b (listed e) ≡ e
+
+    each : (es : List Entry) → All fixed es → map (entry_listed b) (map listed es) ≡ es
+    each [] all = refl
+    each (e ∷ es) all =
+        ap (λ f. f ∷ map (entry_listed b) (map listed es)) (All-head fixed e es all)
+        ∙ ap (λ fs. e ∷ fs) (each es (All-tail fixed e es all))
+
+    go : (r : Result Header HeaderFault) → header_of b ≡ r → map (entry_listed b) (map listed (entries_with b r)) ≡ entries_with b r
+    go (Err fault) read = refl
+    go (Ok h) read = each (entries b h) (all_from_contains fixed (entries b h) (as_listed h read))
 
 -- Rows that were read of a slot
 
@@ -190,6 +238,18 @@ pub held_sound : {A : Type 0} (b : List ℕ) (h : Header) (slot : ℕ) (held : O
 held_sound b h slot None valid below there = tt
 held_sound b h slot (Some held) valid below there =
     subst (λ g. SoundRow b g held.0) (sym (head_is b h valid.header)) (sound_row b h slot held.0 (valid.slots slot below) there)
+
+-- a row of a slot of an index is sound in its files
+pub listed_sound : (f : List ℕ) (size : ℕ) (h : Header) (slot : ℕ) (row : Row) → IsIndex f size h → slot < h.length
+    → row_at f h slot ≡ Some row → SoundIn (record { bytes = f; length = size }) row
+listed_sound f size h slot row index below there =
+    let b = file_with f size in
+    let file = file_begins f size index.within in
+    let fits = header_fits f h index.header in
+    let valid = index.valid b file in
+    let own = sym (same_row f b h (same_index f size b h file fits) slot below) ∙ there in
+    subst (λ g. SoundRowWith (strings f g) (contents_size size g) row) (sym (head_is f h index.header))
+    (same_sound f size b h file fits row (sound_row b h slot row (valid.slots slot below) own))
 
 -- Contents
 

@@ -26,15 +26,6 @@ entry_alone b slot = entries_in b (head b) (slot ∷ [])
 abbrev pub entries_from : List ℕ → Header → ℕ → List Entry
 entries_from b h slot = entries_in b h (range_with_len slot (h.length - slot))
 
--- the entries from a slot on, by what was read as the header; none where that is a fault
-abbrev pub to_come_with : List ℕ → ℕ → Result Header HeaderFault → List Entry
-to_come_with b slot (Err fault) = []
-to_come_with b slot (Ok h) = entries_from b h slot
-
--- the entries of an image's bytes, of the slots from one on
-abbrev pub entries_to_come : List ℕ → ℕ → List Entry
-entries_to_come b slot = to_come_with b slot (header_of b)
-
 -- all entries, by what was read as the header; none where that is a fault
 abbrev pub entries_with : List ℕ → Result Header HeaderFault → List Entry
 entries_with b (Err fault) = []

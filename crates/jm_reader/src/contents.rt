@@ -11,14 +11,6 @@ use jm_form::{Header, Row};
 use jm_valid::{Image, Index};
 use std::sync::ledger::Ledger;
 
-/// Where the content of an entry with this row begins in a file with this header.
-fn place_behind(header: &Header, row: &Row) -> u64
-    requires { index_length header.now + row.now.offset < 2 ^ 64 }
-    ensures { result ≡ index_length header.now + row.now.offset }
-{
-    header.contents_place() as u64 + row.offset
-}
-
 /// The content of an entry with this row. It costs its bytes.
 pub fn content<'a, R: Ledger>(image: &Image<'a>, row: &Row, reads: &mut Meter<R>) -> &'a [u8]
     requires sound { SoundRow image.now (head image.now) row.now }
@@ -26,10 +18,8 @@ pub fn content<'a, R: Ledger>(image: &Image<'a>, row: &Row, reads: &mut Meter<R>
     ensures content { result.now ≡ content_of (contents image.now (head image.now)) row.now }
     ensures reads { Costs reads.old reads.new (length result.now) }
 {
-    let buf = image.buf();
-    let _size = buf.len();
-    let place = place_behind(&image.header(), row) as usize;
-    buf.part(place, row.size as usize, reads)
+    let place = place_of_content(&image.index(), row) as usize;
+    image.buf().part(place, row.size as usize, reads)
 }
 
 /// Where in the file the content of an entry with this row begins, in bytes. No byte is read: the
@@ -41,7 +31,6 @@ pub fn place_of_content(index: &Index, row: &Row) -> u64
     ensures within { (b : List ℕ) → IsFileOf index.now.bytes index.now.length b
         → result + row.now.size ≤ index.now.length }
 {
-    let _size = index.buf().len();
     let _length = index.length();
-    place_behind(&index.header(), row)
+    index.header().contents_place() as u64 + row.offset
 }

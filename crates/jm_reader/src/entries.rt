@@ -1,13 +1,13 @@
-ghost use Rattle.std.specs.Prelude.{◌≡◌, ◌<◌, ◌+◌, ◌-◌, ◌^◌, [], ◌∷◌, IfSome, IfNone, Some, Ok};
+ghost use Rattle.std.specs.Prelude.{◌≡◌, ◌<◌, [], ◌∷◌, IfSome, IfNone, Some, Ok};
 ghost use Rattle.jm_form.specs.Entries.{entry_of, name_of, row_at};
 ghost use Rattle.jm_form.specs.Head.{header_of};
 ghost use Rattle.jm_form.specs.Places.{strings};
 ghost use Rattle.jm_form.specs.Validity.{SoundRow};
 ghost use Rattle.jm_reader.specs.Look.{head, TextsEnd};
-ghost use Rattle.jm_reader.specs.Walk.{entries_to_come, entries_of, entry_alone, IsFirst, IsLater};
-ghost use Rattle.jm_reader.specs.Walk.{entries_from, entries_in};
+ghost use Rattle.jm_reader.specs.Walk.{entries_in, entries_of, entry_alone, IsFirst, IsLater};
 
 use crate::contents::content;
+use crate::listing::{Listed, Listing, list};
 use crate::name_view::NameView;
 use jm_bytes::{Buf, Meter};
 use jm_form::{Header, Row, is_led_to, pieces_of, row_of_slot};
@@ -30,26 +30,34 @@ pub struct Entry<'a> {
 #[derive(Drop)]
 pub struct Entries<'a> {
     image: Image<'a>,
-    slot: u32,
+    listing: Listing<'a>,
 }
 
 impl<'a> Model for Entries<'a> {
-    ghost use Rattle.jm_reader.specs.Walk.{Walked, entries_to_come};
+    ghost use Rattle.std.specs.Prelude.{◌≡◌, length, map};
+    ghost use Rattle.jm_reader.specs.Listing.{entry_listed};
+    ghost use Rattle.jm_reader.specs.Walk.{Walked};
 
     ghost Value = { Walked };
 
-    ghost view = { λ a. record { bytes = a.image; rest = entries_to_come a.image a.slot } };
+    ghost view = { λ a. record {
+      bytes = a.image;
+      rest = map (entry_listed a.image) a.listing.rest;
+    } };
+
+    ghost invariant = { λ a. (a.listing.bytes ≡ a.image) × (a.listing.length ≡ length a.image) };
 }
 
 /// The row and the name of the entry that a slot holds, by bytes that hold an image's index, or
 /// None where the slot is spare.
-fn held_by<'a, R: Ledger>(
+pub(crate) fn held_by<'a, R: Ledger>(
     buf: &Buf<'a>,
     header: &Header,
     slot: u32,
     reads: &mut Meter<R>,
 ) -> Option<(Row, NameView<'a>)>
     requires read { header_of buf.now ≡ Ok header.now }
+    requires ends { TextsEnd buf.now header.now }
     requires below { slot < header.now.length }
     requires metered { reads.old.bytes ≡ buf.now }
     ensures entry { IfSome result (λ held. entries_in buf.now header.now (slot ∷ [])
@@ -57,8 +65,7 @@ fn held_by<'a, R: Ledger>(
     ensures name { IfSome result (λ held.
         held.1 ≡ name_of (strings buf.now header.now) held.0) }
     ensures row { IfSome result (λ held. row_at buf.now header.now slot ≡ Some held.0) }
-    ensures spare { TextsEnd buf.now header.now
-        → IfNone result (entries_in buf.now header.now (slot ∷ []) ≡ []) }
+    ensures spare { IfNone result (entries_in buf.now header.now (slot ∷ []) ≡ []) }
     ensures reads { IsLater reads.old reads.new }
 {
     let row = row_of_slot(buf, header, slot, reads).row()?;
@@ -68,37 +75,6 @@ fn held_by<'a, R: Ledger>(
     } else {
         None
     }
-}
-
-/// The least slot from `start` on that holds an entry, with the entry's row and name, by bytes that
-/// hold an image's index.
-pub(crate) fn next_held<'a, R: Ledger>(
-    buf: &Buf<'a>,
-    header: &Header,
-    start: u32,
-    reads: &mut Meter<R>,
-) -> Option<(u32, Row, NameView<'a>)>
-    requires read { header_of buf.now ≡ Ok header.now }
-    requires metered { reads.old.bytes ≡ buf.now }
-    ensures entry { TextsEnd buf.now header.now
-        → IfSome result (λ held. entries_from buf.now header.now start
-        ≡ entry_of buf.now header.now held.0 held.1
-        ∷ entries_from buf.now header.now (held.0 + 1)) }
-    ensures name { IfSome result (λ held.
-        held.2 ≡ name_of (strings buf.now header.now) held.1) }
-    ensures row { IfSome result (λ held. row_at buf.now header.now held.0 ≡ Some held.1) }
-    ensures below { IfSome result (λ held. held.0 < header.now.length) }
-    ensures slot { IfSome result (λ held. held.0 < 2 ^ 32 - 1) }
-    ensures end { TextsEnd buf.now header.now
-        → IfNone result (entries_from buf.now header.now start ≡ []) }
-    ensures reads { IsLater reads.old reads.new }
-{
-    for slot in start..header.length {
-        if let Some((row, name)) = held_by(buf, header, slot, reads) {
-            return Some((slot, row, name));
-        }
-    }
-    None
 }
 
 /// The row and the name of the entry that a slot holds, or None where the slot is spare.
@@ -120,24 +96,6 @@ pub fn held<'a, R: Ledger>(
     held_by(&image.buf(), &image.header(), slot, reads)
 }
 
-/// The entry of the least slot that holds one, of the slots from `start` on.
-fn next_entry<'a, R: Ledger>(
-    image: &Image<'a>,
-    start: u32,
-    reads: &mut Meter<R>,
-) -> Option<Entry<'a>>
-    requires { reads.old.bytes ≡ image.now }
-    ensures entry { IfSome result (λ entry. IsFirst
-        (entries_to_come image.now start) entry (entries_to_come image.now (entry.slot + 1))) }
-    ensures slot { IfSome result (λ entry. entry.slot < 2 ^ 32 - 1) }
-    ensures end { IfNone result (entries_to_come image.now start ≡ []) }
-    ensures reads { IsLater reads.old reads.new }
-{
-    let (slot, row, name) = next_held(&image.buf(), &image.header(), start, reads)?;
-    let bytes = content(image, &row, reads);
-    Some(Entry { slot, name, bytes })
-}
-
 /// The entries of an image, by rising slot. Spare slots hold none.
 pub fn walk<'a>(image: &Image<'a>) -> Entries<'a>
     ensures bytes { result.bytes ≡ image.now }
@@ -145,7 +103,7 @@ pub fn walk<'a>(image: &Image<'a>) -> Entries<'a>
 {
     Entries {
         image: image.again(),
-        slot: 0,
+        listing: list(&image.index()),
     }
 }
 
@@ -159,8 +117,8 @@ impl<'a> Entries<'a> {
         ensures stays { IfNone result (self.new.rest ≡ []) }
         ensures reads { IsLater reads.old reads.new }
     {
-        let entry = next_entry(&self.image, self.slot, reads)?;
-        self.slot = entry.slot + 1;
-        Some(entry)
+        let Listed { slot, name, row } = self.listing.step(reads)?;
+        let bytes = content(&self.image, &row, reads);
+        Some(Entry { slot, name, bytes })
     }
 }

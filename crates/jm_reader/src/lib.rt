@@ -13,7 +13,7 @@ mod order;
 mod table;
 mod texts;
 
-pub use contents::place_of_content;
+pub use contents::{content, place_of_content};
 pub use entries::{Entries, Entry, held, walk};
 pub use listing::{Listed, Listing, list};
 pub use look_up::{Found, find, find_row, find_row_in};

@@ -1,12 +1,15 @@
-ghost use Rattle.std.specs.Prelude.{◌≡◌, ℕ, List, [], ◌∷◌, map, IfSome, IfNone};
-ghost use Rattle.jm_form.specs.Head.{IsFileOf};
+ghost use Rattle.std.specs.Prelude.{◌≡◌, ◌<◌, ◌+◌, ◌-◌, ◌^◌, ℕ, List, [], ◌∷◌, map, Ok, Some};
+ghost use Rattle.std.specs.Prelude.{IfSome, IfNone};
+ghost use Rattle.jm_form.specs.Entries.{row_at};
+ghost use Rattle.jm_form.specs.Head.{header_of, IsFileOf};
+ghost use Rattle.jm_reader.specs.Listing.{handed, listed, listed_from};
+ghost use Rattle.jm_reader.specs.Look.{SoundIn, TextsEnd};
 ghost use Rattle.jm_reader.specs.Walk.{entries_of, IsLater};
-ghost use Rattle.jm_reader.specs.Listing.{handed, listed};
 
-use crate::entries::next_held;
+use crate::entries::held_by;
 use crate::name_view::NameView;
 use jm_bytes::{Buf, Meter};
-use jm_form::Header;
+use jm_form::{Header, Row};
 use jm_valid::Index;
 use std::marker::Model;
 use std::sync::ledger::Ledger;
@@ -18,8 +21,8 @@ pub struct Listed<'a> {
     pub slot: u32,
     /// Its name.
     pub name: NameView<'a>,
-    /// How many bytes its content has.
-    pub size: u64,
+    /// Its location row, which says where its content lies and how many bytes it has.
+    pub row: Row,
 }
 
 /// The entries of an index that are still to come, by rising slot.
@@ -45,6 +48,34 @@ impl<'a> Model for Listing<'a> {
     ghost invariant = { λ a. IsIndex a.buf a.length a.header };
 }
 
+/// What bytes that hold an image's index say of the entry of the least slot that holds one, of the
+/// slots from `start` on.
+fn next_listed<'a, R: Ledger>(
+    buf: &Buf<'a>,
+    header: &Header,
+    start: u32,
+    reads: &mut Meter<R>,
+) -> Option<Listed<'a>>
+    requires read { header_of buf.now ≡ Ok header.now }
+    requires ends { TextsEnd buf.now header.now }
+    requires metered { reads.old.bytes ≡ buf.now }
+    ensures entry { IfSome result (λ entry. listed_from buf.now header.now start
+        ≡ handed entry ∷ listed_from buf.now header.now (entry.slot + 1)) }
+    ensures row { IfSome result (λ entry.
+        row_at buf.now header.now entry.slot ≡ Some entry.row) }
+    ensures below { IfSome result (λ entry. entry.slot < header.now.length) }
+    ensures slot { IfSome result (λ entry. entry.slot < 2 ^ 32 - 1) }
+    ensures end { IfNone result (listed_from buf.now header.now start ≡ []) }
+    ensures reads { IsLater reads.old reads.new }
+{
+    for slot in start..header.length {
+        if let Some((row, name)) = held_by(buf, header, slot, reads) {
+            return Some(Listed { slot, name, row });
+        }
+    }
+    None
+}
+
 /// What an index says of the entries of its files, by rising slot. Spare slots hold none.
 pub fn list<'a>(index: &Index<'a>) -> Listing<'a>
     ensures bytes { result.bytes ≡ index.now.bytes }
@@ -61,25 +92,21 @@ pub fn list<'a>(index: &Index<'a>) -> Listing<'a>
 }
 
 impl<'a> Listing<'a> {
-    /// The next entry; None exactly at the end, where it stays so.
+    /// The next entry; None exactly at the end, where it stays so. Its row is sound in the files of
+    /// the index.
     pub fn step<R: Ledger>(&mut self, reads: &mut Meter<R>) -> Option<Listed<'a>>
         requires { reads.old.bytes ≡ self.old.bytes }
         ensures bytes { self.new.bytes ≡ self.old.bytes }
         ensures length { self.new.length ≡ self.old.length }
-        ensures entry { (b : List ℕ) → IsFileOf self.old.bytes self.old.length b
-            → IfSome result (λ entry. self.old.rest ≡ handed entry ∷ self.new.rest) }
-        ensures end { (b : List ℕ) → IsFileOf self.old.bytes self.old.length b
-            → IfNone result (self.old.rest ≡ []) }
-        ensures stays { (b : List ℕ) → IsFileOf self.old.bytes self.old.length b
-            → IfNone result (self.new.rest ≡ []) }
+        ensures entry { IfSome result (λ entry. self.old.rest ≡ handed entry ∷ self.new.rest) }
+        ensures sound { IfSome result (λ entry. SoundIn
+            (record { bytes = self.old.bytes; length = self.old.length }) entry.row) }
+        ensures end { IfNone result (self.old.rest ≡ []) }
+        ensures stays { IfNone result (self.new.rest ≡ []) }
         ensures reads { IsLater reads.old reads.new }
     {
-        let (slot, row, name) = next_held(&self.buf, &self.header, self.slot, reads)?;
-        self.slot = slot + 1;
-        Some(Listed {
-            slot,
-            name,
-            size: row.size,
-        })
+        let entry = next_listed(&self.buf, &self.header, self.slot, reads)?;
+        self.slot = entry.slot + 1;
+        Some(entry)
     }
 }

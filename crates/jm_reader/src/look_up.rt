@@ -60,23 +60,6 @@ fn texts_of(buf: &Buf, header: &Header, row: &Row) -> [MarkedText; 4]
     ]
 }
 
-/// Whether a row's four texts, with their marks, are the name.
-fn is_named<R: Ledger>(
-    buf: &Buf,
-    header: &Header,
-    row: &Row,
-    name: &[u8],
-    reads: &mut Meter<R>,
-) -> bool
-    requires read { header_of buf.now ≡ Ok header.now }
-    requires ends { texts_end (strings buf.now header.now) row.now ≡ true }
-    requires metered { reads.old.bytes ≡ buf.now }
-    ensures answer { result ≡ bytes_eq name.now (name_of (strings buf.now header.now) row.now) }
-    ensures reads { CostsAtMost reads.old reads.new (length name.now + 4) }
-{
-    spells(buf, &texts_of(buf, header, row), name, reads)
-}
-
 /// The row of the slot to which the table leads a name, if the row has that name, by bytes that
 /// hold an image's index. It costs what `find_row` does.
 fn row_of_name<H: Ledger, R: Ledger>(
@@ -95,7 +78,7 @@ fn row_of_name<H: Ledger, R: Ledger>(
 {
     let slot = probe(buf, header, name, hashes, reads)?;
     let row = row_of_slot(buf, header, slot, reads).row()?;
-    if is_named(buf, header, &row, name, reads) {
+    if spells(buf, &texts_of(buf, header, &row), name, reads) {
         Some(row)
     } else {
         None
@@ -121,7 +104,7 @@ pub fn find_row<H: Ledger, R: Ledger>(
     ensures hashes { RisesAtMost hashes.old hashes.new 2 }
     ensures reads { CostsAtMost reads.old reads.new (length name.now + 76) }
 {
-    row_of_name(&image.buf(), &image.header(), name, hashes, reads)
+    find_row_in(&image.index(), name, hashes, reads)
 }
 
 /// The row of the entry of that name in each file of this index, or None where none has it: what
@@ -146,12 +129,7 @@ pub fn find_row_in<H: Ledger, R: Ledger>(
     ensures hashes { RisesAtMost hashes.old hashes.new 2 }
     ensures reads { CostsAtMost reads.old reads.new (length name.now + 76) }
 {
-    let (buf, header) = (index.buf(), index.header());
-    // No file begins with more bytes than it has.
-    if buf.len() as u64 > index.length() {
-        return None;
-    }
-    row_of_name(&buf, &header, name, hashes, reads)
+    row_of_name(&index.buf(), &index.header(), name, hashes, reads)
 }
 
 /// The entry of that name, or None where no entry has it: what `find_row` answers, and the content

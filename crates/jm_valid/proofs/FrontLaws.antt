@@ -1,11 +1,12 @@
 -- What was found of a front with the index holds of each file that begins so.
-use Rattle.std.proofs.Common.{◌≡◌, ℕ, List, None, Ok, sym, ap, ◌∙◌, subst}
+use Rattle.std.proofs.Common.{◌≡◌, ℕ, List, length, None, Ok, sym, ap, ◌∙◌, subst}
 use Rattle.jm_bytes.specs.Checks.{first_fault}
 use Rattle.jm_form.specs.declared.container.Header.{Header}
 use Rattle.jm_form.specs.Damages.{front_damage, front_damage_with, image_checks_with}
 use Rattle.jm_form.specs.Head.{HoldsIndex, IsFileOf, header_of}
-use Rattle.jm_form.specs.Validity.{ValidAs}
-use Rattle.jm_form.proofs.LocalityLaws.{damage_same, front_valid, header_of_front}
+use Rattle.jm_form.specs.Validity.{Valid, ValidAs}
+use Rattle.jm_form.proofs.LocalityLaws.{damage_same, front_valid, header_of_front, whole_file, whole_index}
+use Rattle.jm_form.proofs.Validity.{valid_sound}
 use Rattle.jm_valid.specs.declared.open_error.OpenError.{OpenError}
 use Rattle.jm_valid.specs.declared.open_error.OpenError.TheVariants.{Damaged, Memory}
 use Rattle.jm_valid.specs.declared.sections.Sections.{Sections}
@@ -47,3 +48,13 @@ index_valid f size b h file index = front_valid f size b h file index.holds inde
 -- the header is that of the front alone, too
 pub index_header : (f : List ℕ) (size : ℕ) (h : Header) → IsIndexOf f size h → header_of f ≡ Ok h
 index_header f size h index = header_of_front f size h index.header (index.holds.index h index.header)
+
+-- The whole file
+
+-- a valid file is its own index
+pub whole_index_of : (b : List ℕ) (h : Header) → Valid b → header_of b ≡ Ok h → IsIndexOf b (length b) h
+whole_index_of b h valid read = record {
+  holds = whole_index b;
+  header = read;
+  sound = damage_same b (length b) b (whole_file b) (whole_index b) ∙ valid_sound b valid;
+}

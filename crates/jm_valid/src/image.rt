@@ -1,39 +1,37 @@
-ghost use Rattle.std.specs.Prelude.{◌≡◌};
-ghost use Rattle.jm_form.specs.Validity.{ValidAs};
+ghost use Rattle.std.specs.Prelude.{◌≡◌, length};
+ghost use Rattle.jm_form.specs.Validity.{Valid, ValidAs};
+ghost use Rattle.jm_valid.specs.Opened.{IsIndexOf};
 
+use crate::index::Index;
 use jm_bytes::Buf;
 use jm_form::{Header, read_header};
 use std::marker::Model;
 
-/// A valid image: its bytes, which leave it only by counted calls, and its header.
+/// A valid image: its bytes, which leave it only by counted calls, and its header. It is its own
+/// index.
 #[derive(Drop)]
 pub struct Image<'a> {
-    buf: Buf<'a>,
-    header: Header,
+    index: Index<'a>,
 }
 
 impl<'a> Model for Image<'a> {
-    ghost use Rattle.std.specs.Prelude.{List, ℕ};
-    ghost use Rattle.jm_form.specs.Validity.{ValidAs};
+    ghost use Rattle.std.specs.Prelude.{◌≡◌, List, ℕ, length};
 
     ghost Value = { List ℕ };
 
-    ghost view = { λ a. a.buf };
+    ghost view = { λ a. a.index.bytes };
 
-    ghost invariant = { λ a. ValidAs a.buf a.header };
+    ghost invariant = { λ a. a.index.length ≡ length a.index.bytes };
 }
 
 impl<'a> Image<'a> {
-    ghost use Rattle.jm_form.specs.Validity.{Valid, ValidAs};
-
     /// The image of bytes that were found to be valid.
     pub(crate) fn checked(bytes: &'a [u8], header: Header) -> Image<'a>
-        requires { ValidAs bytes.now header }
+        requires { IsIndexOf bytes.now (length bytes.now) header }
         ensures { result ≡ bytes.now }
     {
         Image {
-            buf: Buf::new(bytes),
-            header,
+            index: Index::checked(bytes, header, bytes.len() as u64),
         }
     }
 
@@ -53,14 +51,22 @@ impl<'a> Image<'a> {
     pub fn buf(&self) -> Buf<'a>
         ensures { result ≡ self.now }
     {
-        self.buf.again()
+        self.index.buf()
     }
 
     /// The header, with which the bytes are a valid image.
     pub fn header(&self) -> Header
         ensures { ValidAs self.now result }
     {
-        self.header
+        self.index.header()
+    }
+
+    /// The bytes and their number, as the index of themselves.
+    pub fn index(&self) -> Index<'a>
+        ensures bytes { result.bytes ≡ self.now }
+        ensures length { result.length ≡ length self.now }
+    {
+        self.index.again()
     }
 
     /// A second value of the same bytes.
@@ -68,8 +74,7 @@ impl<'a> Image<'a> {
         ensures { result ≡ self.now }
     {
         Image {
-            buf: self.buf.again(),
-            header: self.header,
+            index: self.index.again(),
         }
     }
 }

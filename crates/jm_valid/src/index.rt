@@ -1,4 +1,4 @@
-ghost use Rattle.std.specs.Prelude.{◌≡◌, ℕ, List, Ok};
+ghost use Rattle.std.specs.Prelude.{◌≡◌, ◌≤◌, ℕ, List, length, Ok};
 ghost use Rattle.jm_form.specs.Head.{header_of, IsFileOf};
 ghost use Rattle.jm_form.specs.Validity.{ValidAs};
 ghost use Rattle.jm_valid.specs.Opened.{IsIndexOf};
@@ -47,19 +47,32 @@ impl<'a> Index<'a> {
     }
 
     /// The header, with which each file that has these first bytes and this length is a valid
-    /// image; it is that of the first bytes alone, too.
+    /// image; it is that of the first bytes alone, too, which are no more than the file has.
     pub fn header(&self) -> Header
         ensures front { header_of self.now.bytes ≡ Ok result }
         ensures valid { (b : List ℕ) → IsFileOf self.now.bytes self.now.length b
             → ValidAs b result }
+        ensures within { length self.now.bytes ≤ self.now.length }
     {
         self.header
     }
 
-    /// How many bytes the file has.
+    /// How many bytes the file has, of which the first ones are here.
     pub fn length(&self) -> u64
-        ensures { result ≡ self.now.length }
+        ensures length { result ≡ self.now.length }
+        ensures within { length self.now.bytes ≤ result }
     {
         self.length
+    }
+
+    /// A second value of the same index.
+    pub fn again(&self) -> Index<'a>
+        ensures { result ≡ self.now }
+    {
+        Index {
+            buf: self.buf.again(),
+            header: self.header,
+            length: self.length,
+        }
     }
 }

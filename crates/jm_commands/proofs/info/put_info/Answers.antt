@@ -16,7 +16,7 @@ returns g c b file =
     let valid = c.header-header.ensures.valid b file in
     let h = c.header-header.result in
     let sizes : c.saturating_sub-contents.result ≡ c.args.index.now.length - index_length h
-    = omega (arith, c.saturating_sub-contents.ensures, c.length.ensures, c.contents_place.ensures) in
+    = omega (arith, c.saturating_sub-contents.ensures, c.length.ensures.length, c.contents_place.ensures) in
     let text : c.as_bytes.result.now ≡ info_text b
     = c.as_bytes.ensures.value ∙ c.in_ok-text.ensures ∙ ap (header_text h) sizes ∙ info_is b h c.args.index.now.length
     valid.header file.length_is in

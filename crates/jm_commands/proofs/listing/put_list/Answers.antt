@@ -1,8 +1,12 @@
-use Rattle.jm_bytes.proofs.ResultLaws.{passed_on}
-use Rattle.jm_outside.specs.declared.streams.SinkError.TheVariants as sink_error
-use Rattle.jm_commands.proofs.PieceLaws.{all_left, unput}
+use Rattle.jm_commands.specs.Stops.{stop_of_sink}
+use Rattle.jm_commands.proofs.PieceLaws.{text_put, text_unput}
+use Rattle.jm_commands.proofs.StepLaws.{from_stop}
 use Rattle.jm_commands.proofs.listing.put_list.Goals as goal
 
-pub returns-in_err-entries : goal.returns-in_err-entries
-returns-in_err-entries g c =
-    rw (passed_on c.from_residual.result sink_error.Memory c.from_residual.ensures.1) (unput _ _ _ _ (all_left _ _))
+pub returns-in_err-put_taken : goal.returns-in_err-put_taken
+returns-in_err-put_taken g c b file =
+    rw (from_stop c.from_residual.result (stop_of_sink c.in_err-put_taken.field-0.0) c.from_residual.ensures.1)
+    (text_unput _ c.in_err-put_taken.field-0.0 _ _ (c.in_err-put_taken.ensures b file))
+
+pub returns : goal.returns
+returns g c b file = text_put _ _ _ (c.in_ok-put_taken.ensures b file)

@@ -1,11 +1,15 @@
 use Rattle.std.proofs.Common.{◌≡◌, map, take}
 use Rattle.jm_outside.specs.Made.{MadeAll}
+use Rattle.jm_reader.specs.Walk.{IsLater}
 use Rattle.jm_extract.specs.Extracted.{writes_of}
 use Rattle.jm_extract.specs.Taken.{taken_as}
 use Rattle.jm_extract.proofs.extracting.make_entries.Given as goal
 
 abbrev pub invariant-loop-entry : goal.invariant-loop-entry
 invariant-loop-entry g l = record {
-  files : MadeAll (writes_of l.dir (map taken_as (take l.entry-index l.entries))) (g.S.Shelf.files l.fn.shelf) (g.S.Shelf.files l.shelf);
+  files : MadeAll (writes_of l.dir (map (taken_as l.image) (take l.entry-index l.entries))) (g.S.Shelf.files l.fn.shelf)
+      (g.S.Shelf.files l.shelf);
   count : g.S.Shelf.faults l.shelf ≡ g.S.Shelf.faults l.fn.shelf;
+  metered : l.reads.bytes ≡ l.image;
+  reads : IsLater l.fn.reads l.reads;
 }

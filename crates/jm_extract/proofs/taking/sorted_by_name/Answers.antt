@@ -4,7 +4,7 @@ use Rattle.jm_names.proofs.NameOrder.{names_sorted}
 use Rattle.jm_extract.proofs.taking.sorted_by_name.Goals as goal
 
 pub returns-clause-sorted : goal.returns-clause-sorted
-returns-clause-sorted c =
-    let up = names_sorted taken_as c.sort_unstable_by.new.self.items c.sort_unstable_by.ensures.sorted
+returns-clause-sorted c b =
+    let up = names_sorted (taken_as b) c.sort_unstable_by.new.self.items c.sort_unstable_by.ensures.sorted
     (λ a r q k. search (rules, of_calls)) in
     rw c.from_vec.ensures up

@@ -1,19 +1,48 @@
-use Rattle.std.proofs.Common.{◌∙◌, map}
+use Rattle.std.proofs.Common.{◌++◌, ◌∙◌, All, ap, arith, map, refl, subst, sym}
+use Rattle.std.proofs.lemmas.List.Elements.{All-nil}
+use Rattle.jm_extract.specs.declared.taking.TakenEntry.{TakenEntry}
+use Rattle.jm_reader.specs.Listing.{entry_listed, handed}
+use Rattle.jm_reader.specs.Look.{SoundIn}
 use Rattle.jm_reader.specs.Walk.{entries_of}
+use Rattle.jm_reader.proofs.IndexLaws.{relisted}
+use Rattle.jm_reader.proofs.WalkLaws.{later_further}
 use Rattle.jm_extract.specs.Taken.{taken_among, taken_as}
 use Rattle.jm_extract.proofs.TakingLaws.{taken_step}
 use Rattle.jm_extract.proofs.taking.taken_by_slot.Goals as goal
-use Rattle.jm_reader.proofs.WalkLaws.{later_further}
+
+pub loop-entry-init : goal.loop-entry-init
+loop-entry-init g c =
+    let include = c.args.include.now in
+    let from = c.list-entries.ensures in
+    let rest = c.list-entries.result.rest in
+    record {
+      bytes = from.bytes;
+      length = from.length;
+      metered = c.requires;
+      reads = record { bytes = refl; count = omega arith };
+      taken = λ b file. ap (taken_among include) (sym (ap (map (entry_listed b)) (from.rest b file) ∙ relisted b))
+          ∙ ap (λ ts. map (taken_as b) ts ++ taken_among include (map (entry_listed b) rest)) (sym c.new-taken.ensures);
+      sound = subst (All (λ t. SoundIn c.args.index.now t.row)) (sym c.new-taken.ensures) (All-nil (λ (t : TakenEntry).
+          SoundIn c.args.index.now t.row));
+    }
 
 pub loop-entry-preserved : goal.loop-entry-preserved
 loop-entry-preserved g c =
     let before = c.loop-entry.invariant in
+    let step = c.step.ensures in
+    let put = c.in_ok-take_entry.ensures in
     let include = c.args.include.now in
+    let index = c.args.index.now in
+    let entry = c.in-Some.entry in
+    let own = subst (λ l. SoundIn (record { bytes = l; length = index.length }) entry.row) before.bytes
+    (subst (λ n. SoundIn (record { bytes = c.loop-entry.entries.bytes; length = n }) entry.row) before.length c.in-Some.ensures.sound) in
     record {
-      bytes = c.step.ensures.bytes ∙ before.bytes;
-      metered = c.step.ensures.reads.bytes ∙ before.metered;
-      reads = later_further c.args.reads.now c.loop-entry.reads c.step.new.reads before.reads c.step.ensures.reads;
-      taken = taken_step include (taken_among include (entries_of c.args.image.now)) (map taken_as c.loop-entry.list)
-          (map taken_as c.take_entry.new.list) c.loop-entry.entries.rest c.step.new.self.rest c.in-Some.entry before.taken
-          c.in-Some.ensures.entry c.in_ok-take_entry.ensures;
+      bytes = step.bytes ∙ before.bytes;
+      length = step.length ∙ before.length;
+      metered = step.reads.bytes ∙ before.metered;
+      reads = later_further c.args.reads.now c.loop-entry.reads c.step.new.reads before.reads step.reads;
+      taken = λ b file. taken_step include b (taken_among include (entries_of b)) (map (taken_as b) c.loop-entry.taken)
+          (map (taken_as b) c.take_entry.new.list) c.loop-entry.entries.rest c.step.new.self.rest (handed entry) (before.taken b file)
+          c.in-Some.ensures.entry (put.taken b);
+      sound = put.sound index before.sound own;
     }

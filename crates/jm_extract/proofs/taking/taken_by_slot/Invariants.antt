@@ -1,14 +1,20 @@
-use Rattle.std.proofs.Common.{◌≡◌, ◌++◌, length, map}
+use Rattle.std.proofs.Common.{◌≡◌, ◌++◌, ℕ, List, All, length, map}
+use Rattle.jm_form.specs.Head.{IsFileOf}
+use Rattle.jm_reader.specs.Listing.{entry_listed}
+use Rattle.jm_reader.specs.Look.{SoundIn}
 use Rattle.jm_reader.specs.Walk.{entries_of, IsLater}
 use Rattle.jm_extract.specs.Taken.{taken_among, taken_as}
 use Rattle.jm_extract.proofs.taking.taken_by_slot.Given as goal
 
 abbrev pub invariant-loop-entry : goal.invariant-loop-entry
 invariant-loop-entry g l = record {
-  bytes : l.entries.bytes ≡ l.image;
-  metered : l.reads.bytes ≡ l.image;
+  bytes : l.entries.bytes ≡ l.index.bytes;
+  length : l.entries.length ≡ l.index.length;
+  metered : l.reads.bytes ≡ l.index.bytes;
   reads : IsLater l.fn.reads l.reads;
-  taken : taken_among l.include (entries_of l.image) ≡ map taken_as l.list ++ taken_among l.include l.entries.rest;
+  taken : (b : List ℕ) → IsFileOf l.index.bytes l.index.length b → taken_among l.include (entries_of b) ≡ map (taken_as b) l.taken
+      ++ taken_among l.include (map (entry_listed b) l.entries.rest);
+  sound : All (λ t. SoundIn l.index t.row) l.taken;
 }
 
 abbrev pub decreases-loop-entry : goal.decreases-loop-entry

@@ -13,11 +13,11 @@ pub word-place-requires : goal.word-place-requires
 word-place-requires g c =
     let count = c.pair_count-k-end.ensures in
     let below = c.loop-k-test.true in
-    (pair_at c.args.image.now c.args.content.now c.loop-k.k c.requires.sound (omega arith)).place_fits
+    (pair_at c.args.index.now.bytes c.args.content.now c.loop-k.k c.requires.sound (omega arith)).place_fits
 
 pub text_if-found-requires-clause-ends : goal.text_if-found-requires-clause-ends
 text_if-found-requires-clause-ends g c =
-    let b = c.args.image.now in
+    let b = c.args.index.now.bytes in
     let count = c.pair_count-k-end.ensures in
     let below = c.loop-k-test.true in
     let place : c.word-place.result ≡ word_of b c.args.content.now (2 * c.loop-k.k + 1) = c.word-place.ensures in
@@ -25,7 +25,7 @@ text_if-found-requires-clause-ends g c =
 
 pub loop-k-preserved : goal.loop-k-preserved
 loop-k-preserved g c =
-    let b = c.args.image.now in
+    let b = c.args.index.now.bytes in
     let content = c.args.content.now in
     let asked = c.args.asked.now in
     let k = c.loop-k.k in

@@ -8,6 +8,6 @@ abbrev pub invariant-loop-k : goal.invariant-loop-k
 invariant-loop-k g l = record {
   bytes : l.reads.bytes ≡ l.fn.reads.bytes;
   count : l.fn.reads.count ≤ l.reads.count;
-  rest : list_any (λ o. bytes_eq l.asked o.module) (owners_left l.image l.content 0) ≡ list_any (λ o. bytes_eq l.asked o.module)
-      (owners_left l.image l.content l.k);
+  rest : list_any (λ o. bytes_eq l.asked o.module) (owners_left l.index.bytes l.content 0) ≡ list_any (λ o. bytes_eq l.asked o.module)
+      (owners_left l.index.bytes l.content l.k);
 }

@@ -10,11 +10,11 @@ pub word-requires : goal.word-requires
 word-requires g c =
     let count = c.pair_count-k-end.ensures in
     let below = c.loop-k-test.true in
-    (pair_at c.args.image.now c.args.content.now c.loop-k.k c.requires.sound (omega arith)).flag_fits
+    (pair_at c.args.index.now.bytes c.args.content.now c.loop-k.k c.requires.sound (omega arith)).flag_fits
 
 pub returns-then-word-ne1-clause-found : goal.returns-then-word-ne1-clause-found
 returns-then-word-ne1-clause-found g c =
-    let b = c.args.image.now in
+    let b = c.args.index.now.bytes in
     let content = c.args.content.now in
     let k = c.loop-k.k in
     let count = c.pair_count-k-end.ensures in
@@ -24,11 +24,11 @@ returns-then-word-ne1-clause-found g c =
     let full : word_of b content (2 * k) == 1 ≡ false = ap (λ n. n == 1) (sym c.word.ensures)
     ∙ false_from_ne_true (c.word.result == 1) (λ is. c.if-word-ne1.true (eqb-true c.word.result 1 is)) in
     sym (c.loop-k.invariant.rest ∙ ap first_full here ∙ full_here (owner_told b content k) left full
-    ∙ ap (λ (o : Owner). Some o.module) (sym c.owner_at.ensures.owner))
+    ∙ ap (λ (o : Owner). Some o.module) (sym c.in_ok-owner_at.ensures.owner))
 
 pub loop-k-preserved : goal.loop-k-preserved
 loop-k-preserved g c =
-    let b = c.args.image.now in
+    let b = c.args.index.now.bytes in
     let content = c.args.content.now in
     let k = c.loop-k.k in
     let count = c.pair_count-k-end.ensures in

@@ -7,5 +7,5 @@ abbrev pub invariant-loop-k : goal.invariant-loop-k
 invariant-loop-k g l = record {
   bytes : l.reads.bytes ≡ l.fn.reads.bytes;
   count : l.fn.reads.count ≤ l.reads.count;
-  rest : first_full (owners_left l.image l.content 0) ≡ first_full (owners_left l.image l.content l.k);
+  rest : first_full (owners_left l.index.bytes l.content 0) ≡ first_full (owners_left l.index.bytes l.content l.k);
 }

@@ -12,13 +12,13 @@ use Rattle.jm_jrt.proofs.owners.text_if.Goals as goal
 
 pub returns-then-asked-behind-clause-found : goal.returns-then-asked-behind-clause-found
 returns-then-asked-behind-clause-found g c =
-    let b = c.args.image.now in
+    let b = c.args.index.now.bytes in
     let h = c.header-header.result in
-    let at = head_is b h c.header-header.ensures.header in
+    let at = head_is b h c.header-header.ensures.front in
     let place = c.args.place in
     let asked : List ℕ = c.args.asked.now in
     let long = c.if-asked-behind.true in
-    let size = length-strings b h (header_fits b h c.header-header.ensures.header) in
+    let size = length-strings b h (header_fits b h c.header-header.ensures.front) in
     let rest = length-drop place (strings b h) in
     sym (false_from_ne_true (bytes_eq asked (text_at (strings b h) place))
     (λ same. let within = (begins (strings b h) asked place
@@ -27,7 +27,7 @@ returns-then-asked-behind-clause-found g c =
 
 pub part-part-requires-clause-inside : goal.part-part-requires-clause-inside
 part-part-requires-clause-inside g c =
-    let fits = header_fits c.args.image.now c.header-header.result c.header-header.ensures.header in
+    let fits = header_fits c.args.index.now.bytes c.header-header.result c.header-header.ensures.front in
     let short = c.if-asked-behind.false in
     let start = c.strings_place.ensures in
     rw c.buf-buf.ensures (omega arith)
@@ -35,20 +35,20 @@ part-part-requires-clause-inside g c =
 pub split_at-requires : goal.split_at-requires
 split_at-requires g c =
     let short = c.if-asked-behind.false in
-    let part = looked c.args.image.now c.header-header.result c.args.place c.args.asked.now c.part-part.result.now
-    c.header-header.ensures.header (omega arith) (rw (c.strings_place.ensures, c.buf-buf.ensures) at c.part-part.ensures.part) in
+    let part = looked c.args.index.now.bytes c.header-header.result c.args.place c.args.asked.now c.part-part.result.now
+    c.header-header.ensures.front (omega arith) (rw (c.strings_place.ensures, c.buf-buf.ensures) at c.part-part.ensures.part) in
     let size = part.size in
     omega arith
 
 pub returns-then-not-ended-clause-found : goal.returns-then-not-ended-clause-found
 returns-then-not-ended-clause-found g c =
-    let b = c.args.image.now in
+    let b = c.args.index.now.bytes in
     let h = c.header-header.result in
-    let at = head_is b h c.header-header.ensures.header in
+    let at = head_is b h c.header-header.ensures.front in
     let place = c.args.place in
     let asked : List ℕ = c.args.asked.now in
     let short = c.if-asked-behind.false in
-    let part = looked b h place asked c.part-part.result.now c.header-header.ensures.header (omega arith)
+    let part = looked b h place asked c.part-part.result.now c.header-header.ensures.front (omega arith)
     (rw (c.strings_place.ensures, c.buf-buf.ensures) at c.part-part.ensures.part) in
     let end : c.split_at.result.1.now ≡ drop (length asked) (take (length asked + 1) (drop place (strings b h))) =
     c.split_at.ensures.back ∙ ap (drop (length asked)) part.is in
@@ -59,13 +59,13 @@ returns-then-not-ended-clause-found g c =
 
 pub returns-in_err-text-clause-found : goal.returns-in_err-text-clause-found
 returns-in_err-text-clause-found g c =
-    let b = c.args.image.now in
+    let b = c.args.index.now.bytes in
     let h = c.header-header.result in
-    let at = head_is b h c.header-header.ensures.header in
+    let at = head_is b h c.header-header.ensures.front in
     let place = c.args.place in
     let asked : List ℕ = c.args.asked.now in
     let short = c.if-asked-behind.false in
-    let part = looked b h place asked c.part-part.result.now c.header-header.ensures.header (omega arith)
+    let part = looked b h place asked c.part-part.result.now c.header-header.ensures.front (omega arith)
     (rw (c.strings_place.ensures, c.buf-buf.ensures) at c.part-part.ensures.part) in
     let none : false ≡ list_any (λ x. x == 0) (take (length asked + 1) (drop place (strings b h))) = c.in_err-text.ensures.ends
     ∙ ap (λ l. text_ends l 0) part.is in
@@ -75,13 +75,13 @@ returns-in_err-text-clause-found g c =
 
 pub returns-then-eq-clause-found : goal.returns-then-eq-clause-found
 returns-then-eq-clause-found g c =
-    let b = c.args.image.now in
+    let b = c.args.index.now.bytes in
     let h = c.header-header.result in
-    let at = head_is b h c.header-header.ensures.header in
+    let at = head_is b h c.header-header.ensures.front in
     let place = c.args.place in
     let asked : List ℕ = c.args.asked.now in
     let short = c.if-asked-behind.false in
-    let part = looked b h place asked c.part-part.result.now c.header-header.ensures.header (omega arith)
+    let part = looked b h place asked c.part-part.result.now c.header-header.ensures.front (omega arith)
     (rw (c.strings_place.ensures, c.buf-buf.ensures) at c.part-part.ensures.part) in
     let some : true ≡ list_any (λ x. x == 0) (take (length asked + 1) (drop place (strings b h))) = c.in_ok-text.ensures.ends
     ∙ ap (λ l. text_ends l 0) part.is in
@@ -91,13 +91,13 @@ returns-then-eq-clause-found g c =
 
 pub returns-else-eq-clause-found : goal.returns-else-eq-clause-found
 returns-else-eq-clause-found g c =
-    let b = c.args.image.now in
+    let b = c.args.index.now.bytes in
     let h = c.header-header.result in
-    let at = head_is b h c.header-header.ensures.header in
+    let at = head_is b h c.header-header.ensures.front in
     let place = c.args.place in
     let asked : List ℕ = c.args.asked.now in
     let short = c.if-asked-behind.false in
-    let part = looked b h place asked c.part-part.result.now c.header-header.ensures.header (omega arith)
+    let part = looked b h place asked c.part-part.result.now c.header-header.ensures.front (omega arith)
     (rw (c.strings_place.ensures, c.buf-buf.ensures) at c.part-part.ensures.part) in
     let some : true ≡ list_any (λ x. x == 0) (take (length asked + 1) (drop place (strings b h))) = c.in_ok-text.ensures.ends
     ∙ ap (λ l. text_ends l 0) part.is in

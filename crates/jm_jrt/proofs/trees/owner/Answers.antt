@@ -1,12 +1,8 @@
-use Rattle.std.proofs.Common.{sym, ap, ◌∙◌, subst, arith}
+use Rattle.std.proofs.Common.{sym, ◌∙◌, subst, arith}
 use Rattle.jm_reader.proofs.HeadLaws.{head_is}
-use Rattle.jm_jrt.specs.Stat.{owner_read}
 use Rattle.jm_jrt.proofs.TreeContents.{HasSections}
 use Rattle.jm_jrt.proofs.TreeLaws.{trees_with}
 use Rattle.jm_jrt.proofs.trees.owner.Goals as goal
-
-pub returns-clause-owner : goal.returns-clause-owner
-returns-clause-owner g c = c.owner_in.ensures.owner ∙ sym (ap (owner_read c.args.image.now c.args.path.now) c.header-header.ensures.header)
 
 pub returns-clause-trees : goal.returns-clause-trees
 returns-clause-trees g c = λ m stands nodes.
@@ -15,4 +11,4 @@ returns-clause-trees g c = λ m stands nodes.
     let within = c.longest_section-longest.ensures in
     let has = subst HasSections (sym (head_is b c.header-header.result c.header-header.ensures.header))
     (record { locations = omega arith; strings = omega arith }) in
-    returns-clause-owner g c ∙ (trees_with b m has nodes stands).owners c.args.path.now
+    c.owner_in.ensures.owner ∙ (trees_with b m has nodes stands).owners c.args.path.now

@@ -1,12 +1,8 @@
-use Rattle.std.proofs.Common.{sym, ap, ◌∙◌, subst, arith}
+use Rattle.std.proofs.Common.{sym, ◌∙◌, subst, arith}
 use Rattle.jm_reader.proofs.HeadLaws.{head_is}
-use Rattle.jm_jrt.specs.Stat.{stat_read}
 use Rattle.jm_jrt.proofs.TreeContents.{HasSections}
 use Rattle.jm_jrt.proofs.TreeLaws.{trees_with}
 use Rattle.jm_jrt.proofs.trees.stat.Goals as goal
-
-pub returns-clause-item : goal.returns-clause-item
-returns-clause-item g c = c.stat_in.ensures.item ∙ sym (ap (stat_read c.args.image.now c.args.path.now) c.header-header.ensures.header)
 
 pub returns-clause-trees : goal.returns-clause-trees
 returns-clause-trees g c = λ m stands nodes.
@@ -15,4 +11,4 @@ returns-clause-trees g c = λ m stands nodes.
     let within = c.longest_section-longest.ensures in
     let has = subst HasSections (sym (head_is b c.header-header.result c.header-header.ensures.header))
     (record { locations = omega arith; strings = omega arith }) in
-    returns-clause-item g c ∙ (trees_with b m has nodes stands).stats c.args.path.now
+    c.stat_in.ensures.item ∙ (trees_with b m has nodes stands).stats c.args.path.now

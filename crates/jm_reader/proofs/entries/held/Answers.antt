@@ -1,10 +1,14 @@
-use Rattle.std.proofs.Common.{◌≡◌, ◌<◌, ◌∷◌, [], subst, sym}
-use Rattle.std.specs.Prelude.{IfNone}
+use Rattle.std.proofs.Common.{◌<◌, ℕ, List, subst, sym}
 use Rattle.jm_form.specs.declared.container.Header.{Header}
-use Rattle.jm_reader.specs.Walk.{entries_in}
+use Rattle.jm_reader.specs.Look.{TextsEnd}
 use Rattle.jm_reader.proofs.HeadLaws.{head_is}
 use Rattle.jm_reader.proofs.IndexLaws.{held_sound, texts_of_valid}
 use Rattle.jm_reader.proofs.entries.held.Goals as goal
+
+pub held_by-requires-clause-ends : goal.held_by-requires-clause-ends
+held_by-requires-clause-ends g c =
+    subst (λ (l : List ℕ). TextsEnd l c.header.result) (sym c.buf.ensures)
+    (texts_of_valid c.args.image.now c.header.result c.header.ensures)
 
 pub returns-clause-sound : goal.returns-clause-sound
 returns-clause-sound g c =
@@ -12,11 +16,3 @@ returns-clause-sound g c =
     let h = c.header.result in
     let below = subst (λ (h : Header). c.args.slot < h.length) (head_is b h c.header.ensures.header) c.requires.below in
     held_sound b h c.args.slot c.held_by.result c.header.ensures below (rw c.buf.ensures at c.held_by.ensures.row)
-
-pub returns-clause-spare : goal.returns-clause-spare
-returns-clause-spare g c =
-    let b = c.args.image.now in
-    let h = c.header.result in
-    let spare = rw c.buf.ensures at c.held_by.ensures.spare in
-    subst (λ h. IfNone c.held_by.result (entries_in b h (c.args.slot ∷ []) ≡ [])) (sym (head_is b h c.header.ensures.header))
-    (spare (texts_of_valid b h c.header.ensures))

@@ -5,6 +5,6 @@ use Rattle.jm_reader.proofs.entries.held_by.Goals as goal
 
 -- where the texts of the rows end, the row has its pieces
 pub returns-in_err-pieces-clause-spare : goal.returns-in_err-pieces-clause-spare
-returns-in_err-pieces-clause-spare g c ends =
+returns-in_err-pieces-clause-spare g c =
     let there = sym (c.in_ok-row.ensures ∙ ap spelled_row c.row_of_slot.ensures.row) in
-    absurd (false≢true (c.in_err-pieces.ensures.ends ∙ ends c.args.slot c.in_ok-row.row c.requires.below there))
+    absurd (false≢true (c.in_err-pieces.ensures.ends ∙ c.requires.ends c.args.slot c.in_ok-row.row c.requires.below there))

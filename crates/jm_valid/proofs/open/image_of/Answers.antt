@@ -8,8 +8,13 @@ use Rattle.jm_valid.proofs.open.image_of.Goals as goal
 pub checked-requires : goal.checked-requires
 checked-requires c =
     let b = c.args.bytes.now in
+    subst (λ r. IfOk r (IsIndexOf b (length b))) c.in-Ok.is c.requires.index
+
+pub returns-in-Ok-clause-valid : goal.returns-in-Ok-clause-valid
+returns-in-Ok-clause-valid c =
+    let b = c.args.bytes.now in
     let index = subst (λ r. IfOk r (IsIndexOf b (length b))) c.in-Ok.is c.requires.index in
-    index_valid b (length b) b c.in-Ok.header (whole_file b) index
+    (c.in-Ok.header, index_valid b (length b) b c.in-Ok.header (whole_file b) index)
 
 pub returns-in-Err-clause-damaged : goal.returns-in-Err-clause-damaged
 returns-in-Err-clause-damaged c =

@@ -7,4 +7,4 @@ use Rattle.jm_jrt.proofs.words.Ended.ends.Goals as goal
 
 pub returns : goal.returns
 returns c = ap (nat_lt c.args.place) c.args.self.now.cut
-    ∙ sym (text_ends-below (strings c.args.self.now.image.now (head c.args.self.now.image.now)) c.args.place)
+    ∙ sym (text_ends-below (strings c.args.self.now.index.now.bytes (head c.args.self.now.index.now.bytes)) c.args.place)

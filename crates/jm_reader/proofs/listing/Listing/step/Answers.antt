@@ -1,27 +1,19 @@
-use Rattle.std.proofs.Common.{◌∷◌, ◌+◌, ◌∙◌, ap, map, subst, sym}
-use Rattle.jm_form.specs.Head.{IsFileOf}
-use Rattle.jm_reader.specs.Listing.{ToList, listed, listed_from}
-use Rattle.jm_reader.proofs.IndexLaws.{texts_end_by}
+use Rattle.std.proofs.Common.{subst}
+use Rattle.jm_reader.specs.Listing.{ToList}
+use Rattle.jm_reader.specs.Look.{SoundIn}
+use Rattle.jm_reader.proofs.IndexLaws.{front_texts_end, listed_sound}
 use Rattle.jm_reader.proofs.listing.Listing.step.Goals as goal
 
-pub returns-in_err-slot-clause-end : goal.returns-in_err-slot-clause-end
-returns-in_err-slot-clause-end g c b file =
+pub next_listed-requires-clause-ends : goal.next_listed-requires-clause-ends
+next_listed-requires-clause-ends g c =
     let inside = c.self.inside in
-    let begins = subst (λ (v : ToList). IsFileOf v.bytes v.length b) (sym c.self.view_is) file in
-    let ends = texts_end_by inside.buf inside.length inside.header c.self.invariant.header c.self.invariant.valid b begins in
-    rw c.from_residual.ensures
-    (sym (ap (λ (v : ToList). v.rest) c.self.view_is) ∙ ap (map listed) (c.in_err-slot.ensures.end ends))
+    let index = c.self.invariant in
+    front_texts_end inside.buf inside.length inside.header index.header index.valid index.within
 
-pub returns-in_err-slot-clause-stays : goal.returns-in_err-slot-clause-stays
-returns-in_err-slot-clause-stays g c b file = returns-in_err-slot-clause-end g c b file
-
-pub returns-clause-entry : goal.returns-clause-entry
-returns-clause-entry g c b file =
+pub returns-clause-sound : goal.returns-clause-sound
+returns-clause-sound g c =
     let inside = c.self.inside in
-    let slot = c.in_ok-slot.slot in
-    let row = c.in_ok-slot.row in
-    let begins = subst (λ (v : ToList). IsFileOf v.bytes v.length b) (sym c.self.view_is) file in
-    let ends = texts_end_by inside.buf inside.length inside.header c.self.invariant.header c.self.invariant.valid b begins in
-    sym (ap (λ (v : ToList). v.rest) c.self.view_is)
-    ∙ ap (map listed) (c.in_ok-slot.ensures.entry ends)
-    ∙ ap (λ name. (slot, name, row.size) ∷ listed_from inside.buf inside.header (slot + 1)) (sym c.in_ok-slot.ensures.name)
+    let entry = c.in_ok-entry.entry in
+    subst (λ (v : ToList). SoundIn (record { bytes = v.bytes; length = v.length }) entry.row) c.self.view_is
+    (listed_sound inside.buf inside.length inside.header entry.slot entry.row c.self.invariant c.in_ok-entry.ensures.below
+    c.in_ok-entry.ensures.row)

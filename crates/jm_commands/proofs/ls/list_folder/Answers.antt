@@ -1,0 +1,20 @@
+use Rattle.std.proofs.Common.{ap, refl, sym, ◌∙◌}
+use Rattle.jm_commands.specs.Outcome.{ls_outcome}
+use Rattle.jm_commands.specs.declared.stop.Stop.TheVariants as stop
+use Rattle.jm_commands.proofs.StepLaws.{complained, from_stop, no_memory}
+use Rattle.jm_commands.proofs.ls.list_folder.Goals as goal
+
+pub returns-in-Ok : goal.returns-in-Ok
+returns-in-Ok g c b file node =
+    let listed = rw c.as_index.ensures at c.in-Ok.ensures.rest in
+    rw (sym (listed b file node)) c.put_listing.ensures
+
+pub returns-in_err-ls_complaint-in-Err : goal.returns-in_err-ls_complaint-in-Err
+returns-in_err-ls_complaint-in-Err g c b file node =
+    let is = from_stop c.from_residual.result stop.Memory c.from_residual.ensures.1 in
+    rw is (no_memory _ _ _ refl)
+
+pub returns : goal.returns
+returns g c b file node =
+    let refused = rw c.as_index.ensures at c.in-Err.ensures.rest in
+    complained _ _ _ _ (ap (ls_outcome c.args.asked.path.now) (sym (refused b file node)) ∙ c.in_ok-ls_complaint-in-Err.ensures) refl
