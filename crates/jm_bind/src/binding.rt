@@ -1,15 +1,16 @@
 //! The modules that root modules bind.
 ghost use Rattle.std.specs.Prelude.{◌≡◌, ◌↔◌, length, vec_len, IfOk, ℕ};
 ghost use Rattle.jm_bind.specs.Binding.{Bound};
+ghost use Rattle.jm_bytes.specs.Results.{IfAnswered};
 ghost use Rattle.jm_closure.specs.Cycles.{IsGraphOf};
 ghost use Rattle.jm_closure.specs.Graphs.{IsMarked};
 ghost use Rattle.jm_closure.specs.Names.{Indexes, NamesDiffer};
 ghost use Rattle.jm_closure.specs.Refusals.{Closes};
 
 use crate::nodes::graph_of_all;
-use jm_bytes::{List, NoMemory, Text};
+use jm_bytes::{List, NoMemory, Or, Text};
 use jm_closure::{
-    Candidate, CloseError, Graph, Places, edges_of, judge, least_lost_root, names_of, places_among,
+    Candidate, CloseFault, Graph, Places, edges_of, judge, least_lost_root, names_of, places_among,
     reached,
 };
 use std::alloc::Global;
@@ -42,15 +43,19 @@ fn bound(
 ///
 /// # Errors
 ///
-/// The first in the order of [`CloseError`], with the least names that show it. Uses and provides
+/// The first in the order of [`CloseFault`], with the least names that show it. Uses and provides
 /// make no cycle.
-pub fn bind(alloc: Global, found: &[Candidate], roots: &[Text]) -> Result<List<usize>, CloseError>
+pub fn bind(
+    alloc: Global,
+    found: &[Candidate],
+    roots: &[Text],
+) -> Result<List<usize>, Or<CloseFault>>
     requires { NamesDiffer found.now }
-    ensures { Closes found.now roots.now (Bound found.now roots.now) result }
+    ensures { IfAnswered (Closes found.now roots.now (Bound found.now roots.now)) result }
 {
     let names = names_of(alloc, found)?;
     if let Some(name) = least_lost_root(&names, roots) {
-        return Err(CloseError::NoRoot(Text::copy_of(alloc, name)?));
+        return Err(Or::Fault(CloseFault::NoRoot(Text::copy_of(alloc, name)?)));
     }
     let required = edges_of(alloc, &names, found)?;
     let chosen = bound(alloc, &names, found, &required, roots)?;

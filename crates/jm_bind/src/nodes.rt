@@ -71,22 +71,13 @@ fn add_provides(
     Ok(())
 }
 
-/// These nodes, in a vector of their own.
-fn nodes_of(alloc: Global, nodes: &[usize]) -> Result<Vec<usize>, NoMemory>
-    ensures { IfOk result (λ copy. copy.items ≡ nodes.now) }
-{
-    let mut copy = Vec::new(alloc);
-    copy.extend_from_slice(nodes)?;
-    Ok(copy)
-}
-
 /// A graph with the same edges.
 fn copy_of(alloc: Global, graph: &Graph) -> Result<Graph, NoMemory>
     ensures { IfOk result (λ copy. copy ≡ graph.now) }
 {
-    let mut copy = Graph::empty(alloc);
+    let mut copy = Graph::new(alloc, 0)?;
     for node in 0..graph.len() {
-        copy.push(nodes_of(alloc, graph.ends(node))?)?;
+        copy.push(Vec::from_slice(alloc, graph.ends(node))?)?;
     }
     Ok(copy)
 }

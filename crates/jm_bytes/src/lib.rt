@@ -4,12 +4,14 @@
 
 mod buffer;
 mod counters;
+mod faults;
 mod lists;
 mod texts;
 mod words;
 
 pub use buffer::Buf;
 pub use counters::{Meter, Steps};
+pub use faults::Or;
 pub use lists::List;
 pub use texts::{NoMemory, Text, copy_of, extend, is_before};
 pub use words::{Order, put_word, word_at};

@@ -10,8 +10,8 @@ use Rattle.jm_bytes.proofs.Choice.{same_some}
 use Rattle.jm_class.specs.declared.class.ClassFault.{ClassFault}
 use Rattle.jm_class.specs.declared.class.ClassFault.TheVariants as fault
 use Rattle.jm_class.specs.declared.class.Class.{Class}
-use Rattle.jm_class.specs.declared.class.ReadError.{ReadError}
-use Rattle.jm_class.specs.declared.class.ReadError.TheVariants.{Fault}
+use Rattle.jm_bytes.specs.declared.faults.Or.{Or}
+use Rattle.jm_bytes.specs.declared.faults.Or.TheVariants.{Fault}
 use Rattle.jm_class.specs.Classes.{SlotData, Constant, Hole, CodeData, MemberData, ClassData}
 use Rattle.jm_class.specs.Classes.{magic, body_size, is_tag, is_wide, utf8_at, is_code_name, is_major}
 use Rattle.jm_class.specs.ClassFaults.{ClassRow, Magic, Major, Number, PoolCount, Tag, Body, TextBytes, Name, AttributeBody, InCode}
@@ -328,12 +328,12 @@ rule-no_class_fault bytes good = go (class_fault bytes) refl
     go (Some f) is = absurd (good_no_fault class_table (class_fields_seen bytes) f good (class_fault-rule bytes f is))
 
 -- what the code refused
-pub class_has_fault : (bytes : List ℕ) (result : Result Class ReadError) (f : ClassFault) → ReadsClass bytes result
+pub class_has_fault : (bytes : List ℕ) (result : Result Class (Or ClassFault)) (f : ClassFault) → ReadsClass bytes result
     → result ≡ Err (Fault f) → HasClassFault bytes f
 class_has_fault bytes result f reads is = class_fault-rule bytes f (class_refused bytes result f reads is)
 
 -- what the code read has no fault
-pub class_has_none : (bytes : List ℕ) (result : Result Class ReadError) → ReadsClass bytes result
+pub class_has_none : (bytes : List ℕ) (result : Result Class (Or ClassFault)) → ReadsClass bytes result
     → OnOk result (HasNoClassFault bytes)
 class_has_none bytes (Ok class) reads = no_class_fault-rule bytes (ap fault_of reads)
 class_has_none bytes (Err error) reads = tt

@@ -6,8 +6,8 @@ use Rattle.jm_bytes.proofs.Choice.{same_ok}
 use Rattle.jm_class.specs.declared.class.ClassFault.{ClassFault}
 use Rattle.jm_class.specs.declared.class.ClassFault.TheVariants.{Magic, Version, Short, Rest}
 use Rattle.jm_class.specs.declared.class.Class.{Class}
-use Rattle.jm_class.specs.declared.class.ReadError.{ReadError}
-use Rattle.jm_class.specs.declared.class.ReadError.TheVariants.{Fault, Memory}
+use Rattle.jm_bytes.specs.declared.faults.Or.{Or}
+use Rattle.jm_bytes.specs.declared.faults.Or.TheVariants.{Fault, Memory}
 use Rattle.jm_class.specs.Classes.{SlotData, ClassData, u2, u4, magic, class_text, is_major, IsMember}
 use Rattle.jm_class.specs.Classes.{IsAttribute, FitsCounted, IsClass, ReadsAs}
 use Rattle.jm_class.specs.ComputedClass.{magic_field, major_field, class_fields, value_of, class_of, fault_of, class_fault}
@@ -147,28 +147,29 @@ no_fault-reads bytes all none = go (class_of bytes) refl none
 
 -- What the code read
 
-pub class_ok : (bytes : List ℕ) (result : Result Class ReadError) → IsBytes bytes → ReadsClass bytes result
+pub class_ok : (bytes : List ℕ) (result : Result Class (Or ClassFault)) → IsBytes bytes → ReadsClass bytes result
     → IfOk result (λ class. ReadsAs bytes (plain class))
 class_ok bytes (Ok class) all reads = class_of-reads bytes (plain class) all reads
 class_ok bytes (Err error) all reads = tt
 
-pub class_only : (bytes : List ℕ) (result : Result Class ReadError) → ReadsClass bytes result
+pub class_only : (bytes : List ℕ) (result : Result Class (Or ClassFault)) → ReadsClass bytes result
     → IfOk result (λ class. (other : ClassData) → ReadsAs bytes other → other ≡ plain class)
 class_only bytes (Ok class) reads = λ other also. same_ok {E = ClassFault} other (plain class)
     (sym (reads-class_of bytes other also) ∙ reads)
 class_only bytes (Err error) reads = tt
 
-pub class_no_fault : (bytes : List ℕ) (result : Result Class ReadError) → ReadsClass bytes result → OnOk result (class_fault bytes ≡ None)
+pub class_no_fault : (bytes : List ℕ) (result : Result Class (Or ClassFault)) → ReadsClass bytes result
+    → OnOk result (class_fault bytes ≡ None)
 class_no_fault bytes (Ok class) reads = ap fault_of reads
 class_no_fault bytes (Err error) reads = tt
 
-pub class_refused : (bytes : List ℕ) (result : Result Class ReadError) (fault : ClassFault) → ReadsClass bytes result → result
+pub class_refused : (bytes : List ℕ) (result : Result Class (Or ClassFault)) (fault : ClassFault) → ReadsClass bytes result → result
     ≡ Err (Fault fault) → class_fault bytes ≡ Some fault
 class_refused bytes (Ok class) fault reads is = cc
 class_refused bytes (Err Memory) fault reads is = cc
 class_refused bytes (Err (Fault found)) fault reads is = let same : found ≡ fault = cc in ap fault_of reads ∙ ap (λ f. Some f) same
 
-pub class_none : (bytes : List ℕ) (result : Result Class ReadError) (fault : ClassFault) (c : ClassData) → ReadsClass bytes result
+pub class_none : (bytes : List ℕ) (result : Result Class (Or ClassFault)) (fault : ClassFault) (c : ClassData) → ReadsClass bytes result
     → result ≡ Err (Fault fault) → ReadsAs bytes c → ⊥
 class_none bytes result fault c reads is other =
     let refused = class_refused bytes result fault reads is in

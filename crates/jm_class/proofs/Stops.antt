@@ -1,16 +1,15 @@
 -- A reading that stops stops the whole.
 use Rattle.std.proofs.Common.{◌≡◌, List, [], ◌∷◌, ◌++◌, map, Result, Ok, Err, ap, ◌∙◌, IsErrAnd}
 use Rattle.std.proofs.lemmas.List.{map-append}
-use Rattle.jm_class.specs.declared.class.ClassFault.{ClassFault}
-use Rattle.jm_class.specs.declared.class.ReadError.{ReadError}
-use Rattle.jm_class.specs.declared.class.ReadError.TheVariants.{Fault, Memory}
+use Rattle.jm_bytes.specs.declared.faults.Or.{Or}
+use Rattle.jm_bytes.specs.declared.faults.Or.TheVariants.{Fault, Memory}
 use Rattle.jm_class.specs.Readings.{Left, Outcome}
 use Rattle.jm_class.specs.Views.{Gives}
 
 -- the error of a part is that of the whole, where the whole has the faults of the part
-pub gives_stop : {T U A B : Type 0} (part_of : T → A) (data_of : U → B) (part : Outcome ClassFault A) (all : Outcome ClassFault B)
-    (error : ReadError) (result : Result U ReadError) (left next : Left) → IsErrAnd result (λ is. is ≡ error)
-    → Gives part_of part (Err error) left → ((fault : ClassFault) → part ≡ Err fault → all ≡ Err fault) → Gives data_of all result next
+pub gives_stop : {F T U A B : Type 0} (part_of : T → A) (data_of : U → B) (part : Outcome F A) (all : Outcome F B) (error : Or F)
+    (result : Result U (Or F)) (left next : Left) → IsErrAnd result (λ is. is ≡ error) → Gives part_of part (Err error) left
+    → ((fault : F) → part ≡ Err fault → all ≡ Err fault) → Gives data_of all result next
 gives_stop part_of data_of part all error (Ok v) left next is gives stops = absurd is
 gives_stop part_of data_of part all (Fault fault) (Err Memory) left next is gives stops = tt
 gives_stop part_of data_of part all (Fault fault) (Err (Fault other)) left next is gives stops = stops fault gives

@@ -1,12 +1,16 @@
 -- A part that a reading takes whole, and what is left behind a reading.
-use Rattle.std.proofs.Common.{◌≡◌, ◌≢◌, ℕ, List, length, Ok, Err, refl, sym, ◌∙◌}
+use Rattle.std.proofs.Common.{◌≡◌, ◌≢◌, ℕ, List, length, Result, Ok, Err, IsErrAnd, refl, sym, ap, ◌∙◌}
 use Rattle.std.proofs.lemmas.Bool.{eq-eqb, ne_eqb}
 use Rattle.std.specs.Int.{w32}
+use Rattle.jm_bytes.specs.declared.faults.Or.{Or}
+use Rattle.jm_bytes.specs.declared.faults.Or.TheVariants.{Fault, Memory}
+use Rattle.jm_class.specs.declared.class.Class.{Class}
 use Rattle.jm_class.specs.declared.class.ClassFault.{ClassFault}
-use Rattle.jm_class.specs.declared.class.ClassFault.TheVariants.{Short, CodeLength}
+use Rattle.jm_class.specs.declared.class.ClassFault.TheVariants.{Short, CodeLength, Rest}
 use Rattle.jm_class.specs.Classes.{SlotData, CodeData}
-use Rattle.jm_class.specs.ComputedClass.{code_fields, code_field}
+use Rattle.jm_class.specs.ComputedClass.{code_fields, code_field, class_fields, value_of}
 use Rattle.jm_class.specs.Readings.{Left, Reading, continued, inner_part, number, ended}
+use Rattle.jm_class.specs.Views.{Gives, ReadsClass, plain}
 
 pub ended-all : {F A : Type 0} (rest : ℕ → F) (reading : Reading F A) (left next : Left) (a : A) (n : ℕ) → reading left
     ≡ Ok (a, next) → n ≡ length next.bytes → n ≡ 0 → ended rest reading left ≡ Ok (a, next)
@@ -19,6 +23,21 @@ ended-rest rest reading left next a n e size some = rw (e, ne_eqb (length next.b
 pub ended-stop : {F A : Type 0} (rest : ℕ → F) (reading : Reading F A) (left : Left) (fault : F) → reading left ≡ Err fault
     → ended rest reading left ≡ Err fault
 ended-stop rest reading left fault e = rw e refl
+
+-- The class
+
+-- the error of the fields of a class is that of the whole
+pub class-stop : (bytes : List ℕ) (start left : Left) (error : Or ClassFault) (result : Result Class (Or ClassFault))
+    → start ≡ record { place = 0; bytes = bytes } → IsErrAnd result (λ is. is ≡ error)
+    → Gives plain (class_fields start) (Err error) left → ReadsClass bytes result
+class-stop bytes start left error (Ok class) begins is gives = absurd is
+class-stop bytes start left (Fault fault) (Err Memory) begins is gives = tt
+class-stop bytes start left (Fault fault) (Err (Fault other)) begins is gives =
+    let same : fault ≡ other = cc in
+    ap (λ from. value_of (ended Rest class_fields from)) (sym begins)
+    ∙ ap value_of (ended-stop Rest class_fields start other (gives ∙ ap (λ f. Err f) same))
+class-stop bytes start left Memory (Err Memory) begins is gives = tt
+class-stop bytes start left Memory (Err (Fault other)) begins is gives = cc
 
 -- A Code
 

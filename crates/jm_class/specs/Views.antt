@@ -1,5 +1,7 @@
 -- The parts of a class that the code hands out, as plain data, and what its readings give.
 use Rattle.std.specs.Prelude.{◌≡◌, ℕ, List, map, Result, Ok, Err}
+use Rattle.jm_bytes.specs.declared.faults.Or.{Or}
+use Rattle.jm_bytes.specs.declared.faults.Or.TheVariants.{Fault, Memory}
 use Rattle.jm_class.specs.declared.class.Attribute.{Attribute}
 use Rattle.jm_class.specs.declared.class.Body.{Body}
 use Rattle.jm_class.specs.declared.class.Body.TheVariants as body
@@ -9,8 +11,6 @@ use Rattle.jm_class.specs.declared.class.ClassFault.TheVariants.{Short}
 use Rattle.jm_class.specs.declared.class.Code.{Code}
 use Rattle.jm_class.specs.declared.class.Member.{Member}
 use Rattle.jm_class.specs.declared.class.Plain.{Plain}
-use Rattle.jm_class.specs.declared.class.ReadError.{ReadError}
-use Rattle.jm_class.specs.declared.class.ReadError.TheVariants.{Fault, Memory}
 use Rattle.jm_class.specs.declared.class.Slot.{Slot}
 use Rattle.jm_class.specs.declared.class.Slot.TheVariants as slot
 use Rattle.jm_class.specs.declared.fields.Missing.{Missing}
@@ -81,15 +81,14 @@ abbrev pub fault_at : Missing → ℕ → ClassFault
 fault_at Here = λ at. Short at
 fault_at (Within fault) = λ at. fault
 
--- a reading gives this value and leaves this, or has this fault, unless no memory is found
-abbrev pub Gives : {T A : Type 0} → (T → A) → Outcome ClassFault A → Result T ReadError → Left
-    → Type 0
+-- a reading gives this value and leaves this, or has this fault
+abbrev pub Gives : {F T A : Type 0} → (T → A) → Outcome F A → Result T (Or F) → Left → Type 0
 Gives data_of outcome (Ok v) left = outcome ≡ Ok (data_of v, left)
 Gives data_of outcome (Err (Fault fault)) left = outcome ≡ Err fault
 Gives data_of outcome (Err Memory) left = Unit {0}
 
--- the class that the bytes read as, or their first fault, unless no memory is found
-abbrev pub ReadsClass : List ℕ → Result Class ReadError → Type 0
+-- the class that the bytes read as, or their first fault
+abbrev pub ReadsClass : List ℕ → Result Class (Or ClassFault) → Type 0
 ReadsClass bytes (Ok class) = class_of bytes ≡ Ok (plain class)
 ReadsClass bytes (Err (Fault fault)) = class_of bytes ≡ Err fault
 ReadsClass bytes (Err Memory) = Unit {0}

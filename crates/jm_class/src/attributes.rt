@@ -8,11 +8,11 @@ ghost use Rattle.jm_class.specs.declared.class.ClassFault.TheVariants.{Short};
 ghost use Rattle.jm_class.specs.Views.{Gives, fault_at, pool_of, opaque_of, code_of, body_of};
 ghost use Rattle.jm_class.specs.Views.{attribute_of};
 
-use crate::class::{Attribute, Body, ClassFault, Code, Plain, ReadError, Slot};
+use crate::class::{Attribute, Body, ClassFault, Code, Plain, Slot};
 use crate::constants::utf8_in;
 use crate::cursor::Cursor;
 use crate::fields::{Missing, inner, number16, number32, part, sized};
-use jm_bytes::List;
+use jm_bytes::{List, Or};
 use std::alloc::Global;
 
 /// Whether the constant of a number is the Utf8 `Code`.
@@ -26,30 +26,16 @@ fn is_code(pool: &[Slot], name: u16) -> bool
 }
 
 /// The name of an attribute: the number of a Utf8.
-fn name(cursor: &mut Cursor, pool: &[Slot], missing: Missing) -> Result<u16, ReadError>
+fn name(cursor: &mut Cursor, pool: &[Slot], missing: Missing) -> Result<u16, Or<ClassFault>>
     ensures { Gives (λ n. n) (name_field (fault_at missing) (pool_of pool.now) cursor.old)
         result cursor.new }
 {
     let at = cursor.place();
     let name = number16(cursor, missing)?;
     if utf8_in(pool, name).is_none() {
-        return Err(ReadError::Fault(ClassFault::Index(at)));
+        return Err(Or::Fault(ClassFault::Index(at)));
     }
     Ok(name)
-}
-
-/// An attribute of a Code.
-fn plain<'a>(
-    cursor: &mut Cursor<'a>,
-    pool: &[Slot],
-    missing: Missing,
-) -> Result<Plain<'a>, ReadError>
-    ensures { Gives opaque_of (opaque_field (fault_at missing) (pool_of pool.now) cursor.old)
-        result cursor.new }
-{
-    let name = name(cursor, pool, missing)?;
-    let bytes = sized(cursor, missing)?;
-    Ok(Plain { name, bytes })
 }
 
 /// The attributes of a Code.
@@ -58,7 +44,7 @@ fn plains<'a>(
     cursor: &mut Cursor<'a>,
     pool: &[Slot],
     missing: Missing,
-) -> Result<List<Plain<'a>>, ReadError>
+) -> Result<List<Plain<'a>>, Or<ClassFault>>
     ensures { Gives (map opaque_of)
         (list_of (fault_at missing) (opaque_field (fault_at missing) (pool_of pool.now)) cursor.old)
         result cursor.new }
@@ -66,19 +52,11 @@ fn plains<'a>(
     let count = number16(cursor, missing)?;
     let mut attributes = List::new(alloc);
     for _k in 0..count {
-        let attribute = plain(cursor, pool, missing)?;
-        attributes.push(attribute)?;
+        let name = name(cursor, pool, missing)?;
+        let bytes = sized(cursor, missing)?;
+        attributes.push(Plain { name, bytes })?;
     }
     Ok(attributes)
-}
-
-/// The handlers of a Code: their number, and 8 bytes for each.
-fn rows<'a>(cursor: &mut Cursor<'a>, missing: Missing) -> Result<&'a [u8], ReadError>
-    ensures { Gives (λ rows. rows.now) (rows_field (fault_at missing) cursor.old)
-        result cursor.new }
-{
-    let count = number16(cursor, missing)?;
-    part(cursor, 8 * usize::from(count), missing)
 }
 
 /// The parts of a Code.
@@ -87,14 +65,15 @@ fn code_parts<'a>(
     cursor: &mut Cursor<'a>,
     pool: &[Slot],
     missing: Missing,
-) -> Result<Code<'a>, ReadError>
+) -> Result<Code<'a>, Or<ClassFault>>
     ensures { Gives code_of (code_fields (fault_at missing) (pool_of pool.now) cursor.old)
         result cursor.new }
 {
     let max_stack = number16(cursor, missing)?;
     let max_locals = number16(cursor, missing)?;
     let code = sized(cursor, missing)?;
-    let handlers = rows(cursor, missing)?;
+    let count = number16(cursor, missing)?;
+    let handlers = part(cursor, 8 * usize::from(count), missing)?;
     let attributes = plains(alloc, cursor, pool, missing)?;
     Ok(Code {
         max_stack,
@@ -106,7 +85,11 @@ fn code_parts<'a>(
 }
 
 /// A Code within its length. It is judged as a whole before its parts.
-fn code<'a>(alloc: Global, cursor: &mut Cursor<'a>, pool: &[Slot]) -> Result<Code<'a>, ReadError>
+fn code<'a>(
+    alloc: Global,
+    cursor: &mut Cursor<'a>,
+    pool: &[Slot],
+) -> Result<Code<'a>, Or<ClassFault>>
     ensures { Gives code_of (code_field (pool_of pool.now) cursor.old) result cursor.new }
 {
     let wrong = ClassFault::CodeLength(cursor.place());
@@ -114,27 +97,9 @@ fn code<'a>(alloc: Global, cursor: &mut Cursor<'a>, pool: &[Slot]) -> Result<Cod
     let mut inner = inner(cursor, size as usize, Missing::Here)?;
     let code = code_parts(alloc, &mut inner, pool, Missing::Within(wrong))?;
     if inner.len() != 0 {
-        return Err(ReadError::Fault(wrong));
+        return Err(Or::Fault(wrong));
     }
     Ok(code)
-}
-
-/// What an attribute holds.
-fn held<'a>(
-    alloc: Global,
-    cursor: &mut Cursor<'a>,
-    pool: &[Slot],
-    coded: bool,
-) -> Result<Body<'a>, ReadError>
-    ensures { Gives body_of (held_field (pool_of pool.now) coded cursor.old) result cursor.new }
-{
-    if coded {
-        let code = code(alloc, cursor, pool)?;
-        Ok(Body::Code(code))
-    } else {
-        let bytes = sized(cursor, Missing::Here)?;
-        Ok(Body::Plain(bytes))
-    }
 }
 
 /// An attribute, in a method or not.
@@ -143,13 +108,24 @@ fn attribute<'a>(
     cursor: &mut Cursor<'a>,
     pool: &[Slot],
     in_method: bool,
-) -> Result<Attribute<'a>, ReadError>
+) -> Result<Attribute<'a>, Or<ClassFault>>
     ensures { Gives attribute_of (attribute_field (pool_of pool.now) in_method cursor.old)
         result cursor.new }
 {
     let name = name(cursor, pool, Missing::Here)?;
-    let body = held(alloc, cursor, pool, in_method && is_code(pool, name))?;
-    Ok(Attribute { name, body })
+    if in_method && is_code(pool, name) {
+        let code = code(alloc, cursor, pool)?;
+        Ok(Attribute {
+            name,
+            body: Body::Code(code),
+        })
+    } else {
+        let bytes = sized(cursor, Missing::Here)?;
+        Ok(Attribute {
+            name,
+            body: Body::Plain(bytes),
+        })
+    }
 }
 
 /// Attributes, in a method or not.
@@ -158,7 +134,7 @@ pub fn attributes<'a>(
     cursor: &mut Cursor<'a>,
     pool: &[Slot],
     in_method: bool,
-) -> Result<List<Attribute<'a>>, ReadError>
+) -> Result<List<Attribute<'a>>, Or<ClassFault>>
     ensures { Gives (map attribute_of)
         (list_of Short (attribute_field (pool_of pool.now) in_method) cursor.old)
         result cursor.new }

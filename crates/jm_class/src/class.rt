@@ -1,7 +1,7 @@
-ghost use Rattle.std.specs.Prelude.{◌≡◌, Some};
+ghost use Rattle.std.specs.Prelude.{Some};
 ghost use Rattle.jm_class.specs.FaultText.{class_fault_text};
 
-use jm_bytes::{List, NoMemory};
+use jm_bytes::List;
 use std::fmt;
 
 /// A class file. Its opaque bytes are slices of the input.
@@ -128,24 +128,5 @@ impl fmt::Display for ClassFault {
             ClassFault::CodeLength(at) => write!(f, "CodeLength {at}"),
             ClassFault::Rest(at) => write!(f, "Rest {at}"),
         }
-    }
-}
-
-/// Why bytes give no class.
-#[derive(Clone, Copy, Debug, PartialEq, Eq)]
-pub enum ReadError {
-    /// They are no class, by their first fault.
-    Fault(ClassFault),
-    /// No memory was found.
-    Memory,
-}
-
-impl From<NoMemory> for ReadError {
-    ghost use Rattle.jm_class.specs.declared.class.ReadError.TheVariants.{Memory};
-
-    ghost from_gives = { λ _ e. e ≡ Memory };
-
-    fn from(_none: NoMemory) -> ReadError {
-        ReadError::Memory
     }
 }

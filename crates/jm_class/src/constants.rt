@@ -4,10 +4,10 @@ ghost use Rattle.jm_class.specs.ComputedClass.{tag_field, body_field, constant, 
 ghost use Rattle.jm_class.specs.ComputedClass.{pool_field, is_wide_slot, text_field};
 ghost use Rattle.jm_class.specs.Views.{Gives, slot_of, pool_of};
 
-use crate::class::{ClassFault, ReadError, Slot};
+use crate::class::{ClassFault, Slot};
 use crate::cursor::Cursor;
-use crate::fields::{Missing, number8, number16, part};
-use jm_bytes::List;
+use crate::fields::{Missing, number16, part};
+use jm_bytes::{List, Or};
 use std::alloc::Global;
 
 const UTF8: u8 = 1;
@@ -34,57 +34,44 @@ fn is_wide(tag: u8) -> bool
 }
 
 /// The tag of a constant. A Long or a Double needs one number more.
-fn tag(cursor: &mut Cursor, more: bool) -> Result<u8, ReadError>
+fn tag(cursor: &mut Cursor, more: bool) -> Result<u8, Or<ClassFault>>
     ensures { Gives (λ tag. tag) (tag_field more cursor.old) result cursor.new }
 {
     let at = cursor.place();
-    let tag = number8(cursor, Missing::Here)?;
+    let tag = cursor.u8().ok_or(Missing::Here.fault(at))?;
     if tag != UTF8 && body_size(tag).is_none() {
-        return Err(ReadError::Fault(ClassFault::Tag(at)));
+        return Err(Or::Fault(ClassFault::Tag(at)));
     }
     if is_wide(tag) && !more {
-        return Err(ReadError::Fault(ClassFault::Index(at)));
+        return Err(Or::Fault(ClassFault::Index(at)));
     }
     Ok(tag)
 }
 
 /// What stands behind a tag. A Utf8 that doesn't fit is short at its length.
-fn body<'a>(cursor: &mut Cursor<'a>, tag: u8) -> Result<&'a [u8], ReadError>
+fn body<'a>(cursor: &mut Cursor<'a>, tag: u8) -> Result<&'a [u8], Or<ClassFault>>
     ensures { Gives (λ body. body.now) (body_field tag cursor.old) result cursor.new }
 {
     match body_size(tag) {
         Some(size) => part(cursor, size, Missing::Here),
-        None => text(cursor),
+        None => {
+            let missing = Missing::Within(ClassFault::Short(cursor.place()));
+            let size = number16(cursor, missing)?;
+            part(cursor, size as usize, missing)
+        }
     }
 }
 
-/// A length of two bytes, and so many bytes.
-fn text<'a>(cursor: &mut Cursor<'a>) -> Result<&'a [u8], ReadError>
-    ensures { Gives (λ body. body.now) (text_field cursor.old) result cursor.new }
-{
-    let missing = Missing::Within(ClassFault::Short(cursor.place()));
-    let size = number16(cursor, missing)?;
-    part(cursor, size as usize, missing)
-}
-
-/// A constant.
-fn constant<'a>(cursor: &mut Cursor<'a>, more: bool) -> Result<Slot<'a>, ReadError>
-    ensures { Gives slot_of (constant more cursor.old) result cursor.new }
-{
-    let tag = tag(cursor, more)?;
-    let body = body(cursor, tag)?;
-    Ok(Slot::Constant { tag, body })
-}
-
-/// A number of the pool: a hole where one is due.
-pub fn slot<'a>(cursor: &mut Cursor<'a>, due: bool, more: bool) -> Result<Slot<'a>, ReadError>
+/// A number of the pool: a hole where one is due, else a constant.
+pub fn slot<'a>(cursor: &mut Cursor<'a>, due: bool, more: bool) -> Result<Slot<'a>, Or<ClassFault>>
     ensures { Gives slot_of (slot_field due more cursor.old) result cursor.new }
 {
     if due {
-        Ok(Slot::Hole)
-    } else {
-        constant(cursor, more)
+        return Ok(Slot::Hole);
     }
+    let tag = tag(cursor, more)?;
+    let body = body(cursor, tag)?;
+    Ok(Slot::Constant { tag, body })
 }
 
 /// Whether a hole is due behind a slot.
@@ -97,34 +84,24 @@ pub fn is_wide_slot(slot: &Slot) -> bool
     }
 }
 
-/// So many numbers of the pool.
-fn slots<'a>(
-    alloc: Global,
-    cursor: &mut Cursor<'a>,
-    count: u16,
-) -> Result<List<Slot<'a>>, ReadError>
-    ensures { Gives pool_of (slots count false cursor.old) result cursor.new }
-{
-    let mut slots = List::new(alloc);
-    let mut due = false;
-    for k in 0..count {
-        let slot = slot(cursor, due, k + 1 < count)?;
-        due = is_wide_slot(&slot);
-        slots.push(slot)?;
-    }
-    Ok(slots)
-}
-
 /// The constant pool.
-pub fn pool<'a>(alloc: Global, cursor: &mut Cursor<'a>) -> Result<List<Slot<'a>>, ReadError>
+pub fn pool<'a>(alloc: Global, cursor: &mut Cursor<'a>) -> Result<List<Slot<'a>>, Or<ClassFault>>
     ensures { Gives pool_of (pool_field cursor.old) result cursor.new }
 {
     let at = cursor.place();
     let count = number16(cursor, Missing::Here)?;
     if count == 0 {
-        return Err(ReadError::Fault(ClassFault::Index(at)));
+        return Err(Or::Fault(ClassFault::Index(at)));
     }
-    slots(alloc, cursor, count - 1)
+    let numbers = count - 1;
+    let mut slots = List::new(alloc);
+    let mut due = false;
+    for k in 0..numbers {
+        let slot = slot(cursor, due, k + 1 < numbers)?;
+        due = is_wide_slot(&slot);
+        slots.push(slot)?;
+    }
+    Ok(slots)
 }
 
 /// The bytes of the Utf8 of a number; none where the constant isn't one.

@@ -1,10 +1,12 @@
 ghost use Rattle.std.specs.Prelude.{◌≡◌};
-ghost use Rattle.std.specs.Int.{w8, w16, w32};
+ghost use Rattle.std.specs.Int.{w16, w32};
+ghost use Rattle.jm_bytes.specs.declared.faults.Or.TheVariants.{Fault};
 ghost use Rattle.jm_class.specs.Readings.{number, part, sized, inner_part};
 ghost use Rattle.jm_class.specs.Views.{fault_at, Gives};
 
-use crate::class::{ClassFault, ReadError};
+use crate::class::ClassFault;
 use crate::cursor::Cursor;
+use jm_bytes::Or;
 
 /// What is said of a field that doesn't fit.
 #[derive(Clone, Copy)]
@@ -17,26 +19,18 @@ pub enum Missing {
 
 impl Missing {
     /// The fault of a field at a place.
-    pub fn fault(self, at: usize) -> ReadError
-        ensures { result ≡ ReadError.Fault (fault_at self at) }
+    pub fn fault(self, at: usize) -> Or<ClassFault>
+        ensures { result ≡ Fault (fault_at self at) }
     {
         match self {
-            Missing::Here => ReadError::Fault(ClassFault::Short(at)),
-            Missing::Within(fault) => ReadError::Fault(fault),
+            Missing::Here => Or::Fault(ClassFault::Short(at)),
+            Missing::Within(fault) => Or::Fault(fault),
         }
     }
 }
 
-/// A byte.
-pub fn number8(cursor: &mut Cursor, missing: Missing) -> Result<u8, ReadError>
-    ensures { Gives (λ n. n) (number (fault_at missing) w8 cursor.old) result cursor.new }
-{
-    let at = cursor.place();
-    cursor.u8().ok_or(missing.fault(at))
-}
-
 /// A number of two bytes.
-pub fn number16(cursor: &mut Cursor, missing: Missing) -> Result<u16, ReadError>
+pub fn number16(cursor: &mut Cursor, missing: Missing) -> Result<u16, Or<ClassFault>>
     ensures { Gives (λ n. n) (number (fault_at missing) w16 cursor.old) result cursor.new }
 {
     let at = cursor.place();
@@ -44,7 +38,7 @@ pub fn number16(cursor: &mut Cursor, missing: Missing) -> Result<u16, ReadError>
 }
 
 /// A number of four bytes.
-pub fn number32(cursor: &mut Cursor, missing: Missing) -> Result<u32, ReadError>
+pub fn number32(cursor: &mut Cursor, missing: Missing) -> Result<u32, Or<ClassFault>>
     ensures { Gives (λ n. n) (number (fault_at missing) w32 cursor.old) result cursor.new }
 {
     let at = cursor.place();
@@ -52,7 +46,11 @@ pub fn number32(cursor: &mut Cursor, missing: Missing) -> Result<u32, ReadError>
 }
 
 /// So many bytes.
-pub fn part<'a>(cursor: &mut Cursor<'a>, n: usize, missing: Missing) -> Result<&'a [u8], ReadError>
+pub fn part<'a>(
+    cursor: &mut Cursor<'a>,
+    n: usize,
+    missing: Missing,
+) -> Result<&'a [u8], Or<ClassFault>>
     ensures { Gives (λ p. p.now) (part (fault_at missing) n cursor.old) result cursor.new }
 {
     let at = cursor.place();
@@ -60,7 +58,7 @@ pub fn part<'a>(cursor: &mut Cursor<'a>, n: usize, missing: Missing) -> Result<&
 }
 
 /// A length of four bytes, and so many bytes.
-pub fn sized<'a>(cursor: &mut Cursor<'a>, missing: Missing) -> Result<&'a [u8], ReadError>
+pub fn sized<'a>(cursor: &mut Cursor<'a>, missing: Missing) -> Result<&'a [u8], Or<ClassFault>>
     ensures { Gives (λ p. p.now) (sized (fault_at missing) cursor.old) result cursor.new }
 {
     let size = number32(cursor, missing)?;
@@ -72,7 +70,7 @@ pub fn inner<'a>(
     cursor: &mut Cursor<'a>,
     n: usize,
     missing: Missing,
-) -> Result<Cursor<'a>, ReadError>
+) -> Result<Cursor<'a>, Or<ClassFault>>
     ensures { Gives (λ inner. inner) (inner_part (fault_at missing) n cursor.old)
         result cursor.new }
 {

@@ -9,7 +9,7 @@ pub mod fields;
 mod members;
 mod reading;
 
-pub use class::{Attribute, Body, Class, ClassFault, Code, Member, Plain, ReadError, Slot};
+pub use class::{Attribute, Body, Class, ClassFault, Code, Member, Plain, Slot};
 pub use constants::{is_wide_slot, slot};
 pub use cursor::Cursor;
 pub use reading::{magic, major, read, utf8};

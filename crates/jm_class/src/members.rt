@@ -5,33 +5,11 @@ ghost use Rattle.jm_class.specs.Readings.{list_of};
 ghost use Rattle.jm_class.specs.Views.{Gives, pool_of, member_of};
 
 use crate::attributes::attributes;
-use crate::class::{Member, ReadError, Slot};
+use crate::class::{ClassFault, Member, Slot};
 use crate::cursor::Cursor;
 use crate::fields::{Missing, number16};
-use jm_bytes::List;
+use jm_bytes::{List, Or};
 use std::alloc::Global;
-
-/// A field, or a method.
-fn member<'a>(
-    alloc: Global,
-    cursor: &mut Cursor<'a>,
-    pool: &[Slot],
-    in_method: bool,
-) -> Result<Member<'a>, ReadError>
-    ensures { Gives member_of (member_field (pool_of pool.now) in_method cursor.old)
-        result cursor.new }
-{
-    let access = number16(cursor, Missing::Here)?;
-    let name = number16(cursor, Missing::Here)?;
-    let descriptor = number16(cursor, Missing::Here)?;
-    let attributes = attributes(alloc, cursor, pool, in_method)?;
-    Ok(Member {
-        access,
-        name,
-        descriptor,
-        attributes,
-    })
-}
 
 /// The fields, or the methods.
 pub fn members<'a>(
@@ -39,7 +17,7 @@ pub fn members<'a>(
     cursor: &mut Cursor<'a>,
     pool: &[Slot],
     in_method: bool,
-) -> Result<List<Member<'a>>, ReadError>
+) -> Result<List<Member<'a>>, Or<ClassFault>>
     ensures { Gives (map member_of)
         (list_of Short (member_field (pool_of pool.now) in_method) cursor.old)
         result cursor.new }
@@ -47,14 +25,22 @@ pub fn members<'a>(
     let count = number16(cursor, Missing::Here)?;
     let mut members = List::new(alloc);
     for _k in 0..count {
-        let member = member(alloc, cursor, pool, in_method)?;
-        members.push(member)?;
+        let access = number16(cursor, Missing::Here)?;
+        let name = number16(cursor, Missing::Here)?;
+        let descriptor = number16(cursor, Missing::Here)?;
+        let attributes = attributes(alloc, cursor, pool, in_method)?;
+        members.push(Member {
+            access,
+            name,
+            descriptor,
+            attributes,
+        })?;
     }
     Ok(members)
 }
 
 /// The interfaces.
-pub fn interfaces(alloc: Global, cursor: &mut Cursor) -> Result<List<u16>, ReadError>
+pub fn interfaces(alloc: Global, cursor: &mut Cursor) -> Result<List<u16>, Or<ClassFault>>
     ensures { Gives (λ list. list) (list_of Short short_number cursor.old) result cursor.new }
 {
     let count = number16(cursor, Missing::Here)?;

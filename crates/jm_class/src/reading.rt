@@ -1,44 +1,45 @@
 ghost use Rattle.std.specs.Prelude.{◌≡◌, None, Some, Err, option_map, IfOk, OnOk};
+ghost use Rattle.jm_bytes.specs.declared.faults.Or.TheVariants.{Fault};
 ghost use Rattle.jm_class.specs.ClassFaults.{HasClassFault, HasNoClassFault};
 ghost use Rattle.jm_class.specs.Classes.{ClassData, ReadsAs, utf8_at};
 ghost use Rattle.jm_class.specs.ComputedClass.{magic_field, major_field, class_fields, class_fault};
-ghost use Rattle.jm_class.specs.declared.class.ReadError.TheVariants.{Fault};
 ghost use Rattle.jm_class.specs.Views.{Gives, ReadsClass, plain};
 
 use crate::attributes::attributes;
-use crate::class::{Class, ClassFault, ReadError};
+use crate::class::{Class, ClassFault};
 use crate::constants::{pool, utf8_in};
 use crate::cursor::Cursor;
 use crate::fields::{Missing, number16, number32};
 use crate::members::{interfaces, members};
+use jm_bytes::Or;
 use std::alloc::Global;
 
 const MAGIC: u32 = 0xCAFE_BABE;
 
 /// The magic.
-pub fn magic(cursor: &mut Cursor) -> Result<u32, ReadError>
+pub fn magic(cursor: &mut Cursor) -> Result<u32, Or<ClassFault>>
     ensures { Gives (λ n. n) (magic_field cursor.old) result cursor.new }
 {
     let found = number32(cursor, Missing::Here)?;
     if found != MAGIC {
-        return Err(ReadError::Fault(ClassFault::Magic));
+        return Err(Or::Fault(ClassFault::Magic));
     }
     Ok(found)
 }
 
 /// The major version.
-pub fn major(cursor: &mut Cursor) -> Result<u16, ReadError>
+pub fn major(cursor: &mut Cursor) -> Result<u16, Or<ClassFault>>
     ensures { Gives (λ n. n) (major_field cursor.old) result cursor.new }
 {
     let major = number16(cursor, Missing::Here)?;
     if major < 45 || 65 < major {
-        return Err(ReadError::Fault(ClassFault::Version(major)));
+        return Err(Or::Fault(ClassFault::Version(major)));
     }
     Ok(major)
 }
 
 /// The fields of a class.
-fn class<'a>(alloc: Global, cursor: &mut Cursor<'a>) -> Result<Class<'a>, ReadError>
+fn class<'a>(alloc: Global, cursor: &mut Cursor<'a>) -> Result<Class<'a>, Or<ClassFault>>
     ensures { Gives plain (class_fields cursor.old) result cursor.new }
 {
     let _magic = magic(cursor)?;
@@ -66,21 +67,9 @@ fn class<'a>(alloc: Global, cursor: &mut Cursor<'a>) -> Result<Class<'a>, ReadEr
     })
 }
 
-/// The fields of a class, and nothing behind them.
-fn whole<'a>(alloc: Global, bytes: &'a [u8]) -> Result<Class<'a>, ReadError>
-    ensures { ReadsClass bytes.now result }
-{
-    let mut cursor = Cursor::new(bytes);
-    let class = class(alloc, &mut cursor)?;
-    if cursor.len() != 0 {
-        return Err(ReadError::Fault(ClassFault::Rest(cursor.place())));
-    }
-    Ok(class)
-}
-
 /// Reads a class file. A fault is that of the first field from left to right that doesn't fit or
 /// isn't allowed, by JVMS 4 and the rules of this project.
-pub fn read<'a>(alloc: Global, bytes: &'a [u8]) -> Result<Class<'a>, ReadError>
+pub fn read<'a>(alloc: Global, bytes: &'a [u8]) -> Result<Class<'a>, Or<ClassFault>>
     ensures class { IfOk result (λ class. ReadsAs bytes.now (plain class)) }
     ensures only { IfOk result (λ class.
         (other : ClassData) → ReadsAs bytes.now other → other ≡ plain class) }
@@ -91,7 +80,12 @@ pub fn read<'a>(alloc: Global, bytes: &'a [u8]) -> Result<Class<'a>, ReadError>
     ensures no_class { (fault : _) → result ≡ Err (Fault fault)
         → (c : ClassData) → ¬ ReadsAs bytes.now c }
 {
-    whole(alloc, bytes)
+    let mut cursor = Cursor::new(bytes);
+    let class = class(alloc, &mut cursor)?;
+    if cursor.len() != 0 {
+        return Err(Or::Fault(ClassFault::Rest(cursor.place())));
+    }
+    Ok(class)
 }
 
 /// The bytes of the Utf8 of a number, from 1 on; none where the constant isn't one.

@@ -1,8 +1,8 @@
 //! What a class says of a module.
 
 use crate::texts::put_stored;
-use jm_class::{ReadError, read};
-use jm_modinfo::{Descriptor, DescriptorFault, InfoError, Need, describe};
+use jm_bytes::Or;
+use jm_modinfo::{Descriptor, Need, describe_bytes};
 use std::alloc::{AllocError, Global};
 
 /// Puts a name that is required, with a `!` behind it if it is mandated.
@@ -28,35 +28,11 @@ fn put_descriptor(told: &mut String, found: &Descriptor) -> Result<(), AllocErro
     Ok(())
 }
 
-/// Why bytes say nothing of a module; None for want of memory.
-fn fault_of(error: InfoError) -> Option<DescriptorFault> {
-    match error {
-        InfoError::Fault(fault) => Some(DescriptorFault::Info(fault)),
-        InfoError::Memory => None,
-    }
-}
-
-/// The same, of bytes that are no class.
-fn class_fault_of(error: ReadError) -> Option<DescriptorFault> {
-    match error {
-        ReadError::Fault(fault) => Some(DescriptorFault::Class(fault)),
-        ReadError::Memory => None,
-    }
-}
-
-/// What bytes say of a module.
-fn described(alloc: Global, bytes: &[u8]) -> Result<Descriptor, Option<DescriptorFault>> {
-    match read(alloc, bytes) {
-        Ok(class) => describe(alloc, &class).map_err(fault_of),
-        Err(error) => Err(class_fault_of(error)),
-    }
-}
-
 /// Puts what bytes say of a module, or the fault that they have as one.
 pub fn put_described(told: &mut String, alloc: Global, bytes: &[u8]) -> Result<(), AllocError> {
-    match described(alloc, bytes) {
+    match describe_bytes(alloc, bytes) {
         Ok(found) => put_descriptor(told, &found),
-        Err(Some(fault)) => write!(told, "{fault}"),
-        Err(None) => told.push_str("no memory"),
+        Err(Or::Fault(fault)) => write!(told, "{fault}"),
+        Err(Or::Memory) => told.push_str("no memory"),
     }
 }

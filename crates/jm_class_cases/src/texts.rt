@@ -1,7 +1,8 @@
 //! Stored texts and faults as text.
 
 use crate::digits::put_digits;
-use jm_class::ReadError;
+use jm_bytes::Or;
+use jm_class::ClassFault;
 use std::alloc::AllocError;
 
 /// Puts a stored text, in digits where it isn't UTF-8.
@@ -13,9 +14,9 @@ pub fn put_stored(told: &mut String, bytes: &[u8]) -> Result<(), AllocError> {
 }
 
 /// Puts why a class isn't read.
-pub fn put_error(told: &mut String, error: ReadError) -> Result<(), AllocError> {
+pub fn put_error(told: &mut String, error: Or<ClassFault>) -> Result<(), AllocError> {
     match error {
-        ReadError::Fault(fault) => write!(told, "{fault}"),
-        ReadError::Memory => told.push_str("no memory"),
+        Or::Fault(fault) => write!(told, "{fault}"),
+        Or::Memory => told.push_str("no memory"),
     }
 }

@@ -4,8 +4,8 @@ use crate::described::put_described;
 use crate::digits::{bytes_of, put_digits};
 use crate::parts::put_read;
 use crate::texts::put_error;
-use jm_bytes::{List, NoMemory, Text};
-use jm_class::ReadError;
+use jm_bytes::{List, NoMemory, Or, Text};
+use jm_class::ClassFault;
 use jm_compact::compact;
 use jm_packages::add_packages;
 use jm_strip::strip;
@@ -15,7 +15,7 @@ use std::alloc::{AllocError, Global};
 fn put_made(
     told: &mut String,
     old: &[u8],
-    made: Result<Text, ReadError>,
+    made: Result<Text, Or<ClassFault>>,
 ) -> Result<(), AllocError> {
     match made {
         Ok(new) if new.as_slice() == old => told.push_str("same"),
@@ -57,7 +57,7 @@ fn names_in(alloc: Global, text: &str) -> Result<List<Text>, NoMemory> {
 }
 
 /// The class with a list of packages.
-fn packaged(alloc: Global, bytes: &[u8], names: &str) -> Result<Text, ReadError> {
+fn packaged(alloc: Global, bytes: &[u8], names: &str) -> Result<Text, Or<ClassFault>> {
     let packages = names_in(alloc, names)?;
     add_packages(alloc, bytes, packages.as_slice())
 }

@@ -1,6 +1,6 @@
 -- The text of a class as parts put one behind another, and its length.
-use Rattle.std.proofs.Common.{◌≡◌, ℕ, ◌+◌, ◌*◌, Bool, true, false, List, [], ◌∷◌, ◌++◌, length, Result, Ok}
-use Rattle.std.proofs.Common.{Err, OnOk, refl, sym, ◌∙◌, arith, append_assoc, length-append}
+use Rattle.std.proofs.Common.{◌≡◌, ℕ, ◌+◌, ◌*◌, Bool, true, false, List, [], ◌∷◌, ◌++◌, length, refl}
+use Rattle.std.proofs.Common.{sym, ◌∙◌, arith, append_assoc, length-append}
 use Rattle.std.proofs.lemmas.List.{append-nil}
 use Rattle.std.proofs.lemmas.List.Elements.{All-nil, All-cons}
 use Rattle.std.specs.List.{flat_map}
@@ -17,10 +17,6 @@ put_all text (part ∷ parts) = put_all (text ++ part) parts
 pub put_all-joined : (text : List ℕ) (parts : List (List ℕ)) → put_all text parts ≡ text ++ joined parts
 put_all-joined text [] = sym (append-nil text)
 put_all-joined text (part ∷ parts) = put_all-joined (text ++ part) parts ∙ append_assoc text part (joined parts)
-
-pub on_ok : {T E P Q : Type 0} (result : Result T E) → (P → Q) → OnOk result P → OnOk result Q
-on_ok (Ok value) more holds = more holds
-on_ok (Err error) more holds = tt
 
 -- each constant of a pool is as its tag says
 pub slots_fit : (due : Bool) (slots : List SlotData) → IsPoolFrom due slots → All FitsSlot slots

@@ -1,8 +1,7 @@
 -- Parts of some well-formed class (JVMS 4): their counts and lengths fit their fields.
 use Rattle.std.specs.Prelude.{Bool, List}
-use Rattle.jm_class.specs.Classes.{SlotData, Constant, Hole, OpaqueData, CodeData, BodyData}
-use Rattle.jm_class.specs.Classes.{AttributeData, MemberData, FitsTag, FitsSized, IsOpaque, IsCode}
-use Rattle.jm_class.specs.Classes.{IsBody, IsAttribute, IsMember, held_text}
+use Rattle.jm_class.specs.Classes.{SlotData, Constant, Hole, OpaqueData, CodeData, AttributeData}
+use Rattle.jm_class.specs.Classes.{MemberData, FitsTag, IsOpaque, IsCode, IsAttribute, IsMember}
 
 -- a constant's body is as its tag says
 abbrev pub FitsSlot : SlotData → Type 0
@@ -16,13 +15,6 @@ OfSomeCode a = (pool : List SlotData) × IsOpaque pool a
 -- a Code of some well-formed class
 abbrev pub SomeCode : CodeData → Type 0
 SomeCode c = (pool : List SlotData) × IsCode pool c
-
--- what some attribute holds
-pub record SomeBody (b : BodyData) : Type 0 where
-  pub pool : List SlotData
-  pub coded : Bool
-  pub body : IsBody pool coded b
-  pub bytes : FitsSized (held_text b)
 
 -- an attribute of some well-formed class
 pub record SomeAttribute (a : AttributeData) : Type 0 where

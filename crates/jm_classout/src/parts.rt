@@ -1,14 +1,7 @@
 ghost use Rattle.std.specs.Prelude.{◌≡◌, ◌++◌, ◌<◌, ◌^◌, ℕ, length, OnOk};
-ghost use Rattle.jm_class.specs.Classes.{u1, u2, u4, sized_text, FitsSized};
+ghost use Rattle.jm_class.specs.Classes.{u2, u4, sized_text, FitsSized};
 
 use jm_bytes::{NoMemory, extend};
-
-/// Puts a byte at the end.
-pub fn put8(text: &mut Vec<u8>, n: u8) -> Result<(), NoMemory>
-    ensures { OnOk result (text.new.items ≡ text.old.items ++ u1 n) }
-{
-    extend(text, &n.to_be_bytes())
-}
 
 /// Puts a number of two bytes at the end, the highest first.
 pub fn put16(text: &mut Vec<u8>, n: u16) -> Result<(), NoMemory>

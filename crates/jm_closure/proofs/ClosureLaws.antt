@@ -4,10 +4,13 @@ use Rattle.std.proofs.Common.{Ok, Err, Result, All, Contains, refl, ◌∙◌, a
 use Rattle.std.proofs.lemmas.Bool.{cases_lt}
 use Rattle.std.proofs.lemmas.List.{length-map, get_or_past, get_or-map}
 use Rattle.std.proofs.lemmas.Option.{get_or_from_slice_get}
+use Rattle.jm_bytes.specs.Results.{IfAnswered}
+use Rattle.jm_bytes.specs.declared.faults.Or.{Or}
+use Rattle.jm_bytes.specs.declared.faults.Or.TheVariants.{Fault, Memory}
 use Rattle.jm_bytes.proofs.Members.{all_from_contains, contains_none, contains_filter_map, from_filter_map}
 use Rattle.jm_closure.specs.declared.candidate.Candidate.{Candidate}
-use Rattle.jm_closure.specs.declared.error.CloseError.{CloseError}
-use Rattle.jm_closure.specs.declared.error.CloseError.TheVariants as refusal
+use Rattle.jm_closure.specs.declared.fault.CloseFault.{CloseFault}
+use Rattle.jm_closure.specs.declared.fault.CloseFault.TheVariants as fault
 use Rattle.jm_closure.specs.Cycles.{IsGraphOf}
 use Rattle.jm_closure.specs.Graphs.{ends_at, HasEdge, IsMarked, LedFrom}
 use Rattle.jm_closure.specs.Modules.{required_by, HasName, Reached, Requires}
@@ -129,8 +132,8 @@ module _ (found : List Candidate) (C D : ℕ → Type 0) (to : (i : ℕ) → C i
   split_as shared (name, (other, apart, first, second)) =
       (name, (other, apart, holds_as shared name first, holds_as shared other second))
 
-pub closes_as : (found : List Candidate) (roots : List (List ℕ)) (C D : ℕ → Type 0)
-    (result : Result (List ℕ) CloseError) → RootsFound found roots
+closes_as : (found : List Candidate) (roots : List (List ℕ)) (C D : ℕ → Type 0)
+    (result : Result (List ℕ) CloseFault) → RootsFound found roots
     → ((i : ℕ) → C i ↔ D i) → Closes found [] C result → Closes found roots D result
 closes_as found roots C D (Ok places) have same (none, needs, acyclic, unsplit, chosen) = (
   have,
@@ -142,20 +145,20 @@ closes_as found roots C D (Ok places) have same (none, needs, acyclic, unsplit, 
     rising = chosen.rising;
   },
 )
-closes_as found roots C D (Err (refusal.NoRoot name)) have same lost = absurd (contains_none name lost.0.0)
-closes_as found roots C D (Err (refusal.Missing name by)) have same (none, lacking, lacks) = (
+closes_as found roots C D (Err (fault.NoRoot name)) have same lost = absurd (contains_none name lost.0.0)
+closes_as found roots C D (Err (fault.Missing name by)) have same (none, lacking, lacks) = (
   have,
   least_as (IsLacking found C) (IsLacking found D) name (lacking_as found C D (λ i. (same i).0))
       (lacking_as found D C (λ i. (same i).1)) lacking,
   least_as (Lacks found C name) (Lacks found D name) by (lacks_as found C D (λ i. (same i).0) name)
       (lacks_as found D C (λ i. (same i).1) name) lacks,
 )
-closes_as found roots C D (Err (refusal.Cycle name)) have same (none, needs, cycle) = (
+closes_as found roots C D (Err (fault.Cycle name)) have same (none, needs, cycle) = (
   have,
   (λ text lacking. needs text (lacking_as found D C (λ i. (same i).1) text lacking)),
   least_as (IsOnCycle found C) (IsOnCycle found D) name (cycle_as found C D (λ i. (same i).0)) (cycle_as found D C (λ i. (same i).1)) cycle,
 )
-closes_as found roots C D (Err (refusal.SplitPackage shared first second)) have same (none, needs, acyclic, split) = (
+closes_as found roots C D (Err (fault.SplitPackage shared first second)) have same (none, needs, acyclic, split) = (
   have,
   (λ text lacking. needs text (lacking_as found D C (λ i. (same i).1) text lacking)),
   (λ text cycle. acyclic text (cycle_as found D C (λ i. (same i).1) text cycle)),
@@ -169,4 +172,10 @@ closes_as found roots C D (Err (refusal.SplitPackage shared first second)) have 
         (λ name is. (is.0, holds_as found D C (λ i. (same i).1) shared name is.1)) split.another;
   },
 )
-closes_as found roots C D (Err refusal.Memory) have same is = tt
+
+pub answers_as : (found : List Candidate) (roots : List (List ℕ)) (C D : ℕ → Type 0)
+    (result : Result (List ℕ) (Or CloseFault)) → RootsFound found roots → ((i : ℕ) → C i ↔ D i)
+    → IfAnswered (Closes found [] C) result → IfAnswered (Closes found roots D) result
+answers_as found roots C D (Ok places) have same is = closes_as found roots C D (Ok places) have same is
+answers_as found roots C D (Err (Fault fault)) have same is = closes_as found roots C D (Err fault) have same is
+answers_as found roots C D (Err Memory) have same is = tt

@@ -1,6 +1,7 @@
 -- Edges of a graph, one more of them.
 use Rattle.std.proofs.Common.{◌≡◌, ◌<◌, ◌⊎◌, inl, inr, ◌∷◌, ◌++◌, [], ℕ, List, length, map, slice_index_or}
-use Rattle.std.proofs.Common.{slice_set, refl, sym, subst, get_or-set_same, get_or-set_other}
+use Rattle.std.proofs.Common.{slice_set, refl, sym, subst, Result, Ok, Err, get_or-set_same, get_or-set_other}
+use Rattle.std.specs.Prelude.{OnErr}
 use Rattle.std.proofs.lemmas.Bool.{cases_eq}
 use Rattle.std.proofs.lemmas.List.Elements.{Contains-push, Contains-push_cases, Contains-append_left}
 use Rattle.std.proofs.Math.Seq.{map-set_same}
@@ -20,6 +21,11 @@ pub stayed : {A : Type 0} (ends : A → List ℕ) (rows : List A) (from : ℕ) (
     → ends row ≡ ends (slice_index_or rows from d)
     → map ends (slice_set rows from row) ≡ map ends rows
 stayed ends rows from d row is = map-set_same ends rows from row d is
+
+-- what holds is due of an error
+pub due_anyway : {A E P : Type 0} (r : Result A E) → P → OnErr r P
+due_anyway (Ok x) holds = tt
+due_anyway (Err e) holds = holds
 
 -- What edges there are with one more
 

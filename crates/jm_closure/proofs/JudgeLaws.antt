@@ -1,16 +1,18 @@
 -- The four refusals, from what is computed over names, marks and edges.
 use Rattle.std.proofs.Common.{◌≡◌, ℕ, zero, suc, ◌⊎◌, inl, inr, Bool, true, false, List, [], ◌∷◌, Option}
 use Rattle.std.proofs.Common.{Some, None, Contains, refl, sym, ◌∙◌, ap, subst, slice_get}
-use Rattle.std.specs.Prelude.{flat_map, filter, is_none}
+use Rattle.std.specs.Prelude.{flat_map, filter, is_none, not, ◌&&◌}
 use Rattle.std.specs.Str.{bytes_eq}
 use Rattle.std.proofs.lemmas.Slice.Eq.{bytes_eq-Decides}
-use Rattle.std.proofs.lemmas.Bool.{false≢true}
+use Rattle.std.proofs.lemmas.Bool.{and_from, and_parts, false≢true}
 use Rattle.std.proofs.lemmas.Option.{get_or_from_slice_get}
 use Rattle.jm_bytes.proofs.Choice.{same_some}
 use Rattle.jm_bytes.proofs.Members.{contains_none, contains_here, contains_later, contains_cases}
 use Rattle.jm_bytes.proofs.Members.{contains_filter, from_filter, contains_map, from_map, any_contains}
 use Rattle.jm_bytes.proofs.Members.{from_any}
 use Rattle.jm_bytes.proofs.SameOrder.{contains_flat_map, from_flat_map}
+use Rattle.jm_modinfo.specs.declared.descriptor.Need.{Need}
+use Rattle.jm_modinfo.specs.Flags.{is_static}
 use Rattle.jm_closure.specs.declared.candidate.Candidate.{Candidate}
 use Rattle.jm_closure.specs.ComputedLeast.{chosen_of, differs, holds, is_lost, is_required, least_of, names_where}
 use Rattle.jm_closure.specs.Graphs.{IsMarked}
@@ -128,12 +130,18 @@ least_lacked found names flags indexed =
 
 required_from : (name : List ℕ) (c : Candidate) → is_required name c ≡ true → Contains (required_by c) name
 required_from name c is =
-    let one = from_any (λ required. bytes_eq required name) (required_by c) is in
-    subst (Contains (required_by c)) ((bytes_eq-Decides one.0 name).0 one.2) one.1
+    let one = from_any (λ (need : Need). not (is_static need.flags) && bytes_eq need.name name) c.descriptor.needs is in
+    let parts = and_parts (not (is_static one.0.flags)) (bytes_eq one.0.name name) one.2 in
+    subst (Contains (required_by c)) ((bytes_eq-Decides one.0.name name).0 parts.1)
+    (contains_map (λ (need : Need). need.name) (filter (λ need. not (is_static need.flags)) c.descriptor.needs) one.0
+    (contains_filter (λ (need : Need). not (is_static need.flags)) c.descriptor.needs one.0 one.1 parts.0))
 
 required_to : (name : List ℕ) (c : Candidate) → Contains (required_by c) name → is_required name c ≡ true
 required_to name c there =
-    any_contains (λ required. bytes_eq required name) (required_by c) name there ((bytes_eq-Decides name name).1 refl)
+    let one = from_map (λ (need : Need). need.name) (filter (λ need. not (is_static need.flags)) c.descriptor.needs) name there in
+    let kept = from_filter (λ (need : Need). not (is_static need.flags)) c.descriptor.needs one.0 one.1 in
+    any_contains (λ (need : Need). not (is_static need.flags) && bytes_eq need.name name) c.descriptor.needs one.0 kept.0
+    (and_from (not (is_static one.0.flags)) (bytes_eq one.0.name name) kept.1 ((bytes_eq-Decides one.0.name name).1 one.2))
 
 pub least_lacker : (found : List Candidate) (flags : List Bool) (name : List ℕ) → ¬ IsFound found name
     → IsLeastOf (Lacks found (IsMarked flags) name)

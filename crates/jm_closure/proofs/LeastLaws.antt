@@ -1,10 +1,7 @@
 -- The least text of a list, and of those with a property.
-use Rattle.std.proofs.Common.{◌≡◌, ℕ, suc, ◌+◌, ◌<◌, ◌⊎◌, inl, inr, Bool, true, false, cond, List, [], ◌∷◌}
-use Rattle.std.proofs.Common.{◌++◌, length, map, drop, drop-cons, add-one, get_or, Option, Some, None}
+use Rattle.std.proofs.Common.{◌≡◌, ℕ, ◌+◌, ◌<◌, ◌⊎◌, inl, inr, Bool, true, false, cond, List, [], ◌∷◌}
+use Rattle.std.proofs.Common.{◌++◌, length, drop, drop-cons, add-one, get_or, Option, Some, None}
 use Rattle.std.proofs.Common.{Contains, refl, sym, ◌∙◌, ap, subst, slice_index_or}
-use Rattle.std.specs.Prelude.{filter, not, ◌&&◌, ◌||◌}
-use Rattle.std.specs.List.{list_any}
-use Rattle.std.specs.Str.{bytes_eq}
 use Rattle.std.specs.Cmp.Lexicographic.{slice_cmp, nat_list_cmp_total}
 use Rattle.std.specs.Ordering.{is_eq, is_le, nat_cmp, ordering_reverse}
 use Rattle.std.specs.BTreeMap.Comparable.{le_lt_trans}
@@ -14,13 +11,10 @@ use Rattle.std.specs.declared.cmp.Ordering.TheVariants.{Less, Equal, Greater}
 use Rattle.std.proofs.lemmas.Slice.Eq.{bytes_eq-Decides}
 use Rattle.std.proofs.lemmas.Bool.{false≢true}
 use Rattle.jm_bytes.proofs.Members.{contains_none, contains_here, contains_later, contains_cases}
-use Rattle.jm_modinfo.specs.declared.descriptor.Need.{Need}
-use Rattle.jm_modinfo.specs.Flags.{is_static}
 use Rattle.jm_closure.specs.declared.candidate.Candidate.{Candidate}
 use Rattle.jm_closure.specs.ComputedLeast.{chosen_of, least_of}
 use Rattle.jm_closure.specs.Least.{lesser, IsLeastOf}
 use Rattle.jm_closure.specs.Refusals.{IsAtMost}
-use Rattle.jm_closure.specs.Modules.{needed_by}
 
 -- One text, module or need more
 
@@ -48,30 +42,6 @@ pub chosen_takes : (flags : List Bool) (found : List Candidate) (i : ℕ) (c : C
     → i < length flags → i < length found → c ≡ get_or found i c → slice_index_or flags i false ≡ true
     → chosen_of (drop i flags) (drop i found) ≡ c ∷ chosen_of (drop (i + 1) flags) (drop (i + 1) found)
 chosen_takes flags found i c flagged below is taken = chosen_at flags found i c flagged below is ∙ rw taken refl
-
-pub any_needed : (name : List ℕ) (needs : List Need) (i : ℕ) (n : Need) → i < length needs → n ≡ get_or needs i n
-    → (b : Bool) → (not (is_static n.flags) && bytes_eq n.name name) ≡ b
-    → list_any (λ required. bytes_eq required name) (needed_by (drop i needs))
-    ≡ cond b true (list_any (λ required. bytes_eq required name) (needed_by (drop (i + 1) needs)))
-any_needed name needs i n below is b tested =
-    rw (add-one, drop-cons needs i n below, ← is) (go (is_static n.flags) refl tested)
-  where
-    rest : List Need
-    rest = drop (suc i) needs
-
-    test : List ℕ → Bool
-    test required = bytes_eq required name
-
-    go : (s : Bool) → is_static n.flags ≡ s → (not s && bytes_eq n.name name) ≡ b
-        → list_any test (map (λ need. need.name) (cond (not s) (n ∷ filter (λ need. not (is_static need.flags)) rest)
-        (filter (λ need. not (is_static need.flags)) rest)))
-        ≡ cond b true (list_any test (needed_by rest))
-    go true e t = rw (sym t) refl
-    go false e t = rw t (last b)
-      where
-        last : (b : Bool) → (b || list_any test (needed_by rest)) ≡ cond b true (list_any test (needed_by rest))
-        last true = refl
-        last false = refl
 
 -- The order of texts
 

@@ -16,8 +16,8 @@ use Rattle.jm_bytes.proofs.Members.{element_at, all_from_contains, contains_here
 use Rattle.jm_bytes.proofs.Pairs.{pairs_head, pairs_none}
 use Rattle.jm_bytes.proofs.SameOrder.{same_order}
 use Rattle.jm_closure.specs.declared.candidate.Candidate.{Candidate}
-use Rattle.jm_closure.specs.declared.error.CloseError.{CloseError}
-use Rattle.jm_closure.specs.declared.error.CloseError.TheVariants as refusal
+use Rattle.jm_closure.specs.declared.fault.CloseFault.{CloseFault}
+use Rattle.jm_closure.specs.declared.fault.CloseFault.TheVariants as fault
 use Rattle.jm_closure.specs.Modules.{name_of, Leads, Reached, Requires}
 use Rattle.jm_closure.proofs.NameLaws.{within_found}
 use Rattle.jm_closure.specs.Refusals.{AreChosen, Closes, Holds, IsAtMost, IsLeast, SplitsAt}
@@ -112,8 +112,8 @@ module _ (found : List Candidate) (Chosen : ℕ → Type 0) (within : (i : ℕ) 
       ((one.exactly i).0 has)) (λ i has. (one.exactly i).1 ((other.exactly i).0 has))
 
   split_once : (shared first second shared' first' second' : List ℕ) → SplitsAt found Chosen shared first second
-      → SplitsAt found Chosen shared' first' second' → ◌≡◌ {A = CloseError} (refusal.SplitPackage shared first second)
-      (refusal.SplitPackage shared' first' second')
+      → SplitsAt found Chosen shared' first' second' → ◌≡◌ {A = CloseFault} (fault.SplitPackage shared first second)
+      (fault.SplitPackage shared' first' second')
   split_once shared first second shared' first' second' one other =
       let same = least_once _ shared shared' one.least other.least in
       let holder = least_once (Holds found Chosen shared') first first' (rw same at one.holder) other.holder in
@@ -121,44 +121,42 @@ module _ (found : List Candidate) (Chosen : ℕ → Type 0) (within : (i : ℕ) 
       (rw (same, holder) at one.another) other.another in
       rw (same, holder, another) refl
 
-  -- two answers, neither want of memory, are one
-  pub closes_once : (roots : List (List ℕ)) (a b : Result (List ℕ) CloseError) → a ≢ Err refusal.Memory → b ≢ Err refusal.Memory
+  -- two answers are one
+  pub closes_once : (roots : List (List ℕ)) (a b : Result (List ℕ) CloseFault)
       → Closes found roots Chosen a → Closes found roots Chosen b → a ≡ b
-  closes_once roots (Err refusal.Memory) b some other x y = absurd (some refl)
-  closes_once roots a (Err refusal.Memory) some other x y = absurd (other refl)
-  closes_once roots (Ok a) (Ok b) some other x y = ap Ok (chosen_once a b x.4 y.4)
-  closes_once roots (Ok a) (Err (refusal.NoRoot name)) some other x y = absurd (x.0 name y.0)
-  closes_once roots (Ok a) (Err (refusal.Missing name by)) some other x y = absurd (x.1 name y.1.0)
-  closes_once roots (Ok a) (Err (refusal.Cycle name)) some other x y = absurd (x.2 name y.2.0)
-  closes_once roots (Ok a) (Err (refusal.SplitPackage shared first second)) some other x y = absurd (x.3 shared y.3.least.0)
-  closes_once roots (Err (refusal.NoRoot name)) (Ok b) some other x y = absurd (y.0 name x.0)
-  closes_once roots (Err (refusal.NoRoot name)) (Err (refusal.NoRoot name')) some other x y = ap (λ n. Err (refusal.NoRoot n))
+  closes_once roots (Ok a) (Ok b) x y = ap Ok (chosen_once a b x.4 y.4)
+  closes_once roots (Ok a) (Err (fault.NoRoot name)) x y = absurd (x.0 name y.0)
+  closes_once roots (Ok a) (Err (fault.Missing name by)) x y = absurd (x.1 name y.1.0)
+  closes_once roots (Ok a) (Err (fault.Cycle name)) x y = absurd (x.2 name y.2.0)
+  closes_once roots (Ok a) (Err (fault.SplitPackage shared first second)) x y = absurd (x.3 shared y.3.least.0)
+  closes_once roots (Err (fault.NoRoot name)) (Ok b) x y = absurd (y.0 name x.0)
+  closes_once roots (Err (fault.NoRoot name)) (Err (fault.NoRoot name')) x y = ap (λ n. Err (fault.NoRoot n))
       (least_once _ name name' x y)
-  closes_once roots (Err (refusal.NoRoot name)) (Err (refusal.Missing name' by)) some other x y = absurd (y.0 name x.0)
-  closes_once roots (Err (refusal.NoRoot name)) (Err (refusal.Cycle name')) some other x y = absurd (y.0 name x.0)
-  closes_once roots (Err (refusal.NoRoot name)) (Err (refusal.SplitPackage shared first second)) some other x y = absurd (y.0 name x.0)
-  closes_once roots (Err (refusal.Missing name by)) (Ok b) some other x y = absurd (y.1 name x.1.0)
-  closes_once roots (Err (refusal.Missing name by)) (Err (refusal.NoRoot name')) some other x y = absurd (x.0 name' y.0)
-  closes_once roots (Err (refusal.Missing name by)) (Err (refusal.Missing name' by')) some other x y =
+  closes_once roots (Err (fault.NoRoot name)) (Err (fault.Missing name' by)) x y = absurd (y.0 name x.0)
+  closes_once roots (Err (fault.NoRoot name)) (Err (fault.Cycle name')) x y = absurd (y.0 name x.0)
+  closes_once roots (Err (fault.NoRoot name)) (Err (fault.SplitPackage shared first second)) x y = absurd (y.0 name x.0)
+  closes_once roots (Err (fault.Missing name by)) (Ok b) x y = absurd (y.1 name x.1.0)
+  closes_once roots (Err (fault.Missing name by)) (Err (fault.NoRoot name')) x y = absurd (x.0 name' y.0)
+  closes_once roots (Err (fault.Missing name by)) (Err (fault.Missing name' by')) x y =
       let same = least_once _ name name' x.1 y.1 in
       let lacks = least_once _ by by' (rw same at x.2) y.2 in
       rw (same, lacks) refl
-  closes_once roots (Err (refusal.Missing name by)) (Err (refusal.Cycle name')) some other x y = absurd (y.1 name x.1.0)
-  closes_once roots (Err (refusal.Missing name by)) (Err (refusal.SplitPackage shared first second)) some other x y =
+  closes_once roots (Err (fault.Missing name by)) (Err (fault.Cycle name')) x y = absurd (y.1 name x.1.0)
+  closes_once roots (Err (fault.Missing name by)) (Err (fault.SplitPackage shared first second)) x y =
       absurd (y.1 name x.1.0)
-  closes_once roots (Err (refusal.Cycle name)) (Ok b) some other x y = absurd (y.2 name x.2.0)
-  closes_once roots (Err (refusal.Cycle name)) (Err (refusal.NoRoot name')) some other x y = absurd (x.0 name' y.0)
-  closes_once roots (Err (refusal.Cycle name)) (Err (refusal.Missing name' by)) some other x y = absurd (x.1 name' y.1.0)
-  closes_once roots (Err (refusal.Cycle name)) (Err (refusal.Cycle name')) some other x y = ap (λ n. Err (refusal.Cycle n))
+  closes_once roots (Err (fault.Cycle name)) (Ok b) x y = absurd (y.2 name x.2.0)
+  closes_once roots (Err (fault.Cycle name)) (Err (fault.NoRoot name')) x y = absurd (x.0 name' y.0)
+  closes_once roots (Err (fault.Cycle name)) (Err (fault.Missing name' by)) x y = absurd (x.1 name' y.1.0)
+  closes_once roots (Err (fault.Cycle name)) (Err (fault.Cycle name')) x y = ap (λ n. Err (fault.Cycle n))
       (least_once _ name name' x.2 y.2)
-  closes_once roots (Err (refusal.Cycle name)) (Err (refusal.SplitPackage shared first second)) some other x y = absurd (y.2 name x.2.0)
-  closes_once roots (Err (refusal.SplitPackage shared first second)) (Ok b) some other x y = absurd (y.3 shared x.3.least.0)
-  closes_once roots (Err (refusal.SplitPackage shared first second)) (Err (refusal.NoRoot name)) some other x y = absurd (x.0 name y.0)
-  closes_once roots (Err (refusal.SplitPackage shared first second)) (Err (refusal.Missing name by)) some other x y =
+  closes_once roots (Err (fault.Cycle name)) (Err (fault.SplitPackage shared first second)) x y = absurd (y.2 name x.2.0)
+  closes_once roots (Err (fault.SplitPackage shared first second)) (Ok b) x y = absurd (y.3 shared x.3.least.0)
+  closes_once roots (Err (fault.SplitPackage shared first second)) (Err (fault.NoRoot name)) x y = absurd (x.0 name y.0)
+  closes_once roots (Err (fault.SplitPackage shared first second)) (Err (fault.Missing name by)) x y =
       absurd (x.1 name y.1.0)
-  closes_once roots (Err (refusal.SplitPackage shared first second)) (Err (refusal.Cycle name)) some other x y = absurd (x.2 name y.2.0)
-  closes_once roots (Err (refusal.SplitPackage shared first second)) (Err (refusal.SplitPackage shared' first' second')) some other
-      x y = ap Err (split_once shared first second shared' first' second' x.3 y.3)
+  closes_once roots (Err (fault.SplitPackage shared first second)) (Err (fault.Cycle name)) x y = absurd (x.2 name y.2.0)
+  closes_once roots (Err (fault.SplitPackage shared first second)) (Err (fault.SplitPackage shared' first' second')) x y =
+      ap Err (split_once shared first second shared' first' second' x.3 y.3)
 
 -- what is reached is found
 led_found : (found : List Candidate) (i : ℕ) (places : List ℕ) (j : ℕ) → i < length found → Leads (Requires found) i places j
@@ -172,6 +170,6 @@ reached_found found roots j (i, places, (name, rooted, named), leads) =
     led_found found i places j (within_found found i named.0 named.1) leads
 
 -- so a closure has one answer
-pub closure_once : (found : List Candidate) (roots : List (List ℕ)) (a b : Result (List ℕ) CloseError) → a ≢ Err refusal.Memory
-    → b ≢ Err refusal.Memory → Closes found roots (Reached found roots) a → Closes found roots (Reached found roots) b → a ≡ b
+pub closure_once : (found : List Candidate) (roots : List (List ℕ)) (a b : Result (List ℕ) CloseFault)
+    → Closes found roots (Reached found roots) a → Closes found roots (Reached found roots) b → a ≡ b
 closure_once found roots = closes_once found (Reached found roots) (reached_found found roots) roots

@@ -4,7 +4,7 @@ use Rattle.std.proofs.Common.{cond, List, [], ◌∷◌, ◌++◌, length, repli
 use Rattle.std.proofs.Common.{subst, arith, add-one, drop, drop-cons, get_or, length-append, slice_set}
 use Rattle.std.proofs.Common.{get_or-set_same, get_or-set_other, length-set}
 use Rattle.std.specs.Prelude.{not}
-use Rattle.std.proofs.lemmas.Bool.{cases_eq, cases_lt, false≢true, eqb-true, eqb-false, ne_eqb}
+use Rattle.std.proofs.lemmas.Bool.{cases_eq, cases_lt, false≢true, eq-eqb, eqb-true, eqb-false, ne_eqb}
 use Rattle.std.proofs.lemmas.List.{get_or-replicate, get_or_past, length-replicate}
 use Rattle.std.proofs.lemmas.List.Elements.{Contains-push, Contains-push_cases, Contains-append_left, All-contains}
 use Rattle.std.proofs.lemmas.List.Sums.{sum_by-set}
@@ -293,3 +293,30 @@ reach_measure rounds work round x some within = go (round_of rounds x == 0) refl
         let one = fewer rounds round x some within (eqb-true (round_of rounds x) 0 is) in
         omega (arith, length-append work (x ∷ []))
     go false is = refl
+
+-- One node of a list more
+
+-- a node that is reached now, and one that was reached before
+pub reached_now : (rounds work : List ℕ) (round x : ℕ) → round_of rounds x ≡ 0
+    → (slice_set rounds x round ≡ with_reached rounds round x) × (work ++ x ∷ [] ≡ with_queued rounds work x)
+reached_now rounds work round x is = let test = eq-eqb (round_of rounds x) 0 is in (rw test refl, rw test refl)
+
+pub reached_before : (rounds work : List ℕ) (round x : ℕ) → round_of rounds x ≢ 0
+    → (rounds ≡ with_reached rounds round x) × (work ≡ with_queued rounds work x)
+reached_before rounds work round x other = let test = ne_eqb (round_of rounds x) 0 other in (rw test refl, rw test refl)
+
+pub record ReachesOne (rounds work nodes rounds' work' : List ℕ) (round at : ℕ) : Type 0 where
+  pub reaches : (graph : List (List ℕ)) (before starts : List ℕ) → InRound graph before starts round rounds work (drop at nodes)
+      → InRound graph before starts round rounds' work' (drop (at + 1) nodes)
+  pub measure : unreached rounds' + length work' ≡ unreached rounds + length work
+  pub size : length rounds' ≡ length rounds
+
+pub reaches_one : (rounds work nodes rounds' work' : List ℕ) (round at : ℕ) → 0 < round → at < length nodes
+    → get_or nodes at 0 < length rounds → rounds' ≡ with_reached rounds round (get_or nodes at 0)
+    → work' ≡ with_queued rounds work (get_or nodes at 0) → ReachesOne rounds work nodes rounds' work' round at
+reaches_one rounds work nodes rounds' work' round at some below within is also = record {
+  reaches = λ graph before starts begun.
+      rw (is, also) (reach_at graph before starts round rounds work nodes at some below within begun);
+  measure = rw (is, also) (reach_measure rounds work round (get_or nodes at 0) some within);
+  size = rw is (length-reached rounds round (get_or nodes at 0));
+}

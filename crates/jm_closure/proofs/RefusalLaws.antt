@@ -1,6 +1,6 @@
 -- The refusals as the code meets them, and their order.
 use Rattle.std.proofs.Common.{◌≡◌, ℕ, ◌+◌, ◌<◌, inl, inr, Bool, true, false, List, [], ◌∷◌, ◌++◌, length}
-use Rattle.std.proofs.Common.{Some, None, Err, All, AllPairs, refl, sym, ◌∙◌, ap, subst, arith, get_or}
+use Rattle.std.proofs.Common.{Some, None, All, AllPairs, refl, sym, ◌∙◌, ap, subst, arith, get_or}
 use Rattle.std.proofs.Common.{slice_get, slice_index_or}
 use Rattle.std.specs.Prelude.{filter, not, IsTrue}
 use Rattle.std.specs.Str.{bytes_eq}
@@ -18,17 +18,14 @@ use Rattle.jm_bytes.proofs.Choice.{same_some}
 use Rattle.jm_bytes.proofs.Members.{contains_none, contains_here, contains_cases, contains_filter, from_filter}
 use Rattle.jm_bytes.proofs.Pairs.{pairs_head, pairs_tail}
 use Rattle.jm_closure.specs.declared.candidate.Candidate.{Candidate}
-use Rattle.jm_closure.specs.declared.error.CloseError.{CloseError}
-use Rattle.jm_closure.specs.declared.error.CloseError.TheVariants as refusal
 use Rattle.jm_closure.specs.ComputedLeast.{differs}
 use Rattle.jm_closure.specs.Cycles.{IsFirstOf, IsGraphOf}
 use Rattle.jm_closure.specs.Graphs.{EndsWithin, HasEdge, IsMarked, OnCycle}
 use Rattle.jm_closure.specs.Least.{IsLeastOf}
 use Rattle.jm_closure.specs.Modules.{name_of, Leads, ReachesItself, Requires}
 use Rattle.jm_closure.specs.Names.{IsOrder, Precedes}
-use Rattle.jm_closure.specs.Refusals.{AreChosen, Closes, Holds, IsAcyclic, IsAtMost, IsLeast, IsOnCycle}
-use Rattle.jm_closure.specs.Refusals.{IsSplit, NeedsFound, RefusesCycle, RefusesNeeds, RefusesSplit}
-use Rattle.jm_closure.specs.Refusals.{RootsFound, SplitsAt}
+use Rattle.jm_closure.specs.Refusals.{AreChosen, Holds, IsAcyclic, IsAtMost, IsLeast, IsOnCycle}
+use Rattle.jm_closure.specs.Refusals.{IsSplit, RootsFound, SplitsAt}
 use Rattle.jm_closure.proofs.LeastLaws.{at_most_itself}
 use Rattle.jm_closure.proofs.NameLaws.{within_found}
 
@@ -174,31 +171,7 @@ are_chosen found order flags ordered size = record {
       | inr past ↦ absurd (false≢true (sym (get_or_past flags i false past) ∙ marked))
     ]
 
--- The refusals in their order, without a root
+-- Without a root none is lost
 
 pub no_roots : (found : List Candidate) → RootsFound found []
 no_roots found name lost = contains_none name lost.0
-
-pub closes_needs : (found : List Candidate) (Chosen : ℕ → Type 0) (e : CloseError)
-    → RefusesNeeds found Chosen e → Closes found [] Chosen (Err e)
-closes_needs found Chosen (refusal.NoRoot name) never = absurd never
-closes_needs found Chosen (refusal.Missing name by) is = (no_roots found, is.0, is.1)
-closes_needs found Chosen (refusal.Cycle name) never = absurd never
-closes_needs found Chosen (refusal.SplitPackage shared first second) never = absurd never
-closes_needs found Chosen refusal.Memory is = tt
-
-pub closes_cycle : (found : List Candidate) (Chosen : ℕ → Type 0) (e : CloseError) → NeedsFound found Chosen
-    → RefusesCycle found Chosen e → Closes found [] Chosen (Err e)
-closes_cycle found Chosen (refusal.NoRoot name) needs never = absurd never
-closes_cycle found Chosen (refusal.Missing name by) needs never = absurd never
-closes_cycle found Chosen (refusal.Cycle name) needs is = (no_roots found, needs, is)
-closes_cycle found Chosen (refusal.SplitPackage shared first second) needs never = absurd never
-closes_cycle found Chosen refusal.Memory needs is = tt
-
-pub closes_split : (found : List Candidate) (Chosen : ℕ → Type 0) (e : CloseError) → NeedsFound found Chosen
-    → IsAcyclic found Chosen → RefusesSplit found Chosen e → Closes found [] Chosen (Err e)
-closes_split found Chosen (refusal.NoRoot name) needs none never = absurd never
-closes_split found Chosen (refusal.Missing name by) needs none never = absurd never
-closes_split found Chosen (refusal.Cycle name) needs none never = absurd never
-closes_split found Chosen (refusal.SplitPackage shared first second) needs none is = (no_roots found, needs, none, is)
-closes_split found Chosen refusal.Memory needs none is = tt

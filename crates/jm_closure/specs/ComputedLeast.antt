@@ -1,11 +1,12 @@
 -- The least texts, computed in one pass over a list (this project's rule).
 use Rattle.std.specs.Prelude.{if◌then◌else◌, ℕ, Bool, true, List, [], ◌∷◌, Option, Some, None}
-use Rattle.std.specs.Prelude.{filter, is_none, map, not}
+use Rattle.std.specs.Prelude.{filter, is_none, map, not, ◌&&◌}
 use Rattle.std.specs.List.{list_any}
 use Rattle.std.specs.Str.{bytes_eq}
+use Rattle.jm_modinfo.specs.Flags.{is_static}
 use Rattle.jm_closure.specs.declared.candidate.Candidate.{Candidate}
 use Rattle.jm_closure.specs.Least.{lesser}
-use Rattle.jm_closure.specs.Modules.{name_of, required_by}
+use Rattle.jm_closure.specs.Modules.{name_of}
 use Rattle.jm_closure.specs.Places.{place_in}
 
 -- the lesser of a text, if there is one, and the least of those of a list that pass
@@ -27,7 +28,8 @@ chosen_of (flag ∷ flags) (c ∷ found) =
 
 -- a module requires a name without `static`
 abbrev pub is_required : List ℕ → Candidate → Bool
-is_required name c = list_any (λ required. bytes_eq required name) (required_by c)
+is_required name c =
+    list_any (λ need. not (is_static need.flags) && bytes_eq need.name name) c.descriptor.needs
 
 -- a module has a class package
 abbrev pub holds : List ℕ → Candidate → Bool

@@ -5,8 +5,8 @@ use Rattle.std.specs.Prelude.{slice_get}
 use Rattle.std.specs.Cmp.Lexicographic.{slice_cmp}
 use Rattle.std.specs.Ordering.{is_le, is_lt, nat_cmp}
 use Rattle.jm_closure.specs.declared.candidate.Candidate.{Candidate}
-use Rattle.jm_closure.specs.declared.error.CloseError.{CloseError}
-use Rattle.jm_closure.specs.declared.error.CloseError.TheVariants as refusal
+use Rattle.jm_closure.specs.declared.fault.CloseFault.{CloseFault}
+use Rattle.jm_closure.specs.declared.fault.CloseFault.TheVariants as fault
 use Rattle.jm_closure.specs.Modules.{name_of, HasName, HasPackage, IsFound, ReachesItself}
 use Rattle.jm_closure.specs.Modules.{RequiresName}
 
@@ -88,35 +88,6 @@ IsAcyclic found Chosen = IsNone (IsOnCycle found Chosen)
 abbrev pub IsUnsplit : List Candidate → (ℕ → Type 0) → Type 0
 IsUnsplit found Chosen = IsNone (IsSplit found Chosen)
 
--- the refusal is the one of its kind, with its least values, or want of memory
-
--- the refusal is the least name that isn't found, with the least module that requires it, or want
--- of memory
-abbrev pub RefusesNeeds : List Candidate → (ℕ → Type 0) → CloseError → Type 0
-RefusesNeeds found Chosen (refusal.NoRoot name) = ⊥
-RefusesNeeds found Chosen (refusal.Missing name by) =
-    IsLeast (IsLacking found Chosen) name × IsLeast (Lacks found Chosen name) by
-RefusesNeeds found Chosen (refusal.Cycle name) = ⊥
-RefusesNeeds found Chosen (refusal.SplitPackage shared first second) = ⊥
-RefusesNeeds found Chosen refusal.Memory = Unit {0}
-
--- the refusal is the least module that reaches itself, or want of memory
-abbrev pub RefusesCycle : List Candidate → (ℕ → Type 0) → CloseError → Type 0
-RefusesCycle found Chosen (refusal.NoRoot name) = ⊥
-RefusesCycle found Chosen (refusal.Missing name by) = ⊥
-RefusesCycle found Chosen (refusal.Cycle name) = IsLeast (IsOnCycle found Chosen) name
-RefusesCycle found Chosen (refusal.SplitPackage shared first second) = ⊥
-RefusesCycle found Chosen refusal.Memory = Unit {0}
-
--- the refusal is the least class package of two modules, with their least names, or want of memory
-abbrev pub RefusesSplit : List Candidate → (ℕ → Type 0) → CloseError → Type 0
-RefusesSplit found Chosen (refusal.NoRoot name) = ⊥
-RefusesSplit found Chosen (refusal.Missing name by) = ⊥
-RefusesSplit found Chosen (refusal.Cycle name) = ⊥
-RefusesSplit found Chosen (refusal.SplitPackage shared first second) =
-    SplitsAt found Chosen shared first second
-RefusesSplit found Chosen refusal.Memory = Unit {0}
-
 -- the places are those of exactly the chosen modules, rising by name
 pub record AreChosen (found : List Candidate) (Chosen : ℕ → Type 0) (places : List ℕ) : Type 0 where
   pub exactly : (i : ℕ) → Contains places i ↔ Chosen i
@@ -125,20 +96,18 @@ pub record AreChosen (found : List Candidate) (Chosen : ℕ → Type 0) (places 
       → slice_get found i ≡ Some a → slice_get found j ≡ Some b
       → IsTrue (is_lt (slice_cmp nat_cmp (name_of a) (name_of b)))
 
--- the answer: the places, or the first refusal that holds, with its least values; want of memory
--- says nothing
+-- the answer: the places, or the first fault that holds, with its least values
 abbrev pub Closes : List Candidate → List (List ℕ) → (ℕ → Type 0)
-    → Result (List ℕ) CloseError → Type 0
+    → Result (List ℕ) CloseFault → Type 0
 Closes found roots Chosen (Ok places) =
     RootsFound found roots × NeedsFound found Chosen × IsAcyclic found Chosen
     × IsUnsplit found Chosen × AreChosen found Chosen places
-Closes found roots Chosen (Err (refusal.NoRoot name)) = IsLeast (IsLostRoot found roots) name
-Closes found roots Chosen (Err (refusal.Missing name by)) =
+Closes found roots Chosen (Err (fault.NoRoot name)) = IsLeast (IsLostRoot found roots) name
+Closes found roots Chosen (Err (fault.Missing name by)) =
     RootsFound found roots
     × IsLeast (IsLacking found Chosen) name × IsLeast (Lacks found Chosen name) by
-Closes found roots Chosen (Err (refusal.Cycle name)) =
+Closes found roots Chosen (Err (fault.Cycle name)) =
     RootsFound found roots × NeedsFound found Chosen × IsLeast (IsOnCycle found Chosen) name
-Closes found roots Chosen (Err (refusal.SplitPackage shared first second)) =
+Closes found roots Chosen (Err (fault.SplitPackage shared first second)) =
     RootsFound found roots × NeedsFound found Chosen × IsAcyclic found Chosen
     × SplitsAt found Chosen shared first second
-Closes found roots Chosen (Err refusal.Memory) = Unit {0}

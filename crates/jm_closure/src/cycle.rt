@@ -6,7 +6,7 @@ ghost use Rattle.jm_closure.specs.Graphs.{EndsWithin, IsMarked, IsReversed, OnCy
 ghost use Rattle.jm_closure.specs.Graphs.{RoundsSoFar};
 
 use crate::graph::Graph;
-use crate::reach::{no_rounds, reach, reached};
+use crate::reach::{reach, reached};
 use crate::walk::last_left_first;
 use jm_bytes::NoMemory;
 use std::alloc::Global;
@@ -40,26 +40,12 @@ fn rounds_from(alloc: Global, graph: &Graph, order: &[usize]) -> Result<Vec<usiz
     requires { EndsWithin graph.now }
     ensures { IfOk result (λ rounds. RoundsSoFar graph.now (length order.now) rounds.items) }
 {
-    let mut rounds = no_rounds(alloc, graph.len())?;
+    let mut rounds = Vec::from_elem(alloc, 0, graph.len())?;
     for (earlier, node) in order.iter().enumerate() {
         if *node < graph.len() {
             reach(alloc, graph, &mut rounds, earlier + 1, &[*node])?;
         }
     }
-    Ok(rounds)
-}
-
-/// A round for each node, so that no edge leads to an earlier one. So the nodes of a cycle have one
-/// round; and no other nodes share one, since the rounds go against the edges from the nodes that a
-/// walk left last.
-fn rounds_of(alloc: Global, graph: &Graph) -> Result<Vec<usize>, NoMemory>
-    requires { EndsWithin graph.now }
-    ensures size { IfOk result (λ rounds. vec_len rounds ≡ length graph.now) }
-    ensures rise { IfOk result (λ rounds. RoundsRise graph.now rounds.items) }
-{
-    let order = last_left_first(alloc, graph)?;
-    let back = reversed(alloc, graph)?;
-    let rounds = rounds_from(alloc, &back, order.as_slice())?;
     Ok(rounds)
 }
 
@@ -98,27 +84,6 @@ fn is_on_cycle(
     Ok(flags[node])
 }
 
-/// A node is marked and leads to itself.
-fn is_marked_cycle(
-    alloc: Global,
-    graph: &Graph,
-    rounds: &[usize],
-    marked: &[bool],
-    node: usize,
-) -> Result<bool, NoMemory>
-    requires graph { EndsWithin graph.now }
-    requires rounds { length rounds.now ≡ length graph.now }
-    requires rise { RoundsRise graph.now rounds.now }
-    requires marked { length marked.now ≡ length graph.now }
-    requires node { node < length graph.now }
-    ensures { IfOk result (λ is. IsTrue is ↔ (IsMarked marked.now node × OnCycle graph.now node)) }
-{
-    if !marked[node] {
-        return Ok(false);
-    }
-    is_on_cycle(alloc, graph, rounds, node)
-}
-
 /// The first node of a list that is marked and leads to itself.
 pub fn first_on_cycle(
     alloc: Global,
@@ -131,9 +96,13 @@ pub fn first_on_cycle(
     requires marked { length marked.now ≡ length graph.now }
     ensures { IfOk result (IsFirstOf (λ i. IsMarked marked.now i × OnCycle graph.now i) order.now) }
 {
-    let rounds = rounds_of(alloc, graph)?;
+    // No edge leads to an earlier round, so the nodes of a cycle have one; and no other nodes share
+    // one, since the rounds go against the edges from the nodes that a walk left last.
+    let left = last_left_first(alloc, graph)?;
+    let back = reversed(alloc, graph)?;
+    let rounds = rounds_from(alloc, &back, left.as_slice())?;
     for node in order {
-        if is_marked_cycle(alloc, graph, rounds.as_slice(), marked, *node)? {
+        if marked[*node] && is_on_cycle(alloc, graph, rounds.as_slice(), *node)? {
             return Ok(Some(*node));
         }
     }

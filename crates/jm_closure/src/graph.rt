@@ -33,15 +33,6 @@ impl Graph {
         Ok(Graph { edges })
     }
 
-    /// No node.
-    pub fn empty(alloc: Global) -> Graph
-        ensures { result ≡ [] }
-    {
-        Graph {
-            edges: Vec::new(alloc),
-        }
-    }
-
     /// Adds a node with the nodes to which it has an edge.
     pub fn push(&mut self, ends: Vec<usize>) -> Result<(), NoMemory>
         ensures ok { OnOk result (self.new ≡ self.old ++ ends.items ∷ []) }
@@ -71,14 +62,6 @@ impl Graph {
         ensures ok { OnOk result (self.new ≡ with_edge self.old from to) }
         ensures err { OnErr result (self.new ≡ self.old) }
     {
-        push(&mut self.edges[from], to)
+        Ok(self.edges[from].push(to)?)
     }
-}
-
-/// Puts a node at the end of some.
-pub fn push(nodes: &mut Vec<usize>, node: usize) -> Result<(), NoMemory>
-    ensures ok { OnOk result (nodes.new.items ≡ nodes.old.items ++ node ∷ []) }
-    ensures err { OnErr result (nodes.new.items ≡ nodes.old.items) }
-{
-    Ok(nodes.push(node)?)
 }

@@ -4,7 +4,7 @@
 mod candidate;
 mod closing;
 mod cycle;
-mod error;
+mod fault;
 mod graph;
 mod judging;
 mod least;
@@ -17,7 +17,7 @@ mod walk;
 
 pub use candidate::Candidate;
 pub use closing::close;
-pub use error::CloseError;
+pub use fault::CloseFault;
 pub use graph::Graph;
 pub use judging::judge;
 pub use missing::least_lost_root;

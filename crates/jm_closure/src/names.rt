@@ -4,7 +4,7 @@ ghost use Rattle.jm_closure.specs.Modules.{required_by};
 ghost use Rattle.jm_closure.specs.Names.{edges_of, places_among, Indexes, NamesDiffer};
 
 use crate::candidate::Candidate;
-use crate::graph::{Graph, push};
+use crate::graph::Graph;
 use crate::places::Places;
 use jm_bytes::{NoMemory, Text};
 use std::alloc::Global;
@@ -43,7 +43,7 @@ pub fn places_among(alloc: Global, names: &Places, texts: &[Text]) -> Result<Vec
     let mut places = Vec::new(alloc);
     for text in texts {
         if let Some(place) = names.get(text.as_slice()) {
-            push(&mut places, place)?;
+            places.push(place)?;
         }
     }
     Ok(places)
@@ -60,7 +60,7 @@ fn required(alloc: Global, names: &Places, candidate: &Candidate) -> Result<Vec<
             continue;
         }
         if let Some(place) = names.get(need.name.as_slice()) {
-            push(&mut places, place)?;
+            places.push(place)?;
         }
     }
     Ok(places)
@@ -70,7 +70,7 @@ fn required(alloc: Global, names: &Places, candidate: &Candidate) -> Result<Vec<
 pub fn edges_of(alloc: Global, names: &Places, found: &[Candidate]) -> Result<Graph, NoMemory>
     ensures { IfOk result (λ graph. graph ≡ edges_of names.now found.now) }
 {
-    let mut graph = Graph::empty(alloc);
+    let mut graph = Graph::new(alloc, 0)?;
     for candidate in found {
         graph.push(required(alloc, names, candidate)?)?;
     }

@@ -47,14 +47,7 @@ impl Places {
         ensures ok { OnOk result (Puts self.old self.new text.now place) }
         ensures err { OnErr result (self.new ≡ self.old) }
     {
-        self.insert(copy_of(alloc, text)?, place)
-    }
-
-    fn insert(&mut self, text: Vec<u8>, place: usize) -> Result<(), NoMemory>
-        ensures ok { OnOk result (Puts self.old self.new text.items place) }
-        ensures err { OnErr result (self.new ≡ self.old) }
-    {
-        self.places.insert(text, place)?;
+        self.places.insert(copy_of(alloc, text)?, place)?;
         Ok(())
     }
 

@@ -1,39 +1,14 @@
 //! What nodes lead to.
-ghost use Rattle.std.specs.Prelude.{◌≡◌, ◌+◌, ◌<◌, ◌↔◌, All, length, replicate, IfOk, OnOk};
+ghost use Rattle.std.specs.Prelude.{◌≡◌, ◌+◌, ◌<◌, ◌↔◌, All, length, IfOk, OnOk};
 ghost use Rattle.std.specs.Prelude.{vec_len, ℕ};
-ghost use Rattle.jm_closure.specs.Graphs.{marks_of, unreached, with_queued, with_reached};
-ghost use Rattle.jm_closure.specs.Graphs.{EndsWithin, IsMarked, IsRound, LedFrom, Reaches};
+ghost use Rattle.jm_closure.specs.Graphs.{marks_of, unreached, EndsWithin, IsMarked, IsRound};
+ghost use Rattle.jm_closure.specs.Graphs.{LedFrom, Reaches};
 
-use crate::graph::{Graph, push};
+use crate::graph::Graph;
 use jm_bytes::NoMemory;
 use std::alloc::Global;
 
-/// The rounds of so many nodes, of which none is reached yet.
-pub fn no_rounds(alloc: Global, nodes: usize) -> Result<Vec<usize>, NoMemory>
-    ensures { IfOk result (λ rounds. rounds.items ≡ replicate nodes 0) }
-{
-    Ok(Vec::from_elem(alloc, 0, nodes)?)
-}
-
-/// Reaches a node in a round, where it wasn't reached yet.
-fn reach_one(
-    rounds: &mut Vec<usize>,
-    work: &mut Vec<usize>,
-    round: usize,
-    node: usize,
-) -> Result<(), NoMemory>
-    requires { node < length rounds.old.items }
-    ensures rounds { OnOk result (rounds.new.items ≡ with_reached rounds.old.items round node) }
-    ensures work { OnOk result (work.new.items ≡ with_queued rounds.old.items work.old.items node) }
-{
-    if rounds[node] == 0 {
-        push(work, node)?;
-        rounds[node] = round;
-    }
-    Ok(())
-}
-
-/// Reaches some nodes in a round.
+/// Reaches, in a round, those of some nodes that weren't reached yet.
 fn reach_each(
     rounds: &mut Vec<usize>,
     work: &mut Vec<usize>,
@@ -49,7 +24,10 @@ fn reach_each(
     ensures size { OnOk result (vec_len rounds.new ≡ vec_len rounds.old) }
 {
     for node in nodes {
-        reach_one(rounds, work, round, *node)?;
+        if rounds[*node] == 0 {
+            work.push(*node)?;
+            rounds[*node] = round;
+        }
     }
     Ok(())
 }
@@ -91,7 +69,7 @@ pub fn reached(alloc: Global, graph: &Graph, starts: &[usize]) -> Result<Vec<boo
     ensures exactly { IfOk result
         (λ flags. (j : ℕ) → IsMarked flags.items j ↔ LedFrom graph.now starts.now j) }
 {
-    let mut rounds = no_rounds(alloc, graph.len())?;
+    let mut rounds = Vec::from_elem(alloc, 0, graph.len())?;
     reach(alloc, graph, &mut rounds, 1, starts)?;
     marks(alloc, rounds.as_slice())
 }

@@ -1,10 +1,12 @@
 //! Packages in which two modules have classes.
-ghost use Rattle.std.specs.Prelude.{◌≡◌, ◌∷◌, [], None, length, option_map, IfOk};
+ghost use Rattle.std.specs.Prelude.{◌≡◌, None, length, option_map, IfOk, IfNone, IfSome};
 ghost use Rattle.jm_closure.specs.ComputedLeast.{chosen_of, differs, holds, least_of, names_where};
 ghost use Rattle.jm_closure.specs.Graphs.{IsMarked};
 ghost use Rattle.jm_closure.specs.Holders.{IsHeldTwice, Notes};
 ghost use Rattle.jm_closure.specs.Least.{IsLeastOf};
 ghost use Rattle.jm_closure.specs.Modules.{HasPackage};
+ghost use Rattle.jm_closure.specs.Names.{NamesDiffer};
+ghost use Rattle.jm_closure.specs.Refusals.{IsUnsplit, SplitsAt};
 
 use crate::candidate::Candidate;
 use crate::least::lesser;
@@ -12,34 +14,7 @@ use crate::places::Places;
 use jm_bytes::{NoMemory, Text};
 use std::alloc::Global;
 
-/// Notes one more package of a module: the package's first module, or that it has a second one.
-fn note_one<'a>(
-    alloc: Global,
-    holders: &mut Places,
-    least: Option<&'a [u8]>,
-    place: usize,
-    package: &'a [u8],
-) -> Result<Option<&'a [u8]>, NoMemory>
-    ensures { IfOk result
-        (λ now. Notes holders.old (option_map (λ x. x.now) least.entry)
-        holders.new (option_map (λ x. x.now) now) place («package».now ∷ [])) }
-{
-    match holders.get(package) {
-        None => {
-            holders.put(alloc, package, place)?;
-            Ok(least)
-        }
-        Some(holder) => {
-            if holder == place {
-                Ok(least)
-            } else {
-                Ok(lesser(least, Some(package)))
-            }
-        }
-    }
-}
-
-/// Notes the packages of one more module.
+/// Notes the packages of one more module: the first module of each, or that it has a second one.
 fn note<'a>(
     alloc: Global,
     holders: &mut Places,
@@ -52,13 +27,21 @@ fn note<'a>(
         holders.new (option_map (λ x. x.now) now) place packages.now) }
 {
     for package in packages {
-        least = note_one(alloc, holders, least, place, package.as_slice())?;
+        let package = package.as_slice();
+        match holders.get(package) {
+            None => holders.put(alloc, package, place)?,
+            Some(holder) => {
+                if holder != place {
+                    least = lesser(least, Some(package));
+                }
+            }
+        }
     }
     Ok(least)
 }
 
 /// The least package in which two chosen modules have classes.
-pub fn least_split<'a>(
+fn least_split<'a>(
     alloc: Global,
     found: &'a [Candidate],
     chosen: &[bool],
@@ -89,12 +72,11 @@ pub fn least_split<'a>(
 fn holds(package: &[u8], candidate: &Candidate) -> bool
     ensures { result ≡ holds «package».now candidate.now }
 {
-    for held in candidate.packages.as_slice() {
-        if held.as_slice() == package {
-            return true;
-        }
-    }
-    false
+    candidate
+        .packages
+        .as_slice()
+        .iter()
+        .any(|held| held.as_slice() == package)
 }
 
 /// A name isn't that one.
@@ -108,7 +90,7 @@ fn differs(but: Option<&[u8]>, name: &[u8]) -> bool
 }
 
 /// The least chosen module, but for one of a name, that has a package.
-pub fn least_holder<'a>(
+fn least_holder<'a>(
     found: &'a [Candidate],
     chosen: &[bool],
     package: &[u8],
@@ -127,4 +109,29 @@ pub fn least_holder<'a>(
         }
     }
     least
+}
+
+/// The least package in which two chosen modules have classes, and the two least of its modules.
+pub fn split<'a>(
+    alloc: Global,
+    found: &'a [Candidate],
+    chosen: &[bool],
+) -> Result<Option<(&'a [u8], &'a [u8], &'a [u8])>, NoMemory>
+    requires differ { NamesDiffer found.now }
+    requires chosen { length chosen.now ≡ length found.now }
+    ensures some { IfOk result (λ split. IfSome split (λ s.
+        SplitsAt found.now (IsMarked chosen.now) s.0.now s.1.now s.2.now)) }
+    ensures none { IfOk result (λ split. IfNone split
+        (IsUnsplit found.now (IsMarked chosen.now))) }
+{
+    let Some(package) = least_split(alloc, found, chosen)? else {
+        return Ok(None);
+    };
+    let Some(first) = least_holder(found, chosen, package, None) else {
+        return Ok(None);
+    };
+    let Some(second) = least_holder(found, chosen, package, Some(first)) else {
+        return Ok(None);
+    };
+    Ok(Some((package, first, second)))
 }

@@ -22,25 +22,17 @@ struct Walk {
 }
 
 impl Walk {
-    fn put(&mut self, step: Step) -> Result<(), NoMemory> {
-        Ok(self.steps.push(step)?)
-    }
-
     /// Enters a node, unless it was entered: its ends are entered next, and then it is left.
     fn enter(&mut self, graph: &Graph, node: usize) -> Result<(), NoMemory> {
         if node >= graph.len() || node >= self.entered.len() || self.entered[node] {
             return Ok(());
         }
         self.entered[node] = true;
-        self.put(Step::Leave(node))?;
+        self.steps.push(Step::Leave(node))?;
         for end in graph.ends(node) {
-            self.put(Step::Enter(*end))?;
+            self.steps.push(Step::Enter(*end))?;
         }
         Ok(())
-    }
-
-    fn leave(&mut self, node: usize) -> Result<(), NoMemory> {
-        Ok(self.left.push(node)?)
     }
 }
 
@@ -48,30 +40,23 @@ impl Walk {
 /// cycles apart. No clause speaks of this order: with any other one a cycle is found as well, but
 /// not in linear time.
 pub fn last_left_first(alloc: Global, graph: &Graph) -> Result<Vec<usize>, NoMemory> {
-    let mut walk = begin(alloc, graph)?;
+    let mut walk = Walk {
+        entered: Vec::from_elem(alloc, false, graph.len())?,
+        steps: (0..graph.len())
+            .map(|node| Step::Enter(node))
+            .collect(alloc)?,
+        left: Vec::new(alloc),
+    };
     for _ in 0..most_steps(graph) {
         match walk.steps.pop() {
             Some(Step::Enter(node)) => walk.enter(graph, node)?,
-            Some(Step::Leave(node)) => walk.leave(node)?,
+            Some(Step::Leave(node)) => walk.left.push(node)?,
             None => break,
         }
     }
     let Walk { mut left, .. } = walk;
     left.reverse();
     Ok(left)
-}
-
-/// A walk that is to enter each node.
-fn begin(alloc: Global, graph: &Graph) -> Result<Walk, NoMemory> {
-    let mut walk = Walk {
-        entered: Vec::from_elem(alloc, false, graph.len())?,
-        steps: Vec::new(alloc),
-        left: Vec::new(alloc),
-    };
-    for node in 0..graph.len() {
-        walk.put(Step::Enter(node))?;
-    }
-    Ok(walk)
 }
 
 /// The most steps that a walk takes: each node is to be entered at the beginning and from each edge

@@ -1,7 +1,7 @@
 -- The first bytes of a file: what is known of the file, and how many were taken.
 use Rattle.std.proofs.Common.{◌≡◌, ◌≢◌, ◌+◌, ◌-◌, ◌≤◌, ℕ, List, [], ◌++◌}
 use Rattle.std.proofs.Common.{length, take, drop, min, replicate, Option, Some, None, option_map}
-use Rattle.std.proofs.Common.{inl, inr, Result, Ok, Err, refl, sym, ap, ◌∙◌, subst, arith}
+use Rattle.std.proofs.Common.{Result, Ok, Err, refl, sym, ap, ◌∙◌, subst, arith}
 use Rattle.std.proofs.lemmas.List.{append_assoc, length-append, length-replicate, length-take}
 use Rattle.std.proofs.lemmas.List.{length-drop, take_at, take-take, drop-take, take-append-drop}
 use Rattle.jm_bytes.proofs.Choice.{same_ok, same_some}
@@ -18,9 +18,7 @@ use Rattle.jm_outside.specs.Outcome.{Shows}
 use Rattle.jm_outside.specs.Shelves.{ShelfFailed, ShelfSeen}
 use Rattle.jm_reader.specs.Walk.{entries_of, entries_with}
 use Rattle.jm_texts.specs.InfoText.{header_text, info_text, info_with}
-use Rattle.jm_bytes.specs.Results.{UnlessMemory}
-use Rattle.jm_words.specs.declared.errors.WordsError.{WordsError}
-use Rattle.jm_words.specs.declared.errors.WordsError.TheVariants as error
+use Rattle.jm_words.specs.declared.errors.WordsFault.{WordsFault}
 use Rattle.jm_words.specs.declared.tasks.Command.{Command}
 use Rattle.jm_words.specs.declared.tasks.ImageWork.{ImageWork}
 use Rattle.jm_words.specs.declared.tasks.ImageWork.TheVariants as work_of
@@ -391,12 +389,11 @@ task_takes_nothing told task.Help n = tt
 task_takes_nothing told task.Version n = tt
 
 -- words that weren't read to a command take nothing
-pub words_take_nothing : (told : Option Files) (asked : Result Command WordsError) (n : ℕ) → TakesNoMore told asked n n
+pub words_take_nothing : (told : Option Files) (asked : Result Command WordsFault) (n : ℕ) → TakesNoMore told asked n n
 words_take_nothing told (Ok command) n = task_takes_nothing told command.task n
 words_take_nothing told (Err fault) n = tt
 
 -- words that were read to a command take what its task does
-pub words_take : (told : Option Files) (asked : Result Command WordsError) (given : Command) (old new : ℕ)
-    → UnlessMemory error.Memory (Ok given) asked → TaskTakes told given.task old new → TakesNoMore told asked old new
-words_take told asked given old new (inl memory) takes = cc
-words_take told asked given old new (inr read) takes = subst (λ (a : Result Command WordsError). TakesNoMore told a old new) read takes
+pub words_take : (told : Option Files) (asked : Result Command WordsFault) (given : Command) (old new : ℕ)
+    → Ok given ≡ asked → TaskTakes told given.task old new → TakesNoMore told asked old new
+words_take told asked given old new read takes = subst (λ (a : Result Command WordsFault). TakesNoMore told a old new) read takes

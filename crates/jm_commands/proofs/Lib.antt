@@ -1,5 +1,4 @@
 pub mod ContentLaws
-pub mod DescribeLaws
 pub mod ExtractLaws
 pub mod FrontLaws
 pub mod GenLaws

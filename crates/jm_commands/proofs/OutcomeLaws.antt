@@ -10,12 +10,9 @@ use Rattle.jm_jrt.specs.Lines.{lines_of, replies}
 use Rattle.jm_jrt.specs.Sessions.{answered_in}
 use Rattle.jm_jrt.specs.Stat.{held, stat}
 use Rattle.jm_form.specs.Validity.{look}
-use Rattle.jm_class.specs.declared.class.ClassFault.{ClassFault}
-use Rattle.jm_class.specs.Classes.{ClassData}
-use Rattle.jm_class.specs.ComputedClass.{class_of}
 use Rattle.jm_modinfo.specs.declared.descriptor.Descriptor.{Descriptor}
-use Rattle.jm_modinfo.specs.declared.faults.InfoFault.{InfoFault}
-use Rattle.jm_modinfo.specs.ComputedInfo.{info_of}
+use Rattle.jm_modinfo.specs.declared.faults.DescriptorFault.{DescriptorFault}
+use Rattle.jm_modinfo.specs.Descriptions.{info_in}
 use Rattle.jm_outside.specs.Files.{Files}
 use Rattle.jm_words.specs.declared.tasks.ImageWork.{ImageWork}
 use Rattle.jm_words.specs.declared.tasks.ImageWork.TheVariants as work
@@ -26,7 +23,7 @@ use Rattle.jm_commands.specs.declared.shown.Shown.{Shown}
 use Rattle.jm_commands.specs.declared.shown.Shown.TheVariants as shown
 use Rattle.jm_commands.specs.ShownText.{shown_text, work_shown}
 use Rattle.jm_commands.specs.Run.{OpenedComesTo, TaskComesTo, TextComesTo}
-use Rattle.jm_commands.specs.Outcome.{Outcome, cat_outcome, class_outcome, describe_outcome}
+use Rattle.jm_commands.specs.Outcome.{Outcome, cat_outcome, describe_outcome}
 use Rattle.jm_commands.specs.Outcome.{descriptor_outcome, ls_outcome, session_fault, session_with}
 use Rattle.jm_commands.specs.Outcome.{done, image_outcome}
 
@@ -42,16 +39,12 @@ ls_session path (Err NotThere) = refl
 ls_session path (Err (BadNode at)) = refl
 ls_session path (Err NotFolder) = refl
 
-descriptor_session : (path : List ℕ) (d : Result Descriptor InfoFault) → (descriptor_outcome path d).session ≡ None
+descriptor_session : (path : List ℕ) (d : Result Descriptor DescriptorFault) → (descriptor_outcome path d).session ≡ None
 descriptor_session path (Ok d) = refl
 descriptor_session path (Err fault) = refl
 
-class_session : (path : List ℕ) (c : Result ClassData ClassFault) → (class_outcome path c).session ≡ None
-class_session path (Ok c) = descriptor_session path (info_of c)
-class_session path (Err fault) = refl
-
 pub describe_session : (path b : List ℕ) → (describe_outcome path b).session ≡ None
-describe_session path b = class_session path (class_of b)
+describe_session path b = descriptor_session path (info_in b)
 
 -- Files
 
@@ -85,13 +78,9 @@ image_writes image work.Serve b text other = session_writes b (replies b (answer
 image_writes image (work.Extract dir include) b text other = cc
 image_writes image _ b text other = refl
 
-descriptor_writes : (path : List ℕ) (d : Result Descriptor InfoFault) → (descriptor_outcome path d).writes ≡ []
+descriptor_writes : (path : List ℕ) (d : Result Descriptor DescriptorFault) → (descriptor_outcome path d).writes ≡ []
 descriptor_writes path (Ok d) = refl
 descriptor_writes path (Err fault) = refl
-
-class_writes : (path : List ℕ) (c : Result ClassData ClassFault) → (class_outcome path c).writes ≡ []
-class_writes path (Ok c) = descriptor_writes path (info_of c)
-class_writes path (Err fault) = refl
 
 -- only `link`, `gen` and `extract` make files
 pub task_writes : (told : Option Files) (rest : Option (List ℕ)) (given : Task) (due : Outcome) → makes_files given ≡ false
@@ -99,7 +88,7 @@ pub task_writes : (told : Option Files) (rest : Option (List ℕ)) (given : Task
 task_writes told rest task.Help due other is = ap (λ o. o.writes) is
 task_writes told rest task.Version due other is = ap (λ o. o.writes) is
 task_writes told rest (task.Describe file) due other (None, has, is) = ap (λ o. o.writes) is
-task_writes told rest (task.Describe file) due other (Some b, has, is) = ap (λ o. o.writes) is ∙ class_writes file (class_of b)
+task_writes told rest (task.Describe file) due other (Some b, has, is) = ap (λ o. o.writes) is ∙ descriptor_writes file (info_in b)
 task_writes told rest (task.Link link) due other comes = cc
 task_writes told rest (task.Gen gen) due other comes = cc
 task_writes told rest (task.Image image does) due other (None, has, is) = ap (λ o. o.writes) is

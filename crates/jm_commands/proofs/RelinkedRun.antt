@@ -11,7 +11,7 @@ use Rattle.jm_link.specs.Links.{request_of}
 use Rattle.jm_link.proofs.GivenBack.{laid, never_refused, same_bytes}
 use Rattle.jm_outside.specs.Files.{Files, file as read}
 use Rattle.jm_outside.specs.Outcome.{Shows}
-use Rattle.jm_words.specs.declared.errors.WordsError.{WordsError}
+use Rattle.jm_words.specs.declared.errors.WordsFault.{WordsFault}
 use Rattle.jm_words.specs.declared.tasks.Command.{Command}
 use Rattle.jm_words.specs.declared.tasks.LinkTask.{LinkTask}
 use Rattle.jm_words.specs.declared.tasks.Task.{Task}
@@ -100,12 +100,12 @@ module _ (due : Outcome) (is : Status) (old new : World) (err new_err : Seen (Li
       ends_so link b due is old new err new_err makes.0 makes.1 does.ends
   by_task _ comes = tt
 
-  by_words : (asked : Result Command WordsError) → WordsComeTo old.shelf.told old.input.told asked due
+  by_words : (asked : Result Command WordsFault) → WordsComeTo old.shelf.told old.input.told asked due
       → RelinksRun asked is old.shelf.told new.shelf.told
   by_words (Ok given) comes = by_task given.task comes
   by_words (Err fault) comes = tt
 
-pub run_relinks : (asked : Result Command WordsError) (early : Early) (is : Status) (old new : World) (err new_err : Seen (List ℕ))
+pub run_relinks : (asked : Result Command WordsFault) (early : Early) (is : Status) (old new : World) (err new_err : Seen (List ℕ))
     → RunComesTo (WordsComeTo old.shelf.told old.input.told asked) early is old new err new_err → RelinksRun asked is old.shelf.told
     new.shelf.told
 run_relinks asked early is old new err new_err (inl stops) = go asked
@@ -114,7 +114,7 @@ run_relinks asked early is old new err new_err (inl stops) = go asked
     by_task (task.Link link) = λ b file. failed_free link.output b is old.shelf.told new.shelf.told stops.failed
     by_task _ = tt
 
-    go : (given : Result Command WordsError) → RelinksRun given is old.shelf.told new.shelf.told
+    go : (given : Result Command WordsFault) → RelinksRun given is old.shelf.told new.shelf.told
     go (Ok command) = by_task command.task
     go (Err fault) = tt
 run_relinks asked early is old new err new_err (inr (due, comes, does)) = by_words due is old new err new_err does asked comes

@@ -15,7 +15,7 @@ use Rattle.jm_link.specs.declared.linking.Summary.{Summary}
 use Rattle.jm_link.specs.Linked.{LinkedImage}
 use Rattle.jm_outside.specs.Files.{Files}
 use Rattle.jm_outside.specs.Outcome.{PutsFront, Told}
-use Rattle.jm_words.specs.declared.errors.WordsError.{WordsError}
+use Rattle.jm_words.specs.declared.errors.WordsFault.{WordsFault}
 use Rattle.jm_words.specs.declared.tasks.Command.{Command}
 use Rattle.jm_words.specs.declared.tasks.ImageWork.{ImageWork}
 use Rattle.jm_words.specs.declared.tasks.ImageWork.TheVariants as work
@@ -160,12 +160,12 @@ module _ (due : Outcome) (is : Status) (old new : World) (err new_err : Seen (Li
   by_task given (Some image) serves comes =
       by_image image (subst (λ (t : Task). TaskComesTo old.shelf.told old.input.told t due) (serve_of given image serves) comes)
 
-  by_words : (asked : Result Command WordsError) → WordsComeTo old.shelf.told old.input.told asked due
+  by_words : (asked : Result Command WordsFault) → WordsComeTo old.shelf.told old.input.told asked due
       → ServesRun (served_in asked) is old new err new_err
   by_words (Ok given) comes = by_task given.task (served given.task) refl comes
   by_words (Err fault) comes = unread (ap (λ o. o.session) comes)
 
-pub run_serves : (asked : Result Command WordsError) (early : Early) (is : Status) (old new : World) (err new_err : Seen (List ℕ))
+pub run_serves : (asked : Result Command WordsFault) (early : Early) (is : Status) (old new : World) (err new_err : Seen (List ℕ))
     → RunComesTo (WordsComeTo old.shelf.told old.input.told asked) early is old new err new_err → ServesRun (served_in asked) is old
     new err new_err
 run_serves asked early is old new err new_err (inl stops) = go (served_in asked)

@@ -9,9 +9,10 @@ use Rattle.jm_outside.specs.Files.{Files}
 use Rattle.jm_outside.specs.Outcome.{Rose, Shows, Told}
 use Rattle.jm_outside.specs.Shelves.{ShelfFailed, ShelfSeen}
 use Rattle.jm_words.specs.declared.tasks.Command.{Command}
-use Rattle.jm_words.specs.declared.errors.WordsError.{WordsError}
-use Rattle.jm_words.specs.declared.errors.WordsError.TheVariants as error
-use Rattle.jm_bytes.specs.Results.{UnlessMemory}
+use Rattle.jm_words.specs.declared.errors.WordsFault.{WordsFault}
+use Rattle.jm_bytes.specs.declared.faults.Or.{Or}
+use Rattle.jm_bytes.specs.declared.faults.Or.TheVariants as or
+use Rattle.jm_bytes.specs.Results.{IfAnswered}
 use Rattle.jm_words.specs.declared.tasks.ImageWork.{ImageWork}
 use Rattle.jm_commands.specs.declared.complaint.Complaint.{Complaint}
 use Rattle.jm_commands.specs.declared.complaint.Complaint.TheVariants as complaint
@@ -365,24 +366,22 @@ module _ (does : ImageWork) (path : List ℕ) where
 -- All words
 
 -- words that were read to a command
-pub words_read : (asked : Result Command WordsError) (given : Command) (answer : Result (Unit {0}) Stop) (old new : World)
-    → UnlessMemory error.Memory (Ok given) asked → StepComesTo (TaskComesTo old.shelf.told old.input.told given.task)
+pub words_read : (asked : Result Command WordsFault) (given : Command) (answer : Result (Unit {0}) Stop) (old new : World)
+    → Ok given ≡ asked → StepComesTo (TaskComesTo old.shelf.told old.input.told given.task)
     (early_of given.task) answer old new → StepComesTo (WordsComeTo old.shelf.told old.input.told asked) (early_in asked) answer old new
-words_read asked given answer old new (inl memory) step = cc
-words_read asked given answer old new (inr read) step =
-    subst (λ (a : Result Command WordsError). StepComesTo (WordsComeTo old.shelf.told old.input.told a) (early_in a) answer old new)
+words_read asked given answer old new read step =
+    subst (λ (a : Result Command WordsFault). StepComesTo (WordsComeTo old.shelf.told old.input.told a) (early_in a) answer old new)
     read step
 
 -- words that weren't read to a command
-pub words_unread : (asked : Result Command WordsError) (fault : WordsError) (now : World) → UnlessMemory error.Memory (Err fault)
-    asked → StepComesTo (WordsComeTo now.shelf.told now.input.told asked) (early_in asked) (Err (stop_of_words fault)) now now
-words_unread asked error.Memory now read = out_of_memory (WordsComeTo now.shelf.told now.input.told asked) (early_in asked) now
-words_unread asked (error.Fault at kind) now (inl memory) = cc
-words_unread asked (error.Fault at kind) now (inr read) =
-    subst (λ (a : Result Command WordsError). StepComesTo (WordsComeTo now.shelf.told now.input.told a) (early_in a)
+pub words_unread : (asked : Result Command WordsFault) (error : Or WordsFault) (now : World) → IfAnswered (λ read. read ≡ asked)
+    (Err error) → StepComesTo (WordsComeTo now.shelf.told now.input.told asked) (early_in asked) (Err (stop_of_words error)) now now
+words_unread asked or.Memory now read = out_of_memory (WordsComeTo now.shelf.told now.input.told asked) (early_in asked) now
+words_unread asked (or.Fault fault) now read =
+    subst (λ (a : Result Command WordsFault). StepComesTo (WordsComeTo now.shelf.told now.input.told a) (early_in a)
     (Err (stop.Complaint given)) now now) read
-    (complains (λ due. due ≡ faulty (error.Fault at kind)) without_files (faulty (error.Fault at kind)) given given now now refl
+    (complains (λ due. due ≡ faulty fault) without_files (faulty fault) given given now now refl
     refl refl (record { files = refl; source = refl; output = refl }))
   where
     given : Complaint
-    given = complaint.Words (error.Fault at kind)
+    given = complaint.Words fault

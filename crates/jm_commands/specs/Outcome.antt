@@ -18,22 +18,17 @@ use Rattle.jm_jrt.specs.Sessions.{answered_in}
 use Rattle.jm_jrt.specs.Stat.{held, stat}
 use Rattle.jm_names.specs.UtfForms.{utf}
 use Rattle.jm_outside.specs.Made.{Writes}
-use Rattle.jm_words.specs.declared.errors.WordsError.{WordsError}
+use Rattle.jm_words.specs.declared.errors.WordsFault.{WordsFault}
 use Rattle.jm_words.specs.declared.tasks.Command.{Command}
 use Rattle.jm_words.specs.declared.tasks.ImageWork.{ImageWork}
 use Rattle.jm_words.specs.declared.tasks.ImageWork.TheVariants as work
 use Rattle.jm_words.specs.declared.tasks.LinkTask.{LinkTask}
 use Rattle.jm_words.specs.declared.tasks.Task.{Task}
 use Rattle.jm_words.specs.declared.tasks.Task.TheVariants as task
-use Rattle.jm_words.specs.FaultText.{error_text}
-use Rattle.jm_class.specs.declared.class.ClassFault.{ClassFault}
-use Rattle.jm_class.specs.Classes.{ClassData}
-use Rattle.jm_class.specs.ComputedClass.{class_of}
+use Rattle.jm_words.specs.FaultText.{fault_text}
 use Rattle.jm_modinfo.specs.declared.descriptor.Descriptor.{Descriptor}
 use Rattle.jm_modinfo.specs.declared.faults.DescriptorFault.{DescriptorFault}
-use Rattle.jm_modinfo.specs.declared.faults.DescriptorFault.TheVariants as fault_of
-use Rattle.jm_modinfo.specs.declared.faults.InfoFault.{InfoFault}
-use Rattle.jm_modinfo.specs.ComputedInfo.{info_of}
+use Rattle.jm_modinfo.specs.Descriptions.{info_in}
 use Rattle.jm_extract.specs.Extracted.{extracted, writes_of}
 use Rattle.jm_names.specs.ByName.{Named}
 use Rattle.jm_link.specs.declared.linking.Summary.{Summary}
@@ -84,8 +79,8 @@ refused status text = record {
 }
 
 -- what a fault of the words comes to
-abbrev pub faulty : WordsError → Outcome
-faulty fault = refused status.Words (codes "words: " ++ error_text fault)
+abbrev pub faulty : WordsFault → Outcome
+faulty fault = refused status.Words (codes "words: " ++ fault_text fault)
 
 -- what a damage of the image comes to
 abbrev pub damaged : Damage → Outcome
@@ -160,19 +155,14 @@ session_outcome b text =
 abbrev pub bad_info : List ℕ → DescriptorFault → Outcome
 bad_info path fault = refusing (refusal.BadInfo path fault)
 
--- what `describe` comes to, by what the class says
-abbrev pub descriptor_outcome : List ℕ → Result Descriptor InfoFault → Outcome
+-- what `describe` comes to, by what the file's bytes say as the class of a module
+abbrev pub descriptor_outcome : List ℕ → Result Descriptor DescriptorFault → Outcome
 descriptor_outcome path (Ok d) = done (describe_text d)
-descriptor_outcome path (Err fault) = bad_info path (fault_of.Info fault)
-
--- what `describe` comes to, by the class that the file's bytes read as
-abbrev pub class_outcome : List ℕ → Result ClassData ClassFault → Outcome
-class_outcome path (Ok c) = descriptor_outcome path (info_of c)
-class_outcome path (Err fault) = bad_info path (fault_of.Class fault)
+descriptor_outcome path (Err fault) = bad_info path fault
 
 -- what `describe` comes to, by the bytes of the file
 abbrev pub describe_outcome : List ℕ → List ℕ → Outcome
-describe_outcome path b = class_outcome path (class_of b)
+describe_outcome path b = descriptor_outcome path (info_in b)
 
 -- `link`: the image stands at the path, and the output says what it has
 
@@ -256,6 +246,6 @@ early_of task.Help = without_files
 early_of task.Version = without_files
 
 -- what is done of all words with files before it is known what they come to
-abbrev pub early_in : Result Command WordsError → Early
+abbrev pub early_in : Result Command WordsFault → Early
 early_in (Ok command) = early_of command.task
 early_in (Err fault) = without_files

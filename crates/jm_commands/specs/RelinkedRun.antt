@@ -4,7 +4,7 @@ use Rattle.jm_outside.specs.Holds.{Holds}
 use Rattle.jm_link.specs.Links.{request_of}
 use Rattle.jm_link.specs.Relinked.{Relinks}
 use Rattle.jm_outside.specs.Files.{Files, file}
-use Rattle.jm_words.specs.declared.errors.WordsError.{WordsError}
+use Rattle.jm_words.specs.declared.errors.WordsFault.{WordsFault}
 use Rattle.jm_words.specs.declared.tasks.Command.{Command}
 use Rattle.jm_words.specs.declared.tasks.LinkTask.{LinkTask}
 use Rattle.jm_words.specs.declared.tasks.Task.{Task}
@@ -36,6 +36,6 @@ RelinksTask (task.Link link) is old new =
 RelinksTask _ is old new = Unit {0}
 
 -- the same of what words ask for
-abbrev pub RelinksRun : Result Command WordsError → Status → (old new : Option Files) → Type 0
+abbrev pub RelinksRun : Result Command WordsFault → Status → (old new : Option Files) → Type 0
 RelinksRun (Ok command) is old new = RelinksTask command.task is old new
 RelinksRun (Err fault) is old new = Unit {0}

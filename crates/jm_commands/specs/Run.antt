@@ -14,7 +14,7 @@ use Rattle.jm_link.specs.ImageLinked.{ImageComesTo}
 use Rattle.jm_link.specs.Links.{ComesTo, request_of}
 use Rattle.jm_outside.specs.Files.{Files, file}
 use Rattle.jm_outside.specs.Outcome.{Shows}
-use Rattle.jm_words.specs.declared.errors.WordsError.{WordsError}
+use Rattle.jm_words.specs.declared.errors.WordsFault.{WordsFault}
 use Rattle.jm_words.specs.declared.tasks.Command.{Command}
 use Rattle.jm_words.specs.declared.tasks.GenTask.{GenTask}
 use Rattle.jm_words.specs.declared.tasks.ImageWork.{ImageWork}
@@ -127,7 +127,7 @@ TaskComesTo told rest task.Version due = due ≡ done version_text
 
 -- what all words come to: the task of their command, for any number of jobs, or their first fault
 abbrev pub WordsComeTo
-    : Option Files → Option (List ℕ) → Result Command WordsError → Outcome → Type 0
+    : Option Files → Option (List ℕ) → Result Command WordsFault → Outcome → Type 0
 WordsComeTo told rest (Ok command) due = TaskComesTo told rest command.task due
 WordsComeTo told rest (Err fault) due = due ≡ faulty fault
 

@@ -1,7 +1,7 @@
 -- What a run of `serve` does with the source and the output (this project's rule).
 use Rattle.std.specs.Prelude.{ℕ, ◌≡◌, ◌⊎◌, List, Option, Some, None, Result, Ok, Err}
 use Rattle.jm_form.specs.Damages.{first_damage}
-use Rattle.jm_words.specs.declared.errors.WordsError.{WordsError}
+use Rattle.jm_words.specs.declared.errors.WordsFault.{WordsFault}
 use Rattle.jm_words.specs.declared.tasks.Command.{Command}
 use Rattle.jm_words.specs.declared.tasks.ImageWork.TheVariants as work
 use Rattle.jm_words.specs.declared.tasks.Task.{Task}
@@ -18,7 +18,7 @@ served (task.Image image work.Serve) = Some image
 served _ = None
 
 -- the image of a `serve`, if words ask for one
-abbrev pub served_in : Result Command WordsError → Option (List ℕ)
+abbrev pub served_in : Result Command WordsFault → Option (List ℕ)
 served_in (Ok command) = served command.task
 served_in (Err fault) = None
 

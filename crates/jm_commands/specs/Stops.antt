@@ -1,5 +1,5 @@
 -- Why a command stops (this project's rule).
-use Rattle.std.specs.Prelude.{ℕ, ◌≡◌, List, Result, Ok, Err}
+use Rattle.std.specs.Prelude.{ℕ, Result, Ok, Err}
 use Rattle.jm_extract.specs.declared.extracting.ExtractStop.{ExtractStop}
 use Rattle.jm_extract.specs.declared.extracting.ExtractStop.TheVariants as extract_stop
 use Rattle.jm_jrt.specs.declared.serve_error.ServeError.{ServeError}
@@ -8,13 +8,12 @@ use Rattle.jm_outside.specs.declared.shelf.ShelfError.{ShelfError}
 use Rattle.jm_outside.specs.declared.shelf.ShelfError.TheVariants as shelf_error
 use Rattle.jm_outside.specs.declared.streams.SinkError.{SinkError}
 use Rattle.jm_outside.specs.declared.streams.SinkError.TheVariants as sink_error
-use Rattle.jm_words.specs.declared.errors.WordsError.{WordsError}
-use Rattle.jm_words.specs.declared.errors.WordsError.TheVariants as error
-use Rattle.jm_modinfo.specs.declared.faults.DescriptorFault.{DescriptorFault}
+use Rattle.jm_words.specs.declared.errors.WordsFault.{WordsFault}
+use Rattle.jm_bytes.specs.declared.faults.Or.{Or}
+use Rattle.jm_bytes.specs.declared.faults.Or.TheVariants as or
 use Rattle.jm_link.specs.declared.linking.LinkStop.{LinkStop}
 use Rattle.jm_link.specs.declared.linking.LinkStop.TheVariants as link_stop
 use Rattle.jm_commands.specs.declared.complaint.Complaint.TheVariants as complaint
-use Rattle.jm_texts.specs.declared.refusal.Refusal.TheVariants as refusal
 use Rattle.jm_commands.specs.declared.stop.Stop.{Stop}
 use Rattle.jm_commands.specs.declared.stop.Stop.TheVariants as stop
 
@@ -53,13 +52,6 @@ stop_of_session (Err serve_error.TooManyLines) = Err (stop.Complaint complaint.T
 stop_of_session (Err serve_error.Memory) = Err stop.Memory
 
 -- why a command stops where the words were read to none
-abbrev pub stop_of_words : WordsError → Stop
-stop_of_words (error.Fault at kind) = stop.Complaint (complaint.Words (error.Fault at kind))
-stop_of_words error.Memory = stop.Memory
-
--- how `describe` stops where the file at a path is refused, unless no memory is found
-abbrev pub Refuses : List ℕ → DescriptorFault → Stop → Type 0
-Refuses path fault (stop.Complaint given) =
-    given ≡ complaint.Refused (refusal.BadInfo path fault)
-Refuses path fault stop.Outside = ⊥
-Refuses path fault stop.Memory = Unit {0}
+abbrev pub stop_of_words : Or WordsFault → Stop
+stop_of_words (or.Fault fault) = stop.Complaint (complaint.Words fault)
+stop_of_words or.Memory = stop.Memory

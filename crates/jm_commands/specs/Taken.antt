@@ -9,7 +9,7 @@ use Rattle.jm_form.specs.Validity.{look}
 use Rattle.jm_jrt.specs.Stat.{node_sought}
 use Rattle.jm_outside.specs.Files.{Files, file}
 use Rattle.jm_outside.specs.Outcome.{Shows}
-use Rattle.jm_words.specs.declared.errors.WordsError.{WordsError}
+use Rattle.jm_words.specs.declared.errors.WordsFault.{WordsFault}
 use Rattle.jm_words.specs.declared.tasks.Command.{Command}
 use Rattle.jm_words.specs.declared.tasks.ImageWork.{ImageWork}
 use Rattle.jm_words.specs.declared.tasks.ImageWork.TheVariants as work
@@ -59,6 +59,6 @@ TaskTakes told (task.Image image work) old new = WorkTakes told image work old n
 TaskTakes told _ old new = Unit {0}
 
 -- what a run of all words takes, by the task of their command
-abbrev pub TakesNoMore : Option Files → Result Command WordsError → (old new : ℕ) → Type 0
+abbrev pub TakesNoMore : Option Files → Result Command WordsFault → (old new : ℕ) → Type 0
 TakesNoMore told (Ok command) old new = TaskTakes told command.task old new
 TakesNoMore told (Err fault) old new = Unit {0}

@@ -2,14 +2,14 @@
 use Rattle.std.specs.Prelude.{ℕ, List, [], ◌∷◌, ◌++◌, codes}
 use Rattle.std.specs.Fmt.{decimal}
 use Rattle.jm_form.specs.DamageText.{damage_text}
-use Rattle.jm_words.specs.FaultText.{error_text}
+use Rattle.jm_words.specs.FaultText.{fault_text}
 use Rattle.jm_texts.specs.RefusalText.{refusal_text}
 use Rattle.jm_commands.specs.declared.complaint.Complaint.{Complaint}
 use Rattle.jm_commands.specs.declared.complaint.Complaint.TheVariants as complaint
 
 -- what the error sink is told of a complaint
 abbrev pub complaint_text : Complaint → List ℕ
-complaint_text (complaint.Words fault) = codes "words: " ++ error_text fault
+complaint_text (complaint.Words fault) = codes "words: " ++ fault_text fault
 complaint_text (complaint.Damaged damage) = codes "damaged: " ++ damage_text damage
 complaint_text (complaint.NotThere text) = codes "not there: " ++ text
 complaint_text (complaint.Refused refusal) = codes "refused: " ++ refusal_text refusal

@@ -6,14 +6,14 @@ use crate::status::Status;
 use jm_bytes::{NoMemory, Text, extend};
 use jm_form::Damage;
 use jm_texts::Refusal;
-use jm_words::WordsError;
+use jm_words::WordsFault;
 use std::alloc::{AllocError, Global};
 
 /// What a run ends with in place of its output; it has a line that says so.
 #[derive(Drop)]
 pub enum Complaint {
     /// The words make no command.
-    Words(WordsError),
+    Words(WordsFault),
     /// The image has this first damage.
     Damaged(Damage),
     /// This path, or this name in UTF-8, isn't there.

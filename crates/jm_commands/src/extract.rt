@@ -79,28 +79,9 @@ fn extract_counted<S: Shelf, R: Ledger>(
     extract(alloc, image.as_image(), include, dir, shelf, &mut reads)
 }
 
-/// Makes, below the directory, a file of each taken entry of the image, and then puts how many they
-/// are. A refusal changes no file; if the put fails, all files stand.
-fn extract_command<S: Shelf, O: Sink>(
-    alloc: Global,
-    image: &Opened,
-    work: Extraction,
-    shelf: &mut S,
-    out: &mut O,
-) -> Result<(), Stop>
-    requires text { IsUtf8 work.dir.now }
-    ensures { (source : Seen (List ℕ)) →
-        StepDoes (extract_outcome work.entry.dir.now (extracted image.now work.entry.include.now))
-        result
-        (world (shelf_at S.Shelf shelf.old) source (sink_at O.Sink out.old))
-        (world (shelf_at S.Shelf shelf.new) source (sink_at O.Sink out.new)) }
-{
-    let reads = Blank::new(1);
-    let count = extract_counted::<S, Brand>(alloc, image, work, shelf, reads)?;
-    put_count(alloc, count, out)
-}
-
-/// `extract`, on the image in the file at a path. The source of the run isn't lent to it.
+/// `extract`: makes, below the directory, a file of each taken entry of the image in the file at a
+/// path, and then puts how many they are. A refusal changes no file; if the put fails, all files
+/// stand. The source of the run isn't lent to it.
 pub fn extract_file<T: Threads + Sync, S: Shelf, O: Sink, G: Gate + Sync>(
     workers: &Workers<T, G>,
     path: &Text,
@@ -119,7 +100,11 @@ pub fn extract_file<T: Threads + Sync, S: Shelf, O: Sink, G: Gate + Sync>(
 {
     match file_bytes(workers.alloc, path, shelf) {
         Ok(bytes) => match Opened::of(workers, bytes.as_slice()) {
-            Ok(image) => extract_command(workers.alloc, &image, work, shelf, out),
+            Ok(image) => {
+                let reads = Blank::new(1);
+                let count = extract_counted::<S, Brand>(workers.alloc, &image, work, shelf, reads)?;
+                put_count(workers.alloc, count, out)
+            }
             Err(stop) => Err(stop),
         },
         Err(stop) => Err(stop),

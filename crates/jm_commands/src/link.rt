@@ -76,28 +76,8 @@ fn link_counted<T: Threads + Sync, S: Shelf, G: Gate + Sync, R: Ledger>(
     )
 }
 
-/// Links the modules of an image, and puts what the new image has.
-fn link_opened<T: Threads + Sync, S: Shelf, O: Sink, G: Gate + Sync>(
-    workers: &Workers<T, G>,
-    task: &LinkTask,
-    image: &Opened,
-    shelf: &mut S,
-    out: &mut O,
-) -> Result<(), Stop>
-    requires jobs { 0 < workers.now.jobs }
-    requires output { IsUtf8 task.now.output }
-    ensures { (source : Seen (List ℕ)) →
-        StepComesTo (ImageLinkComesTo link_text task.now image.now) reading result
-        (world (shelf_at S.Shelf shelf.old) source (sink_at O.Sink out.old))
-        (world (shelf_at S.Shelf shelf.new) source (sink_at O.Sink out.new)) }
-{
-    let reads = Blank::new(1);
-    let summary = link_counted::<T, S, G, Brand>(workers, task, image, shelf, reads)?;
-    put_summary(workers.alloc, &summary, out)
-}
-
-/// Reads an image, and links its modules. What counts are the bytes as they were read, also where
-/// the output has the same path.
+/// Reads an image, links its modules, and puts what the new image has. What counts are the bytes
+/// as they were read, also where the output has the same path.
 fn link_from_image<T: Threads + Sync, S: Shelf, O: Sink, G: Gate + Sync>(
     workers: &Workers<T, G>,
     task: &LinkTask,
@@ -118,7 +98,13 @@ fn link_from_image<T: Threads + Sync, S: Shelf, O: Sink, G: Gate + Sync>(
         Ok(bytes) => {
             let bytes = bytes.as_slice();
             match Opened::of(workers, bytes) {
-                Ok(image) => link_opened(workers, task, &image, shelf, out),
+                Ok(image) => {
+                    let reads = Blank::new(1);
+                    let summary = link_counted::<T, S, G, Brand>(
+                        workers, task, &image, shelf, reads,
+                    )?;
+                    put_summary(workers.alloc, &summary, out)
+                }
                 Err(stop) => Err(stop),
             }
         }

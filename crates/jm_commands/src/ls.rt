@@ -69,22 +69,6 @@ fn put_children<O: Sink, R: Ledger>(
     out.put(alloc, text.as_slice())
 }
 
-/// Puts the whole output of `ls`, the lines of these children.
-fn put_listing<O: Sink, R: Ledger>(
-    alloc: Global,
-    path: &[u8],
-    list: &mut ChildList,
-    out: &mut O,
-    reads: &mut Meter<R>,
-) -> Result<(), Stop>
-    requires { reads.old.bytes ≡ list.old.bytes }
-    ensures { PutDoes (done (held_lines path.now list.old.rest)) result
-        (sink_at O.Sink out.old) (sink_at O.Sink out.new) }
-{
-    put_children(alloc, path, list, out, reads)?;
-    Ok(())
-}
-
 /// The row of the node that says what stands at a path, with counters of its own.
 fn node_counted<H: Ledger, R: Ledger>(
     front: &OpenFront,
@@ -143,7 +127,7 @@ fn list_folder<O: Sink, H: Ledger, R: Ledger>(
     let mut hashes = Steps::<H>::new(hashes);
     let mut reads = Meter::<R>::new(front.bytes(), reads);
     match children_in(front.as_index(), path, content, &mut hashes, &mut reads) {
-        Ok(mut list) => put_listing(alloc, path, &mut list, out, &mut reads),
+        Ok(mut list) => Ok(put_children(alloc, path, &mut list, out, &mut reads)?),
         Err(error) => Err(Stop::Complaint(ls_complaint(alloc, path, error)?)),
     }
 }

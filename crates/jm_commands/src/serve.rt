@@ -65,25 +65,8 @@ fn stop_of_session(answered: Result<u64, ServeError>) -> Result<(), Stop>
     }
 }
 
-/// `serve`: puts the replies to the lines of the source, one `put` for each, until the source ends
-/// or the session breaks its limits. The shelf of the run isn't lent to it.
-fn serve_command<I: Source, O: Sink>(
-    alloc: Global,
-    image: &Opened,
-    input: &mut I,
-    out: &mut O,
-) -> Result<(), Stop>
-    ensures { (shelf : ShelfSeen) →
-        StepOnText (session_outcome image.now) result
-        (world shelf (source_at I.Source input.old) (sink_at O.Sink out.old))
-        (world shelf (source_at I.Source input.new) (sink_at O.Sink out.new)) }
-{
-    let (hashes, reads) = (Blank::new(1), Blank::new(1));
-    let answered = serve_counted::<I, O, Brand, Brand>(alloc, image, input, out, hashes, reads);
-    stop_of_session(answered)
-}
-
-/// `serve`, on the image in the file at a path.
+/// `serve`: opens the image in the file at a path, and puts the replies to the lines of the source,
+/// one `put` for each, until the source ends or the session breaks its limits.
 pub fn serve_file<T: Threads + Sync, S: Shelf, I: Source, O: Sink, G: Gate + Sync>(
     workers: &Workers<T, G>,
     path: &Text,
@@ -100,7 +83,18 @@ pub fn serve_file<T: Threads + Sync, S: Shelf, I: Source, O: Sink, G: Gate + Syn
 {
     match file_bytes(workers.alloc, path, shelf) {
         Ok(bytes) => match Opened::of(workers, bytes.as_slice()) {
-            Ok(image) => serve_command(workers.alloc, &image, input, out),
+            Ok(image) => {
+                let (hashes, reads) = (Blank::new(1), Blank::new(1));
+                let answered = serve_counted::<I, O, Brand, Brand>(
+                    workers.alloc,
+                    &image,
+                    input,
+                    out,
+                    hashes,
+                    reads,
+                );
+                stop_of_session(answered)
+            }
             Err(stop) => Err(stop),
         },
         Err(stop) => Err(stop),

@@ -3,11 +3,11 @@ ghost use Rattle.jm_commands.specs.Stops.{stop_of_extract, stop_of_link, stop_of
 ghost use Rattle.jm_commands.specs.Stops.{stop_of_sink, stop_of_words};
 
 use crate::complaint::Complaint;
-use jm_bytes::NoMemory;
+use jm_bytes::{NoMemory, Or};
 use jm_extract::ExtractStop;
 use jm_link::LinkStop;
 use jm_outside::{ShelfError, SinkError};
-use jm_words::WordsError;
+use jm_words::WordsFault;
 use std::alloc::AllocError;
 
 /// Why a command has not put its whole output.
@@ -68,15 +68,13 @@ impl From<LinkStop> for Stop {
     }
 }
 
-impl From<WordsError> for Stop {
+impl From<Or<WordsFault>> for Stop {
     ghost from_gives = { λ error stop. stop ≡ stop_of_words error };
 
-    fn from(error: WordsError) -> Stop {
+    fn from(error: Or<WordsFault>) -> Stop {
         match error {
-            WordsError::Memory => Stop::Memory,
-            WordsError::Fault { at, kind } => {
-                Stop::Complaint(Complaint::Words(WordsError::Fault { at, kind }))
-            }
+            Or::Fault(fault) => Stop::Complaint(Complaint::Words(fault)),
+            Or::Memory => Stop::Memory,
         }
     }
 }

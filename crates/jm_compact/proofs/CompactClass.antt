@@ -8,7 +8,7 @@ use Rattle.jm_bytes.proofs.Choice.{same_some}
 use Rattle.jm_bytes.proofs.Members.{contains_here, contains_later, contains_map}
 use Rattle.jm_class.specs.Classes.{SlotData, ClassData, pool_text, class_text, utf8_at, IsClass}
 use Rattle.jm_class.proofs.ReadingLaws.{IsBytes}
-use Rattle.jm_poolmap.specs.declared.site.Found.{Found}
+use Rattle.jm_poolmap.specs.declared.site.FoundSite.{FoundSite}
 use Rattle.jm_poolmap.specs.declared.site.Site.{Site}
 use Rattle.jm_poolmap.specs.declared.walk.Walk.{Walk}
 use Rattle.jm_poolmap.specs.ComputedSites.{Walked, Step, steps, passes, walk_of, found_by}
@@ -32,7 +32,7 @@ use Rattle.jm_compact.proofs.ClassCarried.{before_pool, behind_pool, back-is, ca
 
 -- Numbers of tokens
 
-each_found : (P : ℕ → Type 0) (tokens : List Token) (at : ℕ) → ((f : Found) → Contains (found_from at tokens) f → P f.number)
+each_found : (P : ℕ → Type 0) (tokens : List Token) (at : ℕ) → ((f : FoundSite) → Contains (found_from at tokens) f → P f.number)
     → Each P tokens
 each_found P [] at holds = tt
 each_found P (Plain bytes ∷ tokens) at holds = each_found P tokens (at + length bytes) holds
@@ -60,8 +60,8 @@ numbers_changed new (Number true n ∷ tokens) at other = ap (λ t. new n.1 ∷ 
 numbers_changed new (Number false n ∷ tokens) at other = ap (λ t. new n.1 ∷ t) (numbers_changed new tokens (at + 1) (other + 1))
 
 -- a check of each site holds with other numbers, too
-all_changed : (new : ℕ → ℕ) (test : Found → Bool) (tokens : List Token) (at other : ℕ)
-    → ((f : Found) → Contains (found_from at tokens) f → (g : Found) → g.optional ≡ f.optional → g.number ≡ new f.number → test g
+all_changed : (new : ℕ → ℕ) (test : FoundSite → Bool) (tokens : List Token) (at other : ℕ)
+    → ((f : FoundSite) → Contains (found_from at tokens) f → (g : FoundSite) → g.optional ≡ f.optional → g.number ≡ new f.number → test g
     ≡ true) → list_all test (found_from other (changed new tokens)) ≡ true
 all_changed new test [] at other holds = refl
 all_changed new test (Plain bytes ∷ tokens) at other holds = all_changed new test tokens (at + length bytes) (other + length bytes) holds
@@ -84,7 +84,7 @@ changed_stays new again (Number wide n ∷ tokens) each =
     (changed_stays new again tokens each.1)
 
 -- what a walk found
-found_walk : (walked : Walked) (found : List Found) → found_by walked ≡ Some found → (w : Walk) × (walked ≡ Ok w) × (w.found ≡ found)
+found_walk : (walked : Walked) (found : List FoundSite) → found_by walked ≡ Some found → (w : Walk) × (walked ≡ Ok w) × (w.found ≡ found)
 found_walk (Ok w) found is = (w, refl, same_some w.found found is)
 found_walk (Err fault) found is = cc
 

@@ -7,7 +7,7 @@ use Rattle.std.specs.List.{list_all}
 use Rattle.std.specs.Prelude.{nat_eq}
 use Rattle.jm_bytes.proofs.Choice.{same_some}
 use Rattle.jm_class.specs.Classes.{SlotData, Constant, ClassData, IsPoolFrom, IsClass, pool_text, utf8_at}
-use Rattle.jm_poolmap.specs.declared.site.Found.{Found}
+use Rattle.jm_poolmap.specs.declared.site.FoundSite.{FoundSite}
 use Rattle.jm_poolmap.specs.declared.site.Site.{Site}
 use Rattle.jm_poolmap.specs.Live.{Leads, StandsAtSite, IsLive, number_of, TellsLive}
 use Rattle.jm_poolmap.specs.Sites.{rank_of, rank_at, names_lower, names_constant, found_in, sites_of}
@@ -60,7 +60,7 @@ compacted c sites flags fits is_sites tells =
 module _ (c : ClassData) (sites : List Site) (flags : List Bool) (fits : IsClass c) (is_sites : sites_of c ≡ Some sites)
     (tells : TellsLive c flags) where
   -- a site with the new number passes its check
-  pub site_again : (found : List Found) → found_in c ≡ Some found → (f : Found) → Contains found f → (g : Found) → g.optional
+  pub site_again : (found : List FoundSite) → found_in c ≡ Some found → (f : FoundSite) → Contains found f → (g : FoundSite) → g.optional
       ≡ f.optional → g.number ≡ new_number flags f.number → names_constant (compact_pool flags c.pool) g ≡ true
   site_again found is f there g optional number = go (site_kept c sites flags is_sites tells found is f there)
     where

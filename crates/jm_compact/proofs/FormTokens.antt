@@ -8,7 +8,7 @@ use Rattle.std.specs.Int.{Width, w8, to_be_bytes}
 use Rattle.std.specs.Prelude.{◌==◌}
 use Rattle.jm_class.specs.Readings.{Left, Reading, value, continued, and_then, number}
 use Rattle.jm_class.proofs.ReadingLaws.{IsBytes, bytes_behind, same_left, same_value, Passed, passed, Took, number8-lawful, number16-lawful}
-use Rattle.jm_poolmap.specs.declared.site.Found.{Found}
+use Rattle.jm_poolmap.specs.declared.site.FoundSite.{FoundSite}
 use Rattle.jm_poolmap.specs.Forms.{NoForm, Form, Rows, unfit, without, site_of_width, in_order, counted}
 use Rattle.jm_poolmap.specs.Forms.{at_most, run, form_if, row_of, by_byte}
 use Rattle.jm_poolmap.proofs.Following.{part_front, number16_front}
@@ -21,14 +21,14 @@ use Rattle.jm_compact.proofs.Tokens.{changed-append, length-changed, found_from-
 -- may stand behind it is told by a word of the bytes that are left.
 module _ (Behind : List ℕ → Type 0) (form : ℕ → Form) where
   -- what the form takes that stands n bytes behind its start
-  pub record Told (start n : ℕ) (found : List Found) (all : List ℕ) (new : List Found) (next : Left) : Type 0 where
+  pub record Told (start n : ℕ) (found : List FoundSite) (all : List ℕ) (new : List FoundSite) (next : Left) : Type 0 where
     pub tokens : List Token
     pub rest : List ℕ
     pub fit : Fit tokens
     pub bytes : all ≡ token_text tokens ++ rest
     pub left : next ≡ record { place = start + (n + length (token_text tokens)); bytes = rest }
     pub sites : new ≡ found ++ found_from (start + n) tokens
-    pub again : (number : ℕ → ℕ) → IsSmall number → (other : ℕ) (met : List Found) (more : List ℕ) → Behind more
+    pub again : (number : ℕ → ℕ) → IsSmall number → (other : ℕ) (met : List FoundSite) (more : List ℕ) → Behind more
         → form other met (record { place = other + n; bytes = token_text (changed number tokens) ++ more })
         ≡ Ok (
           met ++ found_from (other + n) (changed number tokens),
@@ -39,7 +39,7 @@ module _ (Behind : List ℕ → Type 0) (form : ℕ → Form) where
         )
 
   abbrev pub Moves : Type 0
-  Moves = (start n : ℕ) (found : List Found) (all : List ℕ) (new : List Found) (next : Left) → IsBytes all → Behind next.bytes
+  Moves = (start n : ℕ) (found : List FoundSite) (all : List ℕ) (new : List FoundSite) (next : Left) → IsBytes all → Behind next.bytes
       → form start found (record { place = start + n; bytes = all }) ≡ Ok (new, next) → Told start n found all new next
 
 -- anything may stand behind, or nothing
@@ -72,7 +72,7 @@ text_behind number xs ys more =
     ∙ ap (λ t. t ++ more) (token_text-append (changed number xs) (changed number ys))
     ∙ append_assoc (token_text (changed number xs)) (token_text (changed number ys)) more
 
-sites_behind : (met : List Found) (start n size : ℕ) (xs ys : List Token) → size ≡ length (token_text xs)
+sites_behind : (met : List FoundSite) (start n size : ℕ) (xs ys : List Token) → size ≡ length (token_text xs)
     → (met ++ found_from (start + n) xs) ++ found_from (start + (n + size)) ys ≡ met ++ found_from (start + n) (xs ++ ys)
 sites_behind met start n size xs ys is =
     let place : start + (n + size) ≡ (start + n) + length (token_text xs) = omega (arith, is) in
@@ -112,7 +112,7 @@ module _ (Behind : List ℕ → Type 0) where
 
   module _ {A : Type 0} (reading : ℕ → Reading NoForm A) (form : A → ℕ → Form) (local : IsLocal reading) (law : (a : A)
       → Moves Behind (form a)) where
-    by_value_told : (start n : ℕ) (found : List Found) (all : List ℕ) (new : List Found) (a : A) (middle next : Left)
+    by_value_told : (start n : ℕ) (found : List FoundSite) (all : List ℕ) (new : List FoundSite) (a : A) (middle next : Left)
         (one : TookLocal reading start n all a middle) → Told Behind (form a) start (n + length one.taken) found one.rest new next
         → Told Behind (by_value reading form) start n found all new next
     by_value_told start n found all new a middle next one two =
@@ -152,7 +152,7 @@ module _ (Behind : List ℕ → Type 0) where
             by_value_told start n found all new got.first got.middle next one two
 
   module _ (form other : ℕ → Form) (first : Moves Anything form) (second : Moves Behind other) where
-    both_told : (start n : ℕ) (found : List Found) (all : List ℕ) (between : List Found) (middle : Left) (new : List Found)
+    both_told : (start n : ℕ) (found : List FoundSite) (all : List ℕ) (between : List FoundSite) (middle : Left) (new : List FoundSite)
         (next : Left) (one : Told Anything form start n found all between middle)
         → Told Behind other start (n + length (token_text one.tokens)) between one.rest new next
         → Told Behind (both form other) start n found all new next
@@ -225,7 +225,7 @@ site_tells wide optional start n found all new next bytes behind e =
     here : Left
     here = record { place = start + n; bytes = all }
 
-    at : ℕ → ℕ → Found
+    at : ℕ → ℕ → FoundSite
     at begin number = record { place = begin + n; wide = wide; optional = optional; number = number }
 
     go : Passed (number unfit (width wide) here) (λ number. value (found ++ at start number ∷ [])) new next

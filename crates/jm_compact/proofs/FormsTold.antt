@@ -13,7 +13,7 @@ use Rattle.jm_poolmap.specs.declared.forms.Item.{Item}
 use Rattle.jm_poolmap.specs.declared.forms.Item.TheVariants.{Bytes, Site, OptionalSite, ByteSite}
 use Rattle.jm_poolmap.specs.declared.forms.FramePart.{FramePart}
 use Rattle.jm_poolmap.specs.declared.forms.FramePart.TheVariants.{Distance, OneType, Types}
-use Rattle.jm_poolmap.specs.declared.site.Found.{Found}
+use Rattle.jm_poolmap.specs.declared.site.FoundSite.{FoundSite}
 use Rattle.jm_poolmap.specs.declared.walk.Walk.{Walk}
 use Rattle.jm_poolmap.specs.Attributes as attributes
 use Rattle.jm_poolmap.specs.Attributes.{Content, bootstrap_method, handler, body}
@@ -114,9 +114,9 @@ over_met form content walk next e = go (ended unfit (form walk.found) here) refl
     here : Left
     here = record { place = walk.place; bytes = content }
 
-    last : (a : List Found) (middle : Left) (b : List Found) (end : Left) → form walk.found here ≡ Ok (a, middle)
-        → ((length middle.bytes == 0 ≡ true) × ◌≡◌ {A = Outcome NoForm (List Found)} (Ok (a, middle)) (Ok (b, end)))
-        ⊎ ((length middle.bytes == 0 ≡ false) × ◌≡◌ {A = Outcome NoForm (List Found)} (Err tt) (Ok (b, end))) → b ≡ next.found
+    last : (a : List FoundSite) (middle : Left) (b : List FoundSite) (end : Left) → form walk.found here ≡ Ok (a, middle)
+        → ((length middle.bytes == 0 ≡ true) × ◌≡◌ {A = Outcome NoForm (List FoundSite)} (Ok (a, middle)) (Ok (b, end)))
+        ⊎ ((length middle.bytes == 0 ≡ false) × ◌≡◌ {A = Outcome NoForm (List FoundSite)} (Err tt) (Ok (b, end))) → b ≡ next.found
         → next.place ≡ walk.place + length content → All form content walk next
     last a middle b end is (inl holds) found place = record {
       end = middle;
@@ -126,7 +126,7 @@ over_met form content walk next e = go (ended unfit (form walk.found) here) refl
     }
     last a middle b end is (inr fails) found place = let e = fails.1 in cc
 
-    go : (outcome : Outcome NoForm (List Found)) → ended unfit (form walk.found) here ≡ outcome
+    go : (outcome : Outcome NoForm (List FoundSite)) → ended unfit (form walk.found) here ≡ outcome
         → behind_all (walk.place + length content) outcome ≡ Ok next → All form content walk next
     go (Err fault) is e = cc
     go (Ok r) is e =
@@ -136,7 +136,7 @@ over_met form content walk next e = go (ended unfit (form walk.found) here) refl
         (Ok (r.0, r.1)) got.rest) (ap (λ (w : Walk). w.found) same) (sym (ap (λ (w : Walk). w.place) same))
 
 -- a form that moves up to the last byte
-over_told : (form : ℕ → Form) (whole : Form) → ((found : List Found) (left : Left) → whole found left ≡ form left.place found left)
+over_told : (form : ℕ → Form) (whole : Form) → ((found : List FoundSite) (left : Left) → whole found left ≡ form left.place found left)
     → Moves Nothing form → (content : List ℕ) (walk next : Walk) → IsBytes content → over whole content walk ≡ Ok next
     → OverTold whole content walk next
 over_told form whole same law content walk next bytes e = go (over_met whole content walk next e)

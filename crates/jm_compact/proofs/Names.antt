@@ -11,7 +11,7 @@ use Rattle.std.specs.Prelude.{nat_eq}
 use Rattle.jm_bytes.proofs.Choice.{same_some}
 use Rattle.jm_bytes.proofs.Members.{contains_none, contains_here, contains_later, contains_cases, contains_map, from_map}
 use Rattle.jm_class.specs.Classes.{SlotData, Constant, Hole, ClassData, IsPoolFrom, slot_at}
-use Rattle.jm_poolmap.specs.declared.site.Found.{Found}
+use Rattle.jm_poolmap.specs.declared.site.FoundSite.{FoundSite}
 use Rattle.jm_poolmap.specs.declared.site.Site.{Site}
 use Rattle.jm_poolmap.specs.Live.{Leads, IsLive, first_number, number_of, TellsLive}
 use Rattle.jm_poolmap.specs.Sites.{rank, named_by, rank_of, rank_at, is_some_below, names_lower}
@@ -46,7 +46,7 @@ contained_slot (first ∷ items) item there = go (contains_cases first items ite
 
 -- the sites of a class were found, and pass the checks
 pub record Judged (c : ClassData) (sites : List Site) : Type 0 where
-  pub found : List Found
+  pub found : List FoundSite
   pub is : found_in c ≡ Some found
   pub constants : list_all (names_constant c.pool) found ≡ true
   pub lower : list_all (names_lower c.pool) c.pool ≡ true
@@ -55,7 +55,7 @@ pub record Judged (c : ClassData) (sites : List Site) : Type 0 where
 pub judged_parts : (c : ClassData) (sites : List Site) → sites_of c ≡ Some sites → Judged c sites
 judged_parts c sites e = go (found_in c) refl e
   where
-    checked : (found : List Found) → found_in c ≡ Some found → (a b : Bool) → list_all (names_constant c.pool) found ≡ a
+    checked : (found : List FoundSite) → found_in c ≡ Some found → (a b : Bool) → list_all (names_constant c.pool) found ≡ a
         → list_all (names_lower c.pool) c.pool ≡ b → cond (a && b) (Some (map site_of found)) None ≡ Some sites → Judged c sites
     checked found is true true constants lower e = record {
       found = found;
@@ -68,16 +68,16 @@ judged_parts c sites e = go (found_in c) refl e
     checked found is true false constants lower e = cc
     checked found is false b constants lower e = cc
 
-    go : (o : Option (List Found)) → found_in c ≡ o → option_and_then (judged c.pool) o ≡ Some sites → Judged c sites
+    go : (o : Option (List FoundSite)) → found_in c ≡ o → option_and_then (judged c.pool) o ≡ Some sites → Judged c sites
     go None is e = cc
     go (Some found) is e = checked found is (list_all (names_constant c.pool) found) (list_all (names_lower c.pool) c.pool) refl refl e
 
-pub judged_back : (c : ClassData) (found : List Found) → found_in c ≡ Some found → list_all (names_constant c.pool) found ≡ true
+pub judged_back : (c : ClassData) (found : List FoundSite) → found_in c ≡ Some found → list_all (names_constant c.pool) found ≡ true
     → list_all (names_lower c.pool) c.pool ≡ true → sites_of c ≡ Some (map site_of found)
 judged_back c found is constants lower = rw (is, constants, lower) refl
 
 -- a number at a site
-pub site_names : (pool : List SlotData) (found : Found) → names_constant pool found ≡ true → (found.number ≡ 0)
+pub site_names : (pool : List SlotData) (found : FoundSite) → names_constant pool found ≡ true → (found.number ≡ 0)
     ⊎ (is_some (rank_at pool found.number) ≡ true)
 site_names pool found e = go found.optional (nat_eq found.number 0) refl e
   where
@@ -237,9 +237,10 @@ module _ (c : ClassData) (sites : List Site) (flags : List Bool) (is_sites : sit
           ((λ up. subst (IsLive c) (sym same) (constant.0 up)), (λ live. constant.1 (subst (IsLive c) same live)))
 
   -- the number at a site is an optional 0 or that of a kept constant
-  pub site_kept : (found : List Found) → found_in c ≡ Some found → (f : Found) → Contains found f → (f.number ≡ 0)
+  pub site_kept : (found : List FoundSite) → found_in c ≡ Some found → (f : FoundSite) → Contains found f → (f.number ≡ 0)
       ⊎ IsKept c.pool flags f.number
-  site_kept found is f there = live_kept f.number (f.number, [], (found, is, contains_map (λ (g : Found). g.number) found f there), refl)
+  site_kept found is f there =
+      live_kept f.number (f.number, [], (found, is, contains_map (λ (g : FoundSite). g.number) found f there), refl)
 
 -- where each slot's constant is live, all flags are up
 pub all_up : (c : ClassData) (flags : List Bool) → TellsLive c flags → ((place : ℕ) → place < length c.pool

@@ -2,7 +2,7 @@
 use Rattle.std.proofs.Common.{◌≡◌, ℕ, suc, ◌+◌, ◌*◌, ◌^◌, ◌<◌, ◌≤◌, Bool, true, false, List, [], ◌∷◌, ◌++◌}
 use Rattle.std.proofs.Common.{length, Ok, refl, sym, ap, ◌∙◌, arith, append_assoc, length-append}
 use Rattle.std.proofs.lemmas.List.{map-append}
-use Rattle.jm_poolmap.specs.declared.site.Found.{Found}
+use Rattle.jm_poolmap.specs.declared.site.FoundSite.{FoundSite}
 use Rattle.jm_poolmap.specs.declared.walk.Walk.{Walk}
 use Rattle.jm_poolmap.specs.ComputedSites.{over}
 use Rattle.jm_poolmap.specs.Forms.{Form}
@@ -19,7 +19,7 @@ abbrev pub token_text : List Token → List ℕ
 token_text tokens = text_of (numbered tokens)
 
 -- the sites in tokens, the first of which has this place
-abbrev pub found_from : ℕ → List Token → List Found
+abbrev pub found_from : ℕ → List Token → List FoundSite
 found_from at [] = []
 found_from at (Plain bytes ∷ tokens) = found_from (at + length bytes) tokens
 found_from at (Number wide n ∷ tokens) =

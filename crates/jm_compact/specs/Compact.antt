@@ -5,11 +5,9 @@ use Rattle.std.specs.Prelude.{filter, take, drop, Option, Some, None, Result, Ok
 use Rattle.std.specs.Prelude.{if◌then◌else◌}
 use Rattle.std.specs.List.{zip}
 use Rattle.jm_class.specs.declared.class.ClassFault.{ClassFault}
-use Rattle.jm_class.specs.declared.class.ReadError.{ReadError}
-use Rattle.jm_class.specs.declared.class.ReadError.TheVariants.{Fault, Memory}
 use Rattle.jm_class.specs.Classes.{SlotData, Constant, Hole, ClassData, pool_text, class_text}
 use Rattle.jm_class.specs.ComputedClass.{class_of}
-use Rattle.jm_poolmap.specs.declared.site.Found.{Found}
+use Rattle.jm_poolmap.specs.declared.site.FoundSite.{FoundSite}
 use Rattle.jm_poolmap.specs.declared.site.Site.{Site}
 use Rattle.jm_poolmap.specs.ComputedLive.{flags_of}
 use Rattle.jm_poolmap.specs.Live.{TellsLive}
@@ -74,7 +72,7 @@ pub data IsCompact (c : ClassData) (text : List ℕ) : Type 0 where
 -- the same, computed
 
 -- a flag for each slot by the sites that were found, or no flag where none were
-abbrev pub flags_by : ClassData → Option (List Found) → List Bool
+abbrev pub flags_by : ClassData → Option (List FoundSite) → List Bool
 flags_by c None = []
 flags_by c (Some found) = flags_of c.pool (map (λ f. f.number) found)
 
@@ -99,9 +97,3 @@ with_text (Err fault) = Err fault
 -- the compact text of the class that the bytes are, or their fault
 abbrev pub compact_of : List ℕ → Result (List ℕ) ClassFault
 compact_of bytes = with_text (class_of bytes)
-
--- the text is the compact one, or the bytes have this fault, unless no memory is found
-abbrev pub Compacts : List ℕ → Result (List ℕ) ReadError → Type 0
-Compacts bytes (Ok text) = compact_of bytes ≡ Ok text
-Compacts bytes (Err (Fault fault)) = compact_of bytes ≡ Err fault
-Compacts bytes (Err Memory) = Unit {0}

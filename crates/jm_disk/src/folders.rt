@@ -4,7 +4,7 @@ ghost use Rattle.jm_outside.specs.Files.{Rising};
 
 use crate::file_error::{FileError, Reason};
 use crate::paths::{Kind, is_absence, kind_at, node_at, text_of};
-use jm_bytes::{List, NoMemory, Text};
+use jm_bytes::{List, Text};
 use std::alloc::Global;
 use std::fs;
 use std::fs::ReadDir;
@@ -112,26 +112,15 @@ fn add_entries<'a, R: Files + AllocGlobal>(
             Ok(kind) => kind,
             Err(e) => return Err(e.at(alloc, entry.path().to_string_lossy())),
         };
-        add_entry(alloc, inner, entry.file_name(), kind, tree)?;
-    }
-    Ok(())
-}
-
-/// Adds what stands in a folder to its tree.
-fn add_entry(
-    alloc: Global,
-    inner: &str,
-    name: &str,
-    kind: Kind,
-    tree: &mut Tree,
-) -> Result<(), FileError> {
-    if tree.entry_count >= MOST_ENTRIES {
-        return Err(FileError::from(Reason::TooMany));
-    }
-    tree.entry_count += 1;
-    match kind {
-        Kind::File => tree.names.push(format!(in alloc; "{inner}{name}")?)?,
-        Kind::Folder => tree.folders.push(format!(in alloc; "{inner}{name}/")?)?,
+        if tree.entry_count >= MOST_ENTRIES {
+            return Err(FileError::from(Reason::TooMany));
+        }
+        tree.entry_count += 1;
+        let name = entry.file_name();
+        match kind {
+            Kind::File => tree.names.push(format!(in alloc; "{inner}{name}")?)?,
+            Kind::Folder => tree.folders.push(format!(in alloc; "{inner}{name}/")?)?,
+        }
     }
     Ok(())
 }
@@ -145,24 +134,15 @@ fn in_order(alloc: Global, names: Vec<String>) -> Result<List<Text>, FileError>
     sorted.sort_unstable();
     let mut rising = List::new(alloc);
     for name in sorted {
-        push_above(&mut rising, name)?;
+        if !is_above(rising.as_slice(), name.as_bytes()) {
+            continue;
+        }
+        rising.push(Text::from_vec(name.into_bytes()))?;
     }
     Ok(rising)
 }
 
-/// Adds a name, unless it stands at or below the last.
-fn push_above(rising: &mut List<Text>, name: String) -> Result<(), NoMemory>
-    requires rising { Rising rising.old }
-    requires texts { All IsUtf8 rising.old }
-    ensures rising { Rising rising.new }
-    ensures texts { All IsUtf8 rising.new }
-{
-    if !is_above(rising.as_slice(), name.as_bytes()) {
-        return Ok(());
-    }
-    rising.push(Text::from_vec(name.into_bytes()))
-}
-
+/// Whether a name stands above the last of those that rise.
 fn is_above(names: &[Text], name: &[u8]) -> bool
     ensures { IsTrue result → Rising names.now → Rising (names.now ++ name.now ∷ []) }
 {

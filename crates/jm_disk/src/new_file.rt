@@ -89,12 +89,22 @@ fn make_beside<R: Files + AllocGlobal>(
     }
 }
 
-/// Makes a file in the folder of another one, by the first name that is free.
+/// Makes a file in the folder of another one, by the first name that is free: one that begins with
+/// the other one's, unless that is too long for more.
 fn open_beside<R: Files + AllocGlobal>(
     rt: &R,
     old: &OldFile,
 ) -> Result<(String, R::File), FileError> {
-    let front = front_of(old.path.as_str());
+    let due = old.path.as_str();
+    let start = match due.rfind('/') {
+        Some(slash) => slash + 1,
+        None => 0,
+    };
+    let front = if due.len() - start > MOST_NAME_BYTES {
+        due.get(..start).unwrap_or(due)
+    } else {
+        due
+    };
     for number in 0..MOST_NAMES {
         let path = format!(in rt.alloc(); "{front}.jm_tool-{number}")?;
         match open_new(rt, path.as_str(), old.mode) {
@@ -104,20 +114,6 @@ fn open_beside<R: Files + AllocGlobal>(
         }
     }
     Err(FileError::from(Reason::NoName))
-}
-
-/// What the path of a file beside another one begins with: that one's path, or only its folder
-/// where its name is too long for more.
-fn front_of(path: &str) -> &str {
-    let start = match path.rfind('/') {
-        Some(slash) => slash + 1,
-        None => 0,
-    };
-    if path.len() - start > MOST_NAME_BYTES {
-        path.get(..start).unwrap_or(path)
-    } else {
-        path
-    }
 }
 
 /// Adds bytes to the end of the file at a path, which is made where it isn't there.

@@ -29,28 +29,24 @@ pub fn open_for<R: Files + AllocGlobal>(
 ) -> Result<Option<PartedFile<R::File>>, FileError> {
     match kept {
         Some(file) if file.path.as_bytes() == path => Ok(Some(file)),
-        Some(_) | None => open_at(rt, text_of(path)?),
+        Some(_) | None => {
+            let path = text_of(path)?;
+            let file = match fs::open(rt, path) {
+                Ok(file) => file,
+                Err(e) if is_absence(e.kind()) => return Ok(None),
+                Err(e) => return Err(FileError::from(e)),
+            };
+            if !file.metadata()?.is_file() {
+                return Err(FileError::from(Reason::NotFile));
+            }
+            let path = String::from_str(rt.alloc(), path)?;
+            Ok(Some(PartedFile {
+                path,
+                file,
+                told_length: 0,
+            }))
+        }
     }
-}
-
-fn open_at<R: Files + AllocGlobal>(
-    rt: &R,
-    path: &str,
-) -> Result<Option<PartedFile<R::File>>, FileError> {
-    let file = match fs::open(rt, path) {
-        Ok(file) => file,
-        Err(e) if is_absence(e.kind()) => return Ok(None),
-        Err(e) => return Err(FileError::from(e)),
-    };
-    if !file.metadata()?.is_file() {
-        return Err(FileError::from(Reason::NotFile));
-    }
-    let path = String::from_str(rt.alloc(), path)?;
-    Ok(Some(PartedFile {
-        path,
-        file,
-        told_length: 0,
-    }))
 }
 
 impl<F: Read + Seek + OpenFile + Drop> PartedFile<F> {

@@ -48,7 +48,9 @@ pub enum Kind {
 pub fn kind_at<R: Files>(rt: &R, path: Path<'_>) -> Result<Kind, FileError> {
     let found = match fs::metadata(rt, path) {
         Ok(found) => found,
-        Err(e) if is_absence(e.kind()) && !is_link(rt, path) => {
+        Err(e)
+            if is_absence(e.kind())
+                && !fs::symlink_metadata(rt, path).is_ok_and(|link| link.is_symlink()) => {
             return Err(FileError::from(Reason::Vanished));
         }
         Err(e) => return Err(behind_link(e)),
@@ -59,13 +61,6 @@ pub fn kind_at<R: Files>(rt: &R, path: Path<'_>) -> Result<Kind, FileError> {
         Ok(Kind::Folder)
     } else {
         Err(FileError::from(Reason::NotListed))
-    }
-}
-
-fn is_link<R: Files>(rt: &R, path: Path<'_>) -> bool {
-    match fs::symlink_metadata(rt, path) {
-        Ok(found) => found.is_symlink(),
-        Err(_) => false,
     }
 }
 

@@ -47,7 +47,14 @@ fn read_all<F: Read>(
     bytes: &mut Vec<u8>,
 ) -> Result<(), FileError> {
     for _ in 0..u64::MAX {
-        let room = room_behind(bytes.len(), length);
+        // One more than the length leaves, so that a file that grew is known.
+        let room = match length {
+            Some(length) => (length as usize)
+                .saturating_sub(bytes.len())
+                .saturating_add(1)
+                .min(MOST_PIECE),
+            None => PIPE_PIECE,
+        };
         make_room(bytes, room, length)?;
         let count = read_piece(file, room, bytes)?;
         let end = bytes.len() as u64;
@@ -77,20 +84,6 @@ pub fn read_up_to<F: Read>(file: &mut F, count: usize, bytes: &mut Vec<u8>) -> R
     Err(FileError::from(Reason::TooLarge))
 }
 
-/// How many bytes a read asks for behind those that came: one more than the length leaves, so that
-/// a file that grew is known, but not more than a piece.
-fn room_behind(end: usize, length: Option<u64>) -> usize
-    ensures { result ≤ 262_144 }
-{
-    match length {
-        Some(length) => {
-            let rest = (length as usize).saturating_sub(end).saturating_add(1);
-            rest.min(MOST_PIECE)
-        }
-        None => PIPE_PIECE,
-    }
-}
-
 /// Makes room for a piece. Up to the length the room at most doubles, and hardly passes it.
 fn make_room(bytes: &mut Vec<u8>, room: usize, length: Option<u64>) -> Result<(), FileError>
     requires { room ≤ 262_144 }
@@ -104,25 +97,22 @@ fn make_room(bytes: &mut Vec<u8>, room: usize, length: Option<u64>) -> Result<()
     Ok(())
 }
 
-/// Reads once, to the end of what came.
+/// Reads once, to the end of what came. A read that a signal interrupts is tried again.
 fn read_piece<F: Read>(file: &mut F, room: usize, bytes: &mut Vec<u8>) -> Result<usize, FileError>
     requires { room ≤ 262_144 }
     ensures { IsOk result → length bytes.new.items ≤ length bytes.old.items + room }
 {
     let start = bytes.len();
     bytes.resize(start + room, 0)?;
-    let count = read_again(file, &mut bytes.as_mut_slice()[start..])?;
-    bytes.truncate(start.saturating_add(count));
-    Ok(count)
-}
-
-/// Reads once. A read that a signal interrupts is tried again.
-fn read_again<F: Read>(file: &mut F, into: &mut [u8]) -> io::Result<usize> {
     for _ in 0..u64::MAX {
-        match file.read(into) {
+        match file.read(&mut bytes.as_mut_slice()[start..]) {
+            Ok(count) => {
+                bytes.truncate(start.saturating_add(count));
+                return Ok(count);
+            }
             Err(e) if e.kind() == ErrorKind::Interrupted => {}
-            answer => return answer,
+            Err(e) => return Err(FileError::from(e)),
         }
     }
-    Err(io::Error::from(ErrorKind::Interrupted))
+    Err(FileError::from(io::Error::from(ErrorKind::Interrupted)))
 }

@@ -1,5 +1,5 @@
 //! Why entries are not extracted.
-ghost use Rattle.std.specs.Prelude.{◌≡◌, ◌∷◌, ◌++◌, ℕ, List, [], None, Ok, All, IfOk, map};
+ghost use Rattle.std.specs.Prelude.{◌≡◌, ℕ, List, None, Ok, All, IfOk, map};
 ghost use Rattle.jm_names.specs.NameFaults.{IsSound};
 ghost use Rattle.jm_names.specs.ByName.{RisesByName};
 ghost use Rattle.jm_texts.specs.NameRefusals.{first_bad_name, name_refusal};
@@ -9,7 +9,6 @@ ghost use Rattle.jm_extract.specs.Taken.{name_alone, taken_as};
 use crate::taking::TakenEntry;
 use jm_bytes::{NoMemory, Text};
 use jm_names::check_name;
-use jm_reader::NameView;
 use jm_texts::Refusal;
 use std::alloc::Global;
 
@@ -26,15 +25,6 @@ fn begins(entries: &[TakenEntry], front: &[u8]) -> bool
     }
 }
 
-/// A name with a slash behind it.
-fn as_folder(alloc: Global, name: &NameView) -> Result<Text, NoMemory>
-    ensures { IfOk result (λ folder. folder ≡ name.now ++ 47 ∷ []) }
-{
-    let mut folder = name.to_text(alloc)?;
-    folder.push(b'/')?;
-    Ok(folder)
-}
-
 /// The refusal of an entry whose name is another one's folder.
 fn clash_refusal(
     alloc: Global,
@@ -45,7 +35,8 @@ fn clash_refusal(
     ensures { IfOk result (λ refusal.
         refusal ≡ clash_refusal (map name_alone entries.now) (name_alone entry.now)) }
 {
-    let folder = as_folder(alloc, entry.name.view())?;
+    let mut folder = entry.name.view().to_text(alloc)?;
+    folder.push(b'/')?;
     if !begins(entries, folder.as_slice()) {
         return Ok(None);
     }

@@ -1,7 +1,7 @@
 ghost use Rattle.std.specs.Prelude.{◌≡◌};
 ghost use Rattle.std.specs.Cmp.Lexicographic.{slice_cmp};
 ghost use Rattle.std.specs.Ordering.{nat_cmp};
-ghost use Rattle.jm_extract.specs.Fronts.{AreBytes, IsFrontOf, front_of, order_of_fronts};
+ghost use Rattle.jm_extract.specs.Fronts.{front_of, order_of_fronts};
 
 use byteorder::{BigEndian, ByteOrder};
 use jm_reader::NameView;
@@ -66,36 +66,13 @@ fn order_of_fronts(front: &Front, other: &Front) -> Ordering
     front.first.cmp(&other.first).then(later)
 }
 
-/// The front of a name, which has bytes alone.
-fn front_of_bytes(name: &[u8]) -> Front
-    ensures front { result ≡ front_of name.now }
-    ensures bytes { AreBytes name.now }
-{
-    front_of(name)
-}
-
-/// How two names with their fronts stand to one another in byte order.
-fn order_of(front: &Front, name: &NameView, other_front: &Front, other: &NameView) -> Ordering
-    requires front { IsFrontOf front.now name.now }
-    requires other { IsFrontOf other_front.now other.now }
-    ensures { result ≡ slice_cmp nat_cmp name.now other.now }
-{
-    if front.first == 0 || other_front.first == 0 {
-        return name.order(other);
-    }
-    match order_of_fronts(front, other_front) {
-        Ordering::Equal => name.order(other),
-        order => order,
-    }
-}
-
 impl<'a> TakenName<'a> {
     /// The name of a view, which as a text is `text`.
     pub(crate) fn of(view: NameView<'a>, text: &[u8]) -> TakenName<'a>
         requires { text.now ≡ view }
         ensures { result ≡ view.entry }
     {
-        let front = front_of_bytes(text);
+        let front = front_of(text);
         TakenName { front, view }
     }
 
@@ -110,6 +87,12 @@ impl<'a> TakenName<'a> {
     pub fn order(&self, other: &TakenName) -> Ordering
         ensures { result ≡ slice_cmp nat_cmp self.now other.now }
     {
-        order_of(&self.front, &self.view, &other.front, &other.view)
+        if self.front.first == 0 || other.front.first == 0 {
+            return self.view.order(&other.view);
+        }
+        match order_of_fronts(&self.front, &other.front) {
+            Ordering::Equal => self.view.order(&other.view),
+            order => order,
+        }
     }
 }

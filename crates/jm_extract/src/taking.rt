@@ -1,5 +1,5 @@
 //! The entries of an image that are taken, by rising name, as its index says them.
-ghost use Rattle.std.specs.Prelude.{◌≡◌, ◌++◌, ℕ, List, All, IfOk, OnOk, IsPermutation, map};
+ghost use Rattle.std.specs.Prelude.{◌≡◌, ◌++◌, ℕ, List, All, IfOk, OnOk, map};
 ghost use Rattle.std.specs.List.{list_any};
 ghost use Rattle.jm_form.specs.Head.{IsFileOf};
 ghost use Rattle.jm_pattern.specs.ComputedMatching.{matches};
@@ -7,7 +7,7 @@ ghost use Rattle.jm_valid.specs.Opened.{Front};
 ghost use Rattle.jm_reader.specs.Listing.{entry_listed, handed};
 ghost use Rattle.jm_reader.specs.Look.{SoundIn};
 ghost use Rattle.jm_reader.specs.Walk.{entries_of, IsLater};
-ghost use Rattle.jm_names.specs.ByName.{NeverFalls, RisesByName};
+ghost use Rattle.jm_names.specs.ByName.{RisesByName};
 ghost use Rattle.jm_extract.specs.Taken.{is_included, named, taken, taken_alone, taken_among};
 ghost use Rattle.jm_extract.specs.Taken.{taken_as};
 
@@ -93,16 +93,6 @@ fn taken_by_slot<'a, R: Ledger>(
     Ok(taken)
 }
 
-/// The same entries in byte order of their names.
-fn sorted_by_name<'a>(entries: List<TakenEntry<'a>>) -> List<TakenEntry<'a>>
-    ensures moved { IsPermutation entries.entry result }
-    ensures sorted { (b : List ℕ) → NeverFalls (map (taken_as b) result) }
-{
-    let mut sorted = entries.into_vec();
-    sorted.sort_unstable_by(|one, other| one.name.order(&other.name));
-    List::from_vec(sorted)
-}
-
 /// The entries of an image whose names are no node's and, where patterns are given, are matched by
 /// one of them, by rising name, in each file of this index. Names are the index's: at one time one
 /// name at most takes memory of its own.
@@ -121,5 +111,7 @@ pub fn taken<'a, R: Ledger>(
     ensures reads { IsLater reads.old reads.new }
 {
     let entries = taken_by_slot(alloc, index, include, reads)?;
-    Ok(sorted_by_name(entries))
+    let mut sorted = entries.into_vec();
+    sorted.sort_unstable_by(|one, other| one.name.order(&other.name));
+    Ok(List::from_vec(sorted))
 }

@@ -1,20 +1,22 @@
 -- Texts that rise: they are those that were given, no two of them are the same, and there is one such list.
-use Rattle.std.proofs.Common.{◌≡◌, ◌≢◌, ℕ, ◌-◌, ◌⊎◌, inl, inr, List, [], ◌∷◌, length, reverse, All, AllPairs}
+use Rattle.std.proofs.Common.{◌≡◌, ◌≢◌, ℕ, ◌-◌, ◌⊎◌, inl, inr, List, [], ◌∷◌, ◌++◌, length, reverse, All, AllPairs}
 use Rattle.std.proofs.Common.{Contains, refl, sym, ap, ◌∙◌, subst, arith}
-use Rattle.std.proofs.lemmas.List.{get_or-reverse, length-reverse}
-use Rattle.std.proofs.lemmas.List.Elements.{All-nil, All-cons, All-contains}
+use Rattle.std.proofs.lemmas.List.{get_or-reverse, length-reverse, map-append}
+use Rattle.std.proofs.lemmas.List.Elements.{All-nil, All-cons, All-contains, All-head, All-tail}
 use Rattle.std.proofs.lemmas.List.Kept.{AllPairs-cons}
 use Rattle.std.proofs.lemmas.List.Sorted.{Contains-permutation, IsPermutation-reverse, IsPermutation-sym}
 use Rattle.std.proofs.lemmas.Map.Lookups.{exact_bytes}
 use Rattle.std.specs.Cmp.Lexicographic.{slice_cmp, nat_list_cmp_total}
 use Rattle.std.specs.Ordering.{is_lt, match_ordering, nat_cmp, ordering_reverse}
+use Rattle.std.specs.declared.alloc.Global.{Global}
 use Rattle.std.specs.declared.cmp.Ordering.{Ordering}
 use Rattle.std.specs.declared.cmp.Ordering.TheVariants.{Less, Equal, Greater}
+use Rattle.std.specs.declared.vec.Vec.{Vec}
 use Rattle.jm_bytes.proofs.ByteOrderLaws.{before_apart, one_way}
 use Rattle.jm_bytes.proofs.Members.{all_from_contains, contains_here, contains_later, contains_cases, contains_none}
 use Rattle.jm_bytes.proofs.Pairs.{pairs_none, pairs_head, pairs_tail, pairs_weaker}
 use Rattle.jm_bytes.proofs.SameOrder.{same_order}
-use Rattle.jm_form.specs.Rising.{rising, with_placed}
+use Rattle.jm_form.specs.Rising.{items_of, rising, with_placed}
 
 abbrev Texts : Type 0
 Texts = List (List ℕ)
@@ -73,6 +75,24 @@ from_rising (text ∷ texts) g there =
       | inl same ↦ subst (Contains (text ∷ texts)) same (contains_here text texts)
       | inr later ↦ contains_later text texts g (from_rising texts g later)
     ]
+
+-- What holds of them
+
+placed_all : (P : List ℕ → Type 0) (text : List ℕ) (texts : List (List ℕ)) → P text → All P texts → All P (with_placed text texts)
+placed_all P text [] this all = All-cons P text [] this all
+placed_all P text (first ∷ texts) this all = go (slice_cmp nat_cmp text first) (placed_all P text texts this (All-tail P first texts all))
+  where
+    go : (o : Ordering) → All P (with_placed text texts) → All P (match_ordering o (text ∷ first ∷ texts) (first ∷ texts)
+        (first ∷ with_placed text texts))
+    go Less rest = All-cons P text (first ∷ texts) this all
+    go Equal rest = all
+    go Greater rest = All-cons P first (with_placed text texts) (All-head P first texts all) rest
+
+-- what holds of all texts holds of them rising
+pub rising_all : (P : List ℕ → Type 0) (texts : List (List ℕ)) → All P texts → All P (rising texts)
+rising_all P [] all = all
+rising_all P (text ∷ texts) all =
+    placed_all P text (rising texts) (All-head P text texts all) (rising_all P texts (All-tail P text texts all))
 
 -- They rise
 
@@ -148,3 +168,10 @@ turned_differ texts differ i j d before below same =
 
 pub falling_differ : (texts : Texts) → AllPairs (λ a b. a ≢ b) (reverse (rising texts))
 falling_differ texts = turned_differ (rising texts) (rising_differ texts)
+
+-- Owned texts
+
+pub items_push : (old new : List (Vec ℕ Global)) (v : Vec ℕ Global) (text : List ℕ) → new ≡ old ++ v ∷ [] → v.items ≡ text
+    → items_of new ≡ items_of old ++ text ∷ []
+items_push old new v text put is =
+    ap items_of put ∙ map-append (λ (w : Vec ℕ Global). w.items) old (v ∷ []) ∙ ap (λ t. items_of old ++ t ∷ []) is

@@ -6,6 +6,7 @@ pub mod Entries
 pub mod Greedy
 pub mod Head
 pub mod Layout
+pub mod ModuleFiles
 pub mod Nodes
 pub mod Overlap
 pub mod Places

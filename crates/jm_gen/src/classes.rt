@@ -53,32 +53,26 @@ fn pool<'a>(
     Ok(List::from_vec(Vec::from_slice(alloc, &slots)?))
 }
 
-/// The code of the method, which gives the class's number.
-fn code<'a>(alloc: Global) -> Result<Code<'a>, NoMemory>
-    ensures { IfOk result (λ made. code_of made ≡ code) }
+/// `public static long v()`, which gives the class's number.
+fn methods<'a>(alloc: Global) -> Result<List<Member<'a>>, NoMemory>
+    ensures { IfOk result (λ methods. map member_of methods ≡ method ∷ []) }
 {
-    let mut attributes = List::new(alloc);
-    attributes.push(Plain {
+    let mut lines = List::new(alloc);
+    lines.push(Plain {
         name: 8,
         bytes: &[0, 1, 0, 0, 0, 1],
     })?;
-    Ok(Code {
+    let code = Code {
         max_stack: 2,
         max_locals: 0,
         code: &[0x14, 0x00, 0x0B, 0xAD],
         handlers: &[],
-        attributes,
-    })
-}
-
-/// `public static long v()`.
-fn methods<'a>(alloc: Global) -> Result<List<Member<'a>>, NoMemory>
-    ensures { IfOk result (λ methods. map member_of methods ≡ method ∷ []) }
-{
+        attributes: lines,
+    };
     let mut attributes = List::new(alloc);
     attributes.push(Attribute {
         name: 7,
-        body: Body::Code(code(alloc)?),
+        body: Body::Code(code),
     })?;
     let mut methods = List::new(alloc);
     methods.push(Member {
@@ -90,18 +84,6 @@ fn methods<'a>(alloc: Global) -> Result<List<Member<'a>>, NoMemory>
     Ok(methods)
 }
 
-/// The attribute that names the source.
-fn attributes<'a>(alloc: Global) -> Result<List<Attribute<'a>>, NoMemory>
-    ensures { IfOk result (λ attributes. map attribute_of attributes ≡ source_file ∷ []) }
-{
-    let mut attributes = List::new(alloc);
-    attributes.push(Attribute {
-        name: 9,
-        body: Body::Plain(&[0, 10]),
-    })?;
-    Ok(attributes)
-}
-
 /// The class of a path, a source and a number.
 fn class_of<'a>(
     alloc: Global,
@@ -111,6 +93,11 @@ fn class_of<'a>(
 ) -> Result<Class<'a>, NoMemory>
     ensures { IfOk result (λ class. plain class ≡ class_with path.now source.now value.now) }
 {
+    let mut attributes = List::new(alloc);
+    attributes.push(Attribute {
+        name: 9,
+        body: Body::Plain(&[0, 10]),
+    })?;
     Ok(Class {
         minor: 0,
         major: 61,
@@ -121,7 +108,7 @@ fn class_of<'a>(
         interfaces: List::new(alloc),
         fields: List::new(alloc),
         methods: methods(alloc)?,
-        attributes: attributes(alloc)?,
+        attributes,
     })
 }
 

@@ -1,29 +1,38 @@
--- What a search for a newline answers, as the parts that it cuts.
-use Rattle.std.proofs.Common.{◌≡◌, ◌<◌, ℕ, suc, List, ◌∷◌, ◌++◌, sym, ap, ◌∙◌, subst, length, take, drop, get_or, arith}
-use Rattle.std.proofs.lemmas.Bool.{eqb-true, false_from_ne_true}
-use Rattle.std.proofs.Math.Seq.{drop-cons}
-use Rattle.std.proofs.lemmas.List.{get_or_default, get_or-take, length-take, take-append-drop}
-use Rattle.memchr.specs.Find.{NoneBefore, Nowhere, Passes}
+-- What stands before and after the first newline of a text.
+use Rattle.std.proofs.Common.{◌≡◌, ◌==◌, ◌<◌, ℕ, true, false, List, [], ◌∷◌, ◌++◌, refl, sym, ap, ◌∙◌, subst, length, get_or, arith}
+use Rattle.std.specs.List.{after_first, before_first, list_any, position_or_len}
+use Rattle.std.proofs.lemmas.Bool.{eqb-true, false_from_ne_true, false≢true}
+use Rattle.std.proofs.lemmas.List.{get_or-take, length-take}
+use Rattle.std.proofs.lemmas.List.Folds.{list_any_at}
+use Rattle.std.proofs.lemmas.List.Sums.{fails_before_first}
+use Rattle.jm_bytes.proofs.Cuts.{first_parts}
 use Rattle.jm_jrt.specs.Lines.{is_newline}
 use Rattle.jm_jrt.specs.Sessions.{IsFree}
 
-pub none_free : (bytes : List ℕ) → Nowhere (Passes is_newline bytes) 0 (length bytes) → IsFree bytes
-none_free bytes none k d at = ap is_newline (get_or_default bytes k d 0 at) ∙ false_from_ne_true (is_newline (get_or bytes k 0))
-    (none k (omega arith) at)
+pub none_free : (text : List ℕ) → list_any is_newline text ≡ false → IsFree text
+none_free text none = λ (k d : ℕ) below.
+    false_from_ne_true (is_newline (get_or text k d)) (λ is. false≢true (sym none ∙ list_any_at is_newline text k d below is))
 
-pub cut_front : (bytes : List ℕ) (at : ℕ) (front : List ℕ) → NoneBefore (Passes is_newline bytes) 0 (length bytes) at
-    × Passes is_newline bytes at → front ≡ take at bytes → IsFree front
-cut_front bytes at front found is = subst IsFree (sym is) (λ (k d : ℕ) below.
-    let within = found.0.high in
-    let len = length-take at bytes in
-    let inside : k < at = omega arith in
-    ap is_newline (get_or-take at bytes k d inside ∙ get_or_default bytes k d 0 (omega arith))
-    ∙ false_from_ne_true (is_newline (get_or bytes k 0)) (found.0.before k (omega arith) inside))
+pub front_free : (text front : List ℕ) → front ≡ before_first is_newline text → IsFree front
+front_free text front is = subst IsFree (sym is) (λ (k d : ℕ) below.
+    let len = length-take (position_or_len is_newline text) text in
+    let inside : k < position_or_len is_newline text = omega arith in
+    ap is_newline (get_or-take (position_or_len is_newline text) text k d inside) ∙ fails_before_first is_newline text k d inside)
 
-pub cut_whole : (bytes : List ℕ) (at : ℕ) (front there behind : List ℕ) → NoneBefore (Passes is_newline bytes) 0 (length bytes) at
-    × Passes is_newline bytes at → front ≡ take at bytes → there ≡ drop at bytes → behind ≡ drop 1 there → bytes ≡ front ++ 10 ∷ behind
-cut_whole bytes at front there behind found is from after =
-    let cut : drop at bytes ≡ 10 ∷ drop (suc at) bytes = drop-cons bytes at 0 found.0.high ∙ ap (λ (b : ℕ). b ∷ drop (suc at) bytes)
-    (eqb-true (get_or bytes at 0) 10 found.1) in
-    let rest : behind ≡ drop (suc at) bytes = after ∙ ap (drop 1) (from ∙ cut) in
-    sym (take-append-drop at bytes) ∙ rw (is, rest) (ap (λ (t : List ℕ). take at bytes ++ t) cut)
+pub whole_cut : (text front behind : List ℕ) → list_any is_newline text ≡ true → front ≡ before_first is_newline text
+    → behind ≡ after_first is_newline text → text ≡ front ++ 10 ∷ behind
+whole_cut text front behind some before after =
+    let cut = first_parts is_newline text 0 some in
+    let newline : cut.0 ≡ 10 = eqb-true cut.0 10 cut.1 in
+    sym cut.2 ∙ ap (λ (n : ℕ). before_first is_newline text ++ n ∷ after_first is_newline text) newline
+    ∙ ap (λ (t : List ℕ). t ++ 10 ∷ after_first is_newline text) (sym before) ∙ ap (λ (t : List ℕ). front ++ 10 ∷ t) (sym after)
+
+-- a test whether a text has a byte
+
+pub no_bytes : (text : List ℕ) → (length text == 0) ≡ true → text ≡ []
+no_bytes [] test = refl
+no_bytes (b ∷ text) test = let none = eqb-true (length (b ∷ text)) 0 test in absurd (omega arith)
+
+pub some_bytes : (text : List ℕ) → (length text == 0) ≡ false → 0 < length text
+some_bytes [] test = absurd (false≢true (sym test))
+some_bytes (b ∷ text) test = omega arith

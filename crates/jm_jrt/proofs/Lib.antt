@@ -10,6 +10,7 @@ pub mod Vectors
 pub mod FreeLaws
 pub mod LineLaws
 pub mod ListLaws
+pub mod OwnerLaws
 pub mod WithinLaws
 pub mod SessionEnds
 pub mod SessionSteps

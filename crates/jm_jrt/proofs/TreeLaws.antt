@@ -15,8 +15,8 @@ use Rattle.jm_reader.specs.Look.{head}
 use Rattle.jm_reader.proofs.HeadLaws.{head_is, head_valid}
 use Rattle.jm_jrt.specs.declared.jrt_error.JrtError.{JrtError}
 use Rattle.jm_jrt.specs.declared.jrt_error.JrtError.TheVariants.{BadNode, NotThere}
-use Rattle.jm_jrt.specs.Stat.{owner_read, stat, stat_read}
-use Rattle.jm_jrt.specs.TreesShown.{ShowsTrees}
+use Rattle.jm_jrt.specs.Stat.{owner, owner_read, stat, stat_read}
+use Rattle.jm_jrt.specs.TreesShown.{IsItemOfTrees, IsOwnerOfTrees, ShowsTrees}
 use Rattle.jm_jrt.proofs.TreeCases.{stat_of_tree}
 use Rattle.jm_jrt.proofs.TreeContents.{HasSections}
 use Rattle.jm_jrt.proofs.TreeOwners.{owner_of_tree}
@@ -51,6 +51,17 @@ trees_with b resources has (h, nodes) (g, valid, same) = record {
   where
     nodes_here : NodesAs b (head b) (names_of resources)
     nodes_here = subst (λ h. NodesAs b h (names_of resources)) (sym (head_is b h nodes.header)) nodes
+
+-- what stands at a path is what the trees have there, and so is the first full owner
+pub item_shown : (b path : List ℕ) (h : Header) (item : Result TreeItem JrtError) → header_of b ≡ Ok h → HasSections h
+    → item ≡ stat b path → IsItemOfTrees b path item
+item_shown b path h item read has is = λ m stands nodes.
+    is ∙ (trees_with b m (subst HasSections (sym (head_is b h read)) has) nodes stands).stats path
+
+pub owner_shown : (b path : List ℕ) (h : Header) (full : Result (Option (List ℕ)) JrtError) → header_of b ≡ Ok h → HasSections h
+    → full ≡ owner b path → IsOwnerOfTrees b path full
+owner_shown b path h full read has is = λ m stands nodes.
+    is ∙ (trees_with b m (subst HasSections (sym (head_is b h read)) has) nodes stands).owners path
 
 -- of bytes
 pub trees_shown : (b : List ℕ) (resources : List (List ℕ × List ℕ)) → ((k : ℕ) → slice_index b k < 256)

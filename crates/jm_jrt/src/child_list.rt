@@ -1,7 +1,6 @@
-ghost use Rattle.std.specs.Prelude.{◌≡◌, false, [], IfSome, IfNone};
-ghost use Rattle.jm_form.specs.declared.trees.Holds.TheVariants.{Children};
+ghost use Rattle.std.specs.Prelude.{◌≡◌, IfSome, IfNone};
 ghost use Rattle.jm_reader.specs.Walk.{IsLater};
-ghost use Rattle.jm_jrt.specs.Listed.{IsRead, rest_of, roots_if};
+ghost use Rattle.jm_jrt.specs.Listed.{IsRead, rest_of};
 ghost use Rattle.jm_jrt.specs.Views.{count_of, IsFirst};
 
 use crate::owners::{Owned, owner_at};
@@ -51,26 +50,6 @@ impl<'a> Model for ChildList<'a> {
     ghost invariant = { λ a. IsRead a.index.bytes a.left };
 }
 
-/// The first of the roots that are there, and whether `/packages` follows it.
-fn root_child<'a>(modules: bool, packages: bool) -> Option<(Child<'a>, bool)>
-    ensures child { IfSome result (λ r. IsFirst (Children (roots_if modules packages)) r.0
-        (Children (roots_if false r.1))) }
-    ensures end { IfNone result (roots_if modules packages ≡ []) }
-{
-    let (base, rest): (&'a [u8], bool) = match (modules, packages) {
-        (true, packages) => (b"/modules", packages),
-        (false, true) => (b"/packages", false),
-        (false, false) => return None,
-    };
-    let name = NameView::of(&Pieces {
-        module: &[],
-        parent: &[],
-        base,
-        ext: &[],
-    });
-    Some((Child::Entry(name), rest))
-}
-
 impl<'a> ChildList<'a> {
     /// The list of the roots that are there, or of what a content without a bad word tells.
     pub(crate) fn of(index: &Index<'a>, left: ToCome<'a>) -> ChildList<'a>
@@ -106,25 +85,32 @@ impl<'a> ChildList<'a> {
     {
         match self.left {
             ToCome::Roots { modules, packages } => {
-                let (child, packages) = root_child(modules, packages)?;
+                let (base, packages): (&'a [u8], bool) = match (modules, packages) {
+                    (true, packages) => (b"/modules", packages),
+                    (false, true) => (b"/packages", false),
+                    (false, false) => return None,
+                };
                 self.left = ToCome::Roots {
                     modules: false,
                     packages,
                 };
-                Some(child)
+                Some(Child::Entry(NameView::of(&Pieces {
+                    module: &[],
+                    parent: &[],
+                    base,
+                    ext: &[],
+                })))
             }
             ToCome::Words { content, next } => {
-                // `next` is below this, and so the number behind it is a `usize`
-                let _count = word_count(content);
                 let name = name_at(&self.index, content, next, reads)?;
+                prove!(next < word_count(content));
                 let next = next + 1;
                 self.left = ToCome::Words { content, next };
                 Some(Child::Entry(name))
             }
             ToCome::Pairs { content, next } => {
-                // `next` is below this, and so the number behind it is a `usize`
-                let _count = pair_count(content);
                 let Owned { empty, module } = owner_at(&self.index, content, next, reads)?;
+                prove!(next < pair_count(content));
                 let next = next + 1;
                 self.left = ToCome::Pairs { content, next };
                 Some(Child::Owner { empty, module })

@@ -7,7 +7,7 @@ ghost use Rattle.jm_jrt.specs.Reply as reply;
 ghost use Rattle.jm_jrt.specs.Stat as answers;
 
 use crate::node::Node;
-use crate::replies::{error_reply, extend_children, line, named, numbered};
+use crate::replies::{self, error_reply, extend_children, line, named, numbered};
 use crate::trees::{children, owner, stat};
 use jm_bytes::{Meter, NoMemory, Steps, Text, extend};
 use jm_names::{cut_at_first, to_modified};
@@ -86,16 +86,6 @@ fn answer_ls<H: Ledger, R: Ledger>(
     Ok(text)
 }
 
-/// The path of the package of a name.
-fn package_path(alloc: Global, name: &[u8]) -> Result<Vec<u8>, NoMemory>
-    ensures { IfOk result (λ path. path.items ≡ codes "/packages/" ++ name.now) }
-{
-    let mut path = Vec::new(alloc);
-    extend(&mut path, b"/packages/")?;
-    extend(&mut path, name)?;
-    Ok(path)
-}
-
 /// The reply of `owner` with the name of a package.
 fn answer_owner<H: Ledger, R: Ledger>(
     alloc: Global,
@@ -110,44 +100,14 @@ fn answer_owner<H: Ledger, R: Ledger>(
     ensures hashes { RisesAtMost hashes.old hashes.new 2 }
     ensures reads { IsLater reads.old reads.new }
 {
-    let path = package_path(alloc, name)?;
+    let mut path = Vec::new(alloc);
+    extend(&mut path, b"/packages/")?;
+    extend(&mut path, name)?;
     match owner(image, path.as_slice(), hashes, reads) {
         Err(error) => error_reply(alloc, error),
         Ok(None) => line(alloc, b"none"),
         Ok(Some(module)) => named(alloc, b"owner ", module),
     }
-}
-
-/// The text of the reply to a line.
-fn reply_to<H: Ledger, R: Ledger>(
-    alloc: Global,
-    image: &Image,
-    request: &[u8],
-    hashes: &mut Steps<H>,
-    reads: &mut Meter<R>,
-) -> Result<Vec<u8>, NoMemory>
-    requires { reads.old.bytes ≡ image.now }
-    ensures reply { IfOk result (λ text. text.items ≡ reply.reply image.now request.now) }
-    ensures hashes { RisesAtMost hashes.old hashes.new 4 }
-    ensures reads { reply.IsWithin (reply.line_bytes image.now request.now) reads.old reads.new }
-{
-    let Some((verb, argument)) = cut_at_first(b' ', request) else {
-        return line(alloc, b"error Request");
-    };
-    let argument = to_modified(alloc, argument)?;
-    if verb == b"find".as_slice() {
-        return answer_find(alloc, image, argument.as_slice(), hashes, reads);
-    }
-    if verb == b"stat".as_slice() {
-        return answer_stat(alloc, image, argument.as_slice(), hashes, reads);
-    }
-    if verb == b"ls".as_slice() {
-        return answer_ls(alloc, image, argument.as_slice(), hashes, reads);
-    }
-    if verb == b"owner".as_slice() {
-        return answer_owner(alloc, image, argument.as_slice(), hashes, reads);
-    }
-    line(alloc, b"error Request")
 }
 
 /// The reply to a line of a session, which is given without its newline (this project's rule).
@@ -166,5 +126,26 @@ pub fn answer<H: Ledger, R: Ledger>(
     ensures hashes { RisesAtMost hashes.old hashes.new 4 }
     ensures reads { reply.IsWithin (reply.line_bytes image.now line.now) reads.old reads.new }
 {
-    Ok(Text::from_vec(reply_to(alloc, image, line, hashes, reads)?))
+    let Some((verb, argument)) = cut_at_first(b' ', line) else {
+        return Ok(Text::from_vec(replies::line(alloc, b"error Request")?));
+    };
+    let argument = to_modified(alloc, argument)?;
+    let argument = argument.as_slice();
+    if verb == b"find".as_slice() {
+        let text = answer_find(alloc, image, argument, hashes, reads)?;
+        return Ok(Text::from_vec(text));
+    }
+    if verb == b"stat".as_slice() {
+        let text = answer_stat(alloc, image, argument, hashes, reads)?;
+        return Ok(Text::from_vec(text));
+    }
+    if verb == b"ls".as_slice() {
+        let text = answer_ls(alloc, image, argument, hashes, reads)?;
+        return Ok(Text::from_vec(text));
+    }
+    if verb == b"owner".as_slice() {
+        let text = answer_owner(alloc, image, argument, hashes, reads)?;
+        return Ok(Text::from_vec(text));
+    }
+    Ok(Text::from_vec(replies::line(alloc, b"error Request")?))
 }

@@ -1,8 +1,7 @@
 //! A session: lines come from a source, in whatever pieces, and their replies go to a sink.
-ghost use Rattle.std.specs.Prelude.{◌≡◌, ◌+◌, ◌*◌, ◌<◌, ◌≤◌, ◌∷◌, ◌++◌, [], length, take};
+ghost use Rattle.std.specs.Prelude.{◌≡◌, ◌+◌, ◌*◌, ◌<◌, ◌≤◌, ◌++◌, [], length, take};
 ghost use Rattle.std.specs.Prelude.{option_map};
-ghost use Rattle.std.specs.Prelude.{Err, IfErr, IfNone, IfOk, IfSome};
-ghost use Rattle.std.specs.Prelude.{IsErrOf, IsFalse, IsOk, IsTrue};
+ghost use Rattle.std.specs.Prelude.{Err, IfErr, IfOk, IsErrOf, IsOk};
 ghost use Rattle.std.specs.Prelude.{OnErr, OnOk};
 ghost use Rattle.jm_bytes.specs.Metered.{RisesAtMost};
 ghost use Rattle.jm_outside.specs.Outcome.{CountsFaults, Shows, Told};
@@ -14,9 +13,9 @@ ghost use Rattle.jm_jrt.specs.Sessions.{Passes, PutFails, Refuses, Serves, momen
 use crate::requests::answer;
 use crate::serve_error::ServeError;
 use jm_bytes::{Meter, NoMemory, Steps, extend};
+use jm_names::cut_at_first;
 use jm_outside::{Sink, SinkError, Source};
 use jm_valid::Image;
-use memchr::memchr;
 use std::alloc::Global;
 use std::sync::ledger::Ledger;
 
@@ -80,38 +79,6 @@ fn put_reply<O: Sink, H: Ledger, R: Ledger>(
     }
 }
 
-/// Puts the reply to the line that the part and these bytes make, and empties the part.
-fn put_joined<O: Sink, H: Ledger, R: Ledger>(
-    alloc: Global,
-    image: &Image,
-    part: &mut Vec<u8>,
-    bytes: &[u8],
-    out: &mut O,
-    hashes: &mut Steps<H>,
-    reads: &mut Meter<R>,
-) -> Result<(), ServeError>
-    requires { reads.old.bytes ≡ image.now }
-    ensures ok { OnOk result (O.content out.new
-        ≡ option_map (λ old. old ++ reply image.now (part.old.items ++ bytes.now))
-        (O.content out.old)) }
-    ensures part { OnOk result (part.new.items ≡ []) }
-    ensures err { IfErr result (λ error. PutFails error
-        (reply image.now (part.old.items ++ bytes.now)) (O.content out.old) (O.content out.new)) }
-    ensures faults { CountsFaults (O.faults out.old) (O.faults out.new) (IsOk result)
-        (IsErrOf result ServeError.WriteFault) }
-    ensures hashes { RisesAtMost hashes.old hashes.new 4 }
-    ensures reads { IsWithin (line_bytes image.now (part.old.items ++ bytes.now))
-        reads.old reads.new }
-{
-    if part.is_empty() {
-        return put_reply(alloc, image, bytes, out, hashes, reads);
-    }
-    extend(part, bytes)?;
-    put_reply(alloc, image, part.as_slice(), out, hashes, reads)?;
-    part.clear();
-    Ok(())
-}
-
 /// Answers the line that the part and these bytes make.
 fn end_line<O: Sink, H: Ledger, R: Ledger>(
     alloc: Global,
@@ -138,8 +105,13 @@ fn end_line<O: Sink, H: Ledger, R: Ledger>(
         reads.old reads.new }
 {
     check_line(progress.lines, progress.part.len() + bytes.len())?;
-    put_joined(alloc, image, &mut progress.part, bytes, out, hashes, reads)?;
     progress.lines += 1;
+    if progress.part.is_empty() {
+        return put_reply(alloc, image, bytes, out, hashes, reads);
+    }
+    extend(&mut progress.part, bytes)?;
+    put_reply(alloc, image, progress.part.as_slice(), out, hashes, reads)?;
+    progress.part.clear();
     Ok(())
 }
 
@@ -160,18 +132,6 @@ fn keep_part(progress: &mut Progress, bytes: &[u8]) -> Result<(), ServeError>
     check_line(progress.lines, progress.part.len() + bytes.len())?;
     extend(&mut progress.part, bytes)?;
     Ok(())
-}
-
-/// What stands before and after the first newline.
-fn cut_line(bytes: &[u8]) -> Option<(&[u8], &[u8])>
-    ensures cut { IfSome result (λ cut. bytes.now ≡ cut.0.now ++ 10 ∷ cut.1.now) }
-    ensures free { IfSome result (λ cut. IsFree cut.0.now) }
-    ensures none { IfNone result (IsFree bytes.now) }
-{
-    let at = memchr(b'\n', bytes)?;
-    let (before, from_there) = bytes.split_at(at);
-    let (_, after) = from_there.split_at(1);
-    Some((before, after))
 }
 
 /// Answers the lines that end in a piece of the input, and keeps what follows them.
@@ -201,7 +161,7 @@ fn take_piece<O: Sink, H: Ledger, R: Ledger>(
     ensures reads { IsLater reads.old reads.new }
 {
     let mut rest = piece;
-    while let Some((bytes, behind)) = cut_line(rest) {
+    while let Some((bytes, behind)) = cut_at_first(b'\n', rest) {
         end_line(alloc, image, progress, bytes, out, hashes, reads)?;
         rest = behind;
     }
@@ -274,14 +234,6 @@ fn serve_ended<I: Source, O: Sink, H: Ledger, R: Ledger>(
     }
 }
 
-/// Some bytes of a line have come.
-fn has_bytes(part: &Vec<u8>) -> bool
-    ensures yes { IsTrue result → 0 < length part.now.items }
-    ensures no { IsFalse result → part.now.items ≡ [] }
-{
-    !part.is_empty()
-}
-
 /// Answers each line of the input until its end, and gives the number of lines (this project's
 /// rule). Each reply is one `put`. A line ends at a newline; a last one without a newline counts
 /// where it has a byte. How the source cuts its bytes shows nowhere.
@@ -309,9 +261,10 @@ pub fn serve<I: Source, O: Sink, H: Ledger, R: Ledger>(
     ensures reads { IsLater reads.old reads.new }
 {
     let progress = serve_ended(alloc, image, input, out, hashes, reads)?;
-    if has_bytes(&progress.part) {
-        put_reply(alloc, image, progress.part.as_slice(), out, hashes, reads)?;
-        return Ok(progress.lines + 1);
+    let last = progress.part.as_slice();
+    if last.is_empty() {
+        return Ok(progress.lines);
     }
-    Ok(progress.lines)
+    put_reply(alloc, image, last, out, hashes, reads)?;
+    Ok(progress.lines + 1)
 }

@@ -20,7 +20,7 @@ use crate::owners::{find_owner, first_full};
 use crate::paths::{has_children, is_package, node_path};
 use crate::words::{Form, check};
 use jm_bytes::{Meter, Steps};
-use jm_form::{Header, Row};
+use jm_form::Row;
 use jm_names::{cut_at_last, is_node};
 use jm_reader::{find, find_row_in};
 use jm_valid::{Image, Index};
@@ -189,35 +189,6 @@ fn node_content<'a, H: Ledger, R: Ledger>(
     Some(find(image, node_path(path)?, hashes, reads)?.bytes)
 }
 
-/// What stands at a path, whether or not the trees of some resources are there.
-fn stat_in<'a, H: Ledger, R: Ledger>(
-    image: &Image<'a>,
-    path: &[u8],
-    hashes: &mut Steps<H>,
-    reads: &mut Meter<R>,
-) -> Result<Node<'a>, JrtError>
-    requires { reads.old.bytes ≡ image.now }
-    ensures item { item_as result ≡ answers.stat image.now path.now }
-    ensures bytes { IfOk result (λ node. IsOf image.now node) }
-    ensures hashes { RisesAtMost hashes.old hashes.new 4 }
-    ensures cost { StatCosts result path.now reads.old reads.new }
-{
-    let index = image.index();
-    let content = node_content(image, path, hashes, reads);
-    match said_at(&index, path, content, hashes, reads)? {
-        Standing::Folder(list) => Ok(Node::Folder(list)),
-        Standing::File(row) => Ok(Node::File(jm_reader::content(image, &row, reads))),
-        Standing::Link(module) => Ok(Node::Link(module)),
-    }
-}
-
-/// No fewer bytes than the locations or the strings have: so words reach each place in them.
-fn longest_section(header: &Header) -> u32
-    ensures { (header.now.locations ≤ result) × (header.now.strings ≤ result) }
-{
-    header.locations.max(header.strings)
-}
-
 /// What stands at a path of the two trees (JEP 220); never `NotFolder`.
 ///
 /// It costs at most four hashes, and for a file at most twice the path's bytes, 152 more and those
@@ -235,9 +206,15 @@ pub fn stat<'a, H: Ledger, R: Ledger>(
     ensures hashes { RisesAtMost hashes.old hashes.new 4 }
     ensures cost { StatCosts result path.now reads.old reads.new }
 {
-    let header = image.header();
-    let _longest = longest_section(&header);
-    stat_in(image, path, hashes, reads)
+    let (index, header) = (image.index(), image.header());
+    prove!(header.locations <= u32::MAX);
+    prove!(header.strings <= u32::MAX);
+    let content = node_content(image, path, hashes, reads);
+    match said_at(&index, path, content, hashes, reads)? {
+        Standing::Folder(list) => Ok(Node::Folder(list)),
+        Standing::File(row) => Ok(Node::File(jm_reader::content(image, &row, reads))),
+        Standing::Link(module) => Ok(Node::Link(module)),
+    }
 }
 
 /// The children of the folder at a path; `NotFolder` exactly where a file or a link stands there.
@@ -260,31 +237,6 @@ pub fn children<'a, H: Ledger, R: Ledger>(
     }
 }
 
-/// The first full owner of a package, whether or not the trees of some resources are there.
-fn owner_in<'a, H: Ledger, R: Ledger>(
-    image: &Image<'a>,
-    path: &[u8],
-    hashes: &mut Steps<H>,
-    reads: &mut Meter<R>,
-) -> Result<Option<&'a [u8]>, JrtError>
-    requires { reads.old.bytes ≡ image.now }
-    ensures owner { on_ok (λ name. option_map (λ n. n.now) name) result
-        ≡ answers.owner image.now path.now }
-    ensures hashes { RisesAtMost hashes.old hashes.new 2 }
-    ensures reads { IsLater reads.old reads.new }
-{
-    let _header = image.header();
-    if !is_package(path) {
-        return Err(JrtError::NotThere);
-    }
-    let Some(found) = find(image, path, hashes, reads) else {
-        return Err(JrtError::NotThere);
-    };
-    let index = image.index();
-    check(&index, found.bytes, Form::Owners, reads)?;
-    Ok(first_full(&index, found.bytes, reads))
-}
-
 /// The first owner, of the package at a path such as `/packages/java.lang`, for which it isn't
 /// empty; None exactly where it is empty for all. Another path is `NotThere`. It costs at most two
 /// hashes.
@@ -302,7 +254,15 @@ pub fn owner<'a, H: Ledger, R: Ledger>(
     ensures hashes { RisesAtMost hashes.old hashes.new 2 }
     ensures reads { IsLater reads.old reads.new }
 {
-    let header = image.header();
-    let _longest = longest_section(&header);
-    owner_in(image, path, hashes, reads)
+    let (index, header) = (image.index(), image.header());
+    prove!(header.locations <= u32::MAX);
+    prove!(header.strings <= u32::MAX);
+    if !is_package(path) {
+        return Err(JrtError::NotThere);
+    }
+    let Some(found) = find(image, path, hashes, reads) else {
+        return Err(JrtError::NotThere);
+    };
+    check(&index, found.bytes, Form::Owners, reads)?;
+    Ok(first_full(&index, found.bytes, reads))
 }

@@ -1,12 +1,12 @@
 -- Relinking gives back the image that a link made, wherever that took its modules from.
-use Rattle.std.proofs.Common.{◌≡◌, ℕ, List, Contains, Option, Some, slice_get, Result, Ok, Err, refl, sym, ap, subst, ◌∙◌}
-use Rattle.jm_bytes.proofs.Choice.{same_ok, same_some}
+use Rattle.std.proofs.Common.{◌≡◌, ℕ, List, Contains, Some, slice_get, Result, Ok, Err, refl, sym, ap, subst, ◌∙◌}
+use Rattle.jm_bytes.proofs.Choice.{same_ok}
 use Rattle.jm_bytes.proofs.Members.{contains_filter_map, from_filter_map, from_map}
 use Rattle.jm_closure.specs.declared.candidate.Candidate.{Candidate}
 use Rattle.jm_closure.specs.Modules as closure
 use Rattle.jm_form.specs.Layout.{Written, names_of}
 use Rattle.jm_form.specs.Validity.{Stands}
-use Rattle.jm_relink.specs.declared.error.RelinkError.{RelinkError}
+use Rattle.jm_relink.specs.declared.fault.RelinkFault.{RelinkFault}
 use Rattle.jm_relink.specs.Files.{info_entry}
 use Rattle.jm_relink.specs.Modules.{SeenModule}
 use Rattle.jm_relink.proofs.OnceLaws.{modules_once}
@@ -32,11 +32,9 @@ image_once b asked one other (seen, shows, is) (seen', shows', is') =
     let same = modules_once b seen seen' shows shows' in
     by seen' one other (subst (λ m. IsImageTo asked m one) same is) is'
   where
-    by : (m : Result (List SeenModule) RelinkError) (r s : Result LinkedImage Refusal) → IsImageTo asked m r → IsImageTo asked m s → r ≡ s
+    by : (m : Result (List SeenModule) RelinkFault) (r s : Result LinkedImage Refusal) → IsImageTo asked m r → IsImageTo asked m s → r ≡ s
     by (Ok ss) r s first second = among_once asked (seen_candidates ss) (resources_seen ss) r s first second
-    by (Err error) (Ok image) s first second = absurd first
-    by (Err error) (Err refusal) (Ok image) first second = absurd second
-    by (Err error) (Err refusal) (Err refusal') first second = ap (λ x. Err x) (same_some refusal refusal' (sym first ∙ second))
+    by (Err fault) r s first second = first ∙ sym second
 
 module _ (b : List ℕ) (asked : Request) (relinks : Relinks b asked) where
   abbrev first : Request

@@ -23,10 +23,8 @@ use Rattle.jm_form.specs.Validity.{resources}
 use Rattle.jm_form.specs.Entries.{Entry}
 use Rattle.jm_bytes.specs.ByteOrder.{is_before}
 use Rattle.jm_reader.specs.Walk.{entries_of}
-use Rattle.jm_relink.specs.declared.error.GatherError.{GatherError}
-use Rattle.jm_relink.specs.declared.error.GatherError.TheVariants as gather
-use Rattle.jm_relink.specs.declared.error.RelinkError.{RelinkError}
-use Rattle.jm_relink.specs.declared.error.RelinkError.TheVariants as relink
+use Rattle.jm_relink.specs.declared.fault.GatherFault.{GatherFault}
+use Rattle.jm_relink.specs.declared.fault.RelinkFault.{RelinkFault}
 use Rattle.jm_relink.specs.declared.modules.ImageModules.{ImageModules}
 use Rattle.jm_relink.specs.Files.{file_name, resources_of}
 use Rattle.jm_names.specs.ByName.{Named}
@@ -36,7 +34,6 @@ use Rattle.jm_relink.specs.Modules.{FindsModules, HoldsModules, IsSeenIn, IsVisi
 use Rattle.jm_relink.proofs.AskedLaws.{before_at, candidates_rise, image_names_differ, visible_in}
 use Rattle.jm_relink.proofs.NameLaws.{names_tell}
 use Rattle.jm_texts.specs.declared.refusal.Refusal.{Refusal}
-use Rattle.jm_texts.specs.declared.refusal.Refusal.TheVariants as refusal
 use Rattle.jm_link.specs.Chosen.{reserved}
 use Rattle.jm_link.specs.Closing.{ClosesAmong, ClosesWith, IsRefusedAmong}
 use Rattle.jm_link.specs.ImageLinked.{ImageComesTo, image_refusal, resources_seen, seen_candidates, seen_resources}
@@ -197,7 +194,7 @@ none_here : (r : Named) (rs : List Named) → gathering.first_bad_name (r ∷ rs
     × (gathering.first_bad_name rs ≡ None)
 none_here r rs none = go (name_fault r.0) refl none
   where
-    go : (o : Option NameFault) → name_fault r.0 ≡ o → first_fault (option_map (λ fault. gather.BadName r.0 fault) o
+    go : (o : Option NameFault) → name_fault r.0 ≡ o → first_fault (option_map (gathering.bad_name r.0) o
         ∷ map gathering.name_refusal rs) ≡ None → (name_fault r.0 ≡ None) × (gathering.first_bad_name rs ≡ None)
     go None is none = (is, none)
     go (Some fault) is none = cc
@@ -214,30 +211,24 @@ none_bad (r ∷ rs) none =
     let here = none_here r rs none in
     rw here.0 (none_bad rs here.1)
 
-same_bad : (rs : List Named) (name : List ℕ) (fault : NameFault) → gathering.first_bad_name rs ≡ Some (gather.BadName name fault)
-    → first_bad_name rs ≡ Some (refusal.BadName name fault)
-same_bad [] name fault is = cc
-same_bad (r ∷ rs) name fault is = go (name_fault r.0) refl is (same_bad rs name fault)
+same_bad : (rs : List Named) (bad : GatherFault) → gathering.first_bad_name rs ≡ Some bad
+    → first_bad_name rs ≡ Some (gathering_refusal bad)
+same_bad [] bad is = cc
+same_bad (r ∷ rs) bad is = go (name_fault r.0) refl is (same_bad rs bad)
   where
-    go : (o : Option NameFault) → name_fault r.0 ≡ o → first_fault (option_map (λ fault. gather.BadName r.0 fault) o
-        ∷ map gathering.name_refusal rs) ≡ Some (gather.BadName name fault)
-        → (gathering.first_bad_name rs ≡ Some (gather.BadName name fault) → first_bad_name rs ≡ Some (refusal.BadName name fault))
-        → first_bad_name (r ∷ rs) ≡ Some (refusal.BadName name fault)
+    go : (o : Option NameFault) → name_fault r.0 ≡ o → first_fault (option_map (gathering.bad_name r.0) o
+        ∷ map gathering.name_refusal rs) ≡ Some bad
+        → (gathering.first_bad_name rs ≡ Some bad → first_bad_name rs ≡ Some (gathering_refusal bad))
+        → first_bad_name (r ∷ rs) ≡ Some (gathering_refusal bad)
     go None none is later = rw none (later is)
-    go (Some f) some is later = rw some (same f (same_some (gather.BadName r.0 f) (gather.BadName name fault) is))
-      where
-        same : (f : NameFault) → gather.BadName r.0 f ≡ gather.BadName name fault
-            → ◌≡◌ {A = Option Refusal} (Some (refusal.BadName r.0 f)) (Some (refusal.BadName name fault))
-        same f e = cc
+    go (Some f) some is later = rw some (ap (λ b. Some (gathering_refusal b)) (same_some (gathering.bad_name r.0 f) bad is))
 
 -- The steps of a link from an image
 
 -- the image shows no modules
-pub unseen : (b : List ℕ) (asked : Request) (error : RelinkError) → FindsModules b (Err error) → (r : Refusal) → image_refusal error
-    ≡ Some r → ImageComesTo b asked (Err r)
-unseen b asked (relink.BadInfo name fault) is r same = ((Err (relink.BadInfo name fault), is, same), tt)
-unseen b asked (relink.Foreign name) is r same = ((Err (relink.Foreign name), is, same), tt)
-unseen b asked relink.Memory is r same = cc
+pub unseen : (b : List ℕ) (asked : Request) (fault : RelinkFault) → FindsModules b (Err fault)
+    → ImageComesTo b asked (Err (image_refusal fault))
+unseen b asked fault is = ((Err fault, is, refl), tt)
 
 module _ (b : List ℕ) (asked : Request) (modules : ImageModules) (seen : List SeenModule) (shows : ModulesOf b (Ok seen))
     (holds : HoldsModules modules seen) where
@@ -257,13 +248,19 @@ module _ (b : List ℕ) (asked : Request) (modules : ImageModules) (seen : List 
     is = gathered_is b modules seen (visible_in b seen shows) holds places
 
     -- a name is unfit
-    pub unfit : (error : GatherError) → GathersAll (gathered modules places) (Err error) → (r : Refusal) → gathering_refusal error
-        ≡ Some r → ImageComesTo b asked (Err r)
-    unfit (gather.BadName name fault) gathers r same =
-        let bad = same_bad (resources_seen seen places) name fault (subst (λ (rs : List Named). gathering.first_bad_name rs
-        ≡ Some (gather.BadName name fault)) is gathers) ∙ same in
-        ((Ok seen, shows, among_to asked (seen_candidates seen) (resources_seen seen) places as_seen (Err r) (rw bad refl)), tt)
-    unfit gather.Memory gathers r same = cc
+    pub unfit : (fault : GatherFault) → GathersAll (gathered modules places) (Err fault)
+        → ImageComesTo b asked (Err (gathering_refusal fault))
+    unfit bad gathers =
+        let first = same_bad (resources_seen seen places) bad (subst (λ (rs : List Named). gathering.first_bad_name rs ≡ Some bad)
+        is gathers) in (
+          (
+            Ok seen,
+            shows,
+            among_to asked (seen_candidates seen) (resources_seen seen) places as_seen (Err (gathering_refusal bad))
+                (rw first refl),
+          ),
+          tt,
+        )
 
     -- the resources were gathered
     pub gathered_to : (pool : List Written) → GathersAll (gathered modules places) (Ok pool) → (r : Result LinkedImage Refusal)

@@ -1,10 +1,9 @@
 -- What plug-ins leave that have no order: resources that were there, in their order, and what each
 -- descriptor says.
 use Rattle.std.proofs.Common.{◌≡◌, ℕ, inl, inr, Bool, true, List, [], ◌∷◌, All, AllPairs, Contains, filter}
-use Rattle.std.proofs.Common.{codes, Result, Ok, Err, refl, sym, ap, subst, ◌∙◌, nat_eq, not, suc, arith}
+use Rattle.std.proofs.Common.{Result, Ok, Err, refl, sym, ap, subst, ◌∙◌, not, suc, arith}
 use Rattle.std.proofs.lemmas.Bool.{false≢true}
 use Rattle.std.proofs.lemmas.List.Kept.{AllPairs-cons, AllPairs-filter}
-use Rattle.std.specs.List.{ends_with}
 use Rattle.jm_bytes.proofs.Choice.{chosen, same_ok}
 use Rattle.jm_bytes.proofs.Members.{all_from_contains, contains_cases, contains_here, contains_later, from_filter}
 use Rattle.jm_bytes.proofs.Pairs.{pairs_head, pairs_tail}
@@ -20,7 +19,7 @@ use Rattle.jm_modinfo.specs.declared.descriptor.Descriptor.{Descriptor}
 use Rattle.jm_modinfo.specs.ComputedInfo.{info_of}
 use Rattle.jm_words.specs.declared.tasks.Plugin.{Plugin}
 use Rattle.jm_words.specs.declared.tasks.Plugin.TheVariants as plugin
-use Rattle.jm_plugins.specs.declared.chain.ApplyError.{ApplyError}
+use Rattle.jm_plugins.specs.declared.chain.BadClass.{BadClass}
 use Rattle.jm_pattern.specs.ComputedMatching.{matches_any}
 use Rattle.jm_bytes.specs.Results.{followed}
 use Rattle.jm_plugins.specs.Packaging.{is_descriptor, listing_text, packages_of}
@@ -37,14 +36,14 @@ pub record IsKept (old : List Written) (r : Written) : Type 0 where
   pub name : was.0 ≡ r.0
   pub says : (d : Descriptor) → Says was.1 d → Says r.1 d
 
-followed_ok : {A B : Type 0} (r : Result A ApplyError) (next : A → Result B ApplyError) (b : B) → followed r next ≡ Ok b → (a : A)
+followed_ok : {A B : Type 0} (r : Result A BadClass) (next : A → Result B BadClass) (b : B) → followed r next ≡ Ok b → (a : A)
     × (r ≡ Ok a) × (next a ≡ Ok b)
 followed_ok (Ok a) next b is = (a, refl, is)
 followed_ok (Err refusal) next b is = cc
 
 remade_ok : (text : ClassData → List ℕ) (name : List ℕ) (r : Result ClassData ClassFault) (q : Written) → remade text name r ≡ Ok q
     → (c : ClassData) × (r ≡ Ok c) × ((name, text c) ≡ q)
-remade_ok text name (Ok c) q is = (c, refl, same_ok {E = ApplyError} (name, text c) q is)
+remade_ok text name (Ok c) q is = (c, refl, same_ok {E = BadClass} (name, text c) q is)
 remade_ok text name (Err fault) q is = cc
 
 -- the class that bytes are which say a descriptor
@@ -132,23 +131,23 @@ module _ (R : List ℕ → List ℕ → Type 0) where
                     (let says = class_says p.1 made.0 d made.1 was in keeps p.0 made.0 d says.0 says.1),
               )
           | inr other ↦
-              let same = same_ok {E = ApplyError} p q other.1 in
+              let same = same_ok {E = BadClass} p q other.1 in
               (ap (λ (x : Written). x.0) same, λ d was. subst (λ (x : Written). Says x.1 d) same was)
         ]
 
     remade_all : (old new : List Written) → remade_pairs takes text old ≡ Ok new → AreKept old new
-    remade_all [] new is = subst (AreKept []) (same_ok {E = ApplyError} [] new is) (same_kept [])
+    remade_all [] new is = subst (AreKept []) (same_ok {E = BadClass} [] new is) (same_kept [])
     remade_all (p ∷ old) new is =
         let one = followed_ok (remade_pair takes text p) (λ first. followed (remade_pairs takes text old)
         (λ behind. Ok (first ∷ behind))) new is in
         let rest = followed_ok (remade_pairs takes text old) (λ behind. Ok (one.0 ∷ behind)) new one.2 in
         let same = remade_one p one.0 one.1 in
-        subst (AreKept (p ∷ old)) (same_ok {E = ApplyError} (one.0 ∷ rest.0) new rest.2) (more_kept p one.0 old rest.0 same.0 same.1
+        subst (AreKept (p ∷ old)) (same_ok {E = BadClass} (one.0 ∷ rest.0) new rest.2) (more_kept p one.0 old rest.0 same.0 same.1
         (remade_all old rest.0 rest.1))
 
   acted : (one : Plugin) (old new : List Written) → leaves_order one ≡ true → act one old ≡ Ok new → AreKept old new
   acted (plugin.Exclude patterns) old new leaves is =
-      subst (AreKept old) (same_ok {E = ApplyError} _ new is) (filtered (λ r. not (matches_any patterns r.0)) old)
+      subst (AreKept old) (same_ok {E = BadClass} _ new is) (filtered (λ r. not (matches_any patterns r.0)) old)
   acted (plugin.Order patterns) old new leaves is = absurd (false≢true leaves)
   acted plugin.Strip old new leaves is = remade_all is_class (λ name. stripped_text) (λ name. stripped_says) old new is
   acted plugin.Compact old new leaves is = remade_all is_class (λ name. compact_text) (λ name. compacted_says) old new is
@@ -157,7 +156,7 @@ module _ (R : List ℕ → List ℕ → Type 0) where
 
   pub applied : (plugins : List Plugin) (old new : List Written) → All (λ one. leaves_order one ≡ true) plugins → apply plugins old
       ≡ Ok new → AreKept old new
-  applied [] old new leave is = subst (AreKept old) (same_ok {E = ApplyError} old new is) (same_kept old)
+  applied [] old new leave is = subst (AreKept old) (same_ok {E = BadClass} old new is) (same_kept old)
   applied (one ∷ later) old new leave is =
       let first = followed_ok (act one old) (apply later) new is in
       further old first.0 new (acted one old first.0 (leave 0 one (omega arith)) first.1)

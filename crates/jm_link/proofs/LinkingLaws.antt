@@ -5,9 +5,12 @@ use Rattle.std.proofs.Common.{subst}
 use Rattle.std.proofs.lemmas.List.Elements.{All-contains, All-map}
 use Rattle.jm_bytes.proofs.Members.{all_from_contains, contains_map}
 use Rattle.jm_bytes.specs.Checks.{first_fault}
+use Rattle.jm_bytes.specs.declared.faults.Or.{Or}
+use Rattle.jm_bytes.specs.declared.faults.Or.TheVariants as or
 use Rattle.jm_bytes.specs.declared.words.Order.{Order}
+use Rattle.jm_bytes.specs.Results.{IfAnswered}
 use Rattle.jm_closure.specs.declared.candidate.Candidate.{Candidate}
-use Rattle.jm_closure.specs.declared.error.CloseError.{CloseError}
+use Rattle.jm_closure.specs.declared.fault.CloseFault.{CloseFault}
 use Rattle.jm_closure.specs.Refusals.{Closes}
 use Rattle.jm_form.specs.Layout.{Written, names_of}
 use Rattle.jm_names.specs.ByName.{Named}
@@ -19,8 +22,7 @@ use Rattle.jm_outside.specs.Outcome.{Rose, Shows}
 use Rattle.jm_outside.specs.Shelves.{ShelfFailed, ShelfSeen}
 use Rattle.jm_plugins.specs.Plugins.{Applies}
 use Rattle.jm_words.specs.declared.tasks.Plugin.{Plugin}
-use Rattle.jm_plugins.specs.declared.chain.ApplyError.{ApplyError}
-use Rattle.jm_plugins.specs.declared.chain.ApplyError.TheVariants as plugging
+use Rattle.jm_plugins.specs.declared.chain.BadClass.{BadClass}
 use Rattle.jm_plugins.proofs.ComputedPluginsLaws.{applies_only}
 use Rattle.jm_plugins.proofs.NameLaws.{names_differ, names_kept}
 use Rattle.jm_modpath.specs.declared.refusal.PathStop.{PathStop}
@@ -42,7 +44,7 @@ use Rattle.jm_link.specs.Links.{BreaksOff, ComesTo, IsLaid, LinksBy, PoolComesTo
 use Rattle.jm_link.specs.ResourceFiles.{file_names, pair_of}
 use Rattle.jm_link.specs.Resources.{AreFit, link_files, resources_in, resources_of}
 use Rattle.jm_link.specs.Showing.{ListsItsFiles}
-use Rattle.jm_link.specs.Steps.{StepStops, stop_of_path, stop_of_refusal}
+use Rattle.jm_link.specs.Steps.{StepStops, stop_of_fault, stop_of_path}
 use Rattle.jm_link.specs.Written.{WritesImage, WritesPart}
 use Rattle.jm_link.proofs.FileLaws.{files_free}
 use Rattle.jm_link.proofs.LaidLaws.{laid_free}
@@ -111,11 +113,12 @@ module _ (Comes : Result LinkedImage Refusal → Type 0) (Absent : Type 0) (path
   ended Refuses stop.Outside is comes = absurd is
   ended Refuses stop.Memory is comes = inl same
 
-  -- with the refusal that its error is, or without memory
-  pub refused : (o : Option Refusal) → ((r : Refusal) → o ≡ Some r → Comes (Err r))
-      → LinksBy Comes Absent path (Err (stop_of_refusal o)) old new
-  refused (Some r) comes = (comes r refl, same)
-  refused None comes = inl same
+  -- with the refusal of its fault, or without memory
+  pub refused : {A F : Type 0} (refusal_of : F → Refusal) (Due : Result A F → Type 0) (given : Or F) → IfAnswered Due (Err given)
+      → ((fault : F) → Due (Err fault) → Comes (Err (refusal_of fault)))
+      → LinksBy Comes Absent path (Err (stop_of_fault refusal_of given)) old new
+  refused refusal_of Due (or.Fault fault) due comes = (comes fault due, same)
+  refused refusal_of Due or.Memory due comes = inl same
 
 -- The image of resources
 
@@ -130,21 +133,11 @@ fit_left plugins before left applies fit =
       plain = names_kept (λ name. is_node name ≡ false) plugins before left is fit.plain;
     }
 
--- what plug-ins left, where memory was found
-pub left_is : (plugins : List Plugin) (before left : List Written)
-    → (◌≡◌ {A = Result (List Written) ApplyError} (Ok left) (Err plugging.Memory)) ⊎ Applies plugins before (Ok left)
-    → Applies plugins before (Ok left)
-left_is plugins before left (inl never) = cc
-left_is plugins before left (inr applies) = applies
-
 module _ (asked : Request) (modules : ℕ) (before : List Written) where
   -- the plug-ins are refused
-  pub unplugged : (error : ApplyError) → (◌≡◌ {A = Result (List Written) ApplyError} (Err error) (Err plugging.Memory))
-      ⊎ Applies asked.plugins before (Err error) → (r : Refusal) → plugging_refusal error ≡ Some r
-      → PoolComesTo asked modules before (Err r)
-  unplugged (plugging.BadClass name fault) (inl never) r is = cc
-  unplugged plugging.Memory (inl memory) r is = cc
-  unplugged error (inr applies) r is = ((Err error, applies, is), tt)
+  pub unplugged : (fault : BadClass) → Applies asked.plugins before (Err fault)
+      → PoolComesTo asked modules before (Err (plugging_refusal fault))
+  unplugged fault applies = ((Err fault, applies, refl), tt)
 
   module _ (resources : List Written) (left : Applies asked.plugins before (Ok resources)) (fit : AreFit (names_of resources)) where
     abbrev order : Order
@@ -181,7 +174,7 @@ module _ (asked : Request) (modules : ℕ) (before : List Written) where
 -- The closure
 
 module _ (asked : Request) (found : List Candidate) (resources : List ℕ → List Written) where
-  chosen_as : (bind : Bool) (closed : Result (List ℕ) CloseError) → ClosesWith bind found asked.roots closed
+  chosen_as : (bind : Bool) (closed : Result (List ℕ) CloseFault) → ClosesWith bind found asked.roots closed
       → Closes found asked.roots (Chosen bind found asked.roots) closed
   chosen_as true closed closes = closes
   chosen_as false closed closes = closes
@@ -196,7 +189,7 @@ module _ (asked : Request) (found : List Candidate) (resources : List ℕ → Li
       → LinksAmong asked found resources (Err given)
   refused_among given (inl is) = rw is refl
   refused_among given (inr refused) =
-      rw refused.free (Err refused.error, chosen_as asked.bind (Err refused.error) refused.closes, refused.refusal)
+      rw refused.free (Err refused.fault, chosen_as asked.bind (Err refused.fault) refused.closes, ap (λ r. Err r) refused.refusal)
 
 -- The steps of a link from a module path
 

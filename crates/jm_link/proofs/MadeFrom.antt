@@ -1,6 +1,6 @@
 -- A link that made an image, wherever it took its modules from: what it was made of, and that the
 -- image is what the layout of its resources is.
-use Rattle.std.proofs.Common.{◌≡◌, ◌<◌, ℕ, false, List, All, Contains, slice_get, length, map, Option, Some}
+use Rattle.std.proofs.Common.{◌≡◌, ◌<◌, ℕ, false, List, All, Contains, slice_get, length, Option, Some}
 use Rattle.std.proofs.Common.{None, Result, Ok, Err, refl, sym, ap, subst, ◌∙◌, codes}
 use Rattle.std.proofs.lemmas.List.{map-id}
 use Rattle.std.proofs.lemmas.List.Elements.{All-map}
@@ -15,7 +15,7 @@ use Rattle.jm_modpath.specs.declared.refusal.PathRefusal.{PathRefusal}
 use Rattle.jm_modpath.specs.Modules.{candidates, path_refusal, visible}
 use Rattle.jm_outside.specs.Files.{Files}
 use Rattle.jm_plugins.proofs.NameLaws.{names_kept}
-use Rattle.jm_relink.specs.declared.error.RelinkError.{RelinkError}
+use Rattle.jm_relink.specs.declared.fault.RelinkFault.{RelinkFault}
 use Rattle.jm_relink.specs.Modules.{ModulesOf, SeenModule}
 use Rattle.jm_relink.proofs.AskedLaws.{visible_in}
 use Rattle.jm_relink.proofs.OnceLaws.{modules_once}
@@ -62,15 +62,15 @@ path_links : (files : Files) (directories : List (List ℕ)) (asked : Request) (
 path_links files directories asked None linked is = is
 path_links files directories asked (Some given) linked is = cc
 
-image_links : (asked : Request) (m : Result (List SeenModule) RelinkError) (image : LinkedImage) → IsImageTo asked m (Ok image)
+image_links : (asked : Request) (m : Result (List SeenModule) RelinkFault) (image : LinkedImage) → IsImageTo asked m (Ok image)
     → (ss : List SeenModule) × (m ≡ Ok ss) × LinksAmong asked (seen_candidates ss) (resources_seen ss) (Ok image)
 image_links asked (Ok ss) linked is = (ss, refl, is)
-image_links asked (Err error) linked is = absurd is
+image_links asked (Err fault) linked is = cc
 
 seen_once : (b : List ℕ) (ss : List SeenModule) → ModulesOf b (Ok ss) → (others : List Candidate) → Shows (Image b) others → others
     ≡ seen_candidates ss
 seen_once b ss shows others (ss', shows', is) =
-    is ∙ ap seen_candidates (same_ok {E = RelinkError} ss' ss (modules_once b (Ok ss') (Ok ss) shows' shows))
+    is ∙ ap seen_candidates (same_ok {E = RelinkFault} ss' ss (modules_once b (Ok ss') (Ok ss) shows' shows))
 
 from_seen : (b : List ℕ) (asked : Request) (image : LinkedImage) → HoldsBytes (Image b) → (ss : List SeenModule)
     → ModulesOf b (Ok ss) → LinksAmong asked (seen_candidates ss) (resources_seen ss) (Ok image) → IsMadeFrom (Image b) asked image

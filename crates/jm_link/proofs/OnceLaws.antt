@@ -1,16 +1,14 @@
 -- A link of told files comes to one image or to one refusal.
-use Rattle.std.proofs.Common.{◌≡◌, ◌≢◌, ℕ, List, length, Option, Some, None, Result, Ok, Err, refl, sym, ◌∙◌, subst}
-use Rattle.jm_bytes.proofs.Choice.{same_some}
+use Rattle.std.proofs.Common.{◌≡◌, ℕ, List, length, Option, Some, None, Result, Ok, Err, sym, ◌∙◌, subst}
 use Rattle.jm_bytes.specs.declared.words.Order.{Order}
 use Rattle.jm_closure.proofs.OnceLaws.{closes_once}
 use Rattle.jm_closure.specs.declared.candidate.Candidate.{Candidate}
-use Rattle.jm_closure.specs.declared.error.CloseError.{CloseError}
-use Rattle.jm_closure.specs.declared.error.CloseError.TheVariants as closing
+use Rattle.jm_closure.specs.declared.fault.CloseFault.{CloseFault}
 use Rattle.jm_form.specs.Layout.{Written}
 use Rattle.jm_modpath.specs.declared.refusal.PathRefusal.{PathRefusal}
 use Rattle.jm_modpath.specs.Modules.{candidates, path_refusal, visible}
 use Rattle.jm_outside.specs.Files.{Files}
-use Rattle.jm_plugins.specs.declared.chain.ApplyError.{ApplyError}
+use Rattle.jm_plugins.specs.declared.chain.BadClass.{BadClass}
 use Rattle.jm_plugins.specs.ComputedPlugins.{apply}
 use Rattle.jm_plugins.proofs.ComputedPluginsLaws.{applies_only}
 use Rattle.jm_texts.specs.declared.refusal.Refusal.{Refusal}
@@ -24,13 +22,10 @@ use Rattle.jm_link.proofs.ChosenLaws.{chosen_below}
 abbrev Answer : Type 0
 Answer = Result LinkedImage Refusal
 
-plugged_once : (order : Order) (modules : ℕ) (plugged : Result (List Written) ApplyError) (a b : Answer)
+plugged_once : (order : Order) (modules : ℕ) (plugged : Result (List Written) BadClass) (a b : Answer)
     → IsPluggedTo order modules plugged a → IsPluggedTo order modules plugged b → a ≡ b
 plugged_once order modules (Ok resources) a b one other = one ∙ sym other
-plugged_once order modules (Err error) (Ok image) b one other = absurd one
-plugged_once order modules (Err error) (Err refusal) (Ok image) one other = absurd other
-plugged_once order modules (Err error) (Err refusal) (Err refusal') one other =
-    rw (same_some refusal refusal' (sym one ∙ other)) refl
+plugged_once order modules (Err fault) a b one other = one ∙ sym other
 
 -- what is laid out is what the plug-ins are computed to leave
 pub plugs_computed : (asked : Request) (modules : ℕ) (resources : List Written) (r : Answer) → PlugsTo asked modules resources r
@@ -45,34 +40,17 @@ gathered_once asked modules resources None a b one other =
     plugged_once asked.order modules (apply asked.plugins resources) a b (plugs_computed asked modules resources a one)
     (plugs_computed asked modules resources b other)
 
-closed_once : (asked : Request) (resources : List ℕ → List Written) (closed : Result (List ℕ) CloseError) (a b : Answer)
+closed_once : (asked : Request) (resources : List ℕ → List Written) (closed : Result (List ℕ) CloseFault) (a b : Answer)
     → IsClosedTo asked resources closed a → IsClosedTo asked resources closed b → a ≡ b
 closed_once asked resources (Ok places) a b one other =
     gathered_once asked (length places) (resources places) (first_bad_name (resources places)) a b one other
-closed_once asked resources (Err error) (Ok image) b one other = absurd one
-closed_once asked resources (Err error) (Err refusal) (Ok image) one other = absurd other
-closed_once asked resources (Err error) (Err refusal) (Err refusal') one other =
-    rw (same_some refusal refusal' (sym one ∙ other)) refl
-
--- what is closed isn't want of memory
-closed_some : (asked : Request) (resources : List ℕ → List Written) (closed : Result (List ℕ) CloseError) (a : Answer)
-    → IsClosedTo asked resources closed a → closed ≢ Err closing.Memory
-closed_some asked resources (Ok places) a is memory = cc
-closed_some asked resources (Err error) (Ok image) is memory = absurd is
-closed_some asked resources (Err (closing.NoRoot name)) (Err refusal) is memory = cc
-closed_some asked resources (Err (closing.Missing name by)) (Err refusal) is memory = cc
-closed_some asked resources (Err (closing.Cycle name)) (Err refusal) is memory = cc
-closed_some asked resources (Err (closing.SplitPackage shared first second)) (Err refusal) is memory = cc
-closed_some asked resources (Err closing.Memory) (Err refusal) is memory = none is
-  where
-    none : ◌≡◌ {A = Option Refusal} None (Some refusal) → ⊥
-    none same = cc
+closed_once asked resources (Err fault) a b one other = one ∙ sym other
 
 linked_once : (asked : Request) (found : List Candidate) (resources : List ℕ → List Written) (a b : Answer)
     → IsLinkedOf asked found resources a → IsLinkedOf asked found resources b → a ≡ b
 linked_once asked found resources a b (closed, closes, is) (closed', closes', is') =
     let same = closes_once found (Chosen asked.bind found asked.roots) (chosen_below asked.bind found asked.roots) asked.roots
-    closed closed' (closed_some asked resources closed a is) (closed_some asked resources closed' b is') closes closes' in
+    closed closed' closes closes' in
     closed_once asked resources closed' a b (subst (λ c. IsClosedTo asked resources c a) same is) is'
 
 found_once : (asked : Request) (found : List Candidate) (resources : List ℕ → List Written) (taken : Option Refusal) (a b : Answer)

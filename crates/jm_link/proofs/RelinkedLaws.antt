@@ -18,13 +18,13 @@ use Rattle.jm_bytes.proofs.Members.{contains_map, from_any, from_filter_map, fro
 use Rattle.jm_bytes.proofs.SameOrder.{mapped_twice}
 use Rattle.jm_bytes.specs.declared.words.Order.{Order}
 use Rattle.jm_closure.specs.declared.candidate.Candidate.{Candidate}
-use Rattle.jm_closure.specs.declared.error.CloseError.{CloseError}
+use Rattle.jm_closure.specs.declared.fault.CloseFault.{CloseFault}
 use Rattle.jm_closure.specs.Modules as closure
 use Rattle.jm_closure.specs.Refusals.{Closes}
 use Rattle.jm_form.specs.Layout.{Written}
 use Rattle.jm_form.specs.Validity.{Stands, resources}
 use Rattle.jm_names.specs.ComputedFault.{name_fault}
-use Rattle.jm_plugins.specs.declared.chain.ApplyError.{ApplyError}
+use Rattle.jm_plugins.specs.declared.chain.BadClass.{BadClass}
 use Rattle.jm_plugins.specs.ComputedPlugins.{apply}
 use Rattle.jm_plugins.specs.Plugins.{Applies}
 use Rattle.jm_reader.specs.Walk.{entries_with}
@@ -65,23 +65,23 @@ laid_parts : (order : Order) (modules : ℕ) (left : List Written) (o : Option R
 laid_parts order modules left None image is = (refl, same_ok {E = Refusal} image (image_with order modules left) is)
 laid_parts order modules left (Some refusal) image is = cc
 
-plugged_parts : (order : Order) (modules : ℕ) (r : Result (List Written) ApplyError) (image : LinkedImage)
+plugged_parts : (order : Order) (modules : ℕ) (r : Result (List Written) BadClass) (image : LinkedImage)
     → IsPluggedTo order modules r (Ok image) → (left : List Written) × (r ≡ Ok left) × (layout_refusal order left ≡ None)
     × (image ≡ image_with order modules left)
 plugged_parts order modules (Ok left) image is =
     let parts = laid_parts order modules left (layout_refusal order left) image is in (left, refl, parts.0, parts.1)
-plugged_parts order modules (Err error) image is = absurd is
+plugged_parts order modules (Err fault) image is = cc
 
 gathered_parts : (asked : Request) (modules : ℕ) (rs : List Written) (o : Option Refusal) (image : LinkedImage)
     → IsGatheredTo asked modules rs o (Ok image) → (o ≡ None) × IsPluggedTo asked.order modules (apply asked.plugins rs) (Ok image)
 gathered_parts asked modules rs None image is = (refl, plugs_computed asked modules rs (Ok image) is)
 gathered_parts asked modules rs (Some refusal) image is = cc
 
-closed_parts : (asked : Request) (gathered : List ℕ → List Written) (closed : Result (List ℕ) CloseError) (image : LinkedImage)
+closed_parts : (asked : Request) (gathered : List ℕ → List Written) (closed : Result (List ℕ) CloseFault) (image : LinkedImage)
     → IsClosedTo asked gathered closed (Ok image) → (places : List ℕ) × (closed ≡ Ok places) × IsGatheredTo asked (length places)
     (gathered places) (first_bad_name (gathered places)) (Ok image)
 closed_parts asked gathered (Ok places) image is = (places, refl, is)
-closed_parts asked gathered (Err error) image is = absurd is
+closed_parts asked gathered (Err fault) image is = cc
 
 found_parts : (asked : Request) (found : List Candidate) (gathered : List ℕ → List Written) (o : Option Refusal)
     (image : LinkedImage) → IsFoundTo asked found gathered o (Ok image) → (o ≡ None) × IsLinkedOf asked found gathered (Ok image)

@@ -29,7 +29,7 @@ use Rattle.jm_modinfo.specs.declared.constants.Kind.TheVariants as kind_of
 use Rattle.jm_class.specs.Readings.{Left, Outcome, Reading, and_then, continued, ended, list_of, value}
 use Rattle.jm_modinfo.specs.Descriptors.{bodies, bytes_named, is_named, main_bodies, module_bodies, plain_bytes}
 use Rattle.jm_modinfo.specs.Flags.{is_module}
-use Rattle.jm_modpath.specs.Modules.{info_in, info_with}
+use Rattle.jm_modinfo.specs.Descriptions.{info_in, info_with}
 use Rattle.jm_packages.specs.Packages.{packaged, packages_text}
 use Rattle.jm_packages.proofs.PackagedLaws.{packaged-class, packaged-info}
 use Rattle.jm_plugins.specs.ComputedPlugins.{stripped_text}

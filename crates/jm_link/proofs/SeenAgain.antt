@@ -15,9 +15,8 @@ use Rattle.jm_closure.specs.Modules as closure
 use Rattle.jm_form.specs.Layout.{Written}
 use Rattle.jm_form.specs.Trees.{class_packages, module_of, path_of}
 use Rattle.jm_bytes.specs.ByteOrder.{is_before}
-use Rattle.jm_modpath.specs.Finding.{named_package}
-use Rattle.jm_modpath.specs.Modules.{info_name}
-use Rattle.jm_modpath.proofs.PackageLaws.{class_packages_are}
+use Rattle.jm_form.specs.ModuleFiles.{info_name, named_package}
+use Rattle.jm_form.proofs.ClassPackageLaws.{class_packages_are}
 use Rattle.jm_form.proofs.RisingLaws.{from_rising}
 use Rattle.jm_names.specs.Names.{is_slash}
 use Rattle.jm_nodes.proofs.SoundLaws.{module_again, path_again}

@@ -30,12 +30,12 @@ use Rattle.jm_modinfo.specs.declared.descriptor.Descriptor.{Descriptor}
 use Rattle.jm_modinfo.specs.declared.faults.DescriptorFault.{DescriptorFault}
 use Rattle.jm_modpath.specs.declared.visible.VisibleModule.{VisibleModule}
 use Rattle.jm_bytes.specs.ByteOrder.{is_before}
-use Rattle.jm_modpath.specs.Finding.{named_package}
-use Rattle.jm_modpath.specs.Modules.{bytes_at, candidates, folder_info, folders_in, info_name, info_path}
+use Rattle.jm_form.specs.ModuleFiles.{info_name, named_package}
+use Rattle.jm_modpath.specs.Modules.{bytes_at, candidates, folder_info, folders_in, info_path}
 use Rattle.jm_modpath.specs.Modules.{inside, module_in, module_of, module_with, modules_in, resource_name}
 use Rattle.jm_modpath.specs.Modules.{visible}
 use Rattle.jm_modpath.specs.Modules as shelf
-use Rattle.jm_modpath.proofs.PackageLaws.{class_packages_are}
+use Rattle.jm_form.proofs.ClassPackageLaws.{class_packages_are}
 use Rattle.jm_modpath.proofs.StepLaws.{from_unhidden}
 use Rattle.jm_form.proofs.RisingLaws.{contains_rising}
 use Rattle.jm_names.specs.Names.{is_node, is_slash}

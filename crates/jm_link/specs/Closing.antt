@@ -2,7 +2,7 @@
 use Rattle.std.specs.Prelude.{ℕ, ◌≡◌, ◌⊎◌, Bool, true, false, List, Some, None, Result, Ok, Err}
 use Rattle.jm_bind.specs.Binding.{Bound}
 use Rattle.jm_closure.specs.declared.candidate.Candidate.{Candidate}
-use Rattle.jm_closure.specs.declared.error.CloseError.{CloseError}
+use Rattle.jm_closure.specs.declared.fault.CloseFault.{CloseFault}
 use Rattle.jm_closure.specs.Modules.{Reached}
 use Rattle.jm_closure.specs.Refusals.{Closes}
 use Rattle.jm_texts.specs.declared.refusal.Refusal.{Refusal}
@@ -12,17 +12,17 @@ use Rattle.jm_link.specs.Linked.{closing_refusal}
 use Rattle.jm_link.specs.Steps.{StepGives}
 
 -- the closure, or with service binding what is bound
-abbrev pub ClosesWith : Bool → List Candidate → List (List ℕ) → Result (List ℕ) CloseError → Type 0
+abbrev pub ClosesWith : Bool → List Candidate → List (List ℕ) → Result (List ℕ) CloseFault → Type 0
 ClosesWith true found roots result = Closes found roots (Bound found roots) result
 ClosesWith false found roots result = Closes found roots (Reached found roots) result
 
 -- the closure is refused
 pub record IsRefusedAmong (found : List Candidate) (roots : List (List ℕ)) (bind : Bool)
     (given : Refusal) : Type 0 where
-  pub error : CloseError
+  pub fault : CloseFault
   pub free : reserved found ≡ None
-  pub closes : ClosesWith bind found roots (Err error)
-  pub refusal : closing_refusal error ≡ Some given
+  pub closes : ClosesWith bind found roots (Err fault)
+  pub refusal : given ≡ closing_refusal fault
 
 -- by the answer: the places of the closure; a reserved name, or the refusal of the closure; no
 -- memory

@@ -1,12 +1,12 @@
 -- What a `link` of the modules of an image comes to (JEP 282; which modules an image has, and the
 -- order of the refusals, is this project's rule).
-use Rattle.std.specs.Prelude.{ℕ, ◌≡◌, List, map, Option, Some, None, Result, Ok, Err, slice_get}
+use Rattle.std.specs.Prelude.{ℕ, ◌≡◌, List, map, Result, Ok, Err, slice_get}
 use Rattle.std.specs.List.{filter_map, flat_map}
 use Rattle.jm_closure.specs.declared.candidate.Candidate.{Candidate}
 use Rattle.jm_form.specs.Layout.{Written}
 use Rattle.jm_outside.specs.Shelves.{ShelfSeen}
-use Rattle.jm_relink.specs.declared.error.RelinkError.{RelinkError}
-use Rattle.jm_relink.specs.declared.error.RelinkError.TheVariants as relink
+use Rattle.jm_relink.specs.declared.fault.RelinkFault.{RelinkFault}
+use Rattle.jm_relink.specs.declared.fault.RelinkFault.TheVariants as relink
 use Rattle.jm_relink.specs.Gathering.{resources_with}
 use Rattle.jm_relink.specs.Modules.{ModulesOf, SeenModule, name_of}
 use Rattle.jm_link.specs.declared.linking.LinkStop.{LinkStop}
@@ -28,24 +28,22 @@ seen_resources s = resources_with (name_of s) s.files
 abbrev pub resources_seen : List SeenModule → List ℕ → List Written
 resources_seen seen places = flat_map seen_resources (filter_map (slice_get seen) places)
 
--- the refusal of an image's modules as one of a link; none for want of memory
-abbrev pub image_refusal : RelinkError → Option Refusal
-image_refusal (relink.BadInfo name fault) = Some (refusal.BadEntry name fault)
-image_refusal (relink.Foreign name) = Some (refusal.Foreign name)
-image_refusal relink.Memory = None
+-- the fault of an image's modules as the refusal of a link
+abbrev pub image_refusal : RelinkFault → Refusal
+image_refusal (relink.BadInfo name fault) = refusal.BadEntry name fault
+image_refusal (relink.Foreign name) = refusal.Foreign name
 
--- what a link comes to from the modules of an image, or from their first refusal
-abbrev pub IsImageTo : Request → Result (List SeenModule) RelinkError → Result LinkedImage Refusal
+-- what a link comes to from the modules of an image, or from their first fault
+abbrev pub IsImageTo : Request → Result (List SeenModule) RelinkFault → Result LinkedImage Refusal
     → Type 0
 IsImageTo asked (Ok seen) result =
     LinksAmong asked (seen_candidates seen) (resources_seen seen) result
-IsImageTo asked (Err error) (Ok image) = ⊥
-IsImageTo asked (Err error) (Err refusal) = image_refusal error ≡ Some refusal
+IsImageTo asked (Err fault) result = result ≡ Err (image_refusal fault)
 
 -- the rule: what a link of the modules of an image comes to, refusal by refusal in their order
 abbrev pub ImageLinksTo : List ℕ → Request → Result LinkedImage Refusal → Type 0
 ImageLinksTo b asked result =
-    (modules : Result (List SeenModule) RelinkError) × ModulesOf b modules
+    (modules : Result (List SeenModule) RelinkFault) × ModulesOf b modules
     × IsImageTo asked modules result
 
 -- what a link of the modules of an image comes to, with an image that is what the layout of its

@@ -6,8 +6,8 @@ use Rattle.std.specs.Prelude.{Result, Ok, Err}
 use Rattle.jm_bytes.specs.Checks.{fault_if, first_fault}
 use Rattle.jm_bytes.specs.declared.words.Order.{Order}
 use Rattle.jm_closure.specs.declared.candidate.Candidate.{Candidate}
-use Rattle.jm_closure.specs.declared.error.CloseError.{CloseError}
-use Rattle.jm_closure.specs.declared.error.CloseError.TheVariants as closing
+use Rattle.jm_closure.specs.declared.fault.CloseFault.{CloseFault}
+use Rattle.jm_closure.specs.declared.fault.CloseFault.TheVariants as closing
 use Rattle.jm_closure.specs.Refusals.{Closes}
 use Rattle.jm_form.specs.Greedy.{GreedyTable}
 use Rattle.jm_form.specs.Layout.{Written, all_sized, layout, layout_table, layout_with, names_of}
@@ -17,8 +17,7 @@ use Rattle.jm_modpath.specs.declared.refusal.PathRefusal.TheVariants as path
 use Rattle.jm_modpath.specs.Modules.{candidates, path_refusal, visible}
 use Rattle.jm_outside.specs.Files.{Files}
 use Rattle.jm_words.specs.declared.tasks.Plugin.{Plugin}
-use Rattle.jm_plugins.specs.declared.chain.ApplyError.{ApplyError}
-use Rattle.jm_plugins.specs.declared.chain.ApplyError.TheVariants as plugging
+use Rattle.jm_plugins.specs.declared.chain.BadClass.{BadClass}
 use Rattle.jm_plugins.specs.Plugins.{Applies}
 use Rattle.jm_writer.specs.Drafts.{entry_limit, image_limit, large_number}
 use Rattle.jm_texts.specs.declared.refusal.Refusal.{Refusal}
@@ -79,25 +78,22 @@ abbrev pub laid_out : Order → ℕ → List Written → Option Refusal → Resu
 laid_out order modules resources None = Ok (image_with order modules resources)
 laid_out order modules resources (Some refusal) = Err refusal
 
--- the refusal of plug-ins as one of a link; none for want of memory
-abbrev pub plugging_refusal : ApplyError → Option Refusal
-plugging_refusal (plugging.BadClass name fault) = Some (refusal.BadClass name fault)
-plugging_refusal plugging.Memory = None
+-- the fault of plug-ins as the refusal of a link
+abbrev pub plugging_refusal : BadClass → Refusal
+plugging_refusal bad = refusal.BadClass bad.name bad.fault
 
--- what plug-ins left of the resources of so many modules is laid out, or their refusal is the
--- result
-abbrev pub IsPluggedTo : Order → ℕ → Result (List Written) ApplyError
+-- what plug-ins left of the resources of so many modules is laid out, or their fault is refused
+abbrev pub IsPluggedTo : Order → ℕ → Result (List Written) BadClass
     → Result LinkedImage Refusal → Type 0
 IsPluggedTo order modules (Ok resources) result =
     result ≡ laid_out order modules resources (layout_refusal order resources)
-IsPluggedTo order modules (Err error) (Ok image) = ⊥
-IsPluggedTo order modules (Err error) (Err refusal) = plugging_refusal error ≡ Some refusal
+IsPluggedTo order modules (Err fault) result = result ≡ Err (plugging_refusal fault)
 
 -- what the resources of so many modules come to: the plug-ins act on them, and what these leave is
 -- laid out
 abbrev pub PlugsTo : Request → ℕ → List Written → Result LinkedImage Refusal → Type 0
 PlugsTo asked modules resources result =
-    (left : Result (List Written) ApplyError) × Applies asked.plugins resources left
+    (left : Result (List Written) BadClass) × Applies asked.plugins resources left
     × IsPluggedTo asked.order modules left result
 
 -- the first unfit name of the resources of so many modules is refused, else the plug-ins act on
@@ -109,28 +105,26 @@ IsGatheredTo asked modules resources None result = PlugsTo asked modules resourc
 
 -- The closure
 
--- the refusal of a closure as one of a link; none for want of memory
-abbrev pub closing_refusal : CloseError → Option Refusal
-closing_refusal (closing.NoRoot name) = Some (refusal.NoRoot name)
-closing_refusal (closing.Missing name by) = Some (refusal.Missing name by)
-closing_refusal (closing.Cycle name) = Some (refusal.Cycle name)
+-- the fault of a closure as the refusal of a link
+abbrev pub closing_refusal : CloseFault → Refusal
+closing_refusal (closing.NoRoot name) = refusal.NoRoot name
+closing_refusal (closing.Missing name by) = refusal.Missing name by
+closing_refusal (closing.Cycle name) = refusal.Cycle name
 closing_refusal (closing.SplitPackage shared first second) =
-    Some (refusal.SplitPackage shared first second)
-closing_refusal closing.Memory = None
+    refusal.SplitPackage shared first second
 
--- what the resources of the modules at a closure's places come to, or its refusal
-abbrev pub IsClosedTo : Request → (List ℕ → List Written) → Result (List ℕ) CloseError
+-- what the resources of the modules at a closure's places come to, or its fault is refused
+abbrev pub IsClosedTo : Request → (List ℕ → List Written) → Result (List ℕ) CloseFault
     → Result LinkedImage Refusal → Type 0
 IsClosedTo asked resources (Ok places) result =
     IsGatheredTo asked (length places) (resources places) (first_bad_name (resources places)) result
-IsClosedTo asked resources (Err error) (Ok image) = ⊥
-IsClosedTo asked resources (Err error) (Err refusal) = closing_refusal error ≡ Some refusal
+IsClosedTo asked resources (Err fault) result = result ≡ Err (closing_refusal fault)
 
 -- what the closure of the roots among the modules found comes to
 abbrev pub IsLinkedOf : Request → List Candidate → (List ℕ → List Written)
     → Result LinkedImage Refusal → Type 0
 IsLinkedOf asked found resources result =
-    (closed : Result (List ℕ) CloseError)
+    (closed : Result (List ℕ) CloseFault)
     × Closes found asked.roots (Chosen asked.bind found asked.roots) closed
     × IsClosedTo asked resources closed result
 

@@ -1,15 +1,16 @@
 -- What a step of a `link` answers, and why it ends the work (this project's rule).
-use Rattle.std.specs.Prelude.{Option, Some, None, Result, Ok, Err}
+use Rattle.std.specs.Prelude.{Result, Ok, Err}
+use Rattle.jm_bytes.specs.declared.faults.Or.{Or}
+use Rattle.jm_bytes.specs.declared.faults.Or.TheVariants as or
 use Rattle.jm_modpath.specs.declared.refusal.PathStop.{PathStop}
 use Rattle.jm_modpath.specs.declared.refusal.PathStop.TheVariants as path_stop
 use Rattle.jm_outside.specs.declared.shelf.ShelfError.{ShelfError}
 use Rattle.jm_outside.specs.declared.shelf.ShelfError.TheVariants as outside
-use Rattle.jm_relink.specs.declared.error.GatherError.{GatherError}
-use Rattle.jm_relink.specs.declared.error.GatherError.TheVariants as gather
+use Rattle.jm_relink.specs.declared.fault.GatherFault.{GatherFault}
 use Rattle.jm_texts.specs.declared.refusal.Refusal.{Refusal}
 use Rattle.jm_texts.specs.declared.refusal.Refusal.TheVariants as refusal
-use Rattle.jm_writer.specs.declared.draft.PlanError.{PlanError}
-use Rattle.jm_writer.specs.declared.draft.PlanError.TheVariants as plan
+use Rattle.jm_writer.specs.declared.draft.PlanFault.{PlanFault}
+use Rattle.jm_writer.specs.declared.draft.PlanFault.TheVariants as plan
 use Rattle.jm_link.specs.declared.linking.LinkStop.{LinkStop}
 use Rattle.jm_link.specs.declared.linking.LinkStop.TheVariants as stop
 use Rattle.jm_link.specs.Linked.{path_refusal_as}
@@ -28,10 +29,10 @@ abbrev pub StepGives : {A : Type 0} → (A → Type 0) → (Refusal → Type 0) 
 StepGives Gives Refuses Absent Fails (Ok given) = Gives given
 StepGives Gives Refuses Absent Fails (Err stop) = StepStops Refuses Absent Fails stop
 
--- why a refusal ends the work, and want of memory where there is none
-abbrev pub stop_of_refusal : Option Refusal → LinkStop
-stop_of_refusal (Some given) = stop.Refused given
-stop_of_refusal None = stop.Memory
+-- why a fault ends the work, which is refused so, or want of memory
+abbrev pub stop_of_fault : {F : Type 0} → (F → Refusal) → Or F → LinkStop
+stop_of_fault refusal_of (or.Fault fault) = stop.Refused (refusal_of fault)
+stop_of_fault refusal_of or.Memory = stop.Memory
 
 -- why a call of a shelf ends the work
 abbrev pub stop_of : ShelfError → LinkStop
@@ -45,15 +46,13 @@ stop_of_path (path_stop.NotThere path) = stop.NotThere path
 stop_of_path path_stop.Outside = stop.Outside
 stop_of_path path_stop.Memory = stop.Memory
 
--- the refusal of an image's resources as one of a link; none for want of memory
-abbrev pub gathering_refusal : GatherError → Option Refusal
-gathering_refusal (gather.BadName name fault) = Some (refusal.BadName name fault)
-gathering_refusal gather.Memory = None
+-- the fault of an image's resources as the refusal of a link
+abbrev pub gathering_refusal : GatherFault → Refusal
+gathering_refusal bad = refusal.BadName bad.name bad.fault
 
--- the refusal of a plan as one of a link; none for want of memory
-abbrev pub plan_refusal : PlanError → Option Refusal
-plan_refusal (plan.Clash name) = Some (refusal.Clash name)
-plan_refusal (plan.TooMany count) = Some (refusal.TooMany count)
-plan_refusal (plan.NoTable lengths) = Some (refusal.NoTable lengths)
-plan_refusal (plan.TooLarge length) = Some (refusal.TooLarge length)
-plan_refusal plan.Memory = None
+-- the fault of a plan as the refusal of a link
+abbrev pub plan_refusal : PlanFault → Refusal
+plan_refusal (plan.Clash name) = refusal.Clash name
+plan_refusal (plan.TooMany count) = refusal.TooMany count
+plan_refusal (plan.NoTable lengths) = refusal.NoTable lengths
+plan_refusal (plan.TooLarge length) = refusal.TooLarge length

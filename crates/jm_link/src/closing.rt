@@ -2,13 +2,13 @@
 ghost use Rattle.std.specs.Prelude.{◌≡◌, None, Some};
 ghost use Rattle.jm_closure.specs.Names.{NamesDiffer};
 ghost use Rattle.jm_link.specs.Chosen.{is_called, reserved};
-ghost use Rattle.jm_link.specs.Closing.{ClosesAmong, ClosesWith};
+ghost use Rattle.jm_link.specs.Closing.{ClosesAmong};
 ghost use Rattle.jm_link.specs.Steps.{StepGives};
 
 use crate::linking::LinkStop;
 use jm_bind::bind;
 use jm_bytes::{List, Text};
-use jm_closure::{Candidate, CloseError, close};
+use jm_closure::{Candidate, close};
 use jm_texts::Refusal;
 use jm_words::LinkTask;
 use std::alloc::Global;
@@ -38,23 +38,16 @@ fn refuse_reserved(alloc: Global, found: &[Candidate]) -> Result<(), LinkStop>
     Err(LinkStop::Refused(Refusal::ReservedModule(name)))
 }
 
-/// The closure of the roots, or with service binding what is bound.
-fn chosen(alloc: Global, found: &[Candidate], task: &LinkTask) -> Result<List<usize>, CloseError>
-    requires { NamesDiffer found.now }
-    ensures { ClosesWith task.now.bind found.now task.now.roots result }
-{
-    if task.bind {
-        bind(alloc, found, task.roots.as_slice())
-    } else {
-        close(alloc, found, task.roots.as_slice())
-    }
-}
-
 /// The places of the modules that are linked, rising by name.
 pub fn closed(alloc: Global, found: &[Candidate], task: &LinkTask) -> Result<List<usize>, LinkStop>
     requires { NamesDiffer found.now }
     ensures { ClosesAmong found.now task.now.roots task.now.bind result }
 {
     refuse_reserved(alloc, found)?;
-    Ok(chosen(alloc, found, task)?)
+    let roots = task.roots.as_slice();
+    if task.bind {
+        Ok(bind(alloc, found, roots)?)
+    } else {
+        Ok(close(alloc, found, roots)?)
+    }
 }

@@ -45,40 +45,6 @@ impl HasName for ResourceFile {
     }
 }
 
-/// A file of a module, by its path within the module's folder.
-fn file_of(
-    alloc: Global,
-    module: &Candidate,
-    folder: &ModuleFolder,
-    path: &[u8],
-) -> Result<ResourceFile, NoMemory>
-    ensures { IfOk result (λ file.
-        pair_of file ≡ file_of (module_with_folder («module».now, folder.now)) path.now) }
-{
-    let name = resource_name(alloc, module.descriptor.name.as_slice(), path)?;
-    let path = inside(alloc, folder.path.as_slice(), path)?;
-    Ok(ResourceFile {
-        name: Text::from_vec(name),
-        path,
-    })
-}
-
-/// The files of a module in the order of their paths.
-fn files_of(
-    alloc: Global,
-    module: &Candidate,
-    folder: &ModuleFolder,
-) -> Result<List<ResourceFile>, NoMemory>
-    ensures { IfOk result (λ files. map pair_of files
-        ≡ map (file_of (module_with_folder («module».now, folder.now))) folder.now.files) }
-{
-    let mut files = List::new(alloc);
-    for path in folder.files.as_slice() {
-        files.push(file_of(alloc, module, folder, path.as_slice())?)?;
-    }
-    Ok(files)
-}
-
 /// The files of a module, rising by name.
 fn module_files(
     alloc: Global,
@@ -89,7 +55,16 @@ fn module_files(
     ensures { IfOk result (λ files. map pair_of files
         ≡ module_files (module_with_folder («module».now, folder.now))) }
 {
-    Ok(sorted_by_name(files_of(alloc, module, folder)?))
+    let mut files = List::new(alloc);
+    for path in folder.files.as_slice() {
+        let inside_module = path.as_slice();
+        let name = resource_name(alloc, module.descriptor.name.as_slice(), inside_module)?;
+        files.push(ResourceFile {
+            name: Text::from_vec(name),
+            path: inside(alloc, folder.path.as_slice(), inside_module)?,
+        })?;
+    }
+    Ok(sorted_by_name(files))
 }
 
 /// Puts some files behind others.
@@ -142,35 +117,6 @@ pub fn link_files(
     }
 }
 
-/// The bytes of a file.
-fn read_file<S: Shelf>(alloc: Global, path: Text, shelf: &mut S) -> Result<Text, LinkStop>
-    requires text { IsUtf8 path }
-    requires told { Shows (S.files shelf.old) (λ told. file told path ≢ None) }
-    ensures files { S.files shelf.new ≡ S.files shelf.old }
-    ensures bytes { IfOk result (λ bytes.
-        Shows (S.files shelf.old) (λ told. bytes ≡ bytes_at told path)) }
-    ensures stops { OnlyFails (S.files shelf.old) result }
-    ensures faults { CountsFaults (S.faults shelf.old) (S.faults shelf.new) (IsOk result)
-        (IsErrOf result LinkStop.Outside) }
-{
-    match shelf.read(alloc, path.as_slice())? {
-        Some(bytes) => Ok(bytes),
-        None => Err(LinkStop::NotThere(path)),
-    }
-}
-
-/// Puts a resource at the end, whose name is new.
-fn put_resource(pool: &mut Pool, name: Text, bytes: Text) -> Result<(), NoMemory>
-    requires { bytes_of name pool.old ≡ None }
-    ensures { OnOk result (pool.new ≡ pool.old ++ (name, bytes) ∷ []) }
-{
-    match pool.push(name, bytes) {
-        Ok(()) => Ok(()),
-        // The name isn't there, so no memory was found.
-        Err(_) => Err(NoMemory),
-    }
-}
-
 /// Puts the resource that a file is at the end.
 fn read_resource<S: Shelf>(
     alloc: Global,
@@ -190,8 +136,10 @@ fn read_resource<S: Shelf>(
         (IsErrOf result LinkStop.Outside) }
 {
     let ResourceFile { name, path } = resource;
-    let bytes = read_file(alloc, path, shelf)?;
-    Ok(put_resource(pool, name, bytes)?)
+    match shelf.read(alloc, path.as_slice())? {
+        Some(bytes) => Ok(pool.push(name, bytes)?),
+        None => Err(LinkStop::NotThere(path)),
+    }
 }
 
 /// The resources that these files are, in their order. Each file is read once.

@@ -3,17 +3,17 @@ ghost use Rattle.std.specs.Prelude.{◌≡◌};
 ghost use Rattle.jm_link.specs.ImageLinked.{image_refusal};
 ghost use Rattle.jm_link.specs.Linked.{closing_refusal, plugging_refusal};
 ghost use Rattle.jm_link.specs.Steps.{gathering_refusal, plan_refusal, stop_of, stop_of_path};
-ghost use Rattle.jm_link.specs.Steps.{stop_of_refusal};
+ghost use Rattle.jm_link.specs.Steps.{stop_of_fault};
 
 use crate::linking::LinkStop;
-use jm_bytes::NoMemory;
-use jm_closure::CloseError;
+use jm_bytes::{NoMemory, Or};
+use jm_closure::CloseFault;
 use jm_modpath::{PathRefusal, PathStop};
 use jm_outside::ShelfError;
-use jm_plugins::ApplyError;
-use jm_relink::{GatherError, RelinkError};
+use jm_plugins::BadClass;
+use jm_relink::{GatherFault, RelinkFault};
 use jm_texts::Refusal;
-use jm_writer::PlanError;
+use jm_writer::PlanFault;
 
 impl From<NoMemory> for LinkStop {
     ghost use Rattle.jm_link.specs.declared.linking.LinkStop.TheVariants.{Memory};
@@ -54,78 +54,84 @@ impl From<PathStop> for LinkStop {
     }
 }
 
-impl From<RelinkError> for LinkStop {
-    ghost from_gives = { λ error stop. stop ≡ stop_of_refusal (image_refusal error) };
+impl From<Or<RelinkFault>> for LinkStop {
+    ghost from_gives = { λ error stop. stop ≡ stop_of_fault image_refusal error };
 
-    fn from(error: RelinkError) -> LinkStop {
+    fn from(error: Or<RelinkFault>) -> LinkStop {
         match error {
-            RelinkError::BadInfo { name, fault } => {
+            Or::Fault(RelinkFault::BadInfo { name, fault }) => {
                 LinkStop::Refused(Refusal::BadEntry { name, fault })
             }
-            RelinkError::Foreign(name) => LinkStop::Refused(Refusal::Foreign(name)),
-            RelinkError::Memory => LinkStop::Memory,
+            Or::Fault(RelinkFault::Foreign(name)) => LinkStop::Refused(Refusal::Foreign(name)),
+            Or::Memory => LinkStop::Memory,
         }
     }
 }
 
-impl From<CloseError> for LinkStop {
-    ghost from_gives = { λ error stop. stop ≡ stop_of_refusal (closing_refusal error) };
+impl From<Or<CloseFault>> for LinkStop {
+    ghost from_gives = { λ error stop. stop ≡ stop_of_fault closing_refusal error };
 
-    fn from(error: CloseError) -> LinkStop {
-        match error {
-            CloseError::NoRoot(name) => LinkStop::Refused(Refusal::NoRoot(name)),
-            CloseError::Missing { name, by } => LinkStop::Refused(Refusal::Missing { name, by }),
-            CloseError::Cycle(name) => LinkStop::Refused(Refusal::Cycle(name)),
-            CloseError::SplitPackage {
+    fn from(error: Or<CloseFault>) -> LinkStop {
+        let fault = match error {
+            Or::Fault(fault) => fault,
+            Or::Memory => return LinkStop::Memory,
+        };
+        LinkStop::Refused(match fault {
+            CloseFault::NoRoot(name) => Refusal::NoRoot(name),
+            CloseFault::Missing { name, by } => Refusal::Missing { name, by },
+            CloseFault::Cycle(name) => Refusal::Cycle(name),
+            CloseFault::SplitPackage {
                 package,
                 first,
                 second,
-            } => LinkStop::Refused(Refusal::SplitPackage {
+            } => Refusal::SplitPackage {
                 package,
                 first,
                 second,
-            }),
-            CloseError::Memory => LinkStop::Memory,
-        }
+            },
+        })
     }
 }
 
-impl From<GatherError> for LinkStop {
-    ghost from_gives = { λ error stop. stop ≡ stop_of_refusal (gathering_refusal error) };
+impl From<Or<GatherFault>> for LinkStop {
+    ghost from_gives = { λ error stop. stop ≡ stop_of_fault gathering_refusal error };
 
-    fn from(error: GatherError) -> LinkStop {
+    fn from(error: Or<GatherFault>) -> LinkStop {
         match error {
-            GatherError::BadName { name, fault } => {
+            Or::Fault(GatherFault { name, fault }) => {
                 LinkStop::Refused(Refusal::BadName { name, fault })
             }
-            GatherError::Memory => LinkStop::Memory,
+            Or::Memory => LinkStop::Memory,
         }
     }
 }
 
-impl From<ApplyError> for LinkStop {
-    ghost from_gives = { λ error stop. stop ≡ stop_of_refusal (plugging_refusal error) };
+impl From<Or<BadClass>> for LinkStop {
+    ghost from_gives = { λ error stop. stop ≡ stop_of_fault plugging_refusal error };
 
-    fn from(error: ApplyError) -> LinkStop {
+    fn from(error: Or<BadClass>) -> LinkStop {
         match error {
-            ApplyError::BadClass { name, fault } => {
+            Or::Fault(BadClass { name, fault }) => {
                 LinkStop::Refused(Refusal::BadClass { name, fault })
             }
-            ApplyError::Memory => LinkStop::Memory,
+            Or::Memory => LinkStop::Memory,
         }
     }
 }
 
-impl From<PlanError> for LinkStop {
-    ghost from_gives = { λ error stop. stop ≡ stop_of_refusal (plan_refusal error) };
+impl From<Or<PlanFault>> for LinkStop {
+    ghost from_gives = { λ error stop. stop ≡ stop_of_fault plan_refusal error };
 
-    fn from(error: PlanError) -> LinkStop {
-        match error {
-            PlanError::Clash(name) => LinkStop::Refused(Refusal::Clash(name)),
-            PlanError::TooMany(count) => LinkStop::Refused(Refusal::TooMany(count)),
-            PlanError::NoTable(lengths) => LinkStop::Refused(Refusal::NoTable(lengths)),
-            PlanError::TooLarge(length) => LinkStop::Refused(Refusal::TooLarge(length)),
-            PlanError::Memory => LinkStop::Memory,
-        }
+    fn from(error: Or<PlanFault>) -> LinkStop {
+        let fault = match error {
+            Or::Fault(fault) => fault,
+            Or::Memory => return LinkStop::Memory,
+        };
+        LinkStop::Refused(match fault {
+            PlanFault::Clash(name) => Refusal::Clash(name),
+            PlanFault::TooMany(count) => Refusal::TooMany(count),
+            PlanFault::NoTable(lengths) => Refusal::NoTable(lengths),
+            PlanFault::TooLarge(length) => Refusal::TooLarge(length),
+        })
     }
 }

@@ -3,8 +3,8 @@ ghost use Rattle.jm_closure.specs.Names.{NamesDiffer};
 use crate::candidates::candidates;
 use crate::texts::{say, texts_of};
 use jm_bind::bind;
-use jm_bytes::{List, NoMemory, Text};
-use jm_closure::{Candidate, CloseError, close, names_differ};
+use jm_bytes::{List, NoMemory, Or, Text};
+use jm_closure::{Candidate, CloseFault, close, names_differ};
 use std::alloc::Global;
 use std::test::Fail;
 
@@ -12,22 +12,28 @@ use std::test::Fail;
 fn tell(
     out: &mut Vec<u8>,
     found: &[Candidate],
-    answer: &Result<List<usize>, CloseError>,
+    answer: &Result<List<usize>, Or<CloseFault>>,
 ) -> Result<(), NoMemory> {
     match answer {
         Ok(places) => tell_names(out, found, places.as_slice()),
-        Err(CloseError::NoRoot(name)) => say(out, &[b"NoRoot", name.as_slice()]),
-        Err(CloseError::Missing { name, by }) => {
+        Err(Or::Fault(fault)) => tell_fault(out, fault),
+        Err(Or::Memory) => Err(NoMemory),
+    }
+}
+
+/// Says a refusal.
+fn tell_fault(out: &mut Vec<u8>, fault: &CloseFault) -> Result<(), NoMemory> {
+    match fault {
+        CloseFault::NoRoot(name) => say(out, &[b"NoRoot", name.as_slice()]),
+        CloseFault::Missing { name, by } => {
             say(out, &[b"Missing", name.as_slice(), by.as_slice()])
         }
-        Err(CloseError::Cycle(name)) => say(out, &[b"Cycle", name.as_slice()]),
-        Err(
-            CloseError::SplitPackage {
-                package,
-                first,
-                second,
-            },
-        ) => say(
+        CloseFault::Cycle(name) => say(out, &[b"Cycle", name.as_slice()]),
+        CloseFault::SplitPackage {
+            package,
+            first,
+            second,
+        } => say(
             out,
             &[
                 b"SplitPackage",
@@ -36,7 +42,6 @@ fn tell(
                 second.as_slice(),
             ],
         ),
-        Err(CloseError::Memory) => Err(NoMemory),
     }
 }
 

@@ -1,13 +1,13 @@
 //! The commands that words make, told as a line: the command, what it names, and its jobs.
 
-use jm_bytes::{List, Order, Text};
+use jm_bytes::{List, Or, Order, Text};
 use jm_pattern::Pattern;
-use jm_words::{Command, GenTask, ImageWork, LinkTask, Plugin, Task, WordsError, read_words};
+use jm_words::{Command, GenTask, ImageWork, LinkTask, Plugin, Task, WordsFault, read_words};
 use std::alloc::{AllocError, Global};
 use std::test::Fail;
 
 /// The command of a text's words, of which `""` is the empty one.
-fn read(alloc: Global, text: &str) -> Result<Result<Command, WordsError>, Fail> {
+fn read(alloc: Global, text: &str) -> Result<Result<Command, Or<WordsFault>>, Fail> {
     let mut words = Vec::new(alloc);
     for word in text.split(' ') {
         let word = if word == "\"\"" { "" } else { word };
@@ -181,7 +181,8 @@ fn told(alloc: Global, words: &str) -> Result<String, Fail> {
             tell_more(&mut line, &command.task)?;
             Ok(line)
         }
-        Err(error) => Ok(format!(in alloc; "{error}")?),
+        Err(Or::Fault(fault)) => Ok(format!(in alloc; "{fault}")?),
+        Err(Or::Memory) => Ok(String::from_str(alloc, "no memory")?),
     }
 }
 

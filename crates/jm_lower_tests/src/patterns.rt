@@ -1,4 +1,5 @@
-use jm_pattern::{Pattern, PatternError, read_list};
+use jm_bytes::Or;
+use jm_pattern::{Pattern, PatternFault, read_list};
 use std::alloc::Global;
 use std::test::Fail;
 
@@ -139,7 +140,7 @@ const ESCAPES: &[(&str, &[u8], &[u8], bool)] = &[
     ("the sign for a file", b"@a", b"@a", true),
 ];
 
-fn matches(alloc: Global, pattern: &[u8], name: &[u8]) -> Result<bool, PatternError> {
+fn matches(alloc: Global, pattern: &[u8], name: &[u8]) -> Result<bool, Or<PatternFault>> {
     Ok(Pattern::parse(alloc, pattern)?.matches(name))
 }
 
@@ -154,29 +155,29 @@ fn patterns_match(rt: HostRuntime) {
 }
 
 /// What is shown; a text and its fault, if it is no pattern.
-const FAULTS: &[(&str, &[u8], Option<PatternError>)] = &[
+const FAULTS: &[(&str, &[u8], Option<PatternFault>)] = &[
     (
         "an escape at the end",
         b"a\\",
-        Some(PatternError::BadEscape(1)),
+        Some(PatternFault::BadEscape(1)),
     ),
-    ("an escape alone", b"\\", Some(PatternError::BadEscape(0))),
+    ("an escape alone", b"\\", Some(PatternFault::BadEscape(0))),
     (
         "an escape behind one",
         b"\\\\\\",
-        Some(PatternError::BadEscape(2)),
+        Some(PatternFault::BadEscape(2)),
     ),
     (
         "an escape behind two stars",
         b"**\\",
-        Some(PatternError::BadEscape(2)),
+        Some(PatternFault::BadEscape(2)),
     ),
     (
         "an escape behind an escaped byte",
         b"*?\\a\\",
-        Some(PatternError::BadEscape(4)),
+        Some(PatternFault::BadEscape(4)),
     ),
-    ("the empty text", b"", Some(PatternError::Empty)),
+    ("the empty text", b"", Some(PatternFault::Empty)),
     ("an escaped escape", b"\\\\", None),
     ("a comma cuts a list alone", b"a,", None),
     ("a prefix is refused in a list alone", b"regex:a", None),
@@ -186,7 +187,7 @@ const FAULTS: &[(&str, &[u8], Option<PatternError>)] = &[
 fn texts_are_refused(rt: HostRuntime) {
     for (shows, text, want) in FAULTS {
         let got = Pattern::parse(rt.alloc(), text).err();
-        assert_eq!(rt; got, *want, "{shows}");
+        assert_eq!(rt; got, want.map(Or::Fault), "{shows}");
     }
 }
 
@@ -246,51 +247,51 @@ const LISTS: &[(&str, &[u8], &[u8], Option<usize>)] = &[
 ];
 
 /// What is shown; a text that is no list, and its fault.
-const NO_LISTS: &[(&str, &[u8], PatternError)] = &[
+const NO_LISTS: &[(&str, &[u8], PatternFault)] = &[
     (
         "a prefix of the second item",
         b"a,regex:b",
-        PatternError::Prefix(1),
+        PatternFault::Prefix(1),
     ),
     (
         "a prefix before a bad escape of the same item",
         b"regex:a\\",
-        PatternError::Prefix(0),
+        PatternFault::Prefix(0),
     ),
-    ("a sign for a file alone", b"@", PatternError::Prefix(0)),
+    ("a sign for a file alone", b"@", PatternFault::Prefix(0)),
     (
         "an escaped comma cuts no item",
         b"a,b\\,@c,@d,",
-        PatternError::Prefix(2),
+        PatternFault::Prefix(2),
     ),
-    ("no item", b"", PatternError::Empty),
-    ("an empty item at the end", b"a,", PatternError::Empty),
-    ("an empty item at the front", b",a", PatternError::Empty),
+    ("no item", b"", PatternFault::Empty),
+    ("an empty item at the end", b"a,", PatternFault::Empty),
+    ("an empty item at the front", b",a", PatternFault::Empty),
     (
         "an empty item before a prefix",
         b"a,,@b",
-        PatternError::Empty,
+        PatternFault::Empty,
     ),
-    ("a prefix and nothing", b"glob:", PatternError::Empty),
+    ("a prefix and nothing", b"glob:", PatternFault::Empty),
     (
         "a prefix before an empty item",
         b"@a,,",
-        PatternError::Prefix(0),
+        PatternFault::Prefix(0),
     ),
-    ("a bad escape", b"a\\", PatternError::BadEscape(1)),
+    ("a bad escape", b"a\\", PatternFault::BadEscape(1)),
     (
         "a bad escape of the second item, counted from its start",
         b"ab,c\\",
-        PatternError::BadEscape(1),
+        PatternFault::BadEscape(1),
     ),
     (
         "a bad escape behind a prefix, counted from its end",
         b"glob:ab\\",
-        PatternError::BadEscape(2),
+        PatternFault::BadEscape(2),
     ),
 ];
 
-fn first_match(alloc: Global, list: &[u8], name: &[u8]) -> Result<Option<usize>, PatternError> {
+fn first_match(alloc: Global, list: &[u8], name: &[u8]) -> Result<Option<usize>, Or<PatternFault>> {
     let patterns = read_list(alloc, list)?;
     Ok(
         patterns
@@ -308,7 +309,7 @@ fn lists_are_read(rt: HostRuntime) {
     }
     for (shows, list, fault) in NO_LISTS {
         let got = first_match(rt.alloc(), list, b"");
-        assert_eq!(rt; got, Err(*fault), "{shows}");
+        assert_eq!(rt; got, Err(Or::Fault(*fault)), "{shows}");
     }
 }
 

@@ -1,15 +1,16 @@
 use crate::meeting::Meeting;
 use crate::pools::{pool_of, told};
-use jm_bytes::List;
+use jm_bytes::{List, Or};
 use jm_halves::NoGate;
-use jm_pattern::{PatternError, read_list};
-use jm_plugins::{ApplyError, Plugin, apply};
+use jm_pattern::{PatternFault, read_list};
+use jm_plugins::{BadClass, apply};
 use jm_pool::Pool;
+use jm_words::Plugin;
 use std::alloc::Global;
 use std::test::Fail;
 
 /// A plug-in, as its name and, behind a `=`, its patterns; none for any other word.
-fn plug_in(alloc: Global, word: &str) -> Result<Option<Plugin>, PatternError> {
+fn plug_in(alloc: Global, word: &str) -> Result<Option<Plugin>, Or<PatternFault>> {
     if let Some(patterns) = word.strip_prefix("order=") {
         return Ok(Some(Plugin::Order(read_list(alloc, patterns.as_bytes())?)));
     }
@@ -25,7 +26,7 @@ fn plug_in(alloc: Global, word: &str) -> Result<Option<Plugin>, PatternError> {
 }
 
 /// Plug-ins, with spaces between them.
-fn plug_ins(alloc: Global, words: &str) -> Result<List<Plugin>, PatternError> {
+fn plug_ins(alloc: Global, words: &str) -> Result<List<Plugin>, Or<PatternFault>> {
     let mut list = List::new(alloc);
     for word in words.split(' ') {
         if let Some(plugin) = plug_in(alloc, word)? {
@@ -146,14 +147,14 @@ const REFUSED: &[(&str, &str, &str, &str)] = &[
 ];
 
 /// What plug-ins left, as words.
-fn left(alloc: Global, left: &Result<Pool, ApplyError>) -> Result<String, Fail> {
+fn left(alloc: Global, left: &Result<Pool, Or<BadClass>>) -> Result<String, Fail> {
     match left {
         Ok(pool) => told(alloc, pool),
-        Err(ApplyError::BadClass { name, fault }) => {
+        Err(Or::Fault(BadClass { name, fault })) => {
             let name = str::from_utf8(name.as_slice())?;
             Ok(format!(in alloc; "BadClass {name} {fault}")?)
         }
-        Err(ApplyError::Memory) => Ok(String::from_str(alloc, "no memory")?),
+        Err(Or::Memory) => Ok(String::from_str(alloc, "no memory")?),
     }
 }
 

@@ -3,25 +3,25 @@
 ghost use Rattle.std.specs.Prelude.{◌≡◌, length};
 
 use crate::class_bytes::{bytes_of, word_of};
-use jm_bytes::{NoMemory, Text, extend};
-use jm_pool::{Pool, PushError};
+use jm_bytes::{NoMemory, Or, Text, extend};
+use jm_pool::{Pool, Twice};
 use std::alloc::Global;
 use std::test::Fail;
 
 /// Puts the pair of a word into a pool.
-fn push(alloc: Global, pool: &mut Pool, word: &str) -> Result<(), PushError> {
+fn push(alloc: Global, pool: &mut Pool, word: &str) -> Result<(), Or<Twice>> {
     let (name, bytes) = word.split_once('=').unwrap_or((word, ""));
     match (
         Text::copy_of(alloc, name.as_bytes()),
         bytes_of(alloc, bytes),
     ) {
-        (Ok(name), Ok(bytes)) => pool.push(name, bytes),
-        _ => Err(PushError::Memory),
+        (Ok(name), Ok(bytes)) => pool.try_push(name, bytes),
+        _ => Err(Or::Memory),
     }
 }
 
 /// The pool of some words.
-pub fn pool_of(alloc: Global, words: &str) -> Result<Pool, PushError> {
+pub fn pool_of(alloc: Global, words: &str) -> Result<Pool, Or<Twice>> {
     let mut pool = Pool::new(alloc);
     for word in words.split(' ') {
         push(alloc, &mut pool, word)?;
@@ -107,7 +107,7 @@ fn a_pool_is_a_list_of_pairs(rt: HostRuntime) -> Result<(), Fail> {
 fn a_name_is_taken_once(rt: HostRuntime) -> Result<(), Fail> {
     let mut pool = pool_of(rt.alloc(), "/a/x=1")?;
     match push(rt.alloc(), &mut pool, "/a/x=2") {
-        Err(PushError::Twice(name)) => assert_eq!(rt; name.as_slice(), b"/a/x".as_slice()),
+        Err(Or::Fault(Twice(name))) => assert_eq!(rt; name.as_slice(), b"/a/x".as_slice()),
         other => assert!(rt; false, "the second push of a name: {other:?}"),
     }
     assert_eq!(rt; told(rt.alloc(), &pool)?.as_str(), "/a/x=1", "as before");

@@ -1,24 +1,25 @@
 use crate::texts::texts_of;
+use jm_form::Redirect;
 use jm_redirect::{Table, build};
 use std::alloc::Global;
 use std::test::Fail;
 
-/// What is shown; names, the length of their table, its redirect words and its slots.
-const TABLES: &[(&str, &str, u32, &[i32], &[u32])] = &[
+/// What is shown; names, the length of their table, its redirects and its slots.
+const TABLES: &[(&str, &str, u32, &[Redirect], &[u32])] = &[
     ("no name", "", 0, &[], &[]),
-    ("one name", "a", 1, &[-1], &[0]),
+    ("one name", "a", 1, &[Redirect::Slot(0)], &[0]),
     (
         "a bucket of two, which gets a seed",
         "a b c",
         3,
-        &[0, -3, 1],
+        &[Redirect::Nowhere, Redirect::Slot(2), Redirect::Seed(1)],
         &[1, 0, 2],
     ),
     (
         "a length that is no table's first",
         "/packages /modules",
         3,
-        &[-1, -2, 0],
+        &[Redirect::Slot(0), Redirect::Slot(1), Redirect::Nowhere],
         &[1, 0],
     ),
 ];
@@ -34,11 +35,15 @@ fn table_of(alloc: Global, names: &str) -> Result<Option<Table>, Fail> {
 
 #[test]
 fn a_few_names_have_their_tables(rt: HostRuntime) -> Result<(), Fail> {
-    for (shows, names, length, redirect, slots) in TABLES {
+    for (shows, names, length, redirects, slots) in TABLES {
         match table_of(rt.alloc(), names)? {
             Some(table) => {
                 assert_eq!(rt; table.length, *length, "{shows}: the length");
-                assert_eq!(rt; table.redirect.as_slice(), *redirect, "{shows}: the words");
+                assert_eq!(rt;
+                    table.redirects.as_slice(),
+                    *redirects,
+                    "{shows}: the redirects"
+                );
                 assert_eq!(rt; table.slot_of.as_slice(), *slots, "{shows}: the slots");
             }
             None => assert!(rt; false, "{shows}: too many names"),

@@ -15,8 +15,8 @@ use Rattle.jm_modinfo.specs.ComputedInfo.{only_body, body_info, main_named, main
 use Rattle.jm_modinfo.specs.Constants.{number_in, named_at}
 use Rattle.jm_modinfo.specs.declared.constants.Kind.TheVariants.{Class}
 use Rattle.jm_modinfo.specs.declared.descriptor.Descriptor.{Descriptor}
-use Rattle.jm_modinfo.specs.declared.faults.InfoError.{InfoError}
-use Rattle.jm_modinfo.specs.declared.faults.InfoError.TheVariants.{Fault}
+use Rattle.jm_bytes.specs.declared.faults.Or.{Or}
+use Rattle.jm_bytes.specs.declared.faults.Or.TheVariants.{Fault}
 use Rattle.jm_modinfo.specs.declared.faults.InfoFault.{InfoFault}
 use Rattle.jm_modinfo.specs.declared.faults.InfoFault.TheVariants as info
 use Rattle.jm_modinfo.specs.Descriptors.{module_bodies, main_bodies}
@@ -112,11 +112,11 @@ module _ (c : ClassData) (f : InfoFault) where
 
 -- What the code answered
 
-pub described_first : (c : ClassData) (result : Result Descriptor InfoError) (f : InfoFault) → Answers (λ d. d) (info_of c) result
+pub described_first : (c : ClassData) (result : Result Descriptor (Or InfoFault)) (f : InfoFault) → Answers (λ d. d) (info_of c) result
     → result ≡ Err (Fault f) → HasInfoFault c f
 described_first c result f is refused = info_fault-rule c f (described_fault c result f is refused)
 
-pub described_allowed : (c : ClassData) (result : Result Descriptor InfoError) → Answers (λ d. d) (info_of c) result
+pub described_allowed : (c : ClassData) (result : Result Descriptor (Or InfoFault)) → Answers (λ d. d) (info_of c) result
     → OnOk result ((f : InfoFault) → HasInfoFault c f → ⊥)
 described_allowed c (Ok d) is = λ f has. let both = sym (described_sound c (Ok d) is) ∙ rule-info_fault c f has in cc
 described_allowed c (Err error) is = tt

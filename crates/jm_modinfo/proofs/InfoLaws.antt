@@ -15,8 +15,8 @@ use Rattle.jm_modinfo.specs.declared.constants.Kind.TheVariants.{Class}
 use Rattle.jm_modinfo.specs.declared.descriptor.Descriptor.{Descriptor}
 use Rattle.jm_modinfo.specs.declared.faults.InfoFault.{InfoFault}
 use Rattle.jm_modinfo.specs.declared.faults.InfoFault.TheVariants.{NotModule, OldVersion}
-use Rattle.jm_modinfo.specs.declared.faults.InfoError.{InfoError}
-use Rattle.jm_modinfo.specs.declared.faults.InfoError.TheVariants.{Fault, Memory}
+use Rattle.jm_bytes.specs.declared.faults.Or.{Or}
+use Rattle.jm_bytes.specs.declared.faults.Or.TheVariants.{Fault, Memory}
 use Rattle.jm_modinfo.specs.Descriptors.{IsIndex, IsModuleBody, IsMain, module_bodies, main_bodies, InfoOf}
 use Rattle.jm_modinfo.specs.Faults.{fault_of, body_fault, info_fault}
 use Rattle.jm_modinfo.specs.Flags.{is_module}
@@ -108,17 +108,17 @@ info-computed c d info =
 
 -- What the code answered
 
-pub described_only : (c : ClassData) (result : Result Descriptor InfoError) → Answers (λ d. d) (info_of c) result
+pub described_only : (c : ClassData) (result : Result Descriptor (Or InfoFault)) → Answers (λ d. d) (info_of c) result
     → IfOk result (λ d. (other : Descriptor) → InfoOf c other → other ≡ d)
 described_only c (Ok d) is = λ other info. same_ok {E = InfoFault} other d (sym (info-computed c other info) ∙ is)
 described_only c (Err error) is = tt
 
-pub described_sound : (c : ClassData) (result : Result Descriptor InfoError) → Answers (λ d. d) (info_of c) result
+pub described_sound : (c : ClassData) (result : Result Descriptor (Or InfoFault)) → Answers (λ d. d) (info_of c) result
     → OnOk result (info_fault c ≡ None)
 described_sound c (Ok d) is = info_fault-of c ∙ ap fault_of is
 described_sound c (Err error) is = tt
 
-pub described_fault : (c : ClassData) (result : Result Descriptor InfoError) (fault : InfoFault)
+pub described_fault : (c : ClassData) (result : Result Descriptor (Or InfoFault)) (fault : InfoFault)
     → Answers (λ d. d) (info_of c) result → result ≡ Err (Fault fault) → info_fault c ≡ Some fault
 described_fault c (Ok d) fault is refused = cc
 described_fault c (Err Memory) fault is refused = cc
@@ -129,7 +129,7 @@ described_fault c (Err (Fault found)) fault is refused =
 pub info-no_fault : (c : ClassData) (d : Descriptor) → InfoOf c d → info_fault c ≡ None
 info-no_fault c d info = info_fault-of c ∙ ap fault_of (info-computed c d info)
 
-pub described_none : (c : ClassData) (result : Result Descriptor InfoError) (fault : InfoFault) (d : Descriptor)
+pub described_none : (c : ClassData) (result : Result Descriptor (Or InfoFault)) (fault : InfoFault) (d : Descriptor)
     → Answers (λ d. d) (info_of c) result → result ≡ Err (Fault fault) → InfoOf c d → ⊥
 described_none c result fault d is refused info =
     let both = sym (info-no_fault c d info) ∙ described_fault c result fault is refused in

@@ -1,5 +1,6 @@
 pub mod BodiesLaws
 pub mod BodyFaultLaws
+pub mod DescriptionLaws
 pub mod FieldTells
 pub mod InfoFaultLaws
 pub mod InfoLaws

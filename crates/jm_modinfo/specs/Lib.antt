@@ -1,5 +1,6 @@
 pub mod Constants
 pub mod ComputedInfo
+pub mod Descriptions
 pub mod Descriptors
 pub mod Faults
 pub mod FaultText

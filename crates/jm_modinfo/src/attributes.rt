@@ -9,8 +9,8 @@ ghost use Rattle.jm_modinfo.specs.Descriptors.{IsIndex, IsMain};
 ghost use Rattle.jm_modinfo.specs.Views.{Answers};
 
 use crate::constants::{Kind, named, number_in};
-use crate::faults::{InfoError, InfoFault};
-use jm_bytes::Text;
+use crate::faults::InfoFault;
+use jm_bytes::{Or, Text};
 use jm_class::{Attribute, Body, Class, utf8};
 use std::alloc::Global;
 
@@ -50,14 +50,14 @@ fn first_named<'a, 'c>(
 }
 
 /// The bytes of the one attribute `Module` of a class.
-pub fn module_body<'a>(class: &Class<'a>) -> Result<&'a [u8], InfoError>
+pub fn module_body<'a>(class: &Class<'a>) -> Result<&'a [u8], Or<InfoFault>>
     ensures { Answers (λ body. body.now) (only_body (module_bodies (plain class.now))) result }
 {
     match first_named(class, b"Module", class.attributes.as_slice()) {
-        None => Err(InfoError::Fault(InfoFault::NoModule)),
+        None => Err(Or::Fault(InfoFault::NoModule)),
         Some((body, behind)) => match first_named(class, b"Module", behind) {
             None => Ok(body),
-            Some(_) => Err(InfoError::Fault(InfoFault::TwoModule)),
+            Some(_) => Err(Or::Fault(InfoFault::TwoModule)),
         },
     }
 }
@@ -73,7 +73,7 @@ fn main_named<'a>(class: &Class<'a>, body: &[u8]) -> Option<&'a [u8]>
 }
 
 /// The main class of a module, if it has one.
-pub fn main_class(alloc: Global, class: &Class) -> Result<Option<Text>, InfoError>
+pub fn main_class(alloc: Global, class: &Class) -> Result<Option<Text>, Or<InfoFault>>
     ensures main { Answers (λ main. main)
         (main_of (plain class.now).pool (main_bodies (plain class.now))) result }
     ensures says { IfOk result (λ main.
@@ -84,11 +84,11 @@ pub fn main_class(alloc: Global, class: &Class) -> Result<Option<Text>, InfoErro
         None => Ok(None),
         Some((body, behind)) => {
             if first_named(class, name, behind).is_some() {
-                return Err(InfoError::Fault(InfoFault::Main));
+                return Err(Or::Fault(InfoFault::Main));
             }
             match main_named(class, body) {
                 Some(text) => Ok(Some(Text::copy_of(alloc, text)?)),
-                None => Err(InfoError::Fault(InfoFault::Main)),
+                None => Err(Or::Fault(InfoFault::Main)),
             }
         }
     }

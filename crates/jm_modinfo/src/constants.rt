@@ -45,19 +45,12 @@ pub fn number_in(bytes: &[u8]) -> Option<u16>
     }
 }
 
-/// What stands in the pool at a number, from 1 on.
-fn slot_at<'a, 'c>(class: &'c Class<'a>, index: u16) -> Option<&'c Slot<'a>>
-    ensures { option_map (λ slot. slot_of slot.now) result ≡ slot_at (plain class.now).pool index }
-{
-    let place = usize::from(index).checked_sub(1)?;
-    class.pool.as_slice().get(place)
-}
-
 /// The text for which the constant of a number stands; none where it isn't of this kind.
 pub fn named<'a>(class: &Class<'a>, kind: Kind, index: u16) -> Option<&'a [u8]>
     ensures { option_map (λ text. text.now) result ≡ named_at (plain class.now).pool kind index }
 {
-    match slot_at(class, index)? {
+    let place = usize::from(index).checked_sub(1)?;
+    match class.pool.as_slice().get(place)? {
         Slot::Constant { tag, body } => {
             if *tag == kind.tag() {
                 utf8(class, number_in(body)?)
@@ -83,19 +76,13 @@ fn has_legal_bytes(name: &[u8]) -> bool
     name.iter().all(|byte| is_legal_byte(*byte))
 }
 
-/// Whether a name is legal for a module, by the rule of this project.
-pub fn is_legal(name: &[u8]) -> bool
-    ensures { result ≡ is_legal name.now }
-{
-    !name.is_empty() && has_legal_bytes(name)
-}
-
-/// Whether a text may stand where a constant of a kind does.
+/// Whether a text may stand where a constant of a kind does. Which names are legal for a module is
+/// this project's rule.
 pub fn is_allowed(kind: Kind, text: &[u8]) -> bool
     ensures { result ≡ is_allowed kind text.now }
 {
     match kind {
-        Kind::Module => is_legal(text),
+        Kind::Module => !text.is_empty() && has_legal_bytes(text),
         Kind::Class | Kind::Package => true,
     }
 }

@@ -1,23 +1,27 @@
-ghost use Rattle.std.specs.Prelude.{◌≡◌, None, Some, Err, IfOk, OnOk};
+ghost use Rattle.std.specs.Prelude.{◌≡◌, true, None, Some, Err, IfOk, OnOk};
+ghost use Rattle.jm_bytes.specs.declared.faults.Or.TheVariants.{Fault};
+ghost use Rattle.jm_bytes.specs.Results.{IfAnswered};
 ghost use Rattle.jm_class.specs.Classes.{IsClass};
 ghost use Rattle.jm_class.specs.Views.{plain};
 ghost use Rattle.jm_modinfo.specs.declared.descriptor.Descriptor.{Descriptor};
-ghost use Rattle.jm_modinfo.specs.declared.faults.InfoError.TheVariants.{Fault};
 ghost use Rattle.jm_modinfo.specs.InfoFaults.{HasInfoFault};
 ghost use Rattle.jm_modinfo.specs.ComputedInfo.{body_info, info_of};
+ghost use Rattle.jm_modinfo.specs.Constants.{is_legal};
+ghost use Rattle.jm_modinfo.specs.Descriptions.{info_in};
 ghost use Rattle.jm_modinfo.specs.Descriptors.{InfoOf, IsModuleBody};
 ghost use Rattle.jm_modinfo.specs.Faults.{info_fault};
 ghost use Rattle.jm_modinfo.specs.Views.{Answers};
 
 use crate::attributes::{main_class, module_body};
 use crate::descriptor::Descriptor;
-use crate::faults::{InfoError, InfoFault};
+use crate::faults::{DescriptorFault, InfoFault};
 use crate::fields::module;
-use jm_class::{Class, Cursor};
+use jm_bytes::Or;
+use jm_class::{Class, Cursor, read};
 use std::alloc::Global;
 
 /// The fields of the Module attribute, and nothing behind them.
-fn whole_module(alloc: Global, class: &Class, body: &[u8]) -> Result<Descriptor, InfoError>
+fn whole_module(alloc: Global, class: &Class, body: &[u8]) -> Result<Descriptor, Or<InfoFault>>
     ensures info { Answers (λ d. d) (body_info (plain class.now).pool body.now) result }
     ensures says { IfOk result (λ d. IsModuleBody (plain class.now).pool d body.now) }
     ensures main { IfOk result (λ d. d.main ≡ None) }
@@ -25,21 +29,21 @@ fn whole_module(alloc: Global, class: &Class, body: &[u8]) -> Result<Descriptor,
     let mut cursor = Cursor::new(body);
     let descriptor = module(alloc, &mut cursor, class)?;
     if cursor.len() != 0 {
-        return Err(InfoError::Fault(InfoFault::Rest(cursor.place())));
+        return Err(Or::Fault(InfoFault::Rest(cursor.place())));
     }
     Ok(descriptor)
 }
 
 /// The descriptor of a class, or its first fault.
-fn info(alloc: Global, class: &Class) -> Result<Descriptor, InfoError>
+fn info(alloc: Global, class: &Class) -> Result<Descriptor, Or<InfoFault>>
     ensures info { Answers (λ d. d) (info_of (plain class.now)) result }
     ensures says { IfOk result (λ d. InfoOf (plain class.now) d) }
 {
     if class.access & 0x8000 == 0 {
-        return Err(InfoError::Fault(InfoFault::NotModule));
+        return Err(Or::Fault(InfoFault::NotModule));
     }
     if class.major < 53 {
-        return Err(InfoError::Fault(InfoFault::OldVersion(class.major)));
+        return Err(Or::Fault(InfoFault::OldVersion(class.major)));
     }
     let body = module_body(class)?;
     let mut descriptor = whole_module(alloc, class, body)?;
@@ -49,7 +53,7 @@ fn info(alloc: Global, class: &Class) -> Result<Descriptor, InfoError>
 
 /// What the class of a module says. A fault is the first by JVMS 4.7.25 and the rules of this
 /// project.
-pub fn describe(alloc: Global, class: &Class) -> Result<Descriptor, InfoError>
+pub fn describe(alloc: Global, class: &Class) -> Result<Descriptor, Or<InfoFault>>
     requires { IsClass (plain class.now) }
     ensures info { IfOk result (λ d. InfoOf (plain class.now) d) }
     ensures only { IfOk result (λ d.
@@ -64,4 +68,22 @@ pub fn describe(alloc: Global, class: &Class) -> Result<Descriptor, InfoError>
         → (d : Descriptor) → ¬ InfoOf (plain class.now) d }
 {
     info(alloc, class)
+}
+
+/// What bytes say as the class of a module: they are read as a class, which is described. The fault
+/// is that of the class, or else that of its descriptor.
+pub fn describe_bytes(alloc: Global, bytes: &[u8]) -> Result<Descriptor, Or<DescriptorFault>>
+    ensures info { IfAnswered (λ r. r ≡ info_in bytes.now) result }
+    ensures legal { IfOk result (λ d. is_legal d.name ≡ true) }
+{
+    let class = match read(alloc, bytes) {
+        Ok(class) => class,
+        Err(Or::Fault(fault)) => return Err(Or::Fault(DescriptorFault::Class(fault))),
+        Err(Or::Memory) => return Err(Or::Memory),
+    };
+    match describe(alloc, &class) {
+        Ok(descriptor) => Ok(descriptor),
+        Err(Or::Fault(fault)) => Err(Or::Fault(DescriptorFault::Info(fault))),
+        Err(Or::Memory) => Err(Or::Memory),
+    }
 }

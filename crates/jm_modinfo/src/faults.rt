@@ -1,7 +1,6 @@
-ghost use Rattle.std.specs.Prelude.{◌≡◌, Some};
+ghost use Rattle.std.specs.Prelude.{Some};
 ghost use Rattle.jm_modinfo.specs.FaultText.{info_fault_text, descriptor_fault_text};
 
-use jm_bytes::NoMemory;
 use jm_class::ClassFault;
 use std::fmt;
 
@@ -45,35 +44,6 @@ impl fmt::Display for InfoFault {
             InfoFault::Name(at) => write!(f, "Name {at}"),
             InfoFault::Main => write!(f, "Main"),
         }
-    }
-}
-
-/// Why a class gives no descriptor.
-#[derive(Clone, Copy, Debug, PartialEq, Eq)]
-pub enum InfoError {
-    /// It is none, by its first fault.
-    Fault(InfoFault),
-    /// No memory was found.
-    Memory,
-}
-
-impl From<NoMemory> for InfoError {
-    ghost use Rattle.jm_modinfo.specs.declared.faults.InfoError.TheVariants.{Memory};
-
-    ghost from_gives = { λ _ e. e ≡ Memory };
-
-    fn from(_none: NoMemory) -> InfoError {
-        InfoError::Memory
-    }
-}
-
-impl From<InfoFault> for InfoError {
-    ghost use Rattle.jm_modinfo.specs.declared.faults.InfoError.TheVariants.{Fault};
-
-    ghost from_gives = { λ f e. e ≡ Fault f };
-
-    fn from(fault: InfoFault) -> InfoError {
-        InfoError::Fault(fault)
     }
 }
 

@@ -1,28 +1,32 @@
 ghost use Rattle.jm_class.specs.Readings.{list_of};
-ghost use Rattle.jm_class.specs.Views.{plain};
+ghost use Rattle.jm_class.specs.Views.{Gives, plain};
 ghost use Rattle.jm_modinfo.specs.ComputedInfo.{short_number, named_field, names_field};
 ghost use Rattle.jm_modinfo.specs.ComputedInfo.{version_field, need_field, opened_field};
 ghost use Rattle.jm_modinfo.specs.ComputedInfo.{provides_field, module_field};
 ghost use Rattle.jm_modinfo.specs.declared.faults.InfoFault.TheVariants.{Short};
-ghost use Rattle.jm_modinfo.specs.Views.{Gives};
 
 use crate::constants::{Kind, is_allowed, named};
 use crate::descriptor::{Descriptor, Need, Opened, Provides};
-use crate::faults::{InfoError, InfoFault};
-use jm_bytes::{List, Text};
+use crate::faults::InfoFault;
+use jm_bytes::{List, Or, Text};
 use jm_class::{Class, Cursor, utf8};
 use std::alloc::Global;
 
 /// A number of two bytes.
-fn number(cursor: &mut Cursor) -> Result<u16, InfoError>
+fn number(cursor: &mut Cursor) -> Result<u16, Or<InfoFault>>
     ensures { Gives (λ n. n) (short_number cursor.old) result cursor.new }
 {
     let at = cursor.place();
-    cursor.u16().ok_or(InfoError::Fault(InfoFault::Short(at)))
+    cursor.u16().ok_or(Or::Fault(InfoFault::Short(at)))
 }
 
 /// The index of a constant of a kind, as the text for which it stands.
-fn name(alloc: Global, cursor: &mut Cursor, class: &Class, kind: Kind) -> Result<Text, InfoError>
+fn name(
+    alloc: Global,
+    cursor: &mut Cursor,
+    class: &Class,
+    kind: Kind,
+) -> Result<Text, Or<InfoFault>>
     ensures { Gives (λ text. text) (named_field (plain class.now).pool kind cursor.old)
         result cursor.new }
 {
@@ -31,16 +35,16 @@ fn name(alloc: Global, cursor: &mut Cursor, class: &Class, kind: Kind) -> Result
     match named(class, kind, index) {
         Some(text) => {
             if !is_allowed(kind, text) {
-                return Err(InfoError::Fault(InfoFault::Name(at)));
+                return Err(Or::Fault(InfoFault::Name(at)));
             }
             Ok(Text::copy_of(alloc, text)?)
         }
-        None => Err(InfoError::Fault(InfoFault::Index(at))),
+        None => Err(Or::Fault(InfoFault::Index(at))),
     }
 }
 
 /// The index of a version, or 0 for none.
-fn version(alloc: Global, cursor: &mut Cursor, class: &Class) -> Result<Option<Text>, InfoError>
+fn version(alloc: Global, cursor: &mut Cursor, class: &Class) -> Result<Option<Text>, Or<InfoFault>>
     ensures { Gives (λ version. version) (version_field (plain class.now).pool cursor.old)
         result cursor.new }
 {
@@ -51,7 +55,7 @@ fn version(alloc: Global, cursor: &mut Cursor, class: &Class) -> Result<Option<T
     }
     match utf8(class, index) {
         Some(text) => Ok(Some(Text::copy_of(alloc, text)?)),
-        None => Err(InfoError::Fault(InfoFault::Index(at))),
+        None => Err(Or::Fault(InfoFault::Index(at))),
     }
 }
 
@@ -61,7 +65,7 @@ fn names(
     cursor: &mut Cursor,
     class: &Class,
     kind: Kind,
-) -> Result<List<Text>, InfoError>
+) -> Result<List<Text>, Or<InfoFault>>
     ensures { Gives (λ names. names) (names_field (plain class.now).pool kind cursor.old)
         result cursor.new }
 {
@@ -74,65 +78,44 @@ fn names(
     Ok(names)
 }
 
-/// A module that is required.
-fn need(alloc: Global, cursor: &mut Cursor, class: &Class) -> Result<Need, InfoError>
-    ensures { Gives (λ n. n) (need_field (plain class.now).pool cursor.old) result cursor.new }
-{
-    let name = name(alloc, cursor, class, Kind::Module)?;
-    let flags = number(cursor)?;
-    let version = version(alloc, cursor, class)?;
-    Ok(Need {
-        name,
-        flags,
-        version,
-    })
-}
-
 /// The modules that are required.
-fn needs(alloc: Global, cursor: &mut Cursor, class: &Class) -> Result<List<Need>, InfoError>
+fn needs(alloc: Global, cursor: &mut Cursor, class: &Class) -> Result<List<Need>, Or<InfoFault>>
     ensures { Gives (λ needs. needs)
         (list_of Short (need_field (plain class.now).pool) cursor.old) result cursor.new }
 {
     let count = number(cursor)?;
     let mut needs = List::new(alloc);
     for _k in 0..count {
-        let need = need(alloc, cursor, class)?;
-        needs.push(need)?;
+        let name = name(alloc, cursor, class, Kind::Module)?;
+        let flags = number(cursor)?;
+        let version = version(alloc, cursor, class)?;
+        needs.push(Need {
+            name,
+            flags,
+            version,
+        })?;
     }
     Ok(needs)
 }
 
-/// A package that is exported or opened.
-fn opened(alloc: Global, cursor: &mut Cursor, class: &Class) -> Result<Opened, InfoError>
-    ensures { Gives (λ p. p) (opened_field (plain class.now).pool cursor.old) result cursor.new }
-{
-    let package = name(alloc, cursor, class, Kind::Package)?;
-    let flags = number(cursor)?;
-    let to = names(alloc, cursor, class, Kind::Module)?;
-    Ok(Opened { package, flags, to })
-}
-
 /// The packages that are exported or opened.
-fn all_opened(alloc: Global, cursor: &mut Cursor, class: &Class) -> Result<List<Opened>, InfoError>
+fn all_opened(
+    alloc: Global,
+    cursor: &mut Cursor,
+    class: &Class,
+) -> Result<List<Opened>, Or<InfoFault>>
     ensures { Gives (λ all. all)
         (list_of Short (opened_field (plain class.now).pool) cursor.old) result cursor.new }
 {
     let count = number(cursor)?;
     let mut all = List::new(alloc);
     for _k in 0..count {
-        let one = opened(alloc, cursor, class)?;
-        all.push(one)?;
+        let package = name(alloc, cursor, class, Kind::Package)?;
+        let flags = number(cursor)?;
+        let to = names(alloc, cursor, class, Kind::Module)?;
+        all.push(Opened { package, flags, to })?;
     }
     Ok(all)
-}
-
-/// A service that is provided.
-fn provides(alloc: Global, cursor: &mut Cursor, class: &Class) -> Result<Provides, InfoError>
-    ensures { Gives (λ p. p) (provides_field (plain class.now).pool cursor.old) result cursor.new }
-{
-    let service = name(alloc, cursor, class, Kind::Class)?;
-    let classes = names(alloc, cursor, class, Kind::Class)?;
-    Ok(Provides { service, classes })
 }
 
 /// The services that are provided.
@@ -140,21 +123,26 @@ fn all_provides(
     alloc: Global,
     cursor: &mut Cursor,
     class: &Class,
-) -> Result<List<Provides>, InfoError>
+) -> Result<List<Provides>, Or<InfoFault>>
     ensures { Gives (λ all. all)
         (list_of Short (provides_field (plain class.now).pool) cursor.old) result cursor.new }
 {
     let count = number(cursor)?;
     let mut all = List::new(alloc);
     for _k in 0..count {
-        let one = provides(alloc, cursor, class)?;
-        all.push(one)?;
+        let service = name(alloc, cursor, class, Kind::Class)?;
+        let classes = names(alloc, cursor, class, Kind::Class)?;
+        all.push(Provides { service, classes })?;
     }
     Ok(all)
 }
 
 /// The fields of the Module attribute. The main class stands elsewhere.
-pub fn module(alloc: Global, cursor: &mut Cursor, class: &Class) -> Result<Descriptor, InfoError>
+pub fn module(
+    alloc: Global,
+    cursor: &mut Cursor,
+    class: &Class,
+) -> Result<Descriptor, Or<InfoFault>>
     ensures { Gives (λ d. d) (module_field (plain class.now).pool cursor.old) result cursor.new }
 {
     let name = name(alloc, cursor, class, Kind::Module)?;

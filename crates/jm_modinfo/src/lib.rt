@@ -9,7 +9,7 @@ mod faults;
 mod fields;
 mod writing;
 
-pub use describing::describe;
+pub use describing::{describe, describe_bytes};
 pub use descriptor::{Descriptor, Need, Opened, Provides};
-pub use faults::{DescriptorFault, InfoError, InfoFault};
+pub use faults::{DescriptorFault, InfoFault};
 pub use writing::write_info;

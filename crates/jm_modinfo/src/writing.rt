@@ -156,23 +156,6 @@ fn class<'a>(
     })
 }
 
-/// The text of that class.
-fn text<'a>(
-    alloc: Global,
-    name: &'a [u8],
-    needs: &'a [Need],
-    numbers: &'a [u8],
-    body: &'a [u8],
-) -> Result<Text, NoMemory>
-    requires numbers { numbers.now ≡ numbers_text 6 (length needs.now) }
-    requires body { body.now ≡ info_body needs.now }
-    requires fits { IsClass (info_class name.now needs.now) }
-    ensures { IfOk result (λ text. text ≡ info_text name.now needs.now) }
-{
-    let class = class(alloc, name, needs, numbers, body)?;
-    write(alloc, &class)
-}
-
 /// The class of a module of this name that only requires others, as JVMS 4.7.25 and the rules of
 /// this project lay it out.
 pub fn write_info(alloc: Global, name: &[u8], needs: &[Need]) -> Result<Text, NoMemory>
@@ -187,5 +170,6 @@ pub fn write_info(alloc: Global, name: &[u8], needs: &[Need]) -> Result<Text, No
 {
     let body = body(alloc, needs)?;
     let numbers = name_numbers(alloc, needs.len() as u16)?;
-    text(alloc, name, needs, numbers.as_slice(), body.as_slice())
+    let class = class(alloc, name, needs, numbers.as_slice(), body.as_slice())?;
+    write(alloc, &class)
 }

@@ -1,10 +1,7 @@
 pub mod FolderLaws
 pub mod FoundLaws
-pub mod InfoAnswers
 pub mod ModulesLaws
-pub mod PackageLaws
 pub mod PathLaws
 pub mod PathVectors
-pub mod SetLaws
 pub mod StepLaws
 pub mod TextCuts

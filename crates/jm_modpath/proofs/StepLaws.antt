@@ -27,7 +27,9 @@ use Rattle.jm_modpath.specs.declared.refusal.PathRefusal.{PathRefusal}
 use Rattle.jm_modpath.specs.declared.visible.VisibleModule.{VisibleModule}
 use Rattle.jm_modpath.specs.Finding.{Comes, added_due, folder_due, folders_among, folders_due, info_due}
 use Rattle.jm_modpath.specs.Finding.{names_within, refused_at, shown_due}
-use Rattle.jm_modpath.specs.Modules.{folder_info, folder_with_info, info_in, info_name, info_path, inside, is_named, name_of, unhidden}
+use Rattle.jm_form.specs.ModuleFiles.{info_name}
+use Rattle.jm_modinfo.specs.Descriptions.{info_in}
+use Rattle.jm_modpath.specs.Modules.{folder_info, folder_with_info, info_path, inside, is_named, name_of, unhidden}
 use Rattle.jm_form.proofs.RisingLaws.{from_rising}
 
 pub info_is_text : IsUtf8 info_name

@@ -1,12 +1,11 @@
 -- What is cut out of a text at a slash is text, and what is put together with a slash.
-use Rattle.std.proofs.Common.{◌≡◌, ℕ, suc, ◌+◌, ◌<◌, ◌||◌, ap, ◌∙◌, Bool, true, false, List, [], ◌∷◌, ◌++◌}
-use Rattle.std.proofs.Common.{take, drop, length, length-append, get_or, cond, All, IsUtf8, Option, Some}
-use Rattle.std.proofs.Common.{None, Result, Ok, Err, IfOk, refl, sym, subst, arith, rules, lit<}
+use Rattle.std.proofs.Common.{◌≡◌, ℕ, Bool, true, false, List, [], ◌∷◌, ◌++◌}
+use Rattle.std.proofs.Common.{drop, length, length-append, get_or, cond, All, IsUtf8, Option, Some}
+use Rattle.std.proofs.Common.{None, Result, Ok, Err, IfOk, refl, subst, arith, rules, lit<}
 use Rattle.std.specs.List.{list_any, before_first, filter_map, position_or_len}
 use Rattle.std.specs.Str.{IsCharBoundary}
 use Rattle.std.proofs.lemmas.Bool.{eqb-true}
-use Rattle.std.proofs.lemmas.List.{take_at, drop_at, take_more}
-use Rattle.std.proofs.lemmas.List.Elements.{filter_map-append}
+use Rattle.std.proofs.lemmas.List.{take_at, drop_at}
 use Rattle.std.proofs.lemmas.List.Sums.{passes_at_first}
 use Rattle.std.proofs.lemmas.Str.{IsCharBoundary-before_ascii, IsCharBoundary-from_take, IsUtf8-append}
 use Rattle.std.proofs.lemmas.Str.{IsUtf8-drop, IsUtf8-encode, IsUtf8-take, encode_ascii}
@@ -15,9 +14,9 @@ use Rattle.jm_bytes.proofs.Members.{all_filter_map}
 use Rattle.jm_names.specs.Names.{is_slash}
 use Rattle.jm_outside.specs.Files.{after_front}
 use Rattle.jm_outside.proofs.Names.{front_of}
+use Rattle.jm_form.proofs.RisingLaws.{rising_all}
 use Rattle.jm_modpath.specs.Finding.{folders_among, names_within}
 use Rattle.jm_modpath.specs.Modules.{folder_with_info, inside}
-use Rattle.jm_modpath.proofs.SetLaws.{rising_all}
 
 pub before_is_text : (text : List ℕ) → IsUtf8 text → list_any is_slash text ≡ true → IsUtf8 (before_first is_slash text)
 before_is_text text is some =
@@ -72,25 +71,3 @@ texts_of (Err e) texts is all = tt
 pub folders_are_text : (names : List (List ℕ)) → All IsUtf8 names → All IsUtf8 (folders_among names)
 folders_are_text names all = rising_all IsUtf8 (filter_map folder_with_info names) (all_filter_map IsUtf8 IsUtf8 folder_with_info
     (λ name folder own h. folder_is_text name folder own h) names all)
-
--- a list that grows with what a function gives of each item
-pub grown : {X Y : Type 0} (f : X → Option Y) (xs : List X) (i : ℕ) (x : X) (old new : List Y) → i < length xs → x ≡ get_or xs i x
-    → new ≡ old ++ filter_map f (x ∷ []) → old ≡ filter_map f (take i xs) → new ≡ filter_map f (take (i + 1) xs)
-grown f xs i x old new below is put so_far =
-    rw (put, so_far, take_more xs i x below, ← is) (sym (filter_map-append f (take i xs) (x ∷ [])))
-
--- Behind a front
-
-pub any_behind : (p : ℕ → Bool) (front back : List ℕ) → list_any p back ≡ true → list_any p (front ++ back) ≡ true
-any_behind p [] back some = some
-any_behind p (b ∷ front) back some = go (p b) (any_behind p front back some)
-  where
-    go : (c : Bool) → list_any p (front ++ back) ≡ true → (c || list_any p (front ++ back)) ≡ true
-    go true rest = refl
-    go false rest = rest
-
-pub drop_front : (front back : List ℕ) (k : ℕ) → drop (length front + k) (front ++ back) ≡ drop k back
-drop_front [] back k = let none : 0 + k ≡ k = omega arith in ap (λ n. drop n back) none
-drop_front (b ∷ front) back k =
-    let next : length (b ∷ front) + k ≡ suc (length front + k) = omega arith in
-    ap (λ n. drop n (b ∷ (front ++ back))) next ∙ drop_front front back k

@@ -1,23 +1,18 @@
 -- What the steps come to that look for the modules of a module path (this project's rule).
 use Rattle.std.specs.Prelude.{ℕ, ◌≡◌, ◌≢◌, true, List, [], ◌∷◌, ◌++◌, filter_map}
 use Rattle.std.specs.Prelude.{if◌then◌else◌}
-use Rattle.std.specs.Prelude.{All, AllPairs, IsUtf8, Option, Some, None, option_map, Result, Ok}
-use Rattle.std.specs.Prelude.{Err, codes, not, ◌&&◌, nat_eq}
-use Rattle.std.specs.List.{before_last, ends_with, list_any}
+use Rattle.std.specs.Prelude.{All, AllPairs, IsUtf8, Some, None, Result, Ok}
+use Rattle.std.specs.Prelude.{Err}
 use Rattle.jm_bytes.specs.Checks.{first_fault, unless_fault}
 use Rattle.jm_bytes.specs.Results.{followed}
 use Rattle.jm_closure.specs.Names.{NamesDiffer}
 use Rattle.jm_form.specs.Rising.{rising}
-use Rattle.jm_form.specs.Trees.{is_meta, path_of}
 use Rattle.jm_modinfo.specs.declared.descriptor.Descriptor.{Descriptor}
 use Rattle.jm_modinfo.specs.declared.faults.DescriptorFault.{DescriptorFault}
 use Rattle.jm_modinfo.specs.Constants.{is_legal}
-use Rattle.jm_names.specs.Names.{dotted, is_empty, is_slash}
 use Rattle.jm_outside.specs.declared.shelf.ShelfError.{ShelfError}
 use Rattle.jm_outside.specs.declared.shelf.ShelfError.TheVariants as outside
 use Rattle.jm_outside.specs.Files.{Files, after_front, names_below}
-use Rattle.jm_modpath.specs.declared.info.InfoStop.{InfoStop}
-use Rattle.jm_modpath.specs.declared.info.InfoStop.TheVariants as info_stop
 use Rattle.jm_modpath.specs.declared.refusal.PathStop.{PathStop}
 use Rattle.jm_modpath.specs.declared.refusal.PathStop.TheVariants as stop
 use Rattle.jm_modpath.specs.declared.refusal.PathRefusal.{PathRefusal}
@@ -53,29 +48,7 @@ folders_among names = rising (filter_map folder_with_info names)
 abbrev pub names_within : List ℕ → List (List ℕ) → List (List ℕ)
 names_within folder names = filter_map (after_front (folder ++ 47 ∷ [])) names
 
--- the folder of a path within a module that is that of a class in a package
-abbrev pub class_folder : List ℕ → Option (List ℕ)
-class_folder path =
-    if ends_with nat_eq path (codes ".class") && list_any is_slash path
-    && not (is_empty (before_last is_slash path)) && not (is_meta (before_last is_slash path))
-    then Some (before_last is_slash path)
-    else None
-
--- the package of a path that is that of a class in one
-abbrev pub class_package : List ℕ → Option (List ℕ)
-class_package path = option_map dotted (class_folder path)
-
--- the same by the name of the resource
-abbrev pub named_package : List ℕ → Option (List ℕ)
-named_package name = class_package (path_of name)
-
 -- Folders
-
--- bytes were read as the descriptor of a module, or refused by their first fault
-abbrev pub Described : Result Descriptor DescriptorFault → Result Descriptor InfoStop → Type 0
-Described due (Ok d) = due ≡ Ok d
-Described due (Err (info_stop.Fault fault)) = due ≡ Err fault
-Described due (Err info_stop.Memory) = Unit {0}
 
 -- the descriptor, or the refusal of the file at this path
 abbrev pub refused_at : List ℕ → Result Descriptor DescriptorFault → Result Descriptor PathRefusal

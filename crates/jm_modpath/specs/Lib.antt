@@ -2,4 +2,3 @@ pub mod Finding
 pub mod FoundView
 pub mod Modules
 pub mod ModulesView
-pub mod TextView

@@ -1,24 +1,20 @@
 -- The modules that a module path shows: folders of its directories that hold a `module-info.class`
 -- (JEP 261, exploded modules; that a folder stands directly in a directory, and which module hides
 -- another, is this project's rule).
-use Rattle.std.specs.Prelude.{ℕ, ◌&&◌, not, Bool, List, [], ◌∷◌, ◌++◌, length, map, take, codes}
+use Rattle.std.specs.Prelude.{ℕ, ◌&&◌, not, Bool, List, [], ◌∷◌, ◌++◌, length, map, take}
 use Rattle.std.specs.Prelude.{Option, Some, None, unwrap_or, Result, Ok, Err, slice_index_or}
 use Rattle.std.specs.Prelude.{if◌then◌else◌}
 use Rattle.std.specs.List.{after_first, before_first, filter_map, flat_map, list_any}
 use Rattle.std.specs.List.{range_with_len}
 use Rattle.std.specs.Str.{bytes_eq}
 use Rattle.jm_bytes.specs.Checks.{fault_if, first_fault}
-use Rattle.jm_class.specs.declared.class.ClassFault.{ClassFault}
-use Rattle.jm_class.specs.Classes.{ClassData}
-use Rattle.jm_class.specs.ComputedClass.{class_of}
 use Rattle.jm_closure.specs.declared.candidate.Candidate.{Candidate}
+use Rattle.jm_form.specs.ModuleFiles.{info_name}
 use Rattle.jm_form.specs.Rising.{rising}
 use Rattle.jm_form.specs.Trees.{class_packages}
 use Rattle.jm_modinfo.specs.declared.descriptor.Descriptor.{Descriptor}
 use Rattle.jm_modinfo.specs.declared.faults.DescriptorFault.{DescriptorFault}
-use Rattle.jm_modinfo.specs.declared.faults.DescriptorFault.TheVariants as fault_of
-use Rattle.jm_modinfo.specs.declared.faults.InfoFault.{InfoFault}
-use Rattle.jm_modinfo.specs.ComputedInfo.{info_of}
+use Rattle.jm_modinfo.specs.Descriptions.{info_in}
 use Rattle.jm_names.specs.Names.{is_empty, is_slash}
 use Rattle.jm_names.specs.UtfForms.{modified}
 use Rattle.jm_outside.specs.Files.{Files, file, names_below}
@@ -31,10 +27,6 @@ use Rattle.jm_modpath.specs.declared.visible.VisibleModule.{VisibleModule}
 -- a name within a folder, as a path
 abbrev pub inside : List ℕ → List ℕ → List ℕ
 inside folder name = folder ++ 47 ∷ name
-
--- the name of the file that makes a folder a module: `module-info.class`
-abbrev pub info_name : List ℕ
-info_name = codes "module-info.class"
 
 -- the path of the file that makes a folder a module
 abbrev pub info_path : List ℕ → List ℕ
@@ -60,20 +52,6 @@ abbrev pub folders_in : Files → List ℕ → List (List ℕ)
 folders_in files directory = rising (filter_map folder_with_info (names_below directory files))
 
 -- What a folder shows
-
--- the descriptor by the class that bytes read as (JVMS 4), or the fault of the class or of its
--- descriptor
-abbrev pub info_with : Result ClassData ClassFault → Result Descriptor DescriptorFault
-info_with (Err fault) = Err (fault_of.Class fault)
-info_with (Ok c) = described (info_of c)
-  where
-    described : Result Descriptor InfoFault → Result Descriptor DescriptorFault
-    described (Ok d) = Ok d
-    described (Err fault) = Err (fault_of.Info fault)
-
--- what bytes say as the class of a module, or their first fault
-abbrev pub info_in : List ℕ → Result Descriptor DescriptorFault
-info_in bytes = info_with (class_of bytes)
 
 -- what the `module-info.class` of a folder says, or its first fault
 abbrev pub folder_info : Files → List ℕ → Result Descriptor DescriptorFault

@@ -2,31 +2,27 @@
 ghost use Rattle.std.specs.Prelude.{◌≡◌, ◌∷◌, ◌++◌, [], All, Contains, IsUtf8, IfOk, IsOk, IsErrOf};
 ghost use Rattle.std.specs.Prelude.{None, Ok, Err, ◌≢◌};
 ghost use Rattle.std.specs.Prelude.{true, false};
-ghost use Rattle.jm_class.specs.Classes.{ClassData, IsClass};
-ghost use Rattle.jm_class.specs.Views.{plain};
-ghost use Rattle.jm_modinfo.specs.ComputedInfo.{info_of};
 ghost use Rattle.jm_modinfo.specs.Constants.{is_legal};
+ghost use Rattle.jm_modinfo.specs.Descriptions.{info_in};
 ghost use Rattle.jm_outside.specs.Files.{Rising, file, names_below};
 ghost use Rattle.jm_outside.specs.Outcome.{CountsFaults, Shows};
-ghost use Rattle.jm_modpath.specs.Finding.{Comes, Described, HasTexts, added_due, directory_due};
+ghost use Rattle.jm_modpath.specs.Finding.{Comes, HasTexts, added_due, directory_due};
 ghost use Rattle.jm_modpath.specs.Finding.{folder_due};
 ghost use Rattle.jm_modpath.specs.Finding.{folders_among, folders_due, info_due, names_within};
 ghost use Rattle.jm_modpath.specs.Finding.{refused_at, shown_due};
 ghost use Rattle.jm_modpath.specs.declared.refusal.PathRefusal.TheVariants.{TwoModules};
-ghost use Rattle.jm_modpath.specs.Modules.{folder_info, info_in, info_path, info_with, inside};
+ghost use Rattle.jm_modpath.specs.Modules.{folder_info, info_path, inside};
 ghost use Rattle.jm_modpath.specs.Modules.{is_named, module_with, name_of};
 
 use crate::folders::{folders_among, names_within};
-use crate::found::Found;
-use crate::info::{InfoStop, info_in};
+use crate::found::FoundModules;
 use crate::names::inside;
 use crate::packages::class_packages;
 use crate::refusal::{PathRefusal, PathStop};
 use crate::visible::VisibleModule;
-use jm_bytes::{List, NoMemory, Text};
-use jm_class::{Class, ReadError, read};
+use jm_bytes::{List, NoMemory, Or, Text};
 use jm_closure::Candidate;
-use jm_modinfo::{Descriptor, DescriptorFault, InfoError, describe};
+use jm_modinfo::{Descriptor, describe_bytes};
 use jm_outside::Shelf;
 use std::alloc::Global;
 
@@ -36,10 +32,10 @@ fn info_at(alloc: Global, path: Text, bytes: &[u8]) -> Result<Descriptor, PathSt
     ensures legal { IfOk result (λ d. is_legal d.name ≡ true) }
     ensures inside { ¬ IsErrOf result PathStop.Outside }
 {
-    match info_in(alloc, bytes) {
+    match describe_bytes(alloc, bytes) {
         Ok(descriptor) => Ok(descriptor),
-        Err(InfoStop::Fault(fault)) => Err(PathStop::Refused(PathRefusal::BadInfo { path, fault })),
-        Err(InfoStop::Memory) => Err(PathStop::Memory),
+        Err(Or::Fault(fault)) => Err(PathStop::Refused(PathRefusal::BadInfo { path, fault })),
+        Err(Or::Memory) => Err(PathStop::Memory),
     }
 }
 
@@ -99,7 +95,7 @@ fn shown(
     directory: &[u8],
     folder: &[u8],
     names: &[Text],
-    earlier: &Found,
+    earlier: &FoundModules,
     path: Text,
     descriptor: Descriptor,
 ) -> Result<VisibleModule, PathStop>
@@ -127,7 +123,7 @@ fn visible_module<S: Shelf>(
     directory: &[u8],
     folder: &[u8],
     names: &[Text],
-    earlier: &Found,
+    earlier: &FoundModules,
     shelf: &mut S,
 ) -> Result<VisibleModule, PathStop>
     requires directory { IsUtf8 directory.now }
@@ -153,12 +149,12 @@ fn visible_module<S: Shelf>(
 /// The modules of earlier folders of a directory, and that of one more.
 fn with_folder<S: Shelf>(
     alloc: Global,
-    found: Found,
+    found: FoundModules,
     directory: &[u8],
     folder: &[u8],
     names: &[Text],
     shelf: &mut S,
-) -> Result<Found, PathStop>
+) -> Result<FoundModules, PathStop>
     requires directory { IsUtf8 directory.now }
     requires rising { Rising names.now }
     requires texts { All IsUtf8 names.now }
@@ -181,7 +177,7 @@ fn found_among<S: Shelf>(
     directory: &[u8],
     names: &[Text],
     shelf: &mut S,
-) -> Result<Found, PathStop>
+) -> Result<FoundModules, PathStop>
     requires directory { IsUtf8 directory.now }
     requires rising { Rising names.now }
     requires texts { All IsUtf8 names.now }
@@ -194,7 +190,7 @@ fn found_among<S: Shelf>(
         (IsErrOf result PathStop.Outside) }
 {
     let folders = folders_among(alloc, names)?;
-    let mut found = Found::new(alloc);
+    let mut found = FoundModules::new(alloc);
     for folder in folders.as_slice() {
         found = with_folder(alloc, found, directory, folder.as_slice(), names, shelf)?;
     }
@@ -202,7 +198,11 @@ fn found_among<S: Shelf>(
 }
 
 /// The modules of a directory.
-pub fn found_in<S: Shelf>(alloc: Global, directory: &[u8], shelf: &mut S) -> Result<Found, PathStop>
+pub fn found_in<S: Shelf>(
+    alloc: Global,
+    directory: &[u8],
+    shelf: &mut S,
+) -> Result<FoundModules, PathStop>
     requires { IsUtf8 directory.now }
     ensures files { S.files shelf.new ≡ S.files shelf.old }
     ensures told { Shows (S.files shelf.old) (λ files.

@@ -1,19 +1,14 @@
 //! The folders of a directory that are modules, and their files, from the names below the
 //! directory.
-ghost use Rattle.std.specs.Prelude.{◌≡◌, ◌≤◌, ◌∷◌, ◌++◌, [], All, IsUtf8, IfOk};
-ghost use Rattle.std.specs.Prelude.{OnOk, length, take, drop};
+ghost use Rattle.std.specs.Prelude.{◌≡◌, ◌≤◌, All, IsUtf8, IfOk, length, take, drop};
 ghost use Rattle.std.specs.Prelude.{IsTrue, IsFalse, option_map};
-ghost use Rattle.std.specs.List.{filter_map};
-ghost use Rattle.std.specs.Cmp.Lexicographic.{slice_cmp};
-ghost use Rattle.std.specs.Ordering.{is_lt, nat_cmp};
-ghost use Rattle.jm_outside.specs.Files.{Rising, after_front};
+ghost use Rattle.jm_outside.specs.Files.{Rising};
 ghost use Rattle.jm_bytes.specs.ByteOrder.{is_before};
 ghost use Rattle.jm_modpath.specs.Finding.{folders_among, names_within};
 ghost use Rattle.jm_modpath.specs.Modules.{folder_with_info};
-ghost use Rattle.jm_modpath.specs.TextView.{items_of};
 
-use crate::rising::rising;
 use jm_bytes::{List, NoMemory, Text, copy_of, is_before};
+use jm_form::rising;
 use jm_names::cut_at_first;
 use std::alloc::Global;
 
@@ -29,37 +24,19 @@ fn folder_with_info(name: &[u8]) -> Option<&[u8]>
     }
 }
 
-/// Puts the folder of a file `FOLDER/module-info.class` at the end of a list, and nothing for any
-/// other file.
-fn put_folder(alloc: Global, folders: &mut Vec<Vec<u8>>, name: &[u8]) -> Result<(), NoMemory>
-    ensures { OnOk result (items_of folders.new.items
-        ≡ items_of folders.old.items ++ filter_map folder_with_info (name.now ∷ [])) }
-{
-    if let Some(folder) = folder_with_info(name) {
-        folders.push(copy_of(alloc, folder)?)?;
-    }
-    Ok(())
-}
-
-/// The folders of all such files.
-fn all_folders(alloc: Global, names: &[Text]) -> Result<Vec<Vec<u8>>, NoMemory>
-    ensures { IfOk result (λ folders.
-        items_of folders.items ≡ filter_map folder_with_info names.now) }
-{
-    let mut folders = Vec::new(alloc);
-    for name in names {
-        put_folder(alloc, &mut folders, name.as_slice())?;
-    }
-    Ok(folders)
-}
-
 /// The folders with a descriptor, rising.
 pub fn folders_among(alloc: Global, names: &[Text]) -> Result<List<Text>, NoMemory>
     requires { All IsUtf8 names.now }
     ensures folders { IfOk result (λ folders. folders ≡ folders_among names.now) }
     ensures texts { IfOk result (All IsUtf8) }
 {
-    rising(alloc, all_folders(alloc, names)?)
+    let mut folders = Vec::new(alloc);
+    for name in names {
+        if let Some(folder) = folder_with_info(name.as_slice()) {
+            folders.push(copy_of(alloc, folder)?)?;
+        }
+    }
+    rising(alloc, folders)
 }
 
 /// How many of some rising names stand before a text.
@@ -93,22 +70,6 @@ pub fn names_of_folder<'a>(
     Ok(part)
 }
 
-/// Puts what follows a front at the end of a list, and nothing for a name that doesn't begin so.
-fn put_rest(
-    alloc: Global,
-    rests: &mut List<Text>,
-    front: &[u8],
-    name: &[u8],
-) -> Result<(), NoMemory>
-    ensures { OnOk result (rests.new
-        ≡ rests.old ++ filter_map (after_front front.now) (name.now ∷ [])) }
-{
-    if let Some(rest) = name.strip_prefix(front) {
-        rests.push(Text::copy_of(alloc, rest)?)?;
-    }
-    Ok(())
-}
-
 /// The names within a folder of a directory, from the names below the directory. It looks at no
 /// others, but for the logarithm of their number.
 pub fn names_within(alloc: Global, names: &[Text], folder: &[u8]) -> Result<List<Text>, NoMemory>
@@ -122,7 +83,9 @@ pub fn names_within(alloc: Global, names: &[Text], folder: &[u8]) -> Result<List
     front.push(b'/')?;
     let mut rests = List::new(alloc);
     for name in names_of_folder(alloc, names, folder)? {
-        put_rest(alloc, &mut rests, front.as_slice(), name.as_slice())?;
+        if let Some(rest) = name.as_slice().strip_prefix(front.as_slice()) {
+            rests.push(Text::copy_of(alloc, rest)?)?;
+        }
     }
     Ok(rests)
 }

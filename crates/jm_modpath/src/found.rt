@@ -11,12 +11,12 @@ use std::marker::Model;
 
 /// Modules in an order, each name once, seen as their list. Each path in them is UTF-8.
 #[derive(Drop)]
-pub struct Found {
+pub struct FoundModules {
     modules: List<VisibleModule>,
     names: Places,
 }
 
-impl Model for Found {
+impl Model for FoundModules {
     ghost use Rattle.std.specs.Prelude.{List, ℕ, ◌≡◌, All, option_map};
     ghost use Rattle.std.specs.Option.{is_some};
     ghost use Rattle.jm_closure.specs.Places.{place_in};
@@ -32,12 +32,12 @@ impl Model for Found {
     ghost invariant = { λ a. Holds a.modules a.names };
 }
 
-impl Found {
+impl FoundModules {
     /// No module yet.
-    pub fn new(alloc: Global) -> Found
+    pub fn new(alloc: Global) -> FoundModules
         ensures { result ≡ [] }
     {
-        Found {
+        FoundModules {
             modules: List::new(alloc),
             names: Places::new(alloc),
         }
@@ -51,19 +51,19 @@ impl Found {
     }
 
     /// The same with one module more at the end.
-    pub fn with(self, alloc: Global, module: VisibleModule) -> Result<Found, NoMemory>
+    pub fn with(self, alloc: Global, module: VisibleModule) -> Result<FoundModules, NoMemory>
         requires new { is_named self (name_of «module») ≡ false }
         requires texts { HasTexts «module» }
         ensures { IfOk result (λ found. found ≡ self ++ «module» ∷ []) }
     {
-        let Found {
+        let FoundModules {
             mut modules,
             mut names,
         } = self;
         let place = modules.len();
         names.put(alloc, module.candidate.descriptor.name.as_slice(), place)?;
         modules.push(module)?;
-        Ok(Found { modules, names })
+        Ok(FoundModules { modules, names })
     }
 
     /// The modules.
@@ -71,7 +71,7 @@ impl Found {
         ensures list { result ≡ self }
         ensures are { AreVisible result }
     {
-        let Found { modules, .. } = self;
+        let FoundModules { modules, .. } = self;
         modules
     }
 }

@@ -7,7 +7,7 @@ ghost use Rattle.jm_modpath.specs.Finding.{with_unhidden};
 ghost use Rattle.jm_modpath.specs.Modules.{unhidden};
 
 use crate::directory::found_in;
-use crate::found::Found;
+use crate::found::FoundModules;
 use crate::modules::VisibleModules;
 use crate::refusal::PathStop;
 use crate::visible::VisibleModule;
@@ -16,7 +16,11 @@ use jm_outside::Shelf;
 use std::alloc::Global;
 
 /// The modules found, with one more, if none of them has its name.
-fn add_unhidden(alloc: Global, found: Found, module: VisibleModule) -> Result<Found, NoMemory>
+fn add_unhidden(
+    alloc: Global,
+    found: FoundModules,
+    module: VisibleModule,
+) -> Result<FoundModules, NoMemory>
     requires { HasTexts «module» }
     ensures { IfOk result (λ all. all ≡ found ++ unhidden found («module» ∷ [])) }
 {
@@ -30,9 +34,9 @@ fn add_unhidden(alloc: Global, found: Found, module: VisibleModule) -> Result<Fo
 /// The modules found, with those of a directory that they don't hide.
 fn with_unhidden(
     alloc: Global,
-    found: Found,
+    found: FoundModules,
     modules: List<VisibleModule>,
-) -> Result<Found, NoMemory>
+) -> Result<FoundModules, NoMemory>
     requires { All HasTexts modules }
     ensures { IfOk result (λ all. all ≡ with_unhidden found modules) }
 {
@@ -46,10 +50,10 @@ fn with_unhidden(
 /// The modules of earlier directories, with those of one more that they don't hide.
 fn with_directory<S: Shelf>(
     alloc: Global,
-    found: Found,
+    found: FoundModules,
     directory: &[u8],
     shelf: &mut S,
-) -> Result<Found, PathStop>
+) -> Result<FoundModules, PathStop>
     requires { IsUtf8 directory.now }
     ensures files { S.files shelf.new ≡ S.files shelf.old }
     ensures told { Shows (S.files shelf.old) (λ files.
@@ -77,7 +81,7 @@ pub fn visible_modules<S: Shelf>(
     ensures faults { CountsFaults (S.faults shelf.old) (S.faults shelf.new) (IsOk result)
         (IsErrOf result PathStop.Outside) }
 {
-    let mut found = Found::new(alloc);
+    let mut found = FoundModules::new(alloc);
     for directory in directories {
         found = with_directory(alloc, found, directory.as_slice(), shelf)?;
     }

@@ -2,4 +2,3 @@ pub mod Filings
 pub mod Fronts
 pub mod FrontTrees
 pub mod Order
-pub mod Refusals

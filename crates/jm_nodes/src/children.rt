@@ -15,18 +15,7 @@ use crate::texts::{before_last_slash, joined};
 use jm_bytes::{List, NoMemory, Text};
 use std::alloc::Global;
 
-/// A resource or a folder under what it stands in, the mark for a folder.
-fn child<'a>(name: &'a [u8], is_folder: bool) -> Filed<'a, 'a>
-    ensures { filing_of result ≡ child_filing is_folder name.now }
-{
-    Filed {
-        under: before_last_slash(name),
-        name,
-        mark: is_folder,
-    }
-}
-
-/// Puts resources or folders at the end.
+/// Puts resources or folders at the end, each under what it stands in, the mark for a folder.
 fn put_children<'a>(
     list: &mut List<Filed<'a, 'a>>,
     names: &[&'a [u8]],
@@ -36,7 +25,11 @@ fn put_children<'a>(
         ++ map (child_filing are_folders) (map (λ name. name.now) names.now)) }
 {
     for name in names {
-        list.push(child(name, are_folders))?;
+        list.push(Filed {
+            under: before_last_slash(name),
+            name,
+            mark: are_folders,
+        })?;
     }
     Ok(())
 }

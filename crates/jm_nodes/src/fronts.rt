@@ -69,24 +69,6 @@ fn put_fronts<'a>(list: &mut List<&'a [u8]>, name: &'a [u8], start: usize) -> Re
     Ok(())
 }
 
-/// Puts those fronts of the name at a place at the end that aren't known of the name before it.
-fn put_new_fronts<'a>(
-    list: &mut List<&'a [u8]>,
-    names: &[&'a [u8]],
-    place: usize,
-) -> Result<(), NoMemory>
-    requires place { place < length names.now }
-    requires before { SameElements
-        (flat_map fronts (take place (map (λ name. name.now) names.now)))
-        (map (λ front. front.now) list.old) }
-    ensures { OnOk result (SameElements
-        (flat_map fronts (take (place + 1) (map (λ name. name.now) names.now)))
-        (map (λ front. front.now) list.new)) }
-{
-    put_fronts(list, names[place], known_len(names, place))?;
-    Ok(())
-}
-
 /// The fronts of some names. In rising names each comes once.
 fn all_fronts<'a>(alloc: Global, names: &[&'a [u8]]) -> Result<List<&'a [u8]>, NoMemory>
     ensures { IfOk result (λ list. SameElements
@@ -95,7 +77,7 @@ fn all_fronts<'a>(alloc: Global, names: &[&'a [u8]]) -> Result<List<&'a [u8]>, N
 {
     let mut list = List::new(alloc);
     for place in 0..names.len() {
-        put_new_fronts(&mut list, names, place)?;
+        put_fronts(&mut list, names[place], known_len(names, place))?;
     }
     Ok(list)
 }

@@ -2,7 +2,6 @@
 #![tactic(auto)]
 
 mod children;
-mod error;
 mod filed;
 mod fronts;
 mod names;
@@ -11,6 +10,5 @@ mod rising;
 mod texts;
 mod trees;
 
-pub use error::NodesError;
 pub use jm_form::{Holds, Owner, TreeNode};
-pub use trees::nodes;
+pub use trees::{Clash, nodes};

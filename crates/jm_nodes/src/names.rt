@@ -10,22 +10,15 @@ use jm_bytes::{List, NoMemory};
 use jm_pool::Pool;
 use std::alloc::Global;
 
-/// The names in the pool's order.
-fn names_in_order<'a>(alloc: Global, pool: &'a Pool) -> Result<List<&'a [u8]>, NoMemory>
-    ensures { IfOk result (λ names. map (λ name. name.now) names ≡ names_of pool.now) }
+/// The names of a pool, rising.
+pub fn rising_names<'a>(alloc: Global, pool: &'a Pool) -> Result<List<&'a [u8]>, NoMemory>
+    ensures { IfOk result (λ names. map (λ name. name.now) names ≡ rising (names_of pool.now)) }
 {
     let mut names = List::with_capacity(alloc, pool.len())?;
     for place in 0..pool.len() {
         names.push(pool.at(place).0)?;
     }
-    Ok(names)
-}
-
-/// The names of a pool, rising.
-pub fn rising_names<'a>(alloc: Global, pool: &'a Pool) -> Result<List<&'a [u8]>, NoMemory>
-    ensures { IfOk result (λ names. map (λ name. name.now) names ≡ rising (names_of pool.now)) }
-{
-    Ok(rising(names_in_order(alloc, pool)?))
+    Ok(rising(names))
 }
 
 /// The first of the names that is a front of another: the first of the fronts that is a name.

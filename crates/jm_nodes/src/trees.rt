@@ -1,7 +1,9 @@
 //! All nodes of the two trees.
-ghost use Rattle.std.specs.Prelude.{◌≡◌, ◌++◌, All, None, false, map, reverse, IfOk, IfErr, OnOk};
+ghost use Rattle.std.specs.Prelude.{◌≡◌, ◌++◌, All, Some, None, false, map, reverse, IfOk};
+ghost use Rattle.std.specs.Prelude.{IfErr, OnOk};
+ghost use Rattle.jm_bytes.specs.Results.{IfAnswered};
 ghost use Rattle.jm_form.specs.Rising.{rising};
-ghost use Rattle.jm_form.specs.Trees.{first_clash, fronts, package_node, tree_nodes};
+ghost use Rattle.jm_form.specs.Trees.{first_clash, fronts, tree_nodes};
 ghost use Rattle.jm_names.specs.NameFaults.{IsSound};
 ghost use Rattle.jm_names.specs.Names.{is_node};
 ghost use Rattle.jm_pool.specs.Pairs.{names_of};
@@ -13,19 +15,21 @@ ghost use Rattle.jm_nodes.specs.FrontTrees.{
   rising_nodes,
   IsMadeOf,
 };
-ghost use Rattle.jm_nodes.specs.Refusals.{Refuses};
 
 use crate::children::{child_table, children};
-use crate::error::NodesError;
 use crate::filed::Filed;
 use crate::fronts::fronts_of;
 use crate::names::{first_front, rising_names};
 use crate::packages::{called_all, owners, package_folders, package_table, packages};
 use crate::texts::joined;
-use jm_bytes::{List, NoMemory, Text};
+use jm_bytes::{List, NoMemory, Or, Text};
 use jm_form::{Holds, TreeNode};
 use jm_pool::Pool;
 use std::alloc::Global;
+
+/// The least name of a resource that is also the name of another's folder.
+#[derive(Debug, Drop)]
+pub struct Clash(pub Text);
 
 /// The node of a module or folder.
 fn front_node(alloc: Global, table: &[Filed], front: &[u8]) -> Result<TreeNode, NoMemory>
@@ -54,34 +58,16 @@ fn put_front_nodes(
     Ok(())
 }
 
-/// The names of the nodes of packages.
-fn package_names(alloc: Global, packages: &[&[u8]]) -> Result<List<Text>, NoMemory>
-    ensures { IfOk result
-        (λ names. names ≡ map package_node (map (λ called. called.now) packages.now)) }
+/// The node of all packages.
+fn packages_node(alloc: Global, packages: &[&[u8]]) -> Result<TreeNode, NoMemory>
+    ensures { IfOk result (λ node. node ≡ packages_node (map (λ called. called.now) packages.now)) }
 {
     let mut names = List::with_capacity(alloc, packages.len())?;
     for called in packages {
         names.push(joined(alloc, b"/packages/", called)?)?;
     }
-    Ok(names)
-}
-
-/// The node of all packages.
-fn packages_node(alloc: Global, packages: &[&[u8]]) -> Result<TreeNode, NoMemory>
-    ensures { IfOk result (λ node. node ≡ packages_node (map (λ called. called.now) packages.now)) }
-{
     let name = Text::copy_of(alloc, b"/packages")?;
-    let holds = Holds::Children(package_names(alloc, packages)?);
-    Ok(TreeNode { name, holds })
-}
-
-/// The node of a package.
-fn owners_node(alloc: Global, owned: &[Filed], called: &[u8]) -> Result<TreeNode, NoMemory>
-    requires { IsFiledInOrder (map filing_of owned.now) }
-    ensures { IfOk result (λ node. node ≡ owners_node (map filing_of owned.now) called.now) }
-{
-    let name = joined(alloc, b"/packages/", called)?;
-    let holds = Holds::Owners(owners(alloc, owned, called)?);
+    let holds = Holds::Children(names);
     Ok(TreeNode { name, holds })
 }
 
@@ -97,7 +83,9 @@ fn put_owners_nodes(
         ++ map (owners_node (map filing_of owned.now)) (map (λ called. called.now) packages.now)) }
 {
     for called in packages {
-        nodes.push(owners_node(alloc, owned, called)?)?;
+        let name = joined(alloc, b"/packages/", called)?;
+        let holds = Holds::Owners(owners(alloc, owned, called)?);
+        nodes.push(TreeNode { name, holds })?;
     }
     Ok(())
 }
@@ -122,15 +110,6 @@ fn rising_nodes(
     nodes.push(packages_node(alloc, packages)?)?;
     put_owners_nodes(alloc, &mut nodes, owned, packages)?;
     Ok(nodes)
-}
-
-/// The nodes, falling by name.
-fn falling(nodes: List<TreeNode>) -> List<TreeNode>
-    ensures { result ≡ reverse nodes }
-{
-    let mut falling = nodes.into_vec();
-    falling.reverse();
-    List::from_vec(falling)
 }
 
 /// The nodes of resources whose names and fronts these are, falling by name.
@@ -159,21 +138,24 @@ fn nodes_of<'a>(
         owned.as_slice(),
         packages.as_slice(),
     )?;
-    Ok(falling(nodes))
+    let mut falling = nodes.into_vec();
+    falling.reverse();
+    Ok(List::from_vec(falling))
 }
 
 /// The nodes of the trees of a pool's resources, falling by name.
-pub fn nodes(alloc: Global, pool: &Pool) -> Result<List<TreeNode>, NodesError>
+pub fn nodes(alloc: Global, pool: &Pool) -> Result<List<TreeNode>, Or<Clash>>
     requires sound { All IsSound (names_of pool.now) }
     requires resources { All (λ name. is_node name ≡ false) (names_of pool.now) }
     ensures nodes { IfOk result (λ nodes. nodes ≡ tree_nodes (names_of pool.now)) }
     ensures apart { OnOk result (first_clash (names_of pool.now) ≡ None) }
-    ensures clash { IfErr result (Refuses (names_of pool.now)) }
+    ensures clash { IfAnswered (λ r. IfErr r
+        (λ clash. first_clash (names_of pool.now) ≡ Some clash.0)) result }
 {
     let names = rising_names(alloc, pool)?;
     let fronts = fronts_of(alloc, names.as_slice())?;
     match first_front(names.as_slice(), fronts.as_slice()) {
-        Some(name) => Err(NodesError::Clash(Text::copy_of(alloc, name)?)),
+        Some(name) => Err(Or::Fault(Clash(Text::copy_of(alloc, name)?))),
         None => Ok(nodes_of(alloc, names.as_slice(), fronts.as_slice())?),
     }
 }

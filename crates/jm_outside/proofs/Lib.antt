@@ -3,5 +3,6 @@ pub mod HoldsLaws
 pub mod Laws
 pub mod MadeLaws
 pub mod Map
+pub mod Moved
 pub mod Names
 pub mod Sound

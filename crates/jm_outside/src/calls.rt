@@ -1,5 +1,6 @@
-ghost use Rattle.std.specs.Prelude.{◌≡◌, ◌≤◌, ◌↔◌, IsTrue, false};
+ghost use Rattle.std.specs.Prelude.{◌≡◌, ◌≤◌, ◌↔◌, IsErr, IsOk, IsTrue, false, is_err};
 
+use crate::streams::Failed;
 use jm_bytes::List;
 use std::alloc::Global;
 use std::marker::Model;
@@ -23,7 +24,7 @@ impl Model for Calls {
 
 impl Calls {
     ghost use Rattle.jm_outside.specs.ComputedCalls.{no_calls, IsListed, one_more, after_call};
-    ghost use Rattle.jm_outside.specs.Outcome.{Rose};
+    ghost use Rattle.jm_outside.specs.Outcome.{CountsFaults, Rose};
 
     pub fn new(alloc: Global) -> Calls
         ensures { result ≡ no_calls }
@@ -50,6 +51,19 @@ impl Calls {
         let listed = self.failing.as_slice().contains(&self.next);
         self.next = self.next.saturating_add(1);
         listed
+    }
+
+    /// Counts one call. Where it is listed, that is a fault.
+    pub fn pass(&mut self) -> Result<(), Failed>
+        ensures listed { IsErr result ↔ IsListed self.old }
+        ensures counted { self.new ≡ after_call self.old (is_err result) }
+        ensures faults { CountsFaults self.old.faults self.new.faults (IsOk result) (IsErr result) }
+    {
+        if self.number() {
+            self.fault();
+            return Err(Failed);
+        }
+        Ok(())
     }
 
     /// Counts one fault.

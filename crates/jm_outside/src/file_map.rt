@@ -1,5 +1,5 @@
 ghost use Rattle.std.specs.Prelude.{◌≡◌, ◌++◌, ◌∷◌, [], IfOk, OnOk, OnErr, option_map};
-ghost use Rattle.jm_outside.specs.Files.{file, file_part, part, put, add, after_front, names_below};
+ghost use Rattle.jm_outside.specs.Files.{file, part, put, add, after_front, names_below};
 
 use jm_bytes::{List, NoMemory, Text, copy_of, extend};
 use std::alloc::Global;
@@ -39,16 +39,6 @@ impl FileMap {
         }
     }
 
-    /// At most `count` bytes of the file at a path, from the byte `at` on.
-    pub fn part(&self, path: &[u8], at: u64, count: usize) -> Option<&[u8]>
-        ensures { option_map (λ bytes. bytes.now) result ≡ file_part self.now path.now at count }
-    {
-        match self.file(path) {
-            Some(bytes) => Some(part_of(bytes, at, count)),
-            None => None,
-        }
-    }
-
     /// The names of the files below a folder.
     pub fn names(&self, alloc: Global, folder: &[u8]) -> Result<List<Text>, NoMemory>
         ensures { IfOk result (λ names. names ≡ names_below folder.now self.now) }
@@ -70,14 +60,6 @@ impl FileMap {
         Ok(())
     }
 
-    /// Makes the file at a path empty, or an empty one where none is there.
-    pub fn clear(&mut self, alloc: Global, path: &[u8]) -> Result<(), NoMemory>
-        ensures ok { OnOk result (self.new ≡ put self.old path.now []) }
-        ensures err { OnErr result (self.new ≡ self.old) }
-    {
-        self.put(copy_of(alloc, path)?, Vec::new(alloc))
-    }
-
     /// Adds bytes to the end of a file, to an empty one where none is there.
     pub fn add(&mut self, alloc: Global, path: &[u8], bytes: &[u8]) -> Result<(), NoMemory>
         ensures ok { OnOk result (self.new ≡ add self.old path.now bytes.now) }
@@ -90,7 +72,8 @@ impl FileMap {
     }
 }
 
-fn part_of(bytes: &[u8], at: u64, count: usize) -> &[u8]
+/// At most `count` bytes, from the byte `at` on.
+pub fn part_of(bytes: &[u8], at: u64, count: usize) -> &[u8]
     ensures { result.now ≡ part bytes.now at count }
 {
     let start = at.min(bytes.len() as u64) as usize;

@@ -9,10 +9,10 @@ ghost use Rattle.jm_outside.specs.ComputedCalls.{no_calls, IsListed, after_call}
 ghost use Rattle.jm_outside.specs.ComputedCuts.{first_half};
 
 use crate::calls::Calls;
-use crate::file_map::FileMap;
+use crate::file_map::{FileMap, part_of};
 use crate::handed::Handed;
 use crate::shelf::{Shelf, ShelfError};
-use jm_bytes::{List, NoMemory, Text};
+use jm_bytes::{List, NoMemory, Text, copy_of};
 use std::alloc::Global;
 
 /// A shelf in memory, which tells its files. A file is just a path.
@@ -111,10 +111,7 @@ impl Shelf for MemShelf {
         ensures faults { CountsFaults (calls_of self.old).faults (calls_of self.new).faults
             (IsOk result) (IsErrOf result ShelfError.Failed) }
     {
-        if self.calls.number() {
-            self.calls.fault();
-            return Err(ShelfError::Failed);
-        }
+        self.calls.pass()?;
         Ok(self.files.names(alloc, dir)?)
     }
 
@@ -131,10 +128,7 @@ impl Shelf for MemShelf {
         ensures faults { CountsFaults (calls_of self.old).faults (calls_of self.new).faults
             (IsOk result) (IsErrOf result ShelfError.Failed) }
     {
-        if self.calls.number() {
-            self.calls.fault();
-            return Err(ShelfError::Failed);
-        }
+        self.calls.pass()?;
         match self.files.file(path) {
             Some(bytes) => Ok(Some(handed_copy(alloc, &mut self.handed, bytes)?)),
             None => Ok(None),
@@ -155,10 +149,7 @@ impl Shelf for MemShelf {
         ensures faults { CountsFaults (calls_of self.old).faults (calls_of self.new).faults
             (IsOk result) (IsErrOf result ShelfError.Failed) }
     {
-        if self.calls.number() {
-            self.calls.fault();
-            return Err(ShelfError::Failed);
-        }
+        self.calls.pass()?;
         match self.files.file(path) {
             Some(bytes) => Ok(Some(bytes.len() as u64)),
             None => Ok(None),
@@ -186,12 +177,12 @@ impl Shelf for MemShelf {
         ensures faults { CountsFaults (calls_of self.old).faults (calls_of self.new).faults
             (IsOk result) (IsErrOf result ShelfError.Failed) }
     {
-        if self.calls.number() {
-            self.calls.fault();
-            return Err(ShelfError::Failed);
-        }
-        match self.files.part(path, at, length) {
-            Some(bytes) => Ok(Some(handed_copy(alloc, &mut self.handed, bytes)?)),
+        self.calls.pass()?;
+        match self.files.file(path) {
+            Some(bytes) => {
+                let part = part_of(bytes, at, length);
+                Ok(Some(handed_copy(alloc, &mut self.handed, part)?))
+            }
             None => Ok(None),
         }
     }
@@ -209,11 +200,8 @@ impl Shelf for MemShelf {
         ensures faults { CountsFaults (calls_of self.old).faults (calls_of self.new).faults
             (IsOk result) (IsErrOf result ShelfError.Failed) }
     {
-        if self.calls.number() {
-            self.calls.fault();
-            return Err(ShelfError::Failed);
-        }
-        self.files.clear(alloc, path)?;
+        self.calls.pass()?;
+        self.files.put(copy_of(alloc, path)?, Vec::new(alloc))?;
         Ok(())
     }
 
@@ -256,10 +244,7 @@ impl Shelf for MemShelf {
         ensures faults { CountsFaults (calls_of self.old).faults (calls_of self.new).faults
             (IsOk result) (IsErrOf result ShelfError.Failed) }
     {
-        if self.calls.number() {
-            self.calls.fault();
-            return Err(ShelfError::Failed);
-        }
+        self.calls.pass()?;
         Ok(())
     }
 

@@ -6,7 +6,7 @@ ghost use Rattle.jm_outside.specs.Outcome.{CountsFaults};
 
 use crate::calls::Calls;
 use crate::streams::{Failed, Sink, SinkError, Source};
-use jm_bytes::{List, NoMemory, Text, extend};
+use jm_bytes::{List, Text, extend};
 use std::alloc::Global;
 
 /// A source of bytes in memory, which tells its rest.
@@ -69,22 +69,9 @@ impl MemSource {
         self.cut += 1;
         fits.min(cut.max(1))
     }
-
-    /// Moves the next bytes to the front of a slice.
-    fn give(&mut self, count: usize, into: &mut [u8])
-        requires left { count ≤ length (rest_of self.old) }
-        requires room { count ≤ length into.old }
-        ensures front { into.new ≡ take count (rest_of self.old) ++ drop count into.old }
-        ensures rest { rest_of self.new ≡ drop count (rest_of self.old) }
-        ensures cuts { cuts_of self.new ≡ cuts_of self.old }
-        ensures calls { source_calls self.new ≡ source_calls self.old }
-    {
-        let (_, rest) = self.bytes.as_slice().split_at(self.at);
-        copy_front(rest, count, into);
-        self.at += count;
-    }
 }
 
+/// Copies the first bytes to the front of a slice.
 fn copy_front(from: &[u8], count: usize, into: &mut [u8])
     requires left { count ≤ length from.now }
     requires room { count ≤ length into.old }
@@ -118,12 +105,11 @@ impl Source for MemSource {
         ensures faults { CountsFaults (source_calls self.old).faults (source_calls self.new).faults
             (IsOk result) (IsErr result) }
     {
-        if self.calls.number() {
-            self.calls.fault();
-            return Err(Failed);
-        }
+        self.calls.pass()?;
         let count = self.next_count(into.len());
-        self.give(count, into);
+        let (_, rest) = self.bytes.as_slice().split_at(self.at);
+        copy_front(rest, count, into);
+        self.at += count;
         Ok(count)
     }
 }
@@ -166,14 +152,6 @@ impl MemSink {
     {
         self.bytes.as_slice()
     }
-
-    fn add(&mut self, bytes: &[u8]) -> Result<(), NoMemory>
-        ensures ok { OnOk result (bytes_in self.new ≡ bytes_in self.old ++ bytes.now) }
-        ensures err { OnErr result (bytes_in self.new ≡ bytes_in self.old) }
-        ensures calls { sink_calls self.new ≡ sink_calls self.old }
-    {
-        extend(&mut self.bytes, bytes)
-    }
 }
 
 impl Sink for MemSink {
@@ -202,11 +180,11 @@ impl Sink for MemSink {
     {
         if self.calls.number() {
             let (half, _) = bytes.split_at(bytes.len() / 2);
-            self.add(half)?;
+            extend(&mut self.bytes, half)?;
             self.calls.fault();
             return Err(SinkError::Failed);
         }
-        self.add(bytes)?;
+        extend(&mut self.bytes, bytes)?;
         Ok(())
     }
 }

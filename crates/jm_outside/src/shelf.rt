@@ -1,11 +1,11 @@
 ghost use Rattle.std.specs.Prelude.{◌≡◌, ◌≤◌, ◌+◌, ℕ, [], Bool, Option, All, IsUtf8, IsOk};
-ghost use Rattle.std.specs.Prelude.{IsTrue, IfOk, OnOk};
-ghost use Rattle.std.specs.Prelude.{OnErr, IsErrOf, option_map};
+ghost use Rattle.std.specs.Prelude.{IsTrue, IfOk, OnOk, OnErr, IsErrOf, option_map};
 ghost use Rattle.jm_outside.specs.Files.{Files, IsSound, Rising, file, file_length, file_part};
 ghost use Rattle.jm_outside.specs.Files.{put, add, names_below};
 ghost use Rattle.jm_outside.specs.Answers.{handed_out};
 ghost use Rattle.jm_outside.specs.Outcome.{Shows, Told, AsBeforeOrEmpty, AddsFront, CountsFaults};
 
+use crate::streams::Failed;
 use jm_bytes::{List, NoMemory, Text};
 use std::alloc::{AllocError, AllocFailed, Global};
 use thiserror::Error;
@@ -20,6 +20,16 @@ pub enum ShelfError {
     /// No memory was found.
     #[error("out of memory")]
     Memory,
+}
+
+impl From<Failed> for ShelfError {
+    ghost use Rattle.jm_outside.specs.declared.shelf.ShelfError.TheVariants as shelf_error;
+
+    ghost from_gives = { λ _ e. e ≡ shelf_error.Failed };
+
+    fn from(_: Failed) -> ShelfError {
+        ShelfError::Failed
+    }
 }
 
 impl From<NoMemory> for ShelfError {

@@ -24,14 +24,6 @@ pub struct StdSink<W: Write + Drop> {
     last_failure: Option<io::Error>,
 }
 
-/// The kind of an error, if there is one.
-fn kind_of(error: &Option<io::Error>) -> Option<ErrorKind> {
-    match error {
-        Some(error) => Some(error.kind()),
-        None => None,
-    }
-}
-
 impl<R: Read + Drop> StdSource<R> {
     /// The source of this stream.
     pub fn new(input: R) -> StdSource<R>
@@ -46,7 +38,7 @@ impl<R: Read + Drop> StdSource<R> {
 
     /// For a user: what the system said in the last call that answered `Failed`.
     pub fn last_failure(&self) -> Option<ErrorKind> {
-        kind_of(&self.last_failure)
+        self.last_failure.as_ref().map(|error| error.kind())
     }
 }
 
@@ -85,15 +77,7 @@ impl<W: Write + Drop> StdSink<W> {
 
     /// For a user: what the system said in the last call that answered `Failed`.
     pub fn last_failure(&self) -> Option<ErrorKind> {
-        kind_of(&self.last_failure)
-    }
-
-    /// Writes all bytes and hands them on to the system.
-    fn write(&mut self, bytes: &[u8]) -> io::Result<()>
-        ensures { self.new.faults ≡ self.old.faults }
-    {
-        self.output.write_all(bytes)?;
-        self.output.flush()
+        self.last_failure.as_ref().map(|error| error.kind())
     }
 }
 
@@ -103,7 +87,11 @@ impl<W: Write + Drop> Sink for StdSink<W> {
     ghost faults = { λ sink. sink.faults };
 
     fn put(&mut self, _alloc: Global, bytes: &[u8]) -> Result<(), SinkError> {
-        match self.write(bytes) {
+        let answer = match self.output.write_all(bytes) {
+            Ok(()) => self.output.flush(),
+            Err(e) => Err(e),
+        };
+        match answer {
             Ok(()) => Ok(()),
             Err(e) if e.kind() == ErrorKind::OutOfMemory => Err(SinkError::Memory),
             Err(e) => {

@@ -1,6 +1,6 @@
 ghost use Rattle.std.specs.Prelude.{◌≡◌, ◌↔◌, ◌<◌, ◌+◌, true, length, None, Some, Ok, Err, List, ℕ};
 ghost use Rattle.std.specs.Prelude.{IfOk, OnOk};
-ghost use Rattle.jm_class.specs.declared.class.ReadError.TheVariants.{Fault};
+ghost use Rattle.jm_bytes.specs.declared.faults.Or.TheVariants.{Fault};
 ghost use Rattle.jm_class.specs.Classes.{ClassData, ReadsAs, IsClass};
 ghost use Rattle.jm_class.specs.ComputedClass.{class_fault};
 ghost use Rattle.jm_class.specs.Views.{plain};
@@ -10,10 +10,10 @@ ghost use Rattle.jm_modinfo.specs.Written.{numbers_text};
 ghost use Rattle.jm_packages.specs.Packages.{packages_body, with_packages, takes_packages};
 ghost use Rattle.jm_packages.specs.Packages.{packaged, packages_text, PackagesTo, Stays};
 
-use crate::constants::{packages_body, push_packages, text_numbers};
+use crate::constants::{packages_body, push_packages, put_numbers};
 use crate::room::{takes_none, takes_packages};
-use jm_bytes::{NoMemory, Text};
-use jm_class::{Attribute, Body, Class, ReadError, Slot, read};
+use jm_bytes::{NoMemory, Or, Text};
+use jm_class::{Attribute, Body, Class, ClassFault, Slot, read};
 use jm_classout::write;
 use std::alloc::Global;
 
@@ -43,24 +43,6 @@ fn with_packages<'a>(
     Ok(class)
 }
 
-/// The text of a class with the constants of packages and the attribute that lists them.
-fn write_packages<'a>(
-    alloc: Global,
-    class: Class<'a>,
-    packages: &'a [Text],
-    numbers: &'a [u8],
-    body: &'a [u8],
-) -> Result<Text, NoMemory>
-    requires fits { IsClass (plain class) }
-    requires room { takes_packages packages.now (plain class) ≡ true }
-    requires numbers { numbers.now ≡ numbers_text (length class.pool + 2) (length packages.now) }
-    requires body { body.now ≡ packages_body (length class.pool + 1) (length packages.now) }
-    ensures { IfOk result (λ text. text ≡ packages_text packages.now (plain class.entry)) }
-{
-    let class = with_packages(class, packages, numbers, body)?;
-    write(alloc, &class)
-}
-
 /// The text of a class that takes a list of these packages.
 fn text_with(alloc: Global, class: Class, packages: &[Text]) -> Result<Text, NoMemory>
     requires fits { IsClass (plain class) }
@@ -69,9 +51,11 @@ fn text_with(alloc: Global, class: Class, packages: &[Text]) -> Result<Text, NoM
 {
     let slots = class.pool.len() as u16;
     let count = packages.len() as u16;
-    let numbers = text_numbers(alloc, slots, count)?;
+    let mut numbers = Vec::new(alloc);
+    put_numbers(&mut numbers, slots, count)?;
     let body = packages_body(alloc, slots + 1, count)?;
-    write_packages(alloc, class, packages, numbers.as_slice(), body.as_slice())
+    let made = with_packages(class, packages, numbers.as_slice(), body.as_slice())?;
+    write(alloc, &made)
 }
 
 /// The text of a class with a list of these packages, or as it is.
@@ -89,7 +73,7 @@ fn text_of(alloc: Global, bytes: &[u8], class: Class, packages: &[Text]) -> Resu
 /// The class of a module with the attribute ModulePackages, which lists these packages, as the last
 /// of its own (JVMS 4.7.26). A class that is no module's, that has such an attribute, or that has
 /// no room for it, stays as it is. A fault is the one that `read` finds.
-pub fn add_packages(alloc: Global, bytes: &[u8], packages: &[Text]) -> Result<Text, ReadError>
+pub fn add_packages(alloc: Global, bytes: &[u8], packages: &[Text]) -> Result<Text, Or<ClassFault>>
     ensures text { IfOk result (λ text. PackagesTo packages.now bytes.now text) }
     ensures only { IfOk result (λ text. (c : ClassData) → ReadsAs bytes.now c
         → text ≡ packages_text packages.now c) }
@@ -114,7 +98,7 @@ pub fn stays(alloc: Global, bytes: &[u8]) -> Result<bool, NoMemory>
 {
     match read(alloc, bytes) {
         Ok(class) => Ok(takes_none(&class)),
-        Err(ReadError::Fault(_)) => Ok(false),
-        Err(ReadError::Memory) => Err(NoMemory),
+        Err(Or::Fault(_)) => Ok(false),
+        Err(Or::Memory) => Err(NoMemory),
     }
 }

@@ -11,7 +11,7 @@ use jm_classout::put16;
 use std::alloc::Global;
 
 /// Puts so many numbers at the end, the first two above one, and each two above the one before.
-fn put_numbers(text: &mut Vec<u8>, below: u16, count: u16) -> Result<(), NoMemory>
+pub fn put_numbers(text: &mut Vec<u8>, below: u16, count: u16) -> Result<(), NoMemory>
     requires { below + 2 * count < 2 ^ 16 }
     ensures { OnOk result (text.new.items ≡ text.old.items ++ numbers_text (below + 2) count) }
 {
@@ -19,16 +19,6 @@ fn put_numbers(text: &mut Vec<u8>, below: u16, count: u16) -> Result<(), NoMemor
         put16(text, below + 2 + 2 * k)?;
     }
     Ok(())
-}
-
-/// The numbers of the Utf8 of so many packages, two bytes each, where a pool has so many slots.
-pub fn text_numbers(alloc: Global, slots: u16, count: u16) -> Result<Vec<u8>, NoMemory>
-    requires { slots + 2 * count < 2 ^ 16 }
-    ensures { IfOk result (λ numbers. numbers.items ≡ numbers_text (slots + 2) count) }
-{
-    let mut numbers = Vec::new(alloc);
-    put_numbers(&mut numbers, slots, count)?;
-    Ok(numbers)
 }
 
 /// The body of the attribute whose name has this number.

@@ -45,18 +45,11 @@ pub fn takes_none(class: &Class) -> bool
     class.access & 0x8000 == 0 || has_packages(class)
 }
 
-/// Whether a text fits in a Utf8.
-fn fits_utf8(text: &Text) -> bool
-    ensures { result ≡ nat_le (length text.now) 65535 }
-{
-    text.len() <= 65_535
-}
-
 /// Whether each text fits in a Utf8.
 fn fit_utf8(texts: &[Text]) -> bool
     ensures { result ≡ list_all (λ p. nat_le (length p) 65535) texts.now }
 {
-    texts.iter().all(|text| fits_utf8(text))
+    texts.iter().all(|text| text.len() <= 65_535)
 }
 
 /// Whether there is room for the constants and for one attribute more.

@@ -10,8 +10,8 @@ use Rattle.jm_pattern.specs.ReadingSteps.{ReadsFirst}
 use Rattle.jm_pattern.proofs.FirstSign.{first-run, first-any, first-escaped, first-one, first-byte}
 use Rattle.jm_pattern.specs.declared.signs.Sign.{Sign}
 use Rattle.jm_pattern.specs.declared.signs.Sign.TheVariants.{AnyRun, Run, One, Byte}
-use Rattle.jm_pattern.specs.declared.signs.PatternError.{PatternError}
-use Rattle.jm_pattern.specs.declared.signs.PatternError.TheVariants.{BadEscape}
+use Rattle.jm_pattern.specs.declared.signs.PatternFault.{PatternFault}
+use Rattle.jm_pattern.specs.declared.signs.PatternFault.TheVariants.{BadEscape}
 
 -- From the rule to the value
 
@@ -49,13 +49,13 @@ no_pair b c text e first second = false≢true (sym e ∙ and_from (b == 42) (c 
 two_stars : (b c : ℕ) → b == 42 && c == 42 ≡ true → b ∷ c ∷ [] ≡ 42 ∷ 42 ∷ []
 two_stars b c e = let stars = and_parts (b == 42) (c == 42) e in rw (eqb-true b 42 stars.0, eqb-true c 42 stars.1) refl
 
-given_rest : {A : Type 0} (front : List A) (given : Result (List A) PatternError) (all : List A) → with_front front given ≡ Ok all
+given_rest : {A : Type 0} (front : List A) (given : Result (List A) PatternFault) (all : List A) → with_front front given ≡ Ok all
     → (rest : List A) × (given ≡ Ok rest) × (front ++ rest ≡ all)
 given_rest front (Ok rest) all e = (rest, refl, same_ok (front ++ rest) all e)
 given_rest front (Err fault) all e = cc
 
 -- one sign in front of what reads
-one_more : (sign : Sign) (front rest : List ℕ) (given : Result (List Sign) PatternError) (signs : List Sign)
+one_more : (sign : Sign) (front rest : List ℕ) (given : Result (List Sign) PatternFault) (signs : List Sign)
     → Spells sign front rest → with_front (sign ∷ []) given ≡ Ok signs → ((more : List Sign) → given ≡ Ok more → Reads rest more)
     → Reads (front ++ rest) signs
 one_more sign front rest given signs spells e reads =
@@ -125,18 +125,18 @@ pub signs_from-escaped : (at : ℕ) (text : List ℕ) (k : ℕ) → EndsEscaped 
 signs_from-escaped at text k ends =
     ap (signs_from at) ends.whole ∙ read_escaped at ends.front ends.signs ends.reads ∙ ap (λ n. Err (BadEscape (at + n))) (sym ends.place)
 
-given_fault : {A : Type 0} (front : List A) (given : Result (List A) PatternError) (fault : PatternError) → with_front front given
+given_fault : {A : Type 0} (front : List A) (given : Result (List A) PatternFault) (fault : PatternFault) → with_front front given
     ≡ Err fault → given ≡ Err fault
 given_fault front (Ok rest) fault e = cc
 given_fault front (Err own) fault e = e
 
 -- a text from a place on has this fault, which is a `\` at its end
-pub record Escaped (at : ℕ) (text : List ℕ) (fault : PatternError) : Type 0 where
+pub record Escaped (at : ℕ) (text : List ℕ) (fault : PatternFault) : Type 0 where
   pub place : ℕ
   pub ends : EndsEscaped text place
   pub is : fault ≡ BadEscape (at + place)
 
-one_escaped : (at n : ℕ) (sign : Sign) (front rest : List ℕ) (given : Result (List Sign) PatternError) (fault : PatternError)
+one_escaped : (at n : ℕ) (sign : Sign) (front rest : List ℕ) (given : Result (List Sign) PatternFault) (fault : PatternFault)
     → Spells sign front rest → n ≡ length front → with_front (sign ∷ []) given ≡ Err fault
     → (given ≡ Err fault → Escaped (at + n) rest fault) → Escaped at (front ++ rest) fault
 one_escaped at n sign front rest given fault spells count e escaped =
@@ -162,7 +162,7 @@ one_escaped at n sign front rest given fault spells count e escaped =
       is = more.is ∙ ap (λ k. BadEscape k) place;
     }
 
-pub escaped-signs_from : (at : ℕ) (text : List ℕ) (fault : PatternError) → signs_from at text ≡ Err fault → Escaped at text fault
+pub escaped-signs_from : (at : ℕ) (text : List ℕ) (fault : PatternFault) → signs_from at text ≡ Err fault → Escaped at text fault
 escaped-signs_from at [] fault e = cc
 escaped-signs_from at (b ∷ []) fault e =
     elim (chosen (b == 92) (Err (BadEscape at)) (Ok (sign_of b ∷ [])) (Err fault) e) [

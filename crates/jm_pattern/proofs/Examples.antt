@@ -5,7 +5,7 @@ use Rattle.jm_pattern.specs.ComputedMatching.{matches}
 use Rattle.jm_pattern.specs.ComputedReading.{pattern_of}
 use Rattle.jm_pattern.specs.Items.{items_of, list_of}
 use Rattle.jm_pattern.specs.declared.signs.Sign.TheVariants.{AnyRun, Run, One, Byte}
-use Rattle.jm_pattern.specs.declared.signs.PatternError.TheVariants.{BadEscape, Empty, Prefix}
+use Rattle.jm_pattern.specs.declared.signs.PatternFault.TheVariants.{BadEscape, Empty, Prefix}
 
 -- `***` is `**` and then `*`
 three-stars : pattern_of (codes "***") ≡ Ok (AnyRun ∷ Run ∷ [])

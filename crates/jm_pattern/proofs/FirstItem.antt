@@ -1,16 +1,14 @@
 -- The first item of a list, and the items behind it.
 use Rattle.std.proofs.Common.{◌≡◌, ◌≢◌, ◌+◌, ◌++◌, ◌∷◌, ◌<◌, [], ℕ, Bool, true, false, List, Option, Some}
-use Rattle.std.proofs.Common.{None, Result, Ok, refl, sym, ap, ◌∙◌, arith, append_assoc, eqb, cond}
+use Rattle.std.proofs.Common.{None, Result, Ok, refl, sym, ap, subst, ◌∙◌, arith, append_assoc, eqb, cond}
 use Rattle.std.proofs.Common.{length-append, length, Bor, IfSome, unwrap_or, option_map}
 use Rattle.std.proofs.lemmas.Bool.{ne_eqb}
-use Rattle.jm_bytes.specs.Results.{UnlessMemory}
 use Rattle.jm_pattern.specs.ComputedReading.{with_front}
 use Rattle.jm_pattern.specs.Items.{with_first, onto_first, items_of, item_pattern, patterns_from}
 use Rattle.jm_pattern.specs.ReadingSteps.{items_behind, GoesOn}
-use Rattle.jm_pattern.proofs.FirstSign.{read-on, given-ok}
+use Rattle.jm_pattern.proofs.FirstSign.{read-on}
 use Rattle.jm_pattern.specs.declared.signs.Sign.{Sign}
-use Rattle.jm_pattern.specs.declared.signs.PatternError.{PatternError}
-use Rattle.jm_pattern.specs.declared.signs.PatternError.TheVariants.{Memory}
+use Rattle.jm_pattern.specs.declared.signs.PatternFault.{PatternFault}
 
 -- bytes at the front, and then more
 onto-twice : (xs ys : List ℕ) (items : List (List ℕ)) → onto_first xs (onto_first ys items) ≡ onto_first (xs ++ ys) items
@@ -57,21 +55,32 @@ goes-byte text b [] e h k = (b ∷ [], e, rw (e, ne_eqb b 44 h) refl)
 goes-byte text b (c ∷ rest) e h k = (b ∷ [], e, rw (e, ne_eqb b 92 k, ne_eqb b 44 h) refl)
 
 -- a `\` and the byte that it takes, or the end
-pub goes-taken : (text : List ℕ) (b : ℕ) (rest : List ℕ) → text ≡ b ∷ rest → GoesOn (92 ∷ text) rest
+goes-taken : (text : List ℕ) (b : ℕ) (rest : List ℕ) → text ≡ b ∷ rest → GoesOn (92 ∷ text) rest
 goes-taken text b rest e = rw e (92 ∷ b ∷ [], refl, refl)
 
-pub goes-at_end : (text : List ℕ) → length text ≡ 0 → GoesOn (92 ∷ text) text
-goes-at_end [] e = (92 ∷ [], refl, refl)
-goes-at_end (b ∷ text) e = absurd (omega arith)
+goes-last : (text : List ℕ) → length text ≡ 0 → GoesOn (92 ∷ text) text
+goes-last [] e = (92 ∷ [], refl, refl)
+goes-last (b ∷ text) e = absurd (omega arith)
+
+pub goes-escaped : (whole text rest : List ℕ) (b c : ℕ) → whole ≡ b ∷ text → b ≡ 92 → text ≡ c ∷ rest → GoesOn whole rest
+goes-escaped whole text rest b c e1 e2 e3 =
+    let e : whole ≡ 92 ∷ text = cc in
+    subst (λ w. GoesOn w rest) (sym e) (goes-taken text c rest e3)
+
+pub goes-at_end : (whole text : List ℕ) (b : ℕ) → whole ≡ b ∷ text → b ≡ 92 → length text ≡ 0 → GoesOn whole text
+goes-at_end whole text b e1 e2 e3 =
+    let e : whole ≡ 92 ∷ text = cc in
+    subst (λ w. GoesOn w text) (sym e) (goes-last text e3)
 
 -- one pattern further
-pub list-further : (whole : Result (List (List Sign)) PatternError) (patterns : List (List Sign)) (left : Option (List ℕ))
+pub list-further : (whole : Result (List (List Sign)) PatternFault) (patterns : List (List Sign)) (left : Option (List ℕ))
     (text item : List ℕ) (behind : Option (List ℕ)) (number : ℕ) (pattern : List Sign) → whole
     ≡ with_front patterns (patterns_from (length patterns) (items_behind left)) → left ≡ Some text → items_of text
-    ≡ item ∷ items_behind behind → number ≡ length patterns → UnlessMemory Memory (Ok pattern) (item_pattern number item) → whole
+    ≡ item ∷ items_behind behind → number ≡ length patterns → ◌≡◌ {A = Result (List Sign) PatternFault} (Ok pattern)
+    (item_pattern number item) → whole
     ≡ with_front (patterns ++ pattern ∷ []) (patterns_from (length (patterns ++ pattern ∷ [])) (items_behind behind))
 list-further whole patterns left text item behind number pattern e is items count read =
-    let one : item_pattern (length patterns) item ≡ Ok pattern = rw count at (given-ok pattern (item_pattern number item) read) in
+    let one : item_pattern (length patterns) item ≡ Ok pattern = rw count at (sym read) in
     let more : length (patterns ++ pattern ∷ []) ≡ length patterns + 1 = omega (arith, length-append patterns (pattern ∷ [])) in
     let here : items_behind left ≡ item ∷ items_behind behind = ap items_behind is ∙ items in
     let next = patterns_from (length patterns + 1) (items_behind behind) in

@@ -1,16 +1,15 @@
 -- The first sign of a text, by its first bytes.
 use Rattle.std.proofs.Common.{◌≡◌, ◌≢◌, ◌+◌, ◌-◌, ◌<◌, ◌≤◌, ◌++◌, ◌∷◌, [], ℕ, List, Result, Ok, Err, length}
-use Rattle.std.proofs.Common.{refl, sym, ap, ◌∙◌, arith, append_assoc, eqb, ◌&&◌, true, false, Bool, inl, inr}
+use Rattle.std.proofs.Common.{refl, sym, ap, subst, ◌∙◌, arith, append_assoc, eqb, ◌&&◌, true, false, Bool}
 use Rattle.std.proofs.lemmas.Bool.Decides.{nat_tests}
 use Rattle.std.proofs.lemmas.Bool.{ne_eqb}
-use Rattle.jm_bytes.specs.Results.{UnlessMemory}
 use Rattle.jm_pattern.specs.ComputedReading.{with_front, sign_of, signs_from}
 use Rattle.jm_pattern.specs.Reading.{BeginsWith}
 use Rattle.jm_pattern.specs.ReadingSteps.{ReadsFirst}
 use Rattle.jm_pattern.specs.declared.signs.Sign.{Sign}
 use Rattle.jm_pattern.specs.declared.signs.Sign.TheVariants.{AnyRun, Run, One, Byte}
-use Rattle.jm_pattern.specs.declared.signs.PatternError.{PatternError}
-use Rattle.jm_pattern.specs.declared.signs.PatternError.TheVariants.{BadEscape, Memory}
+use Rattle.jm_pattern.specs.declared.signs.PatternFault.{PatternFault}
+use Rattle.jm_pattern.specs.declared.signs.PatternFault.TheVariants.{BadEscape}
 
 -- the place behind so many bytes
 place-behind : (at k : ℕ) (text rest : List ℕ) → length text ≡ length rest + k → at + (length text - length rest) ≡ at + k
@@ -50,8 +49,16 @@ first-run text k = first-single (42 ∷ text) 42 text Run refl (λ e. absurd (om
 pub first-any : (text rest : List ℕ) → text ≡ 42 ∷ rest → ReadsFirst (42 ∷ text) AnyRun rest
 first-any text rest e at = rw (e, place-behind at 2 (42 ∷ 42 ∷ rest) rest (omega arith)) refl
 
--- for the tactics, which take no name with a dash
-pub ruleset runs = (first-run, first-any)
+-- the same, of a text that begins so
+pub first-star : (whole text : List ℕ) (b : ℕ) → whole ≡ b ∷ text → b ≡ 42 → ¬ BeginsWith 42 text → ReadsFirst whole Run text
+first-star whole text b e1 e2 k =
+    let e : whole ≡ 42 ∷ text = cc in
+    subst (λ w. ReadsFirst w Run text) (sym e) (first-run text k)
+
+pub first-two : (whole text rest : List ℕ) (b : ℕ) → whole ≡ b ∷ text → b ≡ 42 → text ≡ 42 ∷ rest → ReadsFirst whole AnyRun rest
+first-two whole text rest b e1 e2 e3 =
+    let e : whole ≡ 42 ∷ text = cc in
+    subst (λ w. ReadsFirst w AnyRun rest) (sym e) (first-any text rest e3)
 
 -- a `\` and its byte
 pub first-escaped : (whole text rest : List ℕ) (b c : ℕ) → whole ≡ b ∷ text → b ≡ 92 → text ≡ c ∷ rest → ReadsFirst whole (Byte c) rest
@@ -75,7 +82,7 @@ escape-at_end whole [] b e1 e2 e3 at = let e : whole ≡ 92 ∷ [] = cc in rw e 
 escape-at_end whole (c ∷ text) b e1 e2 e3 at = absurd (omega arith)
 
 -- what was read before what is left, one further
-pub read-on : {A : Type 0} (first : List A) (sign : A) (given : Result (List A) PatternError)
+pub read-on : {A : Type 0} (first : List A) (sign : A) (given : Result (List A) PatternFault)
     → with_front first (with_front (sign ∷ []) given) ≡ with_front (first ++ sign ∷ []) given
 read-on first sign (Ok signs) = ap (λ x. Ok x) (sym (append_assoc first (sign ∷ []) signs))
 read-on first sign (Err fault) = refl
@@ -87,7 +94,3 @@ reads-further text signs left sign rest h e shorter first =
     let place : (length text - length left) + (length left - length rest) ≡ length text - length rest = omega arith in
     let here = rw place at (first (length text - length left)) in
     e ∙ ap (λ x. with_front signs x) here ∙ read-on signs sign (signs_from (length text - length rest) rest)
-
--- a result that is there is the one that the rules give
-pub given-ok : {A : Type 0} (x : A) (given : Result A PatternError) → UnlessMemory Memory (Ok x) given → given ≡ Ok x
-given-ok x given h = elim h [ inl e ↦ absurd cc | inr e ↦ sym e ]

@@ -1,16 +1,16 @@
 -- Laws for users: a text without signs matches itself alone, and `**` matches every name.
-use Rattle.std.proofs.Common.{◌≡◌, ◌+◌, ◌++◌, ◌∷◌, [], ℕ, List, Ok, map, refl, sym, ap, ◌∙◌, append-nil}
+use Rattle.std.proofs.Common.{◌≡◌, ◌+◌, ◌++◌, ◌∷◌, [], ℕ, List, Result, Ok, map, refl, sym, ap, ◌∙◌, append-nil}
 use Rattle.std.specs.List.{All}
 use Rattle.std.proofs.lemmas.List.Elements.{All-head, All-tail}
 use Rattle.std.proofs.lemmas.Bool.{ne_eqb}
+use Rattle.jm_bytes.proofs.Choice.{same_ok}
 use Rattle.jm_pattern.specs.Matching.{MatchesOnly, MatchesAll}
-use Rattle.jm_bytes.specs.Results.{UnlessMemory}
 use Rattle.jm_pattern.specs.ComputedReading.{with_front, sign_of, signs_from}
 use Rattle.jm_pattern.specs.Reading.{IsPlain}
-use Rattle.jm_pattern.proofs.FirstSign.{reads-single, given-ok}
+use Rattle.jm_pattern.proofs.FirstSign.{reads-single}
+use Rattle.jm_pattern.specs.declared.signs.PatternFault.{PatternFault}
 use Rattle.jm_pattern.specs.declared.signs.Sign.{Sign}
 use Rattle.jm_pattern.specs.declared.signs.Sign.TheVariants.{AnyRun, Byte}
-use Rattle.jm_pattern.specs.declared.signs.PatternError.TheVariants.{Memory}
 
 -- a text without signs reads as its bytes
 pub plain-signs : (at : ℕ) (text : List ℕ) → All IsPlain text → signs_from at text ≡ Ok (map (λ b. Byte b) text)
@@ -34,16 +34,14 @@ pub any-matches : MatchesAll (AnyRun ∷ [])
 any-matches name = (name, [], sym (append-nil name), tt, refl)
 
 -- the same, of what a text reads as
-pub plain-read : (text : List ℕ) (signs : List Sign) → All IsPlain text → UnlessMemory Memory (Ok signs) (signs_from 0 text)
-    → MatchesOnly signs text
+pub plain-read : (text : List ℕ) (signs : List Sign) → All IsPlain text
+    → ◌≡◌ {A = Result (List Sign) PatternFault} (Ok signs) (signs_from 0 text) → MatchesOnly signs text
 plain-read text signs h read =
-    let whole = sym (given-ok signs (signs_from 0 text) read) ∙ plain-signs 0 text h in
-    let same : signs ≡ map (λ b. Byte b) text = cc in
+    let same : signs ≡ map (λ b. Byte b) text = same_ok signs (map (λ b. Byte b) text) (read ∙ plain-signs 0 text h) in
     rw same (plain-matches text)
 
-pub any-read : (text : List ℕ) (signs : List Sign) → text ≡ 42 ∷ 42 ∷ [] → UnlessMemory Memory (Ok signs) (signs_from 0 text)
-    → MatchesAll signs
+pub any-read : (text : List ℕ) (signs : List Sign) → text ≡ 42 ∷ 42 ∷ []
+    → ◌≡◌ {A = Result (List Sign) PatternFault} (Ok signs) (signs_from 0 text) → MatchesAll signs
 any-read text signs h read =
-    let whole = rw h at (given-ok signs (signs_from 0 text) read) in
-    let same : signs ≡ AnyRun ∷ [] = cc in
+    let same : signs ≡ AnyRun ∷ [] = same_ok signs (AnyRun ∷ []) (read ∙ ap (signs_from 0) h) in
     rw same any-matches

@@ -1,5 +1,5 @@
 -- The steps of a search for a match: each leads from what was left to what is left behind it.
-use Rattle.std.proofs.Common.{◌≡◌, ◌≢◌, ◌==◌, ◌∷◌, [], ℕ, Bool, true, false, cond, List, All, refl}
+use Rattle.std.proofs.Common.{◌≡◌, ◌≢◌, ◌==◌, ◌∷◌, [], ℕ, Bool, true, false, cond, List, All, refl, subst}
 use Rattle.std.proofs.lemmas.Bool.{eqb-false}
 use Rattle.std.proofs.lemmas.List.Elements.{All-nil, All-cons, All-head}
 use Rattle.jm_pattern.specs.Matching.{StandsFor, Match}
@@ -151,7 +151,13 @@ pub none-line_on : (p : List Sign) (n rest : List ℕ) → Leads (AnyRun ∷ p) 
     → All InRun rest → ¬ Match (AnyRun ∷ p) n
 none-line_on p n rest l not_here a m = not_here (any-run p rest a (l.on m))
 
--- the sign behind a segment is a `**`
+-- the sign behind a segment is a `**`, and none matches where it doesn't
+pub none-past_any : (p : List Sign) (n : List ℕ) (q : List Sign) (o : List ℕ) (s : Sign) (behind : List Sign) → Leads p n q o
+    → AtAny q o → q ≡ s ∷ behind → ¬ Match (AnyRun ∷ behind) o → ¬ Match p n
+none-past_any p n q o s behind l e same none m =
+    let first : s ≡ AnyRun = rw same at e in
+    none (subst (λ x. Match (x ∷ behind) o) first (subst (λ signs. Match signs o) same (l.on m)))
+
 pub leads-past_any : (p : List Sign) (n : List ℕ) (q : List Sign) (o : List ℕ) (s : Sign) (behind r : List Sign) (t : List ℕ)
     → Leads p n q o → AtAny q o → q ≡ s ∷ behind → Leads (AnyRun ∷ behind) o r t → Leads p n r t
 leads-past_any p n q o s behind r t l e same next =

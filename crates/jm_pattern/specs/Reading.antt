@@ -1,8 +1,8 @@
 -- What the text of a pattern reads as (this project's rule); 42 is `*` and 92 is `\`.
 use Rattle.std.specs.Prelude.{◌≡◌, ◌≢◌, ◌++◌, ◌∷◌, [], ℕ, List, length, ◌⊎◌, codes}
-use Rattle.jm_pattern.specs.declared.signs.PatternError.{PatternError}
-use Rattle.jm_pattern.specs.declared.signs.PatternError.TheVariants.{BadEscape, Empty, Memory}
-use Rattle.jm_pattern.specs.declared.signs.PatternError.TheVariants.{Prefix}
+use Rattle.jm_pattern.specs.declared.signs.PatternFault.{PatternFault}
+use Rattle.jm_pattern.specs.declared.signs.PatternFault.TheVariants.{BadEscape, Empty}
+use Rattle.jm_pattern.specs.declared.signs.PatternFault.TheVariants.{Prefix}
 use Rattle.jm_pattern.specs.declared.signs.Sign.{Sign}
 use Rattle.jm_pattern.specs.declared.signs.Sign.TheVariants.{AnyRun, Run, One, Byte}
 
@@ -38,8 +38,7 @@ pub record EndsEscaped (text : List ℕ) (at : ℕ) : Type 0 where
   pub place : at ≡ length front
 
 -- why a text is no pattern: it has no byte, or it ends with a `\` that takes none
-abbrev pub IsFaultOf : List ℕ → PatternError → Type 0
+abbrev pub IsFaultOf : List ℕ → PatternFault → Type 0
 IsFaultOf text (BadEscape at) = EndsEscaped text at
 IsFaultOf text Empty = text ≡ []
 IsFaultOf text (Prefix number) = ⊥
-IsFaultOf text Memory = ⊥

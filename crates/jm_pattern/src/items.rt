@@ -1,24 +1,23 @@
-ghost use Rattle.std.specs.Prelude.{◌≡◌, ◌∷◌, ◌<◌, ◌≤◌, ◌⊎◌, length, option_map};
+ghost use Rattle.std.specs.Prelude.{◌≡◌, ◌∷◌, ◌<◌, length, option_map};
 ghost use Rattle.std.specs.Prelude.{IfSome, IfNone, IfOk, IfErr};
 ghost use Rattle.std.specs.List.{AllZip};
-ghost use Rattle.jm_bytes.specs.Results.{UnlessMemory};
+ghost use Rattle.jm_bytes.specs.Results.{IfAnswered};
 ghost use Rattle.jm_pattern.specs.Items.{items_of, is_refused, without_glob, item_pattern, list_of};
 ghost use Rattle.jm_pattern.specs.ItemRules.{ItemReads, IsListFault};
 ghost use Rattle.jm_pattern.specs.ReadingSteps.{GoesOn, EndsItem, items_behind};
 
-use crate::signs::{Pattern, PatternError};
-use jm_bytes::List;
+use crate::signs::{Pattern, PatternFault};
+use jm_bytes::{List, Or};
 use std::alloc::Global;
 
 /// Reads a comma list of patterns from left to right: `\` takes the next byte with it, and each `,`
 /// that isn't so taken cuts. An item that begins with `regex:` or `@` is refused as `Prefix`, else
 /// it loses a `glob:` at its front once and is read as a pattern. The least item with a fault
 /// decides; a place in `BadEscape` counts in the item without its `glob:`.
-pub fn read_list(alloc: Global, text: &[u8]) -> Result<List<Pattern>, PatternError>
-    ensures value { UnlessMemory PatternError.Memory result (list_of text.now) }
+pub fn read_list(alloc: Global, text: &[u8]) -> Result<List<Pattern>, Or<PatternFault>>
+    ensures value { IfAnswered (λ r. r ≡ list_of text.now) result }
     ensures reads { IfOk result (AllZip ItemReads (items_of text.now)) }
-    ensures fault { IfErr result
-        (λ fault. (fault ≡ PatternError.Memory) ⊎ IsListFault text.now fault) }
+    ensures fault { IfAnswered (λ r. IfErr r (IsListFault text.now)) result }
 {
     let mut patterns = List::new(alloc);
     let mut left = Some(text);
@@ -32,23 +31,16 @@ pub fn read_list(alloc: Global, text: &[u8]) -> Result<List<Pattern>, PatternErr
 }
 
 /// Reads an item of a list as a pattern.
-fn read_item(alloc: Global, number: usize, item: &[u8]) -> Result<Pattern, PatternError>
-    ensures { UnlessMemory PatternError.Memory result (item_pattern number item.now) }
+fn read_item(alloc: Global, number: usize, item: &[u8]) -> Result<Pattern, Or<PatternFault>>
+    ensures { IfAnswered (λ r. r ≡ item_pattern number item.now) result }
 {
     if item.starts_with(b"regex:") || item.starts_with(b"@") {
-        return Err(PatternError::Prefix(number));
+        return Err(Or::Fault(PatternFault::Prefix(number)));
     }
-    Pattern::parse(alloc, behind_glob(item))
-}
-
-/// An item without the `glob:` at its front.
-fn behind_glob(item: &[u8]) -> &[u8]
-    ensures { result.now ≡ without_glob item.now }
-{
     if item.starts_with(b"glob:") {
-        &item[5..]
+        Pattern::parse(alloc, &item[5..])
     } else {
-        item
+        Pattern::parse(alloc, item)
     }
 }
 
@@ -79,18 +71,10 @@ fn next_in_item(text: &[u8]) -> Option<&[u8]>
     let (first, rest) = text.split_first()?;
     match *first {
         b',' => None,
-        b'\\' => Some(behind_escaped(rest)),
+        b'\\' => match rest.split_first() {
+            Some((_, behind)) => Some(behind),
+            None => Some(rest),
+        },
         _ => Some(rest),
-    }
-}
-
-/// What follows the byte that a `\` takes with it, which is nothing at the end.
-fn behind_escaped(text: &[u8]) -> &[u8]
-    ensures goes_on { GoesOn (92 ∷ text.now) result.now }
-    ensures shorter { length result.now ≤ length text.now }
-{
-    match text.split_first() {
-        Some((_, rest)) => rest,
-        None => text,
     }
 }

@@ -8,4 +8,4 @@ mod reading;
 mod signs;
 
 pub use items::read_list;
-pub use signs::{Pattern, PatternError, Sign, matches_any};
+pub use signs::{Pattern, PatternFault, Sign, matches_any};

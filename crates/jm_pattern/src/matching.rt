@@ -33,24 +33,16 @@ pub fn is_match<L: Ledger>(signs: &[Sign], name: &[u8], compared: &mut Steps<L>)
     ensures rule { IsTrue result ↔ Match signs.now name.now }
     ensures cost { compared.new ≤ compared.old + 2 * length signs.now * (length name.now + 1) }
 {
-    whole(signs, name, compared).is_some()
-}
-
-/// Matches segment by segment; nothing is left.
-fn whole<'s, 'n, L: Ledger>(
-    signs: &'s [Sign],
-    name: &'n [u8],
-    compared: &mut Steps<L>,
-) -> Option<Left<'s, 'n>>
-    ensures some { IfSome result (λ left. Match signs.now name.now) }
-    ensures none { IfNone result (¬ Match signs.now name.now) }
-    ensures cost { compared.new ≤ compared.old + 2 * length signs.now * (length name.now + 1) }
-{
-    let mut left = segment(signs, name, compared)?;
+    let Some(mut left) = segment(signs, name, compared) else {
+        return false;
+    };
     while let Some((_, behind)) = left.signs.split_first() {
-        left = after_any(behind, left.name, compared)?;
+        let Some(next) = after_any(behind, left.name, compared) else {
+            return false;
+        };
+        left = next;
     }
-    Some(left)
+    true
 }
 
 /// Puts the segment behind a `**` at its least place, line by line.
@@ -155,21 +147,10 @@ fn other_blocks<'s, 'n, L: Ledger>(
         ≤ compared.old + segment_cost 0 first.entry.signs.now first.entry.name.now }
 {
     let mut left = first;
-    while let Some(behind) = behind_run(left.signs) {
+    while let Some((Sign::Run, behind)) = left.signs.split_first() {
         left = after_run(behind, left.name, compared)?;
     }
     Some(left)
-}
-
-/// The signs behind a `*` at the front.
-fn behind_run(signs: &[Sign]) -> Option<&[Sign]>
-    ensures some { IfSome result (λ behind. signs.now ≡ Sign.Run ∷ behind.now) }
-    ensures none { IfNone result ((behind : _) → ¬ (signs.now ≡ Sign.Run ∷ behind)) }
-{
-    match signs.split_first() {
-        Some((Sign::Run, behind)) => Some(behind),
-        _ => None,
-    }
 }
 
 /// Puts the block behind a `*` at its least place.

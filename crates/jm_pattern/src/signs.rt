@@ -1,14 +1,14 @@
-ghost use Rattle.std.specs.Prelude.{◌≡◌, ◌≤◌, ◌<◌, ◌+◌, ◌*◌, ◌↔◌, ◌⊎◌, length};
+ghost use Rattle.std.specs.Prelude.{◌≡◌, ◌≤◌, ◌<◌, ◌+◌, ◌*◌, ◌↔◌, length};
 ghost use Rattle.std.specs.Prelude.{IsTrue, IfOk, IfErr, All, codes};
 ghost use Rattle.jm_pattern.specs.Matching.{Match, MatchesOnly, MatchesAll};
 ghost use Rattle.jm_pattern.specs.ComputedMatching.{matches, matches_any};
-ghost use Rattle.jm_bytes.specs.Results.{UnlessMemory};
+ghost use Rattle.jm_bytes.specs.Results.{IfAnswered};
 ghost use Rattle.jm_pattern.specs.ComputedReading.{pattern_of};
 ghost use Rattle.jm_pattern.specs.Reading.{IsFaultOf, IsPlain, Reads};
 
 use crate::matching::is_match;
 use crate::reading::signs_of;
-use jm_bytes::{List, NoMemory, Steps};
+use jm_bytes::{List, Or, Steps};
 use std::alloc::Global;
 use std::marker::{Brand, Model};
 use std::sync::ledger::{Blank, Ledger};
@@ -28,15 +28,13 @@ pub enum Sign {
 
 /// Why a text is no pattern, or a list of texts no list of patterns.
 #[derive(Clone, Copy, Debug, PartialEq, Eq)]
-pub enum PatternError {
+pub enum PatternFault {
     /// The `\` at this place, in bytes from 0, has no byte behind it.
     BadEscape(usize),
     /// There is no byte.
     Empty,
     /// The item of this number, from 0, begins with `regex:` or `@`.
     Prefix(usize),
-    /// No memory was found.
-    Memory,
 }
 
 /// A pattern of names, seen as its list of signs.
@@ -54,31 +52,20 @@ impl Model for Pattern {
     ghost view = { λ a. a.signs };
 }
 
-impl From<NoMemory> for PatternError {
-    ghost use Rattle.jm_pattern.specs.declared.signs.PatternError.TheVariants.{Memory};
-
-    ghost from_gives = { λ _ e. e ≡ Memory };
-
-    fn from(_none: NoMemory) -> PatternError {
-        PatternError::Memory
-    }
-}
-
 impl Pattern {
     /// Reads a text from left to right: `**`, `*` and `?` are signs, `\x` is the byte x, and any
     /// other byte is itself. A place in `BadEscape` is in bytes from 0.
-    pub fn parse(alloc: Global, text: &[u8]) -> Result<Pattern, PatternError>
-        ensures read { UnlessMemory PatternError.Memory result (pattern_of text.now) }
+    pub fn parse(alloc: Global, text: &[u8]) -> Result<Pattern, Or<PatternFault>>
+        ensures read { IfAnswered (λ r. r ≡ pattern_of text.now) result }
         ensures reads { IfOk result (Reads text.now) }
-        ensures fault { IfErr result
-            (λ fault. (fault ≡ PatternError.Memory) ⊎ IsFaultOf text.now fault) }
+        ensures fault { IfAnswered (λ r. IfErr r (IsFaultOf text.now)) result }
 
         // A text without signs matches itself alone, and `**` matches every name.
         ensures plain { All IsPlain text.now → IfOk result (λ signs. MatchesOnly signs text.now) }
         ensures any { text.now ≡ codes "**" → IfOk result MatchesAll }
     {
         if text.is_empty() {
-            return Err(PatternError::Empty);
+            return Err(Or::Fault(PatternFault::Empty));
         }
         let signs = signs_of(alloc, text)?;
         Ok(Pattern { signs })

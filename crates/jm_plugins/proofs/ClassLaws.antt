@@ -11,19 +11,18 @@ use Rattle.jm_bytes.proofs.Choice.{same_ok}
 use Rattle.jm_class.specs.Classes.{ClassData}
 use Rattle.jm_class.specs.ComputedClass.{class_of, class_fault, fault_of}
 use Rattle.jm_class.specs.declared.class.ClassFault.{ClassFault}
-use Rattle.jm_class.specs.declared.class.ReadError.{ReadError}
-use Rattle.jm_class.specs.declared.class.ReadError.TheVariants as read_error
 use Rattle.jm_class.proofs.ComputedClassLaws.{reads-class_of}
-use Rattle.jm_compact.specs.Compact.{compact_text, with_text, Compacts}
+use Rattle.jm_compact.specs.Compact.{compact_of, compact_text, with_text}
 use Rattle.jm_packages.specs.Packages.{packages_text, PackagesTo}
 use Rattle.jm_pool.specs.Pairs.{names_of, with_bytes_at}
 use Rattle.jm_strip.specs.Strip.{StripsTo}
-use Rattle.jm_plugins.specs.declared.chain.ApplyError.{ApplyError}
-use Rattle.jm_plugins.specs.declared.chain.ApplyError.TheVariants.{BadClass, Memory}
+use Rattle.jm_plugins.specs.declared.chain.BadClass.{BadClass}
 use Rattle.jm_plugins.specs.declared.classes.Remade.{Remade}
-use Rattle.jm_bytes.specs.Results.{followed, UnlessMemory}
+use Rattle.jm_bytes.specs.declared.faults.Or.{Or}
+use Rattle.jm_bytes.specs.declared.faults.Or.TheVariants.{Fault, Memory}
+use Rattle.jm_bytes.specs.Results.{followed, IfAnswered, UnlessMemory}
 use Rattle.jm_pool.proofs.PairLaws.{zipped}
-use Rattle.jm_plugins.specs.ComputedPlugins.{remade, remade_pair, remade_pairs, stripped_text}
+use Rattle.jm_plugins.specs.ComputedPlugins.{bad_class, remade, remade_pair, remade_pairs, stripped_text}
 use Rattle.jm_plugins.specs.Steps.{class_places, put_remade, put_one, IsRemade, ReadsByRule, Refuses, RemadeAs, TakenRead}
 use Rattle.jm_plugins.proofs.Beside.{at_front}
 
@@ -112,39 +111,44 @@ fault_computed bytes fault found = go (class_of bytes) refl found
     go (Ok c) is none = cc
     go (Err found) is same = let found_is : found ≡ fault = cc in cc
 
-pub strips_as : (bytes : List ℕ) (result : Result (List ℕ) ReadError)
+pub strips_as : (bytes : List ℕ) (result : Result (List ℕ) (Or ClassFault))
     → IfOk result (λ text. StripsTo bytes text)
-    → ((fault : ClassFault) → result ≡ Err (read_error.Fault fault) → class_fault bytes ≡ Some fault) → RemadeAs stripped_text bytes result
+    → ((fault : ClassFault) → result ≡ Err (Fault fault) → class_fault bytes ≡ Some fault) → RemadeAs stripped_text bytes result
 strips_as bytes (Ok text) given fails =
     (given.class, reads-class_of bytes given.class given.reads, given.is)
-strips_as bytes (Err (read_error.Fault fault)) given fails = fault_computed bytes fault (fails fault refl)
-strips_as bytes (Err read_error.Memory) given fails = tt
+strips_as bytes (Err (Fault fault)) given fails = fault_computed bytes fault (fails fault refl)
+strips_as bytes (Err Memory) given fails = tt
 
-pub packages_as : (packages : List (List ℕ)) (bytes : List ℕ) (result : Result (List ℕ) ReadError)
+pub packages_as : (packages : List (List ℕ)) (bytes : List ℕ) (result : Result (List ℕ) (Or ClassFault))
     → IfOk result (λ text. PackagesTo packages bytes text)
-    → ((fault : ClassFault) → result ≡ Err (read_error.Fault fault) → class_fault bytes ≡ Some fault)
+    → ((fault : ClassFault) → result ≡ Err (Fault fault) → class_fault bytes ≡ Some fault)
     → RemadeAs (packages_text packages) bytes result
 packages_as packages bytes (Ok text) given fails =
     (given.class, reads-class_of bytes given.class given.reads, given.is)
-packages_as packages bytes (Err (read_error.Fault fault)) given fails = fault_computed bytes fault (fails fault refl)
-packages_as packages bytes (Err read_error.Memory) given fails = tt
+packages_as packages bytes (Err (Fault fault)) given fails = fault_computed bytes fault (fails fault refl)
+packages_as packages bytes (Err Memory) given fails = tt
 
-pub compacts_as : (bytes : List ℕ) (result : Result (List ℕ) ReadError) → Compacts bytes result → RemadeAs compact_text bytes result
+pub compacts_as : (bytes : List ℕ) (result : Result (List ℕ) (Or ClassFault)) → IfAnswered (λ r. compact_of bytes ≡ r) result
+    → RemadeAs compact_text bytes result
 compacts_as bytes (Ok text) given = go (class_of bytes) refl given
   where
     go : (r : Result ClassData ClassFault) → class_of bytes ≡ r → with_text r ≡ Ok text → RemadeAs compact_text bytes (Ok text)
     go (Ok c) is same = (c, is, sym (same_ok (compact_text c) text same))
     go (Err found) is same = cc
-compacts_as bytes (Err (read_error.Fault fault)) given = go (class_of bytes) refl given
+compacts_as bytes (Err (Fault fault)) given = go (class_of bytes) refl given
   where
     go : (r : Result ClassData ClassFault) → class_of bytes ≡ r → with_text r ≡ Err fault → class_of bytes ≡ Err fault
     go (Ok c) is same = cc
     go (Err found) is same = let found_is : found ≡ fault = cc in cc
-compacts_as bytes (Err read_error.Memory) given = tt
+compacts_as bytes (Err Memory) given = tt
 
 -- All of them
 
-joined : (done : List (List ℕ × List ℕ)) (first : List ℕ × List ℕ) (o : Result (List (List ℕ × List ℕ)) ApplyError)
+-- an answer comes to what is due
+abbrev pub Comes : {A F : Type 0} → Result A (Or F) → Result A F → Type 0
+Comes result due = IfAnswered (λ r. r ≡ due) result
+
+joined : (done : List (List ℕ × List ℕ)) (first : List ℕ × List ℕ) (o : Result (List (List ℕ × List ℕ)) BadClass)
     → followed o (λ xs. Ok ((done ++ first ∷ []) ++ xs)) ≡ followed (followed o (λ xs. Ok (first ∷ xs))) (λ ys. Ok (done ++ ys))
 joined done first (Ok xs) = ap (λ l. Ok l) (append_assoc done (first ∷ []) xs)
 joined done first (Err refusal) = refl
@@ -152,8 +156,8 @@ joined done first (Err refusal) = refl
 module _ (takes : List ℕ → Bool) (text : List ℕ → ClassData → List ℕ) where
   -- a first pair that is given, and then what the rest comes to
   onward : (done rest : List (List ℕ × List ℕ)) (pair first : List ℕ × List ℕ) (outs : List Remade) → remade_pair takes text pair
-      ≡ Ok first → UnlessMemory Memory (put_remade outs ((done ++ first ∷ []) ++ rest)) (followed (remade_pairs takes text rest)
-      (λ xs. Ok ((done ++ first ∷ []) ++ xs))) → UnlessMemory Memory (put_remade outs (done ++ first ∷ rest))
+      ≡ Ok first → Comes (put_remade outs ((done ++ first ∷ []) ++ rest)) (followed (remade_pairs takes text rest)
+      (λ xs. Ok ((done ++ first ∷ []) ++ xs))) → Comes (put_remade outs (done ++ first ∷ rest))
       (followed (remade_pairs takes text (pair ∷ rest)) (λ ys. Ok (done ++ ys)))
   onward done rest pair first outs is so_far =
       let place : (done ++ first ∷ []) ++ rest ≡ done ++ first ∷ rest = append_assoc done (first ∷ []) rest in
@@ -165,8 +169,8 @@ module _ (takes : List ℕ → Bool) (text : List ℕ → ClassData → List ℕ
 
   put_is : (all front done rest : List (List ℕ × List ℕ)) (outs : List Remade) → all ≡ front ++ rest → length done ≡ length front
       → AllZip (IsRemade text all) (class_places takes (length front) rest) outs
-      → UnlessMemory Memory (put_remade outs (done ++ rest)) (followed (remade_pairs takes text rest) (λ ys. Ok (done ++ ys)))
-  put_is all front done [] [] is level zipped = inr refl
+      → Comes (put_remade outs (done ++ rest)) (followed (remade_pairs takes text rest) (λ ys. Ok (done ++ ys)))
+  put_is all front done [] [] is level zipped = refl
   put_is all front done [] (one ∷ outs) is level zipped = absurd zipped
   put_is all front done (pair ∷ rest) outs is level zipped = go (takes pair.0) refl outs zipped (λ first later beside. put_is all
       (front ++ pair ∷ []) (done ++ first ∷ []) rest later (is ∙ sym (append_assoc front (pair ∷ []) rest)) (length_push done first
@@ -178,25 +182,25 @@ module _ (takes : List ℕ → Bool) (text : List ℕ → ClassData → List ℕ
 
       Onward : Type 0
       Onward = (first : List ℕ × List ℕ) (later : List Remade) → AllZip (IsRemade text all) (class_places takes (length front + 1)
-          rest) later → UnlessMemory Memory (put_remade later ((done ++ first ∷ []) ++ rest))
+          rest) later → Comes (put_remade later ((done ++ first ∷ []) ++ rest))
           (followed (remade_pairs takes text rest) (λ xs. Ok ((done ++ first ∷ []) ++ xs)))
 
-      one_class : (one : Remade) (later : List Remade) (o : Result (List ℕ) ReadError) → takes pair.0 ≡ true
+      one_class : (one : Remade) (later : List Remade) (o : Result (List ℕ) (Or ClassFault)) → takes pair.0 ≡ true
           → RemadeAs (text pair.0) pair.1 o → AllZip (IsRemade text all) (class_places takes (length front + 1) rest) later → Onward
-          → UnlessMemory Memory (put_one (length done) o (put_remade later) (done ++ pair ∷ rest))
+          → Comes (put_one (length done) o (put_remade later) (done ++ pair ∷ rest))
           (followed (remade_pairs takes text (pair ∷ rest)) (λ ys. Ok (done ++ ys)))
       one_class one later (Ok made) named own_text beside on =
           let own : remade_pair takes text pair ≡ Ok (pair.0, made) = rw (named, own_text.1, own_text.2) refl in
           rw (replaced done rest pair made) (onward done rest pair (pair.0, made) later own (on (pair.0, made) later beside))
-      one_class one later (Err (read_error.Fault fault)) named own_text beside on =
-          let own : remade_pair takes text pair ≡ Err (BadClass pair.0 fault) = rw (named, own_text) refl in
-          inr (ap (λ name. Err (BadClass name fault)) (name_there done rest pair)
+      one_class one later (Err (Fault fault)) named own_text beside on =
+          let own : remade_pair takes text pair ≡ Err (bad_class pair.0 fault) = rw (named, own_text) refl in
+          ap (λ name. Err (bad_class name fault)) (name_there done rest pair)
           ∙ sym (ap (λ o. followed (followed o (λ first. followed (remade_pairs takes text rest) (λ xs. Ok (first ∷ xs))))
-          (λ ys. Ok (done ++ ys))) own))
-      one_class one later (Err read_error.Memory) named own_text beside on = inl refl
+          (λ ys. Ok (done ++ ys))) own)
+      one_class one later (Err Memory) named own_text beside on = tt
 
       go : (b : Bool) → takes pair.0 ≡ b → (outs : List Remade) → AllZip (IsRemade text all) (class_places takes (length front)
-          (pair ∷ rest)) outs → Onward → UnlessMemory Memory (put_remade outs (done ++ pair ∷ rest))
+          (pair ∷ rest)) outs → Onward → Comes (put_remade outs (done ++ pair ∷ rest))
           (followed (remade_pairs takes text (pair ∷ rest)) (λ ys. Ok (done ++ ys)))
       go false named outs zipped on =
           let own : remade_pair takes text pair ≡ Ok pair = rw named refl in
@@ -211,11 +215,11 @@ module _ (takes : List ℕ → Bool) (text : List ℕ → ClassData → List ℕ
 
   -- put at their places, they are the pairs with these texts
   pub put_all : (pairs : List (List ℕ × List ℕ)) (outs : List Remade) → AllZip (IsRemade text pairs) (class_places takes 0 pairs)
-      outs → UnlessMemory Memory (put_remade outs pairs) (remade_pairs takes text pairs)
-  put_all pairs outs zipped = subst (λ o. UnlessMemory Memory (put_remade outs pairs) o) (plain (remade_pairs takes text pairs))
+      outs → Comes (put_remade outs pairs) (remade_pairs takes text pairs)
+  put_all pairs outs zipped = subst (Comes (put_remade outs pairs)) (plain (remade_pairs takes text pairs))
       (put_is pairs [] [] pairs outs refl refl zipped)
     where
-      plain : (o : Result (List (List ℕ × List ℕ)) ApplyError) → followed o (λ ys. Ok ys) ≡ o
+      plain : (o : Result (List (List ℕ × List ℕ)) BadClass) → followed o (λ ys. Ok ys) ≡ o
       plain (Ok ys) = refl
       plain (Err refusal) = refl
 
@@ -280,7 +284,7 @@ module _ (takes : List ℕ → Bool) (text other : List ℕ → ClassData → Li
 
 -- one more is put
 pub put_more : (one : Remade) (later : List Remade) (pairs new : List (List ℕ × List ℕ)) (text : List ℕ)
-    (all : Result (List (List ℕ × List ℕ)) ApplyError) → one.outcome ≡ Ok text → new ≡ with_bytes_at pairs one.place text → all
+    (all : Result (List (List ℕ × List ℕ)) (Or BadClass)) → one.outcome ≡ Ok text → new ≡ with_bytes_at pairs one.place text → all
     ≡ put_remade (one ∷ later) pairs → all ≡ put_remade later new
 put_more one later pairs new text all given is so_far =
     so_far ∙ ap (λ o. put_one one.place o (put_remade later) pairs) given ∙ ap (put_remade later) (sym is)
@@ -292,27 +296,32 @@ within_more one later pairs new text is within =
     rw level (All-tail (λ z. z.place < length pairs) one later within)
 
 -- all were put
-pub put_none : (left : List Remade) (count : ℕ) (pairs : List (List ℕ × List ℕ)) (all : Result (List (List ℕ × List ℕ)) ApplyError)
+pub put_none : (left : List Remade) (count : ℕ) (pairs : List (List ℕ × List ℕ)) (all : Result (List (List ℕ × List ℕ)) (Or BadClass))
     → length left ≡ count → count ≡ 0 → all ≡ put_remade left pairs → UnlessMemory Memory (Ok pairs) all
 put_none [] count pairs all long none so_far = inr (sym so_far)
 put_none (one ∷ left) count pairs all long none so_far = absurd (omega (arith, long, none))
 
 -- the first that was refused decides
-pub put_refused : (one : Remade) (later : List Remade) (pairs : List (List ℕ × List ℕ)) (error : ReadError) (refusal : ApplyError)
-    (all : Result (List (List ℕ × List ℕ)) ApplyError) → one.outcome ≡ Err error → Refuses pairs one.place error refusal → all
+pub put_refused : (one : Remade) (later : List Remade) (pairs : List (List ℕ × List ℕ)) (error : Or ClassFault) (refusal : Or BadClass)
+    (all : Result (List (List ℕ × List ℕ)) (Or BadClass)) → one.outcome ≡ Err error → Refuses pairs one.place error refusal → all
     ≡ put_remade (one ∷ later) pairs → UnlessMemory Memory (Err refusal) all
 put_refused one later pairs error refusal all is refuses so_far =
     go error (so_far ∙ ap (λ o. put_one one.place o (put_remade later) pairs) is) refuses
   where
-    go : (e : ReadError) → all ≡ put_one one.place (Err e) (put_remade later) pairs → Refuses pairs one.place e refusal
+    go : (e : Or ClassFault) → all ≡ put_one one.place (Err e) (put_remade later) pairs → Refuses pairs one.place e refusal
         → UnlessMemory Memory (Err refusal) all
-    go (read_error.Fault fault) due (inl none) = inl (ap (λ r. Err r) none)
-    go (read_error.Fault fault) due (inr same) = inr (ap (λ r. Err r) same ∙ sym due)
-    go read_error.Memory due none = inl (ap (λ r. Err r) none)
+    go (Fault fault) due (inl none) = inl (ap (λ r. Err r) none)
+    go (Fault fault) due (inr same) = inr (ap (λ r. Err r) same ∙ sym due)
+    go Memory due none = inl (ap (λ r. Err r) none)
 
--- what is given unless memory is wanted, of a value that is so given itself
-pub unless_then : {A : Type 0} (result middle due : Result A ApplyError) → UnlessMemory Memory result middle
-    → UnlessMemory Memory middle due → UnlessMemory Memory result due
-unless_then result middle due (inl none) second = inl none
-unless_then result middle due (inr same) (inl none) = inl (same ∙ none)
-unless_then result middle due (inr same) (inr is) = inr (same ∙ is)
+-- what is due of a value that is given unless memory is wanted is due of what gives it
+pub unless_then : {A F : Type 0} (result middle : Result A (Or F)) (due : Result A F) → UnlessMemory Memory result middle
+    → Comes middle due → Comes result due
+unless_then result middle due (inl none) second = subst (λ r. Comes r due) (sym none) tt
+unless_then result middle due (inr same) second = subst (λ r. Comes r due) (sym same) second
+
+-- what holds anyway is due of each answer
+pub answered : {A F : Type 0} (P : Type 0) (result : Result A (Or F)) → P → IfAnswered (λ _. P) result
+answered P (Ok value) holds = holds
+answered P (Err (Fault fault)) holds = holds
+answered P (Err Memory) holds = tt

@@ -1,12 +1,14 @@
 -- What plug-ins make by the rules is what is computed, and nothing else.
-use Rattle.std.proofs.Common.{◌≡◌, ◌⊎◌, ℕ, ◌+◌, ◌<◌, ◌≤◌, inl, inr, Bool, true, false, cond, List, [], ◌∷◌}
+use Rattle.std.proofs.Common.{◌≡◌, ℕ, ◌+◌, ◌<◌, ◌≤◌, Bool, true, false, cond, List, [], ◌∷◌}
 use Rattle.std.proofs.Common.{◌++◌, All, drop, length, get_or, Some, Result, Ok, Err, refl, sym, ap, subst}
 use Rattle.std.proofs.Common.{◌∙◌}
 use Rattle.std.proofs.lemmas.Bool.{false≢true}
 use Rattle.std.proofs.lemmas.List.{drop_all, drop_more}
 use Rattle.std.proofs.lemmas.List.Elements.{All-nil, All-cons, All-head, All-tail}
 use Rattle.std.specs.List.{AllZip}
-use Rattle.jm_bytes.specs.Results.{followed, UnlessMemory}
+use Rattle.jm_bytes.specs.declared.faults.Or.{Or}
+use Rattle.jm_bytes.specs.declared.faults.Or.TheVariants.{Fault, Memory}
+use Rattle.jm_bytes.specs.Results.{followed, IfAnswered}
 use Rattle.jm_class.specs.Classes.{ClassData, class_text, IsClass, ReadsAs}
 use Rattle.jm_class.specs.ComputedClass.{class_of, class_fault, fault_of}
 use Rattle.jm_class.specs.declared.class.ClassFault.{ClassFault}
@@ -17,11 +19,10 @@ use Rattle.jm_pool.specs.Pairs.{names_of}
 use Rattle.jm_strip.specs.Strip.{strip}
 use Rattle.jm_words.specs.declared.tasks.Plugin.{Plugin}
 use Rattle.jm_words.specs.declared.tasks.Plugin.TheVariants as plugin
-use Rattle.jm_plugins.specs.declared.chain.ApplyError.{ApplyError}
-use Rattle.jm_plugins.specs.declared.chain.ApplyError.TheVariants.{BadClass, Memory}
-use Rattle.jm_plugins.specs.ComputedPlugins.{act, apply, remade, remade_pair, remade_pairs, stripped_text}
+use Rattle.jm_plugins.specs.declared.chain.BadClass.{BadClass}
+use Rattle.jm_plugins.specs.ComputedPlugins.{act, apply, bad_class, remade, remade_pair, remade_pairs, stripped_text}
 use Rattle.jm_plugins.specs.Packaging.{is_descriptor, listing_text}
-use Rattle.jm_plugins.specs.Plugins.{Applies, AreMadeAnew, GoesOn, IsFirstBad, IsMadeAnew, Makes, Pairs, Taken, Untaken, is_class}
+use Rattle.jm_plugins.specs.Plugins.{Applies, AreMadeAnew, GoesOn, IsMadeAnew, Makes, Pairs, Taken, Untaken, is_class}
 use Rattle.jm_plugins.specs.Steps.{ReadsByRule, TakenRead}
 use Rattle.jm_plugins.proofs.ClassLaws.{fault_computed}
 
@@ -36,10 +37,10 @@ module _ (takes : List ℕ → Bool) (IsRight : List ℕ → ClassData → List 
 
   -- a first pair that is made anew, and what the rest comes to
   one_more : (pair first : List ℕ × List ℕ) (pairs : Pairs) → IsMadeAnew takes IsRight pair first → Reads pair
-      → (rest : Result Pairs ApplyError) → AreMadeAnew takes IsRight pairs rest → AreMadeAnew takes IsRight (pair ∷ pairs)
+      → (rest : Result Pairs BadClass) → AreMadeAnew takes IsRight pairs rest → AreMadeAnew takes IsRight (pair ∷ pairs)
       (followed rest (λ made. Ok (first ∷ made)))
   one_more pair first pairs own reads (Ok made) later = (own, later)
-  one_more pair first pairs own reads (Err (BadClass name fault)) later = record {
+  one_more pair first pairs own reads (Err refusal) later = record {
     before = pair ∷ later.before;
     bytes = later.bytes;
     behind = later.behind;
@@ -48,7 +49,6 @@ module _ (takes : List ℕ → Bool) (IsRight : List ℕ → ClassData → List 
     taken = later.taken;
     bad = later.bad;
   }
-  one_more pair first pairs own reads (Err Memory) later = absurd later
 
   -- what is computed is by the rule, where the computed texts are right
   pub made_anew : ((name : List ℕ) (c : ClassData) → IsClass c → IsRight name c (text name c)) → (pairs : Pairs)
@@ -61,7 +61,7 @@ module _ (takes : List ℕ → Bool) (IsRight : List ℕ → ClassData → List 
       own = All-head Read pair pairs read
 
       go : (b : Bool) → takes pair.0 ≡ b → (r : Result ClassData ClassFault) → class_of pair.1 ≡ r
-          → (rest : Result Pairs ApplyError) → AreMadeAnew takes IsRight pairs rest
+          → (rest : Result Pairs BadClass) → AreMadeAnew takes IsRight pairs rest
           → AreMadeAnew takes IsRight (pair ∷ pairs) (followed (cond b (remade (text pair.0) pair.0 r) (Ok pair))
           (λ first. followed rest (λ made. Ok (first ∷ made))))
       go false is r computed rest later =
@@ -82,7 +82,7 @@ module _ (takes : List ℕ → Bool) (IsRight : List ℕ → ClassData → List 
 
   module _ (only : (name : List ℕ) (c : ClassData) (own : List ℕ) → IsClass c → IsRight name c own → own ≡ text name c) where
     -- what a first pair and the rest come to
-    abbrev onward : Pairs → Result (List ℕ × List ℕ) ApplyError → Result Pairs ApplyError
+    abbrev onward : Pairs → Result (List ℕ × List ℕ) BadClass → Result Pairs BadClass
     onward rest o = followed o (λ first. followed (remade_pairs takes text rest) (λ made. Ok (first ∷ made)))
 
     pair_only : (pair made : List ℕ × List ℕ) → IsMadeAnew takes IsRight pair made → remade_pair takes text pair ≡ Ok made
@@ -111,7 +111,7 @@ module _ (takes : List ℕ → Bool) (IsRight : List ℕ → ClassData → List 
             ((pair.0, text pair.0 own.0), ap (remade (text pair.0) pair.0) (reads-class_of pair.1 own.0 own.1))
 
     bad_only : (before behind : Pairs) (name bytes : List ℕ) (fault : ClassFault) → All Reads before → takes name ≡ true
-        → class_fault bytes ≡ Some fault → remade_pairs takes text (before ++ (name, bytes) ∷ behind) ≡ Err (BadClass name fault)
+        → class_fault bytes ≡ Some fault → remade_pairs takes text (before ++ (name, bytes) ∷ behind) ≡ Err (bad_class name fault)
     bad_only [] behind name bytes fault read taken bad =
         ap (onward behind)
         (ap (λ b. cond b (remade (text name) name (class_of bytes)) (Ok (name, bytes))) taken
@@ -123,13 +123,12 @@ module _ (takes : List ℕ → Bool) (IsRight : List ℕ → ClassData → List 
         read) taken bad)
 
     -- what is by the rule is computed, where no other texts are right
-    pub anew_only : (pairs : Pairs) (result : Result Pairs ApplyError) → AreMadeAnew takes IsRight pairs result → result
+    pub anew_only : (pairs : Pairs) (result : Result Pairs BadClass) → AreMadeAnew takes IsRight pairs result → result
         ≡ remade_pairs takes text pairs
     anew_only pairs (Ok made) are = sym (pairs_only pairs made are)
-    anew_only pairs (Err (BadClass name fault)) are =
-        sym (subst (λ ps. remade_pairs takes text ps ≡ Err (BadClass name fault)) (sym are.is) (bad_only are.before are.behind name
-        are.bytes fault are.read are.taken are.bad))
-    anew_only pairs (Err Memory) are = absurd are
+    anew_only pairs (Err refusal) are =
+        sym (subst (λ ps. remade_pairs takes text ps ≡ Err refusal) (sym are.is) (bad_only are.before are.behind refusal.name
+        are.bytes refusal.fault are.read are.taken are.bad))
 
 -- One plug-in
 
@@ -152,7 +151,7 @@ makes_computed plugin.Packages pairs read =
     made_anew is_descriptor (λ name c text. text ≡ listing_text (names_of pairs) name c) (listing_text (names_of pairs))
     (λ name c fits. refl) pairs read
 
-pub makes_only : (one : Plugin) (pairs : Pairs) (result : Result Pairs ApplyError) → Makes one pairs result → result ≡ act one pairs
+pub makes_only : (one : Plugin) (pairs : Pairs) (result : Result Pairs BadClass) → Makes one pairs result → result ≡ act one pairs
 makes_only (plugin.Exclude patterns) pairs result is = is
 makes_only (plugin.Order patterns) pairs result is = is
 makes_only plugin.Strip pairs result are =
@@ -163,22 +162,22 @@ makes_only plugin.Packages pairs result are =
     anew_only is_descriptor (λ name c text. text ≡ listing_text (names_of pairs) name c) (listing_text (names_of pairs))
     (λ name c own fits is. is) pairs result are
 
--- what is computed unless memory is wanted is by the rule
-pub makes_unless : (one : Plugin) (pairs : Pairs) (result : Result Pairs ApplyError) → UnlessMemory Memory result (act one pairs)
-    → (result ≡ Err Memory) ⊎ TakenBy one pairs → (result ≡ Err Memory) ⊎ Makes one pairs result
-makes_unless one pairs result (inl none) read = inl none
-makes_unless one pairs result (inr is) (inl none) = inl none
-makes_unless one pairs result (inr is) (inr read) = inr (subst (Makes one pairs) (sym is) (makes_computed one pairs read))
+-- what is computed is by the rule
+pub makes_due : (one : Plugin) (pairs : Pairs) (result : Result Pairs (Or BadClass)) → IfAnswered (λ r. r ≡ act one pairs) result
+    → IfAnswered (λ _. TakenBy one pairs) result → IfAnswered (Makes one pairs) result
+makes_due one pairs (Ok made) is read = subst (Makes one pairs) (sym is) (makes_computed one pairs read)
+makes_due one pairs (Err (Fault refusal)) is read = subst (Makes one pairs) (sym is) (makes_computed one pairs read)
+makes_due one pairs (Err Memory) is read = tt
 
 -- One after another
 
-goes_only : (later : List Plugin) (result : Result Pairs ApplyError) → ((pairs : Pairs) → Applies later pairs result → result
-    ≡ apply later pairs) → (made : Result Pairs ApplyError) → GoesOn (Applies later) made result → result ≡ followed made (apply later)
+goes_only : (later : List Plugin) (result : Result Pairs BadClass) → ((pairs : Pairs) → Applies later pairs result → result
+    ≡ apply later pairs) → (made : Result Pairs BadClass) → GoesOn (Applies later) made result → result ≡ followed made (apply later)
 goes_only later result only (Ok made) on = only made on
 goes_only later result only (Err refusal) on = on
 
 -- what plug-ins make by the rule is what is computed
-pub applies_only : (plugins : List Plugin) (pairs : Pairs) (result : Result Pairs ApplyError) → Applies plugins pairs result
+pub applies_only : (plugins : List Plugin) (pairs : Pairs) (result : Result Pairs BadClass) → Applies plugins pairs result
     → result ≡ apply plugins pairs
 applies_only [] pairs result is = is
 applies_only (one ∷ later) pairs result (made, makes, on) =
@@ -187,26 +186,24 @@ applies_only (one ∷ later) pairs result (made, makes, on) =
 
 -- Plug-ins that have acted, up to a number
 
-module _ (plugins : List Plugin) (first : Pairs) (number : ℕ) (pairs : Pairs) (so_far : (result : Result Pairs ApplyError)
+module _ (plugins : List Plugin) (first : Pairs) (number : ℕ) (pairs : Pairs) (so_far : (result : Result Pairs BadClass)
     → Applies (drop number plugins) pairs result → Applies plugins first result) where
   -- the next one, and those behind it
-  next_applies : (one : Plugin) (made result : Result Pairs ApplyError) → number < length plugins → one ≡ get_or plugins number one
+  next_applies : (one : Plugin) (made result : Result Pairs BadClass) → number < length plugins → one ≡ get_or plugins number one
       → Makes one pairs made → GoesOn (Applies (drop (number + 1) plugins)) made result → Applies plugins first result
   next_applies one made result below is makes on =
       let all = drop_more plugins number one below ∙ ap (λ (p : Plugin). p ∷ drop (number + 1) plugins) (sym is) in
       so_far result (subst (λ ps. Applies ps pairs result) (sym all) (made, makes, on))
 
   pub one_acted : (one : Plugin) (made : Pairs) → number < length plugins → one ≡ get_or plugins number one
-      → (◌≡◌ {A = Result Pairs ApplyError} (Ok made) (Err Memory)) ⊎ Makes one pairs (Ok made) → (result : Result Pairs ApplyError)
-      → Applies (drop (number + 1) plugins) made result → Applies plugins first result
-  one_acted one made below is (inl never) result later = cc
-  one_acted one made below is (inr makes) result later = next_applies one (Ok made) result below is makes later
+      → Makes one pairs (Ok made) → (result : Result Pairs BadClass) → Applies (drop (number + 1) plugins) made result
+      → Applies plugins first result
+  one_acted one made below is makes result later = next_applies one (Ok made) result below is makes later
 
-  pub one_refused : (one : Plugin) (refusal : ApplyError) → number < length plugins → one ≡ get_or plugins number one
-      → (◌≡◌ {A = Result Pairs ApplyError} (Err refusal) (Err Memory)) ⊎ Makes one pairs (Err refusal)
-      → (◌≡◌ {A = Result Pairs ApplyError} (Err refusal) (Err Memory)) ⊎ Applies plugins first (Err refusal)
-  one_refused one refusal below is (inl memory) = inl memory
-  one_refused one refusal below is (inr makes) = inr (next_applies one (Err refusal) (Err refusal) below is makes refl)
+  pub one_refused : (one : Plugin) (refusal : Or BadClass) → number < length plugins → one ≡ get_or plugins number one
+      → IfAnswered (Makes one pairs) (Err refusal) → IfAnswered (Applies plugins first) (Err refusal)
+  one_refused one (Fault refusal) below is makes = next_applies one (Err refusal) (Err refusal) below is makes refl
+  one_refused one Memory below is makes = tt
 
   pub all_acted : length plugins ≤ number → Applies plugins first (Ok pairs)
   all_acted past = so_far (Ok pairs) (subst (λ ps. Applies ps pairs (Ok pairs)) (sym (drop_all number plugins past)) refl)

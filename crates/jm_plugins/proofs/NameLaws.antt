@@ -18,7 +18,7 @@ use Rattle.jm_compact.specs.Compact.{compact_text}
 use Rattle.jm_pool.specs.Pairs.{names_of}
 use Rattle.jm_words.specs.declared.tasks.Plugin.{Plugin}
 use Rattle.jm_words.specs.declared.tasks.Plugin.TheVariants as plugin
-use Rattle.jm_plugins.specs.declared.chain.ApplyError.{ApplyError}
+use Rattle.jm_plugins.specs.declared.chain.BadClass.{BadClass}
 use Rattle.jm_pattern.specs.ComputedMatching.{matches_any}
 use Rattle.jm_plugins.specs.Matching.{excluded, ordered}
 use Rattle.jm_bytes.specs.Results.{followed}
@@ -54,7 +54,7 @@ names_remade takes text [] left is = ap names_of (sym (same_ok [] left is))
 names_remade takes text (pair ∷ pairs) left is = go (remade_pair takes text pair) (remade_pairs takes text pairs) refl refl is
     (λ rest gives. names_remade takes text pairs rest gives)
   where
-    go : (o : Result (List ℕ × List ℕ) ApplyError) (r : Result (List (List ℕ × List ℕ)) ApplyError) → remade_pair takes text pair
+    go : (o : Result (List ℕ × List ℕ) BadClass) (r : Result (List (List ℕ × List ℕ)) BadClass) → remade_pair takes text pair
         ≡ o → remade_pairs takes text pairs ≡ r → followed o (λ first. followed r (λ rest. Ok (first ∷ rest))) ≡ Ok left
         → ((rest : List (List ℕ × List ℕ)) → remade_pairs takes text pairs ≡ Ok rest → names_of rest ≡ names_of pairs)
         → names_of left ≡ pair.0 ∷ names_of pairs
@@ -86,7 +86,7 @@ module _ (Says : List (List ℕ) → Type 0) (fewer : (test : List ℕ → Bool)
   applied_to [] before after is says = subst (λ l. Says (names_of l)) (same_ok before after is) says
   applied_to (one ∷ later) before after is says = go (act one before) refl is (λ left gives. applied_to later left after gives)
     where
-      go : (o : Result (List (List ℕ × List ℕ)) ApplyError) → act one before ≡ o → followed o (apply later) ≡ Ok after
+      go : (o : Result (List (List ℕ × List ℕ)) BadClass) → act one before ≡ o → followed o (apply later) ≡ Ok after
           → ((left : List (List ℕ × List ℕ)) → apply later left ≡ Ok after → Says (names_of left) → Says (names_of after))
           → Says (names_of after)
       go (Ok left) acts rest onward = onward left rest (acted_on one before left acts says)

@@ -1,44 +1,44 @@
 -- The packages of a module, by the keys of all classes: the keys of one module are those with its
 -- name and a slash in front, and they rise as the packages do.
-use Rattle.std.proofs.Common.{◌≡◌, ℕ, zero, suc, ◌+◌, ◌<◌, inl, inr, Bool, true, false, cond, not, ◌||◌, List}
+use Rattle.std.proofs.Common.{◌≡◌, ℕ, zero, suc, ◌+◌, ◌<◌, Bool, true, false, cond, not, ◌||◌, List}
 use Rattle.std.proofs.Common.{[], ◌∷◌, ◌++◌, take, drop, length, get_or, map, filter, All, AllPairs, Contains}
-use Rattle.std.proofs.Common.{Option, Some, None, option_map, Ok, slice_get, nat_eq, refl, sym, ap, subst}
+use Rattle.std.proofs.Common.{Some, option_map, Ok, slice_get, nat_eq, refl, sym, ap, subst}
 use Rattle.std.proofs.Common.{◌∙◌, arith, append_assoc}
 use Rattle.std.proofs.lemmas.Bool.{false≢true}
-use Rattle.std.proofs.lemmas.List.{map-append, take_more, append-nil}
-use Rattle.std.proofs.lemmas.List.Elements.{All-head, All-more, All-tail, All-weaker, Contains-append_cases}
-use Rattle.std.proofs.lemmas.List.Elements.{Contains-append_left, Contains-append_right, filter_map-append}
+use Rattle.std.proofs.lemmas.List.{map-append, take_more}
+use Rattle.std.proofs.lemmas.List.Elements.{All-head, All-more, All-tail, All-weaker}
+use Rattle.std.proofs.lemmas.List.Elements.{filter_map-append}
 use Rattle.std.proofs.lemmas.Option.{get_or_from_slice_get}
 use Rattle.std.proofs.lemmas.Slice.Eq.{bytes_eq-Decides}
 use Rattle.std.specs.Cmp.{nat_cmp_is}
 use Rattle.std.specs.Cmp.Lexicographic.{slice_cmp}
-use Rattle.std.specs.List.{AllByRecursion, before_first, cons_option, filter_map, list_any, position_or_len}
+use Rattle.std.specs.List.{AllByRecursion, before_first, filter_map, list_any, position_or_len}
 use Rattle.std.specs.List.Sorted.{IsStrictlySortedBy}
 use Rattle.std.specs.Ordering.{nat_cmp, ordering_then}
 use Rattle.std.specs.declared.cmp.Ordering.TheVariants.{Equal}
 use Rattle.std.specs.Str.{bytes_eq}
 use Rattle.jm_bytes.specs.Results.{followed}
 use Rattle.jm_bytes.proofs.Choice.{mapped_some, same_ok, same_some}
-use Rattle.jm_bytes.proofs.Members.{all_from_contains, contains_cases, contains_here, contains_later}
-use Rattle.jm_bytes.proofs.Members.{contains_none, contains_filter, contains_filter_map, from_filter}
+use Rattle.jm_bytes.proofs.Members.{all_from_contains}
+use Rattle.jm_bytes.proofs.Members.{contains_filter, contains_filter_map, from_filter}
 use Rattle.jm_bytes.proofs.Members.{from_filter_map}
 use Rattle.jm_bytes.proofs.Pairs.{pairs_filter_map, pairs_head, pairs_tail}
 use Rattle.jm_class.specs.Classes.{ClassData, ReadsAs}
 use Rattle.jm_class.specs.ComputedClass.{class_of}
 use Rattle.jm_class.specs.declared.class.ClassFault.{ClassFault}
 use Rattle.jm_class.proofs.ComputedClassLaws.{reads-class_of}
-use Rattle.jm_form.specs.Rising.{rising, with_placed}
+use Rattle.jm_form.specs.ModuleFiles.{named_package}
 use Rattle.jm_form.specs.Trees.{module_of}
-use Rattle.jm_form.proofs.RisingLaws.{Before, contains_rising, from_rising, rising_only, rising_rises, rising_same}
-use Rattle.jm_modpath.specs.Finding.{named_package, names_within}
-use Rattle.jm_modpath.proofs.PackageLaws.{class_packages_are}
+use Rattle.jm_form.proofs.ClassPackageLaws.{class_packages_are}
+use Rattle.jm_form.proofs.RisingLaws.{Before, contains_rising, from_rising, rising_only, rising_rises}
+use Rattle.jm_modpath.specs.Finding.{names_within}
 use Rattle.jm_names.specs.Names.{is_slash}
 use Rattle.jm_outside.specs.Files.{Rising, after_front}
 use Rattle.jm_outside.proofs.Names.{after_front-is, front_of}
 use Rattle.jm_packages.specs.Packages.{packages_text, Stays}
 use Rattle.jm_packages.proofs.WholeLaws.{stays_text}
 use Rattle.jm_pool.specs.Pairs.{names_of}
-use Rattle.jm_plugins.specs.Packaging.{slashed, packages_of, is_descriptor, listing_text, class_key, with_key, class_keys, packages_by}
+use Rattle.jm_plugins.specs.Packaging.{slashed, packages_of, is_descriptor, listing_text, class_key, class_keys, packages_by}
 use Rattle.jm_plugins.specs.ComputedPlugins.{remade, remade_pair, remade_pairs}
 use Rattle.jm_plugins.specs.Steps.{ReadsByRule, Serves, TakenRead}
 
@@ -157,36 +157,7 @@ pub packages_known : (names : List (List ℕ)) (name : List ℕ) → packages_by
     ≡ packages_of names (module_of name)
 packages_known names name = packages_found names (module_of name) (module_whole name)
 
--- One name more
-
-keys_placed : (key : List ℕ) (keys : List (List ℕ)) → with_placed key (rising keys) ≡ rising (keys ++ key ∷ [])
-keys_placed key keys =
-    rising_same (key ∷ keys) (keys ++ key ∷ [])
-    (λ g there.
-    elim (contains_cases key keys g there) [
-      | inl same ↦ subst (Contains (keys ++ key ∷ [])) same (Contains-append_right keys (key ∷ []) key (contains_here key []))
-      | inr later ↦ Contains-append_left keys (key ∷ []) g later
-    ])
-    (λ g there.
-    elim (Contains-append_cases keys (key ∷ []) g there) [
-      | inl early ↦ contains_later key keys g early
-      | inr last ↦ elim (contains_cases key [] g last) [
-        | inl same ↦ subst (Contains (key ∷ keys)) same (contains_here key keys)
-        | inr none ↦ absurd (contains_none g none)
-      ]
-    ])
-
-with_last : (keys : List (List ℕ)) (o : Option (List ℕ)) → with_key o (rising keys) ≡ rising (keys ++ cons_option o [])
-with_last keys None = ap rising (sym (append-nil keys))
-with_last keys (Some key) = keys_placed key keys
-
-pub keys_more : (names : List (List ℕ)) (place : ℕ) (name : List ℕ) → place < length names → name ≡ get_or names place name
-    → with_key (class_key name) (class_keys (take place names)) ≡ class_keys (take (place + 1) names)
-keys_more names place name below is =
-    let grown = take_more names place name below ∙ ap (λ n. take place names ++ n ∷ []) (sym is) in
-    with_last (filter_map class_key (take place names)) (class_key name)
-    ∙ ap rising (sym (filter_map-append class_key (take place names) (name ∷ [])))
-    ∙ ap class_keys (sym grown)
+-- A name at its place
 
 pub name_at : (pairs : List (List ℕ × List ℕ)) (place : ℕ) (pair : List ℕ × List ℕ) → slice_get pairs place ≡ Some pair → pair.0
     ≡ get_or (names_of pairs) place pair.0

@@ -5,8 +5,7 @@ use Rattle.jm_class.specs.declared.class.ClassFault.TheVariants.{Short}
 use Rattle.jm_pattern.specs.declared.signs.Sign.{Sign}
 use Rattle.jm_pattern.specs.declared.signs.Sign.TheVariants.{AnyRun, Byte}
 use Rattle.jm_words.specs.declared.tasks.Plugin.TheVariants as plugin
-use Rattle.jm_plugins.specs.declared.chain.ApplyError.TheVariants.{BadClass}
-use Rattle.jm_plugins.specs.ComputedPlugins.{apply}
+use Rattle.jm_plugins.specs.ComputedPlugins.{apply, bad_class}
 
 -- `**/B.class` and `/a/**`; 47 is `/`, 66 is `B` and 97 is `a`
 abbrev named_b : List Sign
@@ -72,11 +71,12 @@ compact_then_strip : apply (plugin.Exclude (below_a ∷ []) ∷ plugin.Compact �
     ≡ Ok ((codes "/b/B.class", without_file) ∷ (codes "/b/y", []) ∷ [])
 compact_then_strip = refl
 
-bad_class : apply (plugin.Order (named_b ∷ []) ∷ plugin.Strip ∷ []) (pool (codes "no")) ≡ Err (BadClass (codes "/a/B.class") (Short 0))
-bad_class = refl
+unstripped_class : apply (plugin.Order (named_b ∷ []) ∷ plugin.Strip ∷ []) (pool (codes "no"))
+    ≡ Err (bad_class (codes "/a/B.class") (Short 0))
+unstripped_class = refl
 
 uncompacted_class : apply (plugin.Order (named_b ∷ []) ∷ plugin.Compact ∷ []) (pool (codes "no"))
-    ≡ Err (BadClass (codes "/a/B.class") (Short 0))
+    ≡ Err (bad_class (codes "/a/B.class") (Short 0))
 uncompacted_class = refl
 
 -- a module's class with no constant, and the same with one package; the attribute's name is constant 1
@@ -97,5 +97,5 @@ listed_in_pool : apply (plugin.Packages ∷ []) ((codes "/b/r/C.class", []) ∷ 
 listed_in_pool = refl
 
 unlisted_descriptor : apply (plugin.Packages ∷ []) ((codes "/a/x.class", []) ∷ (codes "/b/module-info.class", codes "no") ∷ [])
-    ≡ Err (BadClass (codes "/b/module-info.class") (Short 0))
+    ≡ Err (bad_class (codes "/b/module-info.class") (Short 0))
 unlisted_descriptor = refl

@@ -10,27 +10,30 @@ use Rattle.jm_pool.specs.Pairs.{names_of}
 use Rattle.jm_strip.specs.Strip.{strip}
 use Rattle.jm_words.specs.declared.tasks.Plugin.{Plugin}
 use Rattle.jm_words.specs.declared.tasks.Plugin.TheVariants as plugin
-use Rattle.jm_plugins.specs.declared.chain.ApplyError.{ApplyError}
-use Rattle.jm_plugins.specs.declared.chain.ApplyError.TheVariants.{BadClass}
+use Rattle.jm_plugins.specs.declared.chain.BadClass.{BadClass}
 use Rattle.jm_plugins.specs.Matching.{excluded, ordered}
 use Rattle.jm_plugins.specs.Packaging.{is_descriptor, listing_text}
 use Rattle.jm_plugins.specs.Plugins.{Pairs, is_class}
 
+-- the refusal of the class of a name by its fault
+abbrev pub bad_class : List ℕ → ClassFault → BadClass
+bad_class name fault = record { name = name; fault = fault }
+
 -- the pair of a class that was read, with another text of it, or the refusal by its fault
 abbrev pub remade : (ClassData → List ℕ) → List ℕ → Result ClassData ClassFault
-    → Result (List ℕ × List ℕ) ApplyError
+    → Result (List ℕ × List ℕ) BadClass
 remade text name (Ok class) = Ok (name, text class)
-remade text name (Err fault) = Err (BadClass name fault)
+remade text name (Err fault) = Err (bad_class name fault)
 
 -- a pair with the other text of its class, where its name is taken, or that class's refusal
 abbrev pub remade_pair : (List ℕ → Bool) → (List ℕ → ClassData → List ℕ) → List ℕ × List ℕ
-    → Result (List ℕ × List ℕ) ApplyError
+    → Result (List ℕ × List ℕ) BadClass
 remade_pair takes text pair =
     if takes pair.0 then remade (text pair.0) pair.0 (class_of pair.1) else Ok pair
 
 -- all pairs so, or the first refusal
 abbrev pub remade_pairs : (List ℕ → Bool) → (List ℕ → ClassData → List ℕ) → Pairs
-    → Result Pairs ApplyError
+    → Result Pairs BadClass
 remade_pairs takes text [] = Ok []
 remade_pairs takes text (pair ∷ pairs) =
     followed (remade_pair takes text pair)
@@ -42,7 +45,7 @@ abbrev pub stripped_text : ClassData → List ℕ
 stripped_text class = class_text (strip class)
 
 -- `Makes` as a value: what one plug-in makes of the pairs, or its refusal
-abbrev pub act : Plugin → Pairs → Result Pairs ApplyError
+abbrev pub act : Plugin → Pairs → Result Pairs BadClass
 act (plugin.Exclude patterns) pairs = Ok (excluded patterns pairs)
 act (plugin.Order patterns) pairs = Ok (ordered patterns pairs)
 act plugin.Strip pairs = remade_pairs is_class (λ name. stripped_text) pairs
@@ -51,6 +54,6 @@ act plugin.Packages pairs = remade_pairs is_descriptor (listing_text (names_of p
 
 -- `Applies` as a value: what plug-ins make of the pairs, from the first to the last, or the first
 -- refusal
-abbrev pub apply : List Plugin → Pairs → Result Pairs ApplyError
+abbrev pub apply : List Plugin → Pairs → Result Pairs BadClass
 apply [] pairs = Ok pairs
 apply (one ∷ later) pairs = followed (act one pairs) (apply later)

@@ -1,13 +1,14 @@
 -- The packages of modules among resources, and the descriptors that are to name them (what a class
 -- package is says the page of the format; JVMS 4.2.3 for the slashes in the names of packages).
-use Rattle.std.specs.Prelude.{ℕ, nat_eq, List, ◌∷◌, ◌++◌, Bool, ◌&&◌, Option, Some, None}
+use Rattle.std.specs.Prelude.{ℕ, nat_eq, List, ◌∷◌, ◌++◌, Bool, ◌&&◌, Option}
 use Rattle.std.specs.Prelude.{option_map, map, filter, codes, if◌then◌else◌}
 use Rattle.std.specs.List.{filter_map, starts_with}
 use Rattle.std.specs.Str.{bytes_eq}
 use Rattle.jm_class.specs.Classes.{ClassData}
-use Rattle.jm_form.specs.Rising.{rising, with_placed}
+use Rattle.jm_form.specs.ModuleFiles.{named_package}
+use Rattle.jm_form.specs.Rising.{rising}
 use Rattle.jm_form.specs.Trees.{class_packages, module_of, path_of}
-use Rattle.jm_modpath.specs.Finding.{named_package, names_within}
+use Rattle.jm_modpath.specs.Finding.{names_within}
 use Rattle.jm_names.specs.Names.{is_dot}
 use Rattle.jm_packages.specs.Packages.{packages_text}
 
@@ -38,11 +39,6 @@ listing_text names name class = packages_text (packages_of names (module_of name
 abbrev pub class_key : List ℕ → Option (List ℕ)
 class_key name =
     option_map (λ package_name. module_of name ++ 47 ∷ package_name) (named_package name)
-
--- rising keys with that of a class in a package, if it is one
-abbrev pub with_key : Option (List ℕ) → List (List ℕ) → List (List ℕ)
-with_key None keys = keys
-with_key (Some key) keys = with_placed key keys
 
 -- those of all names, rising
 abbrev pub class_keys : List (List ℕ) → List (List ℕ)

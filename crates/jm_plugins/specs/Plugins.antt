@@ -5,14 +5,12 @@ use Rattle.std.specs.Prelude.{Some, Result, Ok, Err}
 use Rattle.std.specs.List.{ends_with, AllZip}
 use Rattle.jm_class.specs.Classes.{ClassData, class_text, ReadsAs}
 use Rattle.jm_class.specs.ComputedClass.{class_fault}
-use Rattle.jm_class.specs.declared.class.ClassFault.{ClassFault}
 use Rattle.jm_compact.specs.Compact.{IsCompact}
 use Rattle.jm_pool.specs.Pairs.{names_of}
 use Rattle.jm_strip.specs.Strip.{strip}
 use Rattle.jm_words.specs.declared.tasks.Plugin.{Plugin}
 use Rattle.jm_words.specs.declared.tasks.Plugin.TheVariants as plugin
-use Rattle.jm_plugins.specs.declared.chain.ApplyError.{ApplyError}
-use Rattle.jm_plugins.specs.declared.chain.ApplyError.TheVariants.{BadClass, Memory}
+use Rattle.jm_plugins.specs.declared.chain.BadClass.{BadClass}
 use Rattle.jm_plugins.specs.Matching.{excluded, ordered}
 use Rattle.jm_plugins.specs.Packaging.{is_descriptor, listing_text}
 
@@ -34,25 +32,23 @@ pub data IsMadeAnew (takes : List ℕ → Bool) (IsRight : List ℕ → ClassDat
 
 -- this is the name, and the fault of the bytes, of the first pair whose name is taken and whose
 -- bytes read as no class
-pub record IsFirstBad (takes : List ℕ → Bool) (pairs : Pairs) (name : List ℕ)
-    (fault : ClassFault) : Type 0 where
+pub record IsFirstBad (takes : List ℕ → Bool) (pairs : Pairs) (refusal : BadClass) : Type 0 where
   pub before : Pairs
   pub bytes : List ℕ
   pub behind : Pairs
-  pub is : pairs ≡ before ++ (name, bytes) ∷ behind
+  pub is : pairs ≡ before ++ (refusal.name, bytes) ∷ behind
   pub read : All (λ pair. takes pair.0 ≡ true → (c : ClassData) × ReadsAs pair.1 c) before
-  pub taken : takes name ≡ true
-  pub bad : class_fault bytes ≡ Some fault
+  pub taken : takes refusal.name ≡ true
+  pub bad : class_fault bytes ≡ Some refusal.fault
 
 -- all pairs made anew so, or the first whose bytes read as no class
 abbrev pub AreMadeAnew : (List ℕ → Bool) → (List ℕ → ClassData → List ℕ → Type 0) → Pairs
-    → Result Pairs ApplyError → Type 0
+    → Result Pairs BadClass → Type 0
 AreMadeAnew takes IsRight pairs (Ok made) = AllZip (IsMadeAnew takes IsRight) pairs made
-AreMadeAnew takes IsRight pairs (Err (BadClass name fault)) = IsFirstBad takes pairs name fault
-AreMadeAnew takes IsRight pairs (Err Memory) = ⊥
+AreMadeAnew takes IsRight pairs (Err refusal) = IsFirstBad takes pairs refusal
 
 -- what one plug-in makes of the pairs
-abbrev pub Makes : Plugin → Pairs → Result Pairs ApplyError → Type 0
+abbrev pub Makes : Plugin → Pairs → Result Pairs BadClass → Type 0
 Makes (plugin.Exclude patterns) pairs result = result ≡ Ok (excluded patterns pairs)
 Makes (plugin.Order patterns) pairs result = result ≡ Ok (ordered patterns pairs)
 Makes plugin.Strip pairs result =
@@ -63,13 +59,13 @@ Makes plugin.Packages pairs result =
     result
 
 -- what is made goes on to the later plug-ins; a refusal is the result
-abbrev pub GoesOn : (Pairs → Result Pairs ApplyError → Type 0) → Result Pairs ApplyError
-    → Result Pairs ApplyError → Type 0
+abbrev pub GoesOn : (Pairs → Result Pairs BadClass → Type 0) → Result Pairs BadClass
+    → Result Pairs BadClass → Type 0
 GoesOn Later (Ok made) result = Later made result
 GoesOn Later (Err refusal) result = result ≡ Err refusal
 
 -- what plug-ins make of the pairs, from the first plug-in to the last, or the first refusal
-abbrev pub Applies : List Plugin → Pairs → Result Pairs ApplyError → Type 0
+abbrev pub Applies : List Plugin → Pairs → Result Pairs BadClass → Type 0
 Applies [] pairs result = result ≡ Ok pairs
 Applies (one ∷ later) pairs result =
-    (made : Result Pairs ApplyError) × Makes one pairs made × GoesOn (Applies later) made result
+    (made : Result Pairs BadClass) × Makes one pairs made × GoesOn (Applies later) made result

@@ -2,23 +2,23 @@
 use Rattle.std.specs.Prelude.{ℕ, ◌≡◌, ◌+◌, ◌⊎◌, List, [], ◌∷◌, Some, Result, Ok, Err, Bool}
 use Rattle.std.specs.Prelude.{All, true, slice_get, slice_index_or, if◌then◌else◌}
 use Rattle.std.specs.List.{position_or_len}
+use Rattle.jm_bytes.specs.declared.faults.Or.{Or}
+use Rattle.jm_bytes.specs.declared.faults.Or.TheVariants.{Fault, Memory}
 use Rattle.jm_class.specs.Classes.{ClassData, ReadsAs}
 use Rattle.jm_class.specs.ComputedClass.{class_of}
-use Rattle.jm_class.specs.declared.class.ReadError.{ReadError}
-use Rattle.jm_class.specs.declared.class.ReadError.TheVariants as read_error
+use Rattle.jm_class.specs.declared.class.ClassFault.{ClassFault}
 use Rattle.jm_pattern.specs.declared.signs.Sign.{Sign}
 use Rattle.jm_pattern.specs.ComputedMatching.{matches}
 use Rattle.jm_compact.specs.Compact.{compact_text}
 use Rattle.jm_form.specs.Trees.{module_of}
 use Rattle.jm_packages.specs.Packages.{packages_text}
 use Rattle.jm_pool.specs.Pairs.{names_of, with_bytes_at}
-use Rattle.jm_plugins.specs.declared.chain.ApplyError.{ApplyError}
-use Rattle.jm_plugins.specs.declared.chain.ApplyError.TheVariants.{BadClass, Memory}
+use Rattle.jm_plugins.specs.declared.chain.BadClass.{BadClass}
 use Rattle.jm_plugins.specs.declared.classes.Remade.{Remade}
 use Rattle.jm_plugins.specs.declared.classes.Remaking.{Remaking}
 use Rattle.jm_plugins.specs.declared.classes.Remaking.TheVariants as remaking
 use Rattle.jm_plugins.specs.Packaging.{is_descriptor, listing_text, packages_by}
-use Rattle.jm_plugins.specs.ComputedPlugins.{stripped_text}
+use Rattle.jm_plugins.specs.ComputedPlugins.{bad_class, stripped_text}
 use Rattle.jm_plugins.specs.Plugins.{is_class}
 
 -- the number of the first pattern that matches the name, or how many patterns there are
@@ -45,11 +45,11 @@ text_of remaking.Compact name class = compact_text class
 text_of (remaking.Packages keys) name class =
     packages_text (packages_by keys.now (module_of name)) class
 
--- the other text of the class that some bytes are, or their fault, unless no memory was found
-abbrev pub RemadeAs : (ClassData → List ℕ) → List ℕ → Result (List ℕ) ReadError → Type 0
+-- the other text of the class that some bytes are, or their fault
+abbrev pub RemadeAs : (ClassData → List ℕ) → List ℕ → Result (List ℕ) (Or ClassFault) → Type 0
 RemadeAs text bytes (Ok made) = (c : _) × (class_of bytes ≡ Ok c) × (made ≡ text c)
-RemadeAs text bytes (Err (read_error.Fault fault)) = class_of bytes ≡ Err fault
-RemadeAs text bytes (Err read_error.Memory) = Unit {0}
+RemadeAs text bytes (Err (Fault fault)) = class_of bytes ≡ Err fault
+RemadeAs text bytes (Err Memory) = Unit {0}
 
 -- the class that is computed of some bytes is the one that they read as, by the rule
 abbrev pub ReadsByRule : List ℕ → Type 0
@@ -66,24 +66,27 @@ IsRemade text pairs place one =
     × ((pair : _) → slice_get pairs place ≡ Some pair
     → RemadeAs (text pair.0) pair.1 one.outcome)
 
+-- the refusal of the class at a place by its fault
+abbrev pub refusal_at : List (List ℕ × List ℕ) → ℕ → ClassFault → BadClass
+refusal_at pairs place = bad_class (slice_index_or (names_of pairs) place [])
+
 -- the refusal is by the fault of the class at a place, with its name, or want of memory
-abbrev pub Refuses : List (List ℕ × List ℕ) → ℕ → ReadError → ApplyError → Type 0
-Refuses pairs place (read_error.Fault fault) refusal =
-    (refusal ≡ Memory) ⊎ (refusal ≡ BadClass (slice_index_or (names_of pairs) place []) fault)
-Refuses pairs place read_error.Memory refusal = refusal ≡ Memory
+abbrev pub Refuses : List (List ℕ × List ℕ) → ℕ → Or ClassFault → Or BadClass → Type 0
+Refuses pairs place (Fault fault) refusal =
+    (refusal ≡ Memory) ⊎ (refusal ≡ Fault (refusal_at pairs place fault))
+Refuses pairs place Memory refusal = refusal ≡ Memory
 
 -- a class made anew is put at its place, then the later ones; the first that was refused decides
-abbrev pub put_one : ℕ → Result (List ℕ) ReadError
-    → (List (List ℕ × List ℕ) → Result (List (List ℕ × List ℕ)) ApplyError)
-    → List (List ℕ × List ℕ) → Result (List (List ℕ × List ℕ)) ApplyError
+abbrev pub put_one : ℕ → Result (List ℕ) (Or ClassFault)
+    → (List (List ℕ × List ℕ) → Result (List (List ℕ × List ℕ)) (Or BadClass))
+    → List (List ℕ × List ℕ) → Result (List (List ℕ × List ℕ)) (Or BadClass)
 put_one place (Ok text) later pairs = later (with_bytes_at pairs place text)
-put_one place (Err (read_error.Fault fault)) later pairs =
-    Err (BadClass (slice_index_or (names_of pairs) place []) fault)
-put_one place (Err read_error.Memory) later pairs = Err Memory
+put_one place (Err (Fault fault)) later pairs = Err (Fault (refusal_at pairs place fault))
+put_one place (Err Memory) later pairs = Err Memory
 
 -- the pairs with several classes made anew at their places; the first that was refused decides
 abbrev pub put_remade : List Remade → List (List ℕ × List ℕ)
-    → Result (List (List ℕ × List ℕ)) ApplyError
+    → Result (List (List ℕ × List ℕ)) (Or BadClass)
 put_remade [] pairs = Ok pairs
 put_remade (one ∷ later) pairs = put_one one.place one.outcome (put_remade later) pairs
 

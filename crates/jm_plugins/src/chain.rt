@@ -1,12 +1,12 @@
-ghost use Rattle.std.specs.Prelude.{◌≡◌, ◌⊎◌, ◌<◌, Err};
-ghost use Rattle.jm_plugins.specs.declared.chain.ApplyError.TheVariants.{Memory};
+ghost use Rattle.std.specs.Prelude.{◌<◌};
+ghost use Rattle.jm_bytes.specs.Results.{IfAnswered};
 ghost use Rattle.jm_plugins.specs.Plugins.{Applies, Makes};
 
 use crate::classes::{Remaking, remake_classes};
 use crate::exclusion::exclude;
 use crate::order::order;
 use crate::packages::list_packages;
-use jm_bytes::{NoMemory, Text};
+use jm_bytes::{Or, Text};
 use jm_class::ClassFault;
 use jm_halves::Gate;
 use jm_pool::Pool;
@@ -14,29 +14,13 @@ use jm_words::Plugin;
 use std::alloc::Global;
 use std::thread::Threads;
 
-/// Why plug-ins can't act on a pool.
+/// A class whose bytes don't read as one: plug-ins can't act on it.
 #[derive(Debug, Drop)]
-pub enum ApplyError {
-    /// The name of a class, and the first fault of its bytes, which don't read as one.
-    BadClass {
-        /// The name in the pool.
-        name: Text,
-        /// The fault.
-        fault: ClassFault,
-    },
-    /// No memory was found.
-    Memory,
-}
-
-impl From<NoMemory> for ApplyError {
-    ghost use Rattle.std.specs.Prelude.{◌≡◌};
-    ghost use Rattle.jm_plugins.specs.declared.chain.ApplyError.TheVariants.{Memory};
-
-    ghost from_gives = { λ _ e. e ≡ Memory };
-
-    fn from(_none: NoMemory) -> ApplyError {
-        ApplyError::Memory
-    }
+pub struct BadClass {
+    /// Its name in the pool.
+    pub name: Text,
+    /// The first fault of its bytes.
+    pub fault: ClassFault,
 }
 
 /// What one plug-in makes of a pool.
@@ -47,9 +31,9 @@ fn act<R: Threads + Sync, G: Gate + Sync>(
     pool: Pool,
     plugin: &Plugin,
     gate: &G,
-) -> Result<Pool, ApplyError>
+) -> Result<Pool, Or<BadClass>>
     requires { 0 < jobs }
-    ensures { (result ≡ Err Memory) ⊎ Makes plugin.now pool result }
+    ensures { IfAnswered (Makes plugin.now pool) result }
 {
     match plugin {
         Plugin::Exclude(patterns) => Ok(exclude(rt, alloc, jobs, pool, patterns.as_slice(), gate)?),
@@ -58,25 +42,6 @@ fn act<R: Threads + Sync, G: Gate + Sync>(
         Plugin::Compact => remake_classes(rt, alloc, jobs, pool, Remaking::Compact, gate),
         Plugin::Packages => list_packages(rt, alloc, jobs, pool, gate),
     }
-}
-
-/// What all plug-ins make of a pool, from the first to the last.
-fn act_all<R: Threads + Sync, G: Gate + Sync>(
-    rt: &R,
-    alloc: Global,
-    jobs: u32,
-    pool: Pool,
-    list: &[Plugin],
-    gate: &G,
-) -> Result<Pool, ApplyError>
-    requires { 0 < jobs }
-    ensures { (result ≡ Err Memory) ⊎ Applies list.now pool result }
-{
-    let mut pool = pool;
-    for number in 0..list.len() {
-        pool = act(rt, alloc, jobs, pool, &list[number], gate)?;
-    }
-    Ok(pool)
 }
 
 /// Lets the plug-ins act on a pool, from the first to the last, each on all jobs. The answer
@@ -90,9 +55,13 @@ pub fn apply<R: Threads + Sync, G: Gate + Sync>(
     pool: Pool,
     list: &[Plugin],
     gate: &G,
-) -> Result<Pool, ApplyError>
+) -> Result<Pool, Or<BadClass>>
     requires { 0 < jobs }
-    ensures { (result ≡ Err Memory) ⊎ Applies list.now pool result }
+    ensures { IfAnswered (Applies list.now pool) result }
 {
-    act_all(rt, alloc, jobs, pool, list, gate)
+    let mut pool = pool;
+    for number in 0..list.len() {
+        pool = act(rt, alloc, jobs, pool, &list[number], gate)?;
+    }
+    Ok(pool)
 }

@@ -1,18 +1,18 @@
-ghost use Rattle.std.specs.Prelude.{◌≡◌, ◌⊎◌, ◌<◌, All, Err, length, IfOk};
+ghost use Rattle.std.specs.Prelude.{◌≡◌, ◌<◌, All, length, IfOk};
 ghost use Rattle.std.specs.List.{AllZip};
-ghost use Rattle.jm_bytes.specs.Results.{UnlessMemory};
+ghost use Rattle.jm_bytes.specs.Results.{IfAnswered, UnlessMemory};
 ghost use Rattle.jm_form.specs.Trees.{module_of};
 ghost use Rattle.jm_packages.specs.Packages.{packages_text};
-ghost use Rattle.jm_plugins.specs.declared.chain.ApplyError.TheVariants.{Memory};
+ghost use Rattle.jm_bytes.specs.declared.faults.Or.TheVariants.{Memory};
 ghost use Rattle.jm_plugins.specs.ComputedPlugins.{remade_pairs};
 ghost use Rattle.jm_plugins.specs.Packaging.{packages_by};
 ghost use Rattle.jm_plugins.specs.Steps.{class_places, put_remade, taken_by, text_of, IsRemade};
 ghost use Rattle.jm_plugins.specs.Steps.{ReadsByRule, Refuses, RemadeAs, TakenRead};
 
-use crate::chain::ApplyError;
+use crate::chain::BadClass;
 use crate::packages::{Keys, is_descriptor, module_of, packages_by};
-use jm_bytes::{List, NoMemory, Text};
-use jm_class::ReadError;
+use jm_bytes::{List, NoMemory, Or, Text};
+use jm_class::ClassFault;
 use jm_compact::compact;
 use jm_halves::{Gate, map_halves};
 use jm_packages::add_packages;
@@ -36,7 +36,7 @@ pub enum Remaking<'a> {
 #[derive(Drop)]
 pub struct Remade {
     place: usize,
-    outcome: Result<Text, ReadError>,
+    outcome: Result<Text, Or<ClassFault>>,
 }
 
 /// Whether a way takes the class of a name.
@@ -64,7 +64,12 @@ fn class_places(alloc: Global, pool: &Pool, way: Remaking) -> Result<List<usize>
 }
 
 /// The class of a module with its packages, by the keys of all classes.
-fn with_packages(alloc: Global, name: &[u8], bytes: &[u8], keys: &Keys) -> Result<Text, ReadError>
+fn with_packages(
+    alloc: Global,
+    name: &[u8],
+    bytes: &[u8],
+    keys: &Keys,
+) -> Result<Text, Or<ClassFault>>
     ensures { RemadeAs (packages_text (packages_by keys.now (module_of name.now)))
         bytes.now result }
 {
@@ -73,7 +78,7 @@ fn with_packages(alloc: Global, name: &[u8], bytes: &[u8], keys: &Keys) -> Resul
 }
 
 /// The other text of the class that the bytes of a name are.
-fn remake(alloc: Global, name: &[u8], bytes: &[u8], way: Remaking) -> Result<Text, ReadError>
+fn remake(alloc: Global, name: &[u8], bytes: &[u8], way: Remaking) -> Result<Text, Or<ClassFault>>
     ensures made { RemadeAs (text_of way.entry name.now) bytes.now result }
     ensures read { ReadsByRule bytes.now }
 {
@@ -115,24 +120,24 @@ fn remake_each<R: Threads + Sync, G: Gate + Sync>(
 }
 
 /// The refusal of the class at a place.
-fn refusal(alloc: Global, pool: &Pool, place: usize, error: ReadError) -> ApplyError
+fn refusal(alloc: Global, pool: &Pool, place: usize, error: Or<ClassFault>) -> Or<BadClass>
     requires { place < length pool.now }
     ensures { Refuses pool.now place error result }
 {
-    let ReadError::Fault(fault) = error else {
-        return ApplyError::Memory;
+    let Or::Fault(fault) = error else {
+        return Or::Memory;
     };
     let (name, _) = pool.at(place);
     match Text::copy_of(alloc, name) {
-        Ok(name) => ApplyError::BadClass { name, fault },
-        Err(NoMemory) => ApplyError::Memory,
+        Ok(name) => Or::Fault(BadClass { name, fault }),
+        Err(NoMemory) => Or::Memory,
     }
 }
 
 /// Puts the classes made anew, in the order of the pool; the first that was refused decides.
-fn put_remade(alloc: Global, pool: Pool, remade: List<Remade>) -> Result<Pool, ApplyError>
+fn put_remade(alloc: Global, pool: Pool, remade: List<Remade>) -> Result<Pool, Or<BadClass>>
     requires { All (λ one. one.place < length pool) remade }
-    ensures { UnlessMemory ApplyError.Memory result (put_remade remade pool) }
+    ensures { UnlessMemory Memory result (put_remade remade pool) }
 {
     let mut pool = pool;
     for Remade { place, outcome } in remade.into_vec() {
@@ -152,11 +157,11 @@ pub fn remake_classes<R: Threads + Sync, G: Gate + Sync>(
     pool: Pool,
     way: Remaking,
     gate: &G,
-) -> Result<Pool, ApplyError>
+) -> Result<Pool, Or<BadClass>>
     requires { 0 < jobs }
-    ensures computed { UnlessMemory ApplyError.Memory result
-        (remade_pairs (taken_by way.entry) (text_of way.entry) pool) }
-    ensures read { (result ≡ Err Memory) ⊎ TakenRead (taken_by way.entry) pool }
+    ensures computed { IfAnswered
+        (λ r. r ≡ remade_pairs (taken_by way.entry) (text_of way.entry) pool) result }
+    ensures read { IfAnswered (λ r. TakenRead (taken_by way.entry) pool) result }
 {
     let remade = remake_each(rt, alloc, jobs, &pool, way, gate)?;
     put_remade(alloc, pool, remade)

@@ -8,5 +8,4 @@ mod order;
 mod packages;
 mod places;
 
-pub use chain::{ApplyError, apply};
-pub use jm_words::Plugin;
+pub use chain::{BadClass, apply};

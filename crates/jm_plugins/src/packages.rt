@@ -1,32 +1,28 @@
 //! The packages of modules, from the names of a pool.
-ghost use Rattle.std.specs.Prelude.{◌≡◌, ◌⊎◌, ◌<◌, ◌∷◌, ◌++◌, [], true, All, Err, IfOk};
-ghost use Rattle.std.specs.Prelude.{OnOk, map, option_map};
+ghost use Rattle.std.specs.Prelude.{◌≡◌, ◌<◌, ◌∷◌, ◌++◌, [], true, All, IfOk};
+ghost use Rattle.std.specs.Prelude.{OnOk, map};
 ghost use Rattle.std.specs.List.{filter_map};
-ghost use Rattle.jm_bytes.specs.Results.{UnlessMemory};
-ghost use Rattle.jm_form.specs.Rising.{with_placed};
-ghost use Rattle.jm_form.specs.Trees.{module_of, path_of};
-ghost use Rattle.jm_modpath.specs.Finding.{class_folder};
-ghost use Rattle.jm_modpath.specs.TextView.{items_of};
+ghost use Rattle.jm_bytes.specs.Results.{IfAnswered};
+ghost use Rattle.jm_form.specs.Trees.{module_of};
 ghost use Rattle.jm_names.specs.Names.{dotted};
 ghost use Rattle.jm_outside.specs.Files.{after_front};
 ghost use Rattle.jm_packages.specs.Packages.{Stays};
 ghost use Rattle.jm_pool.specs.Pairs.{names_of};
-ghost use Rattle.jm_plugins.specs.Packaging.{class_key, class_keys, with_key, is_descriptor};
+ghost use Rattle.jm_plugins.specs.Packaging.{class_keys, is_descriptor};
 ghost use Rattle.jm_plugins.specs.Packaging.{listing_text, packages_by, slashed};
-ghost use Rattle.jm_plugins.specs.declared.chain.ApplyError.TheVariants.{Memory};
 ghost use Rattle.jm_plugins.specs.ComputedPlugins.{remade_pairs};
 ghost use Rattle.jm_plugins.specs.Steps.{TakenRead};
 
-use crate::chain::ApplyError;
+use crate::chain::BadClass;
 use crate::classes::{Remaking, remake_classes};
-use jm_bytes::{List, NoMemory, Text, copy_of, extend};
+use jm_bytes::{List, NoMemory, Or, Text, copy_of, extend};
+use jm_form::{class_folder, path_of, rising};
 use jm_halves::Gate;
-use jm_modpath::{class_folder, names_of_folder};
+use jm_modpath::names_of_folder;
 use jm_names::{cut_at_first, dotted};
 use jm_packages::stays;
 use jm_pool::Pool;
 use std::alloc::Global;
-use std::collections::BTreeSet;
 use std::marker::Model;
 use std::thread::Threads;
 
@@ -40,19 +36,6 @@ pub fn module_of(name: &[u8]) -> &[u8]
     match cut_at_first(b'/', rest) {
         Some((module, _)) => module,
         None => rest,
-    }
-}
-
-/// The path of a resource within its module.
-fn path_of(name: &[u8]) -> &[u8]
-    ensures { result.now ≡ path_of name.now }
-{
-    let Some((_, rest)) = name.split_first() else {
-        return &[];
-    };
-    match cut_at_first(b'/', rest) {
-        Some((_, path)) => path,
-        None => &[],
     }
 }
 
@@ -74,37 +57,6 @@ fn key(alloc: Global, module: &[u8], folder: &[u8]) -> Result<Vec<u8>, NoMemory>
     Ok(key)
 }
 
-/// Puts a key into a set, if it isn't there.
-fn put(set: &mut BTreeSet<Vec<u8>>, key: Vec<u8>) -> Result<(), NoMemory>
-    ensures { OnOk result (items_of set.new.keys ≡ with_placed key.items (items_of set.old.keys)) }
-{
-    set.insert(key)?;
-    Ok(())
-}
-
-/// Puts the key of a name into a set, if it is that of a class in a package.
-fn put_name(alloc: Global, set: &mut BTreeSet<Vec<u8>>, name: &[u8]) -> Result<(), NoMemory>
-    ensures { OnOk result (items_of set.new.keys
-        ≡ with_key (class_key name.now) (items_of set.old.keys)) }
-{
-    match class_folder(path_of(name)) {
-        Some(folder) => put(set, key(alloc, module_of(name), folder)?),
-        None => Ok(()),
-    }
-}
-
-/// The keys of all classes of a pool as a set. Time n log n.
-fn key_set(alloc: Global, pool: &Pool) -> Result<BTreeSet<Vec<u8>>, NoMemory>
-    ensures { IfOk result (λ set. items_of set.keys ≡ class_keys (names_of pool.now)) }
-{
-    let mut set = BTreeSet::new(alloc);
-    for place in 0..pool.len() {
-        let (name, _) = pool.at(place);
-        put_name(alloc, &mut set, name)?;
-    }
-    Ok(set)
-}
-
 /// Keys of classes, which rise.
 #[derive(Drop)]
 pub struct Keys {
@@ -122,14 +74,18 @@ impl Model for Keys {
     ghost invariant = { λ a. Rising a.list };
 }
 
-/// The keys of all classes of a pool.
+/// The keys of all classes of a pool. Time n log n.
 fn class_keys(alloc: Global, pool: &Pool) -> Result<Keys, NoMemory>
     ensures { IfOk result (λ keys. keys ≡ class_keys (names_of pool.now)) }
 {
-    let mut list = List::new(alloc);
-    for key in key_set(alloc, pool)? {
-        list.push(Text::from_vec(key))?;
+    let mut keys = Vec::new(alloc);
+    for place in 0..pool.len() {
+        let (name, _) = pool.at(place);
+        if let Some(folder) = class_folder(path_of(name)) {
+            keys.push(key(alloc, module_of(name), folder)?)?;
+        }
     }
+    let list = rising(alloc, keys)?;
     Ok(Keys { list })
 }
 
@@ -209,11 +165,11 @@ pub fn list_packages<R: Threads + Sync, G: Gate + Sync>(
     jobs: u32,
     pool: Pool,
     gate: &G,
-) -> Result<Pool, ApplyError>
+) -> Result<Pool, Or<BadClass>>
     requires { 0 < jobs }
-    ensures computed { UnlessMemory ApplyError.Memory result
-        (remade_pairs is_descriptor (listing_text (names_of pool)) pool) }
-    ensures read { (result ≡ Err Memory) ⊎ TakenRead is_descriptor pool }
+    ensures computed { IfAnswered
+        (λ r. r ≡ remade_pairs is_descriptor (listing_text (names_of pool)) pool) result }
+    ensures read { IfAnswered (λ r. TakenRead is_descriptor pool) result }
 {
     if all_stay(alloc, &pool)? {
         return Ok(pool);

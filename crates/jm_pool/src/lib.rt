@@ -4,4 +4,4 @@
 mod pairs;
 mod pool;
 
-pub use pool::{Pool, PushError};
+pub use pool::{Pool, Twice};

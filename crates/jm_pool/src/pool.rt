@@ -1,34 +1,18 @@
-ghost use Rattle.std.specs.Prelude.{◌≡◌, ◌<◌, ◌↔◌, ◌∷◌, ◌++◌, [], Some, Err, length, slice_get};
-ghost use Rattle.std.specs.Prelude.{option_map, IsSome, IfOk, OnOk, OnErr, ◌⊎◌};
+ghost use Rattle.std.specs.Prelude.{◌≡◌, ◌<◌, ◌↔◌, ◌∷◌, ◌++◌, [], Some, None, Err, length};
+ghost use Rattle.std.specs.Prelude.{option_map, slice_get, IsSome, IfOk, OnOk, OnErr, ◌⊎◌};
+ghost use Rattle.jm_bytes.specs.declared.faults.Or.TheVariants.{Fault, Memory};
 ghost use Rattle.jm_pool.specs.Pairs.{NamesDiffer, bytes_of, flagged_items, items_at, IsOrderOf};
 ghost use Rattle.jm_pool.specs.Pairs.{with_bytes_at};
-ghost use Rattle.jm_pool.specs.declared.pool.PushError.TheVariants.{Twice, Memory};
 
 use crate::pairs;
 use indexmap::IndexMap;
-use jm_bytes::{NoMemory, Text};
+use jm_bytes::{NoMemory, Or, Text};
 use std::alloc::Global;
 use std::marker::Model;
 
-/// Why a pair isn't taken into a pool.
+/// A name that a pool has already, handed back.
 #[derive(Debug, Drop)]
-pub enum PushError {
-    /// The name is there; it is handed back.
-    Twice(Text),
-    /// No memory was found.
-    Memory,
-}
-
-impl From<NoMemory> for PushError {
-    ghost use Rattle.std.specs.Prelude.{◌≡◌};
-    ghost use Rattle.jm_pool.specs.declared.pool.PushError.TheVariants.{Memory};
-
-    ghost from_gives = { λ _ e. e ≡ Memory };
-
-    fn from(_: NoMemory) -> PushError {
-        PushError::Memory
-    }
-}
+pub struct Twice(pub Text);
 
 /// Resources in an order, each a name with its bytes, seen as the list of these pairs. Names
 /// differ.
@@ -83,17 +67,28 @@ impl Pool {
         (name.as_slice(), bytes.as_slice())
     }
 
-    /// Puts a pair at the end, where its name is new. A refusal leaves the pool as it was.
-    pub fn push(&mut self, name: Text, bytes: Text) -> Result<(), PushError>
+    /// Puts a pair of a new name at the end. A refusal leaves the pool as it was.
+    pub fn push(&mut self, name: Text, bytes: Text) -> Result<(), NoMemory>
+        requires { bytes_of name self.old ≡ None }
         ensures ok { OnOk result (self.new ≡ self.old ++ (name, bytes) ∷ []) }
-        ensures twice { (result ≡ Err (Twice name)) ↔ IsSome (bytes_of name self.old) }
-        ensures refused { OnErr result ((result ≡ Err (Twice name)) ⊎ (result ≡ Err Memory)) }
+        ensures err { OnErr result (self.new ≡ self.old) }
+    {
+        pairs::add(&mut self.pairs, name.into_vec(), bytes.into_vec())
+    }
+
+    /// Puts a pair at the end, where its name is new. A refusal leaves the pool as it was.
+    pub fn try_push(&mut self, name: Text, bytes: Text) -> Result<(), Or<Twice>>
+        ensures ok { OnOk result (self.new ≡ self.old ++ (name, bytes) ∷ []) }
+        ensures twice { (result ≡ Err (Fault (record { 0 = name })))
+            ↔ IsSome (bytes_of name self.old) }
+        ensures refused { OnErr result
+            ((result ≡ Err (Fault (record { 0 = name }))) ⊎ (result ≡ Err Memory)) }
         ensures err { OnErr result (self.new ≡ self.old) }
     {
         if self.get(name.as_slice()).is_some() {
-            return Err(PushError::Twice(name));
+            return Err(Or::Fault(Twice(name)));
         }
-        Ok(pairs::add(&mut self.pairs, name.into_vec(), bytes.into_vec())?)
+        Ok(self.push(name, bytes)?)
     }
 
     /// Keeps the pairs whose flag is true, in their order.

@@ -1,21 +1,24 @@
 -- The flags after three rounds tell which constants are live.
 use Rattle.std.proofs.Common.{◌≡◌, ℕ, zero, suc, ◌+◌, ◌-◌, ◌<◌, ◌≤◌, ◌↔◌, ◌⊎◌, inl, inr, Bool, true, false}
 use Rattle.std.proofs.Common.{cond, List, [], ◌∷◌, ◌++◌, get_or, length, map, replicate, Option, Some, None}
-use Rattle.std.proofs.Common.{Contains, refl, sym, ap, ◌∙◌, subst, arith, slice_get}
+use Rattle.std.proofs.Common.{Ok, Err, Contains, refl, sym, ap, ◌∙◌, subst, arith, slice_get}
 use Rattle.std.proofs.lemmas.Bool.{and_parts, eqb-false, ltb-true, ne_eqb}
 use Rattle.std.proofs.lemmas.List.{length-replicate}
 use Rattle.std.proofs.lemmas.Option.{slice_get_within}
 use Rattle.std.specs.List.{list_all}
-use Rattle.std.specs.Prelude.{◌&&◌, ◌||◌, nat_eq, option_and_then}
+use Rattle.std.specs.Prelude.{◌&&◌, ◌||◌, nat_eq, option_and_then, if◌then◌else◌}
 use Rattle.jm_bytes.proofs.Choice.{same_some}
 use Rattle.jm_bytes.proofs.Members.{contains_none, contains_cases}
 use Rattle.jm_class.specs.Classes.{SlotData, Constant, Hole, ClassData, IsPoolFrom, is_wide, slot_at, IsClass}
-use Rattle.jm_poolmap.specs.declared.site.Found.{Found}
+use Rattle.jm_poolmap.specs.declared.site.FoundSite.{FoundSite}
 use Rattle.jm_poolmap.specs.declared.site.Site.{Site}
+use Rattle.jm_poolmap.specs.declared.walk.Walk.{Walk}
 use Rattle.jm_poolmap.specs.ComputedLive.{with_marks, spread_from, flag_of, with_holes, flags_of}
+use Rattle.jm_poolmap.specs.ComputedSites.{walk_of, found_by}
 use Rattle.jm_poolmap.specs.Live.{Names, Leads, IsLive, first_number, number_of, TellsLive}
 use Rattle.jm_poolmap.specs.Sites.{rank, named_by, rank_of, rank_at, is_some_below, names_lower}
 use Rattle.jm_poolmap.specs.Sites.{names_constant, judged, site_of, found_in, sites_of}
+use Rattle.jm_poolmap.proofs.ComputedSitesLaws.{found_is}
 use Rattle.jm_poolmap.proofs.MarkLaws.{IsUp, HasFlag, length-marks, marks_here, marks_from, length-round}
 use Rattle.jm_poolmap.proofs.MarkLaws.{round_keeps, round_follows, round_sound}
 
@@ -272,7 +275,7 @@ no_hole (Hole ∷ pool) is there = is
 
 -- The flags
 
-module _ (c : ClassData) (fits : IsClass c) (found : List Found) (is : found_in c ≡ Some found)
+module _ (c : ClassData) (fits : IsClass c) (found : List FoundSite) (is : found_in c ≡ Some found)
     (lower : list_all (names_lower c.pool) c.pool ≡ true) where
   abbrev at_sites : List ℕ
   at_sites = map (λ f. f.number) found
@@ -326,7 +329,7 @@ module _ (c : ClassData) (fits : IsClass c) (found : List Found) (is : found_in 
           (sym one.1) (slot_live place one.0 below one.1)
 
 -- sites that pass the checks were found, and what is named is of a lower rank
-judged_lower : (pool : List SlotData) (found : List Found) (sites : List Site) → judged pool found ≡ Some sites
+judged_lower : (pool : List SlotData) (found : List FoundSite) (sites : List Site) → judged pool found ≡ Some sites
     → list_all (names_lower pool) pool ≡ true
 judged_lower pool found sites e = go (list_all (names_constant pool) found) (list_all (names_lower pool) pool) refl e
   where
@@ -336,8 +339,30 @@ judged_lower pool found sites e = go (list_all (names_constant pool) found) (lis
     go true false is e = cc
     go false false is e = cc
 
-pub live_known : (c : ClassData) (found : List Found) (sites : List Site) (flags : List Bool) → IsClass c → found_in c ≡ Some found
+pub live_known : (c : ClassData) (found : List FoundSite) (sites : List Site) (flags : List Bool) → IsClass c → found_in c ≡ Some found
     → sites_of c ≡ Some sites → flags ≡ flags_of c.pool (map (λ f. f.number) found) → TellsLive c flags
 live_known c found sites flags fits is judged_is same =
     let judged_now : judged c.pool found ≡ Some sites = sym (ap (option_and_then (judged c.pool)) is) ∙ judged_is in
     subst (TellsLive c) (sym same) (flags_tell c fits found is (judged_lower c.pool found sites judged_now))
+
+-- A class by the walk over it
+
+module _ (c : ClassData) (fits : IsClass c) where
+  pub sites_unknown : walk_of c ≡ Err tt → sites_of c ≡ None
+  sites_unknown unknown = ap (option_and_then (judged c.pool)) (found_is c fits ∙ ap found_by unknown)
+
+  module _ (walk : Walk) (walked : walk_of c ≡ Ok walk) where
+    found_walked : found_in c ≡ Some walk.found
+    found_walked = found_is c fits ∙ ap found_by walked
+
+    pub sites_walked : (constants lower : Bool) → list_all (names_constant c.pool) walk.found ≡ constants
+        → list_all (names_lower c.pool) c.pool ≡ lower
+        → sites_of c ≡ (if constants && lower then Some (map site_of walk.found) else None)
+    sites_walked constants lower are is =
+        ap (option_and_then (judged c.pool)) found_walked
+        ∙ ap (λ b. if b && list_all (names_lower c.pool) c.pool then Some (map site_of walk.found) else None) are
+        ∙ ap (λ b. if constants && b then Some (map site_of walk.found) else None) is
+
+    pub live_walked : (flags : List Bool) → list_all (names_lower c.pool) c.pool ≡ true
+        → flags ≡ flags_of c.pool (map (λ f. f.number) walk.found) → TellsLive c flags
+    live_walked flags lower same = subst (TellsLive c) (sym same) (flags_tell c fits walk.found found_walked lower)

@@ -12,7 +12,7 @@ use Rattle.std.specs.Prelude.{All, nat_le}
 use Rattle.jm_bytes.proofs.Choice.{same_ok}
 use Rattle.jm_class.specs.Classes.{u2, u4, counted_text, sized_text, FitsCounted}
 use Rattle.jm_class.specs.Readings.{Left, Outcome, continued, part, number, ended, whole}
-use Rattle.jm_poolmap.specs.declared.site.Found.{Found}
+use Rattle.jm_poolmap.specs.declared.site.FoundSite.{FoundSite}
 use Rattle.jm_poolmap.specs.declared.walk.Walk.{Walk}
 use Rattle.jm_poolmap.specs.Forms.{NoForm, Form, unfit, skip, site_of_width, in_order, counted, sized}
 use Rattle.jm_poolmap.specs.ComputedSites.{Walked, Step, step_on, steps, each, passes, notes, behind_all, over}
@@ -41,7 +41,7 @@ number32_front place n rest below =
     rw (bytes, same) refl
 
 -- what a step comes to, with the bytes that are left
-abbrev pub carried : Walked → List ℕ → Outcome NoForm (List Found)
+abbrev pub carried : Walked → List ℕ → Outcome NoForm (List FoundSite)
 carried (Ok walk) rest = Ok (walk.found, record { place = walk.place; bytes = rest })
 carried (Err fault) rest = Err fault
 
@@ -61,7 +61,7 @@ follows_step form text step other same law = record {
   goes = λ walk new e. law.goes walk new (same walk ∙ e);
 }
 
-pub follows_form : (form other : Form) (text : List ℕ) (step : Step) → ((found : List Found) (left : Left) → form found left
+pub follows_form : (form other : Form) (text : List ℕ) (step : Step) → ((found : List FoundSite) (left : Left) → form found left
     ≡ other found left) → Follows form text step → Follows other text step
 follows_form form other text step same law = record {
   reads = λ walk rest. sym (same walk.found (record { place = walk.place; bytes = text ++ rest })) ∙ law.reads walk rest;
@@ -91,7 +91,7 @@ follows_nil = record {
 
 module _ (form : Form) (forms : List Form) (text more : List ℕ) (step : Step) (following : List Step) (first : Follows form text
     step) (second : Follows (in_order forms) more (steps following)) where
-  then_reads : (rest : List ℕ) (walked : Walked) (outcome : Outcome NoForm (List Found)) → outcome ≡ carried walked (more ++ rest)
+  then_reads : (rest : List ℕ) (walked : Walked) (outcome : Outcome NoForm (List FoundSite)) → outcome ≡ carried walked (more ++ rest)
       → continued outcome (in_order forms) ≡ carried (step_on walked (steps following)) rest
   then_reads rest (Ok walk) outcome e = rw e (second.reads walk rest)
   then_reads rest (Err fault) outcome e = rw e refl
@@ -157,7 +157,7 @@ module _ {A : Type 0} (form : Form) (text : A → List ℕ) (step : A → Step) 
 -- So many bytes, all of which are of a form
 
 module _ (form : Form) (bytes : List ℕ) (fits : length bytes < 2 ^ 32) where
-  sized_reads : (found : List Found) (place : ℕ) (rest : List ℕ)
+  sized_reads : (found : List FoundSite) (place : ℕ) (rest : List ℕ)
       → sized w32 form found (record { place = place; bytes = sized_text bytes ++ rest })
       ≡ continued (ended unfit (form found) (record { place = place + 4; bytes = bytes }))
       (λ a end. Ok (a, record { place = (place + 4) + length bytes; bytes = rest }))
@@ -183,13 +183,13 @@ module _ (form : Form) (bytes : List ℕ) (fits : length bytes < 2 ^ 32) where
         omega (arith, size, place);
   }
     where
-      moved : (walk : Walk) (rest : List ℕ) (o : Outcome NoForm (List Found))
+      moved : (walk : Walk) (rest : List ℕ) (o : Outcome NoForm (List FoundSite))
           → continued o (λ a end. Ok (a, record { place = (walk.place + 4) + length bytes; bytes = rest }))
           ≡ carried (behind_all ((walk.place + 4) + length bytes) o) rest
       moved walk rest (Ok r) = refl
       moved walk rest (Err fault) = refl
 
-      over_goes : (place : ℕ) (new : Walk) (o : Outcome NoForm (List Found)) → behind_all (place + length bytes) o ≡ Ok new
+      over_goes : (place : ℕ) (new : Walk) (o : Outcome NoForm (List FoundSite)) → behind_all (place + length bytes) o ≡ Ok new
           → new.place ≡ place + length bytes
       over_goes place new (Ok r) e = sym (ap (λ (w : Walk). w.place) (same_ok {E = NoForm} _ new e))
       over_goes place new (Err fault) e = cc

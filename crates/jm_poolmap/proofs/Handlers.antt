@@ -7,7 +7,7 @@ use Rattle.std.specs.Int.{w16, from_be_bytes}
 use Rattle.jm_bytes.proofs.Choice.{same_ok}
 use Rattle.jm_class.specs.Classes.{u2, rows_text}
 use Rattle.jm_class.specs.Readings.{continued}
-use Rattle.jm_poolmap.specs.declared.site.Found.{Found}
+use Rattle.jm_poolmap.specs.declared.site.FoundSite.{FoundSite}
 use Rattle.jm_poolmap.specs.declared.walk.Walk.{Walk}
 use Rattle.jm_poolmap.specs.Attributes.{handler}
 use Rattle.jm_poolmap.specs.Forms.{NoForm, in_order, counted}
@@ -15,21 +15,21 @@ use Rattle.jm_poolmap.specs.ComputedSites.{over, handlers_form}
 use Rattle.jm_poolmap.proofs.Following.{Follows, carried, later, part_front, number16_front}
 
 -- the sites with that of one handler more, whose last two bytes have the number
-abbrev with_catch : List Found → ℕ → List ℕ → List Found
+abbrev with_catch : List FoundSite → ℕ → List ℕ → List FoundSite
 with_catch found place last = found ++ record { place = place + 6; wide = true; optional = true; number = from_be_bytes w16 last } ∷ []
 
-handler_front : (found : List Found) (place : ℕ) (front last rest : List ℕ) → length front ≡ 6 → length last ≡ 2
+handler_front : (found : List FoundSite) (place : ℕ) (front last rest : List ℕ) → length front ≡ 6 → length last ≡ 2
     → handler found (record { place = place; bytes = front ++ (last ++ rest) })
     ≡ Ok (with_catch found place last, record { place = (place + 6) + 2; bytes = rest })
 handler_front found place front last rest six two =
     rw (part_front 6 place front (last ++ rest) six, part_front 2 (place + 6) last rest two) refl
 
-pub record Caught (n place : ℕ) (handlers : List ℕ) (found : List Found) : Type 0 where
-  pub all : List Found
+pub record Caught (n place : ℕ) (handlers : List ℕ) (found : List FoundSite) : Type 0 where
+  pub all : List FoundSite
   pub reads : (rest : List ℕ) → in_order (replicate n handler) found (record { place = place; bytes = handlers ++ rest })
       ≡ Ok (all, record { place = place + 8 * n; bytes = rest })
 
-handlers_front : (n place : ℕ) (handlers : List ℕ) (found : List Found) → length handlers ≡ 8 * n → Caught n place handlers found
+handlers_front : (n place : ℕ) (handlers : List ℕ) (found : List FoundSite) → length handlers ≡ 8 * n → Caught n place handlers found
 handlers_front zero place handlers found size =
     let none : handlers ≡ [] = nil_from_length handlers size in
     record {

@@ -2,20 +2,20 @@
 use Rattle.std.proofs.Common.{◌≡◌, ◌≢◌, ℕ, zero, suc, ◌<◌, ◌≤◌, List, length, Ok, Err, refl, sym, arith}
 use Rattle.std.proofs.lemmas.Bool.{eq-eqb, ne_eqb}
 use Rattle.jm_class.specs.Readings.{Left, Outcome}
-use Rattle.jm_poolmap.specs.declared.site.Found.{Found}
+use Rattle.jm_poolmap.specs.declared.site.FoundSite.{FoundSite}
 use Rattle.jm_poolmap.specs.Forms.{NoForm, Form, at_most, run}
 
 -- the whole is what is still to come, in at most as many as there are bytes
-pub record ToCome (form : Form) (found : List Found) (left : Left) (all : Outcome NoForm (List Found)) : Type 0 where
+pub record ToCome (form : Form) (found : List FoundSite) (left : Left) (all : Outcome NoForm (List FoundSite)) : Type 0 where
   pub most : ℕ
   pub enough : length left.bytes ≤ most
   pub same : at_most most form found left ≡ all
 
-module _ (form : Form) (found : List Found) (left : Left) where
+module _ (form : Form) (found : List FoundSite) (left : Left) where
   pub run_begins : ToCome form found left (run form found left)
   run_begins = record { most = length left.bytes; enough = omega arith; same = refl }
 
-  pub run_next : (all : Outcome NoForm (List Found)) (new : List Found) (next : Left) → ToCome form found left all
+  pub run_next : (all : Outcome NoForm (List FoundSite)) (new : List FoundSite) (next : Left) → ToCome form found left all
       → length left.bytes ≢ 0 → form found left ≡ Ok (new, next) → length next.bytes < length left.bytes → ToCome form new next all
   run_next all new next come some e less = go come.most come.enough come.same
     where
@@ -25,7 +25,7 @@ module _ (form : Form) (found : List Found) (left : Left) where
           let test = ne_eqb (length left.bytes) 0 some in
           record { most = most; enough = omega (arith, enough, less); same = rw (test, e) at same }
 
-  pub run_stops : (all : Outcome NoForm (List Found)) → ToCome form found left all → length left.bytes ≢ 0 → form found left
+  pub run_stops : (all : Outcome NoForm (List FoundSite)) → ToCome form found left all → length left.bytes ≢ 0 → form found left
       ≡ Err tt → all ≡ Err tt
   run_stops all come some e = go come.most come.enough come.same
     where
@@ -35,7 +35,7 @@ module _ (form : Form) (found : List Found) (left : Left) where
           let test = ne_eqb (length left.bytes) 0 some in
           sym (rw (test, e) at same)
 
-  pub run_ends : (all : Outcome NoForm (List Found)) → ToCome form found left all → length left.bytes ≡ 0 → all ≡ Ok (found, left)
+  pub run_ends : (all : Outcome NoForm (List FoundSite)) → ToCome form found left all → length left.bytes ≡ 0 → all ≡ Ok (found, left)
   run_ends all come none = go come.most come.same
     where
       go : (most : ℕ) → at_most most form found left ≡ all → all ≡ Ok (found, left)

@@ -9,7 +9,7 @@ use Rattle.std.specs.Prelude.{nat_le, nat_lt}
 use Rattle.jm_bytes.proofs.Choice.{chosen}
 use Rattle.jm_class.specs.Readings.{Left, Outcome, Reading, behind, value, and_then, part, number}
 use Rattle.jm_class.proofs.ReadingLaws.{same_left, Passed, passed}
-use Rattle.jm_poolmap.specs.declared.site.Found.{Found}
+use Rattle.jm_poolmap.specs.declared.site.FoundSite.{FoundSite}
 use Rattle.jm_poolmap.specs.declared.forms.Item.{Item}
 use Rattle.jm_poolmap.specs.declared.forms.Item.TheVariants.{Bytes, Site, OptionalSite, ByteSite}
 use Rattle.jm_poolmap.specs.Forms.{NoForm, Form, Rows, unfit, without, skip, site_of_width, in_order, form_if, row_of, by_byte}
@@ -23,7 +23,7 @@ abbrev pub Shrinks : {A : Type 0} → ℕ → Reading NoForm A → Type 0
 Shrinks n reading = (left next : Left) (a : _) → reading left ≡ Ok (a, next) → length next.bytes + n ≤ length left.bytes
 
 abbrev pub FormShrinks : Form → Type 0
-FormShrinks form = (found : List Found) → Shrinks 0 (form found)
+FormShrinks form = (found : List FoundSite) → Shrinks 0 (form found)
 
 value-shrinks : {A : Type 0} (a : A) → Shrinks 0 (value a)
 value-shrinks a left next b e = let same = same_left {F = NoForm} a b left next e in rw same (omega arith)
@@ -86,7 +86,7 @@ form_if-shrinks form each None found left next a e = cc
 form_if-shrinks form each (Some row) found left next a e = each row found left next a e
 
 -- a form by a byte takes that byte
-pub by_byte-shrinks : {A : Type 0} (rows : Rows A) (form : A → Form) → ((a : A) → FormShrinks (form a)) → (found : List Found)
+pub by_byte-shrinks : {A : Type 0} (rows : Rows A) (form : A → Form) → ((a : A) → FormShrinks (form a)) → (found : List FoundSite)
     → Shrinks 1 (by_byte rows form found)
 by_byte-shrinks rows form each found left next a e =
     and_then-shrinks 1 0 (number unfit w8) (λ byte. form_if form (row_of rows byte) found) (number-shrinks w8)
@@ -127,7 +127,7 @@ operands-shrinks start Wide found left next a e =
     omega (arith, less)
 
 -- an instruction has a byte
-pub instruction-shrinks : (start : ℕ) (found new : List Found) (left next : Left) → instruction start found left ≡ Ok (new, next)
+pub instruction-shrinks : (start : ℕ) (found new : List FoundSite) (left next : Left) → instruction start found left ≡ Ok (new, next)
     → length next.bytes < length left.bytes
 instruction-shrinks start found new left next e =
     let less = by_byte-shrinks instruction_rows (operands start) (operands-shrinks start) found left next new e in

@@ -3,27 +3,28 @@ use Rattle.std.proofs.Common.{◌≡◌, ℕ, ◌+◌, ◌^◌, ◌<◌, ◌≤�
 use Rattle.std.proofs.Common.{Ok, Err, IsErrAnd, refl, sym, ap, ◌∙◌, arith, length-append}
 use Rattle.std.proofs.lemmas.List.{at_drop_more, at_drop_all}
 use Rattle.std.specs.List.{flat_map}
-use Rattle.jm_poolmap.specs.declared.stop.Stop.{Stop}
-use Rattle.jm_poolmap.specs.declared.stop.Stop.TheVariants.{Unknown, Memory}
+use Rattle.jm_bytes.specs.declared.faults.Or.{Or}
+use Rattle.jm_bytes.specs.declared.faults.Or.TheVariants.{Fault, Memory}
+use Rattle.jm_poolmap.specs.declared.forms.Unknown.{Unknown}
 use Rattle.jm_poolmap.specs.declared.walk.Walk.{Walk}
 use Rattle.jm_poolmap.specs.ComputedSites.{Walked, Step, step_on, steps, each}
 use Rattle.jm_poolmap.specs.Finds.{Walks}
 
 -- the error of a step is that of the whole, where the whole isn't there without the step
-pub walks_stop : (part all : Walked) (error : Stop) (result : Result (Unit {0}) Stop) (walk new : Walk)
+pub walks_stop : (part all : Walked) (error : Or Unknown) (result : Result (Unit {0}) (Or Unknown)) (walk new : Walk)
     → IsErrAnd result (λ is. is ≡ error) → Walks {T = Unit {0}} part (Err error) walk → (part ≡ Err tt → all ≡ Err tt)
     → Walks all result new
 walks_stop part all error (Ok v) walk new is gives stops = absurd is
-walks_stop part all Unknown (Err Unknown) walk new is gives stops = stops gives
-walks_stop part all Unknown (Err Memory) walk new is gives stops = tt
+walks_stop part all (Fault one) (Err (Fault other)) walk new is gives stops = stops gives
+walks_stop part all (Fault one) (Err Memory) walk new is gives stops = tt
 walks_stop part all Memory (Err Memory) walk new is gives stops = tt
-walks_stop part all Memory (Err Unknown) walk new is gives stops = cc
+walks_stop part all Memory (Err (Fault other)) walk new is gives stops = cc
 
 -- nothing follows the last step
-pub walks_last : (walked : Walked) (result : Result (Unit {0}) Stop) (new : Walk) → Walks walked result new
+pub walks_last : (walked : Walked) (result : Result (Unit {0}) (Or Unknown)) (new : Walk) → Walks walked result new
     → Walks (step_on walked (steps [])) result new
 walks_last walked (Ok v) new gives = rw gives refl
-walks_last walked (Err Unknown) new gives = rw gives refl
+walks_last walked (Err (Fault unknown)) new gives = rw gives refl
 walks_last walked (Err Memory) new gives = tt
 
 -- items up to place i are done: the walk was at the start and is here now

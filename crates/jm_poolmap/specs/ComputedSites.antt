@@ -9,7 +9,7 @@ use Rattle.jm_class.specs.Classes.{attribute_text}
 use Rattle.jm_class.specs.Readings.{Outcome, ended}
 use Rattle.jm_poolmap.specs.declared.forms.Place as place
 use Rattle.jm_poolmap.specs.declared.forms.Place.TheVariants.{Class, Field, Method, Code}
-use Rattle.jm_poolmap.specs.declared.site.Found.{Found}
+use Rattle.jm_poolmap.specs.declared.site.FoundSite.{FoundSite}
 use Rattle.jm_poolmap.specs.declared.walk.Walk.{Walk}
 use Rattle.jm_poolmap.specs.Attributes.{content_at, body, handler}
 use Rattle.jm_poolmap.specs.Forms.{Form, NoForm, unfit, nowhere, in_order, form_if}
@@ -54,7 +54,7 @@ notes optional number walk = Ok (record {
 })
 
 -- what a form that takes all of some bytes comes to
-abbrev pub behind_all : ℕ → Outcome NoForm (List Found) → Walked
+abbrev pub behind_all : ℕ → Outcome NoForm (List FoundSite) → Walked
 behind_all place (Ok r) = Ok (record { found = r.0; place = place })
 behind_all place (Err fault) = Err fault
 
@@ -139,6 +139,6 @@ abbrev pub walk_of : ClassData → Walked
 walk_of c = class_step c (record { found = []; place = 0 })
 
 -- the sites that were found, or none
-abbrev pub found_by : Walked → Option (List Found)
+abbrev pub found_by : Walked → Option (List FoundSite)
 found_by (Ok walk) = Some walk.found
 found_by (Err fault) = None

@@ -6,7 +6,7 @@ use Rattle.std.specs.Prelude.{if◌then◌else◌}
 use Rattle.std.specs.Int.{Width, w8, w16}
 use Rattle.std.specs.List.{list_any}
 use Rattle.jm_class.specs.Readings.{Reading, value, and_then, part, number, whole}
-use Rattle.jm_poolmap.specs.declared.site.Found.{Found}
+use Rattle.jm_poolmap.specs.declared.site.FoundSite.{FoundSite}
 
 -- there is no such form: why isn't told
 abbrev pub NoForm : Type 0
@@ -18,7 +18,7 @@ unfit at = tt
 
 -- what stands from a place on: it adds the sites in it to those that were met before
 abbrev pub Form : Type 0
-Form = List Found → Reading NoForm (List Found)
+Form = List FoundSite → Reading NoForm (List FoundSite)
 
 -- no form is allowed here: nothing is of it
 abbrev pub nowhere : Form

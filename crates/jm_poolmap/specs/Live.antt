@@ -2,7 +2,7 @@
 use Rattle.std.specs.Prelude.{ℕ, ◌≡◌, ◌+◌, ◌<◌, ◌↔◌, Bool, true, false, List, [], ◌∷◌, Option, Some}
 use Rattle.std.specs.Prelude.{Contains, length, map, slice_get, slice_index_or}
 use Rattle.jm_class.specs.Classes.{SlotData, Hole, ClassData, slot_at}
-use Rattle.jm_poolmap.specs.declared.site.Found.{Found}
+use Rattle.jm_poolmap.specs.declared.site.FoundSite.{FoundSite}
 use Rattle.jm_poolmap.specs.Sites.{found_in, named_by}
 
 -- constant i names constant j
@@ -17,7 +17,7 @@ Leads pool i (k ∷ between) j = Names pool i k × Leads pool k between j
 -- the number stands at a site
 abbrev pub StandsAtSite : ClassData → ℕ → Type 0
 StandsAtSite c i =
-    (found : List Found) × (found_in c ≡ Some found) × Contains (map (λ f. f.number) found) i
+    (found : List FoundSite) × (found_in c ≡ Some found) × Contains (map (λ f. f.number) found) i
 
 -- there is a list of constants that begins with one at a site and ends with that of the number, in
 -- which each names the next

@@ -11,7 +11,7 @@ use Rattle.jm_class.specs.Classes.{slot_at}
 use Rattle.jm_class.specs.Readings.{Outcome, ended}
 use Rattle.jm_poolmap.specs.declared.forms.Place as place
 use Rattle.jm_poolmap.specs.declared.forms.Place.TheVariants.{Class, Field, Method}
-use Rattle.jm_poolmap.specs.declared.site.Found.{Found}
+use Rattle.jm_poolmap.specs.declared.site.FoundSite.{FoundSite}
 use Rattle.jm_poolmap.specs.declared.site.Site.{Site}
 use Rattle.jm_poolmap.specs.Forms.{Form, NoForm, unfit, skip, site, optional_site, in_order}
 use Rattle.jm_poolmap.specs.Forms.{counted}
@@ -33,12 +33,12 @@ class pool = in_order (
     ∷ counted w16 (attribute Class pool) ∷ [])
 
 -- what a form that takes all bytes has met, or none where the bytes aren't of the form
-abbrev pub met : Outcome NoForm (List Found) → Option (List Found)
+abbrev pub met : Outcome NoForm (List FoundSite) → Option (List FoundSite)
 met (Ok r) = Some r.0
 met (Err fault) = None
 
 -- the sites in the text of a class with their numbers, or none where the class isn't of the form
-abbrev pub found_in : ClassData → Option (List Found)
+abbrev pub found_in : ClassData → Option (List FoundSite)
 found_in c = met (ended unfit (class c.pool []) (record { place = 0; bytes = class_text c }))
 
 -- Constants
@@ -90,19 +90,19 @@ names_lower pool (Constant tag body) =
     (named_by (Constant tag body))
 
 -- a constant has the number at a site, or it is an optional 0
-abbrev pub names_constant : List SlotData → Found → Bool
+abbrev pub names_constant : List SlotData → FoundSite → Bool
 names_constant pool found =
     found.optional && found.number == 0 || is_some (rank_at pool found.number)
 
 -- The sites
 
 -- place and width of a site
-abbrev pub site_of : Found → Site
+abbrev pub site_of : FoundSite → Site
 site_of found = record { place = found.place; wide = found.wide }
 
 -- the sites that were found, or none where one of them names no constant, or a constant of the pool
 -- names one that isn't of a lower rank
-abbrev pub judged : List SlotData → List Found → Option (List Site)
+abbrev pub judged : List SlotData → List FoundSite → Option (List Site)
 judged pool found =
     if list_all (names_constant pool) found && list_all (names_lower pool) pool
     then Some (map site_of found) else None

@@ -4,8 +4,8 @@ use Rattle.jm_poolmap.specs.declared.forms.Content as content
 use Rattle.jm_poolmap.specs.declared.forms.Content.TheVariants as told
 use Rattle.jm_poolmap.specs.declared.forms.Operands as operands
 use Rattle.jm_poolmap.specs.declared.forms.Operands.TheVariants as behind
-use Rattle.jm_poolmap.specs.declared.walk.Kind as walk
-use Rattle.jm_poolmap.specs.declared.walk.Kind.TheVariants as whole
+use Rattle.jm_poolmap.specs.declared.walk.PartKind as walk
+use Rattle.jm_poolmap.specs.declared.walk.PartKind.TheVariants as whole
 use Rattle.jm_poolmap.specs.Attributes.{body, handler}
 use Rattle.jm_poolmap.specs.Attributes.{Content, Any, Items, ShortRows, Rows, Methods}
 use Rattle.jm_poolmap.specs.Attributes.{Frames, Coded}
@@ -31,7 +31,7 @@ content_of told.Frames = Frames
 content_of told.Code = Coded
 
 -- the form of some bytes as a whole: a body, the instructions of a code, or its handlers
-abbrev pub whole_form : walk.Kind → Form
+abbrev pub whole_form : walk.PartKind → Form
 whole_form (whole.Body content) = body nowhere (content_of content)
 whole_form whole.Instructions = instructions
 whole_form (whole.Handlers count) = in_order (replicate count handler)

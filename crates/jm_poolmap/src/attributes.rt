@@ -1,6 +1,6 @@
 ghost use Rattle.std.specs.Prelude.{◌≡◌, option_map};
 ghost use Rattle.jm_poolmap.specs.Attributes.{class_rows, field_rows, method_rows, code_rows};
-ghost use Rattle.jm_poolmap.specs.Attributes.{rows_at, named, content_at};
+ghost use Rattle.jm_poolmap.specs.Attributes.{named, content_at};
 ghost use Rattle.jm_class.specs.Views.{plain};
 ghost use Rattle.jm_poolmap.specs.Views.{content_of};
 
@@ -96,22 +96,15 @@ fn code_row(name: &[u8]) -> Option<Content>
     }
 }
 
-/// What the body of an attribute consists of, by its place and its name.
-fn row(place: Place, name: &[u8]) -> Option<Content>
-    ensures { option_map content_of result ≡ named (rows_at place) name.now }
+/// What the body of an attribute consists of, by its place and the constant of its name.
+pub fn content_at(class: &Class, place: Place, name: u16) -> Option<Content>
+    ensures { option_map content_of result ≡ content_at place (plain class.now).pool name }
 {
+    let name = utf8(class, name)?;
     match place {
         Place::Class => class_row(name),
         Place::Field => field_row(name),
         Place::Method => method_row(name),
         Place::Code => code_row(name),
     }
-}
-
-/// What the body of an attribute consists of, by its place and the constant of its name.
-pub fn content_at(class: &Class, place: Place, name: u16) -> Option<Content>
-    ensures { option_map content_of result ≡ content_at place (plain class.now).pool name }
-{
-    let text = utf8(class, name)?;
-    row(place, text)
 }

@@ -1,34 +1,48 @@
-ghost use Rattle.std.specs.Prelude.{◌≡◌, ◌<◌, ◌^◌, length, map, IfOk};
+ghost use Rattle.std.specs.Prelude.{◌≡◌, ◌<◌, ◌^◌, length, option_map, IfOk, IfSome};
 ghost use Rattle.jm_class.specs.Classes.{IsClass, class_text};
-ghost use Rattle.jm_class.specs.Views.{plain, pool_of};
-ghost use Rattle.jm_poolmap.specs.Pools.{AllFit};
-ghost use Rattle.jm_poolmap.specs.Sites.{found_in, site_of, judged, sites_of};
+ghost use Rattle.jm_class.specs.Views.{plain};
+ghost use Rattle.jm_poolmap.specs.Live.{TellsLive};
+ghost use Rattle.jm_poolmap.specs.Sites.{sites_of};
 
+use crate::forms::Unknown;
+use crate::marking::flags_of;
 use crate::naming::{all_constants, all_lower};
-use crate::site::{Found, Site};
-use crate::stop::Stop;
+use crate::site::Site;
 use crate::whole::walk_over;
-use jm_bytes::{List, NoMemory};
-use jm_class::{Class, Slot};
+use jm_bytes::{List, NoMemory, Or};
+use jm_class::Class;
 use std::alloc::Global;
 
-/// The sites of a class with their numbers; none where a part isn't of the form that is known.
-pub fn found_in(alloc: Global, class: &Class) -> Result<Option<List<Found>>, NoMemory>
-    requires well_formed { IsClass (plain class.now) }
-    requires fits { length (class_text (plain class.now)) < 2 ^ 64 }
-    ensures { IfOk result (λ found. found ≡ found_in (plain class.now)) }
-{
-    match walk_over(alloc, class) {
-        Ok(walk) => Ok(Some(walk.found)),
-        Err(Stop::Unknown) => Ok(None),
-        Err(Stop::Memory) => Err(NoMemory),
-    }
+/// Where a class has numbers of constants, and which constants are live.
+#[derive(Debug, Drop)]
+pub struct PoolMap {
+    /// The places in its text where numbers of constants stand, from the front on.
+    pub sites: List<Site>,
+    /// For each slot of its pool whether the constant there is live: whether its number stands at
+    /// a site, or a live constant names it.
+    pub live: List<bool>,
 }
 
-/// The places of sites.
-fn places(alloc: Global, found: &[Found]) -> Result<List<Site>, NoMemory>
-    ensures { IfOk result (λ sites. sites ≡ map site_of found.now) }
+/// The sites of a class and its live constants. None where a part of the class isn't of a form that
+/// is known, where a number is that of no constant, and where a constant names one that isn't of a
+/// lower rank.
+pub fn pool_map(alloc: Global, class: &Class) -> Result<Option<PoolMap>, NoMemory>
+    requires well_formed { IsClass (plain class.now) }
+    requires fits { length (class_text (plain class.now)) < 2 ^ 64 }
+    ensures sites { IfOk result (λ map.
+        option_map (λ m. m.sites) map ≡ sites_of (plain class.now)) }
+    ensures live { IfOk result (λ map. IfSome map (λ m. TellsLive (plain class.now) m.live)) }
 {
+    let walk = match walk_over(alloc, class) {
+        Ok(walk) => walk,
+        Err(Or::Fault(Unknown)) => return Ok(None),
+        Err(Or::Memory) => return Err(NoMemory),
+    };
+    let pool = class.pool.as_slice();
+    let found = walk.found.as_slice();
+    if !all_constants(pool, found) || !all_lower(pool) {
+        return Ok(None);
+    }
     let mut sites = List::with_capacity(alloc, found.len())?;
     for site in found {
         sites.push(Site {
@@ -36,32 +50,6 @@ fn places(alloc: Global, found: &[Found]) -> Result<List<Site>, NoMemory>
             wide: site.wide,
         })?;
     }
-    Ok(sites)
-}
-
-/// The places of sites; none where a number is that of no constant, or a constant names one that
-/// isn't of a lower rank.
-fn judged(alloc: Global, pool: &[Slot], found: &[Found]) -> Result<Option<List<Site>>, NoMemory>
-    requires { AllFit (pool_of pool.now) }
-    ensures { IfOk result (λ sites. sites ≡ judged (pool_of pool.now) found.now) }
-{
-    if !all_constants(pool, found) || !all_lower(pool) {
-        return Ok(None);
-    }
-    let sites = places(alloc, found)?;
-    Ok(Some(sites))
-}
-
-/// The places in the text of a class where numbers of constants stand, from the front on. None
-/// where a part of the class isn't of a form that is known, where a number is that of no constant,
-/// and where a constant names one that isn't of a lower rank.
-pub fn sites(alloc: Global, class: &Class) -> Result<Option<List<Site>>, NoMemory>
-    requires well_formed { IsClass (plain class.now) }
-    requires fits { length (class_text (plain class.now)) < 2 ^ 64 }
-    ensures { IfOk result (λ sites. sites ≡ sites_of (plain class.now)) }
-{
-    match found_in(alloc, class)? {
-        Some(found) => judged(alloc, class.pool.as_slice(), found.as_slice()),
-        None => Ok(None),
-    }
+    let live = flags_of(alloc, pool, found)?;
+    Ok(Some(PoolMap { sites, live }))
 }

@@ -1,3 +1,7 @@
+/// A part of a class that isn't of a form that is known.
+#[derive(Clone, Copy)]
+pub struct Unknown;
+
 /// Where an attribute stands.
 #[derive(Clone, Copy)]
 pub enum Place {

@@ -1,15 +1,14 @@
 ghost use Rattle.std.specs.Prelude.{◌≡◌, option_map, replicate};
 ghost use Rattle.jm_poolmap.specs.Finds.{Finds};
 ghost use Rattle.jm_poolmap.specs.Forms.{in_order, row_of};
-ghost use Rattle.jm_poolmap.specs.Frames.{type_rows, type, frame_rows, frame_part, frame_parts};
+ghost use Rattle.jm_poolmap.specs.Frames.{type_rows, type, frame_rows, frame_part};
 ghost use Rattle.jm_poolmap.specs.Frames.{frame};
 
-use crate::forms::{FramePart, Item};
+use crate::forms::{FramePart, Item, Unknown};
 use crate::items::items;
 use crate::readings::{number8, number16, part};
-use crate::site::Found;
-use crate::stop::Stop;
-use jm_bytes::List;
+use crate::site::FoundSite;
+use jm_bytes::{List, Or};
 use jm_class::Cursor;
 
 /// What follows the first byte of a type.
@@ -46,26 +45,20 @@ fn frame_row(byte: u8) -> Option<&'static [FramePart]>
 }
 
 /// A type of a frame.
-fn one_type(found: &mut List<Found>, cursor: &mut Cursor) -> Result<(), Stop>
+fn one_type(found: &mut List<FoundSite>, cursor: &mut Cursor) -> Result<(), Or<Unknown>>
     ensures { Finds (type found.old cursor.old) result found.new cursor.new }
 {
     let byte = number8(cursor)?;
-    let row = type_row(byte).ok_or(Stop::Unknown)?;
+    let row = type_row(byte).ok_or(Or::Fault(Unknown))?;
     items(found, cursor, row)
 }
 
-/// So many types.
-fn types(found: &mut List<Found>, cursor: &mut Cursor, count: u16) -> Result<(), Stop>
-    ensures { Finds (in_order (replicate count type) found.old cursor.old)
-        result found.new cursor.new }
-{
-    for _k in 0..count {
-        one_type(found, cursor)?;
-    }
-    Ok(())
-}
-
-fn frame_part(found: &mut List<Found>, cursor: &mut Cursor, kind: FramePart) -> Result<(), Stop>
+/// A part of a frame.
+fn frame_part(
+    found: &mut List<FoundSite>,
+    cursor: &mut Cursor,
+    kind: FramePart,
+) -> Result<(), Or<Unknown>>
     ensures { Finds (frame_part kind found.old cursor.old) result found.new cursor.new }
 {
     match kind {
@@ -76,36 +69,32 @@ fn frame_part(found: &mut List<Found>, cursor: &mut Cursor, kind: FramePart) -> 
         FramePart::OneType => one_type(found, cursor),
         FramePart::Types => {
             let count = number16(cursor)?;
-            types(found, cursor, count)
+            for _k in 0..count {
+                one_type(found, cursor)?;
+            }
+            Ok(())
         }
     }
 }
 
-/// Parts of a frame one behind another.
-fn frame_parts(
-    found: &mut List<Found>,
-    cursor: &mut Cursor,
-    kinds: &[FramePart],
-) -> Result<(), Stop>
-    ensures { Finds (frame_parts kinds.now found.old cursor.old) result found.new cursor.new }
+/// A frame.
+fn frame(found: &mut List<FoundSite>, cursor: &mut Cursor) -> Result<(), Or<Unknown>>
+    ensures { Finds (frame found.old cursor.old) result found.new cursor.new }
 {
-    for kind in kinds {
+    let byte = number8(cursor)?;
+    let row = frame_row(byte).ok_or(Or::Fault(Unknown))?;
+    for kind in row {
         frame_part(found, cursor, *kind)?;
     }
     Ok(())
 }
 
-/// A frame.
-fn frame(found: &mut List<Found>, cursor: &mut Cursor) -> Result<(), Stop>
-    ensures { Finds (frame found.old cursor.old) result found.new cursor.new }
-{
-    let byte = number8(cursor)?;
-    let row = frame_row(byte).ok_or(Stop::Unknown)?;
-    frame_parts(found, cursor, row)
-}
-
 /// So many frames.
-pub fn frames(found: &mut List<Found>, cursor: &mut Cursor, count: u16) -> Result<(), Stop>
+pub fn frames(
+    found: &mut List<FoundSite>,
+    cursor: &mut Cursor,
+    count: u16,
+) -> Result<(), Or<Unknown>>
     ensures { Finds (in_order (replicate count frame) found.old cursor.old)
         result found.new cursor.new }
 {

@@ -1,18 +1,16 @@
 ghost use Rattle.std.specs.Prelude.{◌≡◌, option_map};
 ghost use Rattle.jm_poolmap.specs.Finds.{Finds, Reads};
 ghost use Rattle.jm_poolmap.specs.Forms.{row_of};
-ghost use Rattle.jm_poolmap.specs.Instructions.{Wide};
 ghost use Rattle.jm_poolmap.specs.Instructions.{instruction_rows, wide_rows, filling, from_least};
-ghost use Rattle.jm_poolmap.specs.Instructions.{table_cases, lookup_cases, operands, instruction};
+ghost use Rattle.jm_poolmap.specs.Instructions.{instruction};
 ghost use Rattle.jm_poolmap.specs.Instructions.{instructions};
 ghost use Rattle.jm_poolmap.specs.Views.{operands_of};
 
-use crate::forms::{Item, Operands};
+use crate::forms::{Item, Operands, Unknown};
 use crate::items::items;
 use crate::readings::{number8, number32, part};
-use crate::site::Found;
-use crate::stop::Stop;
-use jm_bytes::List;
+use crate::site::FoundSite;
+use jm_bytes::{List, Or};
 use jm_class::Cursor;
 
 /// What follows an opcode.
@@ -47,7 +45,7 @@ fn wide_row(opcode: u8) -> Option<&'static [Item]>
 }
 
 /// The bytes up to a multiple of four from the start of the code.
-fn filling<'a>(cursor: &mut Cursor<'a>, start: usize) -> Result<&'a [u8], Stop>
+fn filling<'a>(cursor: &mut Cursor<'a>, start: usize) -> Result<&'a [u8], Or<Unknown>>
     ensures { Reads (λ p. p.now) (filling start cursor.old) result cursor.new }
 {
     let size = (4 - cursor.place().saturating_sub(start) % 4) % 4;
@@ -65,77 +63,48 @@ fn from_least(n: u32) -> u32
     }
 }
 
-/// The cases of a `tableswitch`.
-fn table_cases<'a>(cursor: &mut Cursor<'a>) -> Result<&'a [u8], Stop>
-    ensures { Reads (λ p. p.now) (table_cases cursor.old) result cursor.new }
-{
-    let low = from_least(number32(cursor)?);
-    let high = from_least(number32(cursor)?);
-    if high < low {
-        return Err(Stop::Unknown);
-    }
-    part(cursor, 4 * (high as usize - low as usize + 1))
-}
-
-/// The cases of a `lookupswitch`.
-fn lookup_cases<'a>(cursor: &mut Cursor<'a>) -> Result<&'a [u8], Stop>
-    ensures { Reads (λ p. p.now) (lookup_cases cursor.old) result cursor.new }
-{
-    let count = number32(cursor)?;
-    if count >= 1 << 31 {
-        return Err(Stop::Unknown);
-    }
-    part(cursor, 8 * count as usize)
-}
-
-/// What follows the opcode of a wide instruction.
-fn wide(found: &mut List<Found>, cursor: &mut Cursor) -> Result<(), Stop>
-    ensures { Finds (operands 0 Wide found.old cursor.old) result found.new cursor.new }
-{
-    let opcode = number8(cursor)?;
-    let row = wide_row(opcode).ok_or(Stop::Unknown)?;
-    items(found, cursor, row)
-}
-
-/// What follows an opcode, in a code that begins at a place.
-fn operands(
-    found: &mut List<Found>,
+/// An instruction of a code that begins at a place.
+fn instruction(
+    found: &mut List<FoundSite>,
     cursor: &mut Cursor,
     start: usize,
-    kind: Operands,
-) -> Result<(), Stop>
-    ensures { Finds (operands start (operands_of kind) found.old cursor.old)
-        result found.new cursor.new }
+) -> Result<(), Or<Unknown>>
+    ensures { Finds (instruction start found.old cursor.old) result found.new cursor.new }
 {
-    match kind {
+    let opcode = number8(cursor)?;
+    match instruction_row(opcode).ok_or(Or::Fault(Unknown))? {
         Operands::Items(list) => items(found, cursor, list),
         Operands::Table => {
             filling(cursor, start)?;
             part(cursor, 4)?;
-            table_cases(cursor)?;
+            let low = from_least(number32(cursor)?);
+            let high = from_least(number32(cursor)?);
+            if high < low {
+                return Err(Or::Fault(Unknown));
+            }
+            part(cursor, 4 * (high as usize - low as usize + 1))?;
             Ok(())
         }
         Operands::Lookup => {
             filling(cursor, start)?;
             part(cursor, 4)?;
-            lookup_cases(cursor)?;
+            let count = number32(cursor)?;
+            if count >= 1 << 31 {
+                return Err(Or::Fault(Unknown));
+            }
+            part(cursor, 8 * count as usize)?;
             Ok(())
         }
-        Operands::Wide => wide(found, cursor),
+        Operands::Wide => {
+            let opcode = number8(cursor)?;
+            let list = wide_row(opcode).ok_or(Or::Fault(Unknown))?;
+            items(found, cursor, list)
+        }
     }
 }
 
-/// An instruction of a code that begins at a place.
-fn instruction(found: &mut List<Found>, cursor: &mut Cursor, start: usize) -> Result<(), Stop>
-    ensures { Finds (instruction start found.old cursor.old) result found.new cursor.new }
-{
-    let opcode = number8(cursor)?;
-    let row = instruction_row(opcode).ok_or(Stop::Unknown)?;
-    operands(found, cursor, start, row)
-}
-
 /// The instructions of a code, from its start on.
-pub fn instructions(found: &mut List<Found>, cursor: &mut Cursor) -> Result<(), Stop>
+pub fn instructions(found: &mut List<FoundSite>, cursor: &mut Cursor) -> Result<(), Or<Unknown>>
     ensures { Finds (instructions found.old cursor.old) result found.new cursor.new }
 {
     let start = cursor.place();

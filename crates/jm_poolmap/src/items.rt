@@ -1,61 +1,36 @@
-ghost use Rattle.std.specs.Prelude.{◌≡◌, replicate};
+ghost use Rattle.std.specs.Prelude.{◌≡◌, true, replicate};
+ghost use Rattle.std.specs.Int.{w16};
 ghost use Rattle.jm_poolmap.specs.Finds.{Finds};
-ghost use Rattle.jm_poolmap.specs.Forms.{site, optional_site, byte_site, in_order};
+ghost use Rattle.jm_poolmap.specs.Forms.{site_of_width, in_order};
 ghost use Rattle.jm_poolmap.specs.Items.{item_form, items};
 
-use crate::forms::Item;
+use crate::forms::{Item, Unknown};
 use crate::readings::{number8, number16, part};
-use crate::site::Found;
-use crate::stop::Stop;
-use jm_bytes::List;
+use crate::site::FoundSite;
+use jm_bytes::{List, Or};
 use jm_class::Cursor;
 
-/// A site of two bytes.
-pub fn site(found: &mut List<Found>, cursor: &mut Cursor) -> Result<(), Stop>
-    ensures { Finds (site found.old cursor.old) result found.new cursor.new }
+/// A site of two bytes; where it is optional 0 may stand there.
+pub fn site(
+    found: &mut List<FoundSite>,
+    cursor: &mut Cursor,
+    optional: bool,
+) -> Result<(), Or<Unknown>>
+    ensures { Finds (site_of_width w16 true optional found.old cursor.old)
+        result found.new cursor.new }
 {
     let place = cursor.place() as u64;
     let number = number16(cursor)?;
-    found.push(Found {
+    found.push(FoundSite {
         place,
         wide: true,
-        optional: false,
+        optional,
         number,
     })?;
     Ok(())
 }
 
-/// A site of two bytes at which 0 may stand.
-fn optional_site(found: &mut List<Found>, cursor: &mut Cursor) -> Result<(), Stop>
-    ensures { Finds (optional_site found.old cursor.old) result found.new cursor.new }
-{
-    let place = cursor.place() as u64;
-    let number = number16(cursor)?;
-    found.push(Found {
-        place,
-        wide: true,
-        optional: true,
-        number,
-    })?;
-    Ok(())
-}
-
-/// A site of one byte.
-fn byte_site(found: &mut List<Found>, cursor: &mut Cursor) -> Result<(), Stop>
-    ensures { Finds (byte_site found.old cursor.old) result found.new cursor.new }
-{
-    let place = cursor.place() as u64;
-    let number = number8(cursor)?;
-    found.push(Found {
-        place,
-        wide: false,
-        optional: false,
-        number: u16::from(number),
-    })?;
-    Ok(())
-}
-
-fn step(found: &mut List<Found>, cursor: &mut Cursor, item: Item) -> Result<(), Stop>
+fn step(found: &mut List<FoundSite>, cursor: &mut Cursor, item: Item) -> Result<(), Or<Unknown>>
     ensures { Finds (item_form item found.old cursor.old) result found.new cursor.new }
 {
     match item {
@@ -63,14 +38,28 @@ fn step(found: &mut List<Found>, cursor: &mut Cursor, item: Item) -> Result<(), 
             part(cursor, usize::from(n))?;
             Ok(())
         }
-        Item::Site => site(found, cursor),
-        Item::OptionalSite => optional_site(found, cursor),
-        Item::ByteSite => byte_site(found, cursor),
+        Item::Site => site(found, cursor, false),
+        Item::OptionalSite => site(found, cursor, true),
+        Item::ByteSite => {
+            let place = cursor.place() as u64;
+            let number = number8(cursor)?;
+            found.push(FoundSite {
+                place,
+                wide: false,
+                optional: false,
+                number: u16::from(number),
+            })?;
+            Ok(())
+        }
     }
 }
 
 /// Items one behind another.
-pub fn items(found: &mut List<Found>, cursor: &mut Cursor, list: &[Item]) -> Result<(), Stop>
+pub fn items(
+    found: &mut List<FoundSite>,
+    cursor: &mut Cursor,
+    list: &[Item],
+) -> Result<(), Or<Unknown>>
     ensures { Finds (items list.now found.old cursor.old) result found.new cursor.new }
 {
     for item in list {
@@ -81,11 +70,11 @@ pub fn items(found: &mut List<Found>, cursor: &mut Cursor, list: &[Item]) -> Res
 
 /// So many rows of the same items.
 pub fn rows(
-    found: &mut List<Found>,
+    found: &mut List<FoundSite>,
     cursor: &mut Cursor,
     count: usize,
     row: &[Item],
-) -> Result<(), Stop>
+) -> Result<(), Or<Unknown>>
     ensures { Finds (in_order (replicate count (items row.now)) found.old cursor.old)
         result found.new cursor.new }
 {

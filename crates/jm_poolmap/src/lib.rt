@@ -13,10 +13,8 @@ mod members;
 mod naming;
 mod readings;
 mod site;
-mod stop;
 mod walk;
 mod whole;
 
-pub use finding::sites;
-pub use marking::live;
+pub use finding::{PoolMap, pool_map};
 pub use site::Site;

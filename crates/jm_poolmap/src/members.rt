@@ -8,37 +8,32 @@ ghost use Rattle.jm_poolmap.specs.ComputedSites.{held_step, attribute_step, memb
 ghost use Rattle.jm_poolmap.specs.Finds.{Walks};
 
 use crate::attributes::content_at;
-use crate::forms::Place;
-use crate::stop::Stop;
-use crate::walk::{Kind, Walk, note, over, pass};
+use crate::forms::{Place, Unknown};
+use crate::walk::{PartKind, Walk, note, over};
+use jm_bytes::Or;
 use jm_class::{Attribute, Body, Class, Code, Member, Plain};
 
 /// An attribute by its name and its bytes.
-fn opaque(walk: &mut Walk, class: &Class, place: Place, name: u16, bytes: &[u8]) -> Result<(), Stop>
+fn opaque(
+    walk: &mut Walk,
+    class: &Class,
+    place: Place,
+    name: u16,
+    bytes: &[u8],
+) -> Result<(), Or<Unknown>>
     requires { walk.old.place + (6 + length bytes.now) < 2 ^ 64 }
     ensures step { Walks (opaque_step place (plain class.now).pool name bytes.now walk.old)
         result walk.new }
     ensures place { OnOk result (walk.new.place ≡ walk.old.place + (6 + length bytes.now)) }
 {
     note(walk, false, name)?;
-    pass(walk, 4);
-    let content = content_at(class, place, name).ok_or(Stop::Unknown)?;
-    over(walk, Kind::Body(content), bytes)
-}
-
-/// An attribute of a Code.
-fn plain(walk: &mut Walk, class: &Class, attribute: &Plain) -> Result<(), Stop>
-    requires { walk.old.place + length (opaque_text (opaque_of attribute.now)) < 2 ^ 64 }
-    ensures step { Walks (plain_step (plain class.now).pool (opaque_of attribute.now) walk.old)
-        result walk.new }
-    ensures place { OnOk result
-        (walk.new.place ≡ walk.old.place + length (opaque_text (opaque_of attribute.now))) }
-{
-    opaque(walk, class, Place::Code, attribute.name, attribute.bytes)
+    walk.place += 4;
+    let content = content_at(class, place, name).ok_or(Or::Fault(Unknown))?;
+    over(walk, PartKind::Body(content), bytes)
 }
 
 /// The attributes of a Code.
-fn plains(walk: &mut Walk, class: &Class, attributes: &[Plain]) -> Result<(), Stop>
+fn plains(walk: &mut Walk, class: &Class, attributes: &[Plain]) -> Result<(), Or<Unknown>>
     requires { walk.old.place + length (flat_map opaque_text (map opaque_of attributes.now))
         < 2 ^ 64 }
     ensures step { Walks
@@ -48,29 +43,39 @@ fn plains(walk: &mut Walk, class: &Class, attributes: &[Plain]) -> Result<(), St
         ≡ walk.old.place + length (flat_map opaque_text (map opaque_of attributes.now))) }
 {
     for attribute in attributes {
-        plain(walk, class, attribute)?;
+        opaque(walk, class, Place::Code, attribute.name, attribute.bytes)?;
     }
     Ok(())
 }
 
 /// A Code behind its length.
-fn code(walk: &mut Walk, class: &Class, code: &Code) -> Result<(), Stop>
+fn code(walk: &mut Walk, class: &Class, code: &Code) -> Result<(), Or<Unknown>>
     requires { walk.old.place + length (code_text (code_of code.now)) < 2 ^ 64 }
     ensures step { Walks (code_step (plain class.now).pool (code_of code.now) walk.old)
         result walk.new }
     ensures place { OnOk result
         (walk.new.place ≡ walk.old.place + length (code_text (code_of code.now))) }
 {
-    pass(walk, 8);
-    over(walk, Kind::Instructions, code.code)?;
-    pass(walk, 2);
-    over(walk, Kind::Handlers(code.handlers.len() / 8), code.handlers)?;
-    pass(walk, 2);
+    walk.place += 8;
+    over(walk, PartKind::Instructions, code.code)?;
+    walk.place += 2;
+    over(
+        walk,
+        PartKind::Handlers(code.handlers.len() / 8),
+        code.handlers,
+    )?;
+    walk.place += 2;
     plains(walk, class, code.attributes.as_slice())
 }
 
 /// An attribute by its name and what it holds.
-fn held(walk: &mut Walk, class: &Class, place: Place, name: u16, body: &Body) -> Result<(), Stop>
+fn held(
+    walk: &mut Walk,
+    class: &Class,
+    place: Place,
+    name: u16,
+    body: &Body,
+) -> Result<(), Or<Unknown>>
     requires { walk.old.place + (6 + length (held_text (body_of body.now))) < 2 ^ 64 }
     ensures step { Walks (held_step place (plain class.now).pool name (body_of body.now) walk.old)
         result walk.new }
@@ -81,27 +86,10 @@ fn held(walk: &mut Walk, class: &Class, place: Place, name: u16, body: &Body) ->
         Body::Plain(bytes) => opaque(walk, class, place, name, bytes),
         Body::Code(held) => {
             note(walk, false, name)?;
-            pass(walk, 4);
+            walk.place += 4;
             code(walk, class, held)
         }
     }
-}
-
-/// An attribute of a class, a field or a method.
-fn attribute(
-    walk: &mut Walk,
-    class: &Class,
-    place: Place,
-    attribute: &Attribute,
-) -> Result<(), Stop>
-    requires { walk.old.place + length (attribute_text (attribute_of attribute.now)) < 2 ^ 64 }
-    ensures step { Walks
-        (attribute_step place (plain class.now).pool (attribute_of attribute.now) walk.old)
-        result walk.new }
-    ensures place { OnOk result
-        (walk.new.place ≡ walk.old.place + length (attribute_text (attribute_of attribute.now))) }
-{
-    held(walk, class, place, attribute.name, &attribute.body)
 }
 
 /// The attributes of a class, a field or a method.
@@ -110,7 +98,7 @@ pub fn attributes(
     class: &Class,
     place: Place,
     attributes: &[Attribute],
-) -> Result<(), Stop>
+) -> Result<(), Or<Unknown>>
     requires { walk.old.place
         + length (flat_map attribute_text (map attribute_of attributes.now)) < 2 ^ 64 }
     ensures step { Walks
@@ -120,13 +108,13 @@ pub fn attributes(
         ≡ walk.old.place + length (flat_map attribute_text (map attribute_of attributes.now))) }
 {
     for next in attributes {
-        attribute(walk, class, place, next)?;
+        held(walk, class, place, next.name, &next.body)?;
     }
     Ok(())
 }
 
 /// A field or a method.
-fn member(walk: &mut Walk, class: &Class, place: Place, member: &Member) -> Result<(), Stop>
+fn member(walk: &mut Walk, class: &Class, place: Place, member: &Member) -> Result<(), Or<Unknown>>
     requires { walk.old.place + length (member_text (member_of member.now)) < 2 ^ 64 }
     ensures step { Walks
         (member_step place (plain class.now).pool (member_of member.now) walk.old)
@@ -134,15 +122,20 @@ fn member(walk: &mut Walk, class: &Class, place: Place, member: &Member) -> Resu
     ensures place { OnOk result
         (walk.new.place ≡ walk.old.place + length (member_text (member_of member.now))) }
 {
-    pass(walk, 2);
+    walk.place += 2;
     note(walk, false, member.name)?;
     note(walk, false, member.descriptor)?;
-    pass(walk, 2);
+    walk.place += 2;
     attributes(walk, class, place, member.attributes.as_slice())
 }
 
 /// The fields or the methods.
-pub fn members(walk: &mut Walk, class: &Class, place: Place, members: &[Member]) -> Result<(), Stop>
+pub fn members(
+    walk: &mut Walk,
+    class: &Class,
+    place: Place,
+    members: &[Member],
+) -> Result<(), Or<Unknown>>
     requires { walk.old.place + length (flat_map member_text (map member_of members.now))
         < 2 ^ 64 }
     ensures step { Walks

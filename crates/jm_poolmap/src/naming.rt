@@ -6,7 +6,7 @@ ghost use Rattle.jm_poolmap.specs.Sites.{rank, named_by, rank_of, rank_at, is_so
 ghost use Rattle.jm_poolmap.specs.Sites.{names_lower, names_constant};
 ghost use Rattle.jm_poolmap.specs.Pools.{FitsSlot, AllFit, numbers_of};
 
-use crate::site::Found;
+use crate::site::FoundSite;
 use jm_class::Slot;
 
 /// The numbers that a constant names.
@@ -113,19 +113,12 @@ pub fn all_lower(pool: &[Slot]) -> bool
     true
 }
 
-/// Whether a constant has the number at a site, or it is an optional 0.
-fn names_constant(pool: &[Slot], found: &Found) -> bool
-    ensures { result ≡ names_constant (pool_of pool.now) found.now }
-{
-    found.optional && found.number == 0 || rank_at(pool, found.number).is_some()
-}
-
-/// Whether this holds of all sites.
-pub fn all_constants(pool: &[Slot], found: &[Found]) -> bool
+/// Whether a constant has the number at each site, or it is an optional 0.
+pub fn all_constants(pool: &[Slot], found: &[FoundSite]) -> bool
     ensures { result ≡ list_all (names_constant (pool_of pool.now)) found.now }
 {
     for site in found {
-        if !names_constant(pool, site) {
+        if !(site.optional && site.number == 0 || rank_at(pool, site.number).is_some()) {
             return false;
         }
     }

@@ -4,33 +4,34 @@ ghost use Rattle.jm_class.specs.Readings.{number, part};
 ghost use Rattle.jm_poolmap.specs.Finds.{Reads};
 ghost use Rattle.jm_poolmap.specs.Forms.{unfit};
 
-use crate::stop::Stop;
+use crate::forms::Unknown;
+use jm_bytes::Or;
 use jm_class::Cursor;
 
 /// So many bytes.
-pub fn part<'a>(cursor: &mut Cursor<'a>, n: usize) -> Result<&'a [u8], Stop>
+pub fn part<'a>(cursor: &mut Cursor<'a>, n: usize) -> Result<&'a [u8], Or<Unknown>>
     ensures { Reads (λ p. p.now) (part unfit n cursor.old) result cursor.new }
 {
-    cursor.part(n).ok_or(Stop::Unknown)
+    cursor.part(n).ok_or(Or::Fault(Unknown))
 }
 
 /// A byte.
-pub fn number8(cursor: &mut Cursor) -> Result<u8, Stop>
+pub fn number8(cursor: &mut Cursor) -> Result<u8, Or<Unknown>>
     ensures { Reads (λ n. n) (number unfit w8 cursor.old) result cursor.new }
 {
-    cursor.u8().ok_or(Stop::Unknown)
+    cursor.u8().ok_or(Or::Fault(Unknown))
 }
 
 /// A number of two bytes.
-pub fn number16(cursor: &mut Cursor) -> Result<u16, Stop>
+pub fn number16(cursor: &mut Cursor) -> Result<u16, Or<Unknown>>
     ensures { Reads (λ n. n) (number unfit w16 cursor.old) result cursor.new }
 {
-    cursor.u16().ok_or(Stop::Unknown)
+    cursor.u16().ok_or(Or::Fault(Unknown))
 }
 
 /// A number of four bytes.
-pub fn number32(cursor: &mut Cursor) -> Result<u32, Stop>
+pub fn number32(cursor: &mut Cursor) -> Result<u32, Or<Unknown>>
     ensures { Reads (λ n. n) (number unfit w32 cursor.old) result cursor.new }
 {
-    cursor.u32().ok_or(Stop::Unknown)
+    cursor.u32().ok_or(Or::Fault(Unknown))
 }

@@ -9,7 +9,7 @@ pub struct Site {
 
 /// A site as it is met: with the number that stands there.
 #[derive(Clone, Copy)]
-pub struct Found {
+pub struct FoundSite {
     pub place: u64,
     pub wide: bool,
     /// Whether 0 may stand there, which means none.

@@ -6,11 +6,10 @@ ghost use Rattle.jm_poolmap.specs.ComputedSites.{notes, each, slot_step, front_s
 ghost use Rattle.jm_poolmap.specs.ComputedSites.{front_size, back_size, walk_of};
 ghost use Rattle.jm_poolmap.specs.Finds.{Comes, Walks};
 
-use crate::forms::Place;
+use crate::forms::{Place, Unknown};
 use crate::members::{attributes, members};
-use crate::stop::Stop;
-use crate::walk::{Walk, note, pass};
-use jm_bytes::List;
+use crate::walk::{Walk, note};
+use jm_bytes::{List, Or};
 use jm_class::{Class, Slot};
 use std::alloc::Global;
 
@@ -22,8 +21,8 @@ fn slot(walk: &mut Walk, slot: &Slot)
     } }
 {
     match slot {
-        Slot::Constant { tag: 1, body } => pass(walk, 3 + body.len()),
-        Slot::Constant { body, .. } => pass(walk, 1 + body.len()),
+        Slot::Constant { tag: 1, body } => walk.place += 3 + body.len(),
+        Slot::Constant { body, .. } => walk.place += 1 + body.len(),
         Slot::Hole => {}
     }
 }
@@ -39,7 +38,7 @@ fn slots(walk: &mut Walk, slots: &[Slot])
     }
 }
 
-fn interfaces(walk: &mut Walk, interfaces: &[u16]) -> Result<(), Stop>
+fn interfaces(walk: &mut Walk, interfaces: &[u16]) -> Result<(), Or<Unknown>>
     requires { walk.old.place + length (flat_map u2 interfaces.now) < 2 ^ 64 }
     ensures step { Walks (each (notes false) interfaces.now walk.old) result walk.new }
     ensures place { OnOk result
@@ -52,36 +51,36 @@ fn interfaces(walk: &mut Walk, interfaces: &[u16]) -> Result<(), Stop>
 }
 
 /// The parts of a class up to the interfaces.
-fn front(walk: &mut Walk, class: &Class) -> Result<(), Stop>
+fn front(walk: &mut Walk, class: &Class) -> Result<(), Or<Unknown>>
     requires { walk.old.place + front_size (plain class.now) < 2 ^ 64 }
     ensures step { Walks (front_step (plain class.now) walk.old) result walk.new }
     ensures place { OnOk result
         (walk.new.place ≡ walk.old.place + front_size (plain class.now)) }
 {
-    pass(walk, 10);
+    walk.place += 10;
     slots(walk, class.pool.as_slice());
-    pass(walk, 2);
+    walk.place += 2;
     note(walk, false, class.this_class)?;
     note(walk, true, class.super_class)?;
-    pass(walk, 2);
+    walk.place += 2;
     interfaces(walk, class.interfaces.as_slice())
 }
 
 /// The parts of a class behind the interfaces.
-fn back(walk: &mut Walk, class: &Class) -> Result<(), Stop>
+fn back(walk: &mut Walk, class: &Class) -> Result<(), Or<Unknown>>
     requires { walk.old.place + back_size (plain class.now) < 2 ^ 64 }
     ensures { Walks (back_step (plain class.now) walk.old) result walk.new }
 {
-    pass(walk, 2);
+    walk.place += 2;
     members(walk, class, Place::Field, class.fields.as_slice())?;
-    pass(walk, 2);
+    walk.place += 2;
     members(walk, class, Place::Method, class.methods.as_slice())?;
-    pass(walk, 2);
+    walk.place += 2;
     attributes(walk, class, Place::Class, class.attributes.as_slice())
 }
 
 /// A walk over the whole of a class.
-pub fn walk_over(alloc: Global, class: &Class) -> Result<Walk, Stop>
+pub fn walk_over(alloc: Global, class: &Class) -> Result<Walk, Or<Unknown>>
     requires { length (class_text (plain class.now)) < 2 ^ 64 }
     ensures { Comes (walk_of (plain class.now)) result }
 {

@@ -6,8 +6,8 @@ use Rattle.std.proofs.lemmas.List.{append_assoc}
 use Rattle.std.proofs.lemmas.Slice.Eq.{starts_is}
 use Rattle.std.specs.List.{starts_with}
 use Rattle.std.specs.Prelude.{drop, nat_eq}
-use Rattle.jm_names.specs.Names.{ext_end, module_front, parent_front}
-use Rattle.jm_reader.specs.Views.{joined, mark_of}
+use Rattle.jm_names.specs.Names.{ext_end, join, module_front, parent_front}
+use Rattle.jm_reader.specs.Views.{cut_from, mark_of}
 
 module_marks : (piece rest : List ℕ) → module_front piece ++ rest ≡ mark_of piece (47 ∷ []) ++ (piece ++ (mark_of piece (47 ∷ []) ++ rest))
 module_marks [] rest = refl
@@ -21,7 +21,7 @@ ext_marks : (piece : List ℕ) → ext_end piece ≡ mark_of piece (46 ∷ []) +
 ext_marks [] = refl
 ext_marks (b ∷ piece) = refl
 
-pub joined_marks : (m p b e : List ℕ) → joined m p b e ≡ mark_of m (47 ∷ [])
+pub joined_marks : (m p b e : List ℕ) → join (cut_from m p b e) ≡ mark_of m (47 ∷ [])
     ++ (m ++ (mark_of m (47 ∷ []) ++ (p ++ (mark_of p (47 ∷ []) ++ (b ++ (mark_of e (46 ∷ []) ++ e))))))
 joined_marks m p b e =
     ap (λ l. module_front m ++ (parent_front p ++ (b ++ l))) (ext_marks e)

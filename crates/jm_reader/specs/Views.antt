@@ -1,15 +1,11 @@
 -- The name of an entry in its four pieces (jimage 1.0: `/module/parent/base.extension`).
 use Rattle.std.specs.Prelude.{ℕ, ◌+◌, List, [], ◌∷◌, length}
-use Rattle.jm_names.specs.Names.{Cut, join}
+use Rattle.jm_names.specs.Names.{Cut}
 
 -- the four pieces of a name together
 abbrev pub cut_from : List ℕ → List ℕ → List ℕ → List ℕ → Cut
 cut_from «module» parent base ext =
     record { «module» = «module»; parent = parent; base = base; ext = ext }
-
--- the name that four pieces make
-abbrev pub joined : List ℕ → List ℕ → List ℕ → List ℕ → List ℕ
-joined «module» parent base ext = join (cut_from «module» parent base ext)
 
 -- the mark of a piece, which stands in a name only where the piece isn't empty
 abbrev pub mark_of : List ℕ → List ℕ → List ℕ

@@ -6,6 +6,7 @@ ghost use Rattle.jm_reader.specs.Views.{mark_of};
 use jm_bytes::{NoMemory, extend};
 use jm_names::Pieces;
 use std::marker::Model;
+use std::mem::replace;
 
 /// The bytes of a name that are still to come: pieces, and the marks before and behind them.
 #[derive(Debug, Drop)]
@@ -47,16 +48,6 @@ fn pop(bytes: &mut &[u8]) -> Option<u8>
     Some(*first)
 }
 
-/// Takes all of the bytes.
-fn take_all<'a>(bytes: &mut &'a [u8]) -> &'a [u8]
-    ensures taken { result.now ≡ bytes.old.now }
-    ensures none { bytes.new.now ≡ [] }
-{
-    let all = *bytes;
-    *bytes = &[];
-    all
-}
-
 impl<'a> NameBytes<'a> {
     /// The bytes of the name that the pieces make.
     pub(crate) fn of(pieces: &Pieces<'a>) -> NameBytes<'a>
@@ -80,27 +71,27 @@ impl<'a> NameBytes<'a> {
         ensures end { result.now ≡ [] → self.new ≡ [] }
     {
         if !self.before_module.is_empty() {
-            return take_all(&mut self.before_module);
+            return replace(&mut self.before_module, &[]);
         }
         if !self.module.is_empty() {
-            return take_all(&mut self.module);
+            return replace(&mut self.module, &[]);
         }
         if !self.behind_module.is_empty() {
-            return take_all(&mut self.behind_module);
+            return replace(&mut self.behind_module, &[]);
         }
         if !self.parent.is_empty() {
-            return take_all(&mut self.parent);
+            return replace(&mut self.parent, &[]);
         }
         if !self.behind_parent.is_empty() {
-            return take_all(&mut self.behind_parent);
+            return replace(&mut self.behind_parent, &[]);
         }
         if !self.base.is_empty() {
-            return take_all(&mut self.base);
+            return replace(&mut self.base, &[]);
         }
         if !self.before_ext.is_empty() {
-            return take_all(&mut self.before_ext);
+            return replace(&mut self.before_ext, &[]);
         }
-        take_all(&mut self.ext)
+        replace(&mut self.ext, &[])
     }
 
     /// Puts all of them at the end of a text.

@@ -1,5 +1,5 @@
 ghost use Rattle.std.specs.Prelude.{◌≡◌, ◌≢◌, ◌++◌, ◌+◌, ◌<◌, ◌^◌, ℕ, List, length, IfOk, IsTrue};
-ghost use Rattle.std.specs.Prelude.{IsFalse, ◌↔◌, nat_eq, []};
+ghost use Rattle.std.specs.Prelude.{IsFalse, ◌↔◌, nat_eq};
 ghost use Rattle.std.specs.Cmp.Lexicographic.{slice_cmp};
 ghost use Rattle.std.specs.List.{starts_with};
 ghost use Rattle.std.specs.Ordering.{nat_cmp};
@@ -21,23 +21,20 @@ use std::marker::Model;
 /// It borrows its four pieces from the image.
 #[derive(Debug, Drop)]
 pub struct NameView<'a> {
-    module: &'a [u8],
-    parent: &'a [u8],
-    base: &'a [u8],
-    ext: &'a [u8],
+    pieces: Pieces<'a>,
 }
 
 impl<'a> Model for NameView<'a> {
     ghost use Rattle.std.specs.Prelude.{List, ℕ};
     ghost use Rattle.jm_form.specs.Entries.{ShortPieces};
-    ghost use Rattle.jm_reader.specs.Views.{cut_from, joined};
+    ghost use Rattle.jm_names.specs.Names.{join};
+    ghost use Rattle.jm_names.specs.Pieces.{cut_of};
 
     ghost Value = { List ℕ };
 
-    ghost view = { λ a. joined a.module.now a.parent.now a.base.now a.ext.now };
+    ghost view = { λ a. join (cut_of a.pieces) };
 
-    ghost invariant = { λ a. ShortPieces
-        (cut_from a.module.now a.parent.now a.base.now a.ext.now) };
+    ghost invariant = { λ a. ShortPieces (cut_of a.pieces) };
 }
 
 /// How many bytes a piece takes in a name, with so many marks around it; none where it is empty.
@@ -66,62 +63,23 @@ fn takes_front(bytes: &mut NameBytes, front: &[u8]) -> bool
     true
 }
 
-/// The pieces that make a name of any form, which is the base of them.
-fn text_alone<'a>(name: &'a [u8]) -> Pieces<'a>
-    ensures { join (cut_of result) ≡ name.now }
-{
-    Pieces {
-        module: &[],
-        parent: &[],
-        base: name,
-        ext: &[],
-    }
-}
-
-/// An empty text with room for so many bytes.
-fn empty_with_room(alloc: Global, size: usize) -> Result<Vec<u8>, NoMemory>
-    ensures { IfOk result (λ text. text.items ≡ []) }
-{
-    match Vec::with_capacity(alloc, size) {
-        Ok(text) => Ok(text),
-        Err(_) => Err(NoMemory),
-    }
-}
-
 impl<'a> NameView<'a> {
     /// The name that the pieces make, each of which has fewer than 2^32 bytes.
     pub fn of(pieces: &Pieces<'a>) -> NameView<'a>
         requires { ShortPieces (cut_of pieces.now) }
         ensures { result ≡ join (cut_of pieces.now) }
     {
-        NameView {
-            module: pieces.module,
-            parent: pieces.parent,
-            base: pieces.base,
-            ext: pieces.ext,
-        }
-    }
-
-    /// The pieces that make it.
-    fn pieces(&self) -> Pieces<'a>
-        ensures { join (cut_of result) ≡ self.now }
-    {
-        Pieces {
-            module: self.module,
-            parent: self.parent,
-            base: self.base,
-            ext: self.ext,
-        }
+        NameView { pieces: *pieces }
     }
 
     /// How many bytes it has.
     pub fn len(&self) -> usize
         ensures { result ≡ length self.now }
     {
-        marked_length(self.module, 2)
-            + marked_length(self.parent, 1)
-            + self.base.len()
-            + marked_length(self.ext, 1)
+        marked_length(self.pieces.module, 2)
+            + marked_length(self.pieces.parent, 1)
+            + self.pieces.base.len()
+            + marked_length(self.pieces.ext, 1)
     }
 
     /// The name is `name`, byte by byte.
@@ -136,14 +94,20 @@ impl<'a> NameView<'a> {
     pub fn order(&self, other: &NameView) -> Ordering
         ensures { result ≡ slice_cmp nat_cmp self.now other.now }
     {
-        order(&self.pieces(), &other.pieces())
+        order(&self.pieces, &other.pieces)
     }
 
     /// It stands before `name` in byte order.
     pub fn is_before(&self, name: &[u8]) -> bool
         ensures { result ≡ is_before self.now name.now }
     {
-        order(&self.pieces(), &text_alone(name)) == Ordering::Less
+        let other = Pieces {
+            module: &[],
+            parent: &[],
+            base: name,
+            ext: &[],
+        };
+        order(&self.pieces, &other) == Ordering::Less
     }
 
     /// The name begins with `front`.
@@ -168,14 +132,14 @@ impl<'a> NameView<'a> {
     pub fn bytes(&self) -> NameBytes<'a>
         ensures { result ≡ self.now }
     {
-        NameBytes::of(&self.pieces())
+        NameBytes::of(&self.pieces)
     }
 
     /// A text of its own with the same bytes, for which memory is taken once.
     pub fn to_text(&self, alloc: Global) -> Result<Text, NoMemory>
         ensures { IfOk result (λ text. text ≡ self.now) }
     {
-        let mut text = empty_with_room(alloc, self.len())?;
+        let mut text = Vec::with_capacity(alloc, self.len())?;
         self.bytes().put_all(&mut text)?;
         Ok(Text::from_vec(text))
     }

@@ -46,13 +46,6 @@ fn order_from<'a, 'b>(
     }
 }
 
-/// How the bytes of two names stand to one another.
-fn order_of_bytes(mut bytes: NameBytes, mut other: NameBytes) -> Ordering
-    ensures { result ≡ slice_cmp nat_cmp bytes.entry other.entry }
-{
-    order_from(&[], &mut bytes, &[], &mut other)
-}
-
 /// The base and the extension of a name.
 fn without_folder<'a>(pieces: &Pieces<'a>) -> Pieces<'a>
     ensures { cut_of result ≡ without_folder (cut_of pieces.now) }
@@ -73,7 +66,9 @@ pub fn order(pieces: &Pieces, other: &Pieces) -> Ordering
 {
     if pieces.module == other.module && pieces.parent == other.parent {
         let (tail, other_tail) = (without_folder(pieces), without_folder(other));
-        return order_of_bytes(NameBytes::of(&tail), NameBytes::of(&other_tail));
+        let (mut bytes, mut other_bytes) = (NameBytes::of(&tail), NameBytes::of(&other_tail));
+        return order_from(&[], &mut bytes, &[], &mut other_bytes);
     }
-    order_of_bytes(NameBytes::of(pieces), NameBytes::of(other))
+    let (mut whole, mut other_whole) = (NameBytes::of(pieces), NameBytes::of(other));
+    order_from(&[], &mut whole, &[], &mut other_whole)
 }

@@ -1,6 +1,7 @@
 -- The lengths that are still to be tried.
 use Rattle.std.proofs.Common.{◌≡◌, ℕ, suc, ◌+◌, ◌-◌, ◌%◌, ◌==◌, ◌<◌, ◌≤◌, Bool, true, false, cond, List, []}
 use Rattle.std.proofs.Common.{◌∷◌, Option, Some, None, All, refl, ap, ◌∙◌, arith}
+use Rattle.std.proofs.lemmas.Bool.{eqb-true, eqb-false}
 use Rattle.std.proofs.lemmas.List.Elements.{All-nil, All-cons}
 use Rattle.std.specs.Option.{option_or}
 use Rattle.jm_form.specs.Greedy.{GreedyTable, greedy, greedy_among, table_lengths, lengths_from, next_length}
@@ -57,3 +58,11 @@ next_within slots = go ((slots + 1) % 2 == 0)
     go : (b : Bool) → (slots ≤ cond b (slots + 2) (slots + 1)) × (cond b (slots + 2) (slots + 1) ≤ slots + 2)
     go true = (omega arith, omega arith)
     go false = (omega arith, omega arith)
+
+-- the next length, as the code adds to it
+pub next_odd : (slots : ℕ) → slots + (1 + slots % 2) ≡ next_length slots
+next_odd slots = go ((slots + 1) % 2 == 0) refl
+  where
+    go : (b : Bool) → ((slots + 1) % 2 == 0) ≡ b → slots + (1 + slots % 2) ≡ cond b (slots + 2) (slots + 1)
+    go true test = let even = eqb-true ((slots + 1) % 2) 0 test in omega (arith, even)
+    go false test = let odd = eqb-false ((slots + 1) % 2) 0 test in omega (arith, odd)

@@ -1,15 +1,13 @@
 -- A greedy table and its parts, as they are built one after the other.
-use Rattle.std.proofs.Common.{◌≡◌, ℕ, ◌+◌, ◌^◌, ◌<◌, ◌≤◌, List, [], ◌∷◌, ◌++◌, Option, Some, None, length}
-use Rattle.std.proofs.Common.{map, take, get_or, All, option_map, refl, sym, ap, ◌∙◌, subst, arith}
+use Rattle.std.proofs.Common.{◌≡◌, ℕ, zero, suc, ◌+◌, ◌^◌, ◌<◌, ◌≤◌, List, [], ◌∷◌, ◌++◌, Option, Some, None, length}
+use Rattle.std.proofs.Common.{map, take, get_or, option_map, refl, sym, ap, ◌∙◌, subst, arith}
 use Rattle.std.proofs.lemmas.List.{take_more}
-use Rattle.std.proofs.lemmas.List.Elements.{filter_map-append, All-head, All-tail}
+use Rattle.std.proofs.lemmas.List.Elements.{filter_map-append}
 use Rattle.std.proofs.lemmas.List.FromFn.{length-map-range_with_len, get_or-map-range_with_len}
-use Rattle.std.proofs.lemmas.Int.{of_z-to_z}
-use Rattle.std.specs.Int.{w32, cast_unsigned}
 use Rattle.std.specs.List.{filter_map, cons_option, range_with_len}
 use Rattle.std.specs.Option.{option_to_list}
-use Rattle.std.specs.Prelude.{ℤ}
 use Rattle.jm_bytes.proofs.Choice.{same_some}
+use Rattle.jm_names.specs.Hash.{hash, default_seed}
 use Rattle.jm_form.specs.declared.table.Redirect.{Redirect}
 use Rattle.jm_form.specs.declared.table.Redirect.TheVariants as redirect
 use Rattle.jm_form.specs.Greedy.{GreedyTable, greedy, greedy_among, first_table, given_in_turn}
@@ -18,7 +16,7 @@ use Rattle.jm_form.specs.Serves.{Serves}
 use Rattle.jm_form.specs.Table.{slot_of}
 use Rattle.jm_form.proofs.ServesLaws.{greedy_serves}
 use Rattle.jm_redirect.specs.declared.building.Table.{Table}
-use Rattle.jm_redirect.specs.Built.{words_of, with_words, ServesNames}
+use Rattle.jm_redirect.specs.Built.{as_table, redirect_at, ServesNames}
 use Rattle.jm_redirect.proofs.LengthLaws.{lengths_left, among_here}
 
 -- the slot of a name, by the redirect of its bucket
@@ -91,21 +89,12 @@ table_without names slots is = go (greedy names slots) refl is
     go None e is = e
     go (Some table) e is = cc
 
--- the words of 32 bits come back
-pub words_back : (redirects : List Redirect) → All (λ r. word_of r < 2 ^ 32) redirects
-    → map (cast_unsigned w32) (words_of redirects) ≡ map word_of redirects
-words_back [] fit = refl
-words_back (r ∷ redirects) fit =
-    ap (λ w. w ∷ map (cast_unsigned w32) (words_of redirects)) (of_z-to_z w32 (word_of r) (All-head (λ r. word_of r < 2 ^ 32) r
-    redirects fit)) ∙ ap (λ l. word_of r ∷ l) (words_back redirects (All-tail (λ r. word_of r < 2 ^ 32) r redirects fit))
-
 -- a table that is built serves its names
 pub table_serves : (names : List (List ℕ)) (slots : ℕ) (table : GreedyTable) → length names ≤ slots → slots < 2 ^ 31
-    → greedy names slots ≡ Some table → table.length ≡ slots → ServesNames names (with_words table)
+    → greedy names slots ≡ Some table → table.length ≡ slots → ServesNames names (as_table table)
 table_serves names slots table enough few is long =
     let served = greedy_serves names slots table enough few is in
-    subst (λ n. Serves names n (map (cast_unsigned w32) (words_of table.redirects)) table.slots) (sym long)
-    (subst (λ words. Serves names slots words table.slots) (sym (words_back table.redirects served.words)) served.serves)
+    subst (λ n. Serves names n (map word_of table.redirects) table.slots) (sym long) served.serves
 
 pub length_of_table : (names : List (List ℕ)) (slots : ℕ) (table : GreedyTable) → greedy names slots ≡ Some table → table.length ≡ slots
 length_of_table names slots table is = go (given_in_turn names slots [] [] (buckets_in_turn names slots)) is
@@ -115,39 +104,76 @@ length_of_table names slots table is = go (given_in_turn names slots [] [] (buck
     go (Some given) is = sym (ap (λ (t : GreedyTable). t.length) (same_some (table_of names slots given) table is))
 
 -- the parts that were built are those of the table
-pub table_made : (names : List (List ℕ)) (slots : ℕ) (redirects : List Redirect) (words : List ℤ) (given : List ℕ)
-    → IsTableOf names slots redirects → words ≡ words_of redirects → given ≡ filter_map (slot_by redirects) names
-    → ◌≡◌ {A = Option Table} (Some (record { length = slots; redirect = words; slot_of = given }))
-    (option_map with_words (greedy names slots))
-table_made names slots redirects words given table words_are given_are =
-    let made : List ℤ → List ℕ → Option Table = λ w g. Some (record { length = slots; redirect = w; slot_of = g }) in
-    ap (λ w. made w given) words_are ∙ ap (made (words_of redirects)) given_are ∙ sym (ap (option_map with_words) table.is)
+pub table_made : (names : List (List ℕ)) (slots : ℕ) (redirects : List Redirect) (given : List ℕ) → IsTableOf names slots redirects
+    → given ≡ filter_map (slot_by redirects) names
+    → ◌≡◌ {A = Option Table} (Some (record { length = slots; redirects = redirects; slot_of = given }))
+    (option_map as_table (greedy names slots))
+table_made names slots redirects given table given_are =
+    let made : List ℕ → Option Table = λ g. Some (record { length = slots; redirects = redirects; slot_of = g }) in
+    ap made given_are ∙ sym (ap (option_map as_table) table.is)
+
+-- what a function leaves out
+short_filter_map : (f : List ℕ → Option ℕ) (xs : List (List ℕ)) → length (filter_map f xs) ≤ length xs
+short_filter_map f [] = omega arith
+short_filter_map f (x ∷ xs) = go (f x) (short_filter_map f xs)
+  where
+    go : (o : Option ℕ) → length (filter_map f xs) ≤ length xs → length (cons_option o (filter_map f xs)) ≤ length (x ∷ xs)
+    go None rest = omega (arith, rest)
+    go (Some y) rest = omega (arith, rest)
+
+filtered_at : (f : List ℕ → Option ℕ) (xs : List (List ℕ)) (k : ℕ) → length (filter_map f xs) ≡ length xs → k < length xs
+    → f (get_or xs k []) ≡ Some (get_or (filter_map f xs) k 0)
+filtered_at f [] k all below = absurd (omega (arith, below))
+filtered_at f (x ∷ xs) k all below = go (f x) refl k all below (λ j same inside. filtered_at f xs j same inside)
+  where
+    go : (o : Option ℕ) → f x ≡ o → (k : ℕ) → length (cons_option o (filter_map f xs)) ≡ length (x ∷ xs) → k < length (x ∷ xs)
+        → ((j : ℕ) → length (filter_map f xs) ≡ length xs → j < length xs → f (get_or xs j []) ≡ Some (get_or (filter_map f xs) j 0))
+        → f (get_or (x ∷ xs) k []) ≡ Some (get_or (cons_option o (filter_map f xs)) k 0)
+    go None is k all below rest = let short = short_filter_map f xs in absurd (omega (arith, short, all))
+    go (Some y) is zero all below rest = is
+    go (Some y) is (suc k) all below rest = rest k (omega (arith, all)) (omega (arith, below))
+
+-- a name is led to its slot by the redirect of its bucket
+pub led_by : (names : List (List ℕ)) (slots : ℕ) (table : GreedyTable) → length names ≤ slots → greedy names slots ≡ Some table
+    → length table.slots ≡ length names → (k : ℕ) → k < length names
+    → slot_of table.length (get_or names k []) (redirect_at table.redirects (hash default_seed (get_or names k [])))
+    ≡ Some (get_or table.slots k 0)
+led_by names slots table enough is each k below =
+    let name = get_or names k [] in
+    let of = table_with names slots table.redirects enough (ap (option_map (λ (t : GreedyTable). t.redirects)) is) in
+    let given = filter_map (slot_by table.redirects) names in
+    let made = same_some (record { length = slots; redirects = table.redirects; slots = given }) table (sym of.is ∙ is) in
+    let slots_are : given ≡ table.slots = ap (λ (t : GreedyTable). t.slots) made in
+    let length_is : slots ≡ table.length = ap (λ (t : GreedyTable). t.length) made in
+    ap (λ (n : ℕ). slot_of n name (redirect_at table.redirects (hash default_seed name))) (sym (of.long ∙ length_is))
+    ∙ filtered_at (slot_by table.redirects) names k (ap length slots_are ∙ each) below
+    ∙ ap (λ (l : List ℕ). Some (get_or l k 0)) slots_are
 
 -- The first length that has a table
 
 -- the table of this length is the first
-pub built : (names : List (List ℕ)) (tried slots : ℕ) (table : Table) → tried < 64 → option_map with_words (greedy names slots)
-    ≡ Some table → first_table names ≡ greedy_among names (lengths_left tried slots) → option_map with_words (first_table names)
+pub built : (names : List (List ℕ)) (tried slots : ℕ) (table : Table) → tried < 64 → option_map as_table (greedy names slots)
+    ≡ Some table → first_table names ≡ greedy_among names (lengths_left tried slots) → option_map as_table (first_table names)
     ≡ Some table
 built names tried slots table below is left = go (greedy names slots) refl is
   where
-    go : (o : Option GreedyTable) → greedy names slots ≡ o → option_map with_words o ≡ Some table
-        → option_map with_words (first_table names) ≡ Some table
+    go : (o : Option GreedyTable) → greedy names slots ≡ o → option_map as_table o ≡ Some table
+        → option_map as_table (first_table names) ≡ Some table
     go None e is = cc
-    go (Some g) e is = ap (option_map with_words) (left ∙ among_here names tried slots g below e) ∙ is
+    go (Some g) e is = ap (option_map as_table) (left ∙ among_here names tried slots g below e) ∙ is
 
 pub built_serves : (names : List (List ℕ)) (slots : ℕ) (table : Table) → length names ≤ slots → slots < 2 ^ 31
-    → option_map with_words (greedy names slots) ≡ Some table → ServesNames names table
+    → option_map as_table (greedy names slots) ≡ Some table → ServesNames names table
 built_serves names slots table enough few is = go (greedy names slots) refl is
   where
-    go : (o : Option GreedyTable) → greedy names slots ≡ o → option_map with_words o ≡ Some table → ServesNames names table
+    go : (o : Option GreedyTable) → greedy names slots ≡ o → option_map as_table o ≡ Some table → ServesNames names table
     go None e is = cc
-    go (Some g) e is = subst (ServesNames names) (same_some (with_words g) table is) (table_serves names slots g enough few e
+    go (Some g) e is = subst (ServesNames names) (same_some (as_table g) table is) (table_serves names slots g enough few e
         (length_of_table names slots g e))
 
-pub not_built : (names : List (List ℕ)) (slots : ℕ) → option_map with_words (greedy names slots) ≡ None → greedy names slots ≡ None
+pub not_built : (names : List (List ℕ)) (slots : ℕ) → option_map as_table (greedy names slots) ≡ None → greedy names slots ≡ None
 not_built names slots is = go (greedy names slots) refl is
   where
-    go : (o : Option GreedyTable) → greedy names slots ≡ o → option_map with_words o ≡ None → greedy names slots ≡ None
+    go : (o : Option GreedyTable) → greedy names slots ≡ o → option_map as_table o ≡ None → greedy names slots ≡ None
     go None e is = e
     go (Some g) e is = cc

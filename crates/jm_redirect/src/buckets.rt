@@ -7,7 +7,6 @@ ghost use Rattle.jm_form.specs.Greedy.{greedy, least_seed, least_free, redirect_
 ghost use Rattle.jm_redirect.specs.Marks.{Marks, TakenBelow, AllWithin, names_at, slots_sent};
 ghost use Rattle.jm_redirect.specs.Reached.{Reached};
 
-use crate::lists::{flags, nowhere};
 use crate::marks::{mark, unmarked_from};
 use crate::turns::{Turn, turns_in_order};
 use jm_bytes::{List, NoMemory, Text};
@@ -173,8 +172,8 @@ pub fn redirects_at(
         turns: turns.as_slice(),
         names: named.as_slice(),
     };
-    let mut taken = flags(alloc, slots as usize)?;
-    let mut redirects = nowhere(alloc, slots as usize)?;
+    let mut taken = vec![in alloc; false; slots as usize]?;
+    let mut redirects = vec![in alloc; Redirect::Nowhere; slots as usize]?;
     if give_all(names, left, &mut taken, &mut redirects) {
         Ok(Some(List::from_vec(redirects)))
     } else {

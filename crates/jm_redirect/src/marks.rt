@@ -8,14 +8,6 @@ ghost use Rattle.jm_redirect.specs.Marks.{Marks, slots_sent};
 
 use crate::hashes::hash_of;
 
-/// The slot to which a seed sends a name.
-fn slot_with(name: &[u8], seed: u32, slots: u32) -> u32
-    requires { 0 < slots }
-    ensures { result ≡ hash seed name.now % slots }
-{
-    hash_of(seed, name) % slots
-}
-
 /// Takes away the marks at the slots to which the seed sends the names.
 fn unmark(names: &[&[u8]], seed: u32, slots: u32, taken: &mut [bool])
     requires some { 0 < slots }
@@ -25,7 +17,8 @@ fn unmark(names: &[&[u8]], seed: u32, slots: u32, taken: &mut [bool])
         else slice_index_or taken.old slot false) }
 {
     for name in names {
-        taken[slot_with(name, seed, slots) as usize] = false;
+        let hash = hash_of(seed, name);
+        taken[(hash % slots) as usize] = false;
     }
 }
 
@@ -41,7 +34,8 @@ pub fn mark(names: &[&[u8]], seed: u32, slots: u32, taken: &mut [bool]) -> bool
         else before) }
 {
     for at in 0..names.len() {
-        let slot = slot_with(names[at], seed, slots) as usize;
+        let hash = hash_of(seed, names[at]);
+        let slot = (hash % slots) as usize;
         if taken[slot] {
             unmark(&names[..at], seed, slots, taken);
             return false;

@@ -3,7 +3,6 @@ ghost use Rattle.std.specs.Prelude.{◌≡◌, ◌<◌, ◌^◌, length, map, If
 ghost use Rattle.std.specs.List.{range_with_len};
 ghost use Rattle.jm_redirect.specs.Turns.{size_of, turns_of, turn_cmp};
 
-use crate::lists::zeros;
 use jm_bytes::{List, NoMemory};
 use std::alloc::Global;
 
@@ -26,7 +25,7 @@ fn bucket_sizes(alloc: Global, hashes: &[u32], slots: u32) -> Result<Vec<u32>, N
     ensures { IfOk result (λ sizes.
         sizes.items ≡ map (size_of hashes.now slots) (range_with_len 0 slots)) }
 {
-    let mut sizes = zeros(alloc, slots as usize)?;
+    let mut sizes = vec![in alloc; 0u32; slots as usize]?;
     for hash in hashes {
         sizes[(*hash % slots) as usize] += 1;
     }

@@ -8,6 +8,8 @@ use Rattle.std.proofs.lemmas.List.Elements.{All-contains, All-map}
 use Rattle.std.proofs.lemmas.Option.{get_or_from_slice_get, slice_get_within}
 use Rattle.std.specs.List.{list_any}
 use Rattle.std.specs.Prelude.{nat_lt}
+use Rattle.jm_bytes.specs.Results.{IfAnswered}
+use Rattle.jm_bytes.specs.declared.faults.Or.{Or}
 use Rattle.jm_bytes.proofs.Members.{all_from_contains, contains_map}
 use Rattle.jm_bytes.proofs.Pairs.{pairs_map}
 use Rattle.jm_closure.specs.declared.candidate.Candidate.{Candidate}
@@ -17,7 +19,7 @@ use Rattle.jm_names.specs.Names.{is_slash}
 use Rattle.jm_names.specs.ByName.{RisesByName}
 use Rattle.jm_bytes.specs.ByteOrder.{is_before}
 use Rattle.jm_bytes.proofs.ByteOrderLaws.{before_other}
-use Rattle.jm_relink.specs.declared.error.RelinkError.{RelinkError}
+use Rattle.jm_relink.specs.declared.fault.RelinkFault.{RelinkFault}
 use Rattle.jm_relink.specs.declared.modules.ImageFile.{ImageFile}
 use Rattle.jm_relink.specs.declared.modules.ImageModules.{ImageModules}
 use Rattle.jm_relink.specs.Files.{file_as, files_as, resources_of}
@@ -99,6 +101,7 @@ module _ (b : List ℕ) (modules : ImageModules) (seen : List SeenModule) (visib
   pub image_modules : AreModules modules
   image_modules = record { long = as_long; differ = image_names_differ; whole = all_whole; apart = all_apart }
 
-pub found_are : (b : List ℕ) (answer : Result ImageModules RelinkError) → FindsModules b answer → IfOk answer AreModules
+pub found_are : (b : List ℕ) (answer : Result ImageModules (Or RelinkFault)) → IfAnswered (FindsModules b) answer
+    → IfOk answer AreModules
 found_are b (Ok found) (seen, shows, holds) = image_modules b found seen (visible_in b seen shows) holds
 found_are b (Err e) finds = tt

@@ -1,13 +1,16 @@
 -- The resources of chosen modules, one file after another and one module after another.
 use Rattle.std.proofs.Common.{◌≡◌, ◌≢◌, ℕ, zero, suc, ◌+◌, ◌<◌, false, List, [], ◌∷◌, ◌++◌, take, drop}
 use Rattle.std.proofs.Common.{length, map, get_or, All, AllPairs, Contains, Option, Some, None, option_map}
-use Rattle.std.proofs.Common.{slice_get, Err, refl, sym, ap, subst, ◌∙◌, append_assoc, arith}
+use Rattle.std.proofs.Common.{slice_get, Result, Err, refl, sym, ap, subst, ◌∙◌, append_assoc, arith}
 use Rattle.std.proofs.lemmas.Grind.{flat_map-append}
 use Rattle.std.proofs.lemmas.List.{drop_more, map-append, take-append-drop, take_more}
 use Rattle.std.proofs.lemmas.List.Elements.{All-contains, All-head, All-tail, filter_map-append}
 use Rattle.std.proofs.lemmas.Option.{slice_get-get_or, slice_get-map}
 use Rattle.std.specs.List.{cons_option, filter_map, flat_map, list_any, zip}
 use Rattle.jm_bytes.specs.Checks.{first_fault}
+use Rattle.jm_bytes.specs.Results.{IfAnswered}
+use Rattle.jm_bytes.specs.declared.faults.Or.{Or}
+use Rattle.jm_bytes.specs.declared.faults.Or.TheVariants.{Fault, Memory}
 use Rattle.jm_bytes.proofs.CheckLaws.{first_fault_append_none, first_fault_append_some}
 use Rattle.jm_bytes.proofs.Choice.{same_some}
 use Rattle.jm_bytes.proofs.Members.{all_from_contains, from_filter_map, from_map}
@@ -16,18 +19,23 @@ use Rattle.jm_bytes.proofs.SameOrder.{from_flat_map}
 use Rattle.jm_closure.specs.declared.candidate.Candidate.{Candidate}
 use Rattle.jm_names.specs.Names.{is_slash}
 use Rattle.jm_pool.specs.Pairs.{bytes_of, names_of}
-use Rattle.jm_relink.specs.declared.error.GatherError.{GatherError}
-use Rattle.jm_relink.specs.declared.error.GatherError.TheVariants as error
+use Rattle.jm_relink.specs.declared.fault.GatherFault.{GatherFault}
 use Rattle.jm_relink.specs.declared.modules.ImageFile.{ImageFile}
 use Rattle.jm_relink.specs.declared.modules.ImageModules.{ImageModules}
 use Rattle.jm_relink.specs.Files.{file_as, file_name, files_as}
 use Rattle.jm_names.specs.ByName.{Named}
-use Rattle.jm_relink.specs.Gathering.{AreModules, ArePlaces, Gathers, GathersAll, first_bad_name, gathered}
+use Rattle.jm_relink.specs.Gathering.{AreModules, ArePlaces, first_bad_name, gathered}
 use Rattle.jm_relink.specs.Gathering.{name_refusal, named_files, resource_of, resources_with}
 use Rattle.jm_bytes.proofs.Choice.{mapped_some}
 use Rattle.jm_bytes.proofs.ByteOrderLaws.{unequal}
 use Rattle.jm_relink.proofs.ListLaws.{append_none, pairs_front, pairs_left}
 use Rattle.jm_relink.proofs.NameLaws.{names_tell}
+
+-- what is due of another answer with the same refusal
+pub refused_as : {A B F : Type 0} (P : Result A F → Type 0) (Q : Result B F → Type 0) (e : Or F)
+    → ((fault : F) → P (Err fault) → Q (Err fault)) → IfAnswered P (Err e) → IfAnswered Q (Err e)
+refused_as P Q (Fault fault) to due = to fault due
+refused_as P Q Memory to due = tt
 
 -- Names that are new
 
@@ -62,7 +70,7 @@ bad_append_none : (rs qs : List Named) → first_bad_name rs ≡ None → first_
 bad_append_none rs qs none = ap first_fault (map-append name_refusal rs qs) ∙ first_fault_append_none (map name_refusal rs)
     (map name_refusal qs) none
 
-bad_append_some : (rs qs : List Named) (e : GatherError) → first_bad_name rs ≡ Some e → first_bad_name (rs ++ qs) ≡ Some e
+bad_append_some : (rs qs : List Named) (e : GatherFault) → first_bad_name rs ≡ Some e → first_bad_name (rs ++ qs) ≡ Some e
 bad_append_some rs qs e some = ap first_fault (map-append name_refusal rs qs) ∙ first_fault_append_some (map name_refusal rs)
     (map name_refusal qs) e some
 
@@ -85,18 +93,16 @@ name_is_new m fs i f old pool below is differ so_far =
     (subst (AllPairs (λ (a b : List ℕ). a ≢ b)) names differ))
 
 -- the refusal of a part, where nothing in front of it is refused, is that of the whole
-pub refused_further : (rs front part back : List Named) (e : GatherError) (old new older newer : List Named) → rs
-    ≡ front ++ (part ++ back) → first_bad_name front ≡ None → Gathers part (Err e) old new → Gathers rs (Err e) older newer
-refused_further rs front part back (error.BadName name fault) old new older newer is none given =
-    ap first_bad_name is ∙ bad_append_none front (part ++ back) none ∙ bad_append_some part back (error.BadName name fault) given
-refused_further rs front part back error.Memory old new older newer is none given = tt
+pub refused_further : (rs front part back : List Named) (e : GatherFault) → rs ≡ front ++ (part ++ back)
+    → first_bad_name front ≡ None → first_bad_name part ≡ Some e → first_bad_name rs ≡ Some e
+refused_further rs front part back e is none given =
+    ap first_bad_name is ∙ bad_append_none front (part ++ back) none ∙ bad_append_some part back e given
 
-pub file_refused : (m : List ℕ) (fs : List ImageFile) (i : ℕ) (f : ImageFile) (e : GatherError) (old new older newer : List Named)
-    → i < length fs → f ≡ get_or fs i f → first_bad_name (all_with m (take i fs)) ≡ None → Gathers (resource_of m (file_as f) ∷ [])
-    (Err e) old new → Gathers (all_with m fs) (Err e) older newer
-file_refused m fs i f e old new older newer below is none given =
-    refused_further (all_with m fs) (all_with m (take i fs)) (resource_of m (file_as f) ∷ []) (all_with m (drop (i + 1) fs)) e old
-    new older newer
+pub file_refused : (m : List ℕ) (fs : List ImageFile) (i : ℕ) (f : ImageFile) (e : GatherFault)
+    → i < length fs → f ≡ get_or fs i f → first_bad_name (all_with m (take i fs)) ≡ None
+    → first_bad_name (resource_of m (file_as f) ∷ []) ≡ Some e → first_bad_name (all_with m fs) ≡ Some e
+file_refused m fs i f e below is none given =
+    refused_further (all_with m fs) (all_with m (take i fs)) (resource_of m (file_as f) ∷ []) (all_with m (drop (i + 1) fs)) e
     (resources_parted m fs i f below is) none given
 
 -- the next file was put
@@ -305,11 +311,9 @@ module_put modules places i rs pool new next are sound put = record {
   put = put ∙ ap (λ qs. qs ++ rs) are.put ∙ sym next.more;
 }
 
-pub module_refused : (modules : ImageModules) (places : List ℕ) (i : ℕ) (rs : List Named) (pool new : List Named) (e : GatherError)
-    → IsNext modules places i rs → AreGathered modules places i pool → Gathers (rs) (Err e) pool new
-    → GathersAll (gathered modules places) (Err e)
-module_refused modules places i rs pool new (error.BadName name fault) next are given =
-    ap first_bad_name next.whole ∙ bad_append_none (gathered modules (take i places)) (rs ++ gathered modules (drop (i + 1) places))
-    are.sound
-    ∙ bad_append_some (rs) (gathered modules (drop (i + 1) places)) (error.BadName name fault) given
-module_refused modules places i rs pool new error.Memory next are given = tt
+pub module_refused : (modules : ImageModules) (places : List ℕ) (i : ℕ) (rs pool : List Named) (e : GatherFault)
+    → IsNext modules places i rs → AreGathered modules places i pool → first_bad_name rs ≡ Some e
+    → first_bad_name (gathered modules places) ≡ Some e
+module_refused modules places i rs pool e next are given =
+    refused_further (gathered modules places) (gathered modules (take i places)) rs (gathered modules (drop (i + 1) places)) e
+    next.whole are.sound given

@@ -3,7 +3,7 @@ use Rattle.std.proofs.Common.{◌≡◌, ℕ, ◌<◌, ◌+◌, Bool, true, fals
 use Rattle.std.proofs.Common.{get_or, Some, option_map, refl, sym, ap, ◌∙◌}
 use Rattle.std.proofs.lemmas.List.{drop_more}
 use Rattle.std.specs.Str.{bytes_eq}
-use Rattle.jm_modpath.specs.Modules.{info_name}
+use Rattle.jm_form.specs.ModuleFiles.{info_name}
 use Rattle.jm_relink.specs.declared.modules.ImageFile.{ImageFile}
 use Rattle.jm_relink.specs.Files.{file_as, files_as}
 use Rattle.jm_names.specs.ByName.{Named}

@@ -5,16 +5,17 @@ use Rattle.std.proofs.Common.{subst, ◌∙◌}
 use Rattle.std.proofs.lemmas.Slice.Eq.{bytes_eq-Decides}
 use Rattle.std.specs.List.{cons_option, filter_map}
 use Rattle.std.specs.Str.{bytes_eq}
+use Rattle.jm_bytes.specs.Results.{followed}
 use Rattle.jm_bytes.proofs.Choice.{same_err, same_ok}
 use Rattle.jm_bytes.proofs.Members.{contains_cases, contains_none}
 use Rattle.jm_modinfo.specs.declared.descriptor.Descriptor.{Descriptor}
 use Rattle.jm_modinfo.specs.declared.faults.DescriptorFault.{DescriptorFault}
-use Rattle.jm_modpath.specs.Modules.{info_in}
-use Rattle.jm_relink.specs.declared.error.RelinkError.{RelinkError}
-use Rattle.jm_relink.specs.declared.error.RelinkError.TheVariants as error
+use Rattle.jm_modinfo.specs.Descriptions.{info_in}
+use Rattle.jm_relink.specs.declared.fault.RelinkFault.{RelinkFault}
+use Rattle.jm_relink.specs.declared.fault.RelinkFault.TheVariants as fault_of
 use Rattle.jm_relink.specs.Files.{info_entry}
 use Rattle.jm_relink.specs.Groups.{Group}
-use Rattle.jm_relink.specs.Judging.{descriptor_due, entry_due, followed, group_due, groups_due, seen_with}
+use Rattle.jm_relink.specs.Judging.{descriptor_due, entry_due, group_due, groups_due, seen_with}
 use Rattle.jm_relink.specs.Modules.{SeenModule, info_refusal}
 use Rattle.jm_relink.proofs.ListLaws.{append_none, put_alone}
 
@@ -30,26 +31,26 @@ own : (m : List ℕ) (said : Result Descriptor DescriptorFault) (d : Descriptor)
 own m (Err fault) d h = cc
 own m (Ok e) d h = go (bytes_eq e.name m) refl h
   where
-    go : (b : Bool) → bytes_eq e.name m ≡ b → cond b (Ok e) (Err (error.Foreign (info_entry m))) ≡ Ok d → IsOwn m (Ok e) d
+    go : (b : Bool) → bytes_eq e.name m ≡ b → cond b (Ok e) (Err (fault_of.Foreign (info_entry m))) ≡ Ok d → IsOwn m (Ok e) d
     go false is k = cc
     go true is k =
-        let one : e ≡ d = same_ok {E = RelinkError} e d k in
+        let one : e ≡ d = same_ok {E = RelinkFault} e d k in
         record {
           says = ap (λ x. Ok x) one;
           name = subst (λ (x : Descriptor). x.name ≡ m) one ((bytes_eq-Decides e.name m).0 is);
-          free = ap (λ c. cond c None (Some (error.Foreign (info_entry m)))) is;
+          free = ap (λ c. cond c None (Some (fault_of.Foreign (info_entry m)))) is;
         }
 
-not_own : (m : List ℕ) (said : Result Descriptor DescriptorFault) (e : RelinkError) → descriptor_due m said ≡ Err e
+not_own : (m : List ℕ) (said : Result Descriptor DescriptorFault) (e : RelinkFault) → descriptor_due m said ≡ Err e
     → info_refusal m said ≡ Some e
-not_own m (Err fault) e h = ap (λ x. Some x) (same_err {A = Descriptor} (error.BadInfo (info_entry m) fault) e h)
+not_own m (Err fault) e h = ap (λ x. Some x) (same_err {A = Descriptor} (fault_of.BadInfo (info_entry m) fault) e h)
 not_own m (Ok d) e h = go (bytes_eq d.name m) refl h
   where
-    go : (b : Bool) → bytes_eq d.name m ≡ b → cond b (Ok d) (Err (error.Foreign (info_entry m))) ≡ Err e → info_refusal m (Ok d) ≡ Some e
+    go : (b : Bool) → bytes_eq d.name m ≡ b → cond b (Ok d) (Err (fault_of.Foreign (info_entry m))) ≡ Err e → info_refusal m (Ok d) ≡ Some e
     go true is k = cc
     go false is k =
-        ap (λ c. cond c None (Some (error.Foreign (info_entry m)))) is
-        ∙ ap (λ x. Some x) (same_err {A = Descriptor} (error.Foreign (info_entry m)) e k)
+        ap (λ c. cond c None (Some (fault_of.Foreign (info_entry m)))) is
+        ∙ ap (λ x. Some x) (same_err {A = Descriptor} (fault_of.Foreign (info_entry m)) e k)
 
 -- a module that isn't refused
 pub record IsJudged (g : Group) (content : List ℕ) (o : Option SeenModule) : Type 0 where
@@ -60,20 +61,20 @@ pub record IsJudged (g : Group) (content : List ℕ) (o : Option SeenModule) : T
 pub entry_ok : (g : Group) (content : List ℕ) (o : Option SeenModule) → entry_due g (Some content) ≡ Ok o → IsJudged g content o
 entry_ok g content o h = go (descriptor_due g.0 (info_in content)) refl h
   where
-    go : (r : Result Descriptor RelinkError) → descriptor_due g.0 (info_in content) ≡ r
+    go : (r : Result Descriptor RelinkFault) → descriptor_due g.0 (info_in content) ≡ r
         → followed (followed r (λ d. Ok (seen_with g.1 d))) (λ s. Ok (Some s)) ≡ Ok o → IsJudged g content o
     go (Err e) is k = cc
     go (Ok d) is k = record {
       descriptor = d;
       own = own g.0 (info_in content) d is;
-      is = sym (same_ok {E = RelinkError} (Some (seen_with g.1 d)) o k);
+      is = sym (same_ok {E = RelinkFault} (Some (seen_with g.1 d)) o k);
     }
 
-pub entry_err : (g : Group) (content : List ℕ) (e : RelinkError) → entry_due g (Some content) ≡ Err e
+pub entry_err : (g : Group) (content : List ℕ) (e : RelinkFault) → entry_due g (Some content) ≡ Err e
     → info_refusal g.0 (info_in content) ≡ Some e
 entry_err g content e h = go (descriptor_due g.0 (info_in content)) refl h
   where
-    go : (r : Result Descriptor RelinkError) → descriptor_due g.0 (info_in content) ≡ r
+    go : (r : Result Descriptor RelinkFault) → descriptor_due g.0 (info_in content) ≡ r
         → followed (followed r (λ d. Ok (seen_with g.1 d))) (λ s. Ok (Some s)) ≡ Err e → info_refusal g.0 (info_in content) ≡ Some e
     go (Ok d) is k = cc
     go (Err other) is k = not_own g.0 (info_in content) e (is ∙ ap (λ x. Err x) (same_err {A = Option SeenModule} other e k))
@@ -81,7 +82,7 @@ entry_err g content e h = go (descriptor_due g.0 (info_in content)) refl h
 -- One module after another
 
 -- the module of a group, if it isn't refused
-abbrev pub value : Result (Option SeenModule) RelinkError → Option SeenModule
+abbrev pub value : Result (Option SeenModule) RelinkFault → Option SeenModule
 value (Ok o) = o
 value (Err e) = None
 
@@ -94,10 +95,10 @@ IsFree g = (o : Option SeenModule) × (group_due g ≡ Ok o)
 
 pub groups_ok : (seen : List SeenModule) (gs : List Group) (r : List SeenModule) → groups_due seen gs ≡ Ok r
     → (r ≡ seen ++ filter_map seen_of gs) × ((g : Group) → Contains gs g → IsFree g)
-groups_ok seen [] r h = (sym (same_ok {E = RelinkError} seen r h) ∙ sym (append_none seen), λ g there. absurd (contains_none g there))
+groups_ok seen [] r h = (sym (same_ok {E = RelinkFault} seen r h) ∙ sym (append_none seen), λ g there. absurd (contains_none g there))
 groups_ok seen (g ∷ gs) r h = go (group_due g) refl h (λ more k. groups_ok more gs r k)
   where
-    go : (due : Result (Option SeenModule) RelinkError) → group_due g ≡ due
+    go : (due : Result (Option SeenModule) RelinkFault) → group_due g ≡ due
         → followed due (λ o. groups_due (seen ++ option_to_list o) gs) ≡ Ok r
         → ((more : List SeenModule) → groups_due more gs ≡ Ok r → (r ≡ more ++ filter_map seen_of gs) × ((k : Group) → Contains gs k
         → IsFree k))
@@ -115,7 +116,7 @@ groups_ok seen (g ∷ gs) r h = go (group_due g) refl h (λ more k. groups_ok mo
         )
 
 -- the first group that is refused
-pub record IsFirstRefused (gs : List Group) (e : RelinkError) : Type 0 where
+pub record IsFirstRefused (gs : List Group) (e : RelinkFault) : Type 0 where
   pub front : List Group
   pub group : Group
   pub back : List Group
@@ -123,11 +124,11 @@ pub record IsFirstRefused (gs : List Group) (e : RelinkError) : Type 0 where
   pub refused : group_due group ≡ Err e
   pub free : (g : Group) → Contains front g → IsFree g
 
-pub groups_err : (seen : List SeenModule) (gs : List Group) (e : RelinkError) → groups_due seen gs ≡ Err e → IsFirstRefused gs e
+pub groups_err : (seen : List SeenModule) (gs : List Group) (e : RelinkFault) → groups_due seen gs ≡ Err e → IsFirstRefused gs e
 groups_err seen [] e h = cc
 groups_err seen (g ∷ gs) e h = go (group_due g) refl h (λ more k. groups_err more gs e k)
   where
-    go : (due : Result (Option SeenModule) RelinkError) → group_due g ≡ due
+    go : (due : Result (Option SeenModule) RelinkFault) → group_due g ≡ due
         → followed due (λ o. groups_due (seen ++ option_to_list o) gs) ≡ Err e
         → ((more : List SeenModule) → groups_due more gs ≡ Err e → IsFirstRefused gs e) → IsFirstRefused (g ∷ gs) e
     go (Err other) is k rest = record {

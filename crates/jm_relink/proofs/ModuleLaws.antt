@@ -19,12 +19,15 @@ use Rattle.jm_form.specs.declared.container.Header.{Header}
 use Rattle.jm_form.specs.declared.container.HeaderFault.{HeaderFault}
 use Rattle.jm_modinfo.specs.declared.descriptor.Descriptor.{Descriptor}
 use Rattle.jm_bytes.specs.ByteOrder.{is_before}
-use Rattle.jm_modpath.specs.Modules.{info_in, info_name}
+use Rattle.jm_bytes.specs.Results.{IfAnswered}
+use Rattle.jm_bytes.specs.declared.faults.Or.{Or}
+use Rattle.jm_bytes.specs.declared.faults.Or.TheVariants.{Fault, Memory}
+use Rattle.jm_modinfo.specs.Descriptions.{info_in}
+use Rattle.jm_form.specs.ModuleFiles.{info_name}
 use Rattle.jm_names.specs.Names.{is_node, is_slash}
 use Rattle.jm_reader.specs.Walk.{entries_with}
 use Rattle.jm_bytes.proofs.SameOrder.{mapped_twice}
-use Rattle.jm_relink.specs.declared.error.RelinkError.{RelinkError}
-use Rattle.jm_relink.specs.declared.error.RelinkError.TheVariants as error
+use Rattle.jm_relink.specs.declared.fault.RelinkFault.{RelinkFault}
 use Rattle.jm_relink.specs.declared.judging.SeenModule as handed
 use Rattle.jm_relink.specs.declared.modules.ImageModules.{ImageModules}
 use Rattle.jm_relink.specs.Files.{Filed, NeverFalls, file_name, files_as, info_entry, located, module_and_path, resources_of}
@@ -189,7 +192,7 @@ seen_from rs fs g s are there due = go (info_content g.1) refl due
 
 value_some : (g : Group) (s : SeenModule) → IsFree g → seen_of g ≡ Some s → group_due g ≡ Ok (Some s)
 value_some g s free is =
-    let one : free.0 ≡ Some s = sym (ap (λ (r : Result (Option SeenModule) RelinkError). value r) free.1) ∙ is in
+    let one : free.0 ≡ Some s = sym (ap (λ (r : Result (Option SeenModule) RelinkFault). value r) free.1) ∙ is in
     free.1 ∙ ap (λ o. Ok o) one
 
 -- a module whose entry is there is judged by it
@@ -259,7 +262,7 @@ in_front_of front g back h rising there lesser =
           ]
     ]
 
-refused_at : (rs : List Named) (fs : List Filed) (e : RelinkError) → AreSorted rs fs → IsFirstRefused (groups fs) e → IsRefusedIn rs e
+refused_at : (rs : List Named) (fs : List Filed) (e : RelinkFault) → AreSorted rs fs → IsFirstRefused (groups fs) e → IsRefusedIn rs e
 refused_at rs fs e are refused = go (info_content refused.group.1) refl refused.refused
   where
     go : (o : Option (List ℕ)) → info_content refused.group.1 ≡ o → entry_due refused.group o ≡ Err e → IsRefusedIn rs e
@@ -281,7 +284,7 @@ refused_at rs fs e are refused = go (info_content refused.group.1) refl refused.
           subst (λ n. info_refusal n (info_in other) ≡ None) has.name free.4;
     }
 
-pub refused_from : (rs : List Named) (fs : List Filed) (e : RelinkError) → AreSorted rs fs → groups_due [] (groups fs) ≡ Err e
+pub refused_from : (rs : List Named) (fs : List Filed) (e : RelinkFault) → AreSorted rs fs → groups_due [] (groups fs) ≡ Err e
     → IsRefusedIn rs e
 refused_from rs fs e are due = refused_at rs fs e are (groups_err [] (groups fs) e due)
 
@@ -306,10 +309,9 @@ pub come_from : (fs : List Filed) (gs : List Group) (seen : List handed.SeenModu
 come_from fs gs seen found is due candidates files =
     (map seen_as seen, ap (groups_due []) (sym is) ∙ due, held found seen candidates files)
 
-pub found_modules : (b : List ℕ) (fs : List Filed) (answer : Result ImageModules RelinkError) → AreSorted (resources_of b) fs
-    → ComesFrom fs answer → FindsModules b answer
+pub found_modules : (b : List ℕ) (fs : List Filed) (answer : Result ImageModules (Or RelinkFault))
+    → AreSorted (resources_of b) fs → IfAnswered (ComesFrom fs) answer → IfAnswered (FindsModules b) answer
 unfolding ModulesOf
 found_modules b fs (Ok found) are come = (come.0, visible_from (resources_of b) fs come.0 are come.1, come.2)
-found_modules b fs (Err (error.BadInfo name fault)) are come = refused_from (resources_of b) fs (error.BadInfo name fault) are come
-found_modules b fs (Err (error.Foreign name)) are come = refused_from (resources_of b) fs (error.Foreign name) are come
-found_modules b fs (Err error.Memory) are come = tt
+found_modules b fs (Err (Fault fault)) are come = refused_from (resources_of b) fs fault are come
+found_modules b fs (Err Memory) are come = tt

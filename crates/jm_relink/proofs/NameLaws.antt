@@ -7,7 +7,7 @@ use Rattle.std.specs.List.{after_first, before_first, list_any, position_or_len}
 use Rattle.jm_bytes.proofs.Choice.{chosen, same_first, same_second}
 use Rattle.jm_bytes.proofs.Cuts.{first_parts}
 use Rattle.jm_form.specs.Trees.{path_of}
-use Rattle.jm_modpath.proofs.TextCuts.{any_behind, drop_front}
+use Rattle.jm_form.proofs.ListLaws.{any_behind, drop_front}
 use Rattle.jm_names.specs.Names.{is_slash}
 use Rattle.jm_relink.specs.Files.{file_name, module_and_path}
 

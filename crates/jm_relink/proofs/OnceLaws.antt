@@ -9,9 +9,9 @@ use Rattle.jm_form.specs.Trees.{class_packages}
 use Rattle.jm_modinfo.specs.declared.descriptor.Descriptor.{Descriptor}
 use Rattle.jm_modinfo.specs.declared.faults.DescriptorFault.{DescriptorFault}
 use Rattle.jm_bytes.specs.ByteOrder.{is_before}
-use Rattle.jm_modpath.specs.Modules.{info_in}
-use Rattle.jm_relink.specs.declared.error.RelinkError.{RelinkError}
-use Rattle.jm_relink.specs.declared.error.RelinkError.TheVariants as error
+use Rattle.jm_modinfo.specs.Descriptions.{info_in}
+use Rattle.jm_relink.specs.declared.fault.RelinkFault.{RelinkFault}
+use Rattle.jm_relink.specs.declared.fault.RelinkFault.TheVariants as fault_of
 use Rattle.jm_relink.specs.Files.{file_name, info_entry, resources_of}
 use Rattle.jm_names.specs.ByName.{Named}
 use Rattle.jm_relink.specs.Modules.{AreFilesOf, HasInfo, IsRefusedIn, IsSeenIn, IsVisibleIn, ModulesOf, SeenModule, info_refusal, name_of}
@@ -70,7 +70,7 @@ some_none : {X : Type 0} (x : X) (o : Option X) → o ≡ Some x → o ≡ None 
 some_none x (Some y) one other = cc
 some_none x None one other = cc
 
-refused_once : (rs : List Named) (e f : RelinkError) → Differ rs → IsRefusedIn rs e → IsRefusedIn rs f → e ≡ f
+refused_once : (rs : List Named) (e f : RelinkFault) → Differ rs → IsRefusedIn rs e → IsRefusedIn rs f → e ≡ f
 refused_once rs e f differ one other =
     elim (stand one.module other.module) [
       | stands_before h ↦ absurd (some_none e (info_refusal one.module (info_in one.content)) one.refused
@@ -83,20 +83,20 @@ refused_once rs e f differ one other =
           (one.first other.module other.content other.info h))
     ]
 
-visible_free : (rs : List Named) (seen : List SeenModule) (e : RelinkError) → Differ rs → IsVisibleIn rs seen → IsRefusedIn rs e → ⊥
+visible_free : (rs : List Named) (seen : List SeenModule) (e : RelinkFault) → Differ rs → IsVisibleIn rs seen → IsRefusedIn rs e → ⊥
 visible_free rs seen e differ visible refused =
     let from = from_map name_of seen refused.module (visible.all refused.module refused.content refused.info) in
     let s = from.0 in
     let is = All-contains (IsSeenIn rs) seen s visible.each from.1 in
     let contents = info_once rs (name_of s) refused.module is.content refused.content differ is.info refused.info from.2 in
     let free : info_refusal refused.module (Ok s.candidate.descriptor) ≡ None =
-    ap (λ c. cond c None (Some (error.Foreign (info_entry refused.module)))) ((bytes_eq-Decides (name_of s) refused.module).1 from.2)
+    ap (λ c. cond c None (Some (fault_of.Foreign (info_entry refused.module)))) ((bytes_eq-Decides (name_of s) refused.module).1 from.2)
     in
     some_none e (info_refusal refused.module (info_in refused.content)) refused.refused
     (ap (info_refusal refused.module) (ap info_in (sym contents) ∙ is.says) ∙ free)
 
 -- an image has one list of modules, or one first refusal
-pub modules_once : (b : List ℕ) (one other : Result (List SeenModule) RelinkError) → ModulesOf b one → ModulesOf b other → one ≡ other
+pub modules_once : (b : List ℕ) (one other : Result (List SeenModule) RelinkFault) → ModulesOf b one → ModulesOf b other → one ≡ other
 unfolding ModulesOf
 modules_once b (Ok seen) (Ok others) is too = ap (λ xs. Ok xs) (visible_once (resources_of b) seen others (resources_differ b) is too)
 modules_once b (Ok seen) (Err f) is too = absurd (visible_free (resources_of b) seen f (resources_differ b) is too)

@@ -8,10 +8,9 @@ use Rattle.jm_modinfo.specs.declared.faults.DescriptorFault.TheVariants as fault
 use Rattle.jm_modinfo.specs.Written.{info_text}
 use Rattle.jm_names.specs.declared.check.NameFault.TheVariants.{Dots}
 use Rattle.jm_names.specs.ByName.{Named}
-use Rattle.jm_relink.specs.declared.error.GatherError.TheVariants as gather
-use Rattle.jm_relink.specs.declared.error.RelinkError.TheVariants as error
+use Rattle.jm_relink.specs.declared.fault.RelinkFault.TheVariants as fault_of
 use Rattle.jm_relink.specs.Files.{Filed, located, resources_of}
-use Rattle.jm_relink.specs.Gathering.{first_bad_name, resources_with}
+use Rattle.jm_relink.specs.Gathering.{bad_name, first_bad_name, resources_with}
 use Rattle.jm_relink.specs.Groups.{groups}
 use Rattle.jm_relink.specs.Judging.{groups_due, mapped}
 use Rattle.jm_relink.specs.Modules.{SeenModule, name_of}
@@ -67,14 +66,14 @@ foreign_first :
     groups_due []
     (groups
     (info (codes "a") (codes "b") ∷ filed (codes "b") (codes "module-info.class") [] ∷ []))
-    ≡ Err (error.Foreign (codes "/a/module-info.class"))
+    ≡ Err (fault_of.Foreign (codes "/a/module-info.class"))
 foreign_first = refl
 
 no_class :
     groups_due []
     (groups
     (filed (codes "a") (codes "module-info.class") [] ∷ info (codes "b") (codes "a") ∷ []))
-    ≡ Err (error.BadInfo (codes "/a/module-info.class") (fault.Class (class.Short 0)))
+    ≡ Err (fault_of.BadInfo (codes "/a/module-info.class") (fault.Class (class.Short 0)))
 no_class = refl
 
 -- What is gathered
@@ -87,5 +86,5 @@ as_resources :
     ≡ named (codes "/m/module-info.class") (codes "I") ∷ named (codes "/m/p/../q") (codes "Q") ∷ []
 as_resources = refl
 
-unfit : first_bad_name (resources_with (codes "m") paths) ≡ Some (gather.BadName (codes "/m/p/../q") Dots)
+unfit : first_bad_name (resources_with (codes "m") paths) ≡ Some (bad_name (codes "/m/p/../q") Dots)
 unfit = refl

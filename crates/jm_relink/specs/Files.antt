@@ -8,7 +8,7 @@ use Rattle.std.specs.Ordering.{is_lt, nat_cmp, ordering_then}
 use Rattle.std.specs.declared.cmp.Ordering.{Ordering}
 use Rattle.jm_form.specs.Validity.{resources}
 use Rattle.jm_names.specs.ByName.{Named}
-use Rattle.jm_modpath.specs.Modules.{info_name}
+use Rattle.jm_form.specs.ModuleFiles.{info_name}
 use Rattle.jm_names.specs.Names.{is_node, is_slash}
 use Rattle.jm_reader.specs.Walk.{entries_of}
 use Rattle.jm_relink.specs.declared.located.Located.{Located}

@@ -6,8 +6,8 @@ use Rattle.jm_bytes.specs.Checks.{first_fault}
 use Rattle.jm_closure.specs.Names.{NamesDiffer}
 use Rattle.jm_names.specs.ComputedFault.{name_fault}
 use Rattle.jm_names.specs.Names.{is_slash}
-use Rattle.jm_relink.specs.declared.error.GatherError.{GatherError}
-use Rattle.jm_relink.specs.declared.error.GatherError.TheVariants as error
+use Rattle.jm_names.specs.declared.check.NameFault.{NameFault}
+use Rattle.jm_relink.specs.declared.fault.GatherFault.{GatherFault}
 use Rattle.jm_relink.specs.declared.modules.ImageModules.{ImageModules}
 use Rattle.jm_relink.specs.Files.{file_name, files_as}
 use Rattle.jm_names.specs.ByName.{Named}
@@ -47,26 +47,26 @@ abbrev pub gathered : ImageModules → List ℕ → List Named
 gathered modules places =
     flat_map (λ m. resources_with m.0 m.1) (filter_map (slice_get (named_files modules)) places)
 
--- the refusal of a name that may not stand in an image, with its fault
-abbrev pub name_refusal : Named → Option GatherError
-name_refusal r = option_map (λ fault. error.BadName r.0 fault) (name_fault r.0)
+-- the fault of a resource of this name
+abbrev pub bad_name : List ℕ → NameFault → GatherFault
+bad_name name fault = record { name = name; fault = fault }
 
--- the refusal of the first name that may not stand in an image, or none
-abbrev pub first_bad_name : List Named → Option GatherError
+-- the fault of a name that may not stand in an image
+abbrev pub name_refusal : Named → Option GatherFault
+name_refusal r = option_map (bad_name r.0) (name_fault r.0)
+
+-- the fault of the first name that may not stand in an image, or none
+abbrev pub first_bad_name : List Named → Option GatherFault
 first_bad_name rs = first_fault (map name_refusal rs)
 
--- by the answer: all of the resources stand behind those that were there, or the first name that
--- may not stand in an image; no memory
-abbrev pub Gathers : List Named → Result Unit GatherError → (old new : List Named) → Type 0
-Gathers rs (Ok done) old new = (first_bad_name rs ≡ None) × (new ≡ old ++ rs)
-Gathers rs (Err (error.BadName name fault)) old new =
-    first_bad_name rs ≡ Some (error.BadName name fault)
-Gathers rs (Err error.Memory) old new = Unit {0}
+-- by the answer: all of the resources stand behind those that were there, or the fault of the first
+-- name that may not stand in an image
+abbrev pub Gathers : List Named → (old new : List Named) → Result Unit GatherFault → Type 0
+Gathers rs old new (Ok done) = (first_bad_name rs ≡ None) × (new ≡ old ++ rs)
+Gathers rs old new (Err fault) = first_bad_name rs ≡ Some fault
 
--- the pool of exactly these resources, or the refusal of the first name that may not stand in an
--- image, or no memory
-abbrev pub GathersAll : List Named → Result (List Named) GatherError → Type 0
+-- the pool of exactly these resources, or the fault of the first name that may not stand in an
+-- image
+abbrev pub GathersAll : List Named → Result (List Named) GatherFault → Type 0
 GathersAll rs (Ok pool) = (first_bad_name rs ≡ None) × (pool ≡ rs)
-GathersAll rs (Err (error.BadName name fault)) =
-    first_bad_name rs ≡ Some (error.BadName name fault)
-GathersAll rs (Err error.Memory) = Unit {0}
+GathersAll rs (Err fault) = first_bad_name rs ≡ Some fault

@@ -2,7 +2,7 @@
 use Rattle.std.specs.Prelude.{ℕ, List, [], ◌∷◌, ◌++◌, find, map, Option, option_map}
 use Rattle.std.specs.Prelude.{if◌then◌else◌}
 use Rattle.std.specs.Str.{bytes_eq}
-use Rattle.jm_modpath.specs.Modules.{info_name}
+use Rattle.jm_form.specs.ModuleFiles.{info_name}
 use Rattle.jm_relink.specs.declared.groups.ModuleFiles.{ModuleFiles}
 use Rattle.jm_relink.specs.Files.{Filed, files_as}
 use Rattle.jm_names.specs.ByName.{Named}

@@ -3,11 +3,12 @@ use Rattle.std.specs.Prelude.{ℕ, ◌≡◌, List, [], ◌∷◌, ◌++◌, Opt
 use Rattle.std.specs.Prelude.{option_to_list, Result, Ok, Err}
 use Rattle.std.specs.Prelude.{if◌then◌else◌}
 use Rattle.std.specs.Str.{bytes_eq}
+use Rattle.jm_bytes.specs.Results.{followed}
 use Rattle.jm_modinfo.specs.declared.descriptor.Descriptor.{Descriptor}
 use Rattle.jm_modinfo.specs.declared.faults.DescriptorFault.{DescriptorFault}
-use Rattle.jm_modpath.specs.Modules.{info_in}
-use Rattle.jm_relink.specs.declared.error.RelinkError.{RelinkError}
-use Rattle.jm_relink.specs.declared.error.RelinkError.TheVariants as error
+use Rattle.jm_modinfo.specs.Descriptions.{info_in}
+use Rattle.jm_relink.specs.declared.fault.RelinkFault.{RelinkFault}
+use Rattle.jm_relink.specs.declared.fault.RelinkFault.TheVariants as fault_of
 use Rattle.jm_relink.specs.declared.judging.SeenModule as handed
 use Rattle.jm_relink.specs.declared.modules.ImageModules.{ImageModules}
 use Rattle.jm_relink.specs.Files.{Filed, files_as, info_entry}
@@ -16,21 +17,8 @@ use Rattle.jm_relink.specs.Groups.{Group, groups, info_content}
 use Rattle.jm_relink.specs.Modules.{HoldsModules, SeenModule}
 use Rattle.jm_relink.specs.Packages.{packages_of}
 
--- a step came to this value or refusal, unless no memory was found
-abbrev pub Comes : {A : Type 0} → Result A RelinkError → Result A RelinkError → Type 0
-Comes due (Ok value) = due ≡ Ok value
-Comes due (Err (error.BadInfo name fault)) = due ≡ Err (error.BadInfo name fault)
-Comes due (Err (error.Foreign name)) = due ≡ Err (error.Foreign name)
-Comes due (Err error.Memory) = Unit {0}
-
--- one step, and what follows with its value
-abbrev pub followed : {A B : Type 0} → Result A RelinkError → (A → Result B RelinkError)
-    → Result B RelinkError
-followed (Ok value) next = next value
-followed (Err e) next = Err e
-
 -- an answer with another value
-abbrev pub mapped : {A B : Type 0} → (A → B) → Result A RelinkError → Result B RelinkError
+abbrev pub mapped : {A B : Type 0} → (A → B) → Result A RelinkFault → Result B RelinkFault
 mapped f (Ok value) = Ok (f value)
 mapped f (Err e) = Err e
 
@@ -38,17 +26,12 @@ mapped f (Err e) = Err e
 abbrev pub seen_as : handed.SeenModule → SeenModule
 seen_as s = record { candidate = s.candidate; files = files_as s.files }
 
--- the descriptor, if it is one of this module
-abbrev pub named_due : List ℕ → Descriptor → Result Descriptor RelinkError
-named_due «module» d =
-    if bytes_eq d.name «module» then Ok d else Err (error.Foreign (info_entry «module»))
-
--- the descriptor of a module's entry, or the refusal: there is none, or it is that of another
--- module
+-- the descriptor of a module's entry, or the fault: there is none, or it is that of another module
 abbrev pub descriptor_due : List ℕ → Result Descriptor DescriptorFault
-    → Result Descriptor RelinkError
-descriptor_due «module» (Ok d) = named_due «module» d
-descriptor_due «module» (Err fault) = Err (error.BadInfo (info_entry «module») fault)
+    → Result Descriptor RelinkFault
+descriptor_due «module» (Ok d) =
+    if bytes_eq d.name «module» then Ok d else Err (fault_of.Foreign (info_entry «module»))
+descriptor_due «module» (Err fault) = Err (fault_of.BadInfo (info_entry «module») fault)
 
 -- a module of this descriptor and these files
 abbrev pub seen_with : List Named → Descriptor → SeenModule
@@ -58,26 +41,26 @@ seen_with files d = record {
 }
 
 -- the module of some files, from what its entry says
-abbrev pub seen_due : Group → Result Descriptor DescriptorFault → Result SeenModule RelinkError
+abbrev pub seen_due : Group → Result Descriptor DescriptorFault → Result SeenModule RelinkFault
 seen_due g said = followed (descriptor_due g.0 said) (λ d. Ok (seen_with g.1 d))
 
 -- the same by the content of its entry, none where no entry is there
-abbrev pub entry_due : Group → Option (List ℕ) → Result (Option SeenModule) RelinkError
+abbrev pub entry_due : Group → Option (List ℕ) → Result (Option SeenModule) RelinkFault
 entry_due g None = Ok None
 entry_due g (Some content) = followed (seen_due g (info_in content)) (λ s. Ok (Some s))
 
 -- the module of some files, none where no entry makes it one, or its refusal
-abbrev pub group_due : Group → Result (Option SeenModule) RelinkError
+abbrev pub group_due : Group → Result (Option SeenModule) RelinkFault
 group_due g = entry_due g (info_content g.1)
 
 -- the modules of some groups, once earlier ones gave some
-abbrev pub groups_due : List SeenModule → List Group → Result (List SeenModule) RelinkError
+abbrev pub groups_due : List SeenModule → List Group → Result (List SeenModule) RelinkFault
 groups_due seen [] = Ok seen
 groups_due seen (g ∷ gs) =
     followed (group_due g) (λ o. groups_due (seen ++ option_to_list o) gs)
 
--- by the answer: the modules of sorted files; their first refusal; no memory
-abbrev pub ComesFrom : List Filed → Result ImageModules RelinkError → Type 0
+-- by the answer: the modules of sorted files, or their first fault
+abbrev pub ComesFrom : List Filed → Result ImageModules RelinkFault → Type 0
 ComesFrom files (Ok found) =
     (seen : List SeenModule) × (groups_due [] (groups files) ≡ Ok seen) × HoldsModules found seen
-ComesFrom files (Err e) = Comes {A = List SeenModule} (groups_due [] (groups files)) (Err e)
+ComesFrom files (Err fault) = groups_due [] (groups files) ≡ Err fault

@@ -6,13 +6,13 @@ use Rattle.std.specs.List.{list_any}
 use Rattle.std.specs.Str.{bytes_eq}
 use Rattle.jm_closure.specs.declared.candidate.Candidate.{Candidate}
 use Rattle.jm_form.specs.Trees.{class_packages}
+use Rattle.jm_modinfo.specs.Descriptions.{info_in}
 use Rattle.jm_modinfo.specs.declared.descriptor.Descriptor.{Descriptor}
 use Rattle.jm_modinfo.specs.declared.faults.DescriptorFault.{DescriptorFault}
 use Rattle.jm_bytes.specs.ByteOrder.{is_before}
-use Rattle.jm_modpath.specs.Modules.{info_in}
 use Rattle.jm_names.specs.Names.{is_slash}
-use Rattle.jm_relink.specs.declared.error.RelinkError.{RelinkError}
-use Rattle.jm_relink.specs.declared.error.RelinkError.TheVariants as error
+use Rattle.jm_relink.specs.declared.fault.RelinkFault.{RelinkFault}
+use Rattle.jm_relink.specs.declared.fault.RelinkFault.TheVariants as fault_of
 use Rattle.jm_relink.specs.declared.modules.ImageModules.{ImageModules}
 use Rattle.jm_relink.specs.Files.{file_name, files_as, info_entry, resources_of}
 use Rattle.jm_names.specs.ByName.{Named, RisesByName}
@@ -59,13 +59,13 @@ pub record IsVisibleIn (rs : List Named) (seen : List SeenModule) : Type 0 where
 -- Refusals
 
 -- what is refused of a module by what its entry says: no descriptor, or one of another module
-abbrev pub info_refusal : List ℕ → Result Descriptor DescriptorFault → Option RelinkError
-info_refusal «module» (Err fault) = Some (error.BadInfo (info_entry «module») fault)
+abbrev pub info_refusal : List ℕ → Result Descriptor DescriptorFault → Option RelinkFault
+info_refusal «module» (Err fault) = Some (fault_of.BadInfo (info_entry «module») fault)
 info_refusal «module» (Ok d) =
-    if bytes_eq d.name «module» then None else Some (error.Foreign (info_entry «module»))
+    if bytes_eq d.name «module» then None else Some (fault_of.Foreign (info_entry «module»))
 
 -- the rule: a module has this refusal, and none with a lesser name has one
-pub record IsRefusedIn (rs : List Named) (refusal : RelinkError) : Type 0 where
+pub record IsRefusedIn (rs : List Named) (refusal : RelinkFault) : Type 0 where
   pub «module» : List ℕ
   pub content : List ℕ
   pub info : HasInfo rs «module» content
@@ -74,7 +74,7 @@ pub record IsRefusedIn (rs : List Named) (refusal : RelinkError) : Type 0 where
       → IsTrue (is_before lesser «module») → info_refusal lesser (info_in other) ≡ None
 
 -- the modules of an image, or their first refusal
-unfoldable pub ModulesOf : List ℕ → Result (List SeenModule) RelinkError → Type 0
+unfoldable pub ModulesOf : List ℕ → Result (List SeenModule) RelinkFault → Type 0
 ModulesOf b (Ok seen) = IsVisibleIn (resources_of b) seen
 ModulesOf b (Err refusal) = IsRefusedIn (resources_of b) refusal
 
@@ -85,10 +85,8 @@ pub record HoldsModules (found : ImageModules) (seen : List SeenModule) : Type 0
   pub candidates : found.candidates ≡ map (λ s. s.candidate) seen
   pub files : map files_as found.files ≡ map (λ s. s.files) seen
 
--- what looking for an image's modules comes to: these, their first refusal, or no memory
-abbrev pub FindsModules : List ℕ → Result ImageModules RelinkError → Type 0
+-- what looking for an image's modules comes to: these, or their first refusal
+abbrev pub FindsModules : List ℕ → Result ImageModules RelinkFault → Type 0
 FindsModules b (Ok found) =
     (seen : List SeenModule) × ModulesOf b (Ok seen) × HoldsModules found seen
-FindsModules b (Err (error.BadInfo name fault)) = ModulesOf b (Err (error.BadInfo name fault))
-FindsModules b (Err (error.Foreign name)) = ModulesOf b (Err (error.Foreign name))
-FindsModules b (Err error.Memory) = Unit {0}
+FindsModules b (Err fault) = ModulesOf b (Err fault)

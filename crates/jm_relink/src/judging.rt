@@ -1,21 +1,20 @@
 //! The modules among those that have files: whose `module-info.class` is there.
 ghost use Rattle.std.specs.Prelude.{◌≡◌, [], ℕ, ◌∷◌, ◌++◌, IfOk, map, option_map};
-ghost use Rattle.jm_modpath.specs.Modules.{info_in};
+ghost use Rattle.jm_bytes.specs.Results.{IfAnswered};
+ghost use Rattle.jm_modinfo.specs.Descriptions.{info_in};
 ghost use Rattle.jm_relink.specs.Files.{file_as, files_as, info_entry};
 ghost use Rattle.jm_relink.specs.Groups.{group_as, info_content};
-ghost use Rattle.jm_relink.specs.Judging.{Comes, descriptor_due, group_due, groups_due, seen_due};
-ghost use Rattle.jm_relink.specs.Judging.{mapped, named_due, seen_as};
-ghost use Rattle.jm_relink.specs.declared.error.RelinkError.TheVariants as error;
+ghost use Rattle.jm_relink.specs.Judging.{descriptor_due, group_due, groups_due, mapped, seen_as};
+ghost use Rattle.jm_relink.specs.Judging.{seen_due};
 
-use crate::error::RelinkError;
+use crate::fault::RelinkFault;
 use crate::groups::ModuleFiles;
 use crate::modules::ImageFile;
 use crate::names::file_name;
 use crate::packages::class_packages;
-use jm_bytes::{List, NoMemory, Text};
+use jm_bytes::{List, NoMemory, Or, Text};
 use jm_closure::Candidate;
-use jm_modinfo::{Descriptor, DescriptorFault};
-use jm_modpath::{InfoStop, info_in};
+use jm_modinfo::{Descriptor, describe_bytes};
 use std::alloc::Global;
 
 /// A module of an image, with its files.
@@ -34,36 +33,24 @@ fn info_entry(alloc: Global, module: &[u8]) -> Result<Text, NoMemory>
     file_name(alloc, module, b"module-info.class")
 }
 
-/// The refusal of a module whose entry says no descriptor.
-fn bad_info(alloc: Global, module: &[u8], fault: DescriptorFault) -> RelinkError
-    ensures { Comes {A = Descriptor}
-        (Err (error.BadInfo (info_entry «module».now) fault)) (Err result) }
+/// The descriptor that a module's entry says, if it is one of this module.
+fn descriptor(alloc: Global, module: &[u8], bytes: &[u8]) -> Result<Descriptor, Or<RelinkFault>>
+    ensures { IfAnswered (λ r. descriptor_due «module».now (info_in bytes.now) ≡ r) result }
 {
-    match info_entry(alloc, module) {
-        Ok(name) => RelinkError::BadInfo { name, fault },
-        Err(_) => RelinkError::Memory,
-    }
-}
-
-/// The descriptor, if it is one of this module.
-fn own(alloc: Global, module: &[u8], descriptor: Descriptor) -> Result<Descriptor, RelinkError>
-    ensures { Comes (named_due «module».now descriptor) result }
-{
-    if descriptor.name.as_slice() == module {
-        Ok(descriptor)
-    } else {
-        Err(RelinkError::Foreign(info_entry(alloc, module)?))
-    }
-}
-
-/// The descriptor that a module's entry says.
-fn descriptor(alloc: Global, module: &[u8], bytes: &[u8]) -> Result<Descriptor, RelinkError>
-    ensures { Comes (descriptor_due «module».now (info_in bytes.now)) result }
-{
-    match info_in(alloc, bytes) {
-        Ok(descriptor) => own(alloc, module, descriptor),
-        Err(InfoStop::Fault(fault)) => Err(bad_info(alloc, module, fault)),
-        Err(InfoStop::Memory) => Err(RelinkError::Memory),
+    match describe_bytes(alloc, bytes) {
+        Ok(descriptor) => {
+            if descriptor.name.as_slice() == module {
+                Ok(descriptor)
+            } else {
+                let name = info_entry(alloc, module)?;
+                Err(Or::Fault(RelinkFault::Foreign(name)))
+            }
+        }
+        Err(Or::Fault(fault)) => {
+            let name = info_entry(alloc, module)?;
+            Err(Or::Fault(RelinkFault::BadInfo { name, fault }))
+        }
+        Err(Or::Memory) => Err(Or::Memory),
     }
 }
 
@@ -84,8 +71,9 @@ fn seen<'a>(
     alloc: Global,
     group: ModuleFiles<'a>,
     bytes: &[u8],
-) -> Result<SeenModule<'a>, RelinkError>
-    ensures { Comes (seen_due (group_as group.entry) (info_in bytes.now)) (mapped seen_as result) }
+) -> Result<SeenModule<'a>, Or<RelinkFault>>
+    ensures { IfAnswered (λ r. seen_due (group_as group.entry) (info_in bytes.now)
+        ≡ mapped seen_as r) result }
 {
     let descriptor = descriptor(alloc, group.module.as_slice(), bytes)?;
     let packages = class_packages(alloc, group.files.as_slice())?;
@@ -99,8 +87,12 @@ fn seen<'a>(
 }
 
 /// The module of some files, if its `module-info.class` is there.
-fn judged<'a>(alloc: Global, group: ModuleFiles<'a>) -> Result<Option<SeenModule<'a>>, RelinkError>
-    ensures { Comes (group_due (group_as group.entry)) (mapped (option_map seen_as) result) }
+fn judged<'a>(
+    alloc: Global,
+    group: ModuleFiles<'a>,
+) -> Result<Option<SeenModule<'a>>, Or<RelinkFault>>
+    ensures { IfAnswered (λ r. group_due (group_as group.entry) ≡ mapped (option_map seen_as) r)
+        result }
 {
     match info_content(group.files.as_slice()) {
         Some(bytes) => Ok(Some(seen(alloc, group, bytes)?)),
@@ -112,8 +104,9 @@ fn judged<'a>(alloc: Global, group: ModuleFiles<'a>) -> Result<Option<SeenModule
 pub fn seen_modules<'a>(
     alloc: Global,
     groups: List<ModuleFiles<'a>>,
-) -> Result<List<SeenModule<'a>>, RelinkError>
-    ensures { Comes (groups_due [] (map group_as groups.entry)) (mapped (map seen_as) result) }
+) -> Result<List<SeenModule<'a>>, Or<RelinkFault>>
+    ensures { IfAnswered (λ r. groups_due [] (map group_as groups.entry) ≡ mapped (map seen_as) r)
+        result }
 {
     let mut modules = List::new(alloc);
     for group in groups.into_vec() {

@@ -2,7 +2,7 @@
 //! files, and the resources that the files of chosen modules are.
 #![tactic(auto)]
 
-mod error;
+mod fault;
 mod gathering;
 mod groups;
 mod judging;
@@ -11,6 +11,6 @@ mod modules;
 mod names;
 mod packages;
 
-pub use error::{GatherError, RelinkError};
+pub use fault::{GatherFault, RelinkFault};
 pub use gathering::gather;
 pub use modules::{ImageFile, ImageModules, modules_of};

@@ -1,16 +1,17 @@
 //! The modules of an image.
 ghost use Rattle.std.specs.Prelude.{◌≡◌, IfOk, map};
+ghost use Rattle.jm_bytes.specs.Results.{IfAnswered};
 ghost use Rattle.jm_reader.specs.Walk.{IsLater};
 ghost use Rattle.jm_relink.specs.Judging.{ComesFrom};
 ghost use Rattle.jm_relink.specs.Gathering.{AreModules};
 ghost use Rattle.jm_relink.specs.Modules.{FindsModules};
 ghost use Rattle.jm_relink.specs.Files.{located_as};
 
-use crate::error::RelinkError;
+use crate::fault::RelinkFault;
 use crate::groups::groups;
 use crate::judging::{SeenModule, seen_modules};
 use crate::located::{Located, located_files};
-use jm_bytes::{List, Meter, NoMemory, Text};
+use jm_bytes::{List, Meter, NoMemory, Or, Text};
 use jm_closure::Candidate;
 use jm_valid::Image;
 use std::alloc::Global;
@@ -53,8 +54,8 @@ fn parted<'a>(alloc: Global, seen: List<SeenModule<'a>>) -> Result<ImageModules<
 fn modules_among<'a>(
     alloc: Global,
     files: List<Located<'a>>,
-) -> Result<ImageModules<'a>, RelinkError>
-    ensures { ComesFrom (map located_as files.entry) result }
+) -> Result<ImageModules<'a>, Or<RelinkFault>>
+    ensures { IfAnswered (ComesFrom (map located_as files.entry)) result }
 {
     let groups = groups(alloc, files)?;
     let seen = seen_modules(alloc, groups)?;
@@ -70,9 +71,9 @@ pub fn modules_of<'a, R: Ledger>(
     alloc: Global,
     image: &Image<'a>,
     reads: &mut Meter<R>,
-) -> Result<ImageModules<'a>, RelinkError>
+) -> Result<ImageModules<'a>, Or<RelinkFault>>
     requires { reads.old.bytes ≡ image.now }
-    ensures modules { FindsModules image.now result }
+    ensures modules { IfAnswered (FindsModules image.now) result }
     ensures are { IfOk result AreModules }
     ensures reads { IsLater reads.old reads.new }
 {

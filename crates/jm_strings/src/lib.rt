@@ -3,4 +3,4 @@
 
 mod strings;
 
-pub use strings::{Strings, StringsError};
+pub use strings::{Full, Strings};

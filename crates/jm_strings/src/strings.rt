@@ -2,38 +2,21 @@ ghost use Rattle.std.specs.Prelude.{◌≡◌, ◌<◌, ◌≤◌, ◌↔◌, �
 ghost use Rattle.std.specs.Prelude.{All, Contains, IsSome, IfOk, OnOk, OnErr, codes};
 ghost use Rattle.std.specs.Map.{lookup};
 ghost use Rattle.std.specs.Str.{bytes_eq};
+ghost use Rattle.jm_bytes.specs.declared.faults.Or.TheVariants.{Fault};
 ghost use Rattle.jm_form.specs.Strings.{place_of, section_of, with_text, IsZeroFree};
 ghost use Rattle.jm_strings.specs.Limit.{limit};
-ghost use Rattle.jm_strings.specs.declared.strings.StringsError.TheVariants.{Zero, Full};
 
 use indexmap::IndexMap;
-use jm_bytes::{NoMemory, copy_of, extend};
+use jm_bytes::{NoMemory, Or, copy_of, extend};
 use std::alloc::Global;
 use std::marker::Model;
 
 /// The most bytes that a section has.
 const LIMIT: usize = 1_073_741_824;
 
-/// Why a text isn't taken into a section.
+/// With this text, which is new, the section would pass 1,073,741,824 bytes.
 #[derive(Clone, Copy, Debug, PartialEq, Eq)]
-pub enum StringsError {
-    /// It has a zero byte.
-    Zero,
-    /// It is new, and with it the section would pass 1,073,741,824 bytes.
-    Full,
-    /// No memory was found.
-    Memory,
-}
-
-impl From<NoMemory> for StringsError {
-    ghost use Rattle.jm_strings.specs.declared.strings.StringsError.TheVariants.{Memory};
-
-    ghost from_gives = { λ _ e. e ≡ Memory };
-
-    fn from(_: NoMemory) -> StringsError {
-        StringsError::Memory
-    }
-}
+pub struct Full;
 
 /// Different texts without a zero byte, seen as their list, and the section that holds them.
 #[derive(Drop)]
@@ -65,42 +48,32 @@ impl Strings {
     pub fn with_capacity(alloc: Global, count: usize) -> Result<Strings, NoMemory>
         ensures { IfOk result (λ strings. strings ≡ [] ∷ codes "class" ∷ []) }
     {
-        let mut strings = Strings::empty(alloc, count)?;
+        let mut strings = Strings {
+            section: Vec::new(alloc),
+            places: IndexMap::with_capacity(alloc, count)?,
+        };
         strings.add(b"")?;
         strings.add(b"class")?;
         Ok(strings)
     }
 
-    fn empty(alloc: Global, count: usize) -> Result<Strings, NoMemory>
-        ensures { IfOk result (λ strings. strings ≡ []) }
-    {
-        Ok(Strings {
-            section: Vec::new(alloc),
-            places: IndexMap::with_capacity(alloc, count)?,
-        })
-    }
-
-    /// The place of a text, in bytes from the section's front. A text that isn't held goes last. A
-    /// refusal leaves all as it was.
+    /// The place of a text without a zero byte, in bytes from the section's front. A text that
+    /// isn't held goes last. A refusal leaves all as it was.
     ///
     /// The text is looked up by its hash, and its bytes are compared.
-    pub fn intern(&mut self, text: &[u8]) -> Result<u32, StringsError>
+    pub fn intern(&mut self, text: &[u8]) -> Result<u32, Or<Full>>
+        requires { IsZeroFree text.now }
         ensures texts { OnOk result (self.new ≡ with_text text.now self.old) }
         ensures place { IfOk result (λ place. place_of text.now self.new ≡ Some place) }
-        ensures zero { (result ≡ Err Zero) ↔ Contains text.now 0 }
-        ensures full { (result ≡ Err Full) ↔ IsZeroFree text.now
-            × (place_of text.now self.old ≡ None)
+        ensures full { (result ≡ Err (Fault (record {}))) ↔ (place_of text.now self.old ≡ None)
             × (limit < length (section_of (self.old ++ text.now ∷ []))) }
         ensures err { OnErr result (self.new ≡ self.old) }
     {
-        if text.contains(&0) {
-            return Err(StringsError::Zero);
-        }
         if let Some(place) = self.place(text) {
             return Ok(place);
         }
         if LIMIT - self.bytes().len() <= text.len() {
-            return Err(StringsError::Full);
+            return Err(Or::Fault(Full));
         }
         Ok(self.add(text)?)
     }

@@ -7,11 +7,11 @@ use Rattle.jm_class.specs.ComputedClass.{slot_field, slots, is_wide_slot}
 use Rattle.jm_class.specs.Readings.{Left}
 use Rattle.jm_class.proofs.ListReadings.{same_test}
 use Rattle.jm_strip.specs.Kinds.{kind_of}
-use Rattle.jm_strip.specs.declared.kind.Kind.{Kind}
+use Rattle.jm_strip.specs.declared.kind.AttributeKind.{AttributeKind}
 use Rattle.jm_strip.specs.Walks.{shown}
 use Rattle.jm_strip.proofs.Shown.{shown-cons}
 
-pub kinds-next : (count k : ℕ) (due : Bool) (left next : Left) (slot : SlotData) (old new : List Kind) → k < count
+pub kinds-next : (count k : ℕ) (due : Bool) (left next : Left) (slot : SlotData) (old new : List AttributeKind) → k < count
     → slot_field due (nat_lt (k + 1) count) left ≡ Ok (slot, next) → new ≡ old ++ kind_of slot ∷ []
     → shown (λ xs. old ++ map kind_of xs) (slots (count - k) due left) ≡ shown (λ xs. new ++ map kind_of xs)
     (slots (count - (k + 1)) (is_wide_slot slot) next)
@@ -22,7 +22,7 @@ kinds-next count k due left next slot old new more e grown =
     (λ xs. sym (append_assoc old (kind_of slot ∷ []) (map kind_of xs)) ∙ ap (λ ks. ks ++ map kind_of xs) (sym grown))
     (slots (count - (k + 1)) (is_wide_slot slot) next))
 
-pub kinds-stop : (count k : ℕ) (due : Bool) (left : Left) (old : List Kind) (fault : ClassFault) → k < count
+pub kinds-stop : (count k : ℕ) (due : Bool) (left : Left) (old : List AttributeKind) (fault : ClassFault) → k < count
     → slot_field due (nat_lt (k + 1) count) left ≡ Err fault → shown (λ xs. old ++ map kind_of xs) (slots (count - k) due left) ≡ Err fault
 kinds-stop count k due left old fault more e =
     let number : count - k ≡ suc (count - (k + 1)) = omega arith in

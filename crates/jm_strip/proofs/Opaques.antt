@@ -1,9 +1,9 @@
 -- An attribute outside of a method is one of a Code: a name and its bytes as they are.
 use Rattle.std.proofs.Common.{◌≡◌, ℕ, zero, suc, Bool, false, List, ◌∷◌, ◌++◌, map, filter, Result, Ok, Err, refl, sym, ap, ◌∙◌, subst}
 use Rattle.std.specs.Int.{w16}
+use Rattle.jm_bytes.specs.declared.faults.Or.{Or}
 use Rattle.jm_class.specs.declared.class.ClassFault.{ClassFault}
 use Rattle.jm_class.specs.declared.class.ClassFault.TheVariants.{Short}
-use Rattle.jm_class.specs.declared.class.ReadError.{ReadError}
 use Rattle.jm_class.specs.Classes.{SlotData, OpaqueData, AttributeData, Opaque, opaque_text, attribute_text, counted_text}
 use Rattle.jm_class.specs.ComputedClass.{name_field, opaque_field, attribute_field}
 use Rattle.jm_class.specs.Readings.{Left, Outcome, Reading, value, continued, and_then, number, sized, counted, list_of}
@@ -98,6 +98,6 @@ class-attributes pool test old left =
     (list_of Short (opaque_field Short pool) left))
 
 -- what was put for the same value, shown in other words
-pub gives_same : {T B : Type 0} (data_of : T → B) (one other : Outcome ClassFault B) (result : Result T ReadError) (left : Left)
+pub gives_same : {T B : Type 0} (data_of : T → B) (one other : Outcome ClassFault B) (result : Result T (Or ClassFault)) (left : Left)
     → one ≡ other → Gives data_of other result left → Gives data_of one result left
 gives_same data_of one other result left same gives = subst (λ o. Gives data_of o result left) (sym same) gives

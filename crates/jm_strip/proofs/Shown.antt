@@ -1,7 +1,7 @@
 -- A reading under a function of its value: so many of one kind, one after another, and what was read.
 use Rattle.std.proofs.Common.{◌≡◌, ℕ, suc, ◌+◌, ◌-◌, ◌<◌, List, ◌∷◌, Result, Ok, Err, IsErrAnd, refl, ap, ◌∙◌, arith}
+use Rattle.jm_bytes.specs.declared.faults.Or.{Or}
 use Rattle.jm_class.specs.declared.class.ClassFault.{ClassFault}
-use Rattle.jm_class.specs.declared.class.ReadError.{ReadError}
 use Rattle.jm_class.specs.Views.{Gives}
 use Rattle.jm_class.proofs.Stops.{gives_stop}
 use Rattle.jm_class.specs.Readings.{Left, Outcome, Reading, value, continued, counted}
@@ -28,8 +28,8 @@ stopped show (Ok r) fault e = cc
 stopped show (Err found) fault e = let same : found ≡ fault = cc in ap (λ f. Err f) same
 
 -- the error of a part is that of the whole, where the whole has the faults of the part
-pub walk_stop : {U A B : Type 0} (data_of : U → B) (part : Outcome ClassFault A) (all : Outcome ClassFault B) (error : ReadError)
-    (result : Result U ReadError) (left next : Left) → IsErrAnd result (λ is. is ≡ error) → Gives {T = A} (λ a. a) part (Err error)
+pub walk_stop : {U A B : Type 0} (data_of : U → B) (part : Outcome ClassFault A) (all : Outcome ClassFault B) (error : Or ClassFault)
+    (result : Result U (Or ClassFault)) (left next : Left) → IsErrAnd result (λ is. is ≡ error) → Gives {T = A} (λ a. a) part (Err error)
     left → ((fault : ClassFault) → part ≡ Err fault → all ≡ Err fault) → Gives data_of all result next
 walk_stop data_of part all error result left next is gives stops = gives_stop (λ a. a) data_of part all error result left next is
     gives stops

@@ -1,9 +1,9 @@
 -- What a walk over a class puts, as it reads: each reading under a function of its value.
 use Rattle.std.specs.Prelude.{◌≡◌, ℕ, List, ◌++◌, Bool, length, filter, Result, Ok, Err}
 use Rattle.std.specs.List.{flat_map}
+use Rattle.jm_bytes.specs.declared.faults.Or.{Or}
+use Rattle.jm_bytes.specs.declared.faults.Or.TheVariants.{Fault, Memory}
 use Rattle.jm_class.specs.declared.class.ClassFault.{ClassFault}
-use Rattle.jm_class.specs.declared.class.ReadError.{ReadError}
-use Rattle.jm_class.specs.declared.class.ReadError.TheVariants.{Fault, Memory}
 use Rattle.jm_class.specs.Classes.{ClassData, class_text}
 use Rattle.jm_class.specs.ComputedClass.{class_of}
 use Rattle.jm_class.specs.Readings.{Left, Outcome}
@@ -20,12 +20,12 @@ abbrev pub nothing : {A : Type 0} → A → Unit {0}
 nothing a = tt
 
 -- the value is read, and nothing of it is kept
-abbrev pub Skips : {A T : Type 0} → Outcome ClassFault A → Result T ReadError → Left → Type 0
+abbrev pub Skips : {A T : Type 0} → Outcome ClassFault A → Result T (Or ClassFault) → Left → Type 0
 Skips outcome result left = Gives nothing (shown nothing outcome) result left
 
 -- the words of the value are put behind a text
-abbrev pub Puts : {A T : Type 0} → (A → List ℕ) → Outcome ClassFault A → Result T ReadError → Left
-    → List ℕ → List ℕ → Type 0
+abbrev pub Puts : {A T : Type 0} → (A → List ℕ) → Outcome ClassFault A → Result T (Or ClassFault)
+    → Left → List ℕ → List ℕ → Type 0
 Puts words outcome result left old new =
     Gives (λ _. new) (shown (λ a. old ++ words a) outcome) result left
 
@@ -34,8 +34,8 @@ abbrev pub filtered : {A : Type 0} → (A → List ℕ) → (A → Bool) → Lis
 filtered words test text xs = (text ++ flat_map words (filter test xs), length (filter test xs))
 
 -- the bytes read as a class, and the text is that of the class without its debug information; or
--- they have this fault, unless no memory is found
-abbrev pub Strips : List ℕ → Result (List ℕ) ReadError → Type 0
+-- they have this fault
+abbrev pub Strips : List ℕ → Result (List ℕ) (Or ClassFault) → Type 0
 Strips bytes (Ok text) = (c : ClassData) × (class_of bytes ≡ Ok c) × (text ≡ class_text (strip c))
 Strips bytes (Err (Fault fault)) = class_of bytes ≡ Err fault
 Strips bytes (Err Memory) = Unit {0}

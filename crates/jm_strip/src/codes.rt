@@ -1,4 +1,4 @@
-ghost use Rattle.std.specs.Prelude.{◌≡◌, ◌<◌, ◌≤◌, ◌^◌, All};
+ghost use Rattle.std.specs.Prelude.{◌<◌, ◌^◌, All};
 ghost use Rattle.jm_class.specs.Classes.{code_text, sized_text};
 ghost use Rattle.jm_class.specs.ComputedClass.{code_fields, code_field};
 ghost use Rattle.jm_class.specs.Views.{fault_at};
@@ -9,8 +9,9 @@ use crate::copies::{copy_rows, copy_sized, copy16};
 use crate::lists::keep_attributes;
 use crate::patches::patch32;
 use crate::pool::Pool;
+use jm_bytes::Or;
 use jm_class::fields::{Missing, inner, number32};
-use jm_class::{ClassFault, Cursor, ReadError};
+use jm_class::{ClassFault, Cursor};
 use jm_classout::put32;
 
 /// The parts of a Code without its debug information.
@@ -19,7 +20,7 @@ fn strip_parts(
     text: &mut Vec<u8>,
     pool: &Pool,
     missing: Missing,
-) -> Result<(), ReadError>
+) -> Result<(), Or<ClassFault>>
     ensures { Puts (λ c. code_text (strip_code pool.now c))
         (code_fields (fault_at missing) pool.now cursor.old)
         result cursor.new text.old.items text.new.items }
@@ -37,17 +38,13 @@ fn are_bytes(_bytes: &[u8])
     ensures { All (λ b. b < 2 ^ 8) _bytes.now }
 {}
 
-/// A number that is at most one of four bytes, in four bytes.
-fn within(n: usize, most: u32) -> u32
-    requires { n ≤ most }
-    ensures { result ≡ n }
-{
-    n as u32
-}
-
 /// A Code within its length, without its debug information. It is judged as a whole before its
 /// parts.
-pub fn strip_code(cursor: &mut Cursor, text: &mut Vec<u8>, pool: &Pool) -> Result<(), ReadError>
+pub fn strip_code(
+    cursor: &mut Cursor,
+    text: &mut Vec<u8>,
+    pool: &Pool,
+) -> Result<(), Or<ClassFault>>
     ensures { Puts (λ c. sized_text (code_text (strip_code pool.now c)))
         (code_field pool.now cursor.old)
         result cursor.new text.old.items text.new.items }
@@ -60,8 +57,8 @@ pub fn strip_code(cursor: &mut Cursor, text: &mut Vec<u8>, pool: &Pool) -> Resul
     put32(text, 0)?;
     strip_parts(&mut inner, text, pool, Missing::Within(wrong))?;
     if inner.len() != 0 {
-        return Err(ReadError::Fault(wrong));
+        return Err(Or::Fault(wrong));
     }
-    patch32(text, at, within(text.len() - at - 4, size));
+    patch32(text, at, (text.len() - at - 4) as u32);
     Ok(())
 }

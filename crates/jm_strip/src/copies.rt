@@ -7,26 +7,30 @@ ghost use Rattle.jm_class.specs.Views.{Gives, fault_at};
 ghost use Rattle.jm_strip.specs.Walks.{Puts};
 
 use crate::pool::Pool;
-use jm_bytes::extend;
+use jm_bytes::{Or, extend};
 use jm_class::fields::{Missing, number16, number32, part};
-use jm_class::{ClassFault, Cursor, ReadError};
+use jm_class::{ClassFault, Cursor};
 use jm_classout::{put16, put32};
 
 /// The name of an attribute: the number of a Utf8.
-pub fn name(cursor: &mut Cursor, pool: &Pool, missing: Missing) -> Result<u16, ReadError>
+pub fn name(cursor: &mut Cursor, pool: &Pool, missing: Missing) -> Result<u16, Or<ClassFault>>
     ensures { Gives (λ n. n) (name_field (fault_at missing) pool.now cursor.old)
         result cursor.new }
 {
     let at = cursor.place();
     let name = number16(cursor, missing)?;
     if !pool.is_text(name) {
-        return Err(ReadError::Fault(ClassFault::Index(at)));
+        return Err(Or::Fault(ClassFault::Index(at)));
     }
     Ok(name)
 }
 
 /// A number of two bytes, as it is.
-pub fn copy16(cursor: &mut Cursor, text: &mut Vec<u8>, missing: Missing) -> Result<(), ReadError>
+pub fn copy16(
+    cursor: &mut Cursor,
+    text: &mut Vec<u8>,
+    missing: Missing,
+) -> Result<(), Or<ClassFault>>
     ensures { Puts u2 (number (fault_at missing) w16 cursor.old)
         result cursor.new text.old.items text.new.items }
 {
@@ -40,7 +44,7 @@ pub fn copy_sized(
     cursor: &mut Cursor,
     text: &mut Vec<u8>,
     missing: Missing,
-) -> Result<(), ReadError>
+) -> Result<(), Or<ClassFault>>
     ensures { Puts sized_text (sized (fault_at missing) cursor.old)
         result cursor.new text.old.items text.new.items }
 {
@@ -52,7 +56,11 @@ pub fn copy_sized(
 }
 
 /// The handlers of a Code, as they are: their number, and 8 bytes for each.
-pub fn copy_rows(cursor: &mut Cursor, text: &mut Vec<u8>, missing: Missing) -> Result<(), ReadError>
+pub fn copy_rows(
+    cursor: &mut Cursor,
+    text: &mut Vec<u8>,
+    missing: Missing,
+) -> Result<(), Or<ClassFault>>
     ensures { Puts rows_text (rows_field (fault_at missing) cursor.old)
         result cursor.new text.old.items text.new.items }
 {

@@ -9,9 +9,9 @@ ghost use Rattle.jm_strip.specs.Walks.{shown, filtered, Puts};
 use crate::copies::name;
 use crate::patches::patch16;
 use crate::pool::Pool;
-use jm_bytes::extend;
+use jm_bytes::{Or, extend};
 use jm_class::fields::{Missing, number16, number32, part};
-use jm_class::{Cursor, ReadError};
+use jm_class::{ClassFault, Cursor};
 use jm_classout::{put16, put32};
 
 /// Puts an attribute, unless it is debug information, and answers how many it put.
@@ -21,7 +21,7 @@ fn keep(
     pool: &Pool,
     missing: Missing,
     in_code: bool,
-) -> Result<u16, ReadError>
+) -> Result<u16, Or<ClassFault>>
     ensures one { IfOk result (λ n. n ≤ 1) }
     ensures kept { Gives (λ n. (text.new.items, n))
         (shown (λ a. filtered opaque_text
@@ -49,7 +49,7 @@ fn keep_each(
     missing: Missing,
     in_code: bool,
     count: u16,
-) -> Result<u16, ReadError>
+) -> Result<u16, Or<ClassFault>>
     ensures { Gives (λ n. (text.new.items, n))
         (shown (λ xs. filtered opaque_text (λ a. stays in_code pool.now a.name) text.old.items xs)
         (counted count (opaque_field (fault_at missing) pool.now) cursor.old))
@@ -69,7 +69,7 @@ pub fn keep_attributes(
     pool: &Pool,
     missing: Missing,
     in_code: bool,
-) -> Result<(), ReadError>
+) -> Result<(), Or<ClassFault>>
     ensures { Puts
         (λ xs. counted_text opaque_text (filter (λ a. stays in_code pool.now a.name) xs))
         (list_of (fault_at missing) (opaque_field (fault_at missing) pool.now) cursor.old)

@@ -1,32 +1,33 @@
 ghost use Rattle.std.specs.Prelude.{◌≡◌, true, map};
 ghost use Rattle.std.specs.List.{flat_map};
 ghost use Rattle.jm_class.specs.declared.class.ClassFault.TheVariants.{Short};
-ghost use Rattle.jm_class.specs.Classes.{sized_text, held_text, attribute_text, member_text};
-ghost use Rattle.jm_class.specs.Classes.{counted_text};
-ghost use Rattle.jm_class.specs.ComputedClass.{held_field, attribute_field, member_field};
+ghost use Rattle.jm_class.specs.Classes.{attribute_text, member_text, counted_text};
+ghost use Rattle.jm_class.specs.ComputedClass.{attribute_field, member_field};
 ghost use Rattle.jm_class.specs.Readings.{list_of};
-ghost use Rattle.jm_strip.specs.Strip.{strip_body, strip_attribute, strip_method};
+ghost use Rattle.jm_strip.specs.Strip.{strip_attribute, strip_method};
 ghost use Rattle.jm_strip.specs.Walks.{Puts};
 
 use crate::codes::strip_code;
 use crate::copies::{copy_sized, copy16, name};
 use crate::pool::Pool;
+use jm_bytes::Or;
 use jm_class::fields::{Missing, number16};
-use jm_class::{Cursor, ReadError};
+use jm_class::{ClassFault, Cursor};
 use jm_classout::put16;
 
-/// What an attribute holds.
-fn strip_held(
+/// An attribute of a method.
+fn strip_attribute(
     cursor: &mut Cursor,
     text: &mut Vec<u8>,
     pool: &Pool,
-    coded: bool,
-) -> Result<(), ReadError>
-    ensures { Puts (λ b. sized_text (held_text (strip_body pool.now b)))
-        (held_field pool.now coded cursor.old)
+) -> Result<(), Or<ClassFault>>
+    ensures { Puts (λ a. attribute_text (strip_attribute pool.now a))
+        (attribute_field pool.now true cursor.old)
         result cursor.new text.old.items text.new.items }
 {
-    if coded {
+    let name = name(cursor, pool, Missing::Here)?;
+    put16(text, name)?;
+    if pool.is_code(name) {
         strip_code(cursor, text, pool)?;
     } else {
         copy_sized(cursor, text, Missing::Here)?;
@@ -34,20 +35,12 @@ fn strip_held(
     Ok(())
 }
 
-/// An attribute of a method.
-fn strip_attribute(cursor: &mut Cursor, text: &mut Vec<u8>, pool: &Pool) -> Result<(), ReadError>
-    ensures { Puts (λ a. attribute_text (strip_attribute pool.now a))
-        (attribute_field pool.now true cursor.old)
-        result cursor.new text.old.items text.new.items }
-{
-    let name = name(cursor, pool, Missing::Here)?;
-    put16(text, name)?;
-    strip_held(cursor, text, pool, pool.is_code(name))?;
-    Ok(())
-}
-
 /// The attributes of a method: each one stays.
-fn strip_attributes(cursor: &mut Cursor, text: &mut Vec<u8>, pool: &Pool) -> Result<(), ReadError>
+fn strip_attributes(
+    cursor: &mut Cursor,
+    text: &mut Vec<u8>,
+    pool: &Pool,
+) -> Result<(), Or<ClassFault>>
     ensures { Puts (λ xs. counted_text attribute_text (map (strip_attribute pool.now) xs))
         (list_of Short (attribute_field pool.now true) cursor.old)
         result cursor.new text.old.items text.new.items }
@@ -60,7 +53,7 @@ fn strip_attributes(cursor: &mut Cursor, text: &mut Vec<u8>, pool: &Pool) -> Res
     Ok(())
 }
 
-fn strip_method(cursor: &mut Cursor, text: &mut Vec<u8>, pool: &Pool) -> Result<(), ReadError>
+fn strip_method(cursor: &mut Cursor, text: &mut Vec<u8>, pool: &Pool) -> Result<(), Or<ClassFault>>
     ensures { Puts (λ m. member_text (strip_method pool.now m))
         (member_field pool.now true cursor.old)
         result cursor.new text.old.items text.new.items }
@@ -73,7 +66,11 @@ fn strip_method(cursor: &mut Cursor, text: &mut Vec<u8>, pool: &Pool) -> Result<
 }
 
 /// The methods.
-pub fn strip_methods(cursor: &mut Cursor, text: &mut Vec<u8>, pool: &Pool) -> Result<(), ReadError>
+pub fn strip_methods(
+    cursor: &mut Cursor,
+    text: &mut Vec<u8>,
+    pool: &Pool,
+) -> Result<(), Or<ClassFault>>
     ensures { Puts (λ xs. counted_text member_text (map (strip_method pool.now) xs))
         (list_of Short (member_field pool.now true) cursor.old)
         result cursor.new text.old.items text.new.items }

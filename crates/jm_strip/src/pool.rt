@@ -1,4 +1,4 @@
-ghost use Rattle.std.specs.Prelude.{◌≡◌, false, is_some, map, IfOk, [], ◌∷◌, ◌++◌, OnOk};
+ghost use Rattle.std.specs.Prelude.{◌≡◌, false, is_some, map};
 ghost use Rattle.jm_class.specs.Classes.{utf8_at, is_code_name};
 ghost use Rattle.jm_class.specs.ComputedClass.{slots, pool_field};
 ghost use Rattle.jm_class.specs.Views.{Gives};
@@ -6,10 +6,10 @@ ghost use Rattle.jm_strip.specs.Kinds.{kind_of, kind_of_name};
 ghost use Rattle.jm_strip.specs.Strip.{stays};
 ghost use Rattle.jm_strip.specs.Walks.{shown};
 
-use crate::kind::{Kind, kind_of};
-use jm_bytes::NoMemory;
+use crate::kind::{AttributeKind, kind_of};
+use jm_bytes::Or;
 use jm_class::fields::{Missing, number16};
-use jm_class::{ClassFault, Cursor, ReadError, is_wide_slot, slot};
+use jm_class::{ClassFault, Cursor, is_wide_slot, slot};
 use std::alloc::Global;
 use std::marker::Model;
 
@@ -19,7 +19,7 @@ const LEAST: usize = 3;
 /// The constants of a class by the bytes that they were read from: one kind for each number.
 #[derive(Drop)]
 pub struct Pool<'a> {
-    kinds: Vec<Kind>,
+    kinds: Vec<AttributeKind>,
     place: usize,
     bytes: &'a [u8],
 }
@@ -38,10 +38,16 @@ impl<'a> Model for Pool<'a> {
 
 impl<'a> Pool<'a> {
     /// What the constant of a number is.
-    fn kind(&self, index: u16) -> Kind
+    fn kind(&self, index: u16) -> AttributeKind
         ensures { result ≡ kind_of_name (utf8_at self.now index) }
     {
-        kind_at(self.kinds.as_slice(), index)
+        let Some(place) = usize::from(index).checked_sub(1) else {
+            return AttributeKind::Other;
+        };
+        match self.kinds.get(place) {
+            Some(kind) => *kind,
+            None => AttributeKind::Other,
+        }
     }
 
     /// Whether the constant of a number is a Utf8.
@@ -66,68 +72,39 @@ impl<'a> Pool<'a> {
     }
 }
 
-/// The kind of a number, from 1 on.
-fn kind_at(kinds: &[Kind], index: u16) -> Kind
-    ensures { (pool : _) → kinds.now ≡ map kind_of pool
-        → result ≡ kind_of_name (utf8_at pool index) }
-{
-    let Some(place) = usize::from(index).checked_sub(1) else {
-        return Kind::Other;
-    };
-    match kinds.get(place) {
-        Some(kind) => *kind,
-        None => Kind::Other,
-    }
-}
-
-/// Room for so many kinds, and no more than the bytes can hold.
-fn room(alloc: Global, count: u16, left: usize) -> Result<Vec<Kind>, NoMemory>
-    ensures { IfOk result (λ kinds. kinds.items ≡ []) }
-{
-    Ok(Vec::with_capacity(alloc, usize::from(count).min(left / LEAST))?)
-}
-
-fn push(kinds: &mut Vec<Kind>, kind: Kind) -> Result<(), NoMemory>
-    ensures { OnOk result (kinds.new.items ≡ kinds.old.items ++ kind ∷ []) }
-{
-    Ok(kinds.push(kind)?)
-}
-
-/// The kinds of so many numbers of the pool.
-fn kinds(alloc: Global, cursor: &mut Cursor, count: u16) -> Result<Vec<Kind>, ReadError>
+/// The kinds of so many numbers of the pool. Room is asked for no more than the bytes can hold.
+fn kinds(
+    alloc: Global,
+    cursor: &mut Cursor,
+    count: u16,
+) -> Result<Vec<AttributeKind>, Or<ClassFault>>
     ensures { Gives (λ kinds. kinds.items) (shown (map kind_of) (slots count false cursor.old))
         result cursor.new }
 {
-    let mut kinds = room(alloc, count, cursor.len())?;
+    let mut kinds = Vec::with_capacity(alloc, usize::from(count).min(cursor.len() / LEAST))?;
     let mut due = false;
     for k in 0..count {
         let slot = slot(cursor, due, k + 1 < count)?;
         due = is_wide_slot(&slot);
-        push(&mut kinds, kind_of(&slot))?;
+        match kinds.push(kind_of(&slot)) {
+            Ok(()) => {}
+            Err(_) => return Err(Or::Memory),
+        }
     }
     Ok(kinds)
 }
 
-/// The kinds of the pool.
-fn pool_kinds(alloc: Global, cursor: &mut Cursor) -> Result<Vec<Kind>, ReadError>
-    ensures { Gives (λ kinds. kinds.items) (shown (map kind_of) (pool_field cursor.old))
-        result cursor.new }
-{
-    let at = cursor.place();
-    let count = number16(cursor, Missing::Here)?;
-    if count == 0 {
-        return Err(ReadError::Fault(ClassFault::Index(at)));
-    }
-    kinds(alloc, cursor, count - 1)
-}
-
 /// The constant pool.
-pub fn read_pool<'a>(alloc: Global, cursor: &mut Cursor<'a>) -> Result<Pool<'a>, ReadError>
+pub fn read_pool<'a>(alloc: Global, cursor: &mut Cursor<'a>) -> Result<Pool<'a>, Or<ClassFault>>
     ensures { Gives (λ pool. pool) (pool_field cursor.old) result cursor.new }
 {
     let place = cursor.place();
     let bytes = cursor.rest();
-    let kinds = pool_kinds(alloc, cursor)?;
+    let count = number16(cursor, Missing::Here)?;
+    if count == 0 {
+        return Err(Or::Fault(ClassFault::Index(place)));
+    }
+    let kinds = kinds(alloc, cursor, count - 1)?;
     Ok(Pool {
         kinds,
         place,

@@ -6,11 +6,12 @@ ghost use Rattle.jm_strip.specs.Walks.{Skips};
 
 use crate::copies::name;
 use crate::pool::Pool;
+use jm_bytes::Or;
 use jm_class::fields::{Missing, number16, sized};
-use jm_class::{Cursor, ReadError};
+use jm_class::{ClassFault, Cursor};
 
 /// The interfaces.
-pub fn skip_interfaces(cursor: &mut Cursor) -> Result<(), ReadError>
+pub fn skip_interfaces(cursor: &mut Cursor) -> Result<(), Or<ClassFault>>
     ensures { Skips (list_of Short short_number cursor.old) result cursor.new }
 {
     let count = number16(cursor, Missing::Here)?;
@@ -20,42 +21,29 @@ pub fn skip_interfaces(cursor: &mut Cursor) -> Result<(), ReadError>
     Ok(())
 }
 
-/// An attribute of a field.
-fn skip_attribute(cursor: &mut Cursor, pool: &Pool) -> Result<(), ReadError>
-    ensures { Skips (attribute_field pool.now false cursor.old) result cursor.new }
-{
-    name(cursor, pool, Missing::Here)?;
-    sized(cursor, Missing::Here)?;
-    Ok(())
-}
-
-fn skip_attributes(cursor: &mut Cursor, pool: &Pool) -> Result<(), ReadError>
+/// The attributes of a field.
+fn skip_attributes(cursor: &mut Cursor, pool: &Pool) -> Result<(), Or<ClassFault>>
     ensures { Skips (list_of Short (attribute_field pool.now false) cursor.old)
         result cursor.new }
 {
     let count = number16(cursor, Missing::Here)?;
     for _k in 0..count {
-        skip_attribute(cursor, pool)?;
+        name(cursor, pool, Missing::Here)?;
+        sized(cursor, Missing::Here)?;
     }
     Ok(())
 }
 
-fn skip_field(cursor: &mut Cursor, pool: &Pool) -> Result<(), ReadError>
-    ensures { Skips (member_field pool.now false cursor.old) result cursor.new }
-{
-    let _access = number16(cursor, Missing::Here)?;
-    let _name = number16(cursor, Missing::Here)?;
-    let _descriptor = number16(cursor, Missing::Here)?;
-    skip_attributes(cursor, pool)
-}
-
 /// The fields.
-pub fn skip_fields(cursor: &mut Cursor, pool: &Pool) -> Result<(), ReadError>
+pub fn skip_fields(cursor: &mut Cursor, pool: &Pool) -> Result<(), Or<ClassFault>>
     ensures { Skips (list_of Short (member_field pool.now false) cursor.old) result cursor.new }
 {
     let count = number16(cursor, Missing::Here)?;
     for _k in 0..count {
-        skip_field(cursor, pool)?;
+        let _access = number16(cursor, Missing::Here)?;
+        let _name = number16(cursor, Missing::Here)?;
+        let _descriptor = number16(cursor, Missing::Here)?;
+        skip_attributes(cursor, pool)?;
     }
     Ok(())
 }

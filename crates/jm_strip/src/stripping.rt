@@ -1,6 +1,6 @@
 ghost use Rattle.std.specs.Prelude.{◌≡◌, Some, None, Err, false, filter, IfOk, OnOk};
 ghost use Rattle.jm_class.specs.declared.class.ClassFault.TheVariants.{Short};
-ghost use Rattle.jm_class.specs.declared.class.ReadError.TheVariants.{Fault};
+ghost use Rattle.jm_bytes.specs.declared.faults.Or.TheVariants.{Fault};
 ghost use Rattle.jm_class.specs.Classes.{ClassData, attribute_text, counted_text, class_text};
 ghost use Rattle.jm_class.specs.Classes.{ReadsAs};
 ghost use Rattle.jm_class.specs.ComputedClass.{attribute_field, class_fields, class_of};
@@ -14,13 +14,17 @@ use crate::lists::keep_attributes;
 use crate::methods::strip_methods;
 use crate::pool::{Pool, read_pool};
 use crate::skips::{skip_fields, skip_interfaces};
-use jm_bytes::{NoMemory, Text, extend};
+use jm_bytes::{Or, Text, extend};
 use jm_class::fields::{Missing, number16};
-use jm_class::{ClassFault, Cursor, ReadError, magic, major};
+use jm_class::{ClassFault, Cursor, magic, major};
 use std::alloc::Global;
 
 /// The attributes of the class.
-fn strip_attributes(cursor: &mut Cursor, text: &mut Vec<u8>, pool: &Pool) -> Result<(), ReadError>
+fn strip_attributes(
+    cursor: &mut Cursor,
+    text: &mut Vec<u8>,
+    pool: &Pool,
+) -> Result<(), Or<ClassFault>>
     ensures { Puts
         (λ xs. counted_text attribute_text (filter (λ a. stays false pool.now a.name) xs))
         (list_of Short (attribute_field pool.now false) cursor.old)
@@ -29,17 +33,8 @@ fn strip_attributes(cursor: &mut Cursor, text: &mut Vec<u8>, pool: &Pool) -> Res
     keep_attributes(cursor, text, pool, Missing::Here, false)
 }
 
-/// A text of some bytes, with room for more.
-fn with_room(alloc: Global, bytes: &[u8], room: usize) -> Result<Vec<u8>, NoMemory>
-    ensures { IfOk result (λ text. text.items ≡ bytes.now) }
-{
-    let mut text = Vec::with_capacity(alloc, room)?;
-    extend(&mut text, bytes)?;
-    Ok(text)
-}
-
 /// The fields of a class: what stands in front of the methods goes as it is.
-fn strip_class(alloc: Global, bytes: &[u8], cursor: &mut Cursor) -> Result<Vec<u8>, ReadError>
+fn strip_class(alloc: Global, bytes: &[u8], cursor: &mut Cursor) -> Result<Vec<u8>, Or<ClassFault>>
     requires { cursor.old ≡ record { place = 0; bytes = bytes.now } }
     ensures { Gives (λ text. text.items)
         (shown (λ c. class_text (strip c)) (class_fields cursor.old))
@@ -55,20 +50,21 @@ fn strip_class(alloc: Global, bytes: &[u8], cursor: &mut Cursor) -> Result<Vec<u
     skip_interfaces(cursor)?;
     skip_fields(cursor, &pool)?;
     let (front, _) = bytes.split_at(bytes.len() - cursor.len());
-    let mut text = with_room(alloc, front, bytes.len())?;
+    let mut text = Vec::with_capacity(alloc, bytes.len())?;
+    extend(&mut text, front)?;
     strip_methods(cursor, &mut text, &pool)?;
     strip_attributes(cursor, &mut text, &pool)?;
     Ok(text)
 }
 
 /// The text of a class without its debug information, and nothing behind the class.
-fn whole(alloc: Global, bytes: &[u8]) -> Result<Text, ReadError>
+fn whole(alloc: Global, bytes: &[u8]) -> Result<Text, Or<ClassFault>>
     ensures { Strips bytes.now result }
 {
     let mut cursor = Cursor::new(bytes);
     let text = strip_class(alloc, bytes, &mut cursor)?;
     if cursor.len() != 0 {
-        return Err(ReadError::Fault(ClassFault::Rest(cursor.place())));
+        return Err(Or::Fault(ClassFault::Rest(cursor.place())));
     }
     Ok(Text::from_vec(text))
 }
@@ -76,7 +72,7 @@ fn whole(alloc: Global, bytes: &[u8]) -> Result<Text, ReadError>
 /// A class file without its debug information: the line numbers and local variables of each Code,
 /// and the source file and its extension of the class. A fault is the one that `read` finds. It
 /// asks for memory twice at most.
-pub fn strip(alloc: Global, bytes: &[u8]) -> Result<Text, ReadError>
+pub fn strip(alloc: Global, bytes: &[u8]) -> Result<Text, Or<ClassFault>>
     ensures text { IfOk result (λ text. StripsTo bytes.now text) }
     ensures only { IfOk result (λ text. (c : ClassData) → ReadsAs bytes.now c
         → text ≡ class_text (strip c)) }

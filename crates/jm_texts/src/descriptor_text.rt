@@ -2,8 +2,8 @@
 ghost use Rattle.std.specs.Prelude.{◌≡◌, ◌++◌, ◌∷◌, [], codes, OnOk, IfOk};
 ghost use Rattle.std.specs.List.{flat_map};
 ghost use Rattle.jm_names.specs.UtfForms.{utf};
-ghost use Rattle.jm_texts.specs.DescribeText.{behind_comma, describe_text, is_marked, listed};
-ghost use Rattle.jm_texts.specs.DescribeText.{listed_behind, main_line, module_line, need_line};
+ghost use Rattle.jm_texts.specs.DescribeText.{describe_text, is_marked, listed_behind};
+ghost use Rattle.jm_texts.specs.DescribeText.{main_line, module_line, need_line};
 ghost use Rattle.jm_texts.specs.DescribeText.{opened_line, provides_line, uses_line, word_if};
 
 use jm_bytes::{NoMemory, Text, extend};
@@ -33,38 +33,7 @@ fn is_marked(flags: u16) -> bool
     flags & 0x0020 != 0
 }
 
-/// Puts texts at the end, with commas between them.
-fn extend_listed(alloc: Global, text: &mut Vec<u8>, texts: &[Text]) -> Result<(), NoMemory>
-    ensures { OnOk result (text.new.items ≡ text.old.items ++ listed texts.now) }
-{
-    match texts.split_first() {
-        Some((first, others)) => {
-            extend_utf(alloc, text, first.as_slice())?;
-            extend_others(alloc, text, others)
-        }
-        None => Ok(()),
-    }
-}
-
-/// Puts each text at the end behind a comma.
-fn extend_others(alloc: Global, text: &mut Vec<u8>, others: &[Text]) -> Result<(), NoMemory>
-    ensures { OnOk result (text.new.items ≡ text.old.items ++ flat_map behind_comma others.now) }
-{
-    for other in others {
-        extend_other(alloc, text, other)?;
-    }
-    Ok(())
-}
-
-/// Puts a text at the end behind a comma.
-fn extend_other(alloc: Global, text: &mut Vec<u8>, other: &Text) -> Result<(), NoMemory>
-    ensures { OnOk result (text.new.items ≡ text.old.items ++ behind_comma other.now) }
-{
-    extend(text, b",")?;
-    extend_utf(alloc, text, other.as_slice())
-}
-
-/// Puts a word and texts at the end, if there is a text.
+/// Puts a word and texts with commas between them at the end, if there is a text.
 fn extend_listed_behind(
     alloc: Global,
     text: &mut Vec<u8>,
@@ -74,11 +43,16 @@ fn extend_listed_behind(
     ensures { OnOk result
         (text.new.items ≡ text.old.items ++ listed_behind word.now texts.now) }
 {
-    if texts.is_empty() {
+    let Some((first, others)) = texts.split_first() else {
         return Ok(());
-    }
+    };
     extend(text, word)?;
-    extend_listed(alloc, text, texts)
+    extend_utf(alloc, text, first.as_slice())?;
+    for other in others {
+        extend(text, b",")?;
+        extend_utf(alloc, text, other.as_slice())?;
+    }
+    Ok(())
 }
 
 /// Puts the line on the module at the end: its name, and its version if it has one.
@@ -95,43 +69,21 @@ fn extend_module(alloc: Global, text: &mut Vec<u8>, d: &Descriptor) -> Result<()
     extend(text, b"\n")
 }
 
-/// Puts the line on a module that is required at the end.
-fn extend_need(alloc: Global, text: &mut Vec<u8>, need: &Need) -> Result<(), NoMemory>
-    ensures { OnOk result (text.new.items ≡ text.old.items ++ need_line need.now) }
-{
-    extend(text, b"requires ")?;
-    extend_if(text, is_marked(need.flags), b"transitive ")?;
-    extend_if(text, need.is_static(), b"static ")?;
-    extend_utf(alloc, text, need.name.as_slice())?;
-    extend(text, b"\n")
-}
-
 /// Puts the lines on the modules that are required at the end.
 fn extend_needs(alloc: Global, text: &mut Vec<u8>, needs: &[Need]) -> Result<(), NoMemory>
     ensures { OnOk result (text.new.items ≡ text.old.items ++ flat_map need_line needs.now) }
 {
     for need in needs {
-        extend_need(alloc, text, need)?;
+        extend(text, b"requires ")?;
+        extend_if(text, is_marked(need.flags), b"transitive ")?;
+        extend_if(text, need.is_static(), b"static ")?;
+        extend_utf(alloc, text, need.name.as_slice())?;
+        extend(text, b"\n")?;
     }
     Ok(())
 }
 
-/// Puts the line on a package at the end that is exported or opened, as the word says.
-fn extend_opened(
-    alloc: Global,
-    text: &mut Vec<u8>,
-    word: &[u8],
-    opened: &Opened,
-) -> Result<(), NoMemory>
-    ensures { OnOk result (text.new.items ≡ text.old.items ++ opened_line word.now opened.now) }
-{
-    extend(text, word)?;
-    extend_utf(alloc, text, opened.package.as_slice())?;
-    extend_listed_behind(alloc, text, b" to ", opened.to.as_slice())?;
-    extend(text, b"\n")
-}
-
-/// Puts the lines on such packages at the end.
+/// Puts the lines on packages at the end that are exported or opened, as the word says.
 fn extend_packages(
     alloc: Global,
     text: &mut Vec<u8>,
@@ -142,18 +94,12 @@ fn extend_packages(
         (text.new.items ≡ text.old.items ++ flat_map (opened_line word.now) packages.now) }
 {
     for opened in packages {
-        extend_opened(alloc, text, word, opened)?;
+        extend(text, word)?;
+        extend_utf(alloc, text, opened.package.as_slice())?;
+        extend_listed_behind(alloc, text, b" to ", opened.to.as_slice())?;
+        extend(text, b"\n")?;
     }
     Ok(())
-}
-
-/// Puts the line on a service at the end that is used.
-fn extend_use(alloc: Global, text: &mut Vec<u8>, service: &Text) -> Result<(), NoMemory>
-    ensures { OnOk result (text.new.items ≡ text.old.items ++ uses_line service.now) }
-{
-    extend(text, b"uses ")?;
-    extend_utf(alloc, text, service.as_slice())?;
-    extend(text, b"\n")
 }
 
 /// Puts the lines on the services at the end that are used.
@@ -161,20 +107,11 @@ fn extend_uses(alloc: Global, text: &mut Vec<u8>, services: &[Text]) -> Result<(
     ensures { OnOk result (text.new.items ≡ text.old.items ++ flat_map uses_line services.now) }
 {
     for service in services {
-        extend_use(alloc, text, service)?;
+        extend(text, b"uses ")?;
+        extend_utf(alloc, text, service.as_slice())?;
+        extend(text, b"\n")?;
     }
     Ok(())
-}
-
-/// Puts the line on a service at the end that is provided.
-fn extend_provided(alloc: Global, text: &mut Vec<u8>, provides: &Provides) -> Result<(), NoMemory>
-    ensures { OnOk result (text.new.items ≡ text.old.items ++ provides_line provides.now) }
-{
-    extend(text, b"provides ")?;
-    extend_utf(alloc, text, provides.service.as_slice())?;
-    extend(text, b" with")?;
-    extend_listed_behind(alloc, text, b" ", provides.classes.as_slice())?;
-    extend(text, b"\n")
 }
 
 /// Puts the lines on the services at the end that are provided.
@@ -183,7 +120,11 @@ fn extend_provides(alloc: Global, text: &mut Vec<u8>, provides: &[Provides]) -> 
         (text.new.items ≡ text.old.items ++ flat_map provides_line provides.now) }
 {
     for one in provides {
-        extend_provided(alloc, text, one)?;
+        extend(text, b"provides ")?;
+        extend_utf(alloc, text, one.service.as_slice())?;
+        extend(text, b" with")?;
+        extend_listed_behind(alloc, text, b" ", one.classes.as_slice())?;
+        extend(text, b"\n")?;
     }
     Ok(())
 }

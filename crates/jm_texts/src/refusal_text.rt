@@ -46,9 +46,7 @@ fn bad_info(alloc: Global, path: &Text, fault: DescriptorFault) -> Result<Vec<u8
     ensures { IfOk result (λ text. text.items
         ≡ codes "BadInfo " ++ path.now ++ 32 ∷ descriptor_fault_text fault) }
 {
-    let Ok(fault) = format!(in alloc; " {fault}") else {
-        return Err(NoMemory);
-    };
+    let fault = format!(in alloc; " {fault}")?;
     let mut text = copy_of(alloc, b"BadInfo ")?;
     extend(&mut text, path.as_slice())?;
     extend(&mut text, fault.as_bytes())?;
@@ -60,9 +58,7 @@ fn bad_entry(alloc: Global, name: &Text, fault: DescriptorFault) -> Result<Vec<u
     ensures { IfOk result (λ text. text.items
         ≡ codes "BadInfo" ++ spaced name.now ++ 32 ∷ descriptor_fault_text fault) }
 {
-    let Ok(fault) = format!(in alloc; " {fault}") else {
-        return Err(NoMemory);
-    };
+    let fault = format!(in alloc; " {fault}")?;
     let mut text = named(alloc, b"BadInfo", name)?;
     extend(&mut text, fault.as_bytes())?;
     Ok(text)
@@ -99,21 +95,9 @@ fn bad_class(alloc: Global, name: &Text, fault: ClassFault) -> Result<Vec<u8>, N
     ensures { IfOk result (λ text. text.items
         ≡ codes "BadClass" ++ spaced name.now ++ 32 ∷ class_fault_text fault) }
 {
-    let Ok(fault) = format!(in alloc; " {fault}") else {
-        return Err(NoMemory);
-    };
+    let fault = format!(in alloc; " {fault}")?;
     let mut text = named(alloc, b"BadClass", name)?;
     extend(&mut text, fault.as_bytes())?;
-    Ok(text)
-}
-
-/// The kind `TwoModules`, a directory and a name.
-fn two_modules(alloc: Global, dir: &Text, name: &Text) -> Result<Vec<u8>, NoMemory>
-    ensures { IfOk result (λ text. text.items ≡ codes "TwoModules " ++ dir.now ++ spaced name.now) }
-{
-    let mut text = copy_of(alloc, b"TwoModules ")?;
-    extend(&mut text, dir.as_slice())?;
-    extend_name(alloc, &mut text, name)?;
     Ok(text)
 }
 
@@ -126,21 +110,6 @@ fn two_named(alloc: Global, kind: &[u8], name: &Text, other: &Text) -> Result<Ve
     Ok(text)
 }
 
-/// The kind `SplitPackage`, a package and two modules.
-fn split_package(
-    alloc: Global,
-    shared: &Text,
-    first: &Text,
-    second: &Text,
-) -> Result<Vec<u8>, NoMemory>
-    ensures { IfOk result (λ text. text.items
-        ≡ codes "SplitPackage" ++ spaced shared.now ++ spaced first.now ++ spaced second.now) }
-{
-    let mut text = two_named(alloc, b"SplitPackage", shared, first)?;
-    extend_name(alloc, &mut text, second)?;
-    Ok(text)
-}
-
 impl Refusal {
     /// Its kind and the carried values, each behind a space. Names are put in UTF-8.
     pub fn text(&self, alloc: Global) -> Result<Vec<u8>, NoMemory>
@@ -150,7 +119,12 @@ impl Refusal {
             Refusal::BadInfo { path, fault } => bad_info(alloc, path, *fault),
             Refusal::BadEntry { name, fault } => bad_entry(alloc, name, *fault),
             Refusal::Foreign(name) => named(alloc, b"Foreign", name),
-            Refusal::TwoModules { dir, name } => two_modules(alloc, dir, name),
+            Refusal::TwoModules { dir, name } => {
+                let mut text = copy_of(alloc, b"TwoModules ")?;
+                extend(&mut text, dir.as_slice())?;
+                extend_name(alloc, &mut text, name)?;
+                Ok(text)
+            }
             Refusal::ReservedModule(name) => named(alloc, b"ReservedModule", name),
             Refusal::NoRoot(name) => named(alloc, b"NoRoot", name),
             Refusal::Missing { name, by } => two_named(alloc, b"Missing", name, by),
@@ -159,7 +133,11 @@ impl Refusal {
                 package,
                 first,
                 second,
-            } => split_package(alloc, package, first, second),
+            } => {
+                let mut text = two_named(alloc, b"SplitPackage", package, first)?;
+                extend_name(alloc, &mut text, second)?;
+                Ok(text)
+            }
             Refusal::BadName { name, fault } => bad_name(alloc, name, *fault),
             Refusal::BadClass { name, fault } => bad_class(alloc, name, *fault),
             Refusal::Clash(name) => named(alloc, b"Clash", name),

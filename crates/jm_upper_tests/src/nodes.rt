@@ -1,8 +1,8 @@
 //! The nodes of the two trees of a pool.
 
 use crate::pools::{are_fit, push};
-use jm_bytes::{NoMemory, Text, extend};
-use jm_nodes::{Holds, NodesError, Owner, TreeNode, nodes};
+use jm_bytes::{NoMemory, Or, Text, extend};
+use jm_nodes::{Clash, Holds, Owner, TreeNode, nodes};
 use jm_pool::Pool;
 use std::alloc::Global;
 use std::test::Fail;
@@ -58,11 +58,11 @@ fn tell(alloc: Global, out: &mut Vec<u8>, pool: &Pool) -> Result<(), NoMemory> {
     }
     match nodes(alloc, pool) {
         Ok(nodes) => tell_nodes(out, nodes.as_slice()),
-        Err(NodesError::Clash(name)) => {
+        Err(Or::Fault(Clash(name))) => {
             extend(out, b"Clash ")?;
             extend(out, name.as_slice())
         }
-        Err(NodesError::Memory) => Err(NoMemory),
+        Err(Or::Memory) => Err(NoMemory),
     }
 }
 

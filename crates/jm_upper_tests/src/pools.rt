@@ -36,7 +36,7 @@ pub fn are_fit(pool: &Pool) -> bool
 pub fn push(alloc: Global, pool: &mut Pool, path: &str, bytes: &[u8]) -> Result<(), Fail> {
     let name = path.strip_prefix("mods").unwrap_or(path);
     let name = Text::copy_of(alloc, name.as_bytes())?;
-    pool.push(name, Text::copy_of(alloc, bytes)?)?;
+    pool.try_push(name, Text::copy_of(alloc, bytes)?)?;
     Ok(())
 }
 

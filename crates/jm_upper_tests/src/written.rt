@@ -7,9 +7,9 @@ use crate::calls::shelf_of;
 use crate::images::{EMPTY, EMPTY_BIG, SIX, SIX_BIG, SIX_IMAGE};
 use crate::pools::{are_fit, pool_of};
 use crate::told::text_of;
-use jm_bytes::{Order, Text};
+use jm_bytes::{Or, Order, Text};
 use jm_pool::Pool;
-use jm_writer::{Draft, PlanError, plan, write};
+use jm_writer::{Draft, PlanFault, plan, write};
 use std::alloc::{AllocError, Global};
 use std::test::Fail;
 
@@ -162,11 +162,12 @@ fn refusal(alloc: Global, order: Order, pool: &Pool) -> Result<String, Fail> {
     }
     match plan(alloc, order, pool) {
         Ok(_) => Ok(String::from_str(alloc, "a draft")?),
-        Err(PlanError::Clash(name)) => {
+        Err(Or::Fault(PlanFault::Clash(name))) => {
             let name = text_of(alloc, name.as_slice())?;
             Ok(format!(in alloc; "Clash {name}")?)
         }
-        Err(error) => Ok(format!(in alloc; "{error:?}")?),
+        Err(Or::Fault(fault)) => Ok(format!(in alloc; "{fault:?}")?),
+        Err(Or::Memory) => Ok(String::from_str(alloc, "no memory")?),
     }
 }
 
@@ -175,7 +176,7 @@ fn crowd(alloc: Global, count: usize) -> Result<Pool, Fail> {
     let mut pool = Pool::new(alloc);
     for number in 0..count {
         let name = format!(in alloc; "/m/p/{number}")?;
-        pool.push(Text::from_vec(name.into_bytes()), Text::new(alloc))?;
+        pool.try_push(Text::from_vec(name.into_bytes()), Text::new(alloc))?;
     }
     Ok(pool)
 }
@@ -184,7 +185,7 @@ fn crowd(alloc: Global, count: usize) -> Result<Pool, Fail> {
 fn giant(alloc: Global, length: usize) -> Result<Pool, Fail> {
     let mut pool = Pool::new(alloc);
     let bytes = Vec::from_elem(alloc, 0, length)?;
-    pool.push(Text::copy_of(alloc, b"/m/a")?, Text::from_vec(bytes))?;
+    pool.try_push(Text::copy_of(alloc, b"/m/a")?, Text::from_vec(bytes))?;
     Ok(pool)
 }
 

@@ -1,6 +1,6 @@
 -- The texts of a row's name in the strings' front, and the states after them.
 use Rattle.std.proofs.Common.{◌≡◌, ℕ, suc, ◌+◌, ◌<◌, ◌==◌, ◌&&◌, not, Bool, true, false, cond, List, [], ◌∷◌}
-use Rattle.std.proofs.Common.{◌++◌, length, take, drop, get_or, refl, sym, ap, ◌∙◌, arith}
+use Rattle.std.proofs.Common.{◌++◌, append-nil, length, take, drop, get_or, refl, sym, ap, ◌∙◌, arith}
 use Rattle.std.proofs.Math.Seq.{drop-cons}
 use Rattle.std.proofs.lemmas.Bool.{ltb-true}
 use Rattle.std.proofs.lemmas.List.{length-take-le}
@@ -11,6 +11,7 @@ use Rattle.jm_names.proofs.HashLaws.{state_after-append}
 use Rattle.jm_names.specs.Hash.{state_after}
 use Rattle.jm_names.specs.Names.{Cut, ext_end, is_empty, join, module_front, parent_front}
 use Rattle.jm_valid.specs.declared.sections.Sections.{Sections}
+use Rattle.jm_valid.specs.Marks.{with_marks}
 use Rattle.jm_valid.specs.Sections.{strings_in}
 use Rattle.jm_valid.proofs.PassageLaws.{take_next}
 
@@ -44,42 +45,40 @@ empty_at texts place below =
 
 -- The marks of the pieces that aren't empty
 
-pub module_none : (t : List ℕ) (s : ℕ) → is_empty t ≡ true → s ≡ state_after s (module_front t)
-module_none [] s none = refl
-module_none (x ∷ t) s none = cc
+pub marked_none : (before t behind : List ℕ) (s : ℕ) → is_empty t ≡ true → s ≡ state_after s (with_marks before t behind)
+marked_none before [] behind s none = refl
+marked_none before (x ∷ t) behind s none = cc
 
-pub module_some : (t : List ℕ) (s : ℕ) → is_empty t ≡ false → state_after (state_after (state_after s (47 ∷ [])) t) (47 ∷ [])
-    ≡ state_after s (module_front t)
-module_some [] s some = cc
-module_some (x ∷ t) s some = sym (state_after-append (state_after s (47 ∷ [])) (x ∷ t) (47 ∷ []))
+pub marked_some : (before t behind : List ℕ) (s : ℕ) → is_empty t ≡ false
+    → state_after (state_after (state_after s before) t) behind ≡ state_after s (with_marks before t behind)
+marked_some before [] behind s some = cc
+marked_some before (x ∷ t) behind s some =
+    sym (state_after-append s before ((x ∷ t) ++ behind) ∙ state_after-append (state_after s before) (x ∷ t) behind)
 
-pub parent_none : (t : List ℕ) (s : ℕ) → is_empty t ≡ true → s ≡ state_after s (parent_front t)
-parent_none [] s none = refl
-parent_none (x ∷ t) s none = cc
+module_marked : (t : List ℕ) → with_marks (47 ∷ []) t (47 ∷ []) ≡ module_front t
+module_marked [] = refl
+module_marked (x ∷ t) = refl
 
-pub parent_some : (t : List ℕ) (s : ℕ) → is_empty t ≡ false → state_after (state_after s t) (47 ∷ []) ≡ state_after s (parent_front t)
-parent_some [] s some = cc
-parent_some (x ∷ t) s some = sym (state_after-append s (x ∷ t) (47 ∷ []))
+parent_marked : (t : List ℕ) → with_marks [] t (47 ∷ []) ≡ parent_front t
+parent_marked [] = refl
+parent_marked (x ∷ t) = refl
 
-pub ext_none : (t : List ℕ) (s : ℕ) → is_empty t ≡ true → s ≡ state_after s (ext_end t)
-ext_none [] s none = refl
-ext_none (x ∷ t) s none = cc
-
-pub ext_some : (t : List ℕ) (s : ℕ) → is_empty t ≡ false → state_after (state_after s (46 ∷ [])) t ≡ state_after s (ext_end t)
-ext_some [] s some = cc
-ext_some (x ∷ t) s some = refl
+ext_marked : (t : List ℕ) → with_marks (46 ∷ []) t [] ≡ ext_end t
+ext_marked [] = refl
+ext_marked (x ∷ t) = ap (λ l. 46 ∷ l) (append-nil (x ∷ t))
 
 pub joined_state : (cut : Cut) (s : ℕ)
-    → state_after (state_after (state_after (state_after s (module_front cut.module)) (parent_front cut.parent)) cut.base)
-    (ext_end cut.ext) ≡ state_after s (join cut)
+    → state_after (state_after (state_after (state_after s (with_marks (47 ∷ []) cut.module (47 ∷ [])))
+    (with_marks [] cut.parent (47 ∷ [])))
+    cut.base) (with_marks (46 ∷ []) cut.ext []) ≡ state_after s (join cut)
 joined_state cut s =
     let m = module_front cut.module in
     let p = parent_front cut.parent in
     let e = ext_end cut.ext in
-    sym (
+    rw (module_marked cut.module, parent_marked cut.parent, ext_marked cut.ext) (sym (
     state_after-append s m (p ++ (cut.base ++ e)) ∙ state_after-append (state_after s m) p (cut.base ++ e)
     ∙ state_after-append (state_after (state_after s m) p) cut.base e
-    )
+    ))
 
 -- each of the four texts ends where all do
 pub each_ends : (a b c d : Bool) → a && b && c && d ≡ true → (a ≡ true) × (b ≡ true) × (c ≡ true) × (d ≡ true)

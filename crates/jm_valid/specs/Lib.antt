@@ -1,3 +1,4 @@
+pub mod Marks
 pub mod Opened
 pub mod Parts
 pub mod Passages

@@ -18,9 +18,13 @@ pub record ContentsAt (s : Sections) (slots : List ℕ) (c : Contents) : Type 0 
   pub count : c.count ≡ length (entries_at s slots)
   pub ranges : c.ranges.items ≡ ranges_with_bytes (ranges_of (entries_at s slots))
 
--- the slots of a table of so many, from one on: 4096 of them, or all that are left
+-- the slots of a table of so many, from one on: so many of them, or all that are left
+abbrev pub slots_from : ℕ → ℕ → ℕ → List ℕ
+slots_from all most first = range_with_len first (min (first + most) all - first)
+
+-- those of a part of at most 4096
 abbrev pub part_slots : ℕ → ℕ → List ℕ
-part_slots all first = range_with_len first (min (first + 4096) all - first)
+part_slots all first = slots_from all 4096 first
 
 -- the entries of a part, put behind those before it
 pub record Joins (old new part : Contents) : Type 0 where

@@ -1,18 +1,20 @@
-ghost use Rattle.std.specs.Prelude.{◌≡◌, ◌+◌, ◌-◌, ◌^◌, ◌<◌, ◌≤◌, ◌++◌, ◌∷◌, [], length, flat_map};
+ghost use Rattle.std.specs.Prelude.{◌≡◌, ◌+◌, ◌^◌, ◌<◌, ◌++◌, ◌∷◌, [], length, flat_map};
 ghost use Rattle.std.specs.Prelude.{IfOk, OnOk, IsOkAnd};
 ghost use Rattle.std.specs.List.{range_with_len};
 ghost use Rattle.jm_form.specs.Overlap.{ranges_of};
-ghost use Rattle.jm_valid.specs.Parts.{part_slots, ContentsAt, Joins};
+ghost use Rattle.jm_valid.specs.Parts.{part_slots, slots_from, ContentsAt, Joins};
 ghost use Rattle.jm_valid.specs.Ranges.{ranges_with_bytes};
 ghost use Rattle.jm_valid.specs.Sections.{entries_in, IsSound};
 
 use crate::row_names::Names;
 use crate::sections::Sections;
-use crate::unmetered::entry_row;
+use crate::slots::entry_row;
 use jm_bytes::{List, NoMemory};
 use jm_form::Range;
 use jm_halves::{Gate, map_halves};
 use std::alloc::Global;
+use std::marker::Brand;
+use std::sync::ledger::Blank;
 use std::thread::Threads;
 
 /// How many slots are looked through at one time, in parts that the jobs share.
@@ -41,26 +43,24 @@ fn add_entry(contents: &mut Contents, range: Range) -> Result<(), NoMemory>
     Ok(())
 }
 
-/// The entries of the slots from `first` on and below `end`.
+/// The entries of the slots from `first` on, of at most so many.
 fn contents_of_slots(
     alloc: Global,
     names: &Names,
     first: u32,
-    end: u32,
+    most: u32,
 ) -> Result<Contents, NoMemory>
-    requires within { end ≤ names.now.sections.header.length }
-    requires sound { IsSound names.now.sections }
-    ensures { IfOk result
-        (ContentsAt names.now.sections (range_with_len first (end - first))) }
+    requires { IsSound names.now.sections }
+    ensures { IfOk result (ContentsAt names.now.sections
+        (slots_from names.now.sections.header.length most first)) }
 {
     let mut contents = Contents {
         count: 0,
         ranges: Vec::new(alloc),
     };
-    // A range ends within the contents, whose length has 64 bits.
-    let _size = names.sections.size();
+    let end = first.saturating_add(most).min(names.sections.header.length);
     for slot in first..end.max(first) {
-        if let Some(row) = entry_row(names, slot) {
+        if let Some(row) = entry_row::<Brand>(names, slot, Blank::new(1)) {
             let range = Range {
                 start: row.offset,
                 slot,
@@ -70,16 +70,6 @@ fn contents_of_slots(
         }
     }
     Ok(contents)
-}
-
-/// The entries of the part that begins at this slot.
-fn contents_of_part(alloc: Global, names: &Names, first: u32) -> Result<Contents, NoMemory>
-    requires sound { IsSound names.now.sections }
-    ensures { IfOk result
-        (ContentsAt names.now.sections (part_slots names.now.sections.header.length first)) }
-{
-    let end = first.saturating_add(PART).min(names.sections.header.length);
-    contents_of_slots(alloc, names, first, end)
 }
 
 /// The first slots of the parts of a table of this length.
@@ -125,7 +115,7 @@ fn contents_of_parts<R: Threads + Sync, G: Gate + Sync>(
     ensures { IfOk result (ContentsAt names.now.sections
         (flat_map (part_slots names.now.sections.header.length) firsts.now)) }
 {
-    let look = |first: &u32| contents_of_part(alloc, names, *first);
+    let look = |first: &u32| contents_of_slots(alloc, names, *first, PART);
     let parts = map_halves(rt, alloc, jobs, firsts, &look, gate)?;
     let mut all = Contents {
         count: 0,

@@ -1,6 +1,5 @@
 ghost use Rattle.std.specs.Prelude.{◌≡◌, length};
 ghost use Rattle.jm_form.specs.Validity.{Valid, ValidAs};
-ghost use Rattle.jm_valid.specs.Opened.{IsIndexOf};
 
 use crate::index::Index;
 use jm_bytes::Buf;
@@ -25,14 +24,12 @@ impl<'a> Model for Image<'a> {
 }
 
 impl<'a> Image<'a> {
-    /// The image of bytes that were found to be valid.
-    pub(crate) fn checked(bytes: &'a [u8], header: Header) -> Image<'a>
-        requires { IsIndexOf bytes.now (length bytes.now) header }
-        ensures { result ≡ bytes.now }
+    /// The image whose index has all of its bytes.
+    pub(crate) fn whole(index: Index<'a>) -> Image<'a>
+        requires { index.length ≡ length index.bytes }
+        ensures { result ≡ index.entry.bytes }
     {
-        Image {
-            index: Index::checked(bytes, header, bytes.len() as u64),
-        }
+        Image { index }
     }
 
     /// The image of bytes that were found to be valid before. Nothing is checked again; the header
@@ -42,7 +39,7 @@ impl<'a> Image<'a> {
         ensures { result ≡ bytes.now }
     {
         match read_header(bytes) {
-            Ok(header) => Image::checked(bytes, header),
+            Ok(header) => Image::whole(Index::checked(bytes, header, bytes.len() as u64)),
             Err(_) => unreachable!(),
         }
     }

@@ -9,10 +9,8 @@ mod open_error;
 mod overlap;
 mod passages;
 mod row_names;
-mod search;
 mod sections;
 mod slots;
-mod unmetered;
 
 pub use image::Image;
 pub use index::Index;

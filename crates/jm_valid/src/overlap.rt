@@ -1,5 +1,5 @@
 ghost use Rattle.std.specs.Prelude.{◌≡◌, ◌≤◌, ◌<◌, ◌⊎◌, ◌++◌, ◌∷◌, [], List, All, AllPairs};
-ghost use Rattle.std.specs.Prelude.{IsPermutation, IfSome, option_map};
+ghost use Rattle.std.specs.Prelude.{IfSome, option_map};
 ghost use Rattle.jm_form.specs.ComputedOverlap.{first_overlap, meets};
 ghost use Rattle.jm_form.specs.Overlap.{Meets, MeetsOne};
 ghost use Rattle.jm_valid.specs.Ranges.{Follows, IsLeastIfAny};
@@ -14,15 +14,6 @@ struct Sweep {
     furthest: Range,
     /// The one of the least slot of those that overlap another.
     least: Option<Range>,
-}
-
-/// Orders the ranges by their start.
-fn sort_by_start(ranges: &mut [Range])
-    requires { AllPairs (λ r s. r.slot < s.slot) ranges.old }
-    ensures moved { IsPermutation ranges.old ranges.new }
-    ensures order { AllPairs Follows ranges.new }
-{
-    ranges.sort_unstable();
 }
 
 /// The ranges are of two slots and have a byte in common.
@@ -120,7 +111,7 @@ pub fn first_overlap(ranges: &mut [Range]) -> Option<Damage>
     requires some { All (λ r. r.start < r.end) ranges.old }
     ensures { result ≡ option_map (λ o. Damage.Overlap o.0 o.1) (first_overlap ranges.old) }
 {
-    sort_by_start(ranges);
+    ranges.sort_unstable();
     let first = least_meeting(ranges)?;
     let second = least_partner(ranges, &first)?;
     Some(Damage::Overlap {

@@ -7,7 +7,7 @@ ghost use Rattle.std.specs.Prelude.{IfOk, Ok, length, map, true};
 ghost use Rattle.std.specs.List.{range_with_len};
 ghost use Rattle.jm_form.specs.Texts.{text_at};
 ghost use Rattle.jm_names.specs.Hash.{state_after};
-ghost use Rattle.jm_valid.specs.Passages.{passage_of, passages, ArePassages, HasLongText};
+ghost use Rattle.jm_valid.specs.Passages.{passage_of, ArePassages, HasLongText};
 
 use jm_bytes::{List, NoMemory};
 use jm_form::front;
@@ -102,23 +102,6 @@ fn passage_at(
     Ok(List::from_vec(states))
 }
 
-/// The passages of the texts at the places that lie a number of stretches from the front, the last
-/// one first, which stands behind the end.
-fn passages_of(alloc: Global, texts: &[u8]) -> Result<List<List<u32>>, NoMemory>
-    ensures { IfOk result (λ ps. ps ≡ passages texts.now (length texts.now / 4096 + 2)) }
-{
-    let last = texts.len() / STRETCH;
-    let mut passages = List::new(alloc);
-    passages.push(List::from_vec(first_states(alloc)?))?;
-    for nth in 0..last + 1 {
-        let place = (last - nth) * STRETCH;
-        let behind = passages.as_slice()[nth].as_slice();
-        let passage = passage_at(alloc, texts, place, behind)?;
-        passages.push(passage)?;
-    }
-    Ok(passages)
-}
-
 /// Whether a stretch has no zero byte, so that a text is so long or longer.
 fn has_long_text(texts: &[u8]) -> bool
     ensures { result ≡ true → HasLongText texts.now }
@@ -135,14 +118,22 @@ fn has_long_text(texts: &[u8]) -> bool
 }
 
 /// The passages of the texts at the places that lie a number of stretches from the front, the last
-/// one first; none where each text is short.
-#[tactic(auto, using(crate::proofs::PassageLaws::passages_are))]
+/// one first, which stands behind the end; none where each text is short.
 pub fn passages_if_long(alloc: Global, texts: &[u8]) -> Result<List<List<u32>>, NoMemory>
     ensures passages { IfOk result (ArePassages texts.now) }
     ensures short { result ≡ Ok [] ⊎ HasLongText texts.now }
 {
+    let mut passages = List::new(alloc);
     if !has_long_text(texts) {
-        return Ok(List::new(alloc));
+        return Ok(passages);
     }
-    passages_of(alloc, texts)
+    let last = texts.len() / STRETCH;
+    passages.push(List::from_vec(first_states(alloc)?))?;
+    for nth in 0..last + 1 {
+        let place = (last - nth) * STRETCH;
+        let behind = passages.as_slice()[nth].as_slice();
+        let passage = passage_at(alloc, texts, place, behind)?;
+        passages.push(passage)?;
+    }
+    Ok(passages)
 }

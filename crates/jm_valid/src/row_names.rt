@@ -3,8 +3,8 @@
 ghost use Rattle.std.specs.Prelude.{◌≡◌, ◌≤◌, ◌+◌, ◌/◌, true, length, drop, IfErr, IfOk, IfSome};
 ghost use Rattle.jm_form.specs.Entries.{name_of, texts_end};
 ghost use Rattle.jm_form.specs.Texts.{text_at, text_ends};
-ghost use Rattle.jm_names.specs.Hash.{hash, state_after};
-ghost use Rattle.jm_names.specs.Names.{is_empty, module_front, parent_front, ext_end};
+ghost use Rattle.jm_names.specs.Hash.{state_after};
+ghost use Rattle.jm_valid.specs.Marks.{with_marks};
 ghost use Rattle.jm_valid.specs.Passages.{nth_passage, passage_of, ArePassages, HasLongText};
 ghost use Rattle.jm_valid.specs.Sections.{strings_in};
 
@@ -52,12 +52,13 @@ impl<'a> Names<'a> {
         Some(self.passages.as_slice()[count - 1 - nth].as_slice())
     }
 
-    /// The state after the text at a place of the strings' front. It looks at no more bytes than
-    /// two stretches have.
-    fn state_at(&self, state: u32, place: usize) -> u32
-        requires { place ≤ length self.now.sections.texts.now }
-        ensures { result ≡ state_after state (text_at self.now.sections.texts.now place) }
+    /// The state after the text at a place of the strings. It looks at no more bytes than two
+    /// stretches have.
+    fn state_after_text(&self, state: u32, place: u64) -> u32
+        requires { text_ends (strings_in self.now.sections) place ≡ true }
+        ensures { result ≡ state_after state (text_at (strings_in self.now.sections) place) }
     {
+        let place = place as usize;
         let (_, rest) = self.sections.texts.split_at(place);
         match self.passage_behind(place) {
             Some(passage) => state_over_stretch(state, rest, STRETCH - place % STRETCH, passage),
@@ -65,68 +66,18 @@ impl<'a> Names<'a> {
         }
     }
 
-    /// The state after the text at a place of the strings.
-    fn state_after_text(&self, state: u32, place: u64) -> u32
+    /// The state after the text at a place of the strings between these two marks, or after
+    /// nothing where it is empty.
+    fn state_after_marked(&self, state: u32, before: &[u8], place: u64, behind: &[u8]) -> u32
         requires { text_ends (strings_in self.now.sections) place ≡ true }
-        ensures { result ≡ state_after state (text_at (strings_in self.now.sections) place) }
+        ensures { result ≡ state_after state
+            (with_marks before.now (text_at (strings_in self.now.sections) place) behind.now) }
     {
-        self.state_at(state, place as usize)
-    }
-
-    /// The text at a place of the strings is empty.
-    fn is_empty(&self, place: u64) -> bool
-        requires { text_ends (strings_in self.now.sections) place ≡ true }
-        ensures { result ≡ is_empty (text_at (strings_in self.now.sections) place) }
-    {
-        self.sections.texts[place as usize] == 0
-    }
-
-    /// The state after the module and its two slashes, or after nothing where it is empty.
-    fn state_after_module(&self, state: u32, place: u64) -> u32
-        requires { text_ends (strings_in self.now.sections) place ≡ true }
-        ensures { result
-            ≡ state_after state (module_front (text_at (strings_in self.now.sections) place)) }
-    {
-        if self.is_empty(place) {
+        if self.sections.texts[place as usize] == 0 {
             return state;
         }
-        let state = self.state_after_text(state_after(state, b"/"), place);
-        state_after(state, b"/")
-    }
-
-    /// The state after the parent and its slash, or after nothing where it is empty.
-    fn state_after_parent(&self, state: u32, place: u64) -> u32
-        requires { text_ends (strings_in self.now.sections) place ≡ true }
-        ensures { result
-            ≡ state_after state (parent_front (text_at (strings_in self.now.sections) place)) }
-    {
-        if self.is_empty(place) {
-            return state;
-        }
-        state_after(self.state_after_text(state, place), b"/")
-    }
-
-    /// The state after the extension and its dot, or after nothing where it is empty.
-    fn state_after_ext(&self, state: u32, place: u64) -> u32
-        requires { text_ends (strings_in self.now.sections) place ≡ true }
-        ensures { result
-            ≡ state_after state (ext_end (text_at (strings_in self.now.sections) place)) }
-    {
-        if self.is_empty(place) {
-            return state;
-        }
-        self.state_after_text(state_after(state, b"."), place)
-    }
-
-    /// The hash of the name of a row whose four texts end in the strings.
-    fn hash_of_row(&self, seed: u32, row: &Row) -> u32
-        requires { texts_end (strings_in self.now.sections) row.now ≡ true }
-        ensures { result ≡ hash seed (name_of (strings_in self.now.sections) row.now) }
-    {
-        let state = self.state_after_module(seed, row.module);
-        let state = self.state_after_parent(state, row.parent);
-        let state = self.state_after_text(state, row.base);
-        hash_of_state(self.state_after_ext(state, row.ext))
+        let state = self.state_after_text(state_after(state, before), place);
+        state_after(state, behind)
     }
 }
 
@@ -168,6 +119,10 @@ impl<'a> HashedName for RowName<'a> {
     ghost name = { λ n. name_of (strings_in n.names.now.sections) n.row };
 
     fn hash(&self, seed: u32) -> u32 {
-        self.names.hash_of_row(seed, &self.row)
+        let (names, row) = (self.names, &self.row);
+        let state = names.state_after_marked(seed, b"/", row.module, b"/");
+        let state = names.state_after_marked(state, b"", row.parent, b"/");
+        let state = names.state_after_text(state, row.base);
+        hash_of_state(names.state_after_marked(state, b".", row.ext, b""))
     }
 }

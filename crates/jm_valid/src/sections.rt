@@ -1,4 +1,4 @@
-ghost use Rattle.std.specs.Prelude.{◌≡◌, Ok};
+ghost use Rattle.std.specs.Prelude.{◌≡◌, ◌^◌, ◌<◌, Ok};
 ghost use Rattle.jm_form.specs.Head.{header_of};
 ghost use Rattle.jm_form.specs.Places as places;
 ghost use Rattle.jm_form.specs.Texts.{text_ends};
@@ -19,6 +19,7 @@ pub struct Sections<'a> {
     /// How many bytes the contents have, of which these bytes may hold none.
     pub size: u64,
     pub ghost header_read: { header_of bytes.now ≡ Ok header },
+    pub ghost size_fits: { size < 2 ^ 64 },
     pub ghost texts_cut: { texts.now ≡ ended_texts (places.strings bytes.now header) },
 }
 
@@ -36,34 +37,10 @@ pub fn ended_texts(strings: &[u8]) -> &[u8]
 impl<'a> Sections<'a> {
     ghost use Rattle.jm_valid.specs.Sections.{strings_in};
 
-    /// The sections of an image that begins with these bytes and whose contents have this size.
-    pub fn of(bytes: &'a [u8], header: Header, size: u64) -> Sections<'a>
-        requires { header_of bytes.now ≡ Ok header }
-        ensures bytes { result.bytes.now ≡ bytes.now }
-        ensures header { result.header ≡ header }
-        ensures size { result.size ≡ size }
-    {
-        let (_, behind) = bytes.split_at(header.strings_place());
-        let (strings, _) = behind.split_at(header.strings as usize);
-        Sections {
-            bytes,
-            header,
-            texts: ended_texts(strings),
-            size,
-        }
-    }
-
     /// A text from this place of the strings on ends within them.
     pub fn ends(&self, place: u64) -> bool
         ensures { result ≡ text_ends (strings_in self.now) place }
     {
         place < self.texts.len() as u64
-    }
-
-    /// How many bytes the contents have.
-    pub fn size(&self) -> u64
-        ensures { result ≡ self.now.size }
-    {
-        self.size
     }
 }

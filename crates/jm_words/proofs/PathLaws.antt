@@ -1,17 +1,15 @@
 -- Words that are text make a command whose paths are text and whose numbers are within limits.
 use Rattle.std.proofs.Common.{◌≡◌, ℕ, ◌+◌, ◌<◌, ◌≤◌, ◌==◌, ◌&&◌, nat_le, Bool, true, false, cond, List, []}
-use Rattle.std.proofs.Common.{◌∷◌, length, get_or, map, string_bytes, String, inl, inr, Option, Some, None}
+use Rattle.std.proofs.Common.{◌∷◌, length, get_or, map, string_bytes, String, Option, Some, None}
 use Rattle.std.proofs.Common.{Result, Ok, Err, IfOk, IfSome, All, IsUtf8, refl, sym, subst, arith}
 use Rattle.std.specs.Prelude.{option_map, unwrap_or}
 use Rattle.std.specs.List.{after_first, before_first, list_any}
 use Rattle.std.proofs.lemmas.Bool.{and_parts, leb-true}
 use Rattle.std.proofs.lemmas.List.Elements.{All-head, All-map, All-nil, All-tail}
 use Rattle.std.proofs.lemmas.Str.{IsUtf8-string_bytes}
-use Rattle.jm_bytes.specs.Results.{UnlessMemory}
 use Rattle.jm_names.specs.Names.{is_empty}
 use Rattle.jm_words.specs.declared.tasks.Plugin.TheVariants as plugin
-use Rattle.jm_words.specs.declared.errors.WordsError.{WordsError}
-use Rattle.jm_words.specs.declared.errors.WordsError.TheVariants.{Memory}
+use Rattle.jm_words.specs.declared.errors.WordsFault.{WordsFault}
 use Rattle.jm_words.specs.declared.errors.WordsKind.{WordsKind}
 use Rattle.jm_words.specs.declared.tasks.Command.{Command}
 use Rattle.jm_words.specs.declared.drafts.Draft.{Draft}
@@ -247,7 +245,7 @@ after_is_fit at all standing role are is = go (first_kind standing.before standi
 
 -- All words
 
-words_are_fit : (choices : List Choice) (at all : ℕ) (words : List (List ℕ)) (read : Result Standing WordsError) → All IsUtf8 words
+words_are_fit : (choices : List Choice) (at all : ℕ) (words : List (List ℕ)) (read : Result Standing WordsFault) → All IsUtf8 words
     → IfOk read (λ standing. AreFit standing.draft) → IfOk (after_words choices at all words read) (λ standing. AreFit standing.draft)
 words_are_fit choices at all [] read are fit = fit
 words_are_fit choices at all (word ∷ words) (Ok standing) are fit =
@@ -260,7 +258,7 @@ reading_is_fit : (verb : Verb) (words : List (List ℕ)) → All IsUtf8 words �
 reading_is_fit verb words are = go (reading_of verb words) (words_are_fit (options verb) 2 (length words + 1) words
     (Ok (before_words verb)) are (tt, tt, tt, tt, tt, tt, tt))
   where
-    go : (read : Result Standing WordsError) → IfOk read (λ standing. AreFit standing.draft) → IfOk (draft_or_fault read) AreFit
+    go : (read : Result Standing WordsFault) → IfOk read (λ standing. AreFit standing.draft) → IfOk (draft_or_fault read) AreFit
     go (Ok standing) fit = fit
     go (Err fault) fit = tt
 
@@ -329,7 +327,7 @@ words_are_known (name ∷ words) are = go (verb_named name)
     made None known = tt
     made (Some command) known = known
 
-    read : (verb : Verb) (draft : Result Draft WordsError) → IfOk draft AreFit
+    read : (verb : Verb) (draft : Result Draft WordsFault) → IfOk draft AreFit
         → IfOk (command_unless_fault verb (length words + 1) draft) IsKnown
     read verb (Ok draft) fit = made (command_of verb draft) (command_is_known draft fit verb)
     read verb (Err fault) fit = tt
@@ -338,7 +336,7 @@ words_are_known (name ∷ words) are = go (verb_named name)
     go None = tt
     go (Some verb) = read verb (draft_or_fault (reading_of verb words)) (reading_is_fit verb words (All-tail IsUtf8 name words are))
 
-part_of : (P Q : Command → Type 0) (result : Result Command WordsError) → ((command : Command) → P command → Q command)
+part_of : (P Q : Command → Type 0) (result : Result Command WordsFault) → ((command : Command) → P command → Q command)
     → IfOk result P → IfOk result Q
 part_of P Q (Ok command) part holds = part command holds
 part_of P Q (Err fault) part holds = tt
@@ -356,11 +354,9 @@ numbers_fit words are = part_of IsKnown (λ command. NumbersFit command.task) (c
     (words_are_known words are)
 
 -- what holds of the command that the words make holds of the one that was read
-pub read_unless_memory : (P : Command → Type 0) (result given : Result Command WordsError) → UnlessMemory Memory result given
-    → IfOk given P → IfOk result P
-read_unless_memory P (Err fault) given read holds = tt
-read_unless_memory P (Ok command) given (inl memory) holds = cc
-read_unless_memory P (Ok command) given (inr same) holds = subst (λ (read : Result Command WordsError). IfOk read P) (sym same) holds
+pub of_read : (P : Command → Type 0) (command : Command) (given : Result Command WordsFault) → Ok command ≡ given → IfOk given P
+    → P command
+of_read P command given same holds = subst (λ (read : Result Command WordsFault). IfOk read P) (sym same) holds
 
 -- owned strings are text
 pub strings_are_text : {Z : Type 0} (words : List (String Z)) → All IsUtf8 (map string_bytes words)

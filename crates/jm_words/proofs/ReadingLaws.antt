@@ -1,26 +1,28 @@
 -- How the words are read, step by step.
-use Rattle.std.proofs.Common.{◌≡◌, ℕ, ◌+◌, ◌<◌, ◌==◌, Bool, true, false, List, [], ◌∷◌, ◌++◌, length, take}
-use Rattle.std.proofs.Common.{get_or, map, drop, Option, Some, None, Result, Ok, Err, refl, sym, ap, ◌∙◌, inl}
-use Rattle.std.proofs.Common.{inr, arith}
+use Rattle.std.proofs.Common.{◌≡◌, ℕ, ◌+◌, ◌<◌, Bool, true, false, cond, List, [], ◌∷◌, length, take}
+use Rattle.std.proofs.Common.{get_or, map, drop, Option, Some, None, Result, Ok, Err, refl, sym, ap, ◌∙◌, arith}
 use Rattle.std.specs.List.{list_any, before_first, position_or_len}
 use Rattle.std.proofs.Math.Seq.{take-length}
 use Rattle.std.proofs.lemmas.Bool.{false≢true, false_from_ne_true}
 use Rattle.std.proofs.lemmas.List.Folds.{list_any_at}
 use Rattle.std.proofs.lemmas.List.Sums.{position_or_len_is}
-use Rattle.jm_bytes.proofs.Choice.{same_err}
 use Rattle.std.proofs.lemmas.List.{drop_more}
-use Rattle.jm_words.specs.declared.errors.WordsError.{WordsError}
-use Rattle.jm_words.specs.declared.errors.WordsError.TheVariants.{Memory}
+use Rattle.jm_words.specs.declared.errors.WordsFault.{WordsFault}
+use Rattle.jm_words.specs.declared.errors.WordsKind.TheVariants as kind
+use Rattle.jm_words.specs.declared.drafts.Draft.{Draft}
 use Rattle.jm_words.specs.declared.given.Given.{Given}
 use Rattle.jm_words.specs.declared.tables.Argument.{Argument}
 use Rattle.jm_words.specs.declared.tables.Choice.{Choice}
 use Rattle.jm_words.specs.declared.tables.Verb.{Verb}
 use Rattle.jm_words.specs.Tables.{options}
-use Rattle.jm_bytes.specs.Results.{UnlessMemory}
+use Rattle.jm_bytes.specs.Results.{IfAnswered}
+use Rattle.jm_bytes.specs.declared.faults.Or.{Or}
+use Rattle.jm_bytes.specs.declared.faults.Or.TheVariants.{Fault, Memory}
 use Rattle.jm_words.specs.Givens.{argument_of, flag_of}
-use Rattle.jm_words.specs.Reading.{Standing, after_role, after_words, draft_or_fault, reading_of}
-use Rattle.jm_words.specs.ReadingSteps.{after_argument, after_bare, after_text}
-use Rattle.jm_words.specs.Roles.{AsArgument, option_role, role_of, stands_again}
+use Rattle.jm_words.specs.Reading.{Standing, after_role, after_words, draft_or_fault, fault_at, reading_of}
+use Rattle.jm_words.specs.ReadingSteps.{after_argument, after_text}
+use Rattle.jm_words.specs.Roles.{AsArgument, has_hyphens, is_equals, option_named, option_role, role_of, stands_again}
+use Rattle.jm_words.specs.Roles.{value_behind}
 
 -- all stands before the first byte that passes, where none passes
 pub before_first_none : (p : ℕ → Bool) (xs : List ℕ) → list_any p xs ≡ false → before_first p xs ≡ xs
@@ -30,21 +32,17 @@ before_first_none p xs none =
     (λ is. false≢true (sym none ∙ list_any_at p xs j 0 below is))) (λ below. absurd (omega (arith, below))) in
     ap (λ n. take n xs) place ∙ take-length xs
 
--- an option that stands for the first time, without `=`
-pub bare_read : (at all : ℕ) (standing : Standing) (choice : Choice) → stands_again standing.before (Some choice) ≡ false
-    → after_role at all standing (option_role (Some choice) None) ≡ after_bare at all choice (flag_of choice)
-    (record standing { before = standing.before ++ choice ∷ [] })
-bare_read at all standing choice once = go (flag_of choice) refl
+-- an option that stands again
+pub repeated_read : (at all : ℕ) (standing : Standing) (choice : Choice) (value : Option (List ℕ))
+    → stands_again standing.before (Some choice) ≡ true → after_role at all standing (option_role (Some choice) value)
+    ≡ fault_at at kind.Repeated
+repeated_read at all standing choice (Some text) again = rw again refl
+repeated_read at all standing choice None again = go (flag_of choice) refl
   where
-    last : (is : Bool) → (at == all) ≡ is → flag_of choice ≡ None → after_role at all standing (option_role (Some choice) None)
-        ≡ after_bare at all choice None (record standing { before = standing.before ++ choice ∷ [] })
-    last true is e = rw (e, once, is) refl
-    last false is e = rw (e, once, is) refl
-
     go : (flag : Option Given) → flag_of choice ≡ flag → after_role at all standing (option_role (Some choice) None)
-        ≡ after_bare at all choice flag (record standing { before = standing.before ++ choice ∷ [] })
-    go None e = last (at == all) refl e
-    go (Some given) e = rw (e, once) refl
+        ≡ fault_at at kind.Repeated
+    go None e = rw (e, again) refl
+    go (Some given) e = rw (e, again) refl
 
 -- an argument
 pub argument_read : (at all : ℕ) (word : List ℕ) (standing : Standing) → after_role at all standing (AsArgument word)
@@ -61,10 +59,20 @@ argument_read at all word standing = go standing.left refl
     go [] is = rw is refl
     go (argument ∷ left) is = first argument left (argument_of argument word) is refl
 
+-- the same, of a word for which no option waits
+pub argument_here : (at all : ℕ) (choices : List Choice) (word : List ℕ) (standing : Standing) → standing.pending ≡ None
+    → has_hyphens word ≡ false → after_role at all standing (role_of choices standing.pending word)
+    ≡ after_argument at word standing.left standing
+argument_here at all choices word standing none plain =
+    ap (λ (pending : Option Choice). after_role at all standing (role_of choices pending word)) none
+    ∙ ap (λ (b : Bool). after_role at all standing (cond b (option_role (option_named (before_first is_equals word) choices)
+    (value_behind word)) (AsArgument word))) plain
+    ∙ argument_read at all word standing
+
 -- All words
 
 -- a fault ends the reading
-pub after_words_err : (choices : List Choice) (at all : ℕ) (words : List (List ℕ)) (e : WordsError)
+pub after_words_err : (choices : List Choice) (at all : ℕ) (words : List (List ℕ)) (e : WordsFault)
     → after_words choices at all words (Err e) ≡ Err e
 after_words_err choices at all [] e = refl
 after_words_err choices at all (word ∷ words) e = refl
@@ -85,26 +93,19 @@ module _ {S : Type 0} (text : S → List ℕ) (verb : Verb) (words : List S) (i 
       (role_of cs standing.pending word))) (sym same)
 
   -- the fault of a word is that of all words
-  pub reading_stops : (e : WordsError) → UnlessMemory Memory (Err e) (after_role (i + 2) all standing
-      (role_of choices standing.pending word)) → UnlessMemory Memory (Err e) (draft_or_fault (reading_of verb (map text words)))
-  reading_stops e given = elim given [
-    | inl memory ↦ inl (ap Err (same_err e Memory memory))
-    | inr read ↦ inr
-        (sym (ap draft_or_fault (after_next ∙ ap (after_words (options verb) (i + 2 + 1) all (map text (drop (i + 1) words)))
-        (sym read) ∙ after_words_err (options verb) (i + 2 + 1) all (map text (drop (i + 1) words)) e)))
-  ]
+  pub reading_stops : (e : Or WordsFault) → IfAnswered {A = Standing} (λ r. r ≡ after_role (i + 2) all standing
+      (role_of choices standing.pending word)) (Err e)
+      → IfAnswered {A = Draft} (λ r. r ≡ draft_or_fault (reading_of verb (map text words))) (Err e)
+  reading_stops (Fault fault) read =
+      sym (ap draft_or_fault (after_next ∙ ap (after_words (options verb) (i + 2 + 1) all (map text (drop (i + 1) words)))
+      (sym read) ∙ after_words_err (options verb) (i + 2 + 1) all (map text (drop (i + 1) words)) fault))
+  reading_stops Memory read = tt
 
   -- what stands behind a word is read on
-  pub reading_goes : (next : Standing) → UnlessMemory Memory (Ok next) (after_role (i + 2) all standing
+  pub reading_goes : (next : Standing) → ◌≡◌ {A = Result Standing WordsFault} (Ok next) (after_role (i + 2) all standing
       (role_of choices standing.pending word)) → reading_of verb (map text words) ≡ after_words (options verb) (i + 1 + 2) all
       (map text (drop (i + 1) words)) (Ok next)
-  reading_goes next given = elim given [
-    | inl memory ↦ absurd (ok_not_err memory)
-    | inr read ↦
-        let number : i + 2 + 1 ≡ i + 1 + 2 = omega arith in
-        after_next ∙ ap (after_words (options verb) (i + 2 + 1) all (map text (drop (i + 1) words))) (sym read)
-        ∙ ap (λ n. after_words (options verb) n all (map text (drop (i + 1) words)) (Ok next)) number
-  ]
-    where
-      ok_not_err : ◌≡◌ {A = Result Standing WordsError} (Ok next) (Err Memory) → ⊥
-      ok_not_err e = cc
+  reading_goes next read =
+      let number : i + 2 + 1 ≡ i + 1 + 2 = omega arith in
+      after_next ∙ ap (after_words (options verb) (i + 2 + 1) all (map text (drop (i + 1) words))) (sym read)
+      ∙ ap (λ n. after_words (options verb) n all (map text (drop (i + 1) words)) (Ok next)) number

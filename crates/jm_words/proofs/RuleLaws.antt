@@ -1,5 +1,5 @@
 -- The command that is computed is what the words say, and they say one thing.
-use Rattle.std.proofs.Common.{◌≡◌, ◌⊎◌, ℕ, zero, suc, ◌+◌, ◌<◌, Bool, cond, List, [], ◌∷◌, ◌++◌, length, drop}
+use Rattle.std.proofs.Common.{◌≡◌, ℕ, zero, suc, ◌+◌, ◌<◌, Bool, cond, List, [], ◌∷◌, ◌++◌, length, drop}
 use Rattle.std.proofs.Common.{map, inl, inr, Option, Some, None, Result, Ok, Err, refl, sym, ap, ◌∙◌, subst}
 use Rattle.std.proofs.Common.{append-nil, arith}
 use Rattle.std.specs.Prelude.{count_by, slice_get, unwrap_or}
@@ -11,11 +11,12 @@ use Rattle.std.proofs.lemmas.List.FromFn.{map-range_with_len_more}
 use Rattle.std.proofs.lemmas.List.Sums.{fold-append}
 use Rattle.jm_bytes.proofs.Choice.{same_some}
 use Rattle.jm_bytes.proofs.Pairs.{range_with_len-append}
-use Rattle.jm_bytes.specs.Results.{UnlessMemory}
+use Rattle.jm_bytes.specs.Results.{IfAnswered}
+use Rattle.jm_bytes.specs.declared.faults.Or.{Or}
+use Rattle.jm_bytes.specs.declared.faults.Or.TheVariants.{Fault, Memory}
 use Rattle.jm_words.specs.declared.tasks.Command.{Command}
 use Rattle.jm_words.specs.declared.drafts.Draft.{Draft}
-use Rattle.jm_words.specs.declared.errors.WordsError.{WordsError}
-use Rattle.jm_words.specs.declared.errors.WordsError.TheVariants.{Fault, Memory}
+use Rattle.jm_words.specs.declared.errors.WordsFault.{WordsFault}
 use Rattle.jm_words.specs.declared.errors.WordsKind.{WordsKind}
 use Rattle.jm_words.specs.declared.tables.Verb.{Verb}
 use Rattle.jm_words.specs.declared.tables.Argument.{Argument}
@@ -136,10 +137,9 @@ module _ (verb : Verb) (words : List (List ℕ)) where
   -- all words
 
   -- what was read is what stands at the end, or the first fault
-  abbrev Reads : Result Standing WordsError → Type 0
+  abbrev Reads : Result Standing WordsFault → Type 0
   Reads (Ok standing) = AreSound verb words × (standing ≡ standing_at (length words))
-  Reads (Err (Fault at kind)) = IsFirstFault verb words at kind
-  Reads (Err Memory) = ⊥
+  Reads (Err fault) = IsFirstFault verb words fault
 
   one_read : (i : ℕ) (word : List ℕ) → word ≡ word_at words i → after_role (i + 2) (length words + 1) (standing_at i)
       (role_of (options verb) (pending_at i) word) ≡ unless_kind (i + 2) (kind_at verb words i) (standing_at (suc i))
@@ -166,7 +166,7 @@ module _ (verb : Verb) (words : List (List ℕ)) where
           → Reads (after_words (options verb) (i + 2 + 1) (length words + 1) rest (unless_kind (i + 2) found (standing_at (suc i))))
           → Reads (after_words (options verb) (i + 2) (length words + 1) (word ∷ rest) (Ok (standing_at i)))
       next found e reads =
-          subst (λ (r : Result Standing WordsError). Reads (after_words (options verb) (i + 2 + 1) (length words + 1) rest r))
+          subst (λ (r : Result Standing WordsFault). Reads (after_words (options verb) (i + 2 + 1) (length words + 1) rest r))
           (sym (one_read i word same ∙ ap (λ k. unless_kind (i + 2) k (standing_at (suc i))) e)) reads
 
       go : (found : Option WordsKind) → kind_at verb words i ≡ found → (drop (suc i) words ≡ rest → suc i + length rest
@@ -182,7 +182,8 @@ module _ (verb : Verb) (words : List (List ℕ)) where
           next None e (subst (λ n. Reads (after_words (options verb) n (length words + 1) rest (Ok (standing_at (suc i))))) number
           (more head.1 (omega arith) sound_too))
       go (Some kind) e more =
-          let first : IsFirstFault verb words (i + 2) kind = record {
+          let fault : WordsFault = record { at = i + 2; kind = kind } in
+          let first : IsFirstFault verb words fault = record {
             place = i;
             below = omega arith;
             number = refl;
@@ -191,7 +192,7 @@ module _ (verb : Verb) (words : List (List ℕ)) where
             first = e;
           } in
           next (Some kind) e (subst Reads (sym (after_words_err (options verb) (i + 2 + 1) (length words + 1) rest
-          (Fault (i + 2) kind))) first)
+          fault)) first)
 
   all_read : Reads (reading_of verb words)
   all_read = words_read 0 words refl (omega arith) (λ j below. absurd (omega arith))
@@ -203,55 +204,51 @@ module _ (verb : Verb) (words : List (List ℕ)) where
     where
       made : AreSound verb words → (command : Option Command) → command_given verb words ≡ command
           → SaysBehind verb words (command_or_missing (length words + 1) command)
-      made sound None e = inr (sound, e, refl, refl)
+      made sound None e = inr (sound, e, refl)
       made sound (Some command) e = (sound, e)
 
-      go : (read : Result Standing WordsError) → Reads read → SaysBehind verb words (command_unless_fault verb (length words + 1)
+      go : (read : Result Standing WordsFault) → Reads read → SaysBehind verb words (command_unless_fault verb (length words + 1)
           (draft_or_fault read))
       go (Ok standing) (sound, same) = rw same (made sound (command_given verb words) refl)
-      go (Err (Fault at kind)) first = inl first
-      go (Err Memory) none = absurd none
+      go (Err fault) first = inl first
 
   -- the words say one thing
 
-  not_sound : (at : ℕ) (kind : WordsKind) → AreSound verb words → IsFirstFault verb words at kind → ⊥
-  not_sound at kind sound fault =
-      let none = sound fault.place fault.below in
-      let some = fault.first in
+  not_sound : (fault : WordsFault) → AreSound verb words → IsFirstFault verb words fault → ⊥
+  not_sound fault sound is =
+      let none = sound is.place is.below in
+      let some = is.first in
       cc
 
-  one_first : (at by : ℕ) (kind other : WordsKind) → IsFirstFault verb words at kind → IsFirstFault verb words by other → (at ≡ by)
-      × (kind ≡ other)
-  one_first at by kind other f g =
+  same_fault : (a b : WordsFault) → a.at ≡ b.at → a.kind ≡ b.kind → a ≡ b
+  same_fault a b number name =
+      let same : ◌≡◌ {A = WordsFault} (record { at = a.at; kind = a.kind }) (record { at = b.at; kind = b.kind }) =
+      rw (number, name) refl in
+      same
+
+  one_first : (a b : WordsFault) → IsFirstFault verb words a → IsFirstFault verb words b → a ≡ b
+  one_first a b f g =
       elim (cases_lt f.place g.place) [
         | inl earlier ↦ let none = g.before f.place earlier in let some = f.first in absurd (cc)
         | inr later ↦ elim (cases_lt g.place f.place) [
           | inl earlier ↦ let none = f.before g.place earlier in let some = g.first in absurd (cc)
           | inr late ↦
               let same : f.place ≡ g.place = omega arith in
-              (f.number ∙ ap (λ n. n + 2) same ∙ sym g.number, same_some kind other (sym f.first ∙ ap (kind_at verb words) same ∙ g.first))
+              same_fault a b (f.number ∙ ap (λ n. n + 2) same ∙ sym g.number)
+              (same_some a.kind b.kind (sym f.first ∙ ap (kind_at verb words) same ∙ g.first))
         ]
       ]
 
-  same_fault : (at by : ℕ) (kind other : WordsKind) → at ≡ by → kind ≡ other → ◌≡◌ {A = Result Command WordsError}
-      (Err (Fault at kind)) (Err (Fault by other))
-  same_fault at by kind other number name = rw (number, name) refl
-
-  pub one_behind : (a b : Result Command WordsError) → SaysBehind verb words a → SaysBehind verb words b → a ≡ b
+  pub one_behind : (a b : Result Command WordsFault) → SaysBehind verb words a → SaysBehind verb words b → a ≡ b
   one_behind (Ok a) (Ok b) (sound, e) (also, f) = ap (λ (command : Command). Ok command) (same_some a b (sym e ∙ f))
-  one_behind (Ok a) (Err (Fault by other)) (sound, e) (inl g) = absurd (not_sound by other sound g)
-  one_behind (Ok a) (Err (Fault by other)) (sound, e) (inr (also, none, number, name)) = absurd (cc)
-  one_behind (Ok a) (Err Memory) says none = absurd none
-  one_behind (Err (Fault at kind)) (Ok b) (inl f) (sound, e) = absurd (not_sound at kind sound f)
-  one_behind (Err (Fault at kind)) (Ok b) (inr (also, none, number, name)) (sound, e) = absurd (cc)
-  one_behind (Err (Fault at kind)) (Err (Fault by other)) (inl f) (inl g) =
-      let same = one_first at by kind other f g in same_fault at by kind other same.0 same.1
-  one_behind (Err (Fault at kind)) (Err (Fault by other)) (inl f) (inr (sound, none, number, name)) = absurd (not_sound at kind sound f)
-  one_behind (Err (Fault at kind)) (Err (Fault by other)) (inr (sound, none, number, name)) (inl g) = absurd (not_sound by other sound g)
-  one_behind (Err (Fault at kind)) (Err (Fault by other)) (inr (sound, none, number, name)) (inr (also, lacking, count, called)) =
-      same_fault at by kind other (number ∙ sym count) (name ∙ sym called)
-  one_behind (Err (Fault at kind)) (Err Memory) says none = absurd none
-  one_behind (Err Memory) b none says = absurd none
+  one_behind (Ok a) (Err other) (sound, e) (inl g) = absurd (not_sound other sound g)
+  one_behind (Ok a) (Err other) (sound, e) (inr (also, none, is)) = absurd (cc)
+  one_behind (Err fault) (Ok b) (inl f) (sound, e) = absurd (not_sound fault sound f)
+  one_behind (Err fault) (Ok b) (inr (also, none, is)) (sound, e) = absurd (cc)
+  one_behind (Err fault) (Err other) (inl f) (inl g) = ap (λ (e : WordsFault). Err e) (one_first fault other f g)
+  one_behind (Err fault) (Err other) (inl f) (inr (sound, none, is)) = absurd (not_sound fault sound f)
+  one_behind (Err fault) (Err other) (inr (sound, none, is)) (inl g) = absurd (not_sound other sound g)
+  one_behind (Err fault) (Err other) (inr (sound, none, is)) (inr (also, lacking, too)) = ap (λ (e : WordsFault). Err e) (is ∙ sym too)
 
 -- All words of the command line
 
@@ -264,7 +261,7 @@ command_says (name ∷ words) = go (verb_named name)
     go (Some verb) = behind_says verb words
 
 -- words say one thing
-pub says_one : (words : List (List ℕ)) (a b : Result Command WordsError) → SaysCommand words a → SaysCommand words b → a ≡ b
+pub says_one : (words : List (List ℕ)) (a b : Result Command WordsFault) → SaysCommand words a → SaysCommand words b → a ≡ b
 says_one [] a b first second = first ∙ sym second
 says_one (name ∷ words) a b first second = go (verb_named name) first second
   where
@@ -273,11 +270,15 @@ says_one (name ∷ words) a b first second = go (verb_named name) first second
     go (Some verb) first second = one_behind verb words a b first second
 
 -- what words say is what is computed
-pub says_computed : (words : List (List ℕ)) (result : Result Command WordsError) → SaysCommand words result → result ≡ command_in words
+pub says_computed : (words : List (List ℕ)) (result : Result Command WordsFault) → SaysCommand words result → result ≡ command_in words
 says_computed words result says = says_one words result (command_in words) says (command_says words)
 
--- what was read is what the words say, unless memory was wanting
-pub says_unless_memory : (words : List (List ℕ)) (result : Result Command WordsError)
-    → UnlessMemory Memory result (command_in words) → (result ≡ Err Memory) ⊎ SaysCommand words result
-says_unless_memory words result (inl memory) = inl memory
-says_unless_memory words result (inr same) = inr (subst (SaysCommand words) (sym same) (command_says words))
+-- what was read is what the words say
+pub says_read : (words : List (List ℕ)) (result : Result Command WordsFault) → result ≡ command_in words → SaysCommand words result
+says_read words result same = subst (SaysCommand words) (sym same) (command_says words)
+
+pub says_answered : (words : List (List ℕ)) (result : Result Command (Or WordsFault)) → IfAnswered (λ r. r ≡ command_in words) result
+    → IfAnswered (SaysCommand words) result
+says_answered words (Ok command) read = says_read words (Ok command) read
+says_answered words (Err (Fault fault)) read = says_read words (Err fault) read
+says_answered words (Err Memory) read = tt

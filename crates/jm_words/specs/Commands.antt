@@ -5,7 +5,7 @@ use Rattle.std.specs.List.{find}
 use Rattle.std.specs.Str.{bytes_eq}
 use Rattle.jm_bytes.specs.declared.words.Order.TheVariants.{Little}
 use Rattle.jm_words.specs.declared.drafts.Draft.{Draft}
-use Rattle.jm_words.specs.declared.errors.WordsError.{WordsError}
+use Rattle.jm_words.specs.declared.errors.WordsFault.{WordsFault}
 use Rattle.jm_words.specs.declared.errors.WordsKind.TheVariants as kind
 use Rattle.jm_words.specs.declared.given.Source.{Source}
 use Rattle.jm_words.specs.declared.given.Source.TheVariants as source
@@ -87,22 +87,22 @@ abbrev pub verb_named : List ℕ → Option Verb
 verb_named name = find (λ verb. bytes_eq (verb_name verb) name) verbs
 
 -- the command that is made, or `Missing` with the number of all words
-abbrev pub command_or_missing : ℕ → Option Command → Result Command WordsError
+abbrev pub command_or_missing : ℕ → Option Command → Result Command WordsFault
 command_or_missing all None = fault_at all kind.Missing
 command_or_missing all (Some command) = Ok command
 
 -- the command of what the words give, or their fault
-abbrev pub command_unless_fault : Verb → ℕ → Result Draft WordsError → Result Command WordsError
+abbrev pub command_unless_fault : Verb → ℕ → Result Draft WordsFault → Result Command WordsFault
 command_unless_fault verb all (Ok draft) = command_or_missing all (command_of verb draft)
 command_unless_fault verb all (Err fault) = Err fault
 
 -- the command of a name that was looked up, with the words behind it, or their first fault
-abbrev pub command_after : Option Verb → List (List ℕ) → Result Command WordsError
+abbrev pub command_after : Option Verb → List (List ℕ) → Result Command WordsFault
 command_after None words = fault_at 1 kind.UnknownCommand
 command_after (Some verb) words =
     command_unless_fault verb (length words + 1) (draft_or_fault (reading_of verb words))
 
 -- the command that the words make, or their first fault with its word's number
-abbrev pub command_in : List (List ℕ) → Result Command WordsError
+abbrev pub command_in : List (List ℕ) → Result Command WordsFault
 command_in [] = fault_at 0 kind.NoCommand
 command_in (name ∷ words) = command_after (verb_named name) words

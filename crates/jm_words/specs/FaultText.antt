@@ -1,8 +1,7 @@
 -- The text of a fault of the words (this project's rule).
 use Rattle.std.specs.Prelude.{ℕ, List, ◌++◌, codes}
 use Rattle.std.specs.Fmt.{decimal}
-use Rattle.jm_words.specs.declared.errors.WordsError.{WordsError}
-use Rattle.jm_words.specs.declared.errors.WordsError.TheVariants.{Fault, Memory}
+use Rattle.jm_words.specs.declared.errors.WordsFault.{WordsFault}
 use Rattle.jm_words.specs.declared.errors.WordsKind.{WordsKind}
 use Rattle.jm_words.specs.declared.errors.WordsKind.TheVariants as kind
 
@@ -18,10 +17,5 @@ kind_text kind.TooManyArguments = codes "TooManyArguments"
 kind_text kind.Missing = codes "Missing"
 
 -- a fault in print: its kind and its word's number
-abbrev pub fault_text : ℕ → WordsKind → List ℕ
-fault_text at kind = kind_text kind ++ codes " at " ++ decimal at
-
--- a fault of the words in print, or `Memory`
-abbrev pub error_text : WordsError → List ℕ
-error_text (Fault at kind) = fault_text at kind
-error_text Memory = codes "Memory"
+abbrev pub fault_text : WordsFault → List ℕ
+fault_text fault = kind_text fault.kind ++ codes " at " ++ decimal fault.at

@@ -3,8 +3,7 @@
 use Rattle.std.specs.Prelude.{ℕ, ◌+◌, ◌==◌, List, [], ◌∷◌, ◌++◌, length, drop}
 use Rattle.std.specs.Prelude.{Option, Some, None, Result, Ok, Err}
 use Rattle.jm_words.specs.declared.drafts.Draft.{Draft}
-use Rattle.jm_words.specs.declared.errors.WordsError.{WordsError}
-use Rattle.jm_words.specs.declared.errors.WordsError.TheVariants.{Fault}
+use Rattle.jm_words.specs.declared.errors.WordsFault.{WordsFault}
 use Rattle.jm_words.specs.declared.errors.WordsKind.{WordsKind}
 use Rattle.jm_words.specs.declared.given.Given.{Given}
 use Rattle.jm_words.specs.declared.tables.Verb.{Verb}
@@ -23,8 +22,8 @@ pub record Standing : Type 0 where
   pub pending : Option Choice
 
 -- a fault of a kind, with the number of its word
-abbrev pub fault_at : {A : Type 0} → ℕ → WordsKind → Result A WordsError
-fault_at at kind = Err (Fault at kind)
+abbrev pub fault_at : {A : Type 0} → ℕ → WordsKind → Result A WordsFault
+fault_at at kind = Err (record { at = at; kind = kind })
 
 -- what was given, with what a word gives, if it gives something
 abbrev pub with_word : Draft → Option Given → Draft
@@ -51,19 +50,19 @@ after_sound standing role = record {
 }
 
 -- what stands after a word, or its fault
-abbrev pub unless_kind : ℕ → Option WordsKind → Standing → Result Standing WordsError
+abbrev pub unless_kind : ℕ → Option WordsKind → Standing → Result Standing WordsFault
 unless_kind at None standing = Ok standing
 unless_kind at (Some kind) standing = fault_at at kind
 
 -- what stands after a word of a number in its role, or its first fault; `all` is the last's number
-abbrev pub after_role : ℕ → ℕ → Standing → Role → Result Standing WordsError
+abbrev pub after_role : ℕ → ℕ → Standing → Role → Result Standing WordsFault
 after_role at all standing role =
     unless_kind at (first_kind standing.before standing.left (at == all) role)
     (after_sound standing role)
 
 -- what stands after some words, of which the first has a number, or the first fault
-abbrev pub after_words : List Choice → ℕ → ℕ → List (List ℕ) → Result Standing WordsError
-    → Result Standing WordsError
+abbrev pub after_words : List Choice → ℕ → ℕ → List (List ℕ) → Result Standing WordsFault
+    → Result Standing WordsFault
 after_words choices at all [] standing = standing
 after_words choices at all (word ∷ words) (Ok standing) =
     after_words choices (at + 1) all words
@@ -76,11 +75,11 @@ before_words verb =
     record { draft = nothing; before = []; left = arguments verb; pending = None }
 
 -- what stands after the words behind a command, or their first fault
-abbrev pub reading_of : Verb → List (List ℕ) → Result Standing WordsError
+abbrev pub reading_of : Verb → List (List ℕ) → Result Standing WordsFault
 reading_of verb words =
     after_words (options verb) 2 (length words + 1) words (Ok (before_words verb))
 
 -- what the words behind a command give, or their first fault
-abbrev pub draft_or_fault : Result Standing WordsError → Result Draft WordsError
+abbrev pub draft_or_fault : Result Standing WordsFault → Result Draft WordsFault
 draft_or_fault (Ok standing) = Ok standing.draft
 draft_or_fault (Err fault) = Err fault

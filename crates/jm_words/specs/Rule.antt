@@ -6,8 +6,7 @@ use Rattle.std.specs.Prelude.{map, count_by, slice_get, unwrap_or, Option, Some,
 use Rattle.std.specs.Prelude.{Result, Ok, Err}
 use Rattle.std.specs.List.{filter_map, range_with_len}
 use Rattle.jm_words.specs.declared.tasks.Command.{Command}
-use Rattle.jm_words.specs.declared.errors.WordsError.{WordsError}
-use Rattle.jm_words.specs.declared.errors.WordsError.TheVariants.{Fault, Memory}
+use Rattle.jm_words.specs.declared.errors.WordsFault.{WordsFault}
 use Rattle.jm_words.specs.declared.errors.WordsKind.{WordsKind}
 use Rattle.jm_words.specs.declared.errors.WordsKind.TheVariants as kind
 use Rattle.jm_words.specs.declared.given.Given.{Given}
@@ -53,14 +52,13 @@ kind_at verb words i =
 abbrev pub AreSound : Verb → List (List ℕ) → Type 0
 AreSound verb words = (i : ℕ) → i < length words → kind_at verb words i ≡ None
 
--- a word of this number is the first that has a fault in its role, and this is its first kind
-pub record IsFirstFault (verb : Verb) (words : List (List ℕ)) (at : ℕ) (kind : WordsKind)
-    : Type 0 where
+-- the word of a fault's number is the first that has a fault in its role, of this kind first
+pub record IsFirstFault (verb : Verb) (words : List (List ℕ)) (fault : WordsFault) : Type 0 where
   pub place : ℕ
   pub below : place < length words
-  pub number : at ≡ place + 2
+  pub number : fault.at ≡ place + 2
   pub before : (i : ℕ) → i < place → kind_at verb words i ≡ None
-  pub first : kind_at verb words place ≡ Some kind
+  pub first : kind_at verb words place ≡ Some fault.kind
 
 -- what the word at a place gives in its role
 abbrev pub given_at : Verb → List (List ℕ) → ℕ → Option Given
@@ -78,26 +76,25 @@ command_given verb words =
 
 -- what the words behind a command say: their first fault; `Missing` with the number of all words;
 -- or the command that they give
-abbrev pub SaysBehind : Verb → List (List ℕ) → Result Command WordsError → Type 0
-SaysBehind verb words (Err (Fault at found)) =
-    IsFirstFault verb words at found
-    ⊎ (AreSound verb words × (command_given verb words ≡ None) × (at ≡ length words + 1)
-    × (found ≡ kind.Missing))
-SaysBehind verb words (Err Memory) = ⊥
+abbrev pub SaysBehind : Verb → List (List ℕ) → Result Command WordsFault → Type 0
+SaysBehind verb words (Err fault) =
+    IsFirstFault verb words fault
+    ⊎ (AreSound verb words × (command_given verb words ≡ None)
+    × (fault ≡ record { at = length words + 1; kind = kind.Missing }))
 SaysBehind verb words (Ok command) =
     AreSound verb words × (command_given verb words ≡ Some command)
 
 -- what words say whose first one names this command, or none
-abbrev pub SaysAfter : Option Verb → List (List ℕ) → Result Command WordsError → Type 0
-SaysAfter None words result = result ≡ Err (Fault 1 kind.UnknownCommand)
+abbrev pub SaysAfter : Option Verb → List (List ℕ) → Result Command WordsFault → Type 0
+SaysAfter None words result = result ≡ Err (record { at = 1; kind = kind.UnknownCommand })
 SaysAfter (Some verb) words result = SaysBehind verb words result
 
 -- what the words of a command line say: a command, or the first fault and the number of its word
-abbrev pub SaysCommand : List (List ℕ) → Result Command WordsError → Type 0
-SaysCommand [] result = result ≡ Err (Fault 0 kind.NoCommand)
+abbrev pub SaysCommand : List (List ℕ) → Result Command WordsFault → Type 0
+SaysCommand [] result = result ≡ Err (record { at = 0; kind = kind.NoCommand })
 SaysCommand (name ∷ words) result = SaysAfter (verb_named name) words result
 
 -- something holds of what the words of a command line say
-abbrev pub Says : List (List ℕ) → (Result Command WordsError → Type 0) → Type 0
+abbrev pub Says : List (List ℕ) → (Result Command WordsFault → Type 0) → Type 0
 Says words Holds =
-    (asked : Result Command WordsError) × SaysCommand words asked × Holds asked
+    (asked : Result Command WordsFault) × SaysCommand words asked × Holds asked

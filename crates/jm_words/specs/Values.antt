@@ -10,7 +10,7 @@ use Rattle.jm_bytes.specs.declared.words.Order.TheVariants.{Little, Big}
 use Rattle.jm_names.specs.Names.{is_slash, is_empty}
 use Rattle.jm_names.specs.UtfForms.{modified}
 use Rattle.jm_pattern.specs.declared.signs.Sign.{Sign}
-use Rattle.jm_pattern.specs.declared.signs.PatternError.{PatternError}
+use Rattle.jm_pattern.specs.declared.signs.PatternFault.{PatternFault}
 use Rattle.jm_pattern.specs.Items.{list_of}
 
 -- a byte in front of a text without slashes at its end; a slash in front of no byte is left out
@@ -52,7 +52,7 @@ abbrev pub names_of : List ℕ → Option (List (List ℕ))
 names_of text = unless_empty (map modified (parts_at 44 text))
 
 -- the patterns of a list that reads as some
-abbrev pub patterns_in : Result (List (List Sign)) PatternError → Option (List (List Sign))
+abbrev pub patterns_in : Result (List (List Sign)) PatternFault → Option (List (List Sign))
 patterns_in (Ok patterns) = Some patterns
 patterns_in (Err fault) = None
 

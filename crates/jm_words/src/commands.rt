@@ -1,55 +1,55 @@
-ghost use Rattle.std.specs.Prelude.{◌≡◌, ◌⊎◌, ◌<◌, map, string_bytes, Err, IfOk};
+ghost use Rattle.std.specs.Prelude.{◌≡◌, ◌<◌, map, string_bytes, IfOk};
 ghost use Rattle.std.specs.List.{find};
 ghost use Rattle.std.specs.Str.{bytes_eq};
-ghost use Rattle.jm_bytes.specs.Results.{UnlessMemory};
-ghost use Rattle.jm_words.specs.Commands.{command_in, command_of, gen_of, link_of, on_image};
+ghost use Rattle.jm_bytes.specs.Results.{IfAnswered};
+ghost use Rattle.jm_words.specs.Commands.{command_in, link_of, on_image};
 ghost use Rattle.jm_words.specs.Commands.{task_of, verb_named};
 ghost use Rattle.jm_words.specs.Paths.{FilePathsAreText, NumbersFit};
 ghost use Rattle.jm_words.specs.Rule.{SaysCommand};
 ghost use Rattle.jm_words.specs.Tables.{verb_name};
 
 use crate::drafts::Draft;
-use crate::errors::{WordsError, WordsKind};
+use crate::errors::{WordsFault, WordsKind};
 use crate::given::Source;
 use crate::reading::draft_of;
 use crate::tables::{Verb, verb_name};
 use crate::tasks::{Command, GenTask, ImageWork, LinkTask, Task};
-use jm_bytes::{List, Order, Text};
+use jm_bytes::{List, Or, Order, Text};
 use std::alloc::Global;
 
 /// Reads the words behind the program's name: the command that they make, or their first fault. A
 /// fault has the number of its word, from 1; a missing argument or option has that of all words.
-#[tactic(auto, using(crate::proofs::RuleLaws::says_unless_memory))]
-pub fn read_words(alloc: Global, words: &[String]) -> Result<Command, WordsError>
-    ensures command { UnlessMemory WordsError.Memory result
-        (command_in (map string_bytes words.now)) }
-    ensures says { (result ≡ Err WordsError.Memory)
-        ⊎ SaysCommand (map string_bytes words.now) result }
+#[tactic(auto, using(crate::proofs::RuleLaws::says_read))]
+pub fn read_words(alloc: Global, words: &[String]) -> Result<Command, Or<WordsFault>>
+    ensures command { IfAnswered
+        (λ r. r ≡ command_in (map string_bytes words.now)) result }
+    ensures says { IfAnswered (SaysCommand (map string_bytes words.now)) result }
     ensures paths { IfOk result (λ command. FilePathsAreText command.task) }
     ensures jobs { IfOk result (λ command. 0 < command.jobs) }
     ensures numbers { IfOk result (λ command. NumbersFit command.task) }
 {
     let (name, behind) = match words.split_first() {
         Some((name, behind)) => (name, behind),
-        None => return Err(WordsError::Fault {
+        None => return Err(Or::Fault(WordsFault {
             at: 0,
             kind: WordsKind::NoCommand,
-        }),
+        })),
     };
     let verb = match verb_named(name.as_bytes()) {
         Some(verb) => verb,
-        None => return Err(WordsError::Fault {
+        None => return Err(Or::Fault(WordsFault {
             at: 1,
             kind: WordsKind::UnknownCommand,
-        }),
+        })),
     };
     let draft = draft_of(alloc, verb, behind)?;
-    match command_of(alloc, verb, draft) {
-        Some(command) => Ok(command),
-        None => Err(WordsError::Fault {
+    let jobs = draft.jobs.unwrap_or(1);
+    match task_of(alloc, verb, draft) {
+        Some(task) => Ok(Command { jobs, task }),
+        None => Err(Or::Fault(WordsFault {
             at: words.len(),
             kind: WordsKind::Missing,
-        }),
+        })),
     }
 }
 
@@ -86,22 +86,18 @@ fn first_named(verbs: &[Verb], name: &[u8]) -> Option<Verb>
     None
 }
 
-/// The command of what was given, if all is there that must be.
-fn command_of(alloc: Global, verb: Verb, draft: Draft) -> Option<Command>
-    ensures { result ≡ command_of verb draft }
-{
-    let jobs = draft.jobs.unwrap_or(1);
-    let task = task_of(alloc, verb, draft)?;
-    Some(Command { jobs, task })
-}
-
 /// The task of what was given, if all is there that must be.
 fn task_of(alloc: Global, verb: Verb, draft: Draft) -> Option<Task>
     ensures { result ≡ task_of verb draft }
 {
     match verb {
         Verb::Link => Some(Task::Link(link_of(alloc, draft)?)),
-        Verb::Gen => Some(Task::Gen(gen_of(draft)?)),
+        Verb::Gen => Some(Task::Gen(GenTask {
+            dir: draft.folder?,
+            modules: draft.modules?,
+            classes: draft.classes?,
+            seed: draft.seed?,
+        })),
         Verb::Describe => Some(Task::Describe { file: draft.file? }),
         Verb::Help => Some(Task::Help),
         Verb::Version => Some(Task::Version),
@@ -149,17 +145,5 @@ fn link_of(alloc: Global, draft: Draft) -> Option<LinkTask>
         order: draft.order.unwrap_or(Order::Little),
         bind: draft.bind,
         from_image,
-    })
-}
-
-/// The `gen` of what was given, if all is there that must be.
-fn gen_of(draft: Draft) -> Option<GenTask>
-    ensures { result ≡ gen_of draft }
-{
-    Some(GenTask {
-        dir: draft.folder?,
-        modules: draft.modules?,
-        classes: draft.classes?,
-        seed: draft.seed?,
     })
 }

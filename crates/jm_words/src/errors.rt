@@ -1,7 +1,6 @@
-ghost use Rattle.std.specs.Prelude.{◌≡◌, Some};
-ghost use Rattle.jm_words.specs.FaultText.{kind_text, error_text};
+ghost use Rattle.std.specs.Prelude.{Some};
+ghost use Rattle.jm_words.specs.FaultText.{fault_text, kind_text};
 
-use jm_bytes::NoMemory;
 use std::fmt;
 
 /// What is wrong with the words.
@@ -25,23 +24,13 @@ pub enum WordsKind {
     Missing,
 }
 
-/// Why words make no command.
+/// Why words make no command: the first fault.
 #[derive(Clone, Copy, Debug, PartialEq, Eq)]
-pub enum WordsError {
-    /// The first fault, with the number of its word from 1, or that of all words.
-    Fault { at: usize, kind: WordsKind },
-    /// No memory was found.
-    Memory,
-}
-
-impl From<NoMemory> for WordsError {
-    ghost use Rattle.jm_words.specs.declared.errors.WordsError.TheVariants.{Memory};
-
-    ghost from_gives = { λ _ e. e ≡ Memory };
-
-    fn from(_none: NoMemory) -> WordsError {
-        WordsError::Memory
-    }
+pub struct WordsFault {
+    /// The number of its word, from 1, or that of all words where something is missing.
+    pub at: usize,
+    /// What is wrong.
+    pub kind: WordsKind,
 }
 
 impl fmt::Display for WordsKind {
@@ -61,13 +50,10 @@ impl fmt::Display for WordsKind {
     }
 }
 
-impl fmt::Display for WordsError {
-    ghost output = { λ error. Some (error_text error) };
+impl fmt::Display for WordsFault {
+    ghost output = { λ fault. Some (fault_text fault) };
 
     fn fmt<W: fmt::Write>(&self, f: &mut fmt::Formatter<W>) -> fmt::Result {
-        match self {
-            WordsError::Fault { at, kind } => write!(f, "{kind} at {at}"),
-            WordsError::Memory => write!(f, "Memory"),
-        }
+        write!(f, "{} at {}", self.kind, self.at)
     }
 }

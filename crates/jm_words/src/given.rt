@@ -4,8 +4,7 @@ ghost use Rattle.jm_words.specs.Givens.{argument_of, flag_of, value_of};
 use crate::tables::{Argument, Choice};
 use crate::tasks::Plugin;
 use crate::values::{
-    count_of, folder_of, folders_of, inner_path_of, names_of, number_of, order_of, path_of,
-    patterns_of,
+    count_of, folders_of, names_of, number_of, order_of, path_of, patterns_of, without_slashes,
 };
 use jm_bytes::{List, NoMemory, Order, Text};
 use jm_names::to_modified;
@@ -76,7 +75,7 @@ pub fn value_of(alloc: Global, choice: Choice, text: &[u8]) -> Result<Option<Giv
             Ok(patterns_of(alloc, text)?.map(|names| Given::Plugin(Plugin::Order(names))))
         }
         Choice::Include => Ok(patterns_of(alloc, text)?.map(|names| Given::Include(names))),
-        Choice::Dir => Ok(folder_of(alloc, text)?.map(|dir| Given::Folder(dir))),
+        Choice::Dir => Ok(path_of(alloc, without_slashes(text))?.map(|dir| Given::Folder(dir))),
         Choice::Modules => Ok(count_of(256, text).map(|modules| Given::Modules(modules))),
         Choice::Classes => Ok(count_of(1024, text).map(|classes| Given::Classes(classes))),
         Choice::Seed => Ok(number_of(0, u64::MAX, text).map(|seed| Given::Seed(seed))),
@@ -121,7 +120,13 @@ pub fn argument_of(
     Ok(match argument {
         Argument::Image | Argument::File => path_of(alloc, text)?.map(|file| Given::File(file)),
         Argument::Name => Some(Given::Name(to_modified(alloc, text)?)),
-        Argument::Path => inner_path_of(alloc, text)?.map(|path| Given::Name(path)),
-        Argument::Folder => folder_of(alloc, text)?.map(|dir| Given::Folder(dir)),
+        Argument::Path => {
+            if text.is_empty() {
+                None
+            } else {
+                Some(Given::Name(to_modified(alloc, text)?))
+            }
+        }
+        Argument::Folder => path_of(alloc, without_slashes(text))?.map(|dir| Given::Folder(dir)),
     })
 }

@@ -12,5 +12,5 @@ mod tasks;
 mod values;
 
 pub use commands::read_words;
-pub use errors::{WordsError, WordsKind};
+pub use errors::{WordsFault, WordsKind};
 pub use tasks::{Command, GenTask, ImageWork, LinkTask, Plugin, Task};

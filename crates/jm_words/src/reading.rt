@@ -1,19 +1,19 @@
-ghost use Rattle.std.specs.Prelude.{◌≡◌, Some, map, option_map, string_bytes};
+ghost use Rattle.std.specs.Prelude.{◌≡◌, Some, Err, map, option_map, string_bytes};
 ghost use Rattle.std.specs.List.{before_first};
-ghost use Rattle.jm_bytes.specs.Results.{UnlessMemory};
-ghost use Rattle.jm_words.specs.Givens.{flag_of};
-ghost use Rattle.jm_words.specs.Reading.{after_role, draft_or_fault, fault_at, reading_of};
-ghost use Rattle.jm_words.specs.ReadingSteps.{after_argument, after_bare, after_text};
+ghost use Rattle.jm_bytes.specs.Results.{IfAnswered};
+ghost use Rattle.jm_bytes.specs.declared.faults.Or.TheVariants.{Fault};
+ghost use Rattle.jm_words.specs.Reading.{after_role, draft_or_fault, reading_of};
+ghost use Rattle.jm_words.specs.ReadingSteps.{after_argument, after_text};
 ghost use Rattle.jm_words.specs.Roles.{is_among, is_equals, option_named, option_role};
-ghost use Rattle.jm_words.specs.Roles.{plain_role, role_of, stands_again, value_behind};
+ghost use Rattle.jm_words.specs.Roles.{role_of, stands_again, value_behind};
 
 use crate::drafts::Draft;
-use crate::errors::{WordsError, WordsKind};
+use crate::errors::{WordsFault, WordsKind};
 use crate::given::{Given, argument_of, flag_of, value_of};
 use crate::tables::{
     Argument, Choice, Verb, arguments, instead_of, is_plugin, option_name, options,
 };
-use jm_bytes::List;
+use jm_bytes::{List, Or};
 use jm_names::cut_at_first;
 use std::alloc::Global;
 use std::marker::Model;
@@ -44,9 +44,9 @@ impl Model for Progress {
 }
 
 /// What the words behind a command give, or their first fault.
-pub fn draft_of(alloc: Global, verb: Verb, words: &[String]) -> Result<Draft, WordsError>
-    ensures { UnlessMemory WordsError.Memory result
-        (draft_or_fault (reading_of verb (map string_bytes words.now))) }
+pub fn draft_of(alloc: Global, verb: Verb, words: &[String]) -> Result<Draft, Or<WordsFault>>
+    ensures { IfAnswered
+        (λ r. r ≡ draft_or_fault (reading_of verb (map string_bytes words.now))) result }
 {
     let choices = options(verb);
     let mut progress = Progress {
@@ -62,7 +62,9 @@ pub fn draft_of(alloc: Global, verb: Verb, words: &[String]) -> Result<Draft, Wo
     Ok(progress.draft)
 }
 
-/// One word: the value that an option waits for, or a word by itself. `all` is the last's number.
+/// One word: the value that an option waits for, or an option or an argument. `all` is the last's
+/// number.
+#[tactic(auto, using(crate::proofs::ReadingLaws::argument_read))]
 fn after_word(
     alloc: Global,
     choices: &[Choice],
@@ -70,29 +72,13 @@ fn after_word(
     all: usize,
     word: &[u8],
     progress: Progress,
-) -> Result<Progress, WordsError>
-    ensures { UnlessMemory WordsError.Memory result
-        (after_role at all progress (role_of choices.now progress.pending word.now)) }
+) -> Result<Progress, Or<WordsFault>>
+    ensures { IfAnswered (λ r. r
+        ≡ after_role at all progress (role_of choices.now progress.pending word.now)) result }
 {
-    match progress.pending {
-        Some(choice) => after_text(at, value_of(alloc, choice, word)?, progress),
-        None => after_plain_word(alloc, choices, at, all, word, progress),
+    if let Some(choice) = progress.pending {
+        return after_text(at, value_of(alloc, choice, word)?, progress);
     }
-}
-
-/// A word by itself.
-#[tactic(auto, using(crate::proofs::ReadingLaws::argument_read))]
-fn after_plain_word(
-    alloc: Global,
-    choices: &[Choice],
-    at: usize,
-    all: usize,
-    word: &[u8],
-    progress: Progress,
-) -> Result<Progress, WordsError>
-    ensures { UnlessMemory WordsError.Memory result
-        (after_role at all progress (plain_role choices.now word.now)) }
-{
     if !word.starts_with(b"--") {
         return after_argument(alloc, at, word, progress);
     }
@@ -103,7 +89,8 @@ fn after_plain_word(
     }
 }
 
-/// An option that the command has, with what stands behind its `=`.
+/// An option that the command has, with what stands behind its `=`; without one it is a flag, or
+/// the next word is its value.
 fn after_option(
     alloc: Global,
     at: usize,
@@ -111,10 +98,9 @@ fn after_option(
     choice: Choice,
     value: Option<&[u8]>,
     progress: Progress,
-) -> Result<Progress, WordsError>
-    ensures { UnlessMemory WordsError.Memory result
-        (after_role at all progress
-        (option_role (Some choice) (option_map (λ text. text.now) value.entry))) }
+) -> Result<Progress, Or<WordsFault>>
+    ensures { IfAnswered (λ r. r ≡ after_role at all progress
+        (option_role (Some choice) (option_map (λ text. text.now) value.entry))) result }
 {
     let mut progress = progress;
     if stands_again(progress.before.as_slice(), choice) {
@@ -123,30 +109,16 @@ fn after_option(
     progress.before.push(choice)?;
     match value {
         Some(text) => after_text(at, value_of(alloc, choice, text)?, progress),
-        None => after_bare_option(at, all, choice, progress),
-    }
-}
-
-/// An option without `=`: it is a flag, or the next word is its value.
-fn after_bare_option(
-    at: usize,
-    all: usize,
-    choice: Choice,
-    progress: Progress,
-) -> Result<Progress, WordsError>
-    ensures { UnlessMemory WordsError.Memory result
-        (after_bare at all choice (flag_of choice) progress) }
-{
-    let mut progress = progress;
-    match flag_of(choice) {
-        Some(given) => after_text(at, Some(given), progress),
-        None => {
-            if at == all {
-                return fault_at(at, WordsKind::NoValue);
+        None => match flag_of(choice) {
+            Some(given) => after_text(at, Some(given), progress),
+            None => {
+                if at == all {
+                    return fault_at(at, WordsKind::NoValue);
+                }
+                progress.pending = Some(choice);
+                Ok(progress)
             }
-            progress.pending = Some(choice);
-            Ok(progress)
-        }
+        },
     }
 }
 
@@ -156,9 +128,8 @@ fn after_argument(
     at: usize,
     word: &[u8],
     progress: Progress,
-) -> Result<Progress, WordsError>
-    ensures { UnlessMemory WordsError.Memory result
-        (after_argument at word.now progress.left progress) }
+) -> Result<Progress, Or<WordsFault>>
+    ensures { IfAnswered (λ r. r ≡ after_argument at word.now progress.left progress) result }
 {
     let mut progress = progress;
     match progress.left.split_first() {
@@ -171,8 +142,12 @@ fn after_argument(
 }
 
 /// What a word's text gives is put, if the text is of its form.
-fn after_text(at: usize, given: Option<Given>, progress: Progress) -> Result<Progress, WordsError>
-    ensures { UnlessMemory WordsError.Memory result (after_text at given progress) }
+fn after_text(
+    at: usize,
+    given: Option<Given>,
+    progress: Progress,
+) -> Result<Progress, Or<WordsFault>>
+    ensures { IfAnswered (λ r. r ≡ after_text at given progress) result }
 {
     let mut progress = progress;
     match given {
@@ -225,8 +200,8 @@ fn is_among(choices: &[Choice], choice: Choice) -> bool
         .any(|one| option_name(*one) == option_name(choice))
 }
 
-fn fault_at(at: usize, kind: WordsKind) -> Result<Progress, WordsError>
-    ensures { result ≡ fault_at at kind }
+fn fault_at(at: usize, kind: WordsKind) -> Result<Progress, Or<WordsFault>>
+    ensures { result ≡ Err (Fault (record { at = at; kind = kind })) }
 {
-    Err(WordsError::Fault { at, kind })
+    Err(Or::Fault(WordsFault { at, kind }))
 }

@@ -1,15 +1,15 @@
-ghost use Rattle.std.specs.Prelude.{◌≡◌, ◌≤◌, ◌<◌, ◌^◌, ◌*◌, ◌+◌, ◌-◌, ◌∷◌, length, option_map};
+ghost use Rattle.std.specs.Prelude.{◌≡◌, ◌≤◌, ◌<◌, ◌^◌, ◌∷◌, length, option_map};
 ghost use Rattle.std.specs.Prelude.{IfOk, IfSome, IfNone};
 ghost use Rattle.std.specs.List.{list_all, list_any};
 ghost use Rattle.jm_names.specs.Names.{is_empty};
-ghost use Rattle.jm_words.specs.Values.{decimal_from, folder_of, folders_of, inner_path_of};
+ghost use Rattle.jm_words.specs.Values.{decimal_from, folders_of};
 ghost use Rattle.jm_words.specs.Values.{is_digit, is_numeral, names_of, number_of, order_of};
 ghost use Rattle.jm_words.specs.Values.{parts_at, parts_of, path_of, patterns_of, unless_empty};
 ghost use Rattle.jm_words.specs.Values.{without_slashes};
 
-use jm_bytes::{List, NoMemory, Order, Text};
+use jm_bytes::{List, NoMemory, Or, Order, Text};
 use jm_names::{cut_at_first, to_modified};
-use jm_pattern::{Pattern, PatternError, read_list};
+use jm_pattern::{Pattern, read_list};
 use std::alloc::Global;
 
 /// A text, if it has a byte.
@@ -21,24 +21,6 @@ pub fn path_of(alloc: Global, text: &[u8]) -> Result<Option<Text>, NoMemory>
     } else {
         Ok(Some(Text::copy_of(alloc, text)?))
     }
-}
-
-/// A path in an image, in Modified UTF-8, if it has a byte.
-pub fn inner_path_of(alloc: Global, text: &[u8]) -> Result<Option<Text>, NoMemory>
-    ensures { IfOk result (λ path. path ≡ inner_path_of text.now) }
-{
-    if text.is_empty() {
-        Ok(None)
-    } else {
-        Ok(Some(to_modified(alloc, text)?))
-    }
-}
-
-/// A folder without the slashes at its end, if something is left.
-pub fn folder_of(alloc: Global, text: &[u8]) -> Result<Option<Text>, NoMemory>
-    ensures { IfOk result (λ folder. folder ≡ folder_of text.now) }
-{
-    path_of(alloc, without_slashes(text))
 }
 
 /// A text without the slashes at its end.
@@ -63,8 +45,8 @@ pub fn patterns_of(alloc: Global, text: &[u8]) -> Result<Option<List<Pattern>>, 
     let name = to_modified(alloc, text)?;
     match read_list(alloc, name.as_slice()) {
         Ok(patterns) => Ok(Some(patterns)),
-        Err(PatternError::Memory) => Err(NoMemory),
-        Err(_) => Ok(None),
+        Err(Or::Fault(_)) => Ok(None),
+        Err(Or::Memory) => Err(NoMemory),
     }
 }
 
@@ -205,17 +187,9 @@ fn decimal(text: &[u8]) -> Option<u64>
     let mut number = 0u64;
     let mut rest = text;
     while let Some((byte, after)) = rest.split_first() {
-        number = with_digit(number, *byte)?;
+        let digit = u64::from(byte.saturating_sub(b'0'));
+        number = number.checked_mul(10)?.checked_add(digit)?;
         rest = after;
     }
     Some(number)
-}
-
-/// A number with one more digit, if it has 64 bits.
-fn with_digit(number: u64, byte: u8) -> Option<u64>
-    ensures some { IfSome result (λ more. more ≡ number * 10 + (byte - 48)) }
-    ensures none { IfNone result (2 ^ 64 ≤ number * 10 + (byte - 48)) }
-{
-    let digit = u64::from(byte.saturating_sub(b'0'));
-    number.checked_mul(10)?.checked_add(digit)
 }

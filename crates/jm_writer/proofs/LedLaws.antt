@@ -1,10 +1,8 @@
 -- The slots to which a table leads names: those of its own names, and so of all children of the nodes
 -- of a pool.
-use Rattle.std.proofs.Common.{◌≡◌, ◌≢◌, ℕ, zero, suc, ◌%◌, Bool, true, false, cond, List, [], ◌∷◌, ◌++◌, Some}
-use Rattle.std.proofs.Common.{None, map, get_or, slice_get, drop, AllPairs, Contains, refl, sym, ap, ◌∙◌}
-use Rattle.std.proofs.Common.{subst, arith}
-use Rattle.std.proofs.lemmas.Bool.{le-ltb}
-use Rattle.std.proofs.lemmas.List.{get_or_default}
+use Rattle.std.proofs.Common.{◌≡◌, ◌≢◌, ℕ, ◌+◌, ◌<◌, Bool, true, false, cond, List, [], ◌∷◌, ◌++◌, length}
+use Rattle.std.proofs.Common.{map, take, get_or, drop, AllPairs, Contains, sym, ap, ◌∙◌, unwrap_or, subst, arith}
+use Rattle.std.proofs.lemmas.List.{get_or-map, get_or_default, map_more}
 use Rattle.std.proofs.lemmas.List.Elements.{Contains-append_right}
 use Rattle.std.proofs.lemmas.Slice.Eq.{bytes_eq-Decides}
 use Rattle.std.specs.List.{zip}
@@ -12,43 +10,36 @@ use Rattle.std.specs.Map.{lookup}
 use Rattle.std.specs.Prelude.{codes}
 use Rattle.std.specs.Str.{bytes_eq}
 use Rattle.jm_bytes.proofs.Members.{from_map}
-use Rattle.jm_names.specs.Hash.{hash}
+use Rattle.jm_names.specs.Hash.{hash, default_seed}
 use Rattle.jm_form.specs.declared.table.Redirect.{Redirect}
-use Rattle.jm_form.specs.declared.table.Redirect.TheVariants as redirect
 use Rattle.jm_form.specs.declared.trees.Holds.{Holds}
 use Rattle.jm_form.specs.declared.trees.Holds.TheVariants.{Children, Owners}
 use Rattle.jm_form.specs.declared.trees.TreeNode.{TreeNode}
 use Rattle.jm_form.specs.Layout.{Written, all_names, names_of}
-use Rattle.jm_form.specs.Table.{slot_below, slot_of}
+use Rattle.jm_form.specs.Table.{slot_of}
 use Rattle.jm_form.specs.Trees.{children, holds_of, is_package_node, node_names, owners, package_nodes, tree_nodes}
+use Rattle.jm_redirect.specs.Built.{redirect_at}
 use Rattle.jm_redirect.specs.declared.building.Table.{Table}
 use Rattle.jm_writer.specs.Laying.{IsTable}
-use Rattle.jm_writer.specs.Parts.{slot_in}
+use Rattle.jm_writer.specs.Parts.{slot_in, slot_or_first}
 use Rattle.jm_writer.proofs.ImageLists.{lookup_at}
 use Rattle.jm_writer.proofs.LaidChildren.{child_named, package_there}
 use Rattle.jm_writer.proofs.LaidNames.{all_names_are}
 
 -- A table
 
-none_below : (slot : ℕ) → slot_below 0 slot ≡ None
-none_below slot = ap (λ b. cond b (Some slot) None) (le-ltb slot 0 (omega arith))
-
--- a table of no slot leads no name
-pub none_led : (name : List ℕ) (r : Redirect) → slot_of 0 name r ≡ None
-none_led name redirect.Nowhere = refl
-none_led name (redirect.Slot slot) = none_below slot
-none_led name (redirect.Seed seed) = none_below (hash seed name % 0)
-
--- the item at a place of a list under a function
-pub mapped_at : {A : Type 0} (f : A → ℕ) (xs : List A) (i : ℕ) → (x : A) → slice_get xs i ≡ Some x → get_or (map f xs) i 0 ≡ f x
-mapped_at f [] i x is = cc
-mapped_at f (y ∷ xs) zero x is = cc
-mapped_at f (y ∷ xs) (suc i) x is = mapped_at f xs i x is
-
-pub mapped_past : {A : Type 0} (f : A → ℕ) (xs : List A) (i : ℕ) → slice_get xs i ≡ None → get_or (map f xs) i 0 ≡ 0
-mapped_past f [] i is = refl
-mapped_past f (y ∷ xs) zero is = cc
-mapped_past f (y ∷ xs) (suc i) is = mapped_past f xs i is
+-- the slot of one name more
+pub slot_next : (table : Table) (names : List (List ℕ)) (given : List Redirect) (slots : List ℕ) (place : ℕ) (d : List ℕ) (r : Redirect)
+    → place < length names → given ≡ map (λ name. redirect_at table.redirects (hash default_seed name)) names
+    → slots ≡ map (slot_or_first table) (take place names)
+    → slots ++ unwrap_or (slot_of table.length (get_or names place d) (get_or given place r)) 0 ∷ []
+    ≡ map (slot_or_first table) (take (place + 1) names)
+slot_next table names given slots place d r below are so_far =
+    let redirect : List ℕ → Redirect = λ name. redirect_at table.redirects (hash default_seed name) in
+    let at = ap (λ l. get_or l place r) are ∙ get_or-map redirect names place d r below in
+    ap (λ l. l ++ unwrap_or (slot_of table.length (get_or names place d) (get_or given place r)) 0 ∷ []) so_far
+    ∙ ap (λ x. map (slot_or_first table) (take place names) ++ unwrap_or (slot_of table.length (get_or names place d) x) 0 ∷ []) at
+    ∙ sym (map_more (slot_or_first table) names place d below)
 
 -- a name of the table is led to its own slot
 pub led_there : (names : List (List ℕ)) (table : Table) → IsTable names table → AllPairs (λ m n. m ≢ n) names → (name : List ℕ)
@@ -57,7 +48,7 @@ led_there names table is differ name (k, inside, here) =
     let own : get_or names k [] ≡ name = get_or_default names k [] name inside ∙ here in
     let long = is.serves.given_length in
     let found = lookup_at bytes_eq bytes_eq-Decides names table.slot_of k [] 0 differ inside (omega (arith, long, inside)) in
-    subst (λ n. slot_in table n ≡ lookup (bytes_eq n) (zip names table.slot_of)) own (is.serves.led k inside ∙ sym found)
+    subst (λ n. slot_in table n ≡ lookup (bytes_eq n) (zip names table.slot_of)) own (is.led k inside ∙ sym found)
 
 -- The nodes
 

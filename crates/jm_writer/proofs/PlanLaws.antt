@@ -12,6 +12,9 @@ use Rattle.std.proofs.lemmas.List.{append-nil, get_or_past, length-map}
 use Rattle.std.proofs.lemmas.List.Elements.{All-head, All-tail}
 use Rattle.std.proofs.lemmas.List.FromFn.{get_or-map-range_with_len, length-map-range_with_len}
 use Rattle.jm_bytes.specs.declared.words.Order.{Order}
+use Rattle.jm_bytes.specs.Results.{IfAnswered}
+use Rattle.jm_bytes.specs.declared.faults.Or.{Or}
+use Rattle.jm_bytes.specs.declared.faults.Or.TheVariants as due
 use Rattle.jm_bytes.proofs.Members.{contains_here, contains_later}
 use Rattle.jm_bytes.proofs.Pairs.{range_more}
 use Rattle.jm_form.specs.Strings.{section_of, IsZeroFree}
@@ -30,8 +33,8 @@ use Rattle.jm_form.specs.Trees.{first_clash, tree_nodes}
 use Rattle.jm_form.proofs.PartLaws.{length-rows}
 use Rattle.jm_redirect.specs.declared.building.Table.{Table}
 use Rattle.jm_writer.specs.declared.draft.Draft.{Draft}
-use Rattle.jm_writer.specs.declared.draft.PlanError.{PlanError}
-use Rattle.jm_writer.specs.declared.draft.PlanError.TheVariants as refusal
+use Rattle.jm_writer.specs.declared.draft.PlanFault.{PlanFault}
+use Rattle.jm_writer.specs.declared.draft.PlanFault.TheVariants as refusal
 use Rattle.jm_writer.specs.declared.entries.Entries.{Entries}
 use Rattle.jm_writer.specs.declared.laying.Laid.{Laid}
 use Rattle.jm_writer.specs.Drafts.{IsDraft, IsLarge, Plans, image_limit}
@@ -222,8 +225,8 @@ module _ (order : Order) (pool : List Written) (table : Table) (is : IsTable (al
     order = drawn.order;
     index =
         drawn.index
-        ∙ ap (λ w. index_bytes order (length (all_names pool)) w laid.locations.places.items laid.locations.text.items
-        (section_of laid.strings)) is.words
+        ∙ ap (λ r. index_bytes order (length (all_names pool)) (map word_of r) laid.locations.places.items
+        laid.locations.text.items (section_of laid.strings)) is.redirects
         ∙ ap (λ p. index_bytes order (length (all_names pool)) (redirect_words index) p laid.locations.text.items
         (section_of laid.strings)) (lay.places ∙ places_is)
         ∙ ap (λ l. index_bytes order (length (all_names pool)) (redirect_words index) (offset_words index) l
@@ -272,19 +275,19 @@ plan_drafted order pool entries table laid nodes draft can of_entries tabled lay
     (λ t l d. drafted order pool table t laid nodes draft can l d all apart few) tabled lay drawn
 
 -- an image that is too large
-pub plan_large : (order : Order) (pool : List Written) (entries : Entries) (table : Table) (why : PlanError)
-    → IsOfEntries (all_sized pool) entries → IsTable entries.names table → Lays entries table (Err why)
-    → first_clash (names_of pool) ≡ None → length (all_sized pool) ≤ 1048576 → Plans order pool (Err why)
-plan_large order pool entries table (refusal.TooLarge number) of_entries tabled lays apart few = (
+pub plan_large : (order : Order) (pool : List Written) (entries : Entries) (table : Table) (why : Or PlanFault)
+    → IsOfEntries (all_sized pool) entries → IsTable entries.names table → IfAnswered (Lays entries table) (Err why)
+    → first_clash (names_of pool) ≡ None → length (all_sized pool) ≤ 1048576 → IfAnswered (Plans order pool) (Err why)
+plan_large order pool entries table (due.Fault (refusal.TooLarge number)) of_entries tabled lays apart few = (
   record { apart = apart; few = few },
   subst (λ (e : Entries). IsTable e.names table → Lays e table (Err (refusal.TooLarge number)) → IsLarge order pool number)
       (sym (entries_are (all_sized pool) entries of_entries))
       (λ t l. large order pool table t number l) tabled lays,
 )
-plan_large order pool entries table refusal.Memory of_entries tabled lays apart few = tt
-plan_large order pool entries table (refusal.Clash name) of_entries tabled lays apart few = absurd lays
-plan_large order pool entries table (refusal.TooMany number) of_entries tabled lays apart few = absurd lays
-plan_large order pool entries table (refusal.NoTable lengths) of_entries tabled lays apart few = absurd lays
+plan_large order pool entries table due.Memory of_entries tabled lays apart few = tt
+plan_large order pool entries table (due.Fault (refusal.Clash name)) of_entries tabled lays apart few = absurd lays
+plan_large order pool entries table (due.Fault (refusal.TooMany number)) of_entries tabled lays apart few = absurd lays
+plan_large order pool entries table (due.Fault (refusal.NoTable lengths)) of_entries tabled lays apart few = absurd lays
 
 -- how many entries there are
 pub count_sized : (pool : List Written) (nodes : List TreeNode) → nodes ≡ tree_nodes (names_of pool) → length (all_sized pool)

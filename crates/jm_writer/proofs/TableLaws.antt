@@ -13,9 +13,9 @@ use Rattle.jm_form.specs.Table.{redirect_of}
 use Rattle.jm_form.proofs.LookLaws.{slot_within}
 use Rattle.jm_form.proofs.ServesLaws.{greedy_serves}
 use Rattle.jm_redirect.specs.declared.building.Table.{Table}
-use Rattle.jm_redirect.specs.Built.{with_words}
+use Rattle.jm_redirect.specs.Built.{as_table}
 use Rattle.jm_redirect.proofs.LengthLaws.{next_within}
-use Rattle.jm_redirect.proofs.TableLaws.{length_of_table, words_back}
+use Rattle.jm_redirect.proofs.TableLaws.{led_by, length_of_table}
 use Rattle.jm_writer.specs.Laying.{IsTable}
 
 -- the length at which a table was found
@@ -54,7 +54,7 @@ all_below names slots words given serves k d inside =
     (slot_within slots name (redirect_of (get_or words (bucket_of slots name) 0)) (get_or given k 0) (serves.led k (omega arith)))
 
 of_greedy : (names : List (List ℕ)) (greedy_table : GreedyTable) → length names ≤ 1048576 → first_table names ≡ Some greedy_table
-    → IsTable names (with_words greedy_table)
+    → IsTable names (as_table greedy_table)
 of_greedy names table few is =
     let found = found_first names table is in
     let slots = found.slots in
@@ -62,31 +62,30 @@ of_greedy names table few is =
     let served = greedy_serves names slots table found.enough (omega arith) found.is in
     let serves = served.serves in
     let size = length_of_table names slots table found.is in
-    let words = words_back table.redirects served.words in
     record {
       greedy = table;
       first = is;
       size = refl;
       given = refl;
-      words = words;
+      redirects = refl;
       whole = sym (length-map table.redirects word_of) ∙ serves.words_length ∙ sym size;
       few = omega arith;
       each = serves.given_length;
       below = subst (λ n. All (λ slot. slot < n) table.slots) (sym size) (all_below names slots (map word_of table.redirects)
           table.slots serves);
       apart = serves.apart;
-      serves = subst (λ w. Serves names table.length w table.slots) (sym words)
-          (subst (λ n. Serves names n (map word_of table.redirects) table.slots) (sym size) serves);
+      serves = subst (λ n. Serves names n (map word_of table.redirects) table.slots) (sym size) serves;
+      led = led_by names slots table found.enough found.is serves.given_length;
     }
 
 -- what is built is the table of the names
-pub table_built : (names : List (List ℕ)) (table : Table) → length names ≤ 1048576 → option_map with_words (first_table names)
+pub table_built : (names : List (List ℕ)) (table : Table) → length names ≤ 1048576 → option_map as_table (first_table names)
     ≡ Some table → IsTable names table
 table_built names table few is = go (first_table names) refl is
   where
-    go : (o : Option GreedyTable) → first_table names ≡ o → option_map with_words o ≡ Some table → IsTable names table
+    go : (o : Option GreedyTable) → first_table names ≡ o → option_map as_table o ≡ Some table → IsTable names table
     go None e is = cc
-    go (Some g) e is = subst (IsTable names) (same_some (with_words g) table is) (of_greedy names g few e)
+    go (Some g) e is = subst (IsTable names) (same_some (as_table g) table is) (of_greedy names g few e)
 
 none_among : (names : List (List ℕ)) (lengths : List ℕ) → All (λ slots. greedy names slots ≡ None) lengths
     → greedy_among names lengths ≡ None

@@ -10,8 +10,8 @@ use Rattle.jm_form.specs.Layout.{Written, all_sized, contents_text, index_text, 
 use Rattle.jm_form.specs.Layout.{layout_table, layout_with, names_of, written_nodes}
 use Rattle.jm_form.specs.Trees.{first_clash}
 use Rattle.jm_writer.specs.declared.draft.Draft.{Draft}
-use Rattle.jm_writer.specs.declared.draft.PlanError.{PlanError}
-use Rattle.jm_writer.specs.declared.draft.PlanError.TheVariants as refusal
+use Rattle.jm_writer.specs.declared.draft.PlanFault.{PlanFault}
+use Rattle.jm_writer.specs.declared.draft.PlanFault.TheVariants as refusal
 
 -- the most entries that an image has
 abbrev pub entry_limit : ℕ
@@ -59,9 +59,8 @@ pub record IsLarge (order : Order) (pool : List Written) (stated : ℕ) : Type 0
   pub long : image_limit < length (layout_with order pool table)
   pub number : stated ≡ large_number order pool table
 
--- what `plan` answers: the draft, or the first refusal that holds, with its number; want of memory
--- says nothing
-abbrev pub Plans : Order → List Written → Result Draft PlanError → Type 0
+-- what `plan` answers: the draft, or the first refusal that holds, with its number
+abbrev pub Plans : Order → List Written → Result Draft PlanFault → Type 0
 Plans order pool (Ok draft) = IsDraft order pool draft
 Plans order pool (Err (refusal.Clash name)) = first_clash (names_of pool) ≡ Some name
 Plans order pool (Err (refusal.TooMany number)) =
@@ -69,4 +68,3 @@ Plans order pool (Err (refusal.TooMany number)) =
 Plans order pool (Err (refusal.NoTable lengths)) =
     IsSmall pool × (lengths ≡ 64) × (layout_table pool ≡ None)
 Plans order pool (Err (refusal.TooLarge number)) = IsSmall pool × IsLarge order pool number
-Plans order pool (Err refusal.Memory) = Unit {0}

@@ -1,8 +1,6 @@
 -- The parts of an image that is written, from the lists that the code has (jimage 1.0). Their laws
 -- say that they are those of the layout.
-use Rattle.std.specs.Prelude.{ℕ, ◌+◌, ◌%◌, ◌==◌, ◌≡◌, List, [], ◌∷◌, ◌++◌, length, map, slice_get}
-use Rattle.std.specs.Prelude.{slice_index, if◌then◌else◌}
-use Rattle.std.specs.Int.{w32, cast_unsigned}
+use Rattle.std.specs.Prelude.{ℕ, ◌+◌, ◌==◌, ◌≡◌, List, [], ◌∷◌, ◌++◌, length, map, slice_get}
 use Rattle.std.specs.Prelude.{Option, Some, None, unwrap_or}
 use Rattle.std.specs.List.{flat_map, range_with_len, zip}
 use Rattle.std.specs.Map.{lookup}
@@ -15,10 +13,10 @@ use Rattle.jm_form.specs.declared.trees.Holds.{Holds}
 use Rattle.jm_form.specs.declared.trees.Holds.TheVariants.{Children, Owners}
 use Rattle.jm_form.specs.declared.trees.Owner.{Owner}
 use Rattle.jm_form.specs.declared.trees.TreeNode.{TreeNode}
-use Rattle.jm_form.specs.Greedy.{bucket_of}
 use Rattle.jm_form.specs.Layout.{Sized, location_of, text_place, texts_of}
 use Rattle.jm_form.specs.Nodes.{empty_flag, words_text}
-use Rattle.jm_form.specs.Table.{redirect_of, slot_of}
+use Rattle.jm_form.specs.Table.{slot_of}
+use Rattle.jm_redirect.specs.Built.{redirect_at}
 use Rattle.jm_redirect.specs.declared.building.Table.{Table}
 use Rattle.jm_writer.specs.declared.entries.Entries.{Entries}
 use Rattle.jm_writer.specs.declared.interning.TextPlaces.{TextPlaces}
@@ -86,24 +84,10 @@ abbrev pub rows_in_slots : List ℕ → List Row → ℕ → List (Option Row)
 rows_in_slots slots rows count =
     map (λ slot. lookup (λ other. slot == other) (zip slots rows)) (range_with_len 0 count)
 
--- the redirect word of a name's bucket, or 0 where there is none
-abbrev pub bucket_word : Table → List ℕ → ℕ
-bucket_word table name =
-    slice_index (map (cast_unsigned w32) table.redirect) (bucket_of table.length name)
-
--- the slot to which the redirect word of its bucket leads a name
+-- the slot to which the redirect of its bucket leads a name
 abbrev pub slot_in : Table → List ℕ → Option ℕ
-slot_in table name = slot_of table.length name (redirect_of (bucket_word table name))
-
--- the redirect word of a hash's bucket, or 0 in a table of no slot
-abbrev pub word_at : Table → ℕ → ℕ
-word_at table hash =
-    if table.length == 0 then 0
-    else slice_index (map (cast_unsigned w32) table.redirect) (hash % table.length)
-
--- the redirect word of a name's bucket, or 0 in a table of no slot
-abbrev pub word_in : Table → List ℕ → ℕ
-word_in table name = word_at table (hash default_seed name)
+slot_in table name =
+    slot_of table.length name (redirect_at table.redirects (hash default_seed name))
 
 -- the slot to which the table leads a name, or slot 0 where it leads it to none
 abbrev pub slot_or_first : Table → List ℕ → ℕ

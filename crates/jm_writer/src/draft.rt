@@ -1,6 +1,4 @@
-ghost use Rattle.std.specs.Prelude.{◌≡◌};
-
-use jm_bytes::{NoMemory, Order, Text};
+use jm_bytes::{Order, Text};
 
 /// What an image will be, but for the bytes of its resources.
 #[derive(Debug, Drop)]
@@ -19,7 +17,7 @@ pub struct Draft {
 
 /// Why no image is made of a pool.
 #[derive(Debug, Drop)]
-pub enum PlanError {
+pub enum PlanFault {
     /// This name is that of a folder of another resource.
     Clash(Text),
     /// There would be so many entries, nodes included; 1,048,576 are allowed.
@@ -29,16 +27,4 @@ pub enum PlanError {
     /// The file would have so many bytes, or the number is 0 where its strings alone would have too
     /// many; 1,073,741,824 are allowed.
     TooLarge(u64),
-    /// No memory was found.
-    Memory,
-}
-
-impl From<NoMemory> for PlanError {
-    ghost use Rattle.jm_writer.specs.declared.draft.PlanError.TheVariants.{Memory};
-
-    ghost from_gives = { λ _ e. e ≡ Memory };
-
-    fn from(_: NoMemory) -> PlanError {
-        PlanError::Memory
-    }
 }

@@ -51,20 +51,6 @@ fn holds_size(holds: &Holds) -> Option<u64>
     }
 }
 
-/// Puts the entries of nodes at the end.
-fn add_nodes(alloc: Global, entries: &mut Entries, nodes: &[TreeNode]) -> Result<(), NoMemory>
-    ensures names { OnOk result
-        (entries.new.names ≡ entries.old.names ++ map (λ e. e.name) (map sized_node nodes.now)) }
-    ensures sizes { OnOk result
-        (entries.new.sizes ≡ entries.old.sizes ++ map (λ e. e.size) (map sized_node nodes.now)) }
-{
-    for node in nodes {
-        let size = holds_size(&node.holds).ok_or(NoMemory)?;
-        add(alloc, entries, node.name.as_slice(), size)?;
-    }
-    Ok(())
-}
-
 /// The entries of the resources and then of the nodes, which are so many together.
 pub fn entries_of(
     alloc: Global,
@@ -75,6 +61,9 @@ pub fn entries_of(
     ensures { IfOk result (IsOfEntries (map sized pool.now ++ map sized_node nodes.now)) }
 {
     let mut entries = resources_of(alloc, pool, count)?;
-    add_nodes(alloc, &mut entries, nodes)?;
+    for node in nodes {
+        let size = holds_size(&node.holds).ok_or(NoMemory)?;
+        add(alloc, &mut entries, node.name.as_slice(), size)?;
+    }
     Ok(entries)
 }

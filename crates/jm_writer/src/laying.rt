@@ -1,18 +1,19 @@
 //! What is known of an image before its bytes: its table, strings, locations and length.
-ghost use Rattle.std.specs.Prelude.{◌≡◌, ◌+◌, ◌*◌, ◌^◌, ◌<◌, ◌≤◌, length, sum, All, IfOk, IfSome};
+ghost use Rattle.std.specs.Prelude.{◌≡◌, ◌+◌, ◌*◌, ◌<◌, ◌≤◌, length, sum, All, IfOk};
+ghost use Rattle.jm_bytes.specs.Results.{IfAnswered};
 ghost use Rattle.jm_form.specs.Strings.{IsZeroFree};
-ghost use Rattle.jm_writer.specs.Laying.{AreFit, Interns, IsTable, Lays, Tables, length_of};
+ghost use Rattle.jm_writer.specs.Laying.{AreFit, Interns, IsTable, Lays, Tables};
 ghost use Rattle.jm_writer.specs.Laying.{slot_rows};
 ghost use Rattle.jm_writer.specs.Parts.{places_of};
 
-use crate::draft::PlanError;
+use crate::draft::PlanFault;
 use crate::entries::Entries;
 use crate::interning::{Interned, TextPlaces, strings_of};
 use crate::locations::{Locations, locate};
 use crate::rows::{EntryRow, rows_in_slots};
-use jm_bytes::{NoMemory, Text};
-use jm_redirect::{BuildError, Table, build};
-use jm_strings::{Strings, StringsError};
+use jm_bytes::{NoMemory, Or, Text};
+use jm_redirect::{NoTable, Table, build};
+use jm_strings::{Full, Strings};
 use std::alloc::Global;
 
 /// The most bytes that an image has.
@@ -30,30 +31,29 @@ pub struct Laid {
 }
 
 /// The table of the names.
-pub fn table_of(alloc: Global, names: &[Text]) -> Result<Table, PlanError>
+pub fn table_of(alloc: Global, names: &[Text]) -> Result<Table, Or<PlanFault>>
     requires { length names.now ≤ 1048576 }
-    ensures { Tables names.now result }
+    ensures { IfAnswered (Tables names.now) result }
 {
     match build(alloc, names) {
         Ok(table) => Ok(table),
-        Err(BuildError::NoTable(lengths)) => Err(PlanError::NoTable(lengths)),
-        Err(BuildError::Memory) => Err(PlanError::Memory),
+        Err(Or::Fault(NoTable(lengths))) => Err(Or::Fault(PlanFault::NoTable(lengths))),
+        Err(Or::Memory) => Err(Or::Memory),
     }
 }
 
 /// The strings of the names, where they aren't too long.
-fn strings_within(alloc: Global, names: &[Text]) -> Result<Interned, PlanError>
+fn strings_within(alloc: Global, names: &[Text]) -> Result<Interned, Or<PlanFault>>
     requires { All IsZeroFree names.now }
-    ensures { Interns names.now result }
+    ensures { IfAnswered (Interns names.now) result }
 {
     match strings_of(alloc, names) {
         Ok(interned) => {
             let _within = interned.strings.bytes();
             Ok(interned)
         }
-        Err(StringsError::Full) => Err(PlanError::TooLarge(0)),
-        Err(StringsError::Zero) => unreachable!(),
-        Err(StringsError::Memory) => Err(PlanError::Memory),
+        Err(Or::Fault(Full)) => Err(Or::Fault(PlanFault::TooLarge(0))),
+        Err(Or::Memory) => Err(Or::Memory),
     }
 }
 
@@ -80,34 +80,20 @@ fn rows_by_slot(
     )
 }
 
-/// The length of an image from its slots and the lengths of its parts, where it has 64 bits.
-fn length_of(slots: u32, locations: usize, strings: usize, contents: u64) -> Option<u64>
-    requires locations { locations < 2 ^ 32 }
-    requires strings { strings < 2 ^ 32 }
-    ensures { IfSome result (λ n. n ≡ length_of slots locations strings contents) }
-{
-    let index = 28 + 8 * u64::from(slots) + locations as u64 + strings as u64;
-    index.checked_add(contents)
-}
-
 /// Lays the image of the entries out by their table: all but the bytes of its index and contents.
-pub fn lay_out(alloc: Global, entries: &Entries, table: &Table) -> Result<Laid, PlanError>
+pub fn lay_out(alloc: Global, entries: &Entries, table: &Table) -> Result<Laid, Or<PlanFault>>
     requires entries { AreFit entries.now }
     requires table { IsTable entries.now.names table.now }
-    ensures { Lays entries.now table.now result }
+    ensures { IfAnswered (Lays entries.now table.now) result }
 {
     let Interned { strings, places } = strings_within(alloc, entries.names.as_slice())?;
     let (rows, contents) = rows_by_slot(alloc, places.as_slice(), entries, table)?;
     let locations = locate(alloc, &rows)?;
-    let known = length_of(
-        table.length,
-        locations.text.len(),
-        strings.bytes().len(),
-        contents,
-    );
-    let length = known.ok_or(NoMemory)?;
+    let slots = u64::from(table.length);
+    let index = 28 + 8 * slots + locations.text.len() as u64 + strings.bytes().len() as u64;
+    let length = index.checked_add(contents).ok_or(NoMemory)?;
     if length > IMAGE_LIMIT {
-        return Err(PlanError::TooLarge(length));
+        return Err(Or::Fault(PlanFault::TooLarge(length)));
     }
     Ok(Laid {
         strings,

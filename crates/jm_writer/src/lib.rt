@@ -9,10 +9,9 @@ mod laying;
 mod locations;
 mod planning;
 mod rows;
-mod slots;
 mod tail;
 mod writing;
 
-pub use draft::{Draft, PlanError};
+pub use draft::{Draft, PlanFault};
 pub use planning::plan;
 pub use writing::write;

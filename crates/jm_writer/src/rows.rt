@@ -1,22 +1,13 @@
 //! The rows of all entries by slot.
-ghost use Rattle.std.specs.Prelude.{◌≡◌, ◌≢◌, ◌<◌, None, length, replicate, sum, All, AllPairs};
+ghost use Rattle.std.specs.Prelude.{◌≡◌, ◌≢◌, ◌<◌, None, length, sum, All, AllPairs};
 ghost use Rattle.std.specs.Prelude.{IfOk};
-ghost use Rattle.jm_form.specs.Layout.{text_place};
 ghost use Rattle.jm_writer.specs.Parts.{rows_at, rows_in_slots};
 
 use crate::interning::TextPlaces;
 use jm_bytes::NoMemory;
 use jm_form::Row;
-use jm_strings::Strings;
 use std::alloc::Global;
 use std::marker::Model;
-
-/// The place of a text among the strings; 0, that of the empty one, where it isn't held.
-pub fn text_place(strings: &Strings, text: &[u8]) -> u32
-    ensures { result ≡ text_place strings.now text.now }
-{
-    strings.place(text).unwrap_or(0)
-}
 
 /// The row of an entry by the places of its name's pieces, seen as a [`Row`], which has 56 bytes
 /// where this has 32.
@@ -64,13 +55,6 @@ impl EntryRow {
     }
 }
 
-/// So many slots without a row.
-fn no_rows(alloc: Global, count: u32) -> Result<Vec<Option<EntryRow>>, NoMemory>
-    ensures { IfOk result (λ rows. rows.items ≡ replicate count None) }
-{
-    Ok(vec![in alloc; None; count as usize]?)
-}
-
 /// The rows by slot, for so many slots, of entries with these slots, with these places of their
 /// names' pieces and with contents of these sizes in bytes, which stand one behind another; and how
 /// many bytes all contents have. A spare slot has no row.
@@ -89,7 +73,7 @@ pub fn rows_in_slots(
         (λ r. r.0.items ≡ rows_in_slots slots.now (rows_at 0 places.now sizes.now) count) }
     ensures contents { IfOk result (λ r. r.1 ≡ sum sizes.now) }
 {
-    let mut rows = no_rows(alloc, count)?;
+    let mut rows: Vec<Option<EntryRow>> = vec![in alloc; None; count as usize]?;
     let mut offset: u64 = 0;
     for (entry, size) in sizes.iter().enumerate() {
         rows[slots[entry] as usize] = Some(EntryRow {

@@ -3,16 +3,32 @@ ghost use Rattle.std.specs.Prelude.{◌≡◌, ◌∷◌, ◌++◌, [], map, sli
 ghost use Rattle.std.specs.List.{flat_map};
 ghost use Rattle.jm_form.specs.Nodes.{empty_flag, words_text};
 ghost use Rattle.jm_form.specs.Layout.{text_place};
-ghost use Rattle.jm_writer.specs.Parts.{child_word, holds_words, owner_pair, tail_bytes};
+ghost use Rattle.jm_writer.specs.Parts.{child_word, owner_pair};
+ghost use Rattle.jm_writer.specs.Parts.{slot_or_first, tail_bytes};
 
 use crate::index::put_words;
-use crate::rows::text_place;
-use crate::slots::slots_in;
+use crate::laying::Laid;
 use jm_bytes::{List, NoMemory, Order, Text};
 use jm_form::{Holds, Owner, TreeNode};
-use jm_redirect::Table;
+use jm_redirect::{Table, default_hashes, redirects_of, slot_of};
 use jm_strings::Strings;
 use std::alloc::Global;
+
+/// The slots to which the table leads the names, 0 for a name that it leads to none. A name of the
+/// table is led to its own; no name is looked at.
+fn slots_in(alloc: Global, table: &Table, names: &[Text]) -> Result<List<u32>, NoMemory>
+    ensures { IfOk result (λ slots. slots ≡ map (slot_or_first table.now) names.now) }
+{
+    let hashes = default_hashes(alloc, names)?;
+    let found = redirects_of(alloc, hashes.as_slice(), table.redirects.as_slice())?;
+    let given = found.as_slice();
+    let mut slots = List::with_capacity(alloc, names.len())?;
+    for place in 0..names.len() {
+        let slot = slot_of(table.length, names[place].as_slice(), given[place]);
+        slots.push(slot.unwrap_or(0))?;
+    }
+    Ok(slots)
+}
 
 /// The place of the row at a slot; 0 where there is no such slot.
 fn place_at(places: &[u32], slot: u32) -> u32
@@ -24,35 +40,24 @@ fn place_at(places: &[u32], slot: u32) -> u32
     }
 }
 
-/// The places of the rows at these slots. They lie far apart, and nothing else is done between two
+/// A word for each child: the place of the row at the slot to which the table leads its name; of
+/// slot 0 where it leads it to none. The places lie far apart, and nothing else is done between two
 /// of them here, so that the processor reads many at a time.
-fn places_at(alloc: Global, places: &[u32], slots: &[u32]) -> Result<List<u32>, NoMemory>
-    ensures { IfOk result
-        (λ found. found ≡ map (λ slot. unwrap_or (slice_get places.now slot) 0) slots.now) }
-{
-    let mut found = List::with_capacity(alloc, slots.len())?;
-    for slot in slots {
-        found.push(place_at(places, *slot))?;
-    }
-    Ok(found)
-}
-
-/// Puts a word for each child at the end: the place of the row at the slot to which the table leads
-/// its name; of slot 0 where it leads it to none.
-fn put_children(
+fn child_words(
     alloc: Global,
-    text: &mut Vec<u8>,
-    order: Order,
     table: &Table,
     places: &[u32],
     names: &[Text],
-) -> Result<(), NoMemory>
-    ensures { OnOk result (text.new.items ≡ text.old.items
-        ++ words_text order (map (child_word table.now places.now) names.now)) }
+) -> Result<List<u32>, NoMemory>
+    ensures { IfOk result (λ words. words ≡ map (child_word table.now places.now) names.now) }
 {
     let slots = slots_in(alloc, table, names)?;
-    let found = places_at(alloc, places, slots.as_slice())?;
-    put_words(text, order, found.as_slice())
+    let found = slots.as_slice();
+    let mut words = List::with_capacity(alloc, found.len())?;
+    for slot in found {
+        words.push(place_at(places, *slot))?;
+    }
+    Ok(words)
 }
 
 /// Puts two words for each owner at the end: whether the package is empty there, and the place of
@@ -68,48 +73,35 @@ fn put_owners(
 {
     for owner in owners {
         let flag = if owner.empty { 1 } else { 0 };
-        let module = text_place(strings, owner.module.as_slice());
+        let module = strings.place(owner.module.as_slice()).unwrap_or(0);
         put_words(text, order, &[flag, module])?;
     }
     Ok(())
-}
-
-/// Puts the content of a node at the end.
-fn put_holds(
-    alloc: Global,
-    text: &mut Vec<u8>,
-    order: Order,
-    strings: &Strings,
-    table: &Table,
-    places: &[u32],
-    holds: &Holds,
-) -> Result<(), NoMemory>
-    ensures { OnOk result (text.new.items ≡ text.old.items
-        ++ words_text order (holds_words strings.now table.now places.now holds.now)) }
-{
-    match holds {
-        Holds::Children(names) => {
-            put_children(alloc, text, order, table, places, names.as_slice())
-        }
-        Holds::Owners(owners) => put_owners(text, order, strings, owners.as_slice()),
-    }
 }
 
 /// The contents of the nodes, one behind another.
 pub fn tail_bytes(
     alloc: Global,
     order: Order,
-    strings: &Strings,
     table: &Table,
-    places: &[u32],
+    laid: &Laid,
     nodes: &[TreeNode],
 ) -> Result<Text, NoMemory>
-    ensures { IfOk result
-        (λ text. text ≡ tail_bytes order strings.now table.now places.now nodes.now) }
+    ensures { IfOk result (λ text. text ≡ tail_bytes order laid.now.strings table.now
+        laid.now.locations.places.items nodes.now) }
 {
+    let places = laid.locations.places.as_slice();
     let mut text = Vec::new(alloc);
     for node in nodes {
-        put_holds(alloc, &mut text, order, strings, table, places, &node.holds)?;
+        match &node.holds {
+            Holds::Children(names) => {
+                let words = child_words(alloc, table, places, names.as_slice())?;
+                put_words(&mut text, order, words.as_slice())?;
+            }
+            Holds::Owners(owners) => {
+                put_owners(&mut text, order, &laid.strings, owners.as_slice())?;
+            }
+        }
     }
     Ok(Text::from_vec(text))
 }

@@ -1,7 +1,7 @@
 use Rattle.std.proofs.Common.{subst, sym}
 use Rattle.jm_closure.specs.Cycles.{IsGraphOf}
 use Rattle.jm_closure.specs.Graphs.{IsMarked}
-use Rattle.jm_closure.proofs.ClosureLaws.{closes_as, graph_of}
+use Rattle.jm_closure.proofs.ClosureLaws.{answers_as, graph_of}
 use Rattle.jm_closure.proofs.JudgeLaws.{least_lost}
 use Rattle.jm_bind.specs.Binding.{Bound}
 use Rattle.jm_bind.proofs.binding.bind.Goals as goal
@@ -26,7 +26,7 @@ pub returns : goal.returns
 returns c =
     let names = c.in_ok-names.names in
     let least = least_lost c.args.found.now names c.args.roots.now c.in_ok-names.ensures in
-    closes_as c.args.found.now c.args.roots.now (IsMarked c.in_ok-chosen.chosen.items)
+    answers_as c.args.found.now c.args.roots.now (IsMarked c.in_ok-chosen.chosen.items)
     (Bound c.args.found.now c.args.roots.now) c.judge.result
     (rw (sym c.in_default.ensures) at least) c.in_ok-chosen.ensures.exactly
     (rw c.as_slice.ensures.value at c.judge.ensures)

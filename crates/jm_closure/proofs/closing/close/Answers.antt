@@ -1,7 +1,7 @@
 use Rattle.std.proofs.Common.{sym, ◌∙◌}
 use Rattle.jm_closure.specs.Graphs.{IsMarked}
 use Rattle.jm_closure.specs.Modules.{Reached}
-use Rattle.jm_closure.proofs.ClosureLaws.{among_within, closes_as, graph_of, marked_reached}
+use Rattle.jm_closure.proofs.ClosureLaws.{among_within, answers_as, graph_of, marked_reached}
 use Rattle.jm_closure.proofs.JudgeLaws.{least_lost}
 use Rattle.jm_closure.proofs.RefusalLaws.{graph_within}
 use Rattle.jm_closure.proofs.closing.close.Goals as goal
@@ -32,7 +32,7 @@ judge-requires-clause-graph c =
 
 pub returns : goal.returns
 returns c =
-    closes_as c.args.found.now c.args.roots.now (IsMarked c.in_ok-chosen.chosen.items) (Reached c.args.found.now c.args.roots.now)
+    answers_as c.args.found.now c.args.roots.now (IsMarked c.in_ok-chosen.chosen.items) (Reached c.args.found.now c.args.roots.now)
     c.judge.result
     (rw (sym c.in_default.ensures) at (least_lost c.args.found.now c.in_ok-names.names c.args.roots.now c.in_ok-names.ensures))
     (marked_reached c.args.found.now c.in_ok-names.names c.args.roots.now c.in_ok-graph.graph c.as_slice.result.now

@@ -11,7 +11,7 @@ returns-in-Ok g c source =
     let read = c.in-Ok.ensures in
     let path = c.args.path.now in
     let b = c.in-Ok.bytes in
-    let put = rw (c.as_slice.ensures, c.as_slice-in-Ok.ensures) at c.describe_bytes.ensures in
+    let put = rw (c.as_slice.ensures, c.as_slice-in-Ok.ensures) at c.put_described.ensures in
     file_read (λ bytes due. due ≡ describe_outcome path bytes) path b (shelf_at g.S.Shelf c.args.shelf.now)
     (world (shelf_at g.S.Shelf c.file_bytes.new.shelf) source (sink_at g.O.Sink c.args.out.now))
     _ _ read.reads read.files (read.faults.kept refl)

@@ -2,16 +2,22 @@ use Rattle.std.proofs.Common.{refl}
 use Rattle.jm_outside.specs.Shelves.{shelf_at}
 use Rattle.jm_words.specs.declared.tasks.ImageWork.TheVariants as work
 use Rattle.jm_commands.specs.World.{world_of}
+use Rattle.jm_commands.proofs.SessionLaws.{session_step}
 use Rattle.jm_commands.proofs.StepLaws.{whole_read, whole_unopened, whole_unread}
 use Rattle.jm_commands.proofs.serve.serve_file.Goals as goal
 
 pub returns-in-Ok-of : goal.returns-in-Ok-of
 returns-in-Ok-of g c =
     let read = c.in-Ok.ensures in
-    let does = rw c.in-Ok-of.ensures.same at c.serve_command.ensures (shelf_at g.S.Shelf c.file_bytes.new.shelf) in
+    let answered = c.serve_counted-answered in
+    let serves = answered.ensures.serves in
+    let does = rw c.in-Ok-of.ensures.same at (session_step c.in-Ok-of.image answered.result
+    (world_of g.S.Shelf g.I.Source g.O.Sink c.file_bytes.new.shelf c.args.input.now c.args.out.now)
+    (world_of g.S.Shelf g.I.Source g.O.Sink c.file_bytes.new.shelf answered.new.input answered.new.out) serves.0 serves.1 refl serves.2
+    answered.ensures.input_faults answered.ensures.out_faults) in
     whole_read work.Serve c.args.path.now c.as_slice.result.now (shelf_at g.S.Shelf c.args.shelf.now)
     (world_of g.S.Shelf g.I.Source g.O.Sink c.file_bytes.new.shelf c.args.input.now c.args.out.now) _ _
-    (rw c.as_slice.ensures read.reads) read.files (read.faults.kept refl) (rw c.in-Ok-of.ensures.opens does)
+    (rw c.as_slice.ensures read.reads) read.files (read.faults.kept refl) (rw c.in-Ok-of.ensures.opens (rw c.stop_of_session.ensures does))
 
 pub returns-in-Ok : goal.returns-in-Ok
 returns-in-Ok g c =

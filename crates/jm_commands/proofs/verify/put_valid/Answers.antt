@@ -15,6 +15,6 @@ returns-in_err-line g c b file =
 pub returns : goal.returns
 returns g c b file =
     let text : c.as_bytes.result.now ≡ verify_text b
-    = c.as_bytes.ensures.value ∙ c.in_ok-line.ensures ∙ ap (λ n. codes "valid " ++ decimal n ++ codes "\n") (count_is b
-    c.header.result (c.header.ensures.valid b file)) in
+    = c.as_bytes.ensures.value ∙ c.in_ok-line.ensures.ok ∙ ap (λ n. codes "valid " ++ decimal n ++ codes "\n") (count_is b
+    c.header-count.result (c.header-count.ensures.valid b file)) in
     rw (sym text) c.put_output.ensures

@@ -4,6 +4,7 @@ use Rattle.std.proofs.lemmas.List.Elements.{All-append, All-nil}
 use Rattle.jm_jrt.specs.Lines.{is_newline}
 use Rattle.jm_jrt.specs.Reply.{line_bytes}
 use Rattle.jm_jrt.specs.Sessions.{Breaks, IsFree, Passes, Refuses, moment}
+use Rattle.jm_jrt.proofs.FreeLaws.{front_free, none_free, whole_cut}
 use Rattle.jm_jrt.proofs.ServeErrors.{err_from, err_with}
 use Rattle.jm_jrt.proofs.SessionSteps.{breaks_line, breaks_part, breaks_then, passes_line, passes_nothing, passes_then}
 use Rattle.jm_jrt.proofs.WithinLaws.{later_then, within_later}
@@ -31,8 +32,10 @@ returns-in_err-end_line-clause-err g c =
     let bytes = c.in-Some.bytes.now in
     let behind = c.in-Some.behind.now in
     let now = moment (content c.loop-bytes.out) c.loop-bytes.progress.lines c.loop-bytes.hashes c.loop-bytes.reads in
-    let free : IsFree (part ++ bytes) = All-append (λ x. is_newline x ≡ false) part bytes before.goes_on.free c.in-Some.ensures.free in
-    let cut : part ++ c.loop-bytes.rest.now ≡ (part ++ bytes) ++ 10 ∷ behind = ap (λ (t : List ℕ). part ++ t) c.in-Some.ensures.cut
+    let free : IsFree (part ++ bytes) = All-append (λ x. is_newline x ≡ false) part bytes before.goes_on.free
+    (front_free c.loop-bytes.rest.now bytes c.in-Some.ensures.before) in
+    let cut : part ++ c.loop-bytes.rest.now ≡ (part ++ bytes) ++ 10 ∷ behind = ap (λ (t : List ℕ). part ++ t)
+    (whole_cut c.loop-bytes.rest.now bytes behind c.in-Some.ensures.found c.in-Some.ensures.before c.in-Some.ensures.after)
     ∙ sym (append_assoc part bytes (10 ∷ behind)) in
     let passes : Passes b text old ((part ++ bytes) ++ 10 ∷ behind) now = subst (λ (t : List ℕ). Passes b text old t now) cut
     before.passes in
@@ -54,8 +57,10 @@ loop-bytes-preserved g c =
     let behind = c.in-Some.behind.now in
     let now = moment (content c.loop-bytes.out) c.loop-bytes.progress.lines c.loop-bytes.hashes c.loop-bytes.reads in
     let new = moment (content c.end_line.new.out) c.end_line.new.progress.lines c.end_line.new.hashes c.end_line.new.reads in
-    let free : IsFree (part ++ bytes) = All-append (λ x. is_newline x ≡ false) part bytes before.goes_on.free c.in-Some.ensures.free in
-    let cut : part ++ c.loop-bytes.rest.now ≡ (part ++ bytes) ++ 10 ∷ behind = ap (λ (t : List ℕ). part ++ t) c.in-Some.ensures.cut
+    let free : IsFree (part ++ bytes) = All-append (λ x. is_newline x ≡ false) part bytes before.goes_on.free
+    (front_free c.loop-bytes.rest.now bytes c.in-Some.ensures.before) in
+    let cut : part ++ c.loop-bytes.rest.now ≡ (part ++ bytes) ++ 10 ∷ behind = ap (λ (t : List ℕ). part ++ t)
+    (whole_cut c.loop-bytes.rest.now bytes behind c.in-Some.ensures.found c.in-Some.ensures.before c.in-Some.ensures.after)
     ∙ sym (append_assoc part bytes (10 ∷ behind)) in
     let passes : Passes b text old ((part ++ bytes) ++ 10 ∷ behind) now = subst (λ (t : List ℕ). Passes b text old t now) cut
     before.passes in
@@ -96,7 +101,8 @@ returns-clause-err g c =
     let part = c.loop-bytes.progress.part.items in
     let rest = c.loop-bytes.rest.now in
     let now = moment (content c.loop-bytes.out) c.loop-bytes.progress.lines c.loop-bytes.hashes c.loop-bytes.reads in
-    let free : IsFree (part ++ rest) = All-append (λ x. is_newline x ≡ false) part rest before.goes_on.free c.in_default.ensures.none in
+    let free : IsFree (part ++ rest) = All-append (λ x. is_newline x ≡ false) part rest before.goes_on.free
+    (none_free rest c.in_default.ensures.none) in
     err_from (λ e. Refuses e c.loop-bytes.progress.lines (length (part ++ rest)))
     (λ e. Breaks e b text old (content c.loop-bytes.out)) c.keep_part.result c.keep_part.ensures.err c.keep_part.ensures.begun
     (λ error refuses begun. breaks_then error b text old (part ++ rest) now (content c.loop-bytes.out) before.passes

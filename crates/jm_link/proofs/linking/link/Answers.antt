@@ -1,6 +1,9 @@
 use Rattle.std.proofs.Common.{◌≡◌, ◌∙◌, ◌<◌, ℕ, List, length, map, Err, refl, subst, sym}
 use Rattle.jm_bytes.proofs.Members.{all_from_contains}
 use Rattle.jm_bytes.proofs.ResultLaws.{passed_on}
+use Rattle.jm_bytes.specs.Results.{IfAnswered}
+use Rattle.jm_plugins.specs.Plugins.{Applies}
+use Rattle.jm_words.specs.declared.tasks.Plugin.{Plugin}
 use Rattle.jm_closure.specs.declared.candidate.Candidate.{Candidate}
 use Rattle.jm_modpath.specs.Modules.{candidates}
 use Rattle.jm_outside.specs.Outcome.{Shows}
@@ -11,7 +14,7 @@ use Rattle.jm_link.specs.Links.{ComesTo, PoolComesTo, TellsNothing, request_of}
 use Rattle.jm_link.specs.ResourceFiles.{NamesAll, pair_of}
 use Rattle.jm_link.specs.Resources.{AreFit, link_files, resources_of}
 use Rattle.jm_link.proofs.ChosenLaws.{chosen_differ, chosen_within}
-use Rattle.jm_link.proofs.LinkingLaws.{candidates_length, ended, fit_left, image_written, left_is, links_as}
+use Rattle.jm_link.proofs.LinkingLaws.{candidates_length, ended, fit_left, image_written, links_as}
 use Rattle.jm_link.proofs.LinkingLaws.{links_sooner, named_there, none_absent, read_to, refused, shown_lists}
 use Rattle.jm_link.proofs.LinkingLaws.{unclosed, unfit, unplugged}
 use Rattle.jm_link.proofs.linking.link.Goals as goal
@@ -72,12 +75,13 @@ read_resources-requires-clause-told g c =
 
 pub returns-in_err-left : goal.returns-in_err-left
 returns-in_err-left g c =
-    let acted = rw c.as_slice-3.ensures at c.in_err-left.ensures in
     let shows = rw c.as_slice.ensures at c.in_ok-visible.ensures.modules in
     let asked : Request = request_of c.args.task.now in
     let told = g.S.Shelf.files c.args.shelf.now in
     let visible = c.in_ok-visible.visible in
     let error = c.in_err-left.field-0.0 in
+    let acted = subst (λ (list : List Plugin). IfAnswered (Applies list c.in_ok-read.read) (Err error)) c.as_slice-3.ensures
+    c.in_err-left.ensures in
     let closes = rw c.candidates.ensures at c.in_ok-places.ensures in
     let named = rw c.as_slice-2.ensures at c.in_ok-files.ensures.files in
     let read = subst (λ t. Shows t (λ files. c.in_ok-read.read ≡ resources_of files (map pair_of c.in_ok-files.files)))
@@ -87,14 +91,15 @@ returns-in_err-left g c =
     rw (passed_on c.from_residual-in_err-left.result _ c.from_residual-in_err-left.ensures.1)
     (refused (ComesTo told c.args.task.now.dirs asked) (TellsNothing told) c.args.task.now.output
     (shelf_at g.S.Shelf c.args.shelf.now) (shelf_at g.S.Shelf c.read_resources.new.shelf) (c.read_resources.ensures.files
-    ∙ c.visible_modules.ensures.files) (plugging_refusal error)
-    (λ r is. to (Err r) (unplugged asked (length c.in_ok-places.places) c.in_ok-read.read error acted r is)))
+    ∙ c.visible_modules.ensures.files) plugging_refusal
+    (Applies c.args.task.now.plugins c.in_ok-read.read) error acted
+    (λ fault applies. to (Err (plugging_refusal fault)) (unplugged asked (length c.in_ok-places.places) c.in_ok-read.read fault applies)))
 
 pub write_image-requires-clause-fit : goal.write_image-requires-clause-fit
 write_image-requires-clause-fit g c =
     let acted = rw c.as_slice-3.ensures at c.in_ok-left.ensures in
-    fit_left c.args.task.now.plugins c.in_ok-read.read c.in_ok-left.left (left_is c.args.task.now.plugins c.in_ok-read.read
-    c.in_ok-left.left acted) (subst AreFit (sym c.in_ok-read.ensures.names) c.in_ok-files.ensures.fit)
+    fit_left c.args.task.now.plugins c.in_ok-read.read c.in_ok-left.left acted (subst AreFit (sym c.in_ok-read.ensures.names)
+    c.in_ok-files.ensures.fit)
 
 pub returns : goal.returns
 returns g c =
@@ -115,10 +120,9 @@ returns g c =
     c.visible_modules.ensures.files c.in_ok-read.ensures.pool in
     let to = read_to told c.args.task.now.dirs asked visible shows c.in_ok-places.places closes named.0 resources
     (subst (λ names. Shows told (λ files. resources ≡ resources_of files names)) named.1 read) in
-    let left = left_is asked.plugins resources c.in_ok-left.left acted in
-    let fit = fit_left asked.plugins resources c.in_ok-left.left left (subst AreFit (sym c.in_ok-read.ensures.names)
+    let fit = fit_left asked.plugins resources c.in_ok-left.left acted (subst AreFit (sym c.in_ok-read.ensures.names)
     c.in_ok-files.ensures.fit) in
-    let did = image_written asked modules resources c.in_ok-left.left left fit path c.write_image.result old new
+    let did = image_written asked modules resources c.in_ok-left.left acted fit path c.write_image.result old new
     (rw c.len.ensures at c.write_image.ensures) in
     links_sooner (ComesTo told c.args.task.now.dirs asked) (TellsNothing told) path first old new
     (c.read_resources.ensures.files ∙ c.visible_modules.ensures.files)

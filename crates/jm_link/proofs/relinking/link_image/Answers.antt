@@ -1,7 +1,11 @@
 use Rattle.std.proofs.Common.{ℕ, List, length, Err, refl, subst}
 use Rattle.jm_bytes.proofs.ResultLaws.{passed_on}
+use Rattle.jm_bytes.specs.Results.{IfAnswered}
+use Rattle.jm_plugins.specs.Plugins.{Applies}
+use Rattle.jm_words.specs.declared.tasks.Plugin.{Plugin}
 use Rattle.jm_closure.specs.declared.candidate.Candidate.{Candidate}
 use Rattle.jm_relink.specs.Gathering.{GathersAll, gathered}
+use Rattle.jm_relink.specs.Modules.{FindsModules}
 use Rattle.jm_relink.proofs.AskedLaws.{visible_in}
 use Rattle.jm_outside.specs.Shelves.{ShelfSeen, shelf_at}
 use Rattle.jm_link.specs.Closing.{ClosesAmong}
@@ -11,7 +15,7 @@ use Rattle.jm_link.specs.Links.{PoolComesTo, request_of}
 use Rattle.jm_link.specs.Steps.{gathering_refusal}
 use Rattle.jm_link.proofs.GivenBack.{given_back}
 use Rattle.jm_link.proofs.ImageLaws.{gathered_fit, gathered_to, image_places, unclosed, unfit, unseen}
-use Rattle.jm_link.proofs.LinkingLaws.{ended, fit_left, image_written, left_is, links_as, refused, unplugged}
+use Rattle.jm_link.proofs.LinkingLaws.{ended, fit_left, image_written, links_as, refused, unplugged}
 use Rattle.jm_link.proofs.relinking.link_image.Goals as goal
 
 pub returns-in_err-modules : goal.returns-in_err-modules
@@ -22,8 +26,9 @@ returns-in_err-modules g c =
     let error = c.in_err-modules.field-0.0 in
     let links : ImageLinks c.args.image.now asked path c.from_residual.result old old =
     rw (passed_on c.from_residual.result _ c.from_residual.ensures.1)
-    (refused (ImageComesTo c.args.image.now asked) ⊥ path old old refl (image_refusal error) (unseen c.args.image.now asked error
-    c.in_err-modules.ensures.modules)) in
+    (refused (ImageComesTo c.args.image.now asked) ⊥ path old old refl image_refusal
+    (FindsModules c.args.image.now) error c.in_err-modules.ensures.modules
+    (unseen c.args.image.now asked)) in
     record {
       links = links;
       gives_back = given_back c.args.image.now asked path c.from_residual.result old old links;
@@ -68,12 +73,13 @@ returns-in_err-read g c =
     let old : ShelfSeen = shelf_at g.S.Shelf c.args.shelf.now in
     let error = c.in_err-read.field-0.0 in
     let closes = rw c.as_slice.ensures at c.in_ok-places.ensures in
-    let gathers = subst (λ (places : List ℕ). GathersAll (gathered c.in_ok-modules.modules places) (Err error)) c.as_slice-2.ensures
-    c.in_err-read.ensures in
+    let gathers = subst (λ (places : List ℕ). IfAnswered (GathersAll (gathered c.in_ok-modules.modules places)) (Err error))
+    c.as_slice-2.ensures c.in_err-read.ensures in
     let links : ImageLinks c.args.image.now asked path c.from_residual-in_err-read.result old old =
     rw (passed_on c.from_residual-in_err-read.result _ c.from_residual-in_err-read.ensures.1)
-    (refused (ImageComesTo c.args.image.now asked) ⊥ path old old refl (gathering_refusal error) (unfit c.args.image.now asked
-    c.in_ok-modules.modules shown.0 shown.1 shown.2 c.in_ok-places.places closes error gathers)) in
+    (refused (ImageComesTo c.args.image.now asked) ⊥ path old old refl gathering_refusal
+    (GathersAll (gathered c.in_ok-modules.modules c.in_ok-places.places)) error gathers (unfit c.args.image.now asked
+    c.in_ok-modules.modules shown.0 shown.1 shown.2 c.in_ok-places.places closes)) in
     record {
       links = links;
       gives_back = given_back c.args.image.now asked path c.from_residual-in_err-read.result old old links;
@@ -82,20 +88,23 @@ returns-in_err-read g c =
 
 pub returns-in_err-left : goal.returns-in_err-left
 returns-in_err-left g c =
-    let acted = rw c.as_slice-3.ensures at c.in_err-left.ensures in
     let shown = c.in_ok-modules.ensures.modules in
     let asked : Request = request_of c.args.task.now in
     let path = c.args.task.now.output in
     let old : ShelfSeen = shelf_at g.S.Shelf c.args.shelf.now in
     let error = c.in_err-left.field-0.0 in
+    let acted = subst (λ (list : List Plugin). IfAnswered (Applies list c.in_ok-read.read) (Err error)) c.as_slice-3.ensures
+    c.in_err-left.ensures in
     let closes = rw c.as_slice.ensures at c.in_ok-places.ensures in
     let gathers = rw c.as_slice-2.ensures at c.in_ok-read.ensures in
     let to = gathered_to c.args.image.now asked c.in_ok-modules.modules shown.0 shown.1 shown.2 c.in_ok-places.places closes
     c.in_ok-read.read gathers in
     let links : ImageLinks c.args.image.now asked path c.from_residual-in_err-left.result old old =
     rw (passed_on c.from_residual-in_err-left.result _ c.from_residual-in_err-left.ensures.1)
-    (refused (ImageComesTo c.args.image.now asked) ⊥ path old old refl (plugging_refusal error)
-    (λ r is. to (Err r) (unplugged asked (length c.in_ok-places.places) c.in_ok-read.read error acted r is))) in
+    (refused (ImageComesTo c.args.image.now asked) ⊥ path old old refl plugging_refusal
+    (Applies c.args.task.now.plugins c.in_ok-read.read) error acted
+    (λ fault applies. to (Err (plugging_refusal fault)) (unplugged asked (length c.in_ok-places.places)
+    c.in_ok-read.read fault applies))) in
     record {
       links = links;
       gives_back = given_back c.args.image.now asked path c.from_residual-in_err-left.result old old links;
@@ -109,7 +118,7 @@ write_image-requires-clause-fit g c =
     let asked : Request = request_of c.args.task.now in
     let closes = rw c.as_slice.ensures at c.in_ok-places.ensures in
     let gathers = rw c.as_slice-2.ensures at c.in_ok-read.ensures in
-    fit_left asked.plugins c.in_ok-read.read c.in_ok-left.left (left_is asked.plugins c.in_ok-read.read c.in_ok-left.left acted)
+    fit_left asked.plugins c.in_ok-read.read c.in_ok-left.left acted
     (gathered_fit c.args.image.now asked c.in_ok-modules.modules shown.0 shown.1 shown.2 c.in_ok-places.places closes
     c.in_ok-read.read gathers)
 
@@ -125,10 +134,9 @@ returns g c =
     let gathers = rw c.as_slice-2.ensures at c.in_ok-read.ensures in
     let modules = length c.in_ok-places.places in
     let read = c.in_ok-read.read in
-    let left = left_is asked.plugins read c.in_ok-left.left acted in
-    let fit = fit_left asked.plugins read c.in_ok-left.left left (gathered_fit c.args.image.now asked c.in_ok-modules.modules
+    let fit = fit_left asked.plugins read c.in_ok-left.left acted (gathered_fit c.args.image.now asked c.in_ok-modules.modules
     shown.0 shown.1 shown.2 c.in_ok-places.places closes read gathers) in
-    let did = image_written asked modules read c.in_ok-left.left left fit path c.write_image.result old new
+    let did = image_written asked modules read c.in_ok-left.left acted fit path c.write_image.result old new
     (rw c.len.ensures at c.write_image.ensures) in
     let links : ImageLinks c.args.image.now asked path c.write_image.result old new =
     links_as (PoolComesTo asked modules read) (ImageComesTo c.args.image.now asked) ⊥ ⊥ path c.write_image.result old new

@@ -1,19 +1,38 @@
-use Rattle.std.proofs.Common.{◌∙◌}
+use Rattle.std.proofs.Common.{◌∙◌, refl}
 use Rattle.jm_class.proofs.ListReadings.{counted-next, counted-stop}
 use Rattle.jm_class.specs.Views.{pool_of}
-use Rattle.jm_modinfo.proofs.Stops.{gives_stop}
+use Rattle.jm_class.proofs.Stops.{gives_stop}
 use Rattle.jm_modinfo.specs.ComputedInfo.{opened_field}
 use Rattle.jm_modinfo.proofs.fields.all_opened.Goals as goal
 
-pub returns-in_err-one : goal.returns-in_err-one
-returns-in_err-one c =
-    gives_stop (λ x. x) (λ xs. xs) _ _ c.in_err-one.field-0.0 c.from_residual-in_err-one.result c.opened.new.cursor
-    c.opened.new.cursor c.from_residual-in_err-one.ensures.1 c.in_err-one.ensures
+pub returns-in_err-package : goal.returns-in_err-package
+returns-in_err-package c =
+    gives_stop (λ x. x) (λ xs. xs) _ _ c.in_err-package.field-0.0 c.from_residual-in_err-package.result c.name.new.cursor
+    c.name.new.cursor c.from_residual-in_err-package.ensures.1 c.in_err-package.ensures
     (λ fault stops. c.loop-k.invariant ∙ counted-stop c.in_ok-count.count c.loop-k._k (opened_field (pool_of c.args.class.now.pool))
-    c.loop-k.all c.loop-k.cursor fault c.loop-k-test.true stops)
+    c.loop-k.all c.loop-k.cursor fault c.loop-k-test.true (rw stops refl))
+
+pub returns-in_err-flags : goal.returns-in_err-flags
+returns-in_err-flags c =
+    gives_stop (λ x. x) (λ xs. xs) _ _ c.in_err-flags.field-0.0 c.from_residual-in_err-flags.result c.number-in-loop-k.new.cursor
+    c.number-in-loop-k.new.cursor c.from_residual-in_err-flags.ensures.1 c.in_err-flags.ensures
+    (λ fault stops. c.loop-k.invariant ∙ counted-stop c.in_ok-count.count c.loop-k._k (opened_field (pool_of c.args.class.now.pool))
+    c.loop-k.all c.loop-k.cursor fault c.loop-k-test.true (rw (c.in_ok-package.ensures, stops) refl))
+
+pub returns-in_err-to : goal.returns-in_err-to
+returns-in_err-to c =
+    gives_stop (λ x. x) (λ xs. xs) _ _ c.in_err-to.field-0.0 c.from_residual-in_err-to.result c.names.new.cursor
+    c.names.new.cursor c.from_residual-in_err-to.ensures.1 c.in_err-to.ensures
+    (λ fault stops. c.loop-k.invariant ∙ counted-stop c.in_ok-count.count c.loop-k._k (opened_field (pool_of c.args.class.now.pool))
+    c.loop-k.all c.loop-k.cursor fault c.loop-k-test.true (rw (c.in_ok-package.ensures, c.in_ok-flags.ensures, stops) refl))
 
 pub loop-k-preserved : goal.loop-k-preserved
 loop-k-preserved c =
     rw c.in_ok-push.ensures.ok
     (c.loop-k.invariant ∙ counted-next c.in_ok-count.count c.loop-k._k (opened_field (pool_of c.args.class.now.pool)) c.loop-k.all
-    c.loop-k.cursor c.opened.new.cursor c.in_ok-one.one c.loop-k-test.true c.in_ok-one.ensures)
+    c.loop-k.cursor c.names.new.cursor (record {
+      «package» = c.in_ok-package.package;
+      flags = c.in_ok-flags.flags;
+      to = c.in_ok-to.to;
+    }) c.loop-k-test.true
+    (rw (c.in_ok-package.ensures, c.in_ok-flags.ensures, c.in_ok-to.ensures) refl))

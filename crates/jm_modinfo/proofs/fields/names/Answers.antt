@@ -1,7 +1,7 @@
 use Rattle.std.proofs.Common.{◌∙◌}
 use Rattle.jm_class.proofs.ListReadings.{counted-next, counted-stop}
 use Rattle.jm_class.specs.Views.{pool_of}
-use Rattle.jm_modinfo.proofs.Stops.{gives_stop}
+use Rattle.jm_class.proofs.Stops.{gives_stop}
 use Rattle.jm_modinfo.specs.ComputedInfo.{named_field}
 use Rattle.jm_modinfo.proofs.fields.names.Goals as goal
 

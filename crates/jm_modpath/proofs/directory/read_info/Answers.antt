@@ -1,6 +1,6 @@
+use Rattle.jm_form.specs.ModuleFiles.{info_name}
 use Rattle.jm_modpath.proofs.StepLaws.{info_is_text, read_none, read_told}
 use Rattle.jm_modpath.proofs.TextCuts.{inside_is_text}
-use Rattle.jm_modpath.specs.Modules.{info_name}
 use Rattle.jm_modpath.proofs.directory.read_info.Goals as goal
 
 pub read-requires : goal.read-requires

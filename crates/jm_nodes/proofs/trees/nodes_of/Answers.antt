@@ -1,22 +1,24 @@
-use Rattle.std.proofs.Common.{ap, map}
+use Rattle.std.proofs.Common.{rules, ◌≡◌, ap, map, reverse}
 use Rattle.jm_nodes.specs.Filings.{filing_of}
 use Rattle.jm_nodes.specs.FrontTrees.{folder_of}
 use Rattle.jm_nodes.proofs.MadeLaws.{made_of}
 use Rattle.jm_nodes.proofs.trees.nodes_of.Goals as goal
 
 pub returns : goal.returns
-returns c = record {
-  table = map filing_of c.in_ok-table.table;
-  owned = map filing_of c.in_ok-owned.owned;
-  children = c.in_ok-table.ensures;
-  owners = rw (c.as_slice-3.ensures, c.as_slice-4.ensures, c.in_ok-folders.ensures) at c.in_ok-owned.ensures;
-  made = made_of c.falling.result c.in_ok-nodes.nodes (map filing_of c.in_ok-table.table) (map filing_of c.as_slice-6.result.now)
-      (map filing_of c.in_ok-owned.owned)
-      (map filing_of c.as_slice-7.result.now) (map (λ front. front.now) c.args.fronts.now) (map (λ called. called.now)
-      c.in_ok-packages.packages)
-      (map (λ called. called.now) c.as_slice-8.result.now) c.in_ok-called.called c.as_slice-2.result.now
-      (map folder_of c.in_ok-folders.folders) (map folder_of c.as_slice.result.now)
-      c.falling.ensures c.in_ok-nodes.ensures (ap (map filing_of) c.as_slice-6.ensures) (ap (map filing_of) c.as_slice-7.ensures)
-      (ap (map (λ called. called.now)) c.as_slice-8.ensures) c.in_ok-packages.ensures c.as_slice-2.ensures c.in_ok-called.ensures
-      (ap (map folder_of) c.as_slice.ensures) c.in_ok-folders.ensures;
-}
+returns c =
+    let last : c.from_vec.result ≡ reverse c.in_ok-nodes.nodes = search rules in
+    record {
+      table = map filing_of c.in_ok-table.table;
+      owned = map filing_of c.in_ok-owned.owned;
+      children = c.in_ok-table.ensures;
+      owners = rw (c.as_slice-3.ensures, c.as_slice-4.ensures, c.in_ok-folders.ensures) at c.in_ok-owned.ensures;
+      made = made_of c.from_vec.result c.in_ok-nodes.nodes (map filing_of c.in_ok-table.table) (map filing_of c.as_slice-6.result.now)
+          (map filing_of c.in_ok-owned.owned)
+          (map filing_of c.as_slice-7.result.now) (map (λ front. front.now) c.args.fronts.now) (map (λ called. called.now)
+          c.in_ok-packages.packages)
+          (map (λ called. called.now) c.as_slice-8.result.now) c.in_ok-called.called c.as_slice-2.result.now
+          (map folder_of c.in_ok-folders.folders) (map folder_of c.as_slice.result.now)
+          last c.in_ok-nodes.ensures (ap (map filing_of) c.as_slice-6.ensures) (ap (map filing_of) c.as_slice-7.ensures)
+          (ap (map (λ called. called.now)) c.as_slice-8.ensures) c.in_ok-packages.ensures c.as_slice-2.ensures c.in_ok-called.ensures
+          (ap (map folder_of) c.as_slice.ensures) c.in_ok-folders.ensures;
+    }

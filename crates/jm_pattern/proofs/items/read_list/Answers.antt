@@ -1,9 +1,9 @@
-use Rattle.std.proofs.Common.{rules, option_map, ap, List, Ok}
-use Rattle.jm_bytes.specs.Results.{UnlessMemory}
+use Rattle.std.proofs.Common.{rules, ◌≡◌, option_map, ap, List, Result, Ok}
+use Rattle.jm_bytes.specs.Results.{IfAnswered}
 use Rattle.jm_pattern.proofs.FirstItem.{less-left, list-further}
 use Rattle.jm_pattern.proofs.RuleLaws.{list_fault, list_reads}
 use Rattle.jm_pattern.specs.Items.{list_of}
-use Rattle.jm_pattern.specs.declared.signs.PatternError.TheVariants.{Memory}
+use Rattle.jm_pattern.specs.declared.signs.PatternFault.{PatternFault}
 use Rattle.jm_pattern.specs.declared.signs.Sign.{Sign}
 use Rattle.jm_pattern.proofs.items.read_list.Goals as goal
 
@@ -19,10 +19,10 @@ loop-left-preserved c =
 
 pub returns-in_err-pattern-clause-fault : goal.returns-in_err-pattern-clause-fault
 returns-in_err-pattern-clause-fault c =
-    let read : UnlessMemory {A = List (List Sign)} Memory c.from_residual.result (list_of c.args.text.now) = search rules in
+    let read : IfAnswered {A = List (List Sign)} (λ r. r ≡ list_of c.args.text.now) c.from_residual.result = search rules in
     list_fault c.args.text.now c.from_residual.result read
 
 pub returns-clause-reads : goal.returns-clause-reads
 returns-clause-reads c =
-    let read : UnlessMemory Memory (Ok c.loop-left.patterns) (list_of c.args.text.now) = search rules in
+    let read : ◌≡◌ {A = Result (List (List Sign)) PatternFault} (Ok c.loop-left.patterns) (list_of c.args.text.now) = search rules in
     list_reads c.args.text.now c.loop-left.patterns read

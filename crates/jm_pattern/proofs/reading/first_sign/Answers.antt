@@ -1,5 +1,5 @@
 use Rattle.std.proofs.Common.{arith}
-use Rattle.jm_pattern.proofs.FirstSign.{first-escaped, first-one, first-byte}
+use Rattle.jm_pattern.proofs.FirstSign.{first-byte, first-escaped, first-one, first-star, first-two}
 use Rattle.jm_pattern.proofs.reading.first_sign.Goals as goal
 
 pub returns-in_ok-byte-in-92-clause-some : goal.returns-in_ok-byte-in-92-clause-some
@@ -14,3 +14,11 @@ pub returns-in_default-clause-some : goal.returns-in_default-clause-some
 returns-in_default-clause-some c =
     first-byte c.args.text.now c.in_ok-first.after.now c.in_ok-first.first.now c.in_ok-first.ensures.cases.0 (omega arith)
     (omega arith) (omega arith)
+
+pub returns-in-Some-clause-some : goal.returns-in-Some-clause-some
+returns-in-Some-clause-some c = first-two c.args.text.now c.in_ok-first.after.now c.in-Some.behind.now c.in_ok-first.first.now
+    c.in_ok-first.ensures.cases.0 c.in-42.is c.in-Some.ensures.some
+
+pub returns-in-None-clause-some : goal.returns-in-None-clause-some
+returns-in-None-clause-some c = first-star c.args.text.now c.in_ok-first.after.now c.in_ok-first.first.now
+    c.in_ok-first.ensures.cases.0 c.in-42.is c.in-None.ensures.none

@@ -1,4 +1,4 @@
-use Rattle.std.proofs.Common.{List, ℕ, All, sym, subst, arith}
+use Rattle.std.proofs.Common.{List, ℕ, All, subst, arith}
 use Rattle.std.proofs.lemmas.List.{take_all}
 use Rattle.jm_plugins.proofs.PackagingLaws.{StaysListed, listed_next}
 use Rattle.jm_plugins.proofs.packages.all_stay.Goals as goal

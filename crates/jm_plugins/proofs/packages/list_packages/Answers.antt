@@ -1,25 +1,23 @@
-use Rattle.std.proofs.Common.{inr, subst, sym}
-use Rattle.jm_bytes.specs.Results.{UnlessMemory}
+use Rattle.std.proofs.Common.{subst, sym}
 use Rattle.jm_form.specs.Trees.{module_of}
 use Rattle.jm_packages.specs.Packages.{packages_text}
 use Rattle.jm_pool.specs.Pairs.{names_of}
-use Rattle.jm_plugins.specs.declared.chain.ApplyError.TheVariants.{Memory}
 use Rattle.jm_plugins.specs.Packaging.{is_descriptor, listing_text, packages_by}
-use Rattle.jm_plugins.proofs.ClassLaws.{same_texts}
+use Rattle.jm_plugins.proofs.ClassLaws.{Comes, same_texts}
 use Rattle.jm_plugins.proofs.PackagingLaws.{keys_serve, pairs_read, pairs_stay}
 use Rattle.jm_plugins.proofs.packages.list_packages.Goals as goal
 
 pub returns-clause-computed : goal.returns-clause-computed
 returns-clause-computed g c =
     let pool = c.args.pool in
-    subst (UnlessMemory Memory c.remake_classes.result)
+    subst (Comes c.remake_classes.result)
     (same_texts is_descriptor (λ name class. packages_text (packages_by c.in_ok-keys.keys (module_of name)) class)
     (listing_text (names_of pool)) pool (rw c.in_ok-keys.ensures (keys_serve pool)))
     c.remake_classes.ensures.computed
 
 pub returns-then-branch-clause-computed : goal.returns-then-branch-clause-computed
 returns-then-branch-clause-computed g c =
-    inr (sym (pairs_stay (names_of c.args.pool) c.args.pool (c.in_ok-all_stay.ensures c.if-branch.true)))
+    sym (pairs_stay (names_of c.args.pool) c.args.pool (c.in_ok-all_stay.ensures c.if-branch.true))
 
 pub returns-then-branch-clause-read : goal.returns-then-branch-clause-read
-returns-then-branch-clause-read g c = inr (pairs_read c.args.pool (c.in_ok-all_stay.ensures c.if-branch.true))
+returns-then-branch-clause-read g c = pairs_read c.args.pool (c.in_ok-all_stay.ensures c.if-branch.true)

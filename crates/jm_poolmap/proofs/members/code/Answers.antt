@@ -6,20 +6,15 @@ pub returns-in_err-over-clause-step : goal.returns-in_err-over-clause-step
 returns-in_err-over-clause-step c =
     walks_stop _ _ c.in_err-over.field-0.0 c.from_residual.result c.over.new.walk c.over.new.walk c.from_residual.ensures.1
     c.in_err-over.ensures.step
-    (λ stops. let instructions = rw c.pass.ensures at stops in rw instructions refl)
+    (λ stops. rw stops refl)
 
 pub returns-in_err-over-2-clause-step : goal.returns-in_err-over-2-clause-step
 returns-in_err-over-2-clause-step c =
     walks_stop _ _ c.in_err-over-2.field-0.0 c.from_residual-in_err-over-2.result c.over-2.new.walk c.over-2.new.walk
     c.from_residual-in_err-over-2.ensures.1 c.in_err-over-2.ensures.step
-    (λ stops.
-    let instructions = rw c.pass.ensures at c.in_ok-over.ensures.step in
-    let handlers = rw c.pass-2.ensures at stops in
-    rw (instructions, handlers) refl)
+    (λ stops. rw (c.in_ok-over.ensures.step, stops) refl)
 
 pub returns-clause-step : goal.returns-clause-step
 returns-clause-step c =
-    let instructions = rw c.pass.ensures at c.in_ok-over.ensures.step in
-    let handlers = rw c.pass-2.ensures at c.in_ok-over-2.ensures.step in
-    let attributes = rw (c.pass-3.ensures, c.as_slice.ensures) at c.plains.ensures.step in
-    rw (instructions, handlers) (walks_last _ c.plains.result c.plains.new.walk attributes)
+    let attributes = rw c.as_slice.ensures at c.plains.ensures.step in
+    rw (c.in_ok-over.ensures.step, c.in_ok-over-2.ensures.step) (walks_last _ c.plains.result c.plains.new.walk attributes)

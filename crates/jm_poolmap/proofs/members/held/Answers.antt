@@ -6,5 +6,5 @@ use Rattle.jm_poolmap.proofs.members.held.Goals as goal
 pub returns-in_ok-note-in-Code-clause-step : goal.returns-in_ok-note-in-Code-clause-step
 returns-in_ok-note-in-Code-clause-step c =
     let noted = same_ok _ _ c.in_ok-note-in-Code.ensures.step in
-    let code = rw (c.pass.ensures, sym noted) at c.code.ensures.step in
+    let code = rw (sym noted) at c.code.ensures.step in
     rw c.in-Code.is (walks_last _ c.code.result c.code.new.walk code)

@@ -14,7 +14,7 @@ returns-then-eq-2 c =
     let other = cut_of c.args.other.now in
     let same_module = (bytes_eq-Decides one.module other.module).0 (sym c.eq.ensures ∙ c.if-eq.true) in
     let same_parent = (bytes_eq-Decides one.parent other.parent).0 (sym c.eq-then-eq.ensures ∙ c.if-eq-2.true) in
-    c.order_of_bytes.ensures
-    ∙ ap (λ l. slice_cmp nat_cmp l c.of-then-eq-2.result) (c.of.ensures ∙ ap join c.without_folder-tail.ensures)
-    ∙ ap (slice_cmp nat_cmp (join (without_folder one))) (c.of-then-eq-2.ensures ∙ ap join c.without_folder-other_tail.ensures)
+    c.order_from.ensures
+    ∙ ap (λ l. slice_cmp nat_cmp l c.of-other_bytes.result) (c.of-bytes.ensures ∙ ap join c.without_folder-tail.ensures)
+    ∙ ap (slice_cmp nat_cmp (join (without_folder one))) (c.of-other_bytes.ensures ∙ ap join c.without_folder-other_tail.ensures)
     ∙ same_folder one other same_module same_parent

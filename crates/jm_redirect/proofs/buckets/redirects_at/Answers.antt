@@ -1,4 +1,4 @@
-use Rattle.std.proofs.Common.{IsPermutation, sym, subst, ◌∙◌, arith}
+use Rattle.std.proofs.Common.{rules, ◌≡◌, replicate, false, IsPermutation, sym, subst, ◌∙◌, arith}
 use Rattle.std.proofs.lemmas.List.{length-replicate}
 use Rattle.jm_form.specs.declared.table.Redirect.TheVariants as redirect
 use Rattle.jm_form.specs.Greedy.{buckets_in_turn}
@@ -24,7 +24,9 @@ give_all-requires-clause-reached c =
     let d = c.in_ok-turns.ensures in
     let moved = subst (λ hashes. IsPermutation (turns_of hashes slots) c.in_ok-turns.turns.items) c.requires.hashes d.moved in
     let sorted = sorted_in_turn names slots c.in_ok-turns.turns.items (λ some. omega arith) moved d.order in
-    let flags = c.deref_mut.ensures.value ∙ c.in_ok-taken.ensures in
-    let redirects = c.deref_mut-2.ensures.value ∙ c.in_ok-redirects.ensures in
+    let free : c.in_ok-taken.taken.items ≡ replicate slots false = search rules in
+    let none : c.in_ok-redirects.redirects.items ≡ replicate slots redirect.Nowhere = search rules in
+    let flags = c.deref_mut.ensures.value ∙ free in
+    let redirects = c.deref_mut-2.ensures.value ∙ none in
     rw (flags, redirects, length-replicate slots redirect.Nowhere) (reached_start names slots c.as_slice-2.result.now
     (c.as_slice-2.ensures.value ∙ sorted))

@@ -1,6 +1,6 @@
 use Rattle.std.proofs.Common.{◌<◌, ◌+◌, ◌^◌, length, refl, sym, ap, ◌∙◌, arith}
 use Rattle.jm_form.specs.Greedy.{greedy_among, table_lengths}
-use Rattle.jm_redirect.proofs.LengthLaws.{lengths_left, lengths_all, lengths_none, among_later, among_none, next_within}
+use Rattle.jm_redirect.proofs.LengthLaws.{lengths_left, lengths_all, lengths_none, among_later, among_none, next_odd, next_within}
 use Rattle.jm_redirect.proofs.TableLaws.{built, built_serves, not_built}
 use Rattle.jm_redirect.proofs.building.build.Goals as goal
 
@@ -26,7 +26,7 @@ pub loop-tried-preserved : goal.loop-tried-preserved
 loop-tried-preserved c =
     let i = c.loop-tried.invariant in
     let none = not_built c.args.names.now c.loop-tried.length (sym c.in_ok-table.ensures ∙ c.in-None.is) in
-    let next = c.next_length-length.ensures in
+    let next = next_odd c.loop-tried.length in
     let steps = next_within c.loop-tried.length in
     record {
       enough = omega (arith, i.enough, next, steps.0);

@@ -1,4 +1,4 @@
-use Rattle.std.proofs.Common.{◌<◌, ◌+◌, ◌++◌, ◌∷◌, [], true, length, map, take, drop, set, sym, subst, ap, ◌∙◌, arith}
+use Rattle.std.proofs.Common.{ℕ, ◌<◌, ◌+◌, ◌%◌, ◌++◌, ◌∷◌, [], true, length, map, take, drop, set, sym, subst, ap, ◌∙◌, arith}
 use Rattle.jm_form.specs.Greedy.{are_free}
 use Rattle.jm_form.proofs.FreeLaws.{free_more, not_free}
 use Rattle.jm_redirect.specs.Marks.{Marks, slots_sent}
@@ -9,12 +9,13 @@ pub returns-then-taken-slot-clause-fits : goal.returns-then-taken-slot-clause-fi
 returns-then-taken-slot-clause-fits c = λ before marks.
     let i = c.loop-at.at in
     let sent = slots_sent c.args.slots c.args.seed (map (λ name. name.now) (take i c.args.names.now)) in
-    let slot = c.slot_with-slot.result in
+    let slot = c.hash_of-hash.result % c.args.slots in
     let inside : slot < length c.loop-at.taken = omega arith in
     let split = sent_split c.args.names.now c.args.slots c.args.seed i _ c.requires.some c.loop-at-test.true in
     let there = sym ((c.loop-at.invariant.marks before marks).at slot inside) ∙ c.if-taken-slot.true in
     sym (ap (are_free before) (split ∙ ap (λ g. sent ++ g ∷ slots_sent c.args.slots c.args.seed
-    (map (λ name. name.now) (drop (i + 1) c.args.names.now))) (sym c.slot_with-slot.ensures)) ∙ not_free before sent _ slot there)
+    (map (λ name. name.now) (drop (i + 1) c.args.names.now))) (ap (λ (h : ℕ). h % c.args.slots) (sym c.hash_of-hash.ensures)))
+    ∙ not_free before sent _ slot there)
 
 pub returns-then-taken-slot-clause-marks : goal.returns-then-taken-slot-clause-marks
 returns-then-taken-slot-clause-marks c = λ before marks.
@@ -27,10 +28,10 @@ pub loop-at-preserved : goal.loop-at-preserved
 loop-at-preserved c =
     let i = c.loop-at.at in
     let sent = slots_sent c.args.slots c.args.seed (map (λ name. name.now) (take i c.args.names.now)) in
-    let slot = c.slot_with-slot.result in
+    let slot = c.hash_of-hash.result % c.args.slots in
     let inside : slot < length c.loop-at.taken = omega arith in
     let more = sent_more c.args.names.now c.args.slots c.args.seed i _ c.requires.some c.loop-at-test.true
-    ∙ ap (λ g. sent ++ g ∷ []) (sym c.slot_with-slot.ensures) in
+    ∙ ap (λ g. sent ++ g ∷ []) (ap (λ (h : ℕ). h % c.args.slots) (sym c.hash_of-hash.ensures)) in
     record {
       free = λ before marks.
           let untaken = sym ((c.loop-at.invariant.marks before marks).at slot inside) ∙ c.if-taken-slot.false in

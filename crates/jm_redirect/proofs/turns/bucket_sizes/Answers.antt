@@ -1,10 +1,12 @@
-use Rattle.std.proofs.Common.{◌<◌, ◌%◌, ◌+◌, set, length, get_or, refl, ap, ◌∙◌, arith}
+use Rattle.std.proofs.Common.{rules, ◌≡◌, replicate, ◌<◌, ◌%◌, ◌+◌, set, length, get_or, refl, ap, ◌∙◌, arith}
 use Rattle.std.proofs.lemmas.List.{get_or_default}
 use Rattle.jm_redirect.proofs.SizeLaws.{length-sizes, sizes_none, sizes_fit, sizes_more}
 use Rattle.jm_redirect.proofs.turns.bucket_sizes.Goals as goal
 
 pub loop-hash-init : goal.loop-hash-init
-loop-hash-init c = c.in_ok-sizes.ensures ∙ sizes_none c.args.hashes.now c.args.slots
+loop-hash-init c =
+    let zeros : c.in_ok-sizes.sizes.items ≡ replicate c.args.slots 0 = search rules in
+    zeros ∙ sizes_none c.args.hashes.now c.args.slots
 
 pub index_mut-requires : goal.index_mut-requires
 index_mut-requires c =

@@ -33,8 +33,8 @@ returns-then-len-ne0 c =
     (ap (shown (λ a. c.args.text.now.items ++ sized_text (code_text (strip_code pool a)))) (rest got.first c.strip_parts.new.cursor
     c.len.result (rw (sym c.place.ensures) got.is) c.len.ensures c.if-len-ne0.true))
 
-pub within-requires : goal.within-requires
-within-requires c =
+pub overflow_cast-len : goal.overflow_cast-len
+overflow_cast-len c =
     let pool = c.args.pool.now in
     let short = λ (at : ℕ). CodeLength c.place.result in
     let got = saw (λ a. c.put32.new.text.items ++ code_text (strip_code pool a)) (code_fields short pool c.in_ok-inner.inner)
@@ -57,7 +57,7 @@ returns c =
     let put = length_put c.args.text.now.items c.put32.new.text.items (code_text (strip_code pool got.first))
     c.strip_parts.new.text.items c.len-at.result c.len-2.result c.in_ok-put32.ensures got.same (c.len-at.ensures
     ∙ c.args.text.now.ok.0) (c.len-2.ensures ∙ c.strip_parts.new.text.ok.0) c.patch32.new.text.items
-    (rw c.within.ensures at c.patch32.ensures) in
+    c.patch32.ensures in
     ap (shown (λ a. c.args.text.now.items ++ sized_text (code_text (strip_code pool a)))) (all got.first c.strip_parts.new.cursor
     c.len.result (rw (sym c.place.ensures) got.is) c.len.ensures c.if-len-ne0.false)
     ∙ ap (λ t. Ok (t, c.inner.new.cursor)) put

@@ -15,5 +15,5 @@ pub loop-k-preserved : goal.loop-k-preserved
 loop-k-preserved c =
     rw c.is_wide_slot-due.ensures
     (c.loop-k.invariant ∙ kinds-next c.args.count c.loop-k.k c.loop-k.due c.loop-k.cursor c.slot.new.cursor
-    (slot_of c.in_ok-slot.slot) c.loop-k.kinds.items c.push.new.kinds.items c.loop-k-test.true c.in_ok-slot.ensures
-    (rw c.kind_of.ensures at c.in_ok-push.ensures))
+    (slot_of c.in_ok-slot.slot) c.loop-k.kinds.items c.push.new.self.items c.loop-k-test.true c.in_ok-slot.ensures
+    (rw c.kind_of.ensures at c.in-Ok.ensures.items))

@@ -1,16 +1,50 @@
-use Rattle.std.proofs.Common.{◌∙◌, false}
-use Rattle.jm_class.specs.ComputedClass.{member_field}
+use Rattle.std.proofs.Common.{◌∙◌, refl, false}
+use Rattle.jm_class.specs.ComputedClass.{attribute_field, member_field}
+use Rattle.jm_class.specs.Readings.{list_of}
+use Rattle.jm_class.specs.declared.class.ClassFault.TheVariants.{Short}
+use Rattle.jm_class.proofs.Stops.{gives_stop}
 use Rattle.jm_strip.specs.Walks.{nothing}
-use Rattle.jm_strip.proofs.Shown.{skip-next, skip-stop, walk_stop}
+use Rattle.jm_strip.proofs.Shown.{saw, stopped, skip-next, skip-stop, walk_stop}
 use Rattle.jm_strip.proofs.skips.skip_fields.Goals as goal
 
-pub returns-in_err-skip_field : goal.returns-in_err-skip_field
-returns-in_err-skip_field c =
-    walk_stop nothing _ _ c.in_err-skip_field.field-0.0 c.from_residual-in_err-skip_field.result c.skip_field.new.cursor
-    c.skip_field.new.cursor c.from_residual-in_err-skip_field.ensures.1 c.in_err-skip_field.ensures
+pub returns-in_err-_access : goal.returns-in_err-_access
+returns-in_err-_access c =
+    gives_stop (λ n. n) nothing _ _ c.in_err-_access.field-0.0 c.from_residual-in_err-_access.result c.number16-in-loop-k.new.cursor
+    c.number16-in-loop-k.new.cursor c.from_residual-in_err-_access.ensures.1 c.in_err-_access.ensures
     (λ fault stops. c.loop-k.invariant ∙ skip-stop (member_field c.args.pool.now false) c.in_ok-count.count c.loop-k._k
-    c.loop-k.cursor c.skip_field.new.cursor c.loop-k-test.true fault stops)
+    c.loop-k.cursor c.loop-k.cursor c.loop-k-test.true fault (rw stops refl))
+
+pub returns-in_err-_name : goal.returns-in_err-_name
+returns-in_err-_name c =
+    gives_stop (λ n. n) nothing _ _ c.in_err-_name.field-0.0 c.from_residual-in_err-_name.result c.number16-in-loop-k-2.new.cursor
+    c.number16-in-loop-k-2.new.cursor c.from_residual-in_err-_name.ensures.1 c.in_err-_name.ensures
+    (λ fault stops. c.loop-k.invariant ∙ skip-stop (member_field c.args.pool.now false) c.in_ok-count.count c.loop-k._k
+    c.loop-k.cursor c.loop-k.cursor c.loop-k-test.true fault (rw (c.in_ok-_access.ensures, stops) refl))
+
+pub returns-in_err-_descriptor : goal.returns-in_err-_descriptor
+returns-in_err-_descriptor c =
+    gives_stop (λ n. n) nothing _ _ c.in_err-_descriptor.field-0.0 c.from_residual-in_err-_descriptor.result
+    c.number16-in-loop-k-3.new.cursor c.number16-in-loop-k-3.new.cursor c.from_residual-in_err-_descriptor.ensures.1
+    c.in_err-_descriptor.ensures
+    (λ fault stops. c.loop-k.invariant ∙ skip-stop (member_field c.args.pool.now false) c.in_ok-count.count c.loop-k._k
+    c.loop-k.cursor c.loop-k.cursor c.loop-k-test.true fault (rw (c.in_ok-_access.ensures, c.in_ok-_name.ensures, stops) refl))
+
+pub returns-in_err-skip_attributes : goal.returns-in_err-skip_attributes
+returns-in_err-skip_attributes c =
+    walk_stop nothing _ _ c.in_err-skip_attributes.field-0.0 c.from_residual-in_err-skip_attributes.result
+    c.skip_attributes.new.cursor c.skip_attributes.new.cursor c.from_residual-in_err-skip_attributes.ensures.1
+    c.in_err-skip_attributes.ensures
+    (λ fault stops.
+    let attributes = stopped nothing (list_of Short (attribute_field c.args.pool.now false) c.number16-in-loop-k-3.new.cursor) fault
+    stops in
+    c.loop-k.invariant ∙ skip-stop (member_field c.args.pool.now false) c.in_ok-count.count c.loop-k._k c.loop-k.cursor
+    c.loop-k.cursor c.loop-k-test.true fault
+    (rw (c.in_ok-_access.ensures, c.in_ok-_name.ensures, c.in_ok-_descriptor.ensures, attributes) refl))
 
 pub loop-k-preserved : goal.loop-k-preserved
-loop-k-preserved c = c.loop-k.invariant ∙ skip-next (member_field c.args.pool.now false) c.in_ok-count.count c.loop-k._k
-    c.loop-k.cursor c.skip_field.new.cursor c.loop-k-test.true c.in_ok-skip_field.ensures
+loop-k-preserved c =
+    let attributes = saw nothing (list_of Short (attribute_field c.args.pool.now false) c.number16-in-loop-k-3.new.cursor) tt
+    c.skip_attributes.new.cursor c.in_ok-skip_attributes.ensures in
+    c.loop-k.invariant ∙ skip-next (member_field c.args.pool.now false) c.in_ok-count.count c.loop-k._k c.loop-k.cursor
+    c.skip_attributes.new.cursor c.loop-k-test.true
+    (rw (c.in_ok-_access.ensures, c.in_ok-_name.ensures, c.in_ok-_descriptor.ensures, attributes.is) refl)

@@ -33,7 +33,7 @@ returns c =
     c.in_ok-_access.ensures c.in_ok-_this_class.ensures c.in_ok-_super_class.ensures i.is f.is in
     let ahead = class-front all c.requires c.in_ok-_magic.ensures c.in_ok-_minor.ensures c.in_ok-_major.ensures c.in_ok-pool.ensures
     c.in_ok-_access.ensures c.in_ok-_this_class.ensures c.in_ok-_super_class.ensures i.is f.is in
-    let methods = saw (λ xs. c.in_ok-text.text.items ++ counted_text member_text (map (strip_method pool) xs))
+    let methods = saw (λ xs. c.extend.new.text.items ++ counted_text member_text (map (strip_method pool) xs))
     (list_of Short (member_field pool true) c.skip_fields.new.cursor) c.strip_methods.new.text.items
     c.strip_methods.new.cursor c.in_ok-strip_methods.ensures in
     let rest = saw (λ xs. c.strip_methods.new.text.items ++ counted_text attribute_text
@@ -41,11 +41,11 @@ returns c =
     c.strip_methods.new.cursor) c.strip_attributes.new.text.items c.strip_attributes.new.cursor c.in_ok-strip_attributes.ensures in
     let m = counted_text member_text (map (strip_method pool) methods.first) in
     let a = counted_text attribute_text (filter (λ (a : AttributeData). stays false pool a.name) rest.first) in
-    let front = c.in_ok-text.ensures ∙ c.split_at.ensures.front ∙ ahead-front c.args.bytes.now _ c.skip_fields.new.cursor ahead
-    c.len.result c.len.ensures in
+    let front = c.in_ok-extend.ensures.ok ∙ ap (λ t. t ++ c.split_at.result.0.now) c.in_ok-text.ensures.items
+    ∙ c.split_at.ensures.front ∙ ahead-front c.args.bytes.now _ c.skip_fields.new.cursor ahead c.len.result c.len.ensures in
     let parts = λ (found : ℕ). front_parts found c.in_ok-_minor._minor c.in_ok-_major._major pool c.in_ok-_access._access
     c.in_ok-_this_class._this_class c.in_ok-_super_class._super_class i.first f.first in
-    let text = whole (parts c.in_ok-_magic._magic) m a c.in_ok-text.text.items c.strip_methods.new.text.items
+    let text = whole (parts c.in_ok-_magic._magic) m a c.extend.new.text.items c.strip_methods.new.text.items
     c.strip_attributes.new.text.items front methods.same rest.same in
     rw (
       c.in_ok-_magic.ensures,

@@ -1,4 +1,4 @@
-use Rattle.std.proofs.Common.{◌≡◌, ◌+◌, ◌-◌, ◌<◌, ◌++◌, ◌∷◌, [], length, refl, sym, ap, ◌∙◌, arith, subst}
+use Rattle.std.proofs.Common.{◌≡◌, ◌+◌, ◌-◌, ◌<◌, ◌++◌, ◌∷◌, [], length, min, refl, sym, ap, ◌∙◌, arith, subst}
 use Rattle.std.proofs.lemmas.List.{length_push}
 use Rattle.std.proofs.lemmas.List.FromFn.{length-range_with_len}
 use Rattle.std.specs.List.{range_with_len}
@@ -28,10 +28,11 @@ overflow_add-range c =
     let s = c.args.names.now.sections in
     let there = row_reached s c.loop-slot.slot c.in-Some.row (sym c.in-Some.ensures) in
     let below : c.loop-slot.slot < s.header.length = omega arith in
-    let sound = sound_row_with s.bytes.now s.header s.size c.loop-slot.slot c.in-Some.row (c.requires.sound c.loop-slot.slot below)
+    let sound = sound_row_with s.bytes.now s.header s.size c.loop-slot.slot c.in-Some.row (c.requires c.loop-slot.slot below)
     there.0 in
     let fits = sound.within in
-    omega arith
+    let size = s.size_fits in
+    omega (arith, fits, size)
 
 pub loop-slot-preserved : goal.loop-slot-preserved
 loop-slot-preserved c =
@@ -64,5 +65,6 @@ loop-slot-preserved c =
 
 pub returns : goal.returns
 returns c =
-    let count : c.loop-slot.slot - c.args.first ≡ c.args.end - c.args.first = omega arith in
+    let all = c.args.names.now.sections.header.length in
+    let count : c.loop-slot.slot - c.args.first ≡ min (c.args.first + c.args.most) all - c.args.first = omega arith in
     subst (λ n. ContentsAt c.args.names.now.sections (range_with_len c.args.first n) c.loop-slot.contents) count c.loop-slot.invariant

@@ -1,5 +1,6 @@
-use Rattle.std.proofs.Common.{◌≡◌, ◌==◌, not, ℕ, List, [], ◌∷◌, length, Option, Some, None, option_map, refl, sym, ap, ◌∙◌}
-use Rattle.jm_bytes.specs.Checks.{fault_if, first_fault}
+use Rattle.std.proofs.Common.{◌≡◌, ℕ, List, [], ◌∷◌, length, Option, Some, None, option_map, refl, sym, ap, ◌∙◌}
+use Rattle.std.proofs.lemmas.Bool.{eq-eqb}
+use Rattle.jm_bytes.specs.Checks.{first_fault}
 use Rattle.jm_form.specs.declared.damage.Damage.{Damage}
 use Rattle.jm_form.specs.declared.damage.Damage.TheVariants as damage
 use Rattle.jm_form.specs.ComputedOverlap.{first_overlap}
@@ -18,9 +19,9 @@ only_check None = refl
 only_check (Some fault) = refl
 
 -- where the count is right, the damage is the overlap
-entries_overlap : (stated : ℕ) (es : List Entry) → fault_if (not (stated == length es)) (damage.Count stated (length es)) ≡ None
-    → first_fault (entries_checks stated es) ≡ overlap_damage (first_overlap (ranges_of es))
-entries_overlap stated es counted = rw counted (only_check (overlap_damage (first_overlap (ranges_of es))))
+entries_overlap : (stated : ℕ) (es : List Entry) → stated ≡ length es → first_fault (entries_checks stated es)
+    ≡ overlap_damage (first_overlap (ranges_of es))
+entries_overlap stated es same = rw (eq-eqb stated (length es) same) (only_check (overlap_damage (first_overlap (ranges_of es))))
 
 pub first_overlap-requires-clause-rising : goal.first_overlap-requires-clause-rising
 first_overlap-requires-clause-rising c =
@@ -36,4 +37,4 @@ returns c =
     let es = entries c.args.sections.now.bytes.now c.args.sections.now.header in
     let listed = c.as_mut_slice.ensures.value ∙ c.requires.ranges in
     c.first_overlap.ensures ∙ ap overlap_damage (ap first_overlap listed ∙ first_overlap-bytes (ranges_of es))
-    ∙ sym (entries_overlap c.args.sections.now.header.count es (rw c.requires.count at (sym c.in_default.ensures)))
+    ∙ sym (entries_overlap c.args.sections.now.header.count es (c.if-stated-found.false ∙ c.requires.count))

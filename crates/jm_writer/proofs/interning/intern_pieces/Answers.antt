@@ -1,5 +1,5 @@
 use Rattle.std.proofs.Common.{rules, ◌≡◌, ◌∷◌, ◌<◌, [], Err, Some, length, ap, ◌∙◌, sym, subst}
-use Rattle.jm_strings.specs.declared.strings.StringsError.TheVariants.{Full, Zero}
+use Rattle.jm_bytes.specs.declared.faults.Or.TheVariants.{Fault}
 use Rattle.jm_form.specs.Strings.{place_of, section_of, with_text, IsZeroFree}
 use Rattle.jm_strings.specs.Limit.{limit}
 use Rattle.jm_form.specs.Layout.{pieces, with_texts}
@@ -13,54 +13,42 @@ use Rattle.jm_writer.proofs.interning.intern_pieces.Goals as goal
 
 pub returns-in_err-module-clause-full : goal.returns-in_err-module-clause-full
 returns-in_err-module-clause-full c = λ is.
-    let was : c.intern.result ≡ Err Full = search rules in
+    let was : c.intern.result ≡ Err (Fault (record {})) = search rules in
     let full = c.intern.ensures.full.0 was in
     let p = c.split-pieces.result in
     subst (λ cut. limit < length (section_of (with_texts c.args.strings.now (pieces cut)))) c.split-pieces.ensures.cut
-    (full_with c.args.strings.now p.module.now (p.parent.now ∷ p.base.now ∷ p.ext.now ∷ []) full.1 full.2)
+    (full_with c.args.strings.now p.module.now (p.parent.now ∷ p.base.now ∷ p.ext.now ∷ []) full.0 full.1)
 
 pub returns-in_err-parent-clause-full : goal.returns-in_err-parent-clause-full
 returns-in_err-parent-clause-full c = λ is.
-    let was : c.intern-2.result ≡ Err Full = search rules in
+    let was : c.intern-2.result ≡ Err (Fault (record {})) = search rules in
     let full = c.intern-2.ensures.full.0 was in
     let p = c.split-pieces.result in
     subst (λ cut. limit < length (section_of (with_texts c.args.strings.now (pieces cut)))) c.split-pieces.ensures.cut
     (subst (λ held. limit < length (section_of (with_texts held (p.parent.now ∷ p.base.now ∷ p.ext.now ∷ [])))) c.in_ok-module.ensures.texts
-    (full_with c.intern.new.self p.parent.now (p.base.now ∷ p.ext.now ∷ []) full.1 full.2))
+    (full_with c.intern.new.self p.parent.now (p.base.now ∷ p.ext.now ∷ []) full.0 full.1))
 
 pub returns-in_err-base-clause-full : goal.returns-in_err-base-clause-full
 returns-in_err-base-clause-full c = λ is.
-    let was : c.intern-3.result ≡ Err Full = search rules in
+    let was : c.intern-3.result ≡ Err (Fault (record {})) = search rules in
     let full = c.intern-3.ensures.full.0 was in
     let p = c.split-pieces.result in
     subst (λ cut. limit < length (section_of (with_texts c.args.strings.now (pieces cut)))) c.split-pieces.ensures.cut
     (subst (λ held. limit < length (section_of (with_texts held (p.parent.now ∷ p.base.now ∷ p.ext.now ∷ [])))) c.in_ok-module.ensures.texts
     (subst (λ held. limit < length (section_of (with_texts held (p.base.now ∷ p.ext.now ∷ [])))) c.in_ok-parent.ensures.texts
-    (full_with c.intern-2.new.self p.base.now (p.ext.now ∷ []) full.1 full.2)))
+    (full_with c.intern-2.new.self p.base.now (p.ext.now ∷ []) full.0 full.1)))
 
-pub returns-in_err-module-clause-zero : goal.returns-in_err-module-clause-zero
-returns-in_err-module-clause-zero c = λ is.
-    let was : c.intern.result ≡ Err Zero = search rules in
-    let frees = pieces_free (cut_of c.split-pieces.result) (subst IsZeroFree (sym c.split-pieces.ensures.whole) c.requires) in
-    frees.module (c.intern.ensures.zero.0 was)
+pub intern-requires : goal.intern-requires
+intern-requires c = (pieces_free (cut_of c.split-pieces.result) (subst IsZeroFree (sym c.split-pieces.ensures.whole) c.requires)).module
 
-pub returns-in_err-parent-clause-zero : goal.returns-in_err-parent-clause-zero
-returns-in_err-parent-clause-zero c = λ is.
-    let was : c.intern-2.result ≡ Err Zero = search rules in
-    let frees = pieces_free (cut_of c.split-pieces.result) (subst IsZeroFree (sym c.split-pieces.ensures.whole) c.requires) in
-    frees.parent (c.intern-2.ensures.zero.0 was)
+pub intern-requires-2 : goal.intern-requires-2
+intern-requires-2 c = (pieces_free (cut_of c.split-pieces.result) (subst IsZeroFree (sym c.split-pieces.ensures.whole) c.requires)).parent
 
-pub returns-in_err-base-clause-zero : goal.returns-in_err-base-clause-zero
-returns-in_err-base-clause-zero c = λ is.
-    let was : c.intern-3.result ≡ Err Zero = search rules in
-    let frees = pieces_free (cut_of c.split-pieces.result) (subst IsZeroFree (sym c.split-pieces.ensures.whole) c.requires) in
-    frees.base (c.intern-3.ensures.zero.0 was)
+pub intern-requires-3 : goal.intern-requires-3
+intern-requires-3 c = (pieces_free (cut_of c.split-pieces.result) (subst IsZeroFree (sym c.split-pieces.ensures.whole) c.requires)).base
 
-pub returns-in_err-ext-clause-zero : goal.returns-in_err-ext-clause-zero
-returns-in_err-ext-clause-zero c = λ is.
-    let was : c.intern-4.result ≡ Err Zero = search rules in
-    let frees = pieces_free (cut_of c.split-pieces.result) (subst IsZeroFree (sym c.split-pieces.ensures.whole) c.requires) in
-    frees.ext (c.intern-4.ensures.zero.0 was)
+pub intern-requires-4 : goal.intern-requires-4
+intern-requires-4 c = (pieces_free (cut_of c.split-pieces.result) (subst IsZeroFree (sym c.split-pieces.ensures.whole) c.requires)).ext
 
 pub returns-clause-places : goal.returns-clause-places
 returns-clause-places c =

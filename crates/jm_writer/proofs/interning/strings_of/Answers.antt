@@ -4,7 +4,7 @@ use Rattle.jm_names.specs.Names.{split}
 use Rattle.jm_form.specs.Layout.{pieces, texts_of, with_texts}
 use Rattle.jm_form.specs.Strings.{section_of, IsZeroFree}
 use Rattle.jm_strings.specs.Limit.{limit}
-use Rattle.jm_strings.specs.declared.strings.StringsError.TheVariants.{Full}
+use Rattle.jm_bytes.specs.declared.faults.Or.TheVariants.{Fault}
 use Rattle.jm_writer.specs.declared.interning.TextPlaces.{TextPlaces}
 use Rattle.jm_writer.specs.Parts.{StandAt, places_in}
 use Rattle.jm_writer.proofs.PlaceLaws.{pieces_stay, stand_in}
@@ -14,7 +14,7 @@ use Rattle.jm_writer.proofs.interning.strings_of.Goals as goal
 
 pub returns-in_err-places-clause-full : goal.returns-in_err-places-clause-full
 returns-in_err-places-clause-full c = λ is.
-    let was : c.intern_pieces.result ≡ Err Full = search rules in
+    let was : c.intern_pieces.result ≡ Err (Fault (record {})) = search rules in
     let full = c.intern_pieces.ensures.full was in
     let names = c.args.names.now in
     let i = c.loop-name.name-index in

@@ -1,4 +1,4 @@
-use Rattle.std.proofs.Common.{rules, ◌≡◌, ◌+◌, ◌<◌, length, drop, get_or, set, Some, arith, refl, subst, sym, ap, ◌∙◌}
+use Rattle.std.proofs.Common.{rules, replicate, None, ◌≡◌, ◌+◌, ◌<◌, length, drop, get_or, set, Some, arith, refl, subst, sym, ap, ◌∙◌}
 use Rattle.std.specs.Prelude.{sum}
 use Rattle.jm_form.specs.declared.rows.Row.{Row}
 use Rattle.jm_writer.specs.declared.interning.TextPlaces.{TextPlaces}
@@ -8,12 +8,14 @@ use Rattle.jm_writer.proofs.SlotLaws.{Placed, length_rows_at, placed_all, placed
 use Rattle.jm_writer.proofs.rows.rows_in_slots.Goals as goal
 
 pub loop-entry-init : goal.loop-entry-init
-loop-entry-init c = record {
-  placed = subst (Placed c.args.slots.now (rows_at 0 c.args.places.now c.args.sizes.now) c.args.count 0) (sym c.in_ok-rows.ensures)
-      (placed_none c.args.slots.now (rows_at 0 c.args.places.now c.args.sizes.now) c.args.count);
-  left = refl;
-  contents = omega arith;
-}
+loop-entry-init c =
+    let none : c.in_ok-rows.rows.items ≡ replicate c.args.count None = search rules in
+    record {
+      placed = subst (Placed c.args.slots.now (rows_at 0 c.args.places.now c.args.sizes.now) c.args.count 0) (sym none)
+          (placed_none c.args.slots.now (rows_at 0 c.args.places.now c.args.sizes.now) c.args.count);
+      left = refl;
+      contents = omega arith;
+    }
 
 pub loop-entry-preserved : goal.loop-entry-preserved
 loop-entry-preserved c =

@@ -4,5 +4,5 @@ use Rattle.jm_writer.proofs.tail.tail_bytes.Given as goal
 
 abbrev pub invariant-loop-node : goal.invariant-loop-node
 invariant-loop-node l =
-    l.text.items ++ tail_bytes l.order l.strings l.table l.places (drop l.node-index l.nodes)
-    ≡ tail_bytes l.order l.strings l.table l.places l.nodes
+    l.text.items ++ tail_bytes l.order l.laid.strings l.table l.laid.locations.places.items (drop l.node-index l.nodes)
+    ≡ tail_bytes l.order l.laid.strings l.table l.laid.locations.places.items l.nodes

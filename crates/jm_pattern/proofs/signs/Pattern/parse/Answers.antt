@@ -1,7 +1,6 @@
-use Rattle.std.proofs.Common.{rules}
-use Rattle.jm_bytes.specs.Results.{UnlessMemory}
+use Rattle.std.proofs.Common.{rules, ◌≡◌}
+use Rattle.jm_bytes.specs.Results.{IfAnswered}
 use Rattle.jm_pattern.specs.ComputedReading.{pattern_of}
-use Rattle.jm_pattern.specs.declared.signs.PatternError.TheVariants.{Memory}
 use Rattle.jm_pattern.specs.declared.signs.Sign.{Sign}
 use Rattle.std.specs.Prelude.{List}
 use Rattle.jm_pattern.proofs.Laws.{plain-read, any-read}
@@ -13,7 +12,7 @@ returns-clause-reads c = parsed_reads c.args.text.now c.in_ok-signs.signs c.in_o
 
 pub returns-in_err-signs-clause-fault : goal.returns-in_err-signs-clause-fault
 returns-in_err-signs-clause-fault c =
-    let read : UnlessMemory {A = List Sign} Memory c.from_residual.result (pattern_of c.args.text.now) = search rules in
+    let read : IfAnswered {A = List Sign} (λ r. r ≡ pattern_of c.args.text.now) c.from_residual.result = search rules in
     parsed_fault c.args.text.now c.from_residual.result read
 
 pub returns-clause-plain : goal.returns-clause-plain

@@ -1,7 +1,0 @@
-use Rattle.jm_closure.proofs.PlaceLaws.{insert-shown}
-use Rattle.jm_closure.proofs.places.Places.insert.Goals as goal
-
-pub returns-clause-ok : goal.returns-clause-ok
-returns-clause-ok c = λ other.
-    rw (← c.self.view_is, c.in_ok-insert.ensures.entries)
-    (insert-shown (λ k. k.items) c.args.text c.args.place c.self.inside.places.entries other)

@@ -1,5 +1,0 @@
-use Rattle.jm_modpath.proofs.SetLaws.{inserted}
-use Rattle.jm_modpath.proofs.rising.put.Goals as goal
-
-pub returns : goal.returns
-returns c = rw c.in_ok-insert.ensures.keys (inserted c.args.text c.args.set.now.keys)

@@ -1,6 +1,0 @@
-use Rattle.std.proofs.Common.{◌≡◌, map, take}
-use Rattle.jm_pool.specs.Pairs.{names_of}
-use Rattle.jm_nodes.proofs.names.names_in_order.Given as goal
-
-abbrev pub invariant-loop-place : goal.invariant-loop-place
-invariant-loop-place l = map (λ name. name.now) l.names ≡ take l.place (names_of l.pool)

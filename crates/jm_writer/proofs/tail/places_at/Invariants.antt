@@ -1,6 +1,0 @@
-use Rattle.std.proofs.Common.{◌≡◌, map, take}
-use Rattle.std.specs.Prelude.{slice_get, unwrap_or}
-use Rattle.jm_writer.proofs.tail.places_at.Given as goal
-
-abbrev pub invariant-loop-slot : goal.invariant-loop-slot
-invariant-loop-slot l = l.found ≡ map (λ slot. unwrap_or (slice_get l.places slot) 0) (take l.slot-index l.slots)
