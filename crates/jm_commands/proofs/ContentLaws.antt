@@ -10,21 +10,28 @@ use Rattle.jm_form.specs.Entries.{content_of}
 use Rattle.jm_form.specs.Head.{IsFileOf, header_of, header_with, index_length}
 use Rattle.jm_form.specs.Places.{contents}
 use Rattle.jm_names.specs.UtfForms.{utf}
+use Rattle.jm_form.specs.Validity.{look}
 use Rattle.jm_form.proofs.LocalityLaws.{header_of_front, header_same}
 use Rattle.jm_form.proofs.Validity.{sound_valid}
 use Rattle.jm_outside.specs.Files.{Files, file}
+use Rattle.jm_outside.specs.Outcome.{Rose}
+use Rattle.jm_outside.specs.Shelves.{ShelfFailed, ShelfSeen}
 use Rattle.jm_reader.specs.Look.{SoundIn, head}
 use Rattle.jm_reader.proofs.HeadLaws.{head_is}
 use Rattle.jm_reader.proofs.IndexLaws.{lies_within}
+use Rattle.jm_words.specs.declared.tasks.ImageWork.{ImageWork}
+use Rattle.jm_words.specs.declared.tasks.ImageWork.TheVariants as work_of
 use Rattle.jm_commands.specs.declared.stop.Stop.{Stop}
 use Rattle.jm_commands.specs.declared.stop.Stop.TheVariants as stop
 use Rattle.jm_commands.specs.Cat.{content_of as content_found}
 use Rattle.jm_commands.specs.FileParts.{Comes, IsFrontOf, IsPart, LacksPart, ReadsPart}
-use Rattle.jm_commands.specs.Outcome.{Outcome, cat_outcome, done, not_there}
-use Rattle.jm_commands.specs.Run.{HasFile, ReadsFile}
+use Rattle.jm_commands.specs.Outcome.{Outcome, cat_outcome, done, not_there, reading}
+use Rattle.jm_commands.specs.Run.{HasFile, PutDoes, ReadsFile, StepComesTo, WorkComesTo}
+use Rattle.jm_commands.specs.Sinks.{Seen}
+use Rattle.jm_commands.specs.World.{world}
 use Rattle.jm_commands.specs.Sought.{BeginsAt, IsContent, LookUp, ReadsContent, Seeks, row_size}
 use Rattle.jm_commands.specs.Taken.{TakesFrom, TakesOf, front_size, sought_size}
-use Rattle.jm_commands.proofs.FrontLaws.{front_there, never_lacks, no_length, part_of, size_of}
+use Rattle.jm_commands.proofs.FrontLaws.{file_put, file_unseen, front_there, never_lacks, no_length, part_of, size_of}
 
 -- A file of an index, with a content
 
@@ -143,6 +150,26 @@ pub cat_due : (name : List ℕ) (found : Option (Row × List ℕ)) (content : Op
 cat_due name None content same = ap (cat_of name) same
 cat_due name (Some found) content same = ap (cat_of name) same
 
+cat_alone : (name : List ℕ) (content : Option (List ℕ)) → (cat_of name content).session ≡ None
+cat_alone name None = refl
+cat_alone name (Some content) = refl
+
+-- it puts the content that was read, or complains
+pub cat_put : (name path : List ℕ) (shelf now new : ShelfSeen) (source out new_out : Seen (List ℕ)) (front : List ℕ) (size : ℕ)
+    (row : Option Row) (content shown : Option (List ℕ)) (answer : Result (Unit {0}) Stop) → IsFrontOf shelf.told path front size
+    → AllSound front size → now.told ≡ shelf.told → now.faults ≡ shelf.faults
+    → Seeks (λ b. look b name) (record { bytes = front; length = size }) row
+    → ReadsContent now.told path (record { bytes = front; length = size }) row (Ok content) → new.told ≡ now.told
+    → new.faults ≡ now.faults → content ≡ shown → PutDoes (cat_of name shown) answer out new_out
+    → StepComesTo (WorkComesTo shelf.told source.told path (work_of.Cat name)) reading answer (world shelf source out)
+    (world new source new_out)
+cat_put name path shelf now new source out new_out front size row content shown answer is sound same kept seeks reads stays quiet held put =
+    let told = subst (λ (t : Option Files). ReadsContent t path (record { bytes = front; length = size }) row (Ok content)) same reads in
+    let there = sought_there shelf.told path front size (λ b. look b name) row content is sound seeks told in
+    let b = there.0 in
+    file_put (work_of.Cat name) path shelf new source (stays ∙ same) (quiet ∙ kept) (cat_of name shown) answer out new_out b there.1
+    (sound b there.2) (cat_alone name shown) (λ t. cat_due name (look b name) content there.3 ∙ ap (cat_of name) held) put
+
 -- The content wasn't read
 
 part_unread : (told mid : Option Files) (path front : List ℕ) (size place count : ℕ) (given : Stop) → mid ≡ told
@@ -166,6 +193,16 @@ sought_unread told mid path front size (Some row) given same is (place, begins, 
     go (stop.Complaint given) reads = reads
     go stop.Outside reads = tt
     go stop.Memory reads = tt
+
+-- a work of which the content wasn't read
+pub content_unread : (work : ImageWork) (path : List ℕ) (shelf now new : ShelfSeen) (source out : Seen (List ℕ)) (front : List ℕ)
+    (size : ℕ) (row : Option Row) (given : Stop) → IsFrontOf shelf.told path front size → now.told ≡ shelf.told → now.faults ≡ shelf.faults
+    → ReadsContent now.told path (record { bytes = front; length = size }) row (Err given) → new.told ≡ now.told
+    → (given ≡ stop.Outside → ShelfFailed now new)
+    → StepComesTo (WorkComesTo shelf.told source.told path work) reading (Err given) (world shelf source out) (world new source out)
+content_unread work path shelf now new source out front size row given is same kept reads stays rose =
+    file_unseen work path shelf new source given out (sought_unread shelf.told now.told path front size row given same is reads)
+    (stays ∙ same) (λ failed. subst (λ (count : ℕ). Rose count new.faults) kept (rose failed))
 
 -- What was taken
 

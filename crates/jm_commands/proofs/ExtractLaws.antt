@@ -1,28 +1,25 @@
 -- What `extract` does, from what its call answered.
-use Rattle.std.proofs.Common.{◌≡◌, inl, inr, ℕ, List, [], length, Option, None, Result, Ok, Err, IsTrue, refl, sym, ap, subst}
+use Rattle.std.proofs.Common.{◌≡◌, inl, ℕ, List, [], length, Option, None, Result, Ok, Err, IsTrue, refl, sym, ap, subst}
 use Rattle.jm_outside.specs.Made.{MadePart}
-use Rattle.jm_outside.proofs.MadeLaws.{part_of_all}
 use Rattle.jm_names.specs.ByName.{Named}
 use Rattle.jm_texts.specs.declared.refusal.Refusal.{Refusal}
 use Rattle.jm_extract.specs.declared.extracting.ExtractStop.{ExtractStop}
 use Rattle.jm_extract.specs.declared.extracting.ExtractStop.TheVariants as extract_stop
-use Rattle.jm_extract.specs.Extracted.{BreaksOff, Extracts}
+use Rattle.jm_extract.specs.Extracted.{BreaksOff, Extracts, writes_of}
 use Rattle.jm_outside.specs.Files.{Files}
 use Rattle.jm_outside.specs.Shelves.{ShelfFailed}
 use Rattle.jm_commands.specs.declared.complaint.Complaint.TheVariants as complaint
 use Rattle.jm_commands.specs.declared.stop.Stop.{Stop}
 use Rattle.jm_commands.specs.declared.stop.Stop.TheVariants as stop
 use Rattle.jm_commands.specs.ExtractText.{extract_text}
-use Rattle.jm_commands.specs.Outcome.{Outcome, done, extract_outcome, refusing}
+use Rattle.jm_commands.specs.Outcome.{done, extract_outcome, refusing}
 use Rattle.jm_commands.specs.FailedBefore.{WorkFailed}
-use Rattle.jm_commands.specs.Run.{PutDoes, StandAll, StepDoes}
+use Rattle.jm_commands.specs.Run.{PutDoes, StepDoes}
 use Rattle.jm_commands.specs.Sinks.{Seen}
 use Rattle.jm_commands.specs.Stops.{stop_of_extract}
 use Rattle.jm_commands.specs.World.{World}
-use Rattle.jm_commands.proofs.Gotten.{front_of_nothing}
-use Rattle.jm_commands.proofs.LinkLaws.{never_done}
 use Rattle.jm_commands.proofs.Made.{stays_part}
-use Rattle.jm_commands.proofs.StepLaws.{complained, put_step}
+use Rattle.jm_commands.proofs.StepLaws.{complained, made_in_part, made_put, put_step}
 
 -- no session is due of an extraction
 pub extract_session : (dir : List ℕ) (due : Result (List Named) Refusal) → (extract_outcome dir due).session ≡ None
@@ -54,49 +51,8 @@ module _ (dir : List ℕ) (due : Result (List Named) Refusal) (old new : World) 
       → Does answer
   extract_put count answer (entries, is, counted, made) whole kept put =
       subst (λ (d : Result (List Named) Refusal). StepDoes (extract_outcome dir d) answer old new) (sym is)
-      (go answer (subst (λ (n : ℕ). PutDoes (done (extract_text n)) answer old.out new.out) counted put))
-    where
-      makes : Outcome
-      makes = extract_outcome dir (Ok entries)
-
-      all : StandAll makes.writes old.shelf new.shelf
-      all = record { made = made; whole = λ some. whole }
-
-      part : MadePart makes.writes old.shelf.told new.shelf.told
-      part = part_of_all makes.writes old.shelf.told new.shelf.told made
-
-      go : (answer : Result (Unit {0}) Stop) → PutDoes (done (extract_text (length entries))) answer old.out new.out
-          → StepDoes makes answer old new
-      go (Ok _) put = record {
-        answers = (refl, refl);
-        output = put.output;
-        files = all;
-        files_first = inl all;
-        source = source;
-        outside = λ failed. cc;
-        none_rose = λ ok. record { shelf = kept; input = ap (λ (s : Seen (List ℕ)). s.faults) input; out = put.kept ok };
-      }
-      go (Err (stop.Complaint given)) put = absurd (never_done given (extract_text (length entries)) put.answers)
-      go (Err stop.Outside) put = record {
-        answers = tt;
-        output = put.output;
-        files = part;
-        files_first = inl all;
-        source =
-            source;
-        outside = λ failed. inr (put.outside failed);
-        none_rose = λ ok. cc;
-      }
-      go (Err stop.Memory) put = record {
-        answers = tt;
-        output = put.output;
-        files = part;
-        files_first = inl all;
-        source =
-            source;
-        outside = λ failed. cc;
-        none_rose = λ ok. cc;
-      }
+      (made_put (writes_of dir entries) (extract_text (length entries)) answer old new (record { made = made; whole = λ some. whole })
+      kept input (subst (λ (n : ℕ). PutDoes (done (extract_text n)) answer old.out new.out) counted put))
 
   -- it stopped before anything was put
   pub extract_stopped : (given : ExtractStop) → Extracts due dir (Err given) old.shelf.told new.shelf.told
@@ -108,21 +64,9 @@ module _ (dir : List ℕ) (due : Result (List Named) Refusal) (old new : World) 
     where
       answer : Result (Unit {0}) Stop
       answer = Err (stop.Complaint (complaint.Refused refusal))
-  extract_stopped extract_stop.Outside broken rose unput = record {
-    answers = tt;
-    output = front_of_nothing (extract_outcome dir due).output old.out new.out unput;
-    files = broken_part dir due old.shelf.told new.shelf.told broken;
-    files_first = inr unput;
-    source = rw (extract_session dir due) source;
-    outside = λ failed. shelf_failed dir due old new (rose refl);
-    none_rose = λ ok. cc;
-  }
-  extract_stopped extract_stop.Memory broken rose unput = record {
-    answers = tt;
-    output = front_of_nothing (extract_outcome dir due).output old.out new.out unput;
-    files = broken_part dir due old.shelf.told new.shelf.told broken;
-    files_first = inr unput;
-    source = rw (extract_session dir due) source;
-    outside = λ failed. cc;
-    none_rose = λ ok. cc;
-  }
+  extract_stopped extract_stop.Outside broken rose unput =
+      made_in_part (extract_outcome dir due) stop.Outside old new tt (extract_session dir due)
+      (broken_part dir due old.shelf.told new.shelf.told broken) source unput (λ failed. shelf_failed dir due old new (rose refl))
+  extract_stopped extract_stop.Memory broken rose unput =
+      made_in_part (extract_outcome dir due) stop.Memory old new tt (extract_session dir due)
+      (broken_part dir due old.shelf.told new.shelf.told broken) source unput (λ failed. cc)

@@ -1,10 +1,11 @@
 -- What `link` does, from what its call answered.
-use Rattle.std.proofs.Common.{◌≡◌, inl, inr, ℕ, List, [], Option, Some, None, Result, Ok, Err, refl, sym, ap, subst, arith}
+use Rattle.std.proofs.Common.{◌≡◌, ◌∷◌, inl, inr, ℕ, List, [], Option, Some, None, Result, Ok, Err, refl, sym, ap, subst, arith}
+use Rattle.jm_bytes.proofs.Choice.{same_err}
 use Rattle.jm_bytes.specs.declared.words.Order.{Order}
 use Rattle.jm_outside.specs.Files.{Files, put}
 use Rattle.jm_outside.specs.Outcome.{Shows}
-use Rattle.jm_outside.specs.Made.{MadePart}
-use Rattle.jm_outside.proofs.MadeLaws.{part_alone, part_of_all}
+use Rattle.jm_outside.specs.Shelves.{ShelfFailed}
+use Rattle.jm_outside.proofs.MadeLaws.{part_alone}
 use Rattle.jm_link.specs.declared.linking.LinkStop.{LinkStop}
 use Rattle.jm_link.specs.declared.linking.LinkStop.TheVariants as link_stop
 use Rattle.jm_link.specs.declared.linking.Summary.{Summary}
@@ -14,19 +15,16 @@ use Rattle.jm_link.specs.Linked.{LinkedImage, Request}
 use Rattle.jm_link.specs.ImageLinked.{ImageComesTo, ImageLinks}
 use Rattle.jm_link.specs.Links.{BreaksOff, ComesTo, IsLaid, Links, LinksBy, TellsNothing, request_of, summary_of}
 use Rattle.jm_words.specs.declared.tasks.LinkTask.{LinkTask}
-use Rattle.jm_commands.specs.declared.complaint.Complaint.{Complaint}
 use Rattle.jm_commands.specs.declared.complaint.Complaint.TheVariants as complaint
 use Rattle.jm_commands.specs.declared.stop.Stop.{Stop}
 use Rattle.jm_commands.specs.declared.stop.Stop.TheVariants as stop
 use Rattle.jm_commands.specs.Outcome.{Outcome, done, link_outcome, linked, not_there, reading, refusing}
-use Rattle.jm_commands.specs.Run.{ImageLinkComesTo, LinkComesFrom, LinkComesTo, PathLinkComesTo, PutDoes}
-use Rattle.jm_commands.specs.Run.{ShowsLinked, StandAll, StepComesTo, StepDoes, outcome_of}
+use Rattle.jm_commands.specs.Run.{ImageLinkComesTo, IsFailure, LinkComesFrom, LinkComesTo, PathLinkComesTo, PutDoes}
+use Rattle.jm_commands.specs.Run.{ShowsLinked, StepComesTo}
 use Rattle.jm_commands.specs.Sinks.{Seen}
 use Rattle.jm_commands.specs.Stops.{stop_of_link}
 use Rattle.jm_commands.specs.World.{World}
-use Rattle.jm_commands.proofs.Gotten.{front_of_nothing}
-use Rattle.jm_commands.proofs.Made.{stays_part}
-use Rattle.jm_commands.proofs.StepLaws.{complains, complains_undone}
+use Rattle.jm_commands.proofs.StepLaws.{complains, fails_at_once, made_in_part, made_put}
 
 -- an image that is laid out shows the trees of its resources
 linked_shown : (order : Order) (result : Result LinkedImage Refusal) → IsLaid order result → ShowsLinked result
@@ -38,10 +36,6 @@ comes_shown : (told : Option Files) (directories : List (List ℕ)) (asked : Req
     → ComesTo told directories asked result → Shows told (λ files. ShowsLinked result)
 comes_shown None directories asked result comes = tt
 comes_shown (Some files) directories asked result comes = linked_shown asked.order result comes.1
-
--- what is done is no complaint
-pub never_done : (given : Complaint) (text : List ℕ) → done text ≡ outcome_of given → ⊥
-never_done given text is = complains_undone given (ap (λ o. o.status) is)
 
 -- of a link that comes to one of these results, or finds a listed file missing, from what is due then
 module _ (text : Summary → List ℕ) (link : LinkTask) (Comes : Result LinkedImage Refusal → Type 0) (Absent : Type 0) (Due : Outcome
@@ -56,49 +50,26 @@ module _ (text : Summary → List ℕ) (link : LinkTask) (Comes : Result LinkedI
   -- the image was written, and then the text was put
   pub put_linked : (summary : Summary) (answer : Result (Unit {0}) Stop) → LinksBy Comes Absent link.output (Ok summary) old.shelf
       new.shelf → PutDoes (done (text summary)) answer old.out new.out → Does answer
-  put_linked summary answer (image, comes, is, stands) put =
-      inr (due, as_due (Ok image) comes, go answer (subst (λ (s : Summary). PutDoes (done (text s)) answer old.out new.out) is put))
-    where
-      due : Outcome
-      due = linked text link image
+  put_linked summary answer (image, comes, is, stands) puts = inr (
+    linked text link image,
+    as_due (Ok image) comes,
+    made_put ((link.output, image.bytes) ∷ []) (text (summary_of image)) answer old new
+        (record { made = stands.holds; whole = λ some. stands.whole }) stands.kept input
+        (subst (λ (s : Summary). PutDoes (done (text s)) answer old.out new.out) is puts),
+  )
 
-      all : StandAll due.writes old.shelf new.shelf
-      all = record { made = stands.holds; whole = λ some. stands.whole }
-
-      part : MadePart due.writes old.shelf.told new.shelf.told
-      part = part_of_all due.writes old.shelf.told new.shelf.told stands.holds
-
-      go : (answer : Result (Unit {0}) Stop) → PutDoes (done (text (summary_of image))) answer old.out new.out → StepDoes due answer old new
-      go (Ok _) put = record {
-        answers = (refl, refl);
-        output = put.output;
-        files = all;
-        files_first = inl all;
-        source = source;
-        outside = λ failed. cc;
-        none_rose = λ ok. record { shelf = stands.kept; input = ap (λ (s : Seen (List ℕ)). s.faults) input; out = put.kept ok };
-      }
-      go (Err (stop.Complaint given)) put = absurd (never_done given (text (summary_of image)) put.answers)
-      go (Err stop.Outside) put = record {
-        answers = tt;
-        output = put.output;
-        files = part;
-        files_first = inl all;
-        source =
-            source;
-        outside = λ failed. inr (put.outside failed);
-        none_rose = λ ok. cc;
-      }
-      go (Err stop.Memory) put = record {
-        answers = tt;
-        output = put.output;
-        files = part;
-        files_first = inl all;
-        source =
-            source;
-        outside = λ failed. cc;
-        none_rose = λ ok. cc;
-      }
+  -- it broke off, before the image was begun or in the midst of it
+  broken_off : (given : Stop) → IsFailure (Err given) → BreaksOff Comes link.output old.shelf new.shelf → new.out.told ≡ old.out.told
+      → (given ≡ stop.Outside → ShelfFailed old.shelf new.shelf) → Does (Err given)
+  broken_off given fails (inl files) unput rose =
+      fails_at_once Due reading (Err given) old new fails (record { files = files; source = source; output = unput })
+      (λ failed. (refl, rose (same_err _ _ failed)))
+  broken_off given fails (inr (image, comes, part)) unput rose = inr (
+    linked text link image,
+    as_due (Ok image) comes,
+    made_in_part (linked text link image) given old new fails refl
+        (part_alone old.shelf.told new.shelf.told link.output image.bytes part) source unput (λ failed. inl (rose failed)),
+  )
 
   -- it stopped before anything was put
   pub stopped_linked : (given : LinkStop) → LinksBy Comes Absent link.output (Err given) old.shelf new.shelf → new.out.told
@@ -109,54 +80,8 @@ module _ (text : Summary → List ℕ) (link : LinkTask) (Comes : Result LinkedI
   stopped_linked (link_stop.NotThere listed) (none, files) unput =
       complains Due reading (not_there listed) (complaint.NotThere listed) (complaint.NotThere listed) old new
       (as_absent listed none) refl refl (record { files = files; source = source; output = unput })
-  stopped_linked link_stop.Outside (breaks, rose) unput = broken breaks
-    where
-      broken : BreaksOff Comes link.output old.shelf new.shelf → Does (Err stop.Outside)
-      broken (inl files) = inl (record {
-        failed = tt;
-        files = stays_part [] old.shelf.told new.shelf.told files;
-        source =
-            source;
-        output = unput;
-        outside = λ failed. (refl, rose);
-      })
-      broken (inr (image, comes, part)) = inr (
-        linked text link image,
-        as_due (Ok image) comes,
-        record {
-          answers = tt;
-          output = front_of_nothing (linked text link image).output old.out new.out unput;
-          files = part_alone old.shelf.told new.shelf.told link.output image.bytes part;
-          files_first = inr unput;
-          source = source;
-          outside = λ failed. inl rose;
-          none_rose = λ ok. cc;
-        },
-      )
-  stopped_linked link_stop.Memory breaks unput = broken breaks
-    where
-      broken : BreaksOff Comes link.output old.shelf new.shelf → Does (Err stop.Memory)
-      broken (inl files) = inl (record {
-        failed = tt;
-        files = stays_part [] old.shelf.told new.shelf.told files;
-        source =
-            source;
-        output = unput;
-        outside = λ failed. cc;
-      })
-      broken (inr (image, comes, part)) = inr (
-        linked text link image,
-        as_due (Ok image) comes,
-        record {
-          answers = tt;
-          output = front_of_nothing (linked text link image).output old.out new.out unput;
-          files = part_alone old.shelf.told new.shelf.told link.output image.bytes part;
-          files_first = inr unput;
-          source = source;
-          outside = λ failed. cc;
-          none_rose = λ ok. cc;
-        },
-      )
+  stopped_linked link_stop.Outside (breaks, rose) unput = broken_off stop.Outside tt breaks unput (λ failed. rose)
+  stopped_linked link_stop.Memory breaks unput = broken_off stop.Memory tt breaks unput (λ failed. cc)
 
 -- From a module path
 

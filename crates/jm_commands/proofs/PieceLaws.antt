@@ -125,6 +125,12 @@ less_left whole held line rest holds old now new ((got, gets, is), kept) text =
       text.faults.kept refl ∙ kept,
     )
 
+-- what was added to an empty text is left to be put before the others
+pub added_left : (whole held text rest lines : List ℕ) (old now : Seen (List ℕ)) → held ≡ [] → text ++ rest ≡ held ++ lines
+    → Left whole lines old now → Left whole (text ++ rest) old now
+added_left whole held text rest lines old now empty added left =
+    subst (λ l. Left whole l old now) (sym (added ∙ ap (λ l. l ++ lines) empty)) left
+
 -- a piece was put
 pub piece_left : (whole text rest : List ℕ) (old now new : Seen (List ℕ)) → Left whole (text ++ rest) old now
     → PutsText text (Ok tt) now new → Left whole rest old new
@@ -170,10 +176,16 @@ last_put whole text (Err error) old now new left put =
 
 module _ {T U : Type 0} (line : U → List ℕ) (seen_as : T → U) (ts : List T) (i : ℕ) where
   -- the next one's comes first
-  pub next_line : (t : T) → i < length ts → get_or ts i t ≡ t → flat_map line (map seen_as (drop i ts)) ≡ line (seen_as t)
+  next_line : (t : T) → i < length ts → get_or ts i t ≡ t → flat_map line (map seen_as (drop i ts)) ≡ line (seen_as t)
       ++ flat_map line (map seen_as (drop (i + 1) ts))
   next_line t within is =
       ap (λ us. flat_map line (map seen_as us)) (drop_more ts i t within ∙ ap (λ (u : T). u ∷ drop (i + 1) ts) is)
+
+  -- and is left to be put before the others
+  pub next_left : (whole held : List ℕ) (t : T) (old now : Seen (List ℕ)) → i < length ts → get_or ts i t ≡ t
+      → Left whole (held ++ flat_map line (map seen_as (drop i ts))) old now
+      → Left whole (held ++ (line (seen_as t) ++ flat_map line (map seen_as (drop (i + 1) ts)))) old now
+  next_left whole held t old now within is left = subst (λ l. Left whole (held ++ l) old now) (next_line t within is) left
 
   -- behind the last there is none
   pub no_line : length ts ≤ i → flat_map line (map seen_as (drop i ts)) ≡ []

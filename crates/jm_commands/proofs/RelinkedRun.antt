@@ -38,26 +38,16 @@ module _ (link : LinkTask) (b : List ℕ) where
   ends_so due status.Done old new err new_err done writes ends = subst (λ ws. MadeAll ws old.shelf.told new.shelf.told) writes ends.1.files
   ends_so due status.Outside old new err new_err done writes ends = tt
   ends_so due status.Memory old new err new_err done writes ends = tt
-  ends_so due status.Words old new err new_err done writes ends = not_done (ends.0 ∙ done)
-    where
-      not_done : ◌≡◌ {A = Status} status.Words status.Done → ⊥
-      not_done same = cc
-  ends_so due status.Refused old new err new_err done writes ends = not_done (ends.0 ∙ done)
-    where
-      not_done : ◌≡◌ {A = Status} status.Refused status.Done → ⊥
-      not_done same = cc
-  ends_so due status.Damaged old new err new_err done writes ends = not_done (ends.0 ∙ done)
-    where
-      not_done : ◌≡◌ {A = Status} status.Damaged status.Done → ⊥
-      not_done same = cc
-  ends_so due status.NotThere old new err new_err done writes ends = not_done (ends.0 ∙ done)
-    where
-      not_done : ◌≡◌ {A = Status} status.NotThere status.Done → ⊥
-      not_done same = cc
-  ends_so due status.Session old new err new_err done writes ends = not_done (ends.0 ∙ done)
-    where
-      not_done : ◌≡◌ {A = Status} status.Session status.Done → ⊥
-      not_done same = cc
+  ends_so due status.Words old new err new_err done writes ends =
+      let never : ◌≡◌ {A = Status} status.Words status.Done = ends.0 ∙ done in cc
+  ends_so due status.Refused old new err new_err done writes ends =
+      let never : ◌≡◌ {A = Status} status.Refused status.Done = ends.0 ∙ done in cc
+  ends_so due status.Damaged old new err new_err done writes ends =
+      let never : ◌≡◌ {A = Status} status.Damaged status.Done = ends.0 ∙ done in cc
+  ends_so due status.NotThere old new err new_err done writes ends =
+      let never : ◌≡◌ {A = Status} status.NotThere status.Done = ends.0 ∙ done in cc
+  ends_so due status.Session old new err new_err done writes ends =
+      let never : ◌≡◌ {A = Status} status.Session status.Done = ends.0 ∙ done in cc
 
   module _ (told : Option Files) (file : RelinksFile link told b) (due : Outcome) where
     -- what is due makes these bytes

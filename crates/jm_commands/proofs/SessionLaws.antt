@@ -16,11 +16,12 @@ use Rattle.jm_jrt.specs.Lines.{lines_of, replies}
 use Rattle.jm_jrt.specs.Sessions.{Ended, IsTooLong, IsTooMany, PutBehind, Serves, answered_in}
 use Rattle.jm_jrt.proofs.SessionSteps.{replies_append}
 use Rattle.jm_commands.specs.declared.complaint.Complaint.{Complaint}
+use Rattle.jm_commands.specs.declared.status.Status.TheVariants as status
 use Rattle.jm_commands.specs.declared.complaint.Complaint.TheVariants as complaint
 use Rattle.jm_commands.specs.declared.stop.Stop.{Stop}
 use Rattle.jm_commands.specs.declared.stop.Stop.TheVariants as stop
 use Rattle.jm_commands.specs.Outcome.{session_fault, session_outcome, session_with}
-use Rattle.jm_commands.specs.Run.{StandAll, StepDoes, StepOnText}
+use Rattle.jm_commands.specs.Run.{StandAll, StepDoes, StepOnText, status_of}
 use Rattle.jm_commands.specs.SessionHeld.{EndedBy, Held, StopsAs}
 use Rattle.jm_commands.specs.Sinks.{Failed, Gets, GetsFront}
 use Rattle.jm_commands.specs.Stops.{stop_of_session}
@@ -143,28 +144,14 @@ module _ (b text : List ℕ) (old new : World) (shelf : new.shelf ≡ old.shelf)
     none_rose = λ ok. record { shelf = ap (λ (s : ShelfSeen). s.faults) shelf; input = input; out = out };
   }
 
-  step_long : (k : ℕ) → HeldAs (Err (stop.Complaint (complaint.LongLine k))) → Gets output old.out new.out
-      → StepDoes (session_with b output (Some (complaint.LongLine k))) (Err (stop.Complaint (complaint.LongLine k))) old new
-  step_long k held gets = record {
-    answers = (refl, refl);
+  step_broken : (given : Complaint) → status.Session ≡ status_of given → HeldAs (Err (stop.Complaint given)) → Gets output old.out new.out
+      → StepDoes (session_with b output (Some given)) (Err (stop.Complaint given)) old new
+  step_broken given breaks held gets = record {
+    answers = (breaks, refl);
     output = gets;
     files = unmade;
     files_first = inl stand;
-    source =
-        held;
-    outside = λ failed. cc;
-    none_rose = λ ok. cc;
-  }
-
-  step_many : HeldAs (Err (stop.Complaint complaint.TooManyLines)) → Gets output old.out new.out
-      → StepDoes (session_with b output (Some complaint.TooManyLines)) (Err (stop.Complaint complaint.TooManyLines)) old new
-  step_many held gets = record {
-    answers = (refl, refl);
-    output = gets;
-    files = unmade;
-    files_first = inl stand;
-    source =
-        held;
+    source = held;
     outside = λ failed. cc;
     none_rose = λ ok. cc;
   }
@@ -229,10 +216,10 @@ module _ (b text : List ℕ) (old new : World) (shelf : new.shelf ≡ old.shelf)
       (input.kept refl) (out.kept refl))
   by_answer (Err (serve_error.LongLine k)) left ended (more, is, all) held input out =
       by_fault (Some (complaint.LongLine k)) (Err (stop.Complaint (complaint.LongLine k))) (fault_of_long text k ended)
-      (step_long k held (got more is all))
+      (step_broken (complaint.LongLine k) refl held (got more is all))
   by_answer (Err serve_error.TooManyLines) left ended (more, is, all) held input out =
       by_fault (Some complaint.TooManyLines) (Err (stop.Complaint complaint.TooManyLines)) (fault_of_many text ended)
-      (step_many held (got more is all))
+      (step_broken complaint.TooManyLines refl held (got more is all))
   by_answer (Err serve_error.ReadFault) left ended (more, is, (given, from, put, (n, among))) held input out =
       step_outside (session_fault (length (lines_of text)) (length (answered_in text))) held
       (front_put old.out.told new.out.told more output (length (replies b (take n (answered_in text)))) is (put

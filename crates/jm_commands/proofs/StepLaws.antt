@@ -2,6 +2,7 @@
 use Rattle.std.proofs.Common.{◌≡◌, ℕ, List, [], Option, Some, None, Result, Ok, Err}
 use Rattle.std.proofs.Common.{IsOk, inl, inr, refl, sym, ap, ◌∙◌, subst, IsErrAnd}
 use Rattle.jm_outside.specs.Made.{MadeAll, MadePart, Writes}
+use Rattle.jm_outside.proofs.MadeLaws.{part_of_all}
 use Rattle.jm_form.specs.Damages.{first_damage}
 use Rattle.jm_jrt.specs.declared.serve_error.ServeError.{ServeError}
 use Rattle.jm_jrt.specs.declared.serve_error.ServeError.TheVariants as serve_error
@@ -22,7 +23,7 @@ use Rattle.jm_commands.specs.declared.stop.Stop.{Stop}
 use Rattle.jm_commands.specs.declared.stop.Stop.TheVariants as stop
 use Rattle.jm_commands.specs.FailedBefore.{FailedEarly, WorkFailed}
 use Rattle.jm_commands.specs.Outcome.{Early, Outcome, damaged, done, early_in, early_of, faulty}
-use Rattle.jm_commands.specs.Outcome.{image_outcome, not_there, reading, without_files}
+use Rattle.jm_commands.specs.Outcome.{image_outcome, made_and_put, not_there, reading, without_files}
 use Rattle.jm_commands.specs.Run.{FileComesTo, FilesFirst, FilesMade, IsFailure, OpenedComesTo, Opens}
 use Rattle.jm_commands.specs.Run.{PutDoes, ReadsFile, StandAll, StepComesTo, StepDoes, StepOnText}
 use Rattle.jm_commands.specs.Run.{TaskComesTo, TextComesTo, WordsComeTo, WorkComesTo, outcome_of, status_of}
@@ -183,6 +184,76 @@ module _ (due : Outcome) (old new : World) (files : new.shelf.told ≡ old.shelf
     outside = λ failed. cc;
     none_rose = λ ok. cc;
   }
+
+-- what is done is no complaint
+never_done : (given : Complaint) (text : List ℕ) → done text ≡ outcome_of given → ⊥
+never_done given text is = complains_undone given (ap (λ o. o.status) is)
+
+-- all files were made, and then the text was put
+pub made_put : (writes : Writes) (text : List ℕ) (answer : Result (Unit {0}) Stop) (old new : World)
+    → StandAll writes old.shelf new.shelf → new.shelf.faults ≡ old.shelf.faults → new.input ≡ old.input
+    → PutDoes (done text) answer old.out new.out → StepDoes (made_and_put writes text) answer old new
+made_put writes text answer old new all kept input put = go answer put
+  where
+    part : MadePart writes old.shelf.told new.shelf.told
+    part = part_of_all writes old.shelf.told new.shelf.told all.made
+
+    source : new.input.told ≡ old.input.told
+    source = ap (λ (s : Seen (List ℕ)). s.told) input
+
+    go : (answer : Result (Unit {0}) Stop) → PutDoes (done text) answer old.out new.out → StepDoes (made_and_put writes text) answer old new
+    go (Ok _) put = record {
+      answers = (refl, refl);
+      output = put.output;
+      files = all;
+      files_first = inl all;
+      source = source;
+      outside = λ failed. cc;
+      none_rose = λ ok. record { shelf = kept; input = ap (λ (s : Seen (List ℕ)). s.faults) input; out = put.kept ok };
+    }
+    go (Err (stop.Complaint given)) put = absurd (never_done given text put.answers)
+    go (Err stop.Outside) put = record {
+      answers = tt;
+      output = put.output;
+      files = part;
+      files_first = inl all;
+      source = source;
+      outside = λ failed. inr (put.outside failed);
+      none_rose = λ ok. cc;
+    }
+    go (Err stop.Memory) put = record {
+      answers = tt;
+      output = put.output;
+      files = part;
+      files_first = inl all;
+      source = source;
+      outside = λ failed. cc;
+      none_rose = λ ok. cc;
+    }
+
+-- some of the files were made, and nothing was put
+pub made_in_part : (due : Outcome) (given : Stop) (old new : World) → IsFailure (Err given) → due.session ≡ None
+    → MadePart due.writes old.shelf.told new.shelf.told → new.input.told ≡ old.input.told → new.out.told ≡ old.out.told
+    → (given ≡ stop.Outside → WorkFailed due.session due.status old new) → StepDoes due (Err given) old new
+made_in_part due (stop.Complaint given) old new fails alone part source unput failed = absurd fails
+made_in_part due stop.Outside old new fails alone part source unput failed = record {
+  answers = tt;
+  output = front_of_nothing due.output old.out new.out unput;
+  files = part;
+  files_first = inr unput;
+  source = rw alone source;
+  outside = λ stopped. failed refl;
+  none_rose = λ ok. cc;
+}
+made_in_part due stop.Memory old new fails alone part source unput failed = record {
+  answers = tt;
+  output = front_of_nothing due.output old.out new.out unput;
+  files = part;
+  files_first = inr unput;
+  source = rw alone source;
+  outside = λ stopped. cc;
+  none_rose = λ ok. cc;
+}
 
 -- a put, which is due
 pub put_comes : (Due : Outcome → Type 0) (early : Early) (due : Outcome) (answer : Result (Unit {0}) Stop) (old new : World)

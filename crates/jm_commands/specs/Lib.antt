@@ -4,6 +4,7 @@ pub mod FailedBefore
 pub mod FileParts
 pub mod Gen
 pub mod HelpText
+pub mod Ledgers
 pub mod LinkText
 pub mod ListText
 pub mod Outcome

@@ -68,6 +68,16 @@ done output = record {
   session = None;
 }
 
+-- the outcome of files that are made, and of an output behind them
+abbrev pub made_and_put : Writes → List ℕ → Outcome
+made_and_put writes output = record {
+  status = status.Done;
+  output = output;
+  line = [];
+  writes = writes;
+  session = None;
+}
+
 -- the outcome of a status and a line, and of nothing else
 abbrev pub refused : Status → List ℕ → Outcome
 refused status text = record {
@@ -168,13 +178,8 @@ describe_outcome path b = descriptor_outcome path (info_in b)
 
 -- the outcome of a link that made an image, by the text on what was linked
 abbrev pub linked : (Summary → List ℕ) → LinkTask → LinkedImage → Outcome
-linked text link image = record {
-  status = status.Done;
-  output = text (summary_of image);
-  line = [];
-  writes = (link.output, image.bytes) ∷ [];
-  session = None;
-}
+linked text link image =
+    made_and_put ((link.output, image.bytes) ∷ []) (text (summary_of image))
 
 -- what a link comes to, by that text, and by its image or its refusal
 abbrev pub link_outcome : (Summary → List ℕ) → LinkTask → Result LinkedImage Refusal → Outcome
@@ -185,13 +190,8 @@ link_outcome text link (Err refusal) = refusing refusal
 
 -- what `extract` comes to, by the entries that are taken or their refusal
 abbrev pub extract_outcome : List ℕ → Result (List Named) Refusal → Outcome
-extract_outcome dir (Ok entries) = record {
-  status = status.Done;
-  output = extract_text (length entries);
-  line = [];
-  writes = writes_of dir entries;
-  session = None;
-}
+extract_outcome dir (Ok entries) =
+    made_and_put (writes_of dir entries) (extract_text (length entries))
 extract_outcome dir (Err refusal) = refusing refusal
 
 -- `gen`: files are made, and then they are linked

@@ -1,7 +1,8 @@
 //! `cat` on the image in a file: by its index, and then the one content.
-ghost use Rattle.std.specs.Prelude.{◌≡◌, ◌<◌, ℕ, List, None, Err, IsUtf8};
+ghost use Rattle.std.specs.Prelude.{◌<◌, ℕ, List, None, Err, IsUtf8};
 ghost use Rattle.jm_form.specs.Validity.{look};
 ghost use Rattle.jm_outside.specs.Shelves.{shelf_at};
+ghost use Rattle.jm_commands.specs.Ledgers.{IsLedger};
 ghost use Rattle.jm_commands.specs.Outcome.{cat_outcome, reading};
 ghost use Rattle.jm_commands.specs.Run.{PutDoes, StepComesTo, WorkComesTo};
 ghost use Rattle.jm_commands.specs.Sinks.{Seen};
@@ -9,6 +10,7 @@ ghost use Rattle.jm_commands.specs.Sought.{Seeks};
 ghost use Rattle.jm_commands.specs.Taken.{TakesFrom, sought_size};
 ghost use Rattle.jm_commands.specs.World.{sink_at, world};
 
+use crate::blanks::Blanks;
 use crate::complaint::Complaint;
 use crate::front::{OpenFront, file_front};
 use crate::output::put_output;
@@ -24,26 +26,17 @@ use jm_reader::find_row_in;
 use jm_words::ImageWork;
 use std::alloc::Global;
 use std::marker::Brand;
-use std::sync::ledger::{Blank, Ledger};
+use std::sync::ledger::Ledger;
 use std::thread::Threads;
 
 /// Does what `find_row_in` does, with counters of its own.
-fn find_counted<H: Ledger, R: Ledger>(
-    front: &OpenFront,
-    name: &[u8],
-    hashes: Blank,
-    reads: Blank,
-) -> Option<Row>
-    requires hashes_name { hashes.name ≡ H.name }
-    requires hashes_parts { hashes.parts ≡ H.parts }
-    requires hashes_some { 0 < hashes.parts }
-    requires reads_name { reads.name ≡ R.name }
-    requires reads_parts { reads.parts ≡ R.parts }
-    requires reads_some { 0 < reads.parts }
+fn find_counted<H: Ledger, R: Ledger>(front: &OpenFront, name: &[u8], blanks: Blanks) -> Option<Row>
+    requires hashes { IsLedger blanks.hashes.name blanks.hashes.parts H.name H.parts }
+    requires reads { IsLedger blanks.reads.name blanks.reads.parts R.name R.parts }
     ensures { Seeks (λ b. look b name.now) front.now result }
 {
-    let mut hashes = Steps::<H>::new(hashes);
-    let mut reads = Meter::<R>::new(front.bytes(), reads);
+    let mut hashes = Steps::<H>::new(blanks.hashes);
+    let mut reads = Meter::<R>::new(front.bytes(), blanks.reads);
     find_row_in(front.as_index(), name, &mut hashes, &mut reads)
 }
 
@@ -78,7 +71,7 @@ pub fn cat_file<T: Threads + Sync, S: Shelf, O: Sink, G: Gate + Sync>(
 {
     let bytes = file_front(workers.alloc, path, shelf)?;
     let front = OpenFront::of(workers, &bytes)?;
-    let row = find_counted::<Brand, Brand>(&front, name, Blank::new(1), Blank::new(1));
+    let row = find_counted::<Brand, Brand>(&front, name, Blanks::new());
     match sought_content(workers.alloc, path, &front, &row, shelf)? {
         Some(content) => put_output(workers.alloc, content.as_slice(), out),
         None => Err(no_entry(workers.alloc, name)),

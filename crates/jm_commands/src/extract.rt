@@ -1,12 +1,13 @@
 //! The command `extract`.
-ghost use Rattle.std.specs.Prelude.{◌≡◌, ◌<◌, ℕ, IfOk, IsOk, IsErrOf, IsTrue, IsUtf8, List};
+ghost use Rattle.std.specs.Prelude.{◌<◌, ℕ, IsOk, IsErrOf, IsTrue, IsUtf8, List};
 ghost use Rattle.std.specs.Prelude.{OnOk};
 ghost use Rattle.jm_outside.specs.Outcome.{CountsFaults};
 ghost use Rattle.jm_outside.specs.Shelves.{shelf_at};
 ghost use Rattle.jm_extract.specs.Extracted.{Extracts, extracted};
 ghost use Rattle.jm_commands.specs.ExtractText.{extract_text};
-ghost use Rattle.jm_commands.specs.Outcome.{done, extract_outcome, reading};
-ghost use Rattle.jm_commands.specs.Run.{PutDoes, StepComesTo, StepDoes, WorkComesTo};
+ghost use Rattle.jm_commands.specs.Ledgers.{IsLedger};
+ghost use Rattle.jm_commands.specs.Outcome.{done, reading};
+ghost use Rattle.jm_commands.specs.Run.{PutDoes, StepComesTo, WorkComesTo};
 ghost use Rattle.jm_commands.specs.Sinks.{Seen};
 ghost use Rattle.jm_commands.specs.World.{sink_at, world};
 
@@ -14,8 +15,7 @@ use crate::opened::{Opened, file_bytes};
 use crate::output::put_output;
 use crate::stop::Stop;
 use crate::workers::Workers;
-use itoa::Buffer;
-use jm_bytes::{List, Meter, NoMemory, Text, extend};
+use jm_bytes::{List, Meter, Text};
 use jm_extract::{ExtractStop, extract};
 use jm_halves::Gate;
 use jm_outside::{Shelf, Sink};
@@ -26,25 +26,13 @@ use std::marker::Brand;
 use std::sync::ledger::{Blank, Ledger};
 use std::thread::Threads;
 
-/// The line on how many files were made.
-fn extract_text(alloc: Global, count: usize) -> Result<Text, NoMemory>
-    ensures { IfOk result (λ text. text ≡ extract_text count) }
-{
-    let mut text = Vec::new(alloc);
-    let mut number = Buffer::new();
-    extend(&mut text, b"extracted ")?;
-    extend(&mut text, number.format(count).as_bytes())?;
-    extend(&mut text, b"\n")?;
-    Ok(Text::from_vec(text))
-}
-
 /// Puts how many files were made.
 fn put_count<O: Sink>(alloc: Global, count: usize, out: &mut O) -> Result<(), Stop>
     ensures { PutDoes (done (extract_text count)) result
         (sink_at O.Sink out.old) (sink_at O.Sink out.new) }
 {
-    let text = extract_text(alloc, count)?;
-    put_output(alloc, text.as_slice(), out)
+    let text = format!(in alloc; "extracted {count}\n")?;
+    put_output(alloc, text.as_bytes(), out)
 }
 
 /// What is taken out of an image, and the directory for it.
@@ -65,9 +53,7 @@ fn extract_counted<S: Shelf, R: Ledger>(
     reads: Blank,
 ) -> Result<usize, ExtractStop>
     requires text { IsUtf8 work.dir.now }
-    requires reads_name { reads.name ≡ R.name }
-    requires reads_parts { reads.parts ≡ R.parts }
-    requires reads_some { 0 < reads.parts }
+    requires reads { IsLedger reads.name reads.parts R.name R.parts }
     ensures extracts { Extracts (extracted image.now work.entry.include.now) work.entry.dir.now
         result (S.files shelf.old) (S.files shelf.new) }
     ensures whole { OnOk result (IsTrue (S.whole shelf.new)) }

@@ -1,6 +1,6 @@
 //! The command `gen`.
 ghost use Rattle.std.specs.Prelude.{◌≡◌, ◌<◌, ◌∷◌, ◌++◌, [], IfOk, IsUtf8};
-ghost use Rattle.std.specs.Prelude.{List, ℕ, string_bytes};
+ghost use Rattle.std.specs.Prelude.{List, ℕ};
 ghost use Rattle.jm_link.specs.Links.{Links, request_of};
 ghost use Rattle.jm_words.specs.Paths.{GenFits};
 ghost use Rattle.jm_outside.specs.Shelves.{shelf_at};
@@ -20,7 +20,7 @@ use jm_halves::Gate;
 use jm_link::{LinkStop, Summary, link};
 use jm_outside::{Shelf, Sink};
 use jm_words::{GenTask, LinkTask, Plugin};
-use std::alloc::{AllocError, Global};
+use std::alloc::Global;
 use std::thread::Threads;
 
 /// A path below a folder.
@@ -72,9 +72,10 @@ fn link_generated<T: Threads + Sync, S: Shelf, G: Gate + Sync>(
     )
 }
 
-/// The lines on what was generated and linked.
-fn gen_text(alloc: Global, summary: &Summary) -> Result<String, AllocError>
-    ensures { IfOk result (λ text. string_bytes text ≡ gen_text summary.now) }
+/// Puts what was generated and linked.
+fn put_generated<O: Sink>(alloc: Global, summary: &Summary, out: &mut O) -> Result<(), Stop>
+    ensures { PutDoes (done (gen_text summary.now)) result
+        (sink_at O.Sink out.old) (sink_at O.Sink out.new) }
 {
     let Summary {
         modules,
@@ -82,15 +83,9 @@ fn gen_text(alloc: Global, summary: &Summary) -> Result<String, AllocError>
         length,
         slots,
     } = *summary;
-    format!(in alloc; "modules {modules}\nresources {resources}\nbytes {length}\nslots {slots}\n")
-}
-
-/// Puts them.
-fn put_generated<O: Sink>(alloc: Global, summary: &Summary, out: &mut O) -> Result<(), Stop>
-    ensures { PutDoes (done (gen_text summary.now)) result
-        (sink_at O.Sink out.old) (sink_at O.Sink out.new) }
-{
-    let text = gen_text(alloc, summary)?;
+    let text = format!(in alloc;
+        "modules {modules}\nresources {resources}\nbytes {length}\nslots {slots}\n"
+    )?;
     put_output(alloc, text.as_bytes(), out)
 }
 

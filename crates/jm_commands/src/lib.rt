@@ -1,6 +1,7 @@
 //! The commands, and the top call that does all that the program does.
 #![tactic(auto)]
 
+mod blanks;
 mod cat;
 mod cat_file;
 mod complaint;
@@ -9,8 +10,6 @@ mod extract;
 mod front;
 mod generator;
 mod help;
-mod image_file;
-mod info;
 mod link;
 mod listing;
 mod ls;
@@ -23,7 +22,6 @@ mod shown;
 mod sought;
 mod status;
 mod stop;
-mod verify;
 mod version;
 mod workers;
 

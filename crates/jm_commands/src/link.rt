@@ -1,9 +1,10 @@
 //! The command `link`.
-ghost use Rattle.std.specs.Prelude.{◌≡◌, ◌<◌, ℕ, IfOk, IsUtf8, List, string_bytes};
+ghost use Rattle.std.specs.Prelude.{◌<◌, ℕ, IsUtf8, List};
 ghost use Rattle.jm_link.specs.ImageLinked.{ImageLinks};
 ghost use Rattle.jm_link.specs.Links.{request_of};
 ghost use Rattle.jm_words.specs.Paths.{LinkIsText};
 ghost use Rattle.jm_outside.specs.Shelves.{shelf_at};
+ghost use Rattle.jm_commands.specs.Ledgers.{IsLedger};
 ghost use Rattle.jm_commands.specs.LinkText.{link_text};
 ghost use Rattle.jm_commands.specs.Outcome.{done, reading};
 ghost use Rattle.jm_commands.specs.Run.{ImageComes, ImageLinkComesTo, LinkComesTo, PutDoes};
@@ -20,14 +21,15 @@ use jm_halves::Gate;
 use jm_link::{LinkStop, Summary, link, link_image};
 use jm_outside::{Shelf, Sink};
 use jm_words::LinkTask;
-use std::alloc::{AllocError, Global};
+use std::alloc::Global;
 use std::marker::Brand;
 use std::sync::ledger::{Blank, Ledger};
 use std::thread::Threads;
 
-/// The lines on what was linked.
-fn link_text(alloc: Global, summary: &Summary) -> Result<String, AllocError>
-    ensures { IfOk result (λ text. string_bytes text ≡ link_text summary.now) }
+/// Puts what was linked.
+fn put_summary<O: Sink>(alloc: Global, summary: &Summary, out: &mut O) -> Result<(), Stop>
+    ensures { PutDoes (done (link_text summary.now)) result
+        (sink_at O.Sink out.old) (sink_at O.Sink out.new) }
 {
     let Summary {
         modules,
@@ -35,15 +37,7 @@ fn link_text(alloc: Global, summary: &Summary) -> Result<String, AllocError>
         length,
         ..
     } = *summary;
-    format!(in alloc; "modules {modules}\nresources {resources}\nbytes {length}\n")
-}
-
-/// Puts what was linked.
-fn put_summary<O: Sink>(alloc: Global, summary: &Summary, out: &mut O) -> Result<(), Stop>
-    ensures { PutDoes (done (link_text summary.now)) result
-        (sink_at O.Sink out.old) (sink_at O.Sink out.new) }
-{
-    let text = link_text(alloc, summary)?;
+    let text = format!(in alloc; "modules {modules}\nresources {resources}\nbytes {length}\n")?;
     put_output(alloc, text.as_bytes(), out)
 }
 
@@ -57,9 +51,7 @@ fn link_counted<T: Threads + Sync, S: Shelf, G: Gate + Sync, R: Ledger>(
 ) -> Result<Summary, LinkStop>
     requires jobs { 0 < workers.now.jobs }
     requires output { IsUtf8 task.now.output }
-    requires reads_name { reads.name ≡ R.name }
-    requires reads_parts { reads.parts ≡ R.parts }
-    requires reads_some { 0 < reads.parts }
+    requires reads { IsLedger reads.name reads.parts R.name R.parts }
     ensures { ImageLinks image.now (request_of task.now) task.now.output result
         (shelf_at S.Shelf shelf.old) (shelf_at S.Shelf shelf.new) }
 {

@@ -1,8 +1,9 @@
-ghost use Rattle.std.specs.Prelude.{◌≡◌, ◌<◌, ◌++◌, ℕ, List, OnOk, map, flat_map};
+ghost use Rattle.std.specs.Prelude.{◌≡◌, ◌++◌, ℕ, List, OnOk, map, flat_map};
 ghost use Rattle.jm_form.specs.Head.{IsFileOf};
+ghost use Rattle.jm_commands.specs.Ledgers.{IsLedger};
 ghost use Rattle.jm_commands.specs.ListText.{list_text, sized_as, sized_line};
 ghost use Rattle.jm_commands.specs.Outcome.{done};
-ghost use Rattle.jm_commands.specs.Pieces.{PassesText, PutsText};
+ghost use Rattle.jm_commands.specs.Pieces.{PutsText};
 ghost use Rattle.jm_commands.specs.Run.{PutDoes};
 ghost use Rattle.jm_commands.specs.World.{sink_at};
 
@@ -31,21 +32,6 @@ fn extend_line(alloc: Global, text: &mut Vec<u8>, entry: &TakenEntry) -> Result<
     extend(text, b"\n")
 }
 
-/// Adds the line of an entry to a text that is held back, and puts and empties the text if it has
-/// the bytes of a piece then.
-fn pass_line<O: Sink>(
-    alloc: Global,
-    text: &mut Vec<u8>,
-    entry: &TakenEntry,
-    out: &mut O,
-) -> Result<(), SinkError>
-    ensures { PassesText (sized_line (sized_as entry.now)) text.old.items text.new.items result
-        (sink_at O.Sink out.old) (sink_at O.Sink out.new) }
-{
-    extend_line(alloc, text, entry)?;
-    put_full(alloc, text, out)
-}
-
 /// Puts the lines of some entries, piece by piece; the last piece may be empty.
 fn put_lines<O: Sink>(alloc: Global, entries: &[TakenEntry], out: &mut O) -> Result<(), SinkError>
     ensures { PutsText (flat_map sized_line (map sized_as entries.now)) result
@@ -53,7 +39,8 @@ fn put_lines<O: Sink>(alloc: Global, entries: &[TakenEntry], out: &mut O) -> Res
 {
     let mut text = Vec::new(alloc);
     for entry in entries {
-        pass_line(alloc, &mut text, entry, out)?;
+        extend_line(alloc, &mut text, entry)?;
+        put_full(alloc, &mut text, out)?;
     }
     out.put(alloc, text.as_slice())
 }
@@ -66,9 +53,7 @@ fn put_taken<O: Sink, R: Ledger>(
     out: &mut O,
     reads: Blank,
 ) -> Result<(), SinkError>
-    requires reads_name { reads.name ≡ R.name }
-    requires reads_parts { reads.parts ≡ R.parts }
-    requires reads_some { 0 < reads.parts }
+    requires reads { IsLedger reads.name reads.parts R.name R.parts }
     ensures { (b : List ℕ) → IsFileOf front.now.bytes front.now.length b →
         PutsText (list_text b include.now) result
         (sink_at O.Sink out.old) (sink_at O.Sink out.new) }

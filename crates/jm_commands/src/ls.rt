@@ -4,7 +4,8 @@ ghost use Rattle.jm_form.specs.Head.{IsFileOf};
 ghost use Rattle.jm_outside.specs.Shelves.{shelf_at};
 ghost use Rattle.jm_jrt.specs.Reply.{held_lines};
 ghost use Rattle.jm_jrt.specs.Stat.{held, node_content, node_sought, stat};
-ghost use Rattle.jm_commands.specs.Outcome.{done, ls_outcome, reading};
+ghost use Rattle.jm_commands.specs.Ledgers.{IsLedger};
+ghost use Rattle.jm_commands.specs.Outcome.{ls_outcome, reading};
 ghost use Rattle.jm_commands.specs.Pieces.{PutsText};
 ghost use Rattle.jm_commands.specs.Run.{PutDoes, StepComesTo, WorkComesTo, outcome_of};
 ghost use Rattle.jm_commands.specs.Sinks.{Seen};
@@ -12,6 +13,7 @@ ghost use Rattle.jm_commands.specs.Sought.{Seeks};
 ghost use Rattle.jm_commands.specs.Taken.{TakesFrom, sought_size};
 ghost use Rattle.jm_commands.specs.World.{sink_at, world};
 
+use crate::blanks::Blanks;
 use crate::complaint::Complaint;
 use crate::front::{OpenFront, file_front};
 use crate::pieces::{PIECE, put_piece};
@@ -27,7 +29,7 @@ use jm_outside::{Shelf, Sink, SinkError};
 use jm_words::ImageWork;
 use std::alloc::Global;
 use std::marker::Brand;
-use std::sync::ledger::{Blank, Ledger};
+use std::sync::ledger::Ledger;
 use std::thread::Threads;
 
 /// The folder of an image that is asked for, and the content of its node, if it has one.
@@ -70,22 +72,13 @@ fn put_children<O: Sink, R: Ledger>(
 }
 
 /// The row of the node that says what stands at a path, with counters of its own.
-fn node_counted<H: Ledger, R: Ledger>(
-    front: &OpenFront,
-    path: &[u8],
-    hashes: Blank,
-    reads: Blank,
-) -> Option<Row>
-    requires hashes_name { hashes.name ≡ H.name }
-    requires hashes_parts { hashes.parts ≡ H.parts }
-    requires hashes_some { 0 < hashes.parts }
-    requires reads_name { reads.name ≡ R.name }
-    requires reads_parts { reads.parts ≡ R.parts }
-    requires reads_some { 0 < reads.parts }
+fn node_counted<H: Ledger, R: Ledger>(front: &OpenFront, path: &[u8], blanks: Blanks) -> Option<Row>
+    requires hashes { IsLedger blanks.hashes.name blanks.hashes.parts H.name H.parts }
+    requires reads { IsLedger blanks.reads.name blanks.reads.parts R.name R.parts }
     ensures { Seeks (λ b. node_sought b path.now) front.now result }
 {
-    let mut hashes = Steps::<H>::new(hashes);
-    let mut reads = Meter::<R>::new(front.bytes(), reads);
+    let mut hashes = Steps::<H>::new(blanks.hashes);
+    let mut reads = Meter::<R>::new(front.bytes(), blanks.reads);
     node_row(front.as_index(), path, &mut hashes, &mut reads)
 }
 
@@ -104,15 +97,10 @@ fn list_folder<O: Sink, H: Ledger, R: Ledger>(
     alloc: Global,
     asked: AskedFolder,
     out: &mut O,
-    hashes: Blank,
-    reads: Blank,
+    blanks: Blanks,
 ) -> Result<(), Stop>
-    requires hashes_name { hashes.name ≡ H.name }
-    requires hashes_parts { hashes.parts ≡ H.parts }
-    requires hashes_some { 0 < hashes.parts }
-    requires reads_name { reads.name ≡ R.name }
-    requires reads_parts { reads.parts ≡ R.parts }
-    requires reads_some { 0 < reads.parts }
+    requires hashes { IsLedger blanks.hashes.name blanks.hashes.parts H.name H.parts }
+    requires reads { IsLedger blanks.reads.name blanks.reads.parts R.name R.parts }
     ensures { (b : List ℕ)
         → IsFileOf asked.entry.front.now.bytes asked.entry.front.now.length b
         → node_content b asked.entry.path.now ≡ option_map (λ c. c.now) asked.entry.content
@@ -124,8 +112,8 @@ fn list_folder<O: Sink, H: Ledger, R: Ledger>(
         path,
         content,
     } = asked;
-    let mut hashes = Steps::<H>::new(hashes);
-    let mut reads = Meter::<R>::new(front.bytes(), reads);
+    let mut hashes = Steps::<H>::new(blanks.hashes);
+    let mut reads = Meter::<R>::new(front.bytes(), blanks.reads);
     match children_in(front.as_index(), path, content, &mut hashes, &mut reads) {
         Ok(mut list) => Ok(put_children(alloc, path, &mut list, out, &mut reads)?),
         Err(error) => Err(Stop::Complaint(ls_complaint(alloc, path, error)?)),
@@ -153,12 +141,12 @@ pub fn ls_file<T: Threads + Sync, S: Shelf, O: Sink, G: Gate + Sync>(
 {
     let bytes = file_front(workers.alloc, image, shelf)?;
     let front = OpenFront::of(workers, &bytes)?;
-    let row = node_counted::<Brand, Brand>(&front, path, Blank::new(1), Blank::new(1));
+    let row = node_counted::<Brand, Brand>(&front, path, Blanks::new());
     let content = sought_content(workers.alloc, image, &front, &row, shelf)?;
     let asked = AskedFolder {
         front: &front,
         path,
         content: bytes_of(&content),
     };
-    list_folder::<O, Brand, Brand>(workers.alloc, asked, out, Blank::new(1), Blank::new(1))
+    list_folder::<O, Brand, Brand>(workers.alloc, asked, out, Blanks::new())
 }

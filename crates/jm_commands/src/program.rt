@@ -3,58 +3,57 @@ ghost use Rattle.std.specs.Prelude.{map, string_bytes};
 ghost use Rattle.jm_words.specs.Paths.{FilePathsAreText, NumbersFit};
 ghost use Rattle.jm_words.specs.Rule.{Says};
 ghost use Rattle.jm_commands.specs.Outcome.{early_in, early_of};
-ghost use Rattle.jm_commands.specs.Run.{EndsStep, ReportDoes, RunComesTo, StepComesTo};
+ghost use Rattle.jm_commands.specs.Run.{EndsStep, RunComesTo, StepComesTo};
 ghost use Rattle.jm_commands.specs.Run.{TaskComesTo, WordsComeTo};
 ghost use Rattle.jm_commands.specs.RelinkedRun.{RelinksRun};
 ghost use Rattle.jm_commands.specs.Served.{ServesRun, served_in};
 ghost use Rattle.jm_commands.specs.Taken.{TakesNoMore, TaskTakes};
 ghost use Rattle.jm_commands.specs.World.{sink_at, world_of};
 
-use crate::complaint::Complaint;
+use crate::cat_file::cat_file;
 use crate::describe::describe_command;
+use crate::extract::{Extraction, extract_file};
 use crate::generator::gen_command;
 use crate::help::help_command;
-use crate::image_file::on_image;
 use crate::link::link_command;
+use crate::ls::ls_file;
+use crate::serve::serve_file;
+use crate::shown::{Shown, show_command};
 use crate::status::Status;
 use crate::stop::Stop;
 use crate::version::version_command;
 use crate::workers::Workers;
 use jm_halves::Gate;
 use jm_outside::{Shelf, Sink, SinkError, Source};
-use jm_words::{Task, read_words};
+use jm_words::{ImageWork, Task, read_words};
 use std::alloc::Global;
 use std::thread::Threads;
 
-/// Puts the line of a complaint and gives its status, or that of what went wrong with the line.
-fn report<E: Sink>(alloc: Global, complaint: &Complaint, err: &mut E) -> Status
-    ensures { ReportDoes complaint.now result
-        (sink_at E.Sink err.old) (sink_at E.Sink err.new) }
-{
-    let Ok(line) = complaint.line(alloc) else {
-        return Status::Memory;
-    };
-    match err.put(alloc, line.as_slice()) {
-        Ok(()) => complaint.status(),
-        Err(SinkError::Failed) => Status::Outside,
-        Err(SinkError::Memory) => Status::Memory,
-    }
-}
-
-/// Ends a run whose command is done, or stopped.
+/// Ends a run whose command is done, or stopped: puts the line of a complaint, and gives the
+/// status, or that of what went wrong with the line.
 fn end<E: Sink>(alloc: Global, done: Result<(), Stop>, err: &mut E) -> Status
     ensures { EndsStep done result
         (sink_at E.Sink err.old) (sink_at E.Sink err.new) }
 {
     match done {
         Ok(()) => Status::Done,
-        Err(Stop::Complaint(complaint)) => report(alloc, &complaint, err),
+        Err(Stop::Complaint(complaint)) => {
+            let Ok(line) = complaint.line(alloc) else {
+                return Status::Memory;
+            };
+            match err.put(alloc, line.as_slice()) {
+                Ok(()) => complaint.status(),
+                Err(SinkError::Failed) => Status::Outside,
+                Err(SinkError::Memory) => Status::Memory,
+            }
+        }
         Err(Stop::Outside) => Status::Outside,
         Err(Stop::Memory) => Status::Memory,
     }
 }
 
-/// Does what a command is to do.
+/// Does what a command is to do. Of the works on an image `extract` and `serve` take the whole file,
+/// the others its index.
 fn do_command<T: Threads + Sync, S: Shelf, I: Source, O: Sink, G: Gate + Sync>(
     workers: &Workers<T, G>,
     task: &Task,
@@ -74,7 +73,23 @@ fn do_command<T: Threads + Sync, S: Shelf, I: Source, O: Sink, G: Gate + Sync>(
 {
     match task {
         Task::Link(task) => link_command(workers, task, shelf, out),
-        Task::Image { image, work } => on_image(workers, image, work, shelf, input, out),
+        Task::Image { image, work } => match work {
+            ImageWork::Info => show_command(workers, image, &Shown::Info, shelf, out),
+            ImageWork::Verify => show_command(workers, image, &Shown::Verify, shelf, out),
+            ImageWork::List { include } => {
+                show_command(workers, image, &Shown::List(include), shelf, out)
+            }
+            ImageWork::Cat { name } => cat_file(workers, image, name.as_slice(), shelf, out),
+            ImageWork::Ls { path } => ls_file(workers, image, path.as_slice(), shelf, out),
+            ImageWork::Extract { dir, include } => {
+                let work = Extraction {
+                    dir: dir.as_slice(),
+                    include,
+                };
+                extract_file(workers, image, work, shelf, out)
+            }
+            ImageWork::Serve => serve_file(workers, image, shelf, input, out),
+        },
         Task::Gen(task) => gen_command(workers, task, shelf, out),
         Task::Describe { file } => describe_command(workers.alloc, file, shelf, out),
         Task::Help => help_command(workers.alloc, out),

@@ -2,13 +2,14 @@
 ghost use Rattle.std.specs.Prelude.{◌≡◌, ◌<◌, IsOk, IsErrOf, IsUtf8};
 ghost use Rattle.jm_bytes.specs.Metered.{Metered};
 ghost use Rattle.jm_outside.specs.Outcome.{CountsFaults};
-ghost use Rattle.jm_outside.specs.Shelves.{ShelfSeen};
 ghost use Rattle.jm_jrt.specs.Sessions.{Serves};
-ghost use Rattle.jm_commands.specs.Outcome.{reading, session_outcome};
-ghost use Rattle.jm_commands.specs.Run.{StepComesTo, StepOnText, WorkComesTo};
+ghost use Rattle.jm_commands.specs.Ledgers.{IsLedger};
+ghost use Rattle.jm_commands.specs.Outcome.{reading};
+ghost use Rattle.jm_commands.specs.Run.{StepComesTo, WorkComesTo};
 ghost use Rattle.jm_commands.specs.Stops.{stop_of_session};
-ghost use Rattle.jm_commands.specs.World.{sink_at, source_at, world, world_of};
+ghost use Rattle.jm_commands.specs.World.{world_of};
 
+use crate::blanks::Blanks;
 use crate::complaint::Complaint;
 use crate::opened::{Opened, file_bytes};
 use crate::stop::Stop;
@@ -20,7 +21,7 @@ use jm_outside::{Shelf, Sink, Source};
 use jm_words::ImageWork;
 use std::alloc::Global;
 use std::marker::Brand;
-use std::sync::ledger::{Blank, Ledger};
+use std::sync::ledger::Ledger;
 use std::thread::Threads;
 
 /// Does what `serve` of jm_jrt does, with counters of its own.
@@ -29,15 +30,10 @@ fn serve_counted<I: Source, O: Sink, H: Ledger, R: Ledger>(
     image: &Opened,
     input: &mut I,
     out: &mut O,
-    hashes: Blank,
-    reads: Blank,
+    blanks: Blanks,
 ) -> Result<u64, ServeError>
-    requires hashes_name { hashes.name ≡ H.name }
-    requires hashes_parts { hashes.parts ≡ H.parts }
-    requires hashes_some { 0 < hashes.parts }
-    requires reads_name { reads.name ≡ R.name }
-    requires reads_parts { reads.parts ≡ R.parts }
-    requires reads_some { 0 < reads.parts }
+    requires hashes { IsLedger blanks.hashes.name blanks.hashes.parts H.name H.parts }
+    requires reads { IsLedger blanks.reads.name blanks.reads.parts R.name R.parts }
     ensures serves { (before : Metered) × (after : Metered) × Serves image.now result
         (I.rest input.old) (I.rest input.new) (O.content out.old) (O.content out.new)
         before after }
@@ -46,8 +42,8 @@ fn serve_counted<I: Source, O: Sink, H: Ledger, R: Ledger>(
     ensures out_faults { CountsFaults (O.faults out.old) (O.faults out.new) (IsOk result)
         (IsErrOf result ServeError.WriteFault) }
 {
-    let mut hashes = Steps::<H>::new(hashes);
-    let mut reads = Meter::<R>::new(image.bytes(), reads);
+    let mut hashes = Steps::<H>::new(blanks.hashes);
+    let mut reads = Meter::<R>::new(image.bytes(), blanks.reads);
     serve(alloc, image.as_image(), input, out, &mut hashes, &mut reads)
 }
 
@@ -84,14 +80,13 @@ pub fn serve_file<T: Threads + Sync, S: Shelf, I: Source, O: Sink, G: Gate + Syn
     match file_bytes(workers.alloc, path, shelf) {
         Ok(bytes) => match Opened::of(workers, bytes.as_slice()) {
             Ok(image) => {
-                let (hashes, reads) = (Blank::new(1), Blank::new(1));
+                let blanks = Blanks::new();
                 let answered = serve_counted::<I, O, Brand, Brand>(
                     workers.alloc,
                     &image,
                     input,
                     out,
-                    hashes,
-                    reads,
+                    blanks,
                 );
                 stop_of_session(answered)
             }

@@ -10,15 +10,15 @@ ghost use Rattle.jm_commands.specs.Taken.{TakesFrom, front_size};
 ghost use Rattle.jm_commands.specs.World.{sink_at, world};
 
 use crate::front::{OpenFront, file_front};
-use crate::info::put_info;
 use crate::listing::put_list;
+use crate::output::put_output;
 use crate::stop::Stop;
-use crate::verify::put_valid;
 use crate::workers::Workers;
 use jm_bytes::{List, Text};
 use jm_halves::Gate;
 use jm_outside::{Shelf, Sink};
 use jm_pattern::Pattern;
+use jm_texts::header_text;
 use std::alloc::Global;
 use std::thread::Threads;
 
@@ -44,9 +44,21 @@ fn put_shown<O: Sink>(
         PutDoes (done (shown_text shown.now b)) result
         (sink_at O.Sink out.old) (sink_at O.Sink out.new) }
 {
+    let index = front.as_index();
     match shown {
-        Shown::Info => put_info(alloc, front.as_index(), out),
-        Shown::Verify => put_valid(alloc, front.as_index(), out),
+        Shown::Info => {
+            let header = index.header();
+            let contents = index
+                .length()
+                .saturating_sub(header.contents_place() as u64);
+            let text = header_text(alloc, &header, contents as usize)?;
+            put_output(alloc, text.as_bytes(), out)
+        }
+        Shown::Verify => {
+            let count = index.header().count;
+            let line = format!(in alloc; "valid {count}\n")?;
+            put_output(alloc, line.as_bytes(), out)
+        }
         Shown::List(include) => put_list(alloc, front, include, out),
     }
 }

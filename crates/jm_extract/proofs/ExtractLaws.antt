@@ -1,13 +1,13 @@
 -- What an extraction came to, from what its steps did.
 use Rattle.std.proofs.Common.{◌≡◌, ℕ, ◌+◌, ◌<◌, List, [], ◌∷◌, ◌++◌, drop, length, map, take, get_or, Option}
-use Rattle.std.proofs.Common.{None, Result, Ok, Err, IsErrAnd, refl, sym, ap, subst, ◌∙◌}
+use Rattle.std.proofs.Common.{None, Some, Result, Ok, Err, IsErrAnd, refl, sym, ap, subst, ◌∙◌}
 use Rattle.std.proofs.lemmas.List.{map-append, take-append-drop, take_more}
 use Rattle.jm_bytes.specs.Checks.{unless_fault}
 use Rattle.jm_outside.specs.declared.shelf.ShelfError.{ShelfError}
 use Rattle.jm_outside.specs.declared.shelf.ShelfError.TheVariants as outside
 use Rattle.jm_outside.specs.Files.{Files}
 use Rattle.jm_outside.specs.Made.{MadeAll, MadePart, Writes}
-use Rattle.jm_outside.proofs.MadeLaws.{made_append, part_append, part_longer, part_of_all, part_of_none}
+use Rattle.jm_outside.proofs.MadeLaws.{made_append, part_append, part_longer, part_of_none}
 use Rattle.jm_names.specs.ByName.{Named}
 use Rattle.jm_texts.specs.declared.refusal.Refusal.{Refusal}
 use Rattle.jm_extract.specs.declared.extracting.ExtractStop.{ExtractStop}
@@ -63,18 +63,25 @@ out_of_memory due dir (Ok count) told gives = absurd gives
 out_of_memory due dir (Err is) told gives =
     subst (λ (s : ExtractStop). Extracts due dir (Err s) told told) (sym gives) (breaks_off due dir told)
 
--- nothing is refused and all files were made, but ending that failed
-pub not_ended : (entries : List Named) (dir : List ℕ) (answer : Result ℕ ExtractStop) (error : ShelfError)
-    (old now new : Option Files) → ◌≡◌ {A = Option Refusal} None (refusal_of entries) → IsErrAnd answer (λ is. is ≡ stop_of error)
-    → MadeAll (writes_of dir entries) old now → new ≡ now → Extracts (unless_refused entries) dir answer old new
-not_ended entries dir (Ok count) error old now new free gives made same = absurd gives
-not_ended entries dir (Err is) error old now new free gives made same =
-    subst (λ (s : ExtractStop). Extracts (unless_refused entries) dir (Err s) old new) (sym gives)
-    (subst (λ (o : Option Refusal). Extracts (unless_fault o entries) dir (Err (stop_of error)) old new) free (stopped error))
-  where
-    part : MadePart (writes_of dir entries) old new
-    part = part_of_all (writes_of dir entries) old new (same ∙ made)
+-- the refusal of entries that are those taken is due
+pub refused_due : (entries all : List Named) (refused : Refusal) → entries ≡ all → Some refused ≡ refusal_of entries
+    → unless_refused all ≡ Err refused
+refused_due entries all refused same is = ap unless_refused (sym same) ∙ ap (λ o. unless_fault o entries) (sym is)
 
+-- without one the entries are
+pub free_due : (entries all : List Named) → entries ≡ all → ◌≡◌ {A = Option Refusal} None (refusal_of entries)
+    → unless_refused all ≡ Ok entries
+free_due entries all same free = ap unless_refused (sym same) ∙ ap (λ o. unless_fault o entries) (sym free)
+
+-- the entries are due, and a call of the shelf failed when some of the files were made
+pub broken_off : (due : Result (List Named) Refusal) (entries : List Named) (dir : List ℕ) (answer : Result ℕ ExtractStop)
+    (error : ShelfError) (old new : Option Files) → due ≡ Ok entries → IsErrAnd answer (λ is. is ≡ stop_of error)
+    → MadePart (writes_of dir entries) old new → Extracts due dir answer old new
+broken_off due entries dir (Ok count) error old new free gives part = absurd gives
+broken_off due entries dir (Err is) error old new free gives part =
+    subst (λ (s : ExtractStop). Extracts due dir (Err s) old new) (sym gives)
+    (subst (λ (d : Result (List Named) Refusal). Extracts d dir (Err (stop_of error)) old new) (sym free) (stopped error))
+  where
     stopped : (error : ShelfError) → Extracts (Ok entries) dir (Err (stop_of error)) old new
     stopped outside.Failed = part
     stopped outside.Memory = part

@@ -1,6 +1,6 @@
 -- The taken entries, one entry after another and in the order of a sort.
 use Rattle.std.proofs.Common.{◌≡◌, ℕ, All, Bool, true, false, cond, List, [], ◌∷◌, ◌++◌, map, Option, AllPairs}
-use Rattle.std.proofs.Common.{Result, Ok, Err, IsPermutation, refl, sym, ap, subst, ◌∙◌, append_assoc}
+use Rattle.std.proofs.Common.{Result, Ok, Err, IsPermutation, refl, sym, ap, subst, ◌∙◌, append_assoc, append-nil}
 use Rattle.std.proofs.lemmas.List.Elements.{All-push}
 use Rattle.std.proofs.lemmas.List.Kept.{AllPairs-filter}
 use Rattle.jm_bytes.proofs.Pairs.{pairs_map, pairs_none}
@@ -45,6 +45,12 @@ taken_step include b whole old new left rest x before first put =
     ∙ ap (λ es. old ++ es) (taken_more include (entry_listed b x) (map (entry_listed b) rest))
     ∙ sym (append_assoc old (taken_alone include (named (entry_listed b x))) later)
     ∙ ap (λ es. es ++ later) (sym put)
+
+-- none is left
+pub taken_all : (include : Option (List (List Sign))) (b : List ℕ) (whole found : List Named) (left : List ToTake)
+    → whole ≡ found ++ taken_among include (map (entry_listed b) left) → left ≡ [] → found ≡ whole
+taken_all include b whole found left so_far none =
+    sym (so_far ∙ ap (λ xs. found ++ taken_among include (map (entry_listed b) xs)) none ∙ append-nil found)
 
 -- one more whose row is sound
 pub sound_push : (front : Front) (ts us : List TakenEntry) (t : TakenEntry) → us ≡ ts ++ t ∷ [] → All (λ t. SoundIn front t.row) ts

@@ -1,23 +1,17 @@
 //! The taken entries as files below a directory.
-ghost use Rattle.std.specs.Prelude.{◌≡◌, ◌∷◌, ◌++◌, [], All, IsUtf8, IsOk, IsTrue};
-ghost use Rattle.std.specs.Prelude.{IfOk, OnOk, OnErr};
-ghost use Rattle.std.specs.Prelude.{IsErrOf, map};
+ghost use Rattle.std.specs.Prelude.{◌≡◌, ◌∷◌, ◌++◌, [], IsUtf8, IsOk, IsTrue};
+ghost use Rattle.std.specs.Prelude.{IfOk, OnOk, OnErr, IsErrOf};
 ghost use Rattle.jm_names.specs.NameFaults.{IsSound};
 ghost use Rattle.jm_names.specs.UtfForms.{utf};
 ghost use Rattle.jm_outside.specs.Outcome.{CountsFaults};
 ghost use Rattle.jm_outside.specs.Made.{MadeAll, MadePart};
-ghost use Rattle.jm_form.specs.Validity.{SoundRow};
-ghost use Rattle.jm_reader.specs.Look.{head};
 ghost use Rattle.jm_reader.specs.Walk.{IsLater};
-ghost use Rattle.jm_names.specs.ByName.{RisesByName};
-ghost use Rattle.jm_extract.specs.Extracted.{Extracts, extracted, unless_refused, write_of};
-ghost use Rattle.jm_extract.specs.Extracted.{writes_of};
+ghost use Rattle.jm_extract.specs.Extracted.{Extracts, extracted, write_of};
 ghost use Rattle.jm_extract.specs.Stops.{stop_of};
-ghost use Rattle.jm_extract.specs.Taken.{taken_as};
 
 use crate::refusals::refusal_of;
 use crate::taken_name::TakenName;
-use crate::taking::{TakenEntry, taken};
+use crate::taking::taken;
 use jm_bytes::{List, Meter, NoMemory, Text, extend};
 use jm_names::to_utf8;
 use jm_outside::{Shelf, ShelfError, make_file};
@@ -93,63 +87,6 @@ fn make_entry<S: Shelf>(
     make_file(alloc, shelf, path.as_slice(), content)
 }
 
-/// Makes the files of some entries of an image in their order.
-fn make_entries<S: Shelf, R: Ledger>(
-    alloc: Global,
-    image: &Image,
-    dir: &[u8],
-    entries: &[TakenEntry],
-    shelf: &mut S,
-    reads: &mut Meter<R>,
-) -> Result<(), ShelfError>
-    requires metered { reads.old.bytes ≡ image.now }
-    requires text { IsUtf8 dir.now }
-    requires names { All (λ e. IsSound e.name) entries.now }
-    requires rows { All (λ e. SoundRow image.now (head image.now) e.row) entries.now }
-    ensures ok { OnOk result (MadeAll (writes_of dir.now (map (taken_as image.now) entries.now))
-        (S.files shelf.old) (S.files shelf.new)) }
-    ensures err { OnErr result (MadePart (writes_of dir.now (map (taken_as image.now) entries.now))
-        (S.files shelf.old) (S.files shelf.new)) }
-    ensures faults { CountsFaults (S.faults shelf.old) (S.faults shelf.new) (IsOk result)
-        (IsErrOf result ShelfError.Failed) }
-    ensures reads { IsLater reads.old reads.new }
-{
-    for entry in entries {
-        let content = content(image, &entry.row, reads);
-        make_entry(alloc, shelf, dir, &entry.name, content)?;
-    }
-    Ok(())
-}
-
-/// Makes the files of some entries of an image, which rise by name, unless they are refused. They
-/// stand under their own names then.
-fn extract_entries<S: Shelf, R: Ledger>(
-    alloc: Global,
-    image: &Image,
-    dir: &[u8],
-    entries: &[TakenEntry],
-    shelf: &mut S,
-    reads: &mut Meter<R>,
-) -> Result<usize, ExtractStop>
-    requires metered { reads.old.bytes ≡ image.now }
-    requires text { IsUtf8 dir.now }
-    requires rises { RisesByName (map (taken_as image.now) entries.now) }
-    requires rows { All (λ e. SoundRow image.now (head image.now) e.row) entries.now }
-    ensures extracts { Extracts (unless_refused (map (taken_as image.now) entries.now)) dir.now
-        result (S.files shelf.old) (S.files shelf.new) }
-    ensures whole { OnOk result (IsTrue (S.whole shelf.new)) }
-    ensures faults { CountsFaults (S.faults shelf.old) (S.faults shelf.new) (IsOk result)
-        (IsErrOf result ExtractStop.Outside) }
-    ensures reads { IsLater reads.old reads.new }
-{
-    if let Some(refusal) = refusal_of(alloc, entries)? {
-        return Err(ExtractStop::Refused(refusal));
-    }
-    make_entries(alloc, image, dir, entries, shelf, reads)?;
-    shelf.finish(alloc)?;
-    Ok(entries.len())
-}
-
 /// Makes, below the directory, a file of each entry that is taken, by rising name, ends the making
 /// of files, and gives how many they are. A file's path is the directory and the name in UTF-8.
 ///
@@ -174,6 +111,15 @@ pub fn extract<S: Shelf, R: Ledger>(
         (IsErrOf result ExtractStop.Outside) }
     ensures reads { IsLater reads.old reads.new }
 {
-    let entries = taken(alloc, &image.index(), include, reads)?;
-    extract_entries(alloc, image, dir, entries.as_slice(), shelf, reads)
+    let taken = taken(alloc, &image.index(), include, reads)?;
+    let entries = taken.as_slice();
+    if let Some(refusal) = refusal_of(alloc, entries)? {
+        return Err(ExtractStop::Refused(refusal));
+    }
+    for entry in entries {
+        let content = content(image, &entry.row, reads);
+        make_entry(alloc, shelf, dir, &entry.name, content)?;
+    }
+    shelf.finish(alloc)?;
+    Ok(entries.len())
 }

@@ -7,7 +7,7 @@ ghost use Rattle.jm_extract.specs.Extracted.{begins, clash_refusal, first_clash,
 ghost use Rattle.jm_extract.specs.Taken.{name_alone, taken_as};
 
 use crate::taking::TakenEntry;
-use jm_bytes::{NoMemory, Text};
+use jm_bytes::NoMemory;
 use jm_names::check_name;
 use jm_texts::Refusal;
 use std::alloc::Global;

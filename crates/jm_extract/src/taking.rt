@@ -1,20 +1,18 @@
 //! The entries of an image that are taken, by rising name, as its index says them.
 ghost use Rattle.std.specs.Prelude.{◌≡◌, ◌++◌, ℕ, List, All, IfOk, OnOk, map};
-ghost use Rattle.std.specs.List.{list_any};
 ghost use Rattle.jm_form.specs.Head.{IsFileOf};
-ghost use Rattle.jm_pattern.specs.ComputedMatching.{matches};
 ghost use Rattle.jm_valid.specs.Opened.{Front};
 ghost use Rattle.jm_reader.specs.Listing.{entry_listed, handed};
 ghost use Rattle.jm_reader.specs.Look.{SoundIn};
-ghost use Rattle.jm_reader.specs.Walk.{entries_of, IsLater};
+ghost use Rattle.jm_reader.specs.Walk.{IsLater};
 ghost use Rattle.jm_names.specs.ByName.{RisesByName};
-ghost use Rattle.jm_extract.specs.Taken.{is_included, named, taken, taken_alone, taken_among};
+ghost use Rattle.jm_extract.specs.Taken.{is_included, named, taken, taken_alone};
 ghost use Rattle.jm_extract.specs.Taken.{taken_as};
 
 use crate::taken_name::TakenName;
 use jm_bytes::{List, Meter, NoMemory};
 use jm_form::Row;
-use jm_pattern::Pattern;
+use jm_pattern::{Pattern, matches_any};
 use jm_reader::{Listed, list};
 use jm_valid::Index;
 use std::alloc::Global;
@@ -29,19 +27,12 @@ pub struct TakenEntry<'a> {
     pub row: Row,
 }
 
-/// One of these patterns matches the name.
-fn any_matches(patterns: &[Pattern], name: &[u8]) -> bool
-    ensures { result ≡ list_any (λ signs. matches signs name.now) patterns.now }
-{
-    patterns.iter().any(|pattern| pattern.matches(name))
-}
-
 /// One of the patterns matches the name, or none are given.
 fn is_included(include: &Option<List<Pattern>>, name: &[u8]) -> bool
     ensures { result ≡ is_included include.now name.now }
 {
     match include {
-        Some(patterns) => any_matches(patterns.as_slice(), name),
+        Some(patterns) => matches_any(patterns.as_slice(), name),
         None => true,
     }
 }
@@ -72,27 +63,6 @@ fn take_entry<'a>(
     Ok(())
 }
 
-/// The taken entries by rising slot.
-fn taken_by_slot<'a, R: Ledger>(
-    alloc: Global,
-    index: &Index<'a>,
-    include: &Option<List<Pattern>>,
-    reads: &mut Meter<R>,
-) -> Result<List<TakenEntry<'a>>, NoMemory>
-    requires { reads.old.bytes ≡ index.now.bytes }
-    ensures taken { (b : List ℕ) → IsFileOf index.now.bytes index.now.length b
-        → IfOk result (λ list. map (taken_as b) list ≡ taken_among include.now (entries_of b)) }
-    ensures sound { IfOk result (λ list. All (λ t. SoundIn index.now t.row) list) }
-    ensures reads { IsLater reads.old reads.new }
-{
-    let mut entries = list(index);
-    let mut taken = List::new(alloc);
-    while let Some(entry) = entries.step(reads) {
-        take_entry(alloc, &mut taken, entry, include)?;
-    }
-    Ok(taken)
-}
-
 /// The entries of an image whose names are no node's and, where patterns are given, are matched by
 /// one of them, by rising name, in each file of this index. Names are the index's: at one time one
 /// name at most takes memory of its own.
@@ -110,8 +80,12 @@ pub fn taken<'a, R: Ledger>(
     ensures sound { IfOk result (λ list. All (λ t. SoundIn index.now t.row) list) }
     ensures reads { IsLater reads.old reads.new }
 {
-    let entries = taken_by_slot(alloc, index, include, reads)?;
-    let mut sorted = entries.into_vec();
+    let mut entries = list(index);
+    let mut by_slot = List::new(alloc);
+    while let Some(entry) = entries.step(reads) {
+        take_entry(alloc, &mut by_slot, entry, include)?;
+    }
+    let mut sorted = by_slot.into_vec();
     sorted.sort_unstable_by(|one, other| one.name.order(&other.name));
     Ok(List::from_vec(sorted))
 }

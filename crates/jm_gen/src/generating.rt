@@ -12,24 +12,34 @@ use jm_bytes::extend;
 use jm_outside::{Shelf, ShelfError, make_file};
 use std::alloc::Global;
 
+/// Where the files of a module are made.
+#[derive(Clone, Copy)]
+struct Place<'a> {
+    /// The folder that all modules are made in.
+    dir: &'a [u8],
+    /// The number of the module.
+    number: u32,
+}
+
 /// Makes the descriptor of a module.
 fn make_info<S: Shelf>(
     alloc: Global,
     shelf: &mut S,
-    dir: &[u8],
-    number: u32,
+    place: Place,
     draw: u64,
 ) -> Result<(), ShelfError>
-    requires text { IsUtf8 dir.now }
+    requires text { IsUtf8 place.dir.now }
     ensures ok { OnOk result
-        (MadeAll (info_file dir.now number draw ∷ []) (S.files shelf.old) (S.files shelf.new)) }
+        (MadeAll (info_file place.entry.dir.now place.entry.number draw ∷ [])
+        (S.files shelf.old) (S.files shelf.new)) }
     ensures err { OnErr result
-        (MadePart (info_file dir.now number draw ∷ []) (S.files shelf.old) (S.files shelf.new)) }
+        (MadePart (info_file place.entry.dir.now place.entry.number draw ∷ [])
+        (S.files shelf.old) (S.files shelf.new)) }
     ensures faults { CountsFaults (S.faults shelf.old) (S.faults shelf.new) (IsOk result)
         (IsErrOf result ShelfError.Failed) }
 {
-    let bytes = info(alloc, number, draw)?;
-    let path = path_in(alloc, dir, number, b"module-info.class")?;
+    let bytes = info(alloc, place.number, draw)?;
+    let path = path_in(alloc, place.dir, place.number, b"module-info.class")?;
     make_file(alloc, shelf, path.as_slice(), bytes.as_slice())
 }
 
@@ -37,23 +47,24 @@ fn make_info<S: Shelf>(
 fn make_class<S: Shelf>(
     alloc: Global,
     shelf: &mut S,
-    dir: &[u8],
-    number: u32,
+    place: Place,
     class: u32,
     value: u64,
 ) -> Result<(), ShelfError>
-    requires text { IsUtf8 dir.now }
-    ensures ok { OnOk result (MadeAll (class_file dir.now number class value ∷ [])
+    requires text { IsUtf8 place.dir.now }
+    ensures ok { OnOk result
+        (MadeAll (class_file place.entry.dir.now place.entry.number class value ∷ [])
         (S.files shelf.old) (S.files shelf.new)) }
-    ensures err { OnErr result (MadePart (class_file dir.now number class value ∷ [])
+    ensures err { OnErr result
+        (MadePart (class_file place.entry.dir.now place.entry.number class value ∷ [])
         (S.files shelf.old) (S.files shelf.new)) }
     ensures faults { CountsFaults (S.faults shelf.old) (S.faults shelf.new) (IsOk result)
         (IsErrOf result ShelfError.Failed) }
 {
-    let bytes = class_bytes(alloc, number, class, value)?;
-    let mut rest = class_path(alloc, number, class)?;
+    let bytes = class_bytes(alloc, place.number, class, value)?;
+    let mut rest = class_path(alloc, place.number, class)?;
     extend(&mut rest, b".class")?;
-    let path = path_in(alloc, dir, number, rest.as_slice())?;
+    let path = path_in(alloc, place.dir, place.number, rest.as_slice())?;
     make_file(alloc, shelf, path.as_slice(), bytes.as_slice())
 }
 
@@ -62,23 +73,24 @@ fn make_class<S: Shelf>(
 fn make_module<S: Shelf>(
     alloc: Global,
     shelf: &mut S,
-    dir: &[u8],
-    number: u32,
+    place: Place,
     classes: u32,
     draws: &mut Draws,
 ) -> Result<(), ShelfError>
-    requires text { IsUtf8 dir.now }
-    ensures ok { OnOk result (MadeAll (module_files dir.now classes draws.old number 0)
+    requires text { IsUtf8 place.dir.now }
+    ensures ok { OnOk result
+        (MadeAll (module_files place.entry.dir.now classes draws.old place.entry.number 0)
         (S.files shelf.old) (S.files shelf.new)) }
-    ensures err { OnErr result (MadePart (module_files dir.now classes draws.old number 0)
+    ensures err { OnErr result
+        (MadePart (module_files place.entry.dir.now classes draws.old place.entry.number 0)
         (S.files shelf.old) (S.files shelf.new)) }
     ensures draws { OnOk result (draws.new ≡ drawn draws.old (classes + 1)) }
     ensures faults { CountsFaults (S.faults shelf.old) (S.faults shelf.new) (IsOk result)
         (IsErrOf result ShelfError.Failed) }
 {
-    make_info(alloc, shelf, dir, number, draws.draw())?;
+    make_info(alloc, shelf, place, draws.draw())?;
     for class in 0..classes {
-        make_class(alloc, shelf, dir, number, class, draws.draw())?;
+        make_class(alloc, shelf, place, class, draws.draw())?;
     }
     Ok(())
 }
@@ -109,7 +121,7 @@ pub fn generate<S: Shelf>(
 {
     let mut draws = Draws::new(seed);
     for number in 0..modules {
-        make_module(alloc, shelf, dir, number, classes, &mut draws)?;
+        make_module(alloc, shelf, Place { dir, number }, classes, &mut draws)?;
     }
     Ok(())
 }

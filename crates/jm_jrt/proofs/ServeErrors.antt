@@ -24,3 +24,11 @@ pub serves_err : (b : List ℕ) (answer : Result ℕ ServeError) (error : ServeE
 serves_err b (Ok n) error rest new_rest out new_out reads new_reads is serves = absurd is
 serves_err b (Err e) error rest new_rest out new_out reads new_reads is serves =
     subst (λ (x : ServeError). Serves b (Err x) rest new_rest out new_out reads new_reads) (sym is) serves
+
+-- what a session left, said of what it was lent
+pub serves_lent : (b : List ℕ) (answer : Result ℕ ServeError) (rest new_rest out new_out lent_out : Option (List ℕ))
+    (reads new_reads lent_reads : Metered) → new_out ≡ lent_out → new_reads ≡ lent_reads
+    → Serves b answer rest new_rest out new_out reads new_reads → Serves b answer rest new_rest out lent_out reads lent_reads
+serves_lent b answer rest new_rest out new_out lent_out reads new_reads lent_reads same_out same_reads serves =
+    subst (λ (o : Option (List ℕ)). Serves b answer rest new_rest out o reads lent_reads) same_out
+    (subst (λ (r : Metered). Serves b answer rest new_rest out new_out reads r) same_reads serves)

@@ -8,6 +8,10 @@ use Rattle.jm_jrt.specs.Reply.{IsWithin, line_bytes}
 pub within_nothing : (old : Metered) → IsWithin (Some 0) old old
 within_nothing old = record { bytes = refl; count = record { least = omega arith; most = omega arith } }
 
+pub within_same : (bound : Option ℕ) (old : Metered) → IsWithin bound old old
+within_same None old = record { bytes = refl; count = omega arith }
+within_same (Some n) old = record { bytes = refl; count = record { least = omega arith; most = omega arith } }
+
 pub within_later : (bound : Option ℕ) (old new : Metered) → IsWithin bound old new → IsLater old new
 within_later None old new later = later
 within_later (Some n) old new cost = record { bytes = cost.bytes; count = cost.count.least }

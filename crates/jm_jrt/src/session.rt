@@ -37,6 +37,14 @@ struct Progress {
     part: Vec<u8>,
 }
 
+/// What answers change: the sink, and the counters.
+#[derive(Drop)]
+struct Answering<'o, 'h, 'r, 'm, O, H: Ledger, R: Ledger> {
+    out: &'o mut O,
+    hashes: &'h mut Steps<H>,
+    reads: &'r mut Meter<'m, R>,
+}
+
 /// Refuses a line behind so many if it is one too many or too long.
 fn check_line(lines: u64, len: usize) -> Result<(), ServeError>
     requires { lines ≤ 1000000 }
@@ -56,23 +64,25 @@ fn check_line(lines: u64, len: usize) -> Result<(), ServeError>
 fn put_reply<O: Sink, H: Ledger, R: Ledger>(
     alloc: Global,
     image: &Image,
+    answering: &mut Answering<O, H, R>,
     line: &[u8],
-    out: &mut O,
-    hashes: &mut Steps<H>,
-    reads: &mut Meter<R>,
 ) -> Result<(), ServeError>
-    requires { reads.old.bytes ≡ image.now }
-    ensures ok { OnOk result (O.content out.new
-        ≡ option_map (λ old. old ++ reply image.now line.now) (O.content out.old)) }
+    requires { answering.old.reads.now.bytes ≡ image.now }
+    ensures ok { OnOk result (O.content answering.new.out.now
+        ≡ option_map (λ old. old ++ reply image.now line.now) (O.content answering.old.out.now)) }
     ensures err { IfErr result (λ error. PutFails error (reply image.now line.now)
-        (O.content out.old) (O.content out.new)) }
-    ensures faults { CountsFaults (O.faults out.old) (O.faults out.new) (IsOk result)
-        (IsErrOf result ServeError.WriteFault) }
-    ensures hashes { RisesAtMost hashes.old hashes.new 4 }
-    ensures reads { IsWithin (line_bytes image.now line.now) reads.old reads.new }
+        (O.content answering.old.out.now) (O.content answering.new.out.now)) }
+    ensures faults { CountsFaults (O.faults answering.old.out.now)
+        (O.faults answering.new.out.now) (IsOk result) (IsErrOf result ServeError.WriteFault) }
+    ensures hashes { RisesAtMost answering.old.hashes.now answering.new.hashes.now 4 }
+    ensures reads { IsWithin (line_bytes image.now line.now)
+        answering.old.reads.now answering.new.reads.now }
+    ensures same { (answering.new.out.ghost_name ≡ answering.old.out.ghost_name)
+        × (answering.new.hashes.ghost_name ≡ answering.old.hashes.ghost_name)
+        × (answering.new.reads.ghost_name ≡ answering.old.reads.ghost_name) }
 {
-    let reply = answer(alloc, image, line, hashes, reads)?;
-    match out.put(alloc, reply.as_slice()) {
+    let reply = answer(alloc, image, line, answering.hashes, answering.reads)?;
+    match answering.out.put(alloc, reply.as_slice()) {
         Ok(()) => Ok(()),
         Err(SinkError::Failed) => Err(ServeError::WriteFault),
         Err(SinkError::Memory) => Err(ServeError::Memory),
@@ -83,34 +93,36 @@ fn put_reply<O: Sink, H: Ledger, R: Ledger>(
 fn end_line<O: Sink, H: Ledger, R: Ledger>(
     alloc: Global,
     image: &Image,
+    answering: &mut Answering<O, H, R>,
     progress: &mut Progress,
     bytes: &[u8],
-    out: &mut O,
-    hashes: &mut Steps<H>,
-    reads: &mut Meter<R>,
 ) -> Result<(), ServeError>
-    requires metered { reads.old.bytes ≡ image.now }
+    requires metered { answering.old.reads.now.bytes ≡ image.now }
     requires open { IsOpen progress.old.lines progress.old.part.items }
-    ensures put { OnOk result (O.content out.new
+    ensures put { OnOk result (O.content answering.new.out.now
         ≡ option_map (λ old. old ++ reply image.now (progress.old.part.items ++ bytes.now))
-        (O.content out.old)) }
+        (O.content answering.old.out.now)) }
     ensures line { OnOk result (IsAnswered progress.old.lines progress.new.lines
         (progress.old.part.items ++ bytes.now) progress.new.part.items) }
     ensures err { IfErr result (λ error. LineFails error image.now progress.old.lines
-        (progress.old.part.items ++ bytes.now) (O.content out.old) (O.content out.new)) }
-    ensures faults { CountsFaults (O.faults out.old) (O.faults out.new) (IsOk result)
-        (IsErrOf result ServeError.WriteFault) }
-    ensures hashes { RisesAtMost hashes.old hashes.new 4 }
+        (progress.old.part.items ++ bytes.now)
+        (O.content answering.old.out.now) (O.content answering.new.out.now)) }
+    ensures faults { CountsFaults (O.faults answering.old.out.now)
+        (O.faults answering.new.out.now) (IsOk result) (IsErrOf result ServeError.WriteFault) }
+    ensures hashes { RisesAtMost answering.old.hashes.now answering.new.hashes.now 4 }
     ensures reads { IsWithin (line_bytes image.now (progress.old.part.items ++ bytes.now))
-        reads.old reads.new }
+        answering.old.reads.now answering.new.reads.now }
+    ensures same { (answering.new.out.ghost_name ≡ answering.old.out.ghost_name)
+        × (answering.new.hashes.ghost_name ≡ answering.old.hashes.ghost_name)
+        × (answering.new.reads.ghost_name ≡ answering.old.reads.ghost_name) }
 {
     check_line(progress.lines, progress.part.len() + bytes.len())?;
     progress.lines += 1;
     if progress.part.is_empty() {
-        return put_reply(alloc, image, bytes, out, hashes, reads);
+        return put_reply(alloc, image, answering, bytes);
     }
     extend(&mut progress.part, bytes)?;
-    put_reply(alloc, image, progress.part.as_slice(), out, hashes, reads)?;
+    put_reply(alloc, image, answering, progress.part.as_slice())?;
     progress.part.clear();
     Ok(())
 }
@@ -138,31 +150,35 @@ fn keep_part(progress: &mut Progress, bytes: &[u8]) -> Result<(), ServeError>
 fn take_piece<O: Sink, H: Ledger, R: Ledger>(
     alloc: Global,
     image: &Image,
+    answering: &mut Answering<O, H, R>,
     progress: &mut Progress,
     piece: &[u8],
-    out: &mut O,
-    hashes: &mut Steps<H>,
-    reads: &mut Meter<R>,
 ) -> Result<(), ServeError>
-    requires metered { reads.old.bytes ≡ image.now }
+    requires metered { answering.old.reads.now.bytes ≡ image.now }
     requires open { IsOpen progress.old.lines progress.old.part.items }
     ensures passes { OnOk result (Passes image.now (progress.old.part.items ++ piece.now)
-        (moment (O.content out.old) progress.old.lines hashes.old reads.old)
+        (moment (O.content answering.old.out.now) progress.old.lines
+        answering.old.hashes.now answering.old.reads.now)
         progress.new.part.items
-        (moment (O.content out.new) progress.new.lines hashes.new reads.new)) }
+        (moment (O.content answering.new.out.now) progress.new.lines
+        answering.new.hashes.now answering.new.reads.now)) }
     ensures open_new { OnOk result (IsOpen progress.new.lines progress.new.part.items) }
     ensures err { IfErr result (λ error. Breaks error image.now
         (progress.old.part.items ++ piece.now)
-        (moment (O.content out.old) progress.old.lines hashes.old reads.old)
-        (O.content out.new)) }
-    ensures faults { CountsFaults (O.faults out.old) (O.faults out.new) (IsOk result)
-        (IsErrOf result ServeError.WriteFault) }
-    ensures hashes { hashes.old ≤ hashes.new }
-    ensures reads { IsLater reads.old reads.new }
+        (moment (O.content answering.old.out.now) progress.old.lines
+        answering.old.hashes.now answering.old.reads.now)
+        (O.content answering.new.out.now)) }
+    ensures faults { CountsFaults (O.faults answering.old.out.now)
+        (O.faults answering.new.out.now) (IsOk result) (IsErrOf result ServeError.WriteFault) }
+    ensures hashes { answering.old.hashes.now ≤ answering.new.hashes.now }
+    ensures reads { IsLater answering.old.reads.now answering.new.reads.now }
+    ensures same { (answering.new.out.ghost_name ≡ answering.old.out.ghost_name)
+        × (answering.new.hashes.ghost_name ≡ answering.old.hashes.ghost_name)
+        × (answering.new.reads.ghost_name ≡ answering.old.reads.ghost_name) }
 {
     let mut rest = piece;
     while let Some((bytes, behind)) = cut_at_first(b'\n', rest) {
-        end_line(alloc, image, progress, bytes, out, hashes, reads)?;
+        end_line(alloc, image, answering, progress, bytes)?;
         rest = behind;
     }
     keep_part(progress, rest)
@@ -198,26 +214,30 @@ fn zeros(alloc: Global) -> Result<Vec<u8>, NoMemory>
 fn serve_ended<I: Source, O: Sink, H: Ledger, R: Ledger>(
     alloc: Global,
     image: &Image,
+    answering: &mut Answering<O, H, R>,
     input: &mut I,
-    out: &mut O,
-    hashes: &mut Steps<H>,
-    reads: &mut Meter<R>,
 ) -> Result<Progress, ServeError>
-    requires { reads.old.bytes ≡ image.now }
+    requires { answering.old.reads.now.bytes ≡ image.now }
     ensures ok { IfOk result (λ progress. Arrives image.now (I.rest input.old) (I.rest input.new)
-        (moment (O.content out.old) 0 hashes.old reads.old) progress.part.items
-        (moment (O.content out.new) progress.lines hashes.new reads.new)) }
+        (moment (O.content answering.old.out.now) 0
+        answering.old.hashes.now answering.old.reads.now) progress.part.items
+        (moment (O.content answering.new.out.now) progress.lines
+        answering.new.hashes.now answering.new.reads.now)) }
     ensures end { OnOk result (Told (I.rest input.old) (I.rest input.new)
         (λ old new. new ≡ [])) }
     ensures err { IfErr result (λ error. Serves image.now (Err error)
-        (I.rest input.old) (I.rest input.new) (O.content out.old) (O.content out.new)
-        reads.old reads.new) }
+        (I.rest input.old) (I.rest input.new)
+        (O.content answering.old.out.now) (O.content answering.new.out.now)
+        answering.old.reads.now answering.new.reads.now) }
     ensures input_faults { CountsFaults (I.faults input.old) (I.faults input.new) (IsOk result)
         (IsErrOf result ServeError.ReadFault) }
-    ensures out_faults { CountsFaults (O.faults out.old) (O.faults out.new) (IsOk result)
-        (IsErrOf result ServeError.WriteFault) }
-    ensures hashes { hashes.old ≤ hashes.new }
-    ensures reads { IsLater reads.old reads.new }
+    ensures out_faults { CountsFaults (O.faults answering.old.out.now)
+        (O.faults answering.new.out.now) (IsOk result) (IsErrOf result ServeError.WriteFault) }
+    ensures hashes { answering.old.hashes.now ≤ answering.new.hashes.now }
+    ensures reads { IsLater answering.old.reads.now answering.new.reads.now }
+    ensures same { (answering.new.out.ghost_name ≡ answering.old.out.ghost_name)
+        × (answering.new.hashes.ghost_name ≡ answering.old.hashes.ghost_name)
+        × (answering.new.reads.ghost_name ≡ answering.old.reads.ghost_name) }
 {
     let mut piece = zeros(alloc)?;
     let mut progress = Progress {
@@ -230,7 +250,7 @@ fn serve_ended<I: Source, O: Sink, H: Ledger, R: Ledger>(
             return Ok(progress);
         }
         let (bytes, _) = piece.as_slice().split_at(count);
-        take_piece(alloc, image, &mut progress, bytes, out, hashes, reads)?;
+        take_piece(alloc, image, answering, &mut progress, bytes)?;
     }
 }
 
@@ -260,11 +280,12 @@ pub fn serve<I: Source, O: Sink, H: Ledger, R: Ledger>(
     ensures later { hashes.old ≤ hashes.new }
     ensures reads { IsLater reads.old reads.new }
 {
-    let progress = serve_ended(alloc, image, input, out, hashes, reads)?;
+    let mut answering = Answering { out, hashes, reads };
+    let progress = serve_ended(alloc, image, &mut answering, input)?;
     let last = progress.part.as_slice();
     if last.is_empty() {
         return Ok(progress.lines);
     }
-    put_reply(alloc, image, last, out, hashes, reads)?;
+    put_reply(alloc, image, &mut answering, last)?;
     Ok(progress.lines + 1)
 }

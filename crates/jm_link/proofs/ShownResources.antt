@@ -61,6 +61,22 @@ use Rattle.jm_names.proofs.NameOrder.{from_by_name}
 use Rattle.jm_link.proofs.SaidLaws.{Says, said_legal, says_from}
 use Rattle.jm_link.proofs.SeenAgain.{AreOf}
 
+-- The modules at the places of a closure, whatever shows them
+
+module _ {A : Type 0} (of : A → Candidate) (all : List A) where
+  at_place : (i : ℕ) (m : A) → slice_get all i ≡ Some m → slice_get (map of all) i ≡ Some (of m)
+  at_place i m is = slice_get-map of all i ∙ ap (option_map of) is
+
+  picked_rise : (Taken : ℕ → Type 0) (places : List ℕ) → AreChosen (map of all) Taken places → ((i : ℕ) → Contains places i → i
+      < length (map of all)) → AllPairs (λ m k. is_before (closure.name_of (of m)) (closure.name_of (of k)) ≡ true)
+      (filter_map (slice_get all) places)
+  picked_rise Taken places chosen within =
+      pairs_filter_map (λ i j. (a b : Candidate) → slice_get (map of all) i ≡ Some a → slice_get (map of all) j ≡ Some b
+      → slice_cmp nat_cmp (closure.name_of a) (closure.name_of b) ≡ Less) (λ m k. is_before (closure.name_of (of m))
+      (closure.name_of (of k)) ≡ true) (slice_get all)
+      (λ i j less m k one other. ap is_lt (less (of m) (of k) (at_place i m one) (at_place j k other)))
+      places (places_by_name (map of all) Taken places chosen within)
+
 behind_front : (n p q : List ℕ) → is_before (file_name n p) (file_name n q) ≡ is_before p q
 behind_front n p q = before_front (47 ∷ n) (47 ∷ p) (47 ∷ q) ∙ before_front (47 ∷ []) p q
 
@@ -173,20 +189,12 @@ module _ (files : Files) (directories : List (List ℕ)) (bytes : (path : List �
     abbrev modules : List VisibleModule
     modules = filter_map (slice_get ms) places
 
-    candidate_at : (i : ℕ) (m : VisibleModule) → slice_get ms i ≡ Some m → slice_get (candidates ms) i ≡ Some m.candidate
-    candidate_at i m is = slice_get-map (λ (k : VisibleModule). k.candidate) ms i ∙ ap (option_map (λ (k : VisibleModule). k.candidate)) is
-
     modules_there : All (Contains ms) modules
     modules_there = all_from_contains (Contains ms) modules
         (λ m there. let from = from_filter_map (slice_get ms) places m there in got ms from.0 m from.2)
 
     modules_rise : AllPairs (λ (m k : VisibleModule). is_before (shelf.name_of m) (shelf.name_of k) ≡ true) modules
-    modules_rise =
-        pairs_filter_map (λ i j. (a b : Candidate) → slice_get (candidates ms) i ≡ Some a → slice_get (candidates ms) j ≡ Some b
-        → slice_cmp nat_cmp (closure.name_of a) (closure.name_of b) ≡ Less) (λ (m k : VisibleModule). is_before
-        (shelf.name_of m) (shelf.name_of k) ≡ true) (slice_get ms)
-        (λ i j less m k one other. ap is_lt (less m.candidate k.candidate (candidate_at i m one) (candidate_at j k other)))
-        places (places_by_name (candidates ms) Taken places chosen within)
+    modules_rise = picked_rise (λ (m : VisibleModule). m.candidate) ms Taken places chosen within
 
     files_sorted : AllPairs Comes (link_files ms places)
     files_sorted =
@@ -220,7 +228,8 @@ module _ (files : Files) (directories : List (List ℕ)) (bytes : (path : List �
           record {
             candidate = m.candidate;
             path = modified file.0;
-            among = contains_filter_map (slice_get (candidates ms)) places at.0 m.candidate at.1 (candidate_at at.0 m at.2);
+            among = contains_filter_map (slice_get (candidates ms)) places at.0 m.candidate at.1
+                (at_place (λ (k : VisibleModule). k.candidate) ms at.0 m at.2);
             name = ap (λ (x : Written). x.0) (sym same);
             has_package = λ shared has. shown_package m is file.0 shared file.1 (ap (λ (x : Written). named_package x.0) same ∙ has);
             says = λ named.
@@ -266,9 +275,6 @@ module _ (b : List ℕ) (bytes : All (λ byte. byte < 256) b) (ss : List SeenMod
   abbrev picked : List SeenModule
   picked = filter_map (slice_get ss) places
 
-  seen_at : (i : ℕ) (s : SeenModule) → slice_get ss i ≡ Some s → slice_get (seen_candidates ss) i ≡ Some s.candidate
-  seen_at i s is = slice_get-map (λ (t : SeenModule). t.candidate) ss i ∙ ap (option_map (λ (t : SeenModule). t.candidate)) is
-
   abbrev Is : SeenModule → Type 0
   Is s = IsSeenIn (image.resources_of b) s
 
@@ -279,13 +285,8 @@ module _ (b : List ℕ) (bytes : All (λ byte. byte < 256) b) (ss : List SeenMod
   all_picked = all_from_contains Is picked
       (λ s there. let from = from_filter_map (slice_get ss) places s there in is_seen s (got ss from.0 s from.2))
 
-  picked_rise : AllPairs (λ (s t : SeenModule). is_before (name_of s) (name_of t) ≡ true) picked
-  picked_rise =
-      pairs_filter_map (λ i j. (a d : Candidate) → slice_get (seen_candidates ss) i ≡ Some a → slice_get (seen_candidates ss) j
-      ≡ Some d → slice_cmp nat_cmp (closure.name_of a) (closure.name_of d) ≡ Less) (λ (s t : SeenModule). is_before (name_of s)
-      (name_of t) ≡ true) (slice_get ss)
-      (λ i j less s t one other. ap is_lt (less s.candidate t.candidate (seen_at i s one) (seen_at j t other)))
-      places (places_by_name (seen_candidates ss) Taken places chosen within)
+  seen_rise : AllPairs (λ (s t : SeenModule). is_before (name_of s) (name_of t) ≡ true) picked
+  seen_rise = picked_rise (λ (s : SeenModule). s.candidate) ss Taken places chosen within
 
   seen_package : (s : SeenModule) → Is s → (f : Named) (shared : List ℕ) → Contains s.files f
       → named_package (file_name (name_of s) f.0) ≡ Some shared → Contains s.candidate.packages shared
@@ -323,7 +324,8 @@ module _ (b : List ℕ) (bytes : All (λ byte. byte < 256) b) (ss : List SeenMod
         record {
           candidate = s.candidate;
           path = file.0.0;
-          among = contains_filter_map (slice_get (seen_candidates ss)) places at.0 s.candidate at.1 (seen_at at.0 s at.2);
+          among = contains_filter_map (slice_get (seen_candidates ss)) places at.0 s.candidate at.1
+              (at_place (λ (t : SeenModule). t.candidate) ss at.0 s at.2);
           name = ap (λ (x : Written). x.0) (sym file.2);
           has_package = λ shared has. seen_package s is file.0 shared file.1 (ap (λ (x : Written). named_package x.0) file.2 ∙ has);
           says = λ named. subst (λ (x : Written). Says x.1 s.candidate.descriptor) file.2 (seen_says s is file.0 file.1 named);
@@ -340,5 +342,5 @@ module _ (b : List ℕ) (bytes : All (λ byte. byte < 256) b) (ss : List SeenMod
         let second = from_map (resource_of (name_of t)) t.files f too in
         subst (λ (x : Written). IsFirst x.0 f.0) first.2 (subst (λ (x : Written). IsFirst (file_name (name_of s) first.0.0) x.0) second.2
         (modules_first (name_of s) (name_of t) first.0.0 second.0.0 one.info.whole other.info.whole before)))
-        picked all_picked picked_rise;
+        picked all_picked seen_rise;
   }

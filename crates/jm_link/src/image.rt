@@ -39,26 +39,32 @@ fn write_whole<S: Shelf>(
     shelf.finish(alloc)
 }
 
-/// Writes a planned image of so many modules.
-fn write_draft<S: Shelf>(
-    alloc: Global,
-    draft: &Draft,
+/// An image that is planned, with the number of its modules.
+#[derive(Drop)]
+struct Planned {
+    draft: Draft,
     modules: usize,
+}
+
+/// Writes a planned image.
+fn write_planned<S: Shelf>(
+    alloc: Global,
+    planned: &Planned,
     pool: &Pool,
     shelf: &mut S,
     path: &[u8],
 ) -> Result<Summary, LinkStop>
-    requires draft { IsDraft draft.now.order pool.now draft.now }
+    requires draft { IsDraft planned.now.draft.order pool.now planned.now.draft }
     requires path { IsUtf8 path.now }
-    ensures { WritesImage draft.now.order modules pool.now path.now result
+    ensures { WritesImage planned.now.draft.order planned.now.modules pool.now path.now result
         (shelf_at S.Shelf shelf.old) (shelf_at S.Shelf shelf.new) }
 {
-    write_whole(alloc, draft, pool, shelf, path)?;
+    write_whole(alloc, &planned.draft, pool, shelf, path)?;
     Ok(Summary {
-        modules,
+        modules: planned.modules,
         resources: pool.len(),
-        length: draft.length,
-        slots: draft.slots,
+        length: planned.draft.length,
+        slots: planned.draft.slots,
     })
 }
 
@@ -77,6 +83,6 @@ pub fn write_image<S: Shelf>(
         (shelf_at S.Shelf shelf.old) (shelf_at S.Shelf shelf.new) }
 {
     let draft = plan(alloc, task.order, pool)?;
-    let path = task.output.as_slice();
-    write_draft(alloc, &draft, modules, pool, shelf, path)
+    let planned = Planned { draft, modules };
+    write_planned(alloc, &planned, pool, shelf, task.output.as_slice())
 }

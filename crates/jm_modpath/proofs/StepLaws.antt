@@ -24,12 +24,13 @@ use Rattle.jm_outside.proofs.Names.{after_front-join}
 use Rattle.jm_modpath.specs.declared.refusal.PathStop.{PathStop}
 use Rattle.jm_modpath.specs.declared.refusal.PathStop.TheVariants as stop
 use Rattle.jm_modpath.specs.declared.refusal.PathRefusal.{PathRefusal}
+use Rattle.jm_modpath.specs.declared.refusal.PathRefusal.TheVariants as refusal
 use Rattle.jm_modpath.specs.declared.visible.VisibleModule.{VisibleModule}
 use Rattle.jm_modpath.specs.Finding.{Comes, added_due, folder_due, folders_among, folders_due, info_due}
 use Rattle.jm_modpath.specs.Finding.{names_within, refused_at, shown_due}
 use Rattle.jm_form.specs.ModuleFiles.{info_name}
 use Rattle.jm_modinfo.specs.Descriptions.{info_in}
-use Rattle.jm_modpath.specs.Modules.{folder_info, folder_with_info, info_path, inside, is_named, name_of, unhidden}
+use Rattle.jm_modpath.specs.Modules.{folder_info, folder_with_info, info_path, inside, is_named, module_with, name_of, unhidden}
 use Rattle.jm_form.proofs.RisingLaws.{from_rising}
 
 pub info_is_text : IsUtf8 info_name
@@ -136,6 +137,18 @@ below_within (f ∷ files) directory folder =
     go (Some name) = refl
 
 -- A folder
+
+-- a folder whose module has the name of an earlier one
+pub shown_twice : (directory : List ℕ) (earlier : List VisibleModule) (folder : List ℕ) (d : Descriptor) (paths : List (List ℕ))
+    (r : Result VisibleModule PathStop) → is_named earlier d.name ≡ true → Comes ⊥ (Err (refusal.TwoModules directory d.name)) r
+    → Comes ⊥ (shown_due directory earlier folder d paths) r
+shown_twice directory earlier folder d paths r again comes = rw again comes
+
+-- one whose module has a new name
+pub shown_new : (directory : List ℕ) (earlier : List VisibleModule) (folder : List ℕ) (d : Descriptor) (paths : List (List ℕ))
+    (m : VisibleModule) → is_named earlier d.name ≡ false → m ≡ module_with folder d paths
+    → Comes ⊥ (shown_due directory earlier folder d paths) (Ok m)
+shown_new directory earlier folder d paths m new is = rw (new, is) refl
 
 pub folder_shown : (told : Option Files) (directory folder path : List ℕ) (names : List (List ℕ)) (earlier : List VisibleModule)
     (d : Descriptor) (r : Result VisibleModule PathStop) → path ≡ inside directory folder

@@ -1,11 +1,12 @@
 -- What is cut out of a text at a slash is text, and what is put together with a slash.
 use Rattle.std.proofs.Common.{◌≡◌, ℕ, Bool, true, false, List, [], ◌∷◌, ◌++◌}
-use Rattle.std.proofs.Common.{drop, length, length-append, get_or, cond, All, IsUtf8, Option, Some}
+use Rattle.std.proofs.Common.{drop, length, length-append, get_or, cond, All, Contains, IsUtf8, Option, Some}
 use Rattle.std.proofs.Common.{None, Result, Ok, Err, IfOk, refl, subst, arith, rules, lit<}
 use Rattle.std.specs.List.{list_any, before_first, filter_map, position_or_len}
 use Rattle.std.specs.Str.{IsCharBoundary}
 use Rattle.std.proofs.lemmas.Bool.{eqb-true}
 use Rattle.std.proofs.lemmas.List.{take_at, drop_at}
+use Rattle.std.proofs.lemmas.List.Elements.{All-contains}
 use Rattle.std.proofs.lemmas.List.Sums.{passes_at_first}
 use Rattle.std.proofs.lemmas.Str.{IsCharBoundary-before_ascii, IsCharBoundary-from_take, IsUtf8-append}
 use Rattle.std.proofs.lemmas.Str.{IsUtf8-drop, IsUtf8-encode, IsUtf8-take, encode_ascii}
@@ -71,3 +72,7 @@ texts_of (Err e) texts is all = tt
 pub folders_are_text : (names : List (List ℕ)) → All IsUtf8 names → All IsUtf8 (folders_among names)
 folders_are_text names all = rising_all IsUtf8 (filter_map folder_with_info names) (all_filter_map IsUtf8 IsUtf8 folder_with_info
     (λ name folder own h. folder_is_text name folder own h) names all)
+
+-- a folder among names is text
+pub listed_is_text : (names : List (List ℕ)) (folder : List ℕ) → All IsUtf8 names → Contains (folders_among names) folder → IsUtf8 folder
+listed_is_text names folder all listed = All-contains IsUtf8 (folders_among names) folder (folders_are_text names all) listed

@@ -1,15 +1,12 @@
 //! The modules that the folders of a directory show.
-ghost use Rattle.std.specs.Prelude.{◌≡◌, ◌∷◌, ◌++◌, [], All, Contains, IsUtf8, IfOk, IsOk, IsErrOf};
-ghost use Rattle.std.specs.Prelude.{None, Ok, Err, ◌≢◌};
-ghost use Rattle.std.specs.Prelude.{true, false};
+ghost use Rattle.std.specs.Prelude.{◌≡◌, ◌≢◌, [], All, Contains, IsUtf8, IfOk, IsOk, IsErrOf};
+ghost use Rattle.std.specs.Prelude.{None, Err, true, false};
 ghost use Rattle.jm_modinfo.specs.Constants.{is_legal};
 ghost use Rattle.jm_modinfo.specs.Descriptions.{info_in};
 ghost use Rattle.jm_outside.specs.Files.{Rising, file, names_below};
 ghost use Rattle.jm_outside.specs.Outcome.{CountsFaults, Shows};
-ghost use Rattle.jm_modpath.specs.Finding.{Comes, HasTexts, added_due, directory_due};
-ghost use Rattle.jm_modpath.specs.Finding.{folder_due};
-ghost use Rattle.jm_modpath.specs.Finding.{folders_among, folders_due, info_due, names_within};
-ghost use Rattle.jm_modpath.specs.Finding.{refused_at, shown_due};
+ghost use Rattle.jm_modpath.specs.Finding.{Comes, HasTexts, directory_due, folder_due};
+ghost use Rattle.jm_modpath.specs.Finding.{folders_among, folders_due, info_due, refused_at};
 ghost use Rattle.jm_modpath.specs.declared.refusal.PathRefusal.TheVariants.{TwoModules};
 ghost use Rattle.jm_modpath.specs.Modules.{folder_info, info_path, inside};
 ghost use Rattle.jm_modpath.specs.Modules.{is_named, module_with, name_of};
@@ -89,110 +86,67 @@ fn two_modules(alloc: Global, directory: &[u8], name: Text) -> PathStop
     }
 }
 
-/// The module of a folder of a directory with this descriptor, from the names below the directory.
-fn shown(
+/// A directory, and the names of the files below it.
+#[derive(Clone, Copy)]
+struct Listing<'a> {
+    directory: &'a [u8],
+    names: &'a [Text],
+}
+
+/// The module that a folder of a listed directory shows.
+fn visible_module<S: Shelf>(
     alloc: Global,
-    directory: &[u8],
+    listing: Listing,
     folder: &[u8],
-    names: &[Text],
     earlier: &FoundModules,
-    path: Text,
-    descriptor: Descriptor,
+    shelf: &mut S,
 ) -> Result<VisibleModule, PathStop>
-    requires rising { Rising names.now }
-    requires texts { All IsUtf8 names.now }
-    requires folder { IsUtf8 folder.now }
-    requires path { IsUtf8 path }
-    requires legal { is_legal descriptor.name ≡ true }
-    ensures due { Comes ⊥ (shown_due directory.now earlier.now path descriptor
-        (names_within folder.now names.now)) result }
+    requires directory { IsUtf8 listing.directory.now }
+    requires rising { Rising listing.names.now }
+    requires texts { All IsUtf8 listing.names.now }
+    requires listed { Contains (folders_among listing.names.now) folder.now }
+    requires told { Shows (S.files shelf.old) (λ files.
+        listing.names.now ≡ names_below listing.directory.now files) }
+    ensures files { S.files shelf.new ≡ S.files shelf.old }
+    ensures told { Shows (S.files shelf.old) (λ files.
+        Comes ⊥ (folder_due files listing.entry.directory.now earlier.now folder.now) result) }
     ensures new { IfOk result (λ m. is_named earlier.now (name_of m) ≡ false) }
     ensures texts { IfOk result HasTexts }
-    ensures inside { ¬ IsErrOf result PathStop.Outside }
+    ensures faults { CountsFaults (S.faults shelf.old) (S.faults shelf.new) (IsOk result)
+        (IsErrOf result PathStop.Outside) }
 {
+    let path = inside(alloc, listing.directory, folder)?;
+    let descriptor = read_info(alloc, path.as_slice(), shelf)?;
     if earlier.has(descriptor.name.as_slice()) {
-        return Err(two_modules(alloc, directory, descriptor.name));
+        return Err(two_modules(alloc, listing.directory, descriptor.name));
     }
-    let files = names_within(alloc, names, folder)?;
+    let files = names_within(alloc, listing.names, folder)?;
     Ok(module_with(alloc, path, descriptor, files)?)
 }
 
-/// The module that a folder of a directory shows, from the names below the directory.
-fn visible_module<S: Shelf>(
-    alloc: Global,
-    directory: &[u8],
-    folder: &[u8],
-    names: &[Text],
-    earlier: &FoundModules,
-    shelf: &mut S,
-) -> Result<VisibleModule, PathStop>
-    requires directory { IsUtf8 directory.now }
-    requires rising { Rising names.now }
-    requires texts { All IsUtf8 names.now }
-    requires folder { IsUtf8 folder.now }
-    requires listed { Contains (folders_among names.now) folder.now }
-    requires told { Shows (S.files shelf.old) (λ files.
-        names.now ≡ names_below directory.now files) }
-    ensures files { S.files shelf.new ≡ S.files shelf.old }
-    ensures told { Shows (S.files shelf.old) (λ files.
-        Comes ⊥ (folder_due files directory.now earlier.now folder.now) result) }
-    ensures new { IfOk result (λ m. is_named earlier.now (name_of m) ≡ false) }
-    ensures texts { IfOk result HasTexts }
-    ensures faults { CountsFaults (S.faults shelf.old) (S.faults shelf.new) (IsOk result)
-        (IsErrOf result PathStop.Outside) }
-{
-    let path = inside(alloc, directory, folder)?;
-    let descriptor = read_info(alloc, path.as_slice(), shelf)?;
-    shown(alloc, directory, folder, names, earlier, path, descriptor)
-}
-
-/// The modules of earlier folders of a directory, and that of one more.
-fn with_folder<S: Shelf>(
-    alloc: Global,
-    found: FoundModules,
-    directory: &[u8],
-    folder: &[u8],
-    names: &[Text],
-    shelf: &mut S,
-) -> Result<FoundModules, PathStop>
-    requires directory { IsUtf8 directory.now }
-    requires rising { Rising names.now }
-    requires texts { All IsUtf8 names.now }
-    requires listed { Contains (folders_among names.now) folder.now }
-    requires told { Shows (S.files shelf.old) (λ files.
-        names.now ≡ names_below directory.now files) }
-    ensures files { S.files shelf.new ≡ S.files shelf.old }
-    ensures told { Shows (S.files shelf.old) (λ files.
-        Comes ⊥ (added_due files directory.now found folder.now) result) }
-    ensures faults { CountsFaults (S.faults shelf.old) (S.faults shelf.new) (IsOk result)
-        (IsErrOf result PathStop.Outside) }
-{
-    let module = visible_module(alloc, directory, folder, names, &found, shelf)?;
-    Ok(found.with(alloc, module)?)
-}
-
-/// The modules of a directory, from the names below it.
+/// The modules of a listed directory.
 fn found_among<S: Shelf>(
     alloc: Global,
-    directory: &[u8],
-    names: &[Text],
+    listing: Listing,
     shelf: &mut S,
 ) -> Result<FoundModules, PathStop>
-    requires directory { IsUtf8 directory.now }
-    requires rising { Rising names.now }
-    requires texts { All IsUtf8 names.now }
+    requires directory { IsUtf8 listing.directory.now }
+    requires rising { Rising listing.names.now }
+    requires texts { All IsUtf8 listing.names.now }
     requires told { Shows (S.files shelf.old) (λ files.
-        names.now ≡ names_below directory.now files) }
+        listing.names.now ≡ names_below listing.directory.now files) }
     ensures files { S.files shelf.new ≡ S.files shelf.old }
     ensures told { Shows (S.files shelf.old) (λ files.
-        Comes ⊥ (folders_due files directory.now [] (folders_among names.now)) result) }
+        Comes ⊥ (folders_due files listing.entry.directory.now []
+        (folders_among listing.entry.names.now)) result) }
     ensures faults { CountsFaults (S.faults shelf.old) (S.faults shelf.new) (IsOk result)
         (IsErrOf result PathStop.Outside) }
 {
-    let folders = folders_among(alloc, names)?;
+    let folders = folders_among(alloc, listing.names)?;
     let mut found = FoundModules::new(alloc);
     for folder in folders.as_slice() {
-        found = with_folder(alloc, found, directory, folder.as_slice(), names, shelf)?;
+        let module = visible_module(alloc, listing, folder.as_slice(), &found, shelf)?;
+        found = found.with(alloc, module)?;
     }
     Ok(found)
 }
@@ -211,5 +165,9 @@ pub fn found_in<S: Shelf>(
         (IsErrOf result PathStop.Outside) }
 {
     let names = shelf.names(alloc, directory)?;
-    found_among(alloc, directory, names.as_slice(), shelf)
+    let listing = Listing {
+        directory,
+        names: names.as_slice(),
+    };
+    found_among(alloc, listing, shelf)
 }

@@ -1,12 +1,13 @@
 -- What is answered for the places of a list, beside the elements of the list.
 use Rattle.std.proofs.Common.{◌≡◌, ℕ, List, [], ◌∷◌, ◌++◌, Bool, true, false, cond, Some, length, map}
-use Rattle.std.proofs.Common.{slice_get, Result, Ok, Err, IfOk, refl, sym, ap, subst, ◌∙◌, append_assoc}
+use Rattle.std.proofs.Common.{◌<◌, Contains, slice_get, refl, sym, ap, subst, ◌∙◌, arith, append_assoc}
 use Rattle.std.proofs.lemmas.Slice.Zip.{AllZip-map}
 use Rattle.std.proofs.lemmas.List.{length_push}
 use Rattle.std.specs.Borrow.{Bor}
 use Rattle.std.specs.Fn.{FnReturns, FnReturnsAt}
 use Rattle.std.specs.List.{AllZip, filter, range_with_len}
 use denote.Param.Members.{Shared}
+use Rattle.jm_bytes.proofs.Members.{from_range}
 use Rattle.jm_halves.proofs.Zipped.{zipped_each}
 use Rattle.jm_pool.specs.Pairs.{flagged_items}
 
@@ -44,18 +45,16 @@ module _ {A : Type 0} where
       go true rest = ap (λ l. x ∷ l) rest
       go false rest = rest
 
--- the same of an answer that may be an error
-pub each_ok : {F A B E : Type 0} (g : Shared F (Bor A × Unit {0}) B) (f : F) (Q : A → B → Type 0) (xs : List A)
-    (r : Result (List B) E) → ((x : Bor A) (b : B) → FnReturns g f (x, tt) b → Q x.now b)
-    → IfOk r (λ ys. AllZip (FnReturnsAt g f) xs ys) → IfOk r (λ ys. AllZip Q xs ys)
-each_ok g f Q xs (Ok ys) answers zipped = zipped_each g f Q xs ys answers zipped
-each_ok g f Q xs (Err e) answers zipped = tt
-
 -- answers that are a function of the element at each place
-pub mapped_ok : {A B E : Type 0} (v : A → B) (xs : List A) (places : List ℕ) (r : Result (List B) E) → places
-    ≡ range_with_len 0 (length xs) → IfOk r (λ ys. AllZip (λ place y. (x : A) → slice_get xs place ≡ Some x → y ≡ v x) places ys)
-    → IfOk r (λ ys. ys ≡ map v xs)
-mapped_ok v xs places (Ok ys) all zipped =
-    AllZip-map v xs ys (beside_all (λ x y. y ≡ v x) xs ys (subst (λ ks. AllZip (λ place y. (x : _) → slice_get xs place ≡ Some x
-    → y ≡ v x) ks ys) all zipped))
-mapped_ok v xs places (Err e) all zipped = tt
+pub mapped_beside : {A B : Type 0} (v : A → B) (xs : List A) (ys : List B) → AllZip (λ place y. (x : A) → slice_get xs place ≡ Some x
+    → y ≡ v x) (range_with_len 0 (length xs)) ys → ys ≡ map v xs
+mapped_beside v xs ys zipped = AllZip-map v xs ys (beside_all (λ x y. y ≡ v x) xs ys zipped)
+
+-- what the function of a parallel map answers of each item, said of a list that the items are
+pub each_told : {F A B : Type 0} (g : Shared F (Bor A × Unit {0}) B) (f : F) (Q : A → B → Type 0) (xs all : List A) (ys : List B)
+    → xs ≡ all → ((x : Bor A) (b : B) → FnReturns g f (x, tt) b → Q x.now b) → AllZip (FnReturnsAt g f) xs ys → AllZip Q all ys
+each_told g f Q xs all ys is answers zipped = subst (λ l. AllZip Q l ys) is (zipped_each g f Q xs ys answers zipped)
+
+-- each of the first places is below their number
+pub below_count : (places : List ℕ) (n k : ℕ) → places ≡ range_with_len 0 n → Contains places k → k < n
+below_count places n k is there = let inside = from_range 0 n k (subst (λ l. Contains l k) is there) in omega (arith, inside)

@@ -289,6 +289,11 @@ pub put_more : (one : Remade) (later : List Remade) (pairs new : List (List ℕ 
 put_more one later pairs new text all given is so_far =
     so_far ∙ ap (λ o. put_one one.place o (put_remade later) pairs) given ∙ ap (put_remade later) (sym is)
 
+-- the first that is left is put at a place of the pool
+pub first_within : (one : Remade) (later left : List Remade) (pairs : List (List ℕ × List ℕ)) → left ≡ one ∷ later
+    → All (λ z. z.place < length pairs) left → one.place < length pairs
+first_within one later left pairs is within = All-head (λ z. z.place < length pairs) one later (rw is at within)
+
 pub within_more : (one : Remade) (later : List Remade) (pairs new : List (List ℕ × List ℕ)) (text : List ℕ) → new
     ≡ with_bytes_at pairs one.place text → All (λ z. z.place < length pairs) (one ∷ later) → All (λ z. z.place < length new) later
 within_more one later pairs new text is within =

@@ -1,6 +1,6 @@
 -- The pairs at the places of sorted turns are the pairs pattern by pattern.
 use Rattle.std.proofs.Common.{◌≡◌, ◌==◌, ◌&&◌, not, ℕ, ◌+◌, ◌<◌, ◌≤◌, List, [], ◌∷◌, ◌++◌, take, get_or, Bool}
-use Rattle.std.proofs.Common.{true, false, cond, Option, Some, None, Result, Ok, Err, IfOk, All, length, map}
+use Rattle.std.proofs.Common.{true, false, cond, Option, Some, None, All, length, map}
 use Rattle.std.proofs.Common.{slice_get, refl, sym, ap, subst, ◌∙◌, arith, IsPermutation}
 use Rattle.std.specs.List.Sorted.{IsStableByKey}
 use Rattle.std.specs.Ordering.{nat_cmp, is_lt}
@@ -136,11 +136,9 @@ abbrev pub IsTurnAt : List (List Sign) → List (List ℕ × List ℕ) → ℕ �
 IsTurnAt patterns pairs place turn = (turn.place ≡ place) × ((pair : List ℕ × List ℕ) → slice_get pairs place ≡ Some pair
     → turn.rank ≡ rank patterns pair.0)
 
-pub turns_ok : {E : Type 0} (patterns : List (List Sign)) (pairs : List (List ℕ × List ℕ)) (places : List ℕ)
-    (r : Result (List Turn) E) → places ≡ range_with_len 0 (length pairs)
-    → IfOk r (λ turns. AllZip (IsTurnAt patterns pairs) places turns) → IfOk r (AreTurns patterns pairs)
-turns_ok patterns pairs places (Ok turns) all zipped =
-    let beside = subst (λ ks. AllZip (IsTurnAt patterns pairs) ks turns) all zipped in
+pub turns_are : (patterns : List (List Sign)) (pairs : List (List ℕ × List ℕ)) (turns : List Turn)
+    → AllZip (IsTurnAt patterns pairs) (range_with_len 0 (length pairs)) turns → AreTurns patterns pairs turns
+turns_are patterns pairs turns beside =
     let there = zip_weaker (IsTurnAt patterns pairs) (λ place turn. (pair : List ℕ × List ℕ) → slice_get pairs place ≡ Some pair
     → IsTurn patterns pairs pair turn) (range_with_len 0 (length pairs)) turns (λ place turn says pair is.
     (ap (slice_get pairs) says.0 ∙ is, says.1 pair is)) beside in
@@ -149,4 +147,3 @@ turns_ok patterns pairs places (Ok turns) all zipped =
           ≡ place) (range_with_len 0 (length pairs)) turns (λ place turn says. says.0) beside);
       ranks = beside_all (IsTurn patterns pairs) pairs turns there;
     }
-turns_ok patterns pairs places (Err e) all zipped = tt

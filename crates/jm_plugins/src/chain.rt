@@ -6,6 +6,7 @@ use crate::classes::{Remaking, remake_classes};
 use crate::exclusion::exclude;
 use crate::order::order;
 use crate::packages::list_packages;
+use crate::workers::Workers;
 use jm_bytes::{Or, Text};
 use jm_class::ClassFault;
 use jm_halves::Gate;
@@ -24,23 +25,20 @@ pub struct BadClass {
 }
 
 /// What one plug-in makes of a pool.
-fn act<R: Threads + Sync, G: Gate + Sync>(
-    rt: &R,
-    alloc: Global,
-    jobs: u32,
+fn act<T: Threads + Sync, G: Gate + Sync>(
+    workers: &Workers<T, G>,
     pool: Pool,
     plugin: &Plugin,
-    gate: &G,
 ) -> Result<Pool, Or<BadClass>>
-    requires { 0 < jobs }
+    requires { 0 < workers.now.jobs }
     ensures { IfAnswered (Makes plugin.now pool) result }
 {
     match plugin {
-        Plugin::Exclude(patterns) => Ok(exclude(rt, alloc, jobs, pool, patterns.as_slice(), gate)?),
-        Plugin::Order(patterns) => Ok(order(rt, alloc, jobs, pool, patterns.as_slice(), gate)?),
-        Plugin::Strip => remake_classes(rt, alloc, jobs, pool, Remaking::Strip, gate),
-        Plugin::Compact => remake_classes(rt, alloc, jobs, pool, Remaking::Compact, gate),
-        Plugin::Packages => list_packages(rt, alloc, jobs, pool, gate),
+        Plugin::Exclude(patterns) => Ok(exclude(workers, pool, patterns.as_slice())?),
+        Plugin::Order(patterns) => Ok(order(workers, pool, patterns.as_slice())?),
+        Plugin::Strip => remake_classes(workers, pool, Remaking::Strip),
+        Plugin::Compact => remake_classes(workers, pool, Remaking::Compact),
+        Plugin::Packages => list_packages(workers, pool),
     }
 }
 
@@ -59,9 +57,15 @@ pub fn apply<R: Threads + Sync, G: Gate + Sync>(
     requires { 0 < jobs }
     ensures { IfAnswered (Applies list.now pool) result }
 {
+    let workers = Workers {
+        rt,
+        alloc,
+        jobs,
+        gate,
+    };
     let mut pool = pool;
     for number in 0..list.len() {
-        pool = act(rt, alloc, jobs, pool, &list[number], gate)?;
+        pool = act(&workers, pool, &list[number])?;
     }
     Ok(pool)
 }

@@ -1,5 +1,4 @@
 ghost use Rattle.std.specs.Prelude.{◌≡◌, ◌<◌, All, length, IfOk};
-ghost use Rattle.std.specs.List.{AllZip};
 ghost use Rattle.jm_bytes.specs.Results.{IfAnswered, UnlessMemory};
 ghost use Rattle.jm_form.specs.Trees.{module_of};
 ghost use Rattle.jm_packages.specs.Packages.{packages_text};
@@ -11,6 +10,7 @@ ghost use Rattle.jm_plugins.specs.Steps.{ReadsByRule, Refuses, RemadeAs, TakenRe
 
 use crate::chain::BadClass;
 use crate::packages::{Keys, is_descriptor, module_of, packages_by};
+use crate::workers::Workers;
 use jm_bytes::{List, NoMemory, Or, Text};
 use jm_class::ClassFault;
 use jm_compact::compact;
@@ -101,24 +101,6 @@ fn remake_at(alloc: Global, pool: &Pool, place: usize, way: Remaking) -> Remade
     }
 }
 
-/// Makes all classes of a pool anew, by all jobs.
-fn remake_each<R: Threads + Sync, G: Gate + Sync>(
-    rt: &R,
-    alloc: Global,
-    jobs: u32,
-    pool: &Pool,
-    way: Remaking,
-    gate: &G,
-) -> Result<List<Remade>, NoMemory>
-    requires { 0 < jobs }
-    ensures { IfOk result (AllZip (IsRemade (text_of way.entry) pool.now)
-        (class_places (taken_by way.entry) 0 pool.now)) }
-{
-    let places = class_places(alloc, pool, way)?;
-    let work = |place: &usize| remake_at(alloc, pool, *place, way);
-    map_halves(rt, alloc, jobs, places.as_slice(), &work, gate)
-}
-
 /// The refusal of the class at a place.
 fn refusal(alloc: Global, pool: &Pool, place: usize, error: Or<ClassFault>) -> Or<BadClass>
     requires { place < length pool.now }
@@ -150,19 +132,24 @@ fn put_remade(alloc: Global, pool: Pool, remade: List<Remade>) -> Result<Pool, O
 }
 
 /// Puts for each class of a pool that a way takes its text made anew.
-pub fn remake_classes<R: Threads + Sync, G: Gate + Sync>(
-    rt: &R,
-    alloc: Global,
-    jobs: u32,
+pub fn remake_classes<T: Threads + Sync, G: Gate + Sync>(
+    workers: &Workers<T, G>,
     pool: Pool,
     way: Remaking,
-    gate: &G,
 ) -> Result<Pool, Or<BadClass>>
-    requires { 0 < jobs }
+    requires { 0 < workers.now.jobs }
     ensures computed { IfAnswered
         (λ r. r ≡ remade_pairs (taken_by way.entry) (text_of way.entry) pool) result }
     ensures read { IfAnswered (λ r. TakenRead (taken_by way.entry) pool) result }
 {
-    let remade = remake_each(rt, alloc, jobs, &pool, way, gate)?;
+    let Workers {
+        rt,
+        alloc,
+        jobs,
+        gate,
+    } = *workers;
+    let places = class_places(alloc, &pool, way)?;
+    let work = |place: &usize| remake_at(alloc, &pool, *place, way);
+    let remade = map_halves(rt, alloc, jobs, places.as_slice(), &work, gate)?;
     put_remade(alloc, pool, remade)
 }

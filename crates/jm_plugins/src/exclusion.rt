@@ -1,9 +1,10 @@
-ghost use Rattle.std.specs.Prelude.{◌≡◌, ◌<◌, Some, not, length, map, slice_get, IfOk};
+ghost use Rattle.std.specs.Prelude.{◌≡◌, ◌<◌, Some, not, length, slice_get, IfOk};
 ghost use Rattle.jm_pattern.specs.ComputedMatching.{matches_any};
 ghost use Rattle.jm_plugins.specs.Matching.{excluded};
 
 use crate::places::places_below;
-use jm_bytes::{List, NoMemory};
+use crate::workers::Workers;
+use jm_bytes::NoMemory;
 use jm_halves::{Gate, map_halves};
 use jm_pattern::{Pattern, matches_any};
 use jm_pool::Pool;
@@ -20,37 +21,24 @@ fn stays(pool: &Pool, patterns: &[Pattern], place: usize) -> bool
     !matches_any(patterns, name)
 }
 
-/// For each pair whether no pattern matches its name, found by all jobs.
-fn flags<R: Threads + Sync, G: Gate + Sync>(
-    rt: &R,
-    alloc: Global,
-    jobs: u32,
-    pool: &Pool,
-    patterns: &[Pattern],
-    gate: &G,
-) -> Result<List<bool>, NoMemory>
-    requires { 0 < jobs }
-    ensures { IfOk result
-        (λ flags. flags ≡ map (λ pair. not (matches_any patterns.now pair.0)) pool.now) }
-{
-    let places = places_below(alloc, pool.len())?;
-    let look = |place: &usize| stays(pool, patterns, *place);
-    map_halves(rt, alloc, jobs, places.as_slice(), &look, gate)
-}
-
 /// Drops the pairs whose name one of the patterns matches.
-pub fn exclude<R: Threads + Sync, G: Gate + Sync>(
-    rt: &R,
-    alloc: Global,
-    jobs: u32,
+pub fn exclude<T: Threads + Sync, G: Gate + Sync>(
+    workers: &Workers<T, G>,
     pool: Pool,
     patterns: &[Pattern],
-    gate: &G,
 ) -> Result<Pool, NoMemory>
-    requires { 0 < jobs }
+    requires { 0 < workers.now.jobs }
     ensures { IfOk result (λ left. left ≡ excluded patterns.now pool) }
 {
-    let keep = flags(rt, alloc, jobs, &pool, patterns, gate)?;
+    let Workers {
+        rt,
+        alloc,
+        jobs,
+        gate,
+    } = *workers;
+    let places = places_below(alloc, pool.len())?;
+    let look = |place: &usize| stays(&pool, patterns, *place);
+    let keep = map_halves(rt, alloc, jobs, places.as_slice(), &look, gate)?;
     let mut pool = pool;
     pool.retain_flags(keep.as_slice());
     Ok(pool)

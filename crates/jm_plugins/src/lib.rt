@@ -7,5 +7,6 @@ mod exclusion;
 mod order;
 mod packages;
 mod places;
+mod workers;
 
 pub use chain::{BadClass, apply};

@@ -1,9 +1,10 @@
 ghost use Rattle.std.specs.Prelude.{◌≡◌, ◌<◌, Some, length, map, slice_get, IfOk};
 ghost use Rattle.jm_plugins.specs.Matching.{ordered};
 ghost use Rattle.jm_plugins.specs.Steps.{rank};
-ghost use Rattle.jm_plugins.specs.Turns.{AreTurns, IsByRank};
+ghost use Rattle.jm_plugins.specs.Turns.{IsByRank};
 
 use crate::places::places_below;
+use crate::workers::Workers;
 use jm_bytes::{List, NoMemory};
 use jm_halves::{Gate, map_halves};
 use jm_pattern::Pattern;
@@ -45,23 +46,6 @@ fn turn_at(pool: &Pool, patterns: &[Pattern], place: usize) -> Turn
     }
 }
 
-/// The turns of all pairs in the order of the pool, found by all jobs.
-fn turns<R: Threads + Sync, G: Gate + Sync>(
-    rt: &R,
-    alloc: Global,
-    jobs: u32,
-    pool: &Pool,
-    patterns: &[Pattern],
-    gate: &G,
-) -> Result<List<Turn>, NoMemory>
-    requires { 0 < jobs }
-    ensures { IfOk result (AreTurns patterns.now pool.now) }
-{
-    let places = places_below(alloc, pool.len())?;
-    let look = |place: &usize| turn_at(pool, patterns, *place);
-    map_halves(rt, alloc, jobs, places.as_slice(), &look, gate)
-}
-
 /// The turns by rank, those of one rank in their order.
 fn by_rank(turns: List<Turn>) -> Result<Vec<Turn>, NoMemory>
     ensures { IfOk result (λ sorted. IsByRank turns sorted.items) }
@@ -84,19 +68,24 @@ fn places_of(alloc: Global, turns: &[Turn]) -> Result<List<usize>, NoMemory>
 
 /// Puts, pattern by pattern, the pairs that match it and no earlier one in front of those that
 /// match none.
-pub fn order<R: Threads + Sync, G: Gate + Sync>(
-    rt: &R,
-    alloc: Global,
-    jobs: u32,
+pub fn order<T: Threads + Sync, G: Gate + Sync>(
+    workers: &Workers<T, G>,
     pool: Pool,
     patterns: &[Pattern],
-    gate: &G,
 ) -> Result<Pool, NoMemory>
-    requires { 0 < jobs }
+    requires { 0 < workers.now.jobs }
     ensures { IfOk result (λ left. left ≡ ordered patterns.now pool) }
 {
-    let turns = turns(rt, alloc, jobs, &pool, patterns, gate)?;
+    let Workers {
+        rt,
+        alloc,
+        jobs,
+        gate,
+    } = *workers;
+    let places = places_below(alloc, pool.len())?;
+    let look = |place: &usize| turn_at(&pool, patterns, *place);
+    let turns = map_halves(rt, alloc, jobs, places.as_slice(), &look, gate)?;
     let sorted = by_rank(turns)?;
-    let places = places_of(alloc, sorted.as_slice())?;
-    pool.reorder(places.as_slice())
+    let order = places_of(alloc, sorted.as_slice())?;
+    pool.reorder(order.as_slice())
 }

@@ -15,6 +15,7 @@ ghost use Rattle.jm_plugins.specs.Steps.{TakenRead};
 
 use crate::chain::BadClass;
 use crate::classes::{Remaking, remake_classes};
+use crate::workers::Workers;
 use jm_bytes::{List, NoMemory, Or, Text, copy_of, extend};
 use jm_form::{class_folder, path_of, rising};
 use jm_halves::Gate;
@@ -159,21 +160,18 @@ fn all_stay(alloc: Global, pool: &Pool) -> Result<bool, NoMemory>
 
 /// Puts for the descriptor of each module its class with the module's packages. The keys of classes
 /// are looked for only where a descriptor is to change.
-pub fn list_packages<R: Threads + Sync, G: Gate + Sync>(
-    rt: &R,
-    alloc: Global,
-    jobs: u32,
+pub fn list_packages<T: Threads + Sync, G: Gate + Sync>(
+    workers: &Workers<T, G>,
     pool: Pool,
-    gate: &G,
 ) -> Result<Pool, Or<BadClass>>
-    requires { 0 < jobs }
+    requires { 0 < workers.now.jobs }
     ensures computed { IfAnswered
         (λ r. r ≡ remade_pairs is_descriptor (listing_text (names_of pool)) pool) result }
     ensures read { IfAnswered (λ r. TakenRead is_descriptor pool) result }
 {
-    if all_stay(alloc, &pool)? {
+    if all_stay(workers.alloc, &pool)? {
         return Ok(pool);
     }
-    let keys = class_keys(alloc, &pool)?;
-    remake_classes(rt, alloc, jobs, pool, Remaking::Packages(&keys), gate)
+    let keys = class_keys(workers.alloc, &pool)?;
+    remake_classes(workers, pool, Remaking::Packages(&keys))
 }

@@ -1,5 +1,5 @@
 -- The items of a list that pass a test, put and counted one after another.
-use Rattle.std.proofs.Common.{◌≡◌, ℕ, suc, ◌+◌, ◌-◌, ◌<◌, Bool, true, false, List, [], ◌∷◌, ◌++◌, length}
+use Rattle.std.proofs.Common.{◌≡◌, ℕ, zero, suc, ◌+◌, ◌-◌, ◌<◌, ◌≤◌, Bool, true, false, List, [], ◌∷◌, ◌++◌, length}
 use Rattle.std.proofs.Common.{filter, take, drop, Ok, Err, refl, sym, ap, ◌∙◌, arith, append_assoc}
 use Rattle.std.proofs.lemmas.List.{append-nil, take_at, drop_at, length-append}
 use Rattle.std.specs.Int.{w16}
@@ -7,7 +7,7 @@ use Rattle.jm_class.specs.Classes.{u2, counted_text}
 use Rattle.std.specs.List.{flat_map}
 use Rattle.jm_class.specs.Readings.{Left, Outcome, Reading, number, counted, list_of}
 use Rattle.jm_strip.specs.Walks.{shown, filtered}
-use Rattle.jm_strip.proofs.Shown.{saw, shown-next, shown-stop}
+use Rattle.jm_strip.proofs.Shown.{saw, stopped, shown-next, shown-stop}
 
 -- a text and a count, with those of a list that are still to come
 abbrev pub with_kept : {A : Type 0} → (A → List ℕ) → (A → Bool) → List ℕ × ℕ → List A → List ℕ × ℕ
@@ -54,6 +54,33 @@ module _ {F A : Type 0} (words : A → List ℕ) (test : A → Bool) (reading : 
           → shown (step (old, kept)) outcome ≡ Err fault
       stops (Ok r) e = cc
       stops (Err found) e = let same : found ≡ fault = cc in ap (λ f. Err f) same
+
+  pub kept-end : (count k : ℕ) (left : Left) (text : List ℕ) (kept : ℕ) → count ≤ k
+      → shown (with_kept words test (text, kept)) (counted (count - k) reading left) ≡ Ok ((text, kept), left)
+  kept-end count k left text kept all =
+      let number : count - k ≡ zero = omega (arith, all) in
+      let end = append-nil text in
+      let size : kept + 0 ≡ kept = omega arith in
+      rw (number, end, size) refl
+
+  -- one that isn't read is one of the list
+  pub kept-stopped : (short : ℕ → F) (left first : Left) (old opened : List ℕ) (count : ℕ) → number short w16 left ≡ Ok (count, first)
+      → (fault : F) → shown (filtered words test opened) (counted count reading first) ≡ Err fault
+      → shown (λ xs. old ++ counted_text words (filter test xs)) (list_of short reading left) ≡ Err fault
+  kept-stopped short left first old opened count read fault e =
+      let stop = stopped (filtered words test opened) (counted count reading first) fault e in
+      rw (read, stop) refl
+
+  -- the number's room stands in front of what was put
+  pub kept-room : (first next : Left) (old opened put : List ℕ) (at count n : ℕ) → at ≡ length old → opened ≡ old ++ u2 0
+      → shown (filtered words test opened) (counted count reading first) ≡ Ok ((put, n), next) → at + 2 ≤ length put
+  kept-room first next old opened put at count n there gap e =
+      let got = saw (filtered words test opened) (counted count reading first) (put, n) next e in
+      let flat = flat_map words (filter test got.first) in
+      let whole : length (opened ++ flat) ≡ length put = ap (λ (s : List ℕ × ℕ). length s.0) got.same in
+      let parts = length-append opened flat in
+      let front : length opened ≡ length old + 2 = ap length gap ∙ length-append old (u2 0) in
+      omega (arith, there, whole, parts, front)
 
 -- A number that is put once what stands behind it was put
 

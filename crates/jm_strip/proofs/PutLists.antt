@@ -42,20 +42,22 @@ module _ {F A : Type 0} (reading : Reading F A) (words : A → List ℕ) where
   put-stop count k left old fault more e = shown-stop reading (λ text x. text ++ words x) (with_texts words) text-same count k left
       old fault more e
 
-  pub put-end : (count k : ℕ) (left : Left) (text : List ℕ) → count ≤ k
-      → shown (with_texts words text) (counted (count - k) reading left) ≡ Ok (text, left)
-  put-end count k left text all =
-      let number : count - k ≡ zero = omega (arith, all) in
-      let end = append-nil text in
-      rw (number, end) refl
+-- so many items were put: those to come make of the text what all make of the one in front of them
+abbrev pub ArePut : {F A : Type 0} → Reading F A → (A → List ℕ) → ℕ → Left → List ℕ → ℕ → Left → List ℕ → Type 0
+ArePut reading words count first opened k here text = shown (with_texts words opened) (counted count reading first)
+    ≡ shown (with_texts words text) (counted (count - k) reading here)
 
 -- the number of the items is read, and put as it is
 module _ {F A B : Type 0} (short : ℕ → F) (reading : Reading F A) (text : B → List ℕ) (f : A → B) (left first : Left) (count : ℕ)
     (read : number short w16 left ≡ Ok (count, first)) (old opened : List ℕ) (begun : opened ≡ old ++ u2 count) where
-  pub list-put : (new : List ℕ) (next : Left) → shown (with_texts (λ a. text (f a)) opened) (counted count reading first)
-      ≡ Ok (new, next) → shown (λ xs. old ++ counted_text text (map f xs)) (list_of short reading left) ≡ Ok (new, next)
-  list-put new next e =
-      let got = saw (with_texts (λ a. text (f a)) opened) (counted count reading first) new next e in
+  pub list-put : (k : ℕ) (next : Left) (new : List ℕ) → count ≤ k
+      → ArePut reading (λ a. text (f a)) count first opened k next new
+      → shown (λ xs. old ++ counted_text text (map f xs)) (list_of short reading left) ≡ Ok (new, next)
+  list-put k next new ends are =
+      let none : count - k ≡ zero = omega (arith, ends) in
+      let same = append-nil new in
+      let done : shown (with_texts (λ a. text (f a)) new) (counted (count - k) reading next) ≡ Ok (new, next) = rw (none, same) refl in
+      let got = saw (with_texts (λ a. text (f a)) opened) (counted count reading first) new next (are ∙ done) in
       rw (read, got.is) (ap (λ t. Ok (t, next)) (put got.first (counted-length reading count first next got.first got.is) got.same))
     where
       put : (xs : List A) → length xs ≡ count → opened ++ flat_map (λ a. text (f a)) xs ≡ new → old ++ counted_text text (map f xs) ≡ new
@@ -66,8 +68,11 @@ module _ {F A B : Type 0} (short : ℕ → F) (reading : Reading F A) (text : B 
           rw (end, words, mapped) (sym (append_assoc old (u2 count) (flat_map (λ a. text (f a)) xs))
           ∙ ap (λ t. t ++ flat_map (λ a. text (f a)) xs) (sym begun) ∙ same)
 
-  pub list-stopped : (fault : F) → shown (with_texts (λ a. text (f a)) opened) (counted count reading first) ≡ Err fault
+  pub list-stopped : (k : ℕ) (here : Left) (now : List ℕ) → k < count → ArePut reading (λ a. text (f a)) count first opened k here now
+      → (fault : F) → shown (λ a. now ++ text (f a)) (reading here) ≡ Err fault
       → shown (λ xs. old ++ counted_text text (map f xs)) (list_of short reading left) ≡ Err fault
-  list-stopped fault e =
-      let stop = stopped (with_texts (λ a. text (f a)) opened) (counted count reading first) fault e in
+  list-stopped k here now more are fault e =
+      let words = λ (a : A). text (f a) in
+      let stop = stopped (with_texts words opened) (counted count reading first) fault
+      (are ∙ put-stop reading words count k here now fault more e) in
       rw (read, stop) refl

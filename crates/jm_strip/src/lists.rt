@@ -1,7 +1,7 @@
 ghost use Rattle.std.specs.Prelude.{◌≡◌, ◌≤◌, ◌∷◌, [], filter, IfOk};
 ghost use Rattle.jm_class.specs.Classes.{opaque_text, counted_text};
 ghost use Rattle.jm_class.specs.ComputedClass.{opaque_field};
-ghost use Rattle.jm_class.specs.Readings.{counted, list_of};
+ghost use Rattle.jm_class.specs.Readings.{list_of};
 ghost use Rattle.jm_class.specs.Views.{Gives, fault_at};
 ghost use Rattle.jm_strip.specs.Strip.{stays};
 ghost use Rattle.jm_strip.specs.Walks.{shown, filtered, Puts};
@@ -41,27 +41,6 @@ fn keep(
     Ok(1)
 }
 
-/// Puts those of so many attributes that aren't debug information, and answers how many it put.
-fn keep_each(
-    cursor: &mut Cursor,
-    text: &mut Vec<u8>,
-    pool: &Pool,
-    missing: Missing,
-    in_code: bool,
-    count: u16,
-) -> Result<u16, Or<ClassFault>>
-    ensures { Gives (λ n. (text.new.items, n))
-        (shown (λ xs. filtered opaque_text (λ a. stays in_code pool.now a.name) text.old.items xs)
-        (counted count (opaque_field (fault_at missing) pool.now) cursor.old))
-        result cursor.new }
-{
-    let mut kept = 0;
-    for _k in 0..count {
-        kept += keep(cursor, text, pool, missing, in_code)?;
-    }
-    Ok(kept)
-}
-
 /// The attributes of a Code or of the class without its debug information, with their number.
 pub fn keep_attributes(
     cursor: &mut Cursor,
@@ -78,7 +57,10 @@ pub fn keep_attributes(
     let count = number16(cursor, missing)?;
     let at = text.len();
     put16(text, 0)?;
-    let kept = keep_each(cursor, text, pool, missing, in_code, count)?;
+    let mut kept = 0;
+    for _k in 0..count {
+        kept += keep(cursor, text, pool, missing, in_code)?;
+    }
     patch16(text, at, kept);
     Ok(())
 }

@@ -111,13 +111,21 @@ part_room s firsts parts i (Ok part) old zipped inside is before few =
     let sum = length-flat_map-take (part_slots s.header.length) firsts i 0 here.0 in
     omega (arith, before.count, own.count, front, back, sum, few)
 
--- the parts are all
-pub parts_all : (s : Sections) (firsts : List ℕ) (parts : List (Result Contents NoMemory)) (i : ℕ) (all : Contents)
-    → AllZip (IsPart s) firsts parts → i ≡ length parts → ContentsAt s (flat_map (part_slots s.header.length) (take i firsts)) all
-    → ContentsAt s (flat_map (part_slots s.header.length) firsts) all
-parts_all s firsts parts i all zipped end contents =
-    let count = zip_length (IsPart s) firsts parts zipped in
-    subst (λ fs. ContentsAt s (flat_map (part_slots s.header.length) fs) all) (take_all i firsts (omega (arith, count, end))) contents
+-- the first of the parts of all slots are put one behind the other
+pub record PartsPut (s : Sections) (parts : List (Result Contents NoMemory)) (i : ℕ) (all : Contents) : Type 0 where
+  pub firsts : List ℕ
+  pub zipped : AllZip (IsPart s) firsts parts
+  pub slots : flat_map (part_slots s.header.length) firsts ≡ range_with_len 0 s.header.length
+  pub contents : ContentsAt s (flat_map (part_slots s.header.length) (take i firsts)) all
+
+-- where they are all parts, they have all slots
+pub parts_all : (s : Sections) (parts : List (Result Contents NoMemory)) (i : ℕ) (all : Contents) → PartsPut s parts i all
+    → i ≡ length parts → ContentsAt s (range_with_len 0 s.header.length) all
+parts_all s parts i all put end =
+    let count = zip_length (IsPart s) put.firsts parts put.zipped in
+    subst (λ is. ContentsAt s is all) put.slots
+    (subst (λ fs. ContentsAt s (flat_map (part_slots s.header.length) fs) all) (take_all i put.firsts (omega (arith, count, end)))
+    put.contents)
 
 -- Evaluated
 

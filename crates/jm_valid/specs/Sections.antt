@@ -3,11 +3,9 @@ use Rattle.std.specs.Prelude.{ℕ, ◌≡◌, List, Option, Some, None, Ok, if�
 use Rattle.jm_bytes.specs.Checks.{first_fault}
 use Rattle.jm_form.specs.declared.damage.Damage.{Damage}
 use Rattle.jm_form.specs.declared.rows.Row.{Row}
-use Rattle.jm_form.specs.declared.slots.SlotRow.{SlotRow}
 use Rattle.jm_form.specs.Damages.{entries_checks, image_checks_with, row_checks, slot_fault_with}
 use Rattle.jm_form.specs.Damages.{slot_faults_with}
 use Rattle.jm_form.specs.Entries.{Entry, entries, entry_of, is_reached, row_at}
-use Rattle.jm_form.specs.Entries.{row_of_slot}
 use Rattle.jm_form.specs.Head.{header_with}
 use Rattle.jm_form.specs.Places.{contents_size, strings}
 use Rattle.jm_form.specs.Validity.{SoundSlotsWith}
@@ -26,10 +24,6 @@ abbrev pub strings_in : Sections → List ℕ
 strings_in s = strings s.bytes.now s.header
 
 -- Slots
-
--- what the offset word of a slot leads to
-abbrev pub slot_row_in : Sections → ℕ → SlotRow
-slot_row_in s slot = row_of_slot s.bytes.now s.header slot
 
 -- the first fault of a slot with a row that isn't blank
 abbrev pub row_fault_in : Sections → ℕ → Row → Option Damage

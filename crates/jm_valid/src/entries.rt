@@ -99,34 +99,6 @@ fn add_part(all: &mut Contents, part: &Result<Contents, NoMemory>) -> Result<(),
     Ok(())
 }
 
-/// The entries of the parts that begin at these slots, one part behind the other.
-fn contents_of_parts<R: Threads + Sync, G: Gate + Sync>(
-    rt: &R,
-    alloc: Global,
-    jobs: u32,
-    names: &Names,
-    firsts: &[u32],
-    gate: &G,
-) -> Result<Contents, NoMemory>
-    requires jobs { 0 < jobs }
-    requires sound { IsSound names.now.sections }
-    requires few { length (flat_map (part_slots names.now.sections.header.length) firsts.now)
-        < 2 ^ 32 }
-    ensures { IfOk result (ContentsAt names.now.sections
-        (flat_map (part_slots names.now.sections.header.length) firsts.now)) }
-{
-    let look = |first: &u32| contents_of_slots(alloc, names, *first, PART);
-    let parts = map_halves(rt, alloc, jobs, firsts, &look, gate)?;
-    let mut all = Contents {
-        count: 0,
-        ranges: Vec::new(alloc),
-    };
-    for part in parts.as_slice() {
-        add_part(&mut all, part)?;
-    }
-    Ok(all)
-}
-
 /// The entries of an image none of whose slots has a fault, looked for in parts that the jobs
 /// share.
 pub fn contents_of<R: Threads + Sync, G: Gate + Sync>(
@@ -144,7 +116,16 @@ pub fn contents_of<R: Threads + Sync, G: Gate + Sync>(
 {
     let names = Names::of(alloc, sections)?;
     let firsts = parts_of(alloc, sections.header.length)?;
-    contents_of_parts(rt, alloc, jobs, &names, firsts.as_slice(), gate)
+    let look = |first: &u32| contents_of_slots(alloc, &names, *first, PART);
+    let parts = map_halves(rt, alloc, jobs, firsts.as_slice(), &look, gate)?;
+    let mut all = Contents {
+        count: 0,
+        ranges: Vec::new(alloc),
+    };
+    for part in parts.as_slice() {
+        add_part(&mut all, part)?;
+    }
+    Ok(all)
 }
 
 /// The same, looked for one slot after another.

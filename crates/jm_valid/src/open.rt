@@ -42,20 +42,24 @@ fn sections_of<'a>(front: &'a [u8], length: u64) -> Result<Sections<'a>, OpenErr
     }
 }
 
-/// What is wrong with these entries of an image none of whose slots has a fault: their number, or
-/// two contents with a byte in common.
-fn entries_damage(sections: &Sections, mut contents: Contents) -> Option<Damage>
+/// Refuses these entries of an image none of whose slots has a fault, if their number is wrong or
+/// two contents have a byte in common.
+fn check_entries(sections: &Sections, mut contents: Contents) -> Result<(), OpenError>
     requires count { contents.count ≡ length (entries_in sections.now) }
     requires ranges { contents.ranges.items
         ≡ ranges_with_bytes (ranges_of (entries_in sections.now)) }
-    ensures { result ≡ entries_damage_in sections.now }
+    ensures sound { OnOk result (entries_damage_in sections.now ≡ None) }
+    ensures damaged { IfErr result (Reports (entries_damage_in sections.now)) }
 {
     let stated = sections.header.count;
     let found = contents.count;
     if stated != found {
-        return Some(Damage::Count { stated, found });
+        return Err(OpenError::Damaged(Damage::Count { stated, found }));
     }
-    first_overlap(contents.ranges.as_mut_slice())
+    match first_overlap(contents.ranges.as_mut_slice()) {
+        Some(damage) => Err(OpenError::Damaged(damage)),
+        None => Ok(()),
+    }
 }
 
 /// Refuses an image with a damage behind the header: the fault of the least slot that has one, else
@@ -79,10 +83,7 @@ fn check_body<R: Threads + Sync, G: Gate + Sync>(
     let Ok(contents) = contents_of(rt, alloc, jobs, sections, gate) else {
         return Err(OpenError::Memory);
     };
-    match entries_damage(sections, contents) {
-        Some(damage) => Err(OpenError::Damaged(damage)),
-        None => Ok(()),
-    }
+    check_entries(sections, contents)
 }
 
 /// The same, looked for one slot after another, on the caller's thread.
@@ -98,10 +99,7 @@ fn check_body_alone(alloc: Global, sections: &Sections) -> Result<(), OpenError>
     let Ok(contents) = contents_alone(alloc, sections) else {
         return Err(OpenError::Memory);
     };
-    match entries_damage(sections, contents) {
-        Some(damage) => Err(OpenError::Damaged(damage)),
-        None => Ok(()),
-    }
+    check_entries(sections, contents)
 }
 
 /// The image that these bytes are, or their first damage (jimage 1.0, uncompressed), found on the

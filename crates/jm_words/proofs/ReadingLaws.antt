@@ -25,8 +25,8 @@ use Rattle.jm_words.specs.Roles.{AsArgument, has_hyphens, is_equals, option_name
 use Rattle.jm_words.specs.Roles.{value_behind}
 
 -- all stands before the first byte that passes, where none passes
-pub before_first_none : (p : ℕ → Bool) (xs : List ℕ) → list_any p xs ≡ false → before_first p xs ≡ xs
-before_first_none p xs none =
+pub all_before : (p : ℕ → Bool) (xs : List ℕ) → list_any p xs ≡ false → before_first p xs ≡ xs
+all_before p xs none =
     let place : position_or_len p xs ≡ length xs =
     position_or_len_is p xs (length xs) 0 (omega arith) (λ j below. false_from_ne_true (p (get_or xs j 0))
     (λ is. false≢true (sym none ∙ list_any_at p xs j 0 below is))) (λ below. absurd (omega (arith, below))) in

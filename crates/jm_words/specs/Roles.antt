@@ -2,7 +2,7 @@
 -- rule).
 use Rattle.std.specs.Prelude.{ℕ, Bool, true, false, not, nat_eq, ◌==◌, ◌&&◌, ◌||◌, List, [], ◌∷◌}
 use Rattle.std.specs.Prelude.{Option, Some, None, is_some, is_none, if◌then◌else◌, codes}
-use Rattle.std.specs.List.{find, list_any, before_first, after_first, starts_with}
+use Rattle.std.specs.List.{find, list_any, before_first, starts_with}
 use Rattle.std.specs.Str.{bytes_eq}
 use Rattle.jm_words.specs.declared.errors.WordsKind.{WordsKind}
 use Rattle.jm_words.specs.declared.errors.WordsKind.TheVariants as kind
@@ -11,6 +11,7 @@ use Rattle.jm_words.specs.declared.tables.Argument.{Argument}
 use Rattle.jm_words.specs.declared.tables.Choice.{Choice}
 use Rattle.jm_words.specs.Givens.{argument_of, flag_of, value_of}
 use Rattle.jm_words.specs.Tables.{instead_of, is_plugin, option_name}
+use Rattle.jm_words.specs.Values.{behind_first}
 
 -- the role of a word behind the command: an option that the command doesn't have; a flag and what
 -- it gives; an option that waits for its value; an option with its value behind `=`; the value of
@@ -37,7 +38,7 @@ option_named name choices = find (λ choice. bytes_eq (option_name choice) name)
 
 -- what stands behind the first `=` of a word, if it has one
 abbrev pub value_behind : List ℕ → Option (List ℕ)
-value_behind word = if list_any is_equals word then Some (after_first is_equals word) else None
+value_behind word = behind_first 61 word
 
 -- the role of an option without a value behind `=`: it is a flag, or waits for its value
 abbrev pub bare_role : Choice → Option Given → Role

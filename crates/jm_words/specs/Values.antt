@@ -3,7 +3,7 @@
 use Rattle.std.specs.Prelude.{ℕ, ◌+◌, ◌*◌, ◌-◌, Bool, false, nat_le, ◌==◌, ◌&&◌, List, [], ◌∷◌}
 use Rattle.std.specs.Prelude.{map, Option, Some, None, option_map, Result, Ok, Err}
 use Rattle.std.specs.Prelude.{if◌then◌else◌, codes}
-use Rattle.std.specs.List.{list_all, list_any, slice_split}
+use Rattle.std.specs.List.{after_first, list_all, list_any, slice_split}
 use Rattle.std.specs.Str.{bytes_eq}
 use Rattle.jm_bytes.specs.declared.words.Order.{Order}
 use Rattle.jm_bytes.specs.declared.words.Order.TheVariants.{Little, Big}
@@ -26,6 +26,11 @@ without_slashes (b ∷ text) = before_text b (without_slashes text)
 -- the parts of a text that the bytes of a number cut; 58 is `:` and 44 is `,`
 abbrev pub parts_at : ℕ → List ℕ → List (List ℕ)
 parts_at byte text = slice_split (λ b. b == byte) text
+
+-- what stands behind the first byte of a number in a text, if it has one
+abbrev pub behind_first : ℕ → List ℕ → Option (List ℕ)
+behind_first byte text =
+    if list_any (λ b. b == byte) text then Some (after_first (λ b. b == byte) text) else None
 
 -- a text that has a byte
 abbrev pub path_of : List ℕ → Option (List ℕ)

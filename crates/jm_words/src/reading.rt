@@ -1,11 +1,10 @@
 ghost use Rattle.std.specs.Prelude.{◌≡◌, Some, Err, map, option_map, string_bytes};
-ghost use Rattle.std.specs.List.{before_first};
 ghost use Rattle.jm_bytes.specs.Results.{IfAnswered};
 ghost use Rattle.jm_bytes.specs.declared.faults.Or.TheVariants.{Fault};
 ghost use Rattle.jm_words.specs.Reading.{after_role, draft_or_fault, reading_of};
 ghost use Rattle.jm_words.specs.ReadingSteps.{after_argument, after_text};
-ghost use Rattle.jm_words.specs.Roles.{is_among, is_equals, option_named, option_role};
-ghost use Rattle.jm_words.specs.Roles.{role_of, stands_again, value_behind};
+ghost use Rattle.jm_words.specs.Roles.{is_among, option_named, option_role};
+ghost use Rattle.jm_words.specs.Roles.{role_of, stands_again};
 
 use crate::drafts::Draft;
 use crate::errors::{WordsFault, WordsKind};
@@ -13,8 +12,8 @@ use crate::given::{Given, argument_of, flag_of, value_of};
 use crate::tables::{
     Argument, Choice, Verb, arguments, instead_of, is_plugin, option_name, options,
 };
+use crate::values::first_part;
 use jm_bytes::{List, Or};
-use jm_names::cut_at_first;
 use std::alloc::Global;
 use std::marker::Model;
 
@@ -43,6 +42,13 @@ impl Model for Progress {
     } };
 }
 
+/// The number of a word, and that of the last one.
+#[derive(Clone, Copy)]
+struct Position {
+    at: usize,
+    last: usize,
+}
+
 /// What the words behind a command give, or their first fault.
 pub fn draft_of(alloc: Global, verb: Verb, words: &[String]) -> Result<Draft, Or<WordsFault>>
     ensures { IfAnswered
@@ -56,36 +62,38 @@ pub fn draft_of(alloc: Global, verb: Verb, words: &[String]) -> Result<Draft, Or
         pending: None,
     };
     for i in 0..words.len() {
-        let word = words[i].as_bytes();
-        progress = after_word(alloc, choices, i + 2, words.len() + 1, word, progress)?;
+        let position = Position {
+            at: i + 2,
+            last: words.len() + 1,
+        };
+        progress = after_word(alloc, choices, position, words[i].as_bytes(), progress)?;
     }
     Ok(progress.draft)
 }
 
-/// One word: the value that an option waits for, or an option or an argument. `all` is the last's
-/// number.
+/// One word: the value that an option waits for, or an option or an argument.
 #[tactic(auto, using(crate::proofs::ReadingLaws::argument_read))]
 fn after_word(
     alloc: Global,
     choices: &[Choice],
-    at: usize,
-    all: usize,
+    position: Position,
     word: &[u8],
     progress: Progress,
 ) -> Result<Progress, Or<WordsFault>>
     ensures { IfAnswered (λ r. r
-        ≡ after_role at all progress (role_of choices.now progress.pending word.now)) result }
+        ≡ after_role position.at position.last progress
+        (role_of choices.now progress.pending word.now)) result }
 {
     if let Some(choice) = progress.pending {
-        return after_text(at, value_of(alloc, choice, word)?, progress);
+        return after_text(position.at, value_of(alloc, choice, word)?, progress);
     }
     if !word.starts_with(b"--") {
-        return after_argument(alloc, at, word, progress);
+        return after_argument(alloc, position.at, word, progress);
     }
-    let (name, value) = option_parts(word);
+    let (name, value) = first_part(b'=', word);
     match option_named(name, choices) {
-        Some(choice) => after_option(alloc, at, all, choice, value, progress),
-        None => fault_at(at, WordsKind::UnknownOption),
+        Some(choice) => after_option(alloc, position, choice, value, progress),
+        None => fault_at(position.at, WordsKind::UnknownOption),
     }
 }
 
@@ -93,15 +101,15 @@ fn after_word(
 /// the next word is its value.
 fn after_option(
     alloc: Global,
-    at: usize,
-    all: usize,
+    position: Position,
     choice: Choice,
     value: Option<&[u8]>,
     progress: Progress,
 ) -> Result<Progress, Or<WordsFault>>
-    ensures { IfAnswered (λ r. r ≡ after_role at all progress
+    ensures { IfAnswered (λ r. r ≡ after_role position.at position.last progress
         (option_role (Some choice) (option_map (λ text. text.now) value.entry))) result }
 {
+    let Position { at, last } = position;
     let mut progress = progress;
     if stands_again(progress.before.as_slice(), choice) {
         return fault_at(at, WordsKind::Repeated);
@@ -112,7 +120,7 @@ fn after_option(
         None => match flag_of(choice) {
             Some(given) => after_text(at, Some(given), progress),
             None => {
-                if at == all {
+                if at == last {
                     return fault_at(at, WordsKind::NoValue);
                 }
                 progress.pending = Some(choice);
@@ -157,18 +165,6 @@ fn after_text(
             Ok(progress)
         }
         None => fault_at(at, WordsKind::BadValue),
-    }
-}
-
-/// The name of an option, and what stands behind its `=`.
-#[tactic(auto, using(crate::proofs::ReadingLaws::before_first_none))]
-fn option_parts(word: &[u8]) -> (&[u8], Option<&[u8]>)
-    ensures name { result.0.now ≡ before_first is_equals word.now }
-    ensures value { option_map (λ text. text.now) result.1 ≡ value_behind word.now }
-{
-    match cut_at_first(b'=', word) {
-        Some((name, value)) => (name, Some(value)),
-        None => (word, None),
     }
 }
 

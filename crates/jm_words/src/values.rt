@@ -1,8 +1,8 @@
-ghost use Rattle.std.specs.Prelude.{◌≡◌, ◌≤◌, ◌<◌, ◌^◌, ◌∷◌, length, option_map};
+ghost use Rattle.std.specs.Prelude.{◌≡◌, ◌==◌, ◌≤◌, ◌<◌, ◌^◌, ◌∷◌, length, option_map};
 ghost use Rattle.std.specs.Prelude.{IfOk, IfSome, IfNone};
-ghost use Rattle.std.specs.List.{list_all, list_any};
+ghost use Rattle.std.specs.List.{before_first, list_all, list_any};
 ghost use Rattle.jm_names.specs.Names.{is_empty};
-ghost use Rattle.jm_words.specs.Values.{decimal_from, folders_of};
+ghost use Rattle.jm_words.specs.Values.{behind_first, decimal_from, folders_of};
 ghost use Rattle.jm_words.specs.Values.{is_digit, is_numeral, names_of, number_of, order_of};
 ghost use Rattle.jm_words.specs.Values.{parts_at, parts_of, path_of, patterns_of, unless_empty};
 ghost use Rattle.jm_words.specs.Values.{without_slashes};
@@ -97,8 +97,10 @@ fn are_some_empty(texts: &[Text]) -> bool
 }
 
 /// The first of the parts that a byte cuts, and what follows the byte where it stands.
-#[tactic(auto, using(crate::proofs::ValueLaws::parts_first, crate::proofs::ValueLaws::parts_none))]
-fn first_part(byte: u8, text: &[u8]) -> (&[u8], Option<&[u8]>)
+#[tactic(auto, using(crate::proofs::ValueLaws::parts_first, crate::proofs::ValueLaws::parts_none, crate::proofs::ReadingLaws::all_before))]
+pub fn first_part(byte: u8, text: &[u8]) -> (&[u8], Option<&[u8]>)
+    ensures part { result.0.now ≡ before_first (λ b. b == byte) text.now }
+    ensures rest { option_map (λ rest. rest.now) result.1 ≡ behind_first byte text.now }
     ensures parts { parts_at byte text.now
         ≡ result.0.now ∷ parts_of byte (option_map (λ rest. rest.now) result.1) }
     ensures shorter { IfSome result.1 (λ rest. length rest.now < length text.now) }

@@ -1,11 +1,10 @@
-use Rattle.std.proofs.Common.{ℕ, None, Some, ap, refl, ◌∙◌, subst}
+use Rattle.std.proofs.Common.{None, Some, refl}
 use Rattle.jm_form.specs.Validity.{look}
-use Rattle.jm_outside.specs.Outcome.{Rose}
 use Rattle.jm_outside.specs.Shelves.{shelf_at}
 use Rattle.jm_valid.specs.Opened.{Front}
 use Rattle.jm_words.specs.declared.tasks.ImageWork.TheVariants as work
-use Rattle.jm_commands.proofs.ContentLaws.{cat_due, cat_of, sought_there, sought_unread, takes_sought}
-use Rattle.jm_commands.proofs.FrontLaws.{file_put, file_unseen, front_unread, index_unopened}
+use Rattle.jm_commands.proofs.ContentLaws.{cat_put, content_unread, takes_sought}
+use Rattle.jm_commands.proofs.FrontLaws.{front_unread, index_unopened}
 use Rattle.jm_commands.proofs.StepLaws.{from_stop}
 use Rattle.jm_commands.proofs.cat_file.cat_file.Goals as goal
 
@@ -32,86 +31,56 @@ pub returns-in_err-content-clause-comes : goal.returns-in_err-content-clause-com
 returns-in_err-content-clause-comes g c source =
     let stop = c.in_err-content.field-0.0 in
     let is = from_stop c.from_residual-in_err-content.result stop c.from_residual-in_err-content.ensures.1 in
-    let told = g.S.Shelf.files c.args.shelf.now in
     let read = c.in_ok-bytes.ensures in
-    let front = c.in_ok-bytes.bytes in
     let opened = c.in_ok-front.ensures in
     let part = c.in_err-content.ensures in
-    let reads = rw (opened.bytes, opened.length) at part.reads in
-    let unread = sought_unread told _ c.args.path.now front.bytes front.length c.find_counted-row.result stop read.files read.reads reads in
-    rw is (file_unseen (work.Cat c.args.name.now) c.args.path.now (shelf_at g.S.Shelf c.args.shelf.now)
-    (shelf_at g.S.Shelf c.sought_content.new.shelf) source stop _ unread (part.files ∙ read.files)
-    (λ failed. subst (λ (count : ℕ). Rose count (g.S.Shelf.faults c.sought_content.new.shelf)) (read.faults.kept refl)
-    (part.faults.rose (rw failed refl))))
-
-pub returns-in_err-content-clause-takes : goal.returns-in_err-content-clause-takes
-returns-in_err-content-clause-takes g c =
-    let told = g.S.Shelf.files c.args.shelf.now in
-    let read = c.in_ok-bytes.ensures in
-    let front = c.in_ok-bytes.bytes in
-    let opened = c.in_ok-front.ensures in
-    let part = c.in_err-content.ensures in
-    let seeks = rw (opened.bytes, opened.length) at c.find_counted-row.ensures in
-    let reads = rw (opened.bytes, opened.length) at part.reads in
-    takes_sought told _ c.args.path.now front.bytes front.length (λ b. look b c.args.name.now) c.find_counted-row.result _ _ _ _
-    read.reads read.takes part.handed seeks reads
+    rw is (content_unread (work.Cat c.args.name.now) c.args.path.now (shelf_at g.S.Shelf c.args.shelf.now)
+    (shelf_at g.S.Shelf c.file_front.new.shelf) (shelf_at g.S.Shelf c.sought_content.new.shelf) source _ c.in_ok-bytes.bytes.bytes
+    c.in_ok-bytes.bytes.length c.find_counted-row.result stop read.reads read.files (read.faults.kept refl)
+    (rw (opened.bytes, opened.length) at part.reads) part.files (λ failed. part.faults.rose (rw failed refl)))
 
 pub returns-in-Some-clause-comes : goal.returns-in-Some-clause-comes
 returns-in-Some-clause-comes g c source =
-    let told = g.S.Shelf.files c.args.shelf.now in
     let read = c.in_ok-bytes.ensures in
-    let front = c.in_ok-bytes.bytes in
     let opened = c.in_ok-front.ensures in
     let part = c.in_ok-content.ensures in
-    let name = c.args.name.now in
-    let seeks = rw (opened.bytes, opened.length) at c.find_counted-row.ensures in
-    let reads = rw (opened.bytes, opened.length, read.files) at part.reads in
-    let there = sought_there told c.args.path.now front.bytes front.length (λ b. look b name) c.find_counted-row.result _ read.reads
-    opened.opens seeks reads in
-    let b = there.0 in
-    let due = cat_due name (look b name) _ there.3 in
-    file_put (work.Cat name) c.args.path.now (shelf_at g.S.Shelf c.args.shelf.now) (shelf_at g.S.Shelf c.sought_content.new.shelf)
-    source (part.files ∙ read.files) (part.faults.kept refl ∙ read.faults.kept refl) (cat_of name (Some c.in-Some.content)) _ _ _ b
-    there.1 (opened.opens b there.2) refl (λ t. due ∙ ap (cat_of name) c.in-Some.is) (rw c.as_slice.ensures at c.put_output.ensures)
+    cat_put c.args.name.now c.args.path.now (shelf_at g.S.Shelf c.args.shelf.now) (shelf_at g.S.Shelf c.file_front.new.shelf)
+    (shelf_at g.S.Shelf c.sought_content.new.shelf) source _ _ c.in_ok-bytes.bytes.bytes c.in_ok-bytes.bytes.length
+    c.find_counted-row.result _ (Some c.in-Some.content) _ read.reads opened.opens read.files (read.faults.kept refl)
+    (rw (opened.bytes, opened.length) at c.find_counted-row.ensures) (rw (opened.bytes, opened.length) at part.reads) part.files
+    (part.faults.kept refl) c.in-Some.is (rw c.as_slice.ensures at c.put_output.ensures)
 
 pub returns-clause-comes : goal.returns-clause-comes
 returns-clause-comes g c source =
-    let told = g.S.Shelf.files c.args.shelf.now in
     let read = c.in_ok-bytes.ensures in
-    let front = c.in_ok-bytes.bytes in
     let opened = c.in_ok-front.ensures in
     let part = c.in_ok-content.ensures in
-    let name = c.args.name.now in
-    let seeks = rw (opened.bytes, opened.length) at c.find_counted-row.ensures in
-    let reads = rw (opened.bytes, opened.length, read.files) at part.reads in
-    let there = sought_there told c.args.path.now front.bytes front.length (λ b. look b name) c.find_counted-row.result _ read.reads
-    opened.opens seeks reads in
-    let b = there.0 in
-    let due = cat_due name (look b name) _ there.3 in
-    file_put (work.Cat name) c.args.path.now (shelf_at g.S.Shelf c.args.shelf.now) (shelf_at g.S.Shelf c.sought_content.new.shelf)
-    source (part.files ∙ read.files) (part.faults.kept refl ∙ read.faults.kept refl) (cat_of name None) _ _ _ b
-    there.1 (opened.opens b there.2) refl (λ t. due ∙ ap (cat_of name) c.in-None.is) (c.no_entry.ensures _)
+    cat_put c.args.name.now c.args.path.now (shelf_at g.S.Shelf c.args.shelf.now) (shelf_at g.S.Shelf c.file_front.new.shelf)
+    (shelf_at g.S.Shelf c.sought_content.new.shelf) source _ _ c.in_ok-bytes.bytes.bytes c.in_ok-bytes.bytes.length
+    c.find_counted-row.result _ None _ read.reads opened.opens read.files (read.faults.kept refl)
+    (rw (opened.bytes, opened.length) at c.find_counted-row.ensures) (rw (opened.bytes, opened.length) at part.reads) part.files
+    (part.faults.kept refl) c.in-None.is (c.no_entry.ensures _)
+
+pub returns-in_err-content-clause-takes : goal.returns-in_err-content-clause-takes
+returns-in_err-content-clause-takes g c =
+    let read = c.in_ok-bytes.ensures in
+    let opened = c.in_ok-front.ensures in
+    takes_sought (g.S.Shelf.files c.args.shelf.now) _ c.args.path.now c.in_ok-bytes.bytes.bytes c.in_ok-bytes.bytes.length
+    (λ b. look b c.args.name.now) c.find_counted-row.result _ _ _ _ read.reads read.takes c.in_err-content.ensures.handed
+    (rw (opened.bytes, opened.length) at c.find_counted-row.ensures) (rw (opened.bytes, opened.length) at c.in_err-content.ensures.reads)
 
 pub returns-in-Some-clause-takes : goal.returns-in-Some-clause-takes
 returns-in-Some-clause-takes g c =
-    let told = g.S.Shelf.files c.args.shelf.now in
     let read = c.in_ok-bytes.ensures in
-    let front = c.in_ok-bytes.bytes in
     let opened = c.in_ok-front.ensures in
-    let part = c.in_ok-content.ensures in
-    let seeks = rw (opened.bytes, opened.length) at c.find_counted-row.ensures in
-    let reads = rw (opened.bytes, opened.length) at part.reads in
-    takes_sought told _ c.args.path.now front.bytes front.length (λ b. look b c.args.name.now) c.find_counted-row.result _ _ _ _
-    read.reads read.takes part.handed seeks reads
+    takes_sought (g.S.Shelf.files c.args.shelf.now) _ c.args.path.now c.in_ok-bytes.bytes.bytes c.in_ok-bytes.bytes.length
+    (λ b. look b c.args.name.now) c.find_counted-row.result _ _ _ _ read.reads read.takes c.in_ok-content.ensures.handed
+    (rw (opened.bytes, opened.length) at c.find_counted-row.ensures) (rw (opened.bytes, opened.length) at c.in_ok-content.ensures.reads)
 
 pub returns-clause-takes : goal.returns-clause-takes
 returns-clause-takes g c =
-    let told = g.S.Shelf.files c.args.shelf.now in
     let read = c.in_ok-bytes.ensures in
-    let front = c.in_ok-bytes.bytes in
     let opened = c.in_ok-front.ensures in
-    let part = c.in_ok-content.ensures in
-    let seeks = rw (opened.bytes, opened.length) at c.find_counted-row.ensures in
-    let reads = rw (opened.bytes, opened.length) at part.reads in
-    takes_sought told _ c.args.path.now front.bytes front.length (λ b. look b c.args.name.now) c.find_counted-row.result _ _ _ _
-    read.reads read.takes part.handed seeks reads
+    takes_sought (g.S.Shelf.files c.args.shelf.now) _ c.args.path.now c.in_ok-bytes.bytes.bytes c.in_ok-bytes.bytes.length
+    (λ b. look b c.args.name.now) c.find_counted-row.result _ _ _ _ read.reads read.takes c.in_ok-content.ensures.handed
+    (rw (opened.bytes, opened.length) at c.find_counted-row.ensures) (rw (opened.bytes, opened.length) at c.in_ok-content.ensures.reads)

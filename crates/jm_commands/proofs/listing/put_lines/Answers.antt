@@ -1,39 +1,41 @@
 use Rattle.std.proofs.Common.{◌++◌, ◌+◌, ◌∙◌, append-nil, ap, arith, drop, flat_map, map, subst, sym}
 use Rattle.jm_bytes.proofs.ResultLaws.{passed_on}
+use Rattle.jm_outside.specs.declared.streams.SinkError.TheVariants as sink_error
 use Rattle.jm_commands.specs.ListText.{sized_as, sized_line}
 use Rattle.jm_commands.specs.World.{sink_at}
-use Rattle.jm_commands.proofs.PieceLaws.{Left, last_put, less_left, line_broken, next_line, no_line}
+use Rattle.jm_commands.proofs.PieceLaws.{Left, last_put, less_left, line_broken, line_passed, next_left, no_line, unput}
 use Rattle.jm_commands.proofs.listing.put_lines.Goals as goal
 
-pub returns-in_err-pass_line : goal.returns-in_err-pass_line
-returns-in_err-pass_line g c =
+pub returns-in_err-extend_line : goal.returns-in_err-extend_line
+returns-in_err-extend_line g c =
+    rw (passed_on c.from_residual.result sink_error.Memory c.from_residual.ensures.1) (unput _ _ _ _ c.loop-entry.invariant)
+
+pub returns-in_err-put_full : goal.returns-in_err-put_full
+returns-in_err-put_full g c =
     let entries = c.args.entries.now in
     let i = c.loop-entry.entry-index in
-    let whole = flat_map sized_line (map sized_as entries) in
     let held = c.loop-entry.text.items in
-    let line = sized_line (sized_as c.entry-item.result) in
-    let rest = flat_map sized_line (map sized_as (drop (i + 1) entries)) in
-    let old = sink_at g.O.Sink c.args.out.now in
-    let now = sink_at g.O.Sink c.loop-entry.out in
-    let next = next_line sized_line sized_as entries i c.entry-item.result c.loop-entry-test.true (sym c.entry-item.is) in
-    let left = subst (λ l. Left whole (held ++ l) old now) next c.loop-entry.invariant in
-    rw (passed_on c.from_residual.result c.in_err-pass_line.field-0.0 c.from_residual.ensures.1)
-    (line_broken whole held line rest c.pass_line.new.text.items c.in_err-pass_line.field-0.0 old now
-    (sink_at g.O.Sink c.pass_line.new.out) left c.in_err-pass_line.ensures)
+    let passed = line_passed _ held c.extend_line.new.text.items c.put_full.new.text.items _ _ _ c.in_ok-extend_line.ensures
+    c.in_err-put_full.ensures in
+    let left = next_left sized_line sized_as entries i _ held c.entry-item.result _ _ c.loop-entry-test.true (sym c.entry-item.is)
+    c.loop-entry.invariant in
+    rw (passed_on c.from_residual-in_err-put_full.result c.in_err-put_full.field-0.0 c.from_residual-in_err-put_full.ensures.1)
+    (line_broken (flat_map sized_line (map sized_as entries)) held (sized_line (sized_as c.entry-item.result))
+    (flat_map sized_line (map sized_as (drop (i + 1) entries))) c.put_full.new.text.items c.in_err-put_full.field-0.0
+    (sink_at g.O.Sink c.args.out.now) (sink_at g.O.Sink c.loop-entry.out) (sink_at g.O.Sink c.put_full.new.out) left passed)
 
 pub loop-entry-preserved : goal.loop-entry-preserved
 loop-entry-preserved g c =
     let entries = c.args.entries.now in
     let i = c.loop-entry.entry-index in
-    let whole = flat_map sized_line (map sized_as entries) in
     let held = c.loop-entry.text.items in
-    let line = sized_line (sized_as c.entry-item.result) in
-    let rest = flat_map sized_line (map sized_as (drop (i + 1) entries)) in
-    let old = sink_at g.O.Sink c.args.out.now in
-    let now = sink_at g.O.Sink c.loop-entry.out in
-    let next = next_line sized_line sized_as entries i c.entry-item.result c.loop-entry-test.true (sym c.entry-item.is) in
-    let left = subst (λ l. Left whole (held ++ l) old now) next c.loop-entry.invariant in
-    less_left whole held line rest c.pass_line.new.text.items old now (sink_at g.O.Sink c.pass_line.new.out) left c.in_ok-pass_line.ensures
+    let passed = line_passed _ held c.extend_line.new.text.items c.put_full.new.text.items _ _ _ c.in_ok-extend_line.ensures
+    c.in_ok-put_full.ensures in
+    let left = next_left sized_line sized_as entries i _ held c.entry-item.result _ _ c.loop-entry-test.true (sym c.entry-item.is)
+    c.loop-entry.invariant in
+    less_left (flat_map sized_line (map sized_as entries)) held (sized_line (sized_as c.entry-item.result))
+    (flat_map sized_line (map sized_as (drop (i + 1) entries))) c.put_full.new.text.items (sink_at g.O.Sink c.args.out.now)
+    (sink_at g.O.Sink c.loop-entry.out) (sink_at g.O.Sink c.put_full.new.out) left passed
 
 pub returns : goal.returns
 returns g c =

@@ -27,8 +27,7 @@ returns-in_err-make_module-clause-err g c =
     let before = number * (classes + 1) in
     let now = g.S.Shelf.files c.loop-number.shelf in
     let new = g.S.Shelf.files c.make_module.new.shelf in
-    let same = ap (λ (d : ℕ). module_files dir classes d number 0) c.loop-number.invariant.draws
-    ∙ same_files dir classes seed number before in
+    let same = same_files dir classes seed number before c.loop-number.draws c.loop-number.invariant.draws in
     on_err _ c.from_residual.result
     (some_next (λ k. module_files dir classes seed k (k * (classes + 1))) number c.args.modules (g.S.Shelf.files c.args.shelf.now)
     now new c.loop-number-test.true c.loop-number.invariant.files
@@ -43,8 +42,7 @@ loop-number-preserved g c =
     let before = number * (classes + 1) in
     let now = g.S.Shelf.files c.loop-number.shelf in
     let new = g.S.Shelf.files c.make_module.new.shelf in
-    let same = ap (λ (d : ℕ). module_files dir classes d number 0) c.loop-number.invariant.draws
-    ∙ same_files dir classes seed number before in
+    let same = same_files dir classes seed number before c.loop-number.draws c.loop-number.invariant.draws in
     let further : before + (classes + 1) ≡ (number + 1) * (classes + 1) =
     let split = add-mul number 1 (classes + 1) in omega (arith, split) in
     record {

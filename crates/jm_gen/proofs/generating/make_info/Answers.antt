@@ -1,35 +1,22 @@
-use Rattle.std.proofs.Common.{◌∙◌, ◌∷◌, [], ℕ, List, IsUtf8, OnOk, OnErr, ap, sym, subst, codes}
-use Rattle.jm_outside.specs.Made.{MadeAll, MadePart}
-use Rattle.jm_gen.specs.Generated.{info_file}
+use Rattle.std.proofs.Common.{◌∙◌, List, ℕ, IsUtf8, sym, subst, codes}
 use Rattle.jm_gen.proofs.NameLaws.{info_rest, path_is_text}
 use Rattle.jm_gen.proofs.generating.make_info.Goals as goal
 
 pub make_file-requires : goal.make_file-requires
 make_file-requires g c =
+    let place = c.args.place in
     let path = c.as_slice.ensures.value ∙ c.in_ok-path.ensures in
     record {
       text = subst (λ (p : List ℕ). IsUtf8 p) (sym path)
-          (path_is_text c.args.dir.now c.args.number (codes "module-info.class") c.requires.text info_rest);
+          (path_is_text place.dir.now place.number (codes "module-info.class") c.requires.text info_rest);
     }
 
-pub returns-clause-ok : goal.returns-clause-ok
-returns-clause-ok g c =
+pub returns : goal.returns
+returns g c =
     let path = c.as_slice.ensures.value ∙ c.in_ok-path.ensures in
     let bytes = c.as_slice-2.ensures ∙ c.in_ok-bytes.ensures in
-    let whole = info_file c.args.dir.now c.args.number c.args.draw in
-    let old = g.S.Shelf.files c.args.shelf.now in
-    let new = g.S.Shelf.files c.make_file.new.shelf in
-    subst (λ (f : List ℕ × List ℕ). OnOk c.make_file.result (MadeAll (f ∷ []) old new))
-    (ap (λ (p : List ℕ). (p, c.as_slice-2.result.now)) path ∙ ap (λ (b : List ℕ). (whole.0, b)) bytes)
-    c.make_file.ensures.ok
-
-pub returns-clause-err : goal.returns-clause-err
-returns-clause-err g c =
-    let path = c.as_slice.ensures.value ∙ c.in_ok-path.ensures in
-    let bytes = c.as_slice-2.ensures ∙ c.in_ok-bytes.ensures in
-    let whole = info_file c.args.dir.now c.args.number c.args.draw in
-    let old = g.S.Shelf.files c.args.shelf.now in
-    let new = g.S.Shelf.files c.make_file.new.shelf in
-    subst (λ (f : List ℕ × List ℕ). OnErr c.make_file.result (MadePart (f ∷ []) old new))
-    (ap (λ (p : List ℕ). (p, c.as_slice-2.result.now)) path ∙ ap (λ (b : List ℕ). (whole.0, b)) bytes)
-    c.make_file.ensures.err
+    record {
+      ok = rw (path, bytes) at c.make_file.ensures.ok;
+      err = rw (path, bytes) at c.make_file.ensures.err;
+      faults = c.make_file.ensures.faults;
+    }

@@ -3,14 +3,14 @@ use Rattle.jm_outside.specs.Made.{MadeAll, MadePart}
 use Rattle.jm_bytes.proofs.ResultLaws.{on_err}
 use Rattle.jm_gen.specs.Draws.{draw, drawn}
 use Rattle.jm_gen.specs.Generated.{class_file, info_file, module_files}
-use Rattle.jm_gen.proofs.DrawLaws.{drawn_next}
+use Rattle.jm_gen.proofs.DrawLaws.{class_draw, drawn_next}
 use Rattle.jm_gen.proofs.FileLaws.{made_next, part_first, part_next}
 use Rattle.jm_gen.proofs.generating.make_module.Goals as goal
 
 pub returns-in_err-make_info-clause-err : goal.returns-in_err-make_info-clause-err
 returns-in_err-make_info-clause-err g c =
-    let dir = c.args.dir.now in
-    let number = c.args.number in
+    let dir = c.args.place.dir.now in
+    let number = c.args.place.number in
     let seed = c.args.draws.now in
     let old = g.S.Shelf.files c.args.shelf.now in
     let new = g.S.Shelf.files c.make_info.new.shelf in
@@ -20,8 +20,8 @@ returns-in_err-make_info-clause-err g c =
 
 pub loop-class-init : goal.loop-class-init
 loop-class-init g c =
-    let dir = c.args.dir.now in
-    let number = c.args.number in
+    let dir = c.args.place.dir.now in
+    let number = c.args.place.number in
     let old = g.S.Shelf.files c.args.shelf.now in
     let new = g.S.Shelf.files c.make_info.new.shelf in
     record {
@@ -32,15 +32,14 @@ loop-class-init g c =
 
 pub returns-in_err-make_class-clause-err : goal.returns-in_err-make_class-clause-err
 returns-in_err-make_class-clause-err g c =
-    let dir = c.args.dir.now in
-    let number = c.args.number in
+    let dir = c.args.place.dir.now in
+    let number = c.args.place.number in
     let seed = c.args.draws.now in
     let class = c.loop-class.class in
     let old = g.S.Shelf.files c.args.shelf.now in
     let new = g.S.Shelf.files c.make_class.new.shelf in
-    let on : class + 1 + 1 ≡ 0 + 2 + class = omega arith in
-    let value = c.draw-in-loop-class.ensures.drawn ∙ ap draw c.loop-class.invariant.draws ∙ drawn_next seed (class + 1)
-    ∙ ap (drawn seed) on in
+    let value = class_draw seed class c.loop-class.draws c.draw-in-loop-class.result c.loop-class.invariant.draws
+    c.draw-in-loop-class.ensures.drawn in
     on_err _ c.from_residual-in_err-make_class.result
     (part_next (info_file dir number (draw seed)) (λ k. class_file dir number k (drawn seed (0 + 2 + k))) class c.args.classes old
     (g.S.Shelf.files c.loop-class.shelf) new c.loop-class-test.true c.loop-class.invariant.files
@@ -49,15 +48,14 @@ returns-in_err-make_class-clause-err g c =
 
 pub loop-class-preserved : goal.loop-class-preserved
 loop-class-preserved g c =
-    let dir = c.args.dir.now in
-    let number = c.args.number in
+    let dir = c.args.place.dir.now in
+    let number = c.args.place.number in
     let seed = c.args.draws.now in
     let class = c.loop-class.class in
     let old = g.S.Shelf.files c.args.shelf.now in
     let new = g.S.Shelf.files c.make_class.new.shelf in
-    let on : class + 1 + 1 ≡ 0 + 2 + class = omega arith in
-    let value = c.draw-in-loop-class.ensures.drawn ∙ ap draw c.loop-class.invariant.draws ∙ drawn_next seed (class + 1)
-    ∙ ap (drawn seed) on in
+    let value = class_draw seed class c.loop-class.draws c.draw-in-loop-class.result c.loop-class.invariant.draws
+    c.draw-in-loop-class.ensures.drawn in
     record {
       files = made_next (info_file dir number (draw seed)) (λ k. class_file dir number k (drawn seed (0 + 2 + k))) class old
           (g.S.Shelf.files c.loop-class.shelf) new c.loop-class.invariant.files
@@ -70,8 +68,8 @@ loop-class-preserved g c =
 pub returns-clause-ok : goal.returns-clause-ok
 returns-clause-ok g c =
     let all : c.loop-class.class ≡ c.args.classes = omega (arith, c.loop-class.auto.class-end, c.loop-class-test.false) in
-    subst (λ (n : ℕ). MadeAll (module_files c.args.dir.now n c.args.draws.now c.args.number 0) (g.S.Shelf.files c.args.shelf.now)
-    (g.S.Shelf.files c.loop-class.shelf)) all c.loop-class.invariant.files
+    subst (λ (n : ℕ). MadeAll (module_files c.args.place.dir.now n c.args.draws.now c.args.place.number 0)
+    (g.S.Shelf.files c.args.shelf.now) (g.S.Shelf.files c.loop-class.shelf)) all c.loop-class.invariant.files
 
 pub returns-clause-draws : goal.returns-clause-draws
 returns-clause-draws g c =

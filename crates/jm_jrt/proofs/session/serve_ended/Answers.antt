@@ -16,19 +16,21 @@ pub returns-in_err-piece-clause-err : goal.returns-in_err-piece-clause-err
 returns-in_err-piece-clause-err g c =
     let b = c.args.image.now in
     let rest = g.I.Source.rest c.args.input.now in
-    let put = g.O.Sink.content c.args.out.now in
-    let reads = c.args.reads.now in
+    let put = g.O.Sink.content c.args.answering.now.out.now in
+    let reads = c.args.answering.now.reads.now in
     err_with (λ e. Serves b (Err e) rest rest put put reads reads) c.from_residual.result Memory c.from_residual.ensures.1
-    (serves_nothing b rest (moment put 0 c.args.hashes.now reads) reads reads refl)
+    (serves_nothing b rest (moment put 0 c.args.answering.now.hashes.now reads) reads reads refl)
 
 pub loop-progress-init : goal.loop-progress-init
 loop-progress-init g c =
     let b = c.args.image.now in
     let rest = g.I.Source.rest c.args.input.now in
-    let old : Moment = moment (g.O.Sink.content c.args.out.now) 0 c.args.hashes.now c.args.reads.now in
+    let old : Moment = moment (g.O.Sink.content c.args.answering.now.out.now) 0 c.args.answering.now.hashes.now
+    c.args.answering.now.reads.now in
     let empty : c.new.result.items ≡ [] = c.new.ensures.items in
     let none : length c.new.result.items ≡ 0 = ap length empty in
     record {
+      same = (refl, refl, refl);
       metered = c.requires;
       piece = c.in_ok-piece.ensures;
       arrives = record {
@@ -53,18 +55,21 @@ returns-in_err-count-clause-err g c =
     let b = c.args.image.now in
     let rest = g.I.Source.rest in
     let content = g.O.Sink.content in
-    let old : Moment = moment (content c.args.out.now) 0 c.args.hashes.now c.args.reads.now in
-    let now : Moment = moment (content c.loop-progress.out) c.loop-progress.progress.lines c.loop-progress.hashes c.loop-progress.reads in
+    let old : Moment = moment (content c.args.answering.now.out.now) 0 c.args.answering.now.hashes.now c.args.answering.now.reads.now in
+    let now : Moment = moment (content c.loop-progress.answering.out.now) c.loop-progress.progress.lines
+    c.loop-progress.answering.hashes.now c.loop-progress.answering.reads.now in
     let arrives = c.loop-progress.invariant.arrives in
     let told : Told (rest c.args.input.now) (rest c.take.new.input) (λ o n. o ≡ arrives.given ++ n) =
     subst (λ r. Told (rest c.args.input.now) r (λ o n. o ≡ arrives.given ++ n)) (sym c.in_err-count.ensures.err) arrives.told in
-    err_with (λ e. Serves b (Err e) (rest c.args.input.now) (rest c.take.new.input) (content c.args.out.now)
-    (content c.loop-progress.out) c.args.reads.now c.loop-progress.reads) c.from_residual-in_err-count.result
+    err_with (λ e. Serves b (Err e) (rest c.args.input.now) (rest c.take.new.input) (content c.args.answering.now.out.now)
+    (content c.loop-progress.answering.out.now) c.args.answering.now.reads.now c.loop-progress.answering.reads.now)
+    c.from_residual-in_err-count.result
     c.in_err-count.field-0.0 c.from_residual-in_err-count.ensures.1
-    (subst (λ e. Serves b (Err e) (rest c.args.input.now) (rest c.take.new.input) (content c.args.out.now)
-    (content c.loop-progress.out) c.args.reads.now c.loop-progress.reads) (sym c.in_err-count.ensures.fault)
+    (subst (λ e. Serves b (Err e) (rest c.args.input.now) (rest c.take.new.input) (content c.args.answering.now.out.now)
+    (content c.loop-progress.answering.out.now) c.args.answering.now.reads.now c.loop-progress.answering.reads.now) (sym
+    c.in_err-count.ensures.fault)
     (serves_given b (rest c.args.input.now) (rest c.take.new.input) arrives.given c.loop-progress.progress.part.items old now
-    c.args.reads.now c.loop-progress.reads told arrives.passes arrives.goes_on))
+    c.args.answering.now.reads.now c.loop-progress.answering.reads.now told arrives.passes arrives.goes_on))
 
 pub returns-then-count-eq0-clause-ok : goal.returns-then-count-eq0-clause-ok
 returns-then-count-eq0-clause-ok g c =
@@ -90,9 +95,11 @@ pub loop-progress-smaller : goal.loop-progress-smaller
 loop-progress-smaller g c =
     let b = c.args.image.now in
     let content = g.O.Sink.content in
-    let now : Moment = moment (content c.loop-progress.out) c.loop-progress.progress.lines c.loop-progress.hashes c.loop-progress.reads in
-    let new : Moment = moment (content c.take_piece.new.out) c.take_piece.new.progress.lines c.take_piece.new.hashes
-    c.take_piece.new.reads in
+    let now : Moment = moment (content c.loop-progress.answering.out.now) c.loop-progress.progress.lines
+    c.loop-progress.answering.hashes.now c.loop-progress.answering.reads.now in
+    let new : Moment = moment (content c.take_piece.new.answering.out.now) c.take_piece.new.progress.lines
+    c.take_piece.new.answering.hashes.now
+    c.take_piece.new.answering.reads.now in
     let bytes = c.split_at.result.0.now in
     let some : c.in_ok-count.count ≢ 0 = c.if-count-eq0.false in
     let within = c.in_ok-count.ensures.within in
@@ -112,10 +119,12 @@ loop-progress-preserved g c =
     let b = c.args.image.now in
     let rest = g.I.Source.rest in
     let content = g.O.Sink.content in
-    let old : Moment = moment (content c.args.out.now) 0 c.args.hashes.now c.args.reads.now in
-    let now : Moment = moment (content c.loop-progress.out) c.loop-progress.progress.lines c.loop-progress.hashes c.loop-progress.reads in
-    let new : Moment = moment (content c.take_piece.new.out) c.take_piece.new.progress.lines c.take_piece.new.hashes
-    c.take_piece.new.reads in
+    let old : Moment = moment (content c.args.answering.now.out.now) 0 c.args.answering.now.hashes.now c.args.answering.now.reads.now in
+    let now : Moment = moment (content c.loop-progress.answering.out.now) c.loop-progress.progress.lines
+    c.loop-progress.answering.hashes.now c.loop-progress.answering.reads.now in
+    let new : Moment = moment (content c.take_piece.new.answering.out.now) c.take_piece.new.progress.lines
+    c.take_piece.new.answering.hashes.now
+    c.take_piece.new.answering.reads.now in
     let before = c.loop-progress.invariant in
     let given = before.arrives.given in
     let part = c.loop-progress.progress.part.items in
@@ -129,6 +138,11 @@ loop-progress-preserved g c =
     let hashes = c.take_piece.ensures.hashes in
     let hashes_before = before.hashes in
     record {
+      same = (
+        c.take_piece.ensures.same.0 ∙ before.same.0,
+        c.take_piece.ensures.same.1 ∙ before.same.1,
+        c.take_piece.ensures.same.2 ∙ before.same.2,
+      );
       metered = c.take_piece.ensures.reads.bytes ∙ before.metered;
       piece = written_length c.take.new.into _ c.loop-progress.piece.len (c.take.ensures.length ∙ c.as_mut_slice.ensures.len)
           ∙ c.take.ensures.length ∙ ap length c.as_mut_slice.ensures.value ∙ before.piece;
@@ -142,7 +156,8 @@ loop-progress-preserved g c =
       input_faults = c.in_ok-count.ensures.faults.kept refl ∙ before.input_faults;
       out_faults = c.in_ok-take_piece.ensures.faults.kept refl ∙ before.out_faults;
       hashes = omega arith;
-      reads = later_then c.args.reads.now c.loop-progress.reads c.take_piece.new.reads before.reads c.take_piece.ensures.reads;
+      reads = later_then c.args.answering.now.reads.now c.loop-progress.answering.reads.now c.take_piece.new.answering.reads.now
+          before.reads c.take_piece.ensures.reads;
     }
 
 pub returns-in_err-take_piece-clause-err : goal.returns-in_err-take_piece-clause-err
@@ -150,13 +165,14 @@ returns-in_err-take_piece-clause-err g c =
     let b = c.args.image.now in
     let rest = g.I.Source.rest in
     let content = g.O.Sink.content in
-    let old : Moment = moment (content c.args.out.now) 0 c.args.hashes.now c.args.reads.now in
-    let now : Moment = moment (content c.loop-progress.out) c.loop-progress.progress.lines c.loop-progress.hashes c.loop-progress.reads in
+    let old : Moment = moment (content c.args.answering.now.out.now) 0 c.args.answering.now.hashes.now c.args.answering.now.reads.now in
+    let now : Moment = moment (content c.loop-progress.answering.out.now) c.loop-progress.progress.lines
+    c.loop-progress.answering.hashes.now c.loop-progress.answering.reads.now in
     let before = c.loop-progress.invariant in
     let given = before.arrives.given in
     let part = c.loop-progress.progress.part.items in
     let bytes = c.split_at.result.0.now in
-    let put = content c.take_piece.new.out in
+    let put = content c.take_piece.new.answering.out.now in
     let moved : Told (rest c.loop-progress.input) (rest c.take.new.input) (λ o n. o ≡ bytes ++ n) =
     subst (λ (t : List ℕ). Told (rest c.loop-progress.input) (rest c.take.new.input) (λ o n. o ≡ t ++ n))
     (sym (c.split_at.ensures.front ∙ ap (take c.in_ok-count.count) (written c.as_slice.result.now c.take.new.into _
@@ -179,9 +195,10 @@ returns-in_err-take_piece-clause-err g c =
     (c.take.ensures.length ∙ c.as_mut_slice.ensures.len) c.as_slice.ensures.value)) in
     let len = length-take c.in_ok-count.count c.take.new.into in
     let most : length breaks.behind ≤ 8192 + 65536 = omega arith in
-    err_with (λ e. Serves b (Err e) (rest c.args.input.now) (rest c.take.new.input) (content c.args.out.now) put c.args.reads.now
-    c.take_piece.new.reads) c.from_residual-in_err-take_piece.result error c.from_residual-in_err-take_piece.ensures.1
-    (serves_broken error b (rest c.args.input.now) (rest c.take.new.input) (given ++ bytes) old put c.args.reads.now
-    c.take_piece.new.reads refl told
+    err_with (λ e. Serves b (Err e) (rest c.args.input.now) (rest c.take.new.input) (content c.args.answering.now.out.now) put
+    c.args.answering.now.reads.now
+    c.take_piece.new.answering.reads.now) c.from_residual-in_err-take_piece.result error c.from_residual-in_err-take_piece.ensures.1
+    (serves_broken error b (rest c.args.input.now) (rest c.take.new.input) (given ++ bytes) old put c.args.answering.now.reads.now
+    c.take_piece.new.answering.reads.now refl told
     (breaks_then error b (given ++ bytes) old (part ++ bytes) now put (passes_more b given old part now bytes before.arrives.passes)
     breaks) most)

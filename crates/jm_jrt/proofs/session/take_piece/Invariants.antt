@@ -7,13 +7,17 @@ abbrev pub invariant-loop-bytes : goal.invariant-loop-bytes
 invariant-loop-bytes g l =
     let content = g.O.Sink.content in
     record {
-      metered : l.reads.bytes ≡ l.image;
+      same : (l.answering.out.ghost_name ≡ l.fn.answering.out.ghost_name) × (l.answering.hashes.ghost_name
+          ≡ l.fn.answering.hashes.ghost_name) × (l.answering.reads.ghost_name ≡ l.fn.answering.reads.ghost_name);
+      metered : l.answering.reads.now.bytes ≡ l.image;
       goes_on : IsOpen l.progress.lines l.progress.part.items;
-      passes : Passes l.image (l.fn.progress.part.items ++ l.piece) (moment (content l.fn.out) l.fn.progress.lines l.fn.hashes
-          l.fn.reads) (l.progress.part.items ++ l.rest) (moment (content l.out) l.progress.lines l.hashes l.reads);
-      faults : g.O.Sink.faults l.out ≡ g.O.Sink.faults l.fn.out;
-      hashes : l.fn.hashes ≤ l.hashes;
-      reads : IsLater l.fn.reads l.reads;
+      passes : Passes l.image (l.fn.progress.part.items ++ l.piece) (moment (content l.fn.answering.out.now) l.fn.progress.lines
+          l.fn.answering.hashes.now
+          l.fn.answering.reads.now) (l.progress.part.items ++ l.rest) (moment (content l.answering.out.now) l.progress.lines
+          l.answering.hashes.now l.answering.reads.now);
+      faults : g.O.Sink.faults l.answering.out.now ≡ g.O.Sink.faults l.fn.answering.out.now;
+      hashes : l.fn.answering.hashes.now ≤ l.answering.hashes.now;
+      reads : IsLater l.fn.answering.reads.now l.answering.reads.now;
     }
 
 abbrev pub decreases-loop-bytes : goal.decreases-loop-bytes

@@ -1,7 +1,6 @@
 use Rattle.std.proofs.Common.{◌<◌, All, length, refl, sym, ap, subst, ◌∙◌}
-use Rattle.std.proofs.lemmas.List.Elements.{All-head}
 use Rattle.jm_plugins.specs.Steps.{put_remade}
-use Rattle.jm_plugins.proofs.ClassLaws.{put_more, put_refused, put_none, within_more}
+use Rattle.jm_plugins.proofs.ClassLaws.{first_within, put_more, put_refused, put_none, within_more}
 use Rattle.jm_plugins.proofs.classes.put_remade.Goals as goal
 
 pub loop-place-init : goal.loop-place-init
@@ -11,9 +10,8 @@ loop-place-init c =
 
 pub replace-requires : goal.replace-requires
 replace-requires c =
-    let pool = c.loop-place.pool in
-    let within = subst (All (λ one. one.place < length pool)) c.in-Some.ensures.steps.0 c.loop-place.invariant.1 in
-    All-head (λ one. one.place < length pool) c.in-Some.field-0 c.next.new.self.rest.items within
+    first_within c.in-Some.field-0 c.next.new.self.rest.items c.loop-place.place-iterator.rest.items c.loop-place.pool
+    c.in-Some.ensures.steps.0 c.loop-place.invariant.1
 
 pub loop-place-preserved : goal.loop-place-preserved
 loop-place-preserved c =
@@ -28,9 +26,8 @@ loop-place-preserved c =
 
 pub refusal-requires : goal.refusal-requires
 refusal-requires c =
-    let pool = c.loop-place.pool in
-    let within = subst (All (λ one. one.place < length pool)) c.in-Some.ensures.steps.0 c.loop-place.invariant.1 in
-    All-head (λ one. one.place < length pool) c.in-Some.field-0 c.next.new.self.rest.items within
+    first_within c.in-Some.field-0 c.next.new.self.rest.items c.loop-place.place-iterator.rest.items c.loop-place.pool
+    c.in-Some.ensures.steps.0 c.loop-place.invariant.1
 
 pub returns-in-Err : goal.returns-in-Err
 returns-in-Err c =

@@ -1,18 +1,32 @@
-use Rattle.std.proofs.Common.{map, ap, ◌∙◌}
+use Rattle.std.proofs.Common.{map, ap, ◌∙◌, rules, of_calls}
 use Rattle.std.proofs.lemmas.Result.{IfOk-weaker}
+use Rattle.std.specs.List.{range_with_len}
 use Rattle.jm_pool.specs.Pairs.{items_at}
-use Rattle.jm_plugins.proofs.TurnLaws.{in_order, all_in_order}
+use Rattle.jm_plugins.proofs.Beside.{below_count, each_told}
+use Rattle.jm_plugins.proofs.TurnLaws.{IsTurnAt, all_in_order, in_order, turns_are}
 use Rattle.jm_plugins.proofs.order.order.Goals as goal
+
+pub map_halves-requires-clause-callable : goal.map_halves-requires-clause-callable
+map_halves-requires-clause-callable g c κs within x there lives ptr same room unit fits kept =
+    below_count _ _ x.now (c.as_slice.ensures ∙ c.in_ok-places.ensures ∙ ap (range_with_len 0) c.len.ensures.len) there
 
 pub reorder-requires : goal.reorder-requires
 reorder-requires g c =
-    let places = c.as_slice-2.ensures ∙ c.in_ok-places.ensures ∙ ap (map (λ turn. turn.place)) c.as_slice.ensures.value in
-    rw places (all_in_order c.args.patterns.now c.args.pool c.in_ok-turns.turns c.in_ok-sorted.sorted.items c.in_ok-turns.ensures
-    c.in_ok-sorted.ensures)
+    let patterns = c.args.patterns.now in
+    let places = c.as_slice.ensures ∙ c.in_ok-places.ensures ∙ ap (range_with_len 0) c.len.ensures.len in
+    let turns = each_told _ _ (IsTurnAt patterns c.args.pool) c.as_slice.result.now _ c.in_ok-turns.turns places
+    (λ x b says. search (rules, of_calls)) c.in_ok-turns.ensures in
+    let order = c.as_slice-3.ensures ∙ c.in_ok-order.ensures ∙ ap (map (λ turn. turn.place)) c.as_slice-2.ensures.value in
+    rw order (all_in_order patterns c.args.pool c.in_ok-turns.turns c.in_ok-sorted.sorted.items
+    (turns_are patterns c.args.pool c.in_ok-turns.turns turns) c.in_ok-sorted.ensures)
 
 pub returns : goal.returns
 returns g c =
-    let places = c.as_slice-2.ensures ∙ c.in_ok-places.ensures ∙ ap (map (λ turn. turn.place)) c.as_slice.ensures.value in
-    let whole = ap (λ ks. items_at ks c.args.pool) places ∙ in_order c.args.patterns.now c.args.pool c.in_ok-turns.turns
-    c.in_ok-sorted.sorted.items c.in_ok-turns.ensures c.in_ok-sorted.ensures in
+    let patterns = c.args.patterns.now in
+    let places = c.as_slice.ensures ∙ c.in_ok-places.ensures ∙ ap (range_with_len 0) c.len.ensures.len in
+    let turns = each_told _ _ (IsTurnAt patterns c.args.pool) c.as_slice.result.now _ c.in_ok-turns.turns places
+    (λ x b says. search (rules, of_calls)) c.in_ok-turns.ensures in
+    let order = c.as_slice-3.ensures ∙ c.in_ok-order.ensures ∙ ap (map (λ turn. turn.place)) c.as_slice-2.ensures.value in
+    let whole = ap (λ ks. items_at ks c.args.pool) order ∙ in_order patterns c.args.pool c.in_ok-turns.turns
+    c.in_ok-sorted.sorted.items (turns_are patterns c.args.pool c.in_ok-turns.turns turns) c.in_ok-sorted.ensures in
     IfOk-weaker c.reorder.result _ _ (λ left is. is ∙ whole) c.reorder.ensures

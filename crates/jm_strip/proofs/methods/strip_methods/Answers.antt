@@ -3,7 +3,7 @@ use Rattle.jm_class.specs.declared.class.ClassFault.TheVariants.{Short}
 use Rattle.jm_class.specs.Classes.{member_text}
 use Rattle.jm_class.specs.ComputedClass.{member_field}
 use Rattle.jm_strip.specs.Strip.{strip_method}
-use Rattle.jm_strip.proofs.PutLists.{put-next, put-stop, put-end, list-put, list-stopped}
+use Rattle.jm_strip.proofs.PutLists.{put-next, list-put, list-stopped}
 use Rattle.jm_strip.proofs.Shown.{walk_stop}
 use Rattle.jm_strip.proofs.methods.strip_methods.Goals as goal
 
@@ -12,11 +12,9 @@ returns-in_err-strip_method c =
     let pool = c.args.pool.now in
     walk_stop _ _ _ c.in_err-strip_method.field-0.0 c.from_residual-in_err-strip_method.result c.strip_method.new.cursor
     c.strip_method.new.cursor c.from_residual-in_err-strip_method.ensures.1 c.in_err-strip_method.ensures
-    (λ fault stops.
-    list-stopped Short (member_field pool true) member_text (strip_method pool) c.args.cursor.now c.number16.new.cursor
-    c.in_ok-count.count c.in_ok-count.ensures c.args.text.now.items c.put16.new.text.items c.in_ok-put16.ensures fault
-    (c.loop-k.invariant ∙ put-stop (member_field pool true) (λ a. member_text (strip_method pool a)) c.in_ok-count.count c.loop-k._k
-    c.loop-k.cursor c.loop-k.text.items fault c.loop-k-test.true stops))
+    (list-stopped Short (member_field pool true) member_text (strip_method pool) c.args.cursor.now c.number16.new.cursor
+    c.in_ok-count.count c.in_ok-count.ensures c.args.text.now.items c.put16.new.text.items c.in_ok-put16.ensures
+    c.loop-k._k c.loop-k.cursor c.loop-k.text.items c.loop-k-test.true c.loop-k.invariant)
 
 pub loop-k-preserved : goal.loop-k-preserved
 loop-k-preserved c =
@@ -31,6 +29,4 @@ returns c =
     let ends = c.loop-k-test.false in
     list-put Short (member_field pool true) member_text (strip_method pool) c.args.cursor.now c.number16.new.cursor
     c.in_ok-count.count c.in_ok-count.ensures c.args.text.now.items c.put16.new.text.items c.in_ok-put16.ensures
-    c.loop-k.text.items c.loop-k.cursor
-    (c.loop-k.invariant ∙ put-end (member_field pool true) (λ a. member_text (strip_method pool a)) c.in_ok-count.count c.loop-k._k
-    c.loop-k.cursor c.loop-k.text.items (omega (arith, ends)))
+    c.loop-k._k c.loop-k.cursor c.loop-k.text.items (omega (arith, ends)) c.loop-k.invariant

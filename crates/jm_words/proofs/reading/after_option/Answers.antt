@@ -6,5 +6,5 @@ use Rattle.jm_words.proofs.reading.after_option.Goals as goal
 pub returns-then-stands_again : goal.returns-then-stands_again
 returns-then-stands_again c =
     let again : stands_again c.args.progress.before (Some c.args.choice) ≡ true = search rules in
-    rw c.fault_at.ensures (sym (repeated_read c.args.at c.args.all c.args.progress c.args.choice
+    rw c.fault_at.ensures (sym (repeated_read c.args.position.at c.args.position.last c.args.progress c.args.choice
     (option_map (λ text. text.now) c.args.value) again))

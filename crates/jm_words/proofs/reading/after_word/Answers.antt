@@ -11,7 +11,7 @@ pub returns-then-not-starts_with : goal.returns-then-not-starts_with
 returns-then-not-starts_with c =
     let none : c.args.progress.pending ≡ None = search rules in
     let plain : has_hyphens c.args.word.now ≡ false = sym c.starts_with.ensures.value ∙ c.if-not-starts_with.true in
-    let read : IfAnswered {A = Standing} (λ r. r ≡ after_argument c.args.at c.args.word.now c.args.progress.left
+    let read : IfAnswered {A = Standing} (λ r. r ≡ after_argument c.args.position.at c.args.word.now c.args.progress.left
     c.args.progress) c.after_argument.result = search rules in
     subst (λ (due : Result Standing WordsFault). IfAnswered {A = Standing} (λ r. r ≡ due) c.after_argument.result)
-    (sym (argument_here c.args.at c.args.all c.args.choices.now c.args.word.now c.args.progress none plain)) read
+    (sym (argument_here c.args.position.at c.args.position.last c.args.choices.now c.args.word.now c.args.progress none plain)) read

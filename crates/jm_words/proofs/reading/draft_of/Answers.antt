@@ -6,12 +6,12 @@ use Rattle.jm_words.proofs.reading.draft_of.Goals as goal
 pub returns-in_err-progress : goal.returns-in_err-progress
 returns-in_err-progress c =
     rw (passed_on c.from_residual.result c.in_err-progress.field-0.0 c.from_residual.ensures.1) (reading_stops string_bytes
-    c.args.verb c.args.words.now c.loop-i.i c.index-words-i.result c.as_bytes-word.result.now c.loop-i.progress
+    c.args.verb c.args.words.now c.loop-i.i c.index-words-i.result c.as_bytes.result.now c.loop-i.progress
     c.options-choices.result.now (length c.args.words.now + 1) c.loop-i-test.true c.index-words-i.is
-    c.as_bytes-word.ensures.value c.options-choices.ensures c.loop-i.invariant c.in_err-progress.field-0.0 c.in_err-progress.ensures)
+    c.as_bytes.ensures.value c.options-choices.ensures c.loop-i.invariant c.in_err-progress.field-0.0 c.in_err-progress.ensures)
 
 pub loop-i-preserved : goal.loop-i-preserved
 loop-i-preserved c =
-    reading_goes string_bytes c.args.verb c.args.words.now c.loop-i.i c.index-words-i.result c.as_bytes-word.result.now
+    reading_goes string_bytes c.args.verb c.args.words.now c.loop-i.i c.index-words-i.result c.as_bytes.result.now
     c.loop-i.progress c.options-choices.result.now (length c.args.words.now + 1) c.loop-i-test.true c.index-words-i.is
-    c.as_bytes-word.ensures.value c.options-choices.ensures c.loop-i.invariant c.in_ok-progress.progress c.in_ok-progress.ensures
+    c.as_bytes.ensures.value c.options-choices.ensures c.loop-i.invariant c.in_ok-progress.progress c.in_ok-progress.ensures

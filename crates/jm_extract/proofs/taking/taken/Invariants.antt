@@ -4,7 +4,7 @@ use Rattle.jm_reader.specs.Listing.{entry_listed}
 use Rattle.jm_reader.specs.Look.{SoundIn}
 use Rattle.jm_reader.specs.Walk.{entries_of, IsLater}
 use Rattle.jm_extract.specs.Taken.{taken_among, taken_as}
-use Rattle.jm_extract.proofs.taking.taken_by_slot.Given as goal
+use Rattle.jm_extract.proofs.taking.taken.Given as goal
 
 abbrev pub invariant-loop-entry : goal.invariant-loop-entry
 invariant-loop-entry g l = record {
@@ -12,9 +12,9 @@ invariant-loop-entry g l = record {
   length : l.entries.length ≡ l.index.length;
   metered : l.reads.bytes ≡ l.index.bytes;
   reads : IsLater l.fn.reads l.reads;
-  taken : (b : List ℕ) → IsFileOf l.index.bytes l.index.length b → taken_among l.include (entries_of b) ≡ map (taken_as b) l.taken
+  taken : (b : List ℕ) → IsFileOf l.index.bytes l.index.length b → taken_among l.include (entries_of b) ≡ map (taken_as b) l.by_slot
       ++ taken_among l.include (map (entry_listed b) l.entries.rest);
-  sound : All (λ t. SoundIn l.index t.row) l.taken;
+  sound : All (λ t. SoundIn l.index t.row) l.by_slot;
 }
 
 abbrev pub decreases-loop-entry : goal.decreases-loop-entry

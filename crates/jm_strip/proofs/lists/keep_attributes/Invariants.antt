@@ -6,12 +6,12 @@ use Rattle.jm_class.specs.Views.{fault_at}
 use Rattle.jm_strip.specs.Strip.{stays}
 use Rattle.jm_strip.specs.Walks.{shown, filtered}
 use Rattle.jm_strip.proofs.Kept.{with_kept}
-use Rattle.jm_strip.proofs.lists.keep_each.Given as goal
+use Rattle.jm_strip.proofs.lists.keep_attributes.Given as goal
 
 abbrev pub invariant-loop-k : goal.invariant-loop-k
 invariant-loop-k l =
     (l.kept ≤ l._k)
-    × (shown (filtered opaque_text (λ a. stays l.in_code l.pool a.name) l.fn.text.items)
-    (counted l.fn.count (opaque_field (fault_at l.missing) l.pool) l.fn.cursor)
+    × (shown (filtered opaque_text (λ a. stays l.in_code l.pool a.name) l.initial.text.items)
+    (counted l.count (opaque_field (fault_at l.missing) l.pool) l.initial.cursor)
     ≡ shown (with_kept opaque_text (λ a. stays l.in_code l.pool a.name) (l.text.items, l.kept))
     (counted (l.count - l._k) (opaque_field (fault_at l.missing) l.pool) l.cursor))

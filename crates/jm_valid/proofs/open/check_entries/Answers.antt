@@ -9,7 +9,7 @@ use Rattle.jm_form.specs.Entries.{Entry, entries}
 use Rattle.jm_form.specs.Overlap.{ranges_of}
 use Rattle.jm_form.proofs.OverlapLaws.{first_overlap-bytes}
 use Rattle.jm_valid.proofs.EntryRows.{ranges_rise, ranges_some}
-use Rattle.jm_valid.proofs.open.entries_damage.Goals as goal
+use Rattle.jm_valid.proofs.open.check_entries.Goals as goal
 
 abbrev overlap_damage : Option (ℕ × ℕ) → Option Damage
 overlap_damage o = option_map (λ o. damage.Overlap o.0 o.1) o
@@ -32,9 +32,18 @@ first_overlap-requires-clause-some c =
     rw (c.as_mut_slice.ensures.value ∙ c.requires.ranges)
     (ranges_some (ranges_of (entries c.args.sections.now.bytes.now c.args.sections.now.header)))
 
-pub returns : goal.returns
-returns c =
+pub returns-in-Some-clause-damaged : goal.returns-in-Some-clause-damaged
+returns-in-Some-clause-damaged c =
     let es = entries c.args.sections.now.bytes.now c.args.sections.now.header in
     let listed = c.as_mut_slice.ensures.value ∙ c.requires.ranges in
-    c.first_overlap.ensures ∙ ap overlap_damage (ap first_overlap listed ∙ first_overlap-bytes (ranges_of es))
-    ∙ sym (entries_overlap c.args.sections.now.header.count es (c.if-stated-found.false ∙ c.requires.count))
+    entries_overlap c.args.sections.now.header.count es (c.if-stated-found.false ∙ c.requires.count)
+    ∙ ap overlap_damage (sym (ap first_overlap listed ∙ first_overlap-bytes (ranges_of es))) ∙ sym c.first_overlap.ensures
+    ∙ c.in-Some.is
+
+pub returns-clause-sound : goal.returns-clause-sound
+returns-clause-sound c =
+    let es = entries c.args.sections.now.bytes.now c.args.sections.now.header in
+    let listed = c.as_mut_slice.ensures.value ∙ c.requires.ranges in
+    entries_overlap c.args.sections.now.header.count es (c.if-stated-found.false ∙ c.requires.count)
+    ∙ ap overlap_damage (sym (ap first_overlap listed ∙ first_overlap-bytes (ranges_of es))) ∙ sym c.first_overlap.ensures
+    ∙ c.in-None.is
