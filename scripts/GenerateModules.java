@@ -10,7 +10,7 @@ import java.util.stream.Stream;
 
 /**
  * Makes the files that `jm_tool gen` makes of the same numbers, by a program of its own: `GenerateModules MODULES
- * CLASSES SEED [PLUGINS]` prints how many they are and the sum over them that the tests in jm_upper_tests take: of the
+ * CLASSES SEED [PLUGINS]` prints how many they are and the sum over them that jm_call_cases takes: of the
  * bytes of each path below `x` and of each file, by rising path. With the plug-ins `strip,compact` or `compact,strip`
  * they are as these leave them in this order. A FOLDER behind PLUGINS, which may be empty, has the files put there in
  * place of the sum, and `GenerateModules FOLDER` prints the sum over the files that are there.

@@ -11,8 +11,8 @@ import java.util.regex.Matcher;
 import java.util.regex.Pattern;
 
 /**
- * Computes the answers of the tables of small graphs in the tests, plainly and slowly:
- * `java scripts/SlowClosure.java crates/jm_lower_tests/src/closures.rt crates/jm_upper_tests/src/services.rt`.
+ * Computes the answers to the lines `close` of jm_call_cases, plainly and slowly: `java scripts/SlowClosure.java
+ * crates/jm_call_cases`.
  *
  * A module is reached where a list of modules leads to it from a root, each requiring the next without `static`: all
  * such lists are gone through. A module is bound where it is in every closed set: all sets of modules are gone
@@ -22,36 +22,29 @@ public class SlowClosure {
   record Module(
       String name, Set<String> needs, Set<String> uses, Set<String> provides, Set<String> packages) {}
 
-  public static void main(String[] files) throws IOException {
-    boolean same = true;
-    for (String file : files) {
-      same &= judge(file);
-    }
-    System.exit(same ? 0 : 1);
-  }
-
-  private static boolean judge(String file) throws IOException {
-    String text = Files.readString(Path.of(file));
-    String string = "\"([^\"]*)\"";
-    String strings = String.join(",\\s*", string, string, string, string);
-    Matcher row = Pattern.compile("\\(\\s*" + strings + ",?\\s*\\)").matcher(text);
+  public static void main(String[] words) throws IOException {
+    List<String> answers = Files.readAllLines(Path.of(words[0], "stdout"));
+    Pattern form = Pattern.compile("(close [^:]*: )\"([^\"]*)\" \"([^\"]*)\"");
     int rows = 0;
     int good = 0;
-    while (row.find()) {
-      rows++;
-      boolean binds = row.group(4).contains("|");
-      String answer = answer(row.group(2), row.group(3), binds);
-      if (answer.equals(row.group(4))) {
-        good++;
-      } else {
-        System.out.println(row.group(1) + ": " + row.group(2) + " from " + row.group(3) + ": " + answer);
+    for (String line : Files.readAllLines(Path.of(words[0], "stdin"))) {
+      Matcher row = form.matcher(line);
+      if (row.matches()) {
+        rows++;
+        String due = row.group(1) + answer(row.group(3), row.group(2));
+        if (answers.contains(due)) {
+          good++;
+        } else {
+          System.out.println("due is " + due);
+        }
       }
     }
-    System.out.println(file + ": " + good + " of " + rows + " graphs");
-    return rows > 0 && good == rows;
+    System.out.println("SlowClosure: " + good + " of " + rows + " graphs");
+    System.exit(rows > 0 && good == rows ? 0 : 1);
   }
 
-  private static String answer(String lines, String words, boolean binds) {
+  /** What `bind` answers, and behind a bar what `close` does. */
+  private static String answer(String lines, String words) {
     List<Module> found = new ArrayList<>();
     Set<String> names = new HashSet<>();
     for (String line : lines.split(",")) {
@@ -62,8 +55,7 @@ public class SlowClosure {
       found.add(module);
     }
     Set<String> roots = new TreeSet<>(List.of(words.split(" ")));
-    String closed = judged(found, roots, reached(found, roots));
-    return binds ? judged(found, roots, bound(found, roots)) + " | " + closed : closed;
+    return judged(found, roots, bound(found, roots)) + " | " + judged(found, roots, reached(found, roots));
   }
 
   private static Module module(String line) {

@@ -1,11 +1,9 @@
 //! A case: a shelf, the input of a session, and the calls that fail.
 
-use crate::escapes::put_bytes;
-use crate::known::Known;
-use crate::words::words_of;
 use jm_bytes::{List, Text};
 use jm_commands::run;
 use jm_halves::NoGate;
+use jm_lines::{Known, put_bytes, words_of};
 use jm_outside::{MemShelf, MemSink, MemSource};
 use std::alloc::{AllocError, Global};
 use std::thread::Threads;

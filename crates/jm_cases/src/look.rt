@@ -1,10 +1,8 @@
 //! Looks at files.
 
 use crate::case::Case;
-use crate::escapes::put_bytes;
-use crate::known::Known;
-use crate::words::first_word;
 use jm_bytes::List;
+use jm_lines::{Known, first_word, put_bytes};
 use jm_outside::Shelf;
 use std::alloc::{AllocError, Global};
 

@@ -4,15 +4,12 @@
 #![tactic(auto)]
 
 mod case;
-mod escapes;
-mod known;
 mod look;
 mod prepare;
 mod steps;
-mod words;
 
 use case::Case;
-use known::Known;
+use jm_lines::Known;
 use std::io::{self, BufRead, BufReader};
 use steps::step;
 

@@ -1,8 +1,7 @@
 //! The steps that print nothing. Each says whether its line was one.
 
 use crate::case::{Case, numbers_from};
-use crate::known::Known;
-use crate::words::first_word;
+use jm_lines::{Known, first_word};
 use std::alloc::{AllocError, Global};
 
 /// `bytes NAME VALUE`: names bytes; a further line of that name goes on with them.

@@ -1,10 +1,9 @@
 //! What a line of the input does.
 
 use crate::case::{Case, run_line};
-use crate::known::Known;
 use crate::look::{files, part, show, size};
 use crate::prepare::prepare;
-use crate::words::first_word;
+use jm_lines::{Known, first_word};
 use std::alloc::{AllocError, Global};
 use std::thread::Threads;
 

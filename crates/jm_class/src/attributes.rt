@@ -1,11 +1,10 @@
 ghost use Rattle.std.specs.Prelude.{◌≡◌, ◌*◌, map};
-ghost use Rattle.std.specs.Int.{w16};
 ghost use Rattle.jm_class.specs.Classes.{utf8_at, is_code_name};
-ghost use Rattle.jm_class.specs.ComputedClass.{name_field, opaque_field, rows_field, code_fields};
-ghost use Rattle.jm_class.specs.ComputedClass.{code_field, held_field, attribute_field};
-ghost use Rattle.jm_class.specs.Readings.{number, part, list_of};
+ghost use Rattle.jm_class.specs.ComputedClass.{name_field, opaque_field, code_fields};
+ghost use Rattle.jm_class.specs.ComputedClass.{code_field, attribute_field};
+ghost use Rattle.jm_class.specs.Readings.{part, list_of};
 ghost use Rattle.jm_class.specs.declared.class.ClassFault.TheVariants.{Short};
-ghost use Rattle.jm_class.specs.Views.{Gives, fault_at, pool_of, opaque_of, code_of, body_of};
+ghost use Rattle.jm_class.specs.Views.{Gives, fault_at, pool_of, opaque_of, code_of};
 ghost use Rattle.jm_class.specs.Views.{attribute_of};
 
 use crate::class::{Attribute, Body, ClassFault, Code, Plain, Slot};

@@ -1,7 +1,7 @@
 ghost use Rattle.std.specs.Prelude.{◌≡◌, false, option_map};
-ghost use Rattle.jm_class.specs.Classes.{body_size, is_tag, is_wide, utf8_at, is_code_name};
-ghost use Rattle.jm_class.specs.ComputedClass.{tag_field, body_field, constant, slot_field, slots};
-ghost use Rattle.jm_class.specs.ComputedClass.{pool_field, is_wide_slot, text_field};
+ghost use Rattle.jm_class.specs.Classes.{body_size, is_wide, utf8_at};
+ghost use Rattle.jm_class.specs.ComputedClass.{tag_field, body_field, slot_field, slots};
+ghost use Rattle.jm_class.specs.ComputedClass.{pool_field, is_wide_slot};
 ghost use Rattle.jm_class.specs.Views.{Gives, slot_of, pool_of};
 
 use crate::class::{ClassFault, Slot};

@@ -22,7 +22,7 @@ impl<'a> Model for Cursor<'a> {
 }
 
 impl<'a> Cursor<'a> {
-    ghost use Rattle.jm_class.specs.Readings.{Takes, TakesNumber, behind};
+    ghost use Rattle.jm_class.specs.Readings.{Takes, TakesNumber};
 
     /// A cursor at the front of some bytes.
     pub fn new(bytes: &'a [u8]) -> Cursor<'a>

@@ -3,7 +3,7 @@ ghost use Rattle.jm_bytes.specs.declared.faults.Or.TheVariants.{Fault};
 ghost use Rattle.jm_class.specs.ClassFaults.{HasClassFault, HasNoClassFault};
 ghost use Rattle.jm_class.specs.Classes.{ClassData, ReadsAs, utf8_at};
 ghost use Rattle.jm_class.specs.ComputedClass.{magic_field, major_field, class_fields, class_fault};
-ghost use Rattle.jm_class.specs.Views.{Gives, ReadsClass, plain};
+ghost use Rattle.jm_class.specs.Views.{Gives, plain};
 
 use crate::attributes::attributes;
 use crate::class::{Class, ClassFault};

@@ -15,7 +15,6 @@
 #![tactic(auto)]
 
 mod described;
-mod digits;
 mod parts;
 mod texts;
 mod told;

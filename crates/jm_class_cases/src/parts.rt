@@ -1,9 +1,9 @@
 //! The parts of a class.
 
-use crate::digits::put_digits;
 use crate::texts::{put_error, put_stored};
 use jm_class::{Attribute, Body, Class, Member, read, utf8};
 use jm_classout::{size, write};
+use jm_lines::put_digits;
 use std::alloc::{AllocError, Global};
 
 /// Puts an attribute, if it is a Code.

@@ -1,8 +1,8 @@
 //! Stored texts and faults as text.
 
-use crate::digits::put_digits;
 use jm_bytes::Or;
 use jm_class::ClassFault;
+use jm_lines::put_digits;
 use std::alloc::AllocError;
 
 /// Puts a stored text, in digits where it isn't UTF-8.

@@ -1,12 +1,12 @@
 //! What a line comes to.
 
 use crate::described::put_described;
-use crate::digits::{bytes_of, put_digits};
 use crate::parts::put_read;
 use crate::texts::put_error;
 use jm_bytes::{List, NoMemory, Or, Text};
 use jm_class::ClassFault;
 use jm_compact::compact;
+use jm_lines::{Spelling, bytes_of, first_word, put_digits};
 use jm_packages::add_packages;
 use jm_strip::strip;
 use std::alloc::{AllocError, Global};
@@ -84,8 +84,8 @@ fn put_answer(
 /// What a line `VERB NAME: HEX` comes to; any other line is told as it stands.
 pub fn told_of(alloc: Global, line: &str) -> Result<String, AllocError> {
     let (head, digits) = line.split_once(": ").unwrap_or((line, ""));
-    let (verb, _) = head.split_once(' ').unwrap_or((head, ""));
-    let Some(bytes) = bytes_of(alloc, digits)? else {
+    let (verb, _) = first_word(head);
+    let Some(bytes) = bytes_of(alloc, Spelling::Digits, digits)? else {
         return format!(in alloc; "no bytes: {line}\n");
     };
     let mut told = format!(in alloc; "{head}: ")?;

@@ -1,5 +1,5 @@
 //! Nodes that lead to themselves, in time linear in the nodes and edges.
-ghost use Rattle.std.specs.Prelude.{◌≡◌, ◌<◌, ◌↔◌, All, length, vec_len, IfOk, IsTrue, OnOk};
+ghost use Rattle.std.specs.Prelude.{◌≡◌, ◌<◌, ◌↔◌, All, length, IfOk, IsTrue, OnOk};
 ghost use Rattle.std.specs.Bool.{OnFalse};
 ghost use Rattle.jm_closure.specs.Cycles.{IsFirstOf, LeavesRound, Turns};
 ghost use Rattle.jm_closure.specs.Graphs.{EndsWithin, IsMarked, IsReversed, OnCycle, RoundsRise};

@@ -1,5 +1,5 @@
 //! The order in which a walk through a graph, depth first, leaves its nodes.
-ghost use Rattle.std.specs.Prelude.{◌≡◌, ◌<◌, length, vec_len};
+ghost use Rattle.std.specs.Prelude.{◌<◌};
 
 use crate::graph::Graph;
 use jm_bytes::NoMemory;

@@ -1,4 +1,3 @@
-ghost use Rattle.std.specs.Prelude.{◌≡◌};
 ghost use Rattle.jm_commands.specs.Outcome.{done};
 ghost use Rattle.jm_commands.specs.Run.{PutDoes};
 ghost use Rattle.jm_commands.specs.World.{sink_at};

@@ -1,4 +1,4 @@
-ghost use Rattle.std.specs.Prelude.{◌≡◌, ◌<◌, List};
+ghost use Rattle.std.specs.Prelude.{◌<◌, List};
 ghost use Rattle.std.specs.Prelude.{map, string_bytes};
 ghost use Rattle.jm_words.specs.Paths.{FilePathsAreText, NumbersFit};
 ghost use Rattle.jm_words.specs.Rule.{Says};
@@ -52,8 +52,8 @@ fn end<E: Sink>(alloc: Global, done: Result<(), Stop>, err: &mut E) -> Status
     }
 }
 
-/// Does what a command is to do. Of the works on an image `extract` and `serve` take the whole file,
-/// the others its index.
+/// Does what a command is to do. Of the works on an image `extract` and `serve` take the whole
+/// file, the others its index.
 fn do_command<T: Threads + Sync, S: Shelf, I: Source, O: Sink, G: Gate + Sync>(
     workers: &Workers<T, G>,
     task: &Task,

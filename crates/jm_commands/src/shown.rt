@@ -1,5 +1,5 @@
 //! The commands that put what the index of an image says.
-ghost use Rattle.std.specs.Prelude.{◌≡◌, ◌<◌, ℕ, List, IsUtf8};
+ghost use Rattle.std.specs.Prelude.{◌<◌, ℕ, List, IsUtf8};
 ghost use Rattle.jm_form.specs.Head.{IsFileOf};
 ghost use Rattle.jm_outside.specs.Shelves.{shelf_at};
 ghost use Rattle.jm_commands.specs.Outcome.{done, reading};

@@ -1,4 +1,4 @@
-ghost use Rattle.std.specs.Prelude.{◌≡◌, ◌++◌, ◌+◌, ◌<◌, ◌≤◌, ◌^◌, length, take, drop, OnOk};
+ghost use Rattle.std.specs.Prelude.{◌≡◌, ◌++◌, ◌+◌, ◌<◌, ◌^◌, length, OnOk};
 ghost use Rattle.std.specs.Int.{to_be_bytes, from_be_bytes};
 ghost use Rattle.jm_compact.specs.Pieces.{width, size, renumbered};
 ghost use Rattle.jm_compact.specs.Steps.{AreIn, by_numbers};

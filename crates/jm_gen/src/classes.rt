@@ -1,9 +1,9 @@
 ghost use Rattle.std.specs.Prelude.{◌≡◌, ◌∷◌, [], map, IfOk};
-ghost use Rattle.jm_class.specs.Classes.{IsClass, class_text};
-ghost use Rattle.jm_class.specs.Views.{attribute_of, code_of, member_of, plain, pool_of, slot_of};
+ghost use Rattle.jm_class.specs.Classes.{class_text};
+ghost use Rattle.jm_class.specs.Views.{member_of, plain, pool_of, slot_of};
 ghost use Rattle.jm_modinfo.specs.Written.{utf8};
 ghost use Rattle.jm_gen.specs.Generated.{class_data, class_with, code, method, pool_with};
-ghost use Rattle.jm_gen.specs.Generated.{source_file, source_name};
+ghost use Rattle.jm_gen.specs.Generated.{source_name};
 
 use crate::names::{class_name, class_path};
 use jm_bytes::{List, NoMemory, Text, extend};

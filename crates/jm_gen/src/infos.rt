@@ -1,5 +1,5 @@
-ghost use Rattle.std.specs.Prelude.{◌≡◌, ◌<◌, ◌≤◌, length, All, IfOk, OnOk};
-ghost use Rattle.jm_modinfo.specs.Written.{IsWritable, info_text};
+ghost use Rattle.std.specs.Prelude.{◌≡◌, ◌<◌, IfOk};
+ghost use Rattle.jm_modinfo.specs.Written.{info_text};
 ghost use Rattle.jm_gen.specs.Generated.{module_name, need_of, needs};
 
 use crate::names::module_name;

@@ -1,4 +1,4 @@
-ghost use Rattle.std.specs.Prelude.{◌≡◌, ◌<◌, ◌≤◌, ◌++◌, codes, OnOk, IfOk, IsUtf8};
+ghost use Rattle.std.specs.Prelude.{◌≡◌, ◌<◌, IfOk};
 ghost use Rattle.jm_gen.specs.Generated.{class_name, class_path, digit, module_name, module_names};
 ghost use Rattle.jm_gen.specs.Generated.{path_in};
 

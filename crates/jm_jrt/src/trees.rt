@@ -1,4 +1,4 @@
-ghost use Rattle.std.specs.Prelude.{◌≡◌, ◌≤◌, ◌+◌, ◌-◌, ℕ, List, length, None, Some};
+ghost use Rattle.std.specs.Prelude.{◌≡◌, ◌+◌, ◌-◌, ℕ, List, length, None, Some};
 ghost use Rattle.std.specs.Prelude.{IfNone, IfOk, IfSome};
 ghost use Rattle.std.specs.Prelude.{false, is_some, option_map, true};
 ghost use Rattle.jm_bytes.specs.Metered.{CostsAtMost, RisesAtMost};

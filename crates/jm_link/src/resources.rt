@@ -8,7 +8,7 @@ ghost use Rattle.jm_modpath.specs.Finding.{AreVisible, HasTexts};
 ghost use Rattle.jm_modpath.specs.Modules.{bytes_at, candidates};
 ghost use Rattle.jm_modpath.specs.ModulesView.{module_with_folder};
 ghost use Rattle.jm_link.specs.Chosen.{reserved};
-ghost use Rattle.jm_link.specs.ResourceFiles.{NamesAll, OnlyFails, file_names, file_of, pair_of};
+ghost use Rattle.jm_link.specs.ResourceFiles.{NamesAll, OnlyFails, file_names, pair_of};
 ghost use Rattle.jm_link.specs.Resources.{AreFit, link_files, module_files, resources_of};
 
 use crate::linking::LinkStop;

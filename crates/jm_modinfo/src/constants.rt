@@ -1,9 +1,8 @@
 ghost use Rattle.std.specs.Prelude.{◌≡◌, option_map, IfSome};
 ghost use Rattle.std.specs.List.{list_all};
-ghost use Rattle.jm_class.specs.Classes.{slot_at};
-ghost use Rattle.jm_class.specs.Views.{slot_of, plain};
+ghost use Rattle.jm_class.specs.Views.{plain};
 ghost use Rattle.jm_modinfo.specs.Descriptors.{IsNumber};
-ghost use Rattle.jm_modinfo.specs.Constants.{number_in, tag_of, named_at, is_legal_byte, is_legal};
+ghost use Rattle.jm_modinfo.specs.Constants.{number_in, tag_of, named_at, is_legal_byte};
 ghost use Rattle.jm_modinfo.specs.Constants.{is_allowed};
 
 use jm_class::{Class, Slot, utf8};

@@ -1,5 +1,5 @@
 ghost use Rattle.std.specs.Prelude.{◌≡◌, [], ◌∷◌, ◌++◌, ◌<◌, ◌≤◌, ◌^◌, length, All, IfOk, OnOk};
-ghost use Rattle.jm_class.specs.Classes.{Constant, ReadsAs, IsClass, u2};
+ghost use Rattle.jm_class.specs.Classes.{Constant, ReadsAs, u2};
 ghost use Rattle.jm_class.specs.Views.{slot_of, pool_of, plain};
 ghost use Rattle.jm_modinfo.specs.Descriptors.{InfoOf};
 ghost use Rattle.jm_modinfo.specs.Written.{IsName, IsWritable, utf8, numbers_text, need_slots};

@@ -1,10 +1,9 @@
 -- The steps that look for modules: what each comes to, from what its calls answered.
-use Rattle.std.proofs.Common.{◌≡◌, ℕ, ◌+◌, ◌<◌, Bool, true, false, cond, ◌&&◌, not, List, [], ◌∷◌, ◌++◌}
-use Rattle.std.proofs.Common.{append_assoc, length, drop, get_or, IsUtf8, Contains, Option, Some, None}
+use Rattle.std.proofs.Common.{◌≡◌, ℕ, ◌+◌, Bool, true, false, cond, ◌&&◌, not, List, [], ◌∷◌, ◌++◌}
+use Rattle.std.proofs.Common.{append_assoc, IsUtf8, Contains, Option, Some, None}
 use Rattle.std.proofs.Common.{unwrap_or, option_and_then, Result, Ok, Err, refl, sym, ap, ◌∙◌, subst}
 use Rattle.std.proofs.Common.{filter_map, inl, inr}
 use Rattle.std.proofs.lemmas.Bool.{eqb-true, false≢true}
-use Rattle.std.proofs.lemmas.List.{drop_more}
 use Rattle.std.proofs.lemmas.Str.{IsUtf8-from_ascii}
 use Rattle.std.proofs.lemmas.Slice.Eq.{bytes_eq-Decides}
 use Rattle.std.specs.List.{before_first, after_first, cons_option, list_any}
@@ -26,7 +25,7 @@ use Rattle.jm_modpath.specs.declared.refusal.PathStop.TheVariants as stop
 use Rattle.jm_modpath.specs.declared.refusal.PathRefusal.{PathRefusal}
 use Rattle.jm_modpath.specs.declared.refusal.PathRefusal.TheVariants as refusal
 use Rattle.jm_modpath.specs.declared.visible.VisibleModule.{VisibleModule}
-use Rattle.jm_modpath.specs.Finding.{Comes, added_due, folder_due, folders_among, folders_due, info_due}
+use Rattle.jm_modpath.specs.Finding.{Comes, folder_due, folders_among, info_due}
 use Rattle.jm_modpath.specs.Finding.{names_within, refused_at, shown_due}
 use Rattle.jm_form.specs.ModuleFiles.{info_name}
 use Rattle.jm_modinfo.specs.Descriptions.{info_in}
@@ -186,23 +185,6 @@ pub read_none : (told : Option Files) (folder path : List ℕ) → path ≡ info
 read_none told folder path is read = told_more told _ _ (λ files found. ap (file files) (sym is) ∙ sym found) read
 
 -- The folders of a directory
-
--- one folder more
-pub folders_next : (files : Files) (directory : List ℕ) (folders : List (List ℕ)) (i : ℕ) (folder : List ℕ)
-    (earlier more : List VisibleModule) → i < length folders → folder ≡ get_or folders i folder
-    → Comes ⊥ (added_due files directory earlier folder) (Ok more) → folders_due files directory more (drop (i + 1) folders)
-    ≡ folders_due files directory earlier (drop i folders)
-folders_next files directory folders i folder earlier more below is comes =
-    rw (drop_more folders i folder below, ← is, comes) refl
-
--- the folder that ends the work
-pub folders_ended : (files : Files) (directory : List ℕ) (folders : List (List ℕ)) (i : ℕ) (folder : List ℕ)
-    (earlier : List VisibleModule) (e : PathStop) → i < length folders → folder ≡ get_or folders i folder
-    → Comes ⊥ (added_due files directory earlier folder) (Err e) → Comes ⊥ (folders_due files directory earlier (drop i folders)) (Err e)
-folders_ended files directory folders i folder earlier e below is comes =
-    subst (λ left. Comes ⊥ (folders_due files directory earlier left) (Err e)) (sym (drop_more folders i folder below
-    ∙ ap (λ f. f ∷ drop (i + 1) folders) (sym is)))
-    (comes_ended (added_due files directory earlier folder) (λ ms. folders_due files directory ms (drop (i + 1) folders)) e comes)
 
 -- a module that is not hidden is one of those that were found
 pub from_unhidden : (earlier ms : List VisibleModule) (m : VisibleModule) → Contains (unhidden earlier ms) m → Contains ms m

@@ -1,5 +1,5 @@
 //! Modules that are found, which are looked up by their names.
-ghost use Rattle.std.specs.Prelude.{◌≡◌, ◌∷◌, ◌++◌, [], All, AllPairs, false, IfOk};
+ghost use Rattle.std.specs.Prelude.{◌≡◌, ◌∷◌, ◌++◌, [], false, IfOk};
 ghost use Rattle.jm_modpath.specs.Finding.{AreVisible, HasTexts};
 ghost use Rattle.jm_modpath.specs.Modules.{is_named, name_of};
 
@@ -17,11 +17,10 @@ pub struct FoundModules {
 }
 
 impl Model for FoundModules {
-    ghost use Rattle.std.specs.Prelude.{List, ℕ, ◌≡◌, All, option_map};
+    ghost use Rattle.std.specs.Prelude.{List, ◌≡◌};
     ghost use Rattle.std.specs.Option.{is_some};
-    ghost use Rattle.jm_closure.specs.Places.{place_in};
     ghost use Rattle.jm_modpath.specs.declared.visible.VisibleModule.{VisibleModule};
-    ghost use Rattle.jm_modpath.specs.Finding.{Differing, HasTexts};
+    ghost use Rattle.jm_modpath.specs.Finding.{HasTexts};
     ghost use Rattle.jm_modpath.specs.Modules.{is_named};
     ghost use Rattle.jm_modpath.specs.FoundView.{Holds};
 

@@ -1,5 +1,5 @@
 //! Paths of files, and the names of the resources that they are.
-ghost use Rattle.std.specs.Prelude.{◌≡◌, ◌++◌, IfOk, OnOk};
+ghost use Rattle.std.specs.Prelude.{◌≡◌, IfOk};
 ghost use Rattle.jm_modpath.specs.Modules.{inside, resource_name};
 
 use jm_bytes::{NoMemory, Text, copy_of, extend};

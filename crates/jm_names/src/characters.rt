@@ -1,5 +1,5 @@
-ghost use Rattle.std.specs.Prelude.{◌≡◌, ◌<◌, true, IfSome, IfNone, take, nat_le, ◌&&◌};
-ghost use Rattle.jm_names.specs.Characters.{IsLongestText, begins_three, from_to, goes_on};
+ghost use Rattle.std.specs.Prelude.{◌≡◌, ◌<◌, IfSome, IfNone, take, ◌&&◌};
+ghost use Rattle.jm_names.specs.Characters.{IsLongestText, begins_three, goes_on};
 ghost use Rattle.jm_names.specs.Characters.{is_character, is_surrogate};
 ghost use Rattle.jm_names.specs.ComputedText.{character_len, text_len};
 

@@ -1,7 +1,7 @@
 ghost use Rattle.std.specs.Prelude.{◌≡◌, ◌==◌, OnOk, IfErr, drop};
 ghost use Rattle.std.specs.Result.{result_err};
-ghost use Rattle.std.specs.List.{list_any, slice_split};
-ghost use Rattle.jm_names.specs.Names.{is_slash, is_empty};
+ghost use Rattle.std.specs.List.{list_any};
+ghost use Rattle.jm_names.specs.Names.{is_empty};
 ghost use Rattle.jm_names.specs.NameFaults.{HasFault, IsSound, has_module, is_dots, parts};
 ghost use Rattle.jm_names.specs.ComputedFault.{name_fault};
 

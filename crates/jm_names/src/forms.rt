@@ -1,7 +1,7 @@
-ghost use Rattle.std.specs.Prelude.{◌≡◌, ◌≤◌, ◌<◌, ◌∷◌, ◌++◌, length, IfOk, IfSome, IfNone};
+ghost use Rattle.std.specs.Prelude.{◌≡◌, ◌≤◌, ◌<◌, ◌++◌, length, IfOk, IfSome, IfNone};
 ghost use Rattle.std.specs.Str.{IsUtf8};
 ghost use Rattle.jm_names.specs.Characters.{IsText};
-ghost use Rattle.jm_names.specs.UtfForms.{is_four, four_number, four_bytes, is_pair, pair_number};
+ghost use Rattle.jm_names.specs.UtfForms.{is_four, four_number, four_bytes, pair_number};
 ghost use Rattle.jm_names.specs.UtfForms.{pair_bytes, modified, utf, FirstStays};
 
 use crate::characters::{goes_on, is_surrogate};
@@ -79,15 +79,13 @@ fn pair_in_front(bytes: &[u8]) -> Option<(u32, &[u8])>
     ensures shorter { IfSome result (λ front. length front.1.now < length bytes.now) }
     ensures none { IfNone result (FirstStays utf bytes.now) }
 {
-    match bytes {
-        [a, x, y, b, z, w, behind @ ..] => {
-            if is_pair(*a, *x, *y, *b, *z, *w) {
-                Some((pair_number(*x, *y, *z, *w), behind))
-            } else {
-                None
-            }
-        }
-        _ => None,
+    let [a, x, y, b, z, w, behind @ ..] = bytes else {
+        return None;
+    };
+    if is_surrogate(0xA0, 0xAF, *a, *x, *y) && is_surrogate(0xB0, 0xBF, *b, *z, *w) {
+        Some((pair_number(*x, *y, *z, *w), behind))
+    } else {
+        None
     }
 }
 
@@ -102,13 +100,6 @@ fn is_four(a: u8, x: u8, y: u8, z: u8) -> bool
         _ => false,
     };
     begins && goes_on(y) && goes_on(z)
-}
-
-/// Whether the six bytes are a high surrogate and a low one.
-fn is_pair(a: u8, x: u8, y: u8, b: u8, z: u8, w: u8) -> bool
-    ensures { result ≡ is_pair a x y b z w }
-{
-    is_surrogate(0xA0, 0xAF, a, x, y) && is_surrogate(0xB0, 0xBF, b, z, w)
 }
 
 /// The number of a character of four bytes.

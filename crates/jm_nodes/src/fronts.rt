@@ -9,7 +9,6 @@ ghost use Rattle.std.specs.Prelude.{
   IfOk,
   OnOk,
 };
-ghost use Rattle.jm_names.specs.Names.{is_slash};
 ghost use Rattle.jm_form.specs.Rising.{rising};
 ghost use Rattle.jm_form.specs.Trees.{fronts};
 ghost use Rattle.jm_nodes.specs.Fronts.{front_alone, fronts_between, IsKnownBelow};

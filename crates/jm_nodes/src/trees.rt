@@ -2,7 +2,6 @@
 ghost use Rattle.std.specs.Prelude.{◌≡◌, ◌++◌, All, Some, None, false, map, reverse, IfOk};
 ghost use Rattle.std.specs.Prelude.{IfErr, OnOk};
 ghost use Rattle.jm_bytes.specs.Results.{IfAnswered};
-ghost use Rattle.jm_form.specs.Rising.{rising};
 ghost use Rattle.jm_form.specs.Trees.{first_clash, fronts, tree_nodes};
 ghost use Rattle.jm_names.specs.NameFaults.{IsSound};
 ghost use Rattle.jm_names.specs.Names.{is_node};

@@ -1,6 +1,6 @@
 //! The constants of a list of packages, and their numbers.
 ghost use Rattle.std.specs.Prelude.{◌≡◌, [], ◌∷◌, ◌++◌, ◌+◌, ◌*◌, ◌^◌, ◌<◌, length, IfOk, OnOk};
-ghost use Rattle.jm_class.specs.Classes.{Constant, u2};
+ghost use Rattle.jm_class.specs.Classes.{Constant};
 ghost use Rattle.jm_class.specs.Views.{pool_of};
 ghost use Rattle.jm_modinfo.specs.Written.{numbers_text, utf8};
 ghost use Rattle.jm_packages.specs.Packages.{package_slots, packages_body};

@@ -1,5 +1,5 @@
 //! Which classes take a list of packages.
-ghost use Rattle.std.specs.Prelude.{◌≡◌, ◌≤◌, nat_le, length, map};
+ghost use Rattle.std.specs.Prelude.{◌≡◌, nat_le, length};
 ghost use Rattle.std.specs.List.{list_all, list_any};
 ghost use Rattle.jm_class.specs.Classes.{IsClass, utf8_at};
 ghost use Rattle.jm_class.specs.Views.{plain};

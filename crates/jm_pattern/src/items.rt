@@ -2,7 +2,7 @@ ghost use Rattle.std.specs.Prelude.{◌≡◌, ◌∷◌, ◌<◌, length, optio
 ghost use Rattle.std.specs.Prelude.{IfSome, IfNone, IfOk, IfErr};
 ghost use Rattle.std.specs.List.{AllZip};
 ghost use Rattle.jm_bytes.specs.Results.{IfAnswered};
-ghost use Rattle.jm_pattern.specs.Items.{items_of, is_refused, without_glob, item_pattern, list_of};
+ghost use Rattle.jm_pattern.specs.Items.{items_of, item_pattern, list_of};
 ghost use Rattle.jm_pattern.specs.ItemRules.{ItemReads, IsListFault};
 ghost use Rattle.jm_pattern.specs.ReadingSteps.{GoesOn, EndsItem, items_behind};
 

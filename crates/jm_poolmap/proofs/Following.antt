@@ -11,7 +11,7 @@ use Rattle.std.specs.List.{flat_map}
 use Rattle.std.specs.Prelude.{All, nat_le}
 use Rattle.jm_bytes.proofs.Choice.{same_ok}
 use Rattle.jm_class.specs.Classes.{u2, u4, counted_text, sized_text, FitsCounted}
-use Rattle.jm_class.specs.Readings.{Left, Outcome, continued, part, number, ended, whole}
+use Rattle.jm_class.specs.Readings.{Outcome, continued, part, number, ended, whole}
 use Rattle.jm_poolmap.specs.declared.site.FoundSite.{FoundSite}
 use Rattle.jm_poolmap.specs.declared.walk.Walk.{Walk}
 use Rattle.jm_poolmap.specs.Forms.{NoForm, Form, unfit, skip, site_of_width, in_order, counted, sized}
@@ -59,13 +59,6 @@ pub follows_step : (form : Form) (text : List ℕ) (step other : Step) → ((wal
 follows_step form text step other same law = record {
   reads = λ walk rest. law.reads walk rest ∙ ap (λ w. carried w rest) (same walk);
   goes = λ walk new e. law.goes walk new (same walk ∙ e);
-}
-
-pub follows_form : (form other : Form) (text : List ℕ) (step : Step) → ((found : List FoundSite) (left : Left) → form found left
-    ≡ other found left) → Follows form text step → Follows other text step
-follows_form form other text step same law = record {
-  reads = λ walk rest. sym (same walk.found (record { place = walk.place; bytes = text ++ rest })) ∙ law.reads walk rest;
-  goes = law.goes;
 }
 
 pub follows_skip : (n : ℕ) (text : List ℕ) → length text ≡ n → Follows (skip n) text (passes n)

@@ -1,4 +1,4 @@
-ghost use Rattle.std.specs.Prelude.{◌≡◌, replicate};
+ghost use Rattle.std.specs.Prelude.{replicate};
 ghost use Rattle.jm_poolmap.specs.Attributes.{bootstrap_method, body};
 ghost use Rattle.jm_poolmap.specs.Finds.{Finds};
 ghost use Rattle.jm_poolmap.specs.Forms.{nowhere, in_order};

@@ -1,4 +1,4 @@
-ghost use Rattle.std.specs.Prelude.{◌≡◌, true, replicate};
+ghost use Rattle.std.specs.Prelude.{true, replicate};
 ghost use Rattle.std.specs.Int.{w16};
 ghost use Rattle.jm_poolmap.specs.Finds.{Finds};
 ghost use Rattle.jm_poolmap.specs.Forms.{site_of_width, in_order};

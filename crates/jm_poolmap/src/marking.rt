@@ -1,6 +1,6 @@
 ghost use Rattle.std.specs.Prelude.{◌≡◌, false, length, map, IfOk};
 ghost use Rattle.jm_class.specs.Views.{slot_of, pool_of};
-ghost use Rattle.jm_poolmap.specs.ComputedLive.{with_mark, with_marks, spread, spread_from};
+ghost use Rattle.jm_poolmap.specs.ComputedLive.{with_mark, spread, spread_from};
 ghost use Rattle.jm_poolmap.specs.ComputedLive.{flag_of, with_holes, flags_of};
 ghost use Rattle.jm_poolmap.specs.Pools.{FitsSlot, AllFit};
 

@@ -1,4 +1,3 @@
-ghost use Rattle.std.specs.Prelude.{◌≡◌, length};
 ghost use Rattle.std.specs.Int.{w8, w16, w32};
 ghost use Rattle.jm_class.specs.Readings.{number, part};
 ghost use Rattle.jm_poolmap.specs.Finds.{Reads};

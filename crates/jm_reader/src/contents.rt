@@ -1,7 +1,7 @@
-ghost use Rattle.std.specs.Prelude.{◌≡◌, ◌+◌, ◌<◌, ◌≤◌, ◌^◌, ℕ, List, length, take, drop};
+ghost use Rattle.std.specs.Prelude.{◌≡◌, ◌+◌, ◌<◌, ◌≤◌, ℕ, List, length, take, drop};
 ghost use Rattle.jm_bytes.specs.Metered.{Costs};
 ghost use Rattle.jm_form.specs.Entries.{content_of};
-ghost use Rattle.jm_form.specs.Head.{index_length, IsFileOf};
+ghost use Rattle.jm_form.specs.Head.{IsFileOf};
 ghost use Rattle.jm_form.specs.Places.{contents};
 ghost use Rattle.jm_form.specs.Validity.{SoundRow};
 ghost use Rattle.jm_reader.specs.Look.{head, SoundIn};

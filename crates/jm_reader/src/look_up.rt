@@ -1,6 +1,5 @@
 ghost use Rattle.std.specs.Prelude.{◌≡◌, ◌+◌, true, ℕ, All, List, length, option_map, Ok};
 ghost use Rattle.std.specs.Prelude.{IfSome, Some};
-ghost use Rattle.std.specs.Str.{bytes_eq};
 ghost use Rattle.jm_bytes.specs.Metered.{CostsAtMost, RisesAtMost};
 ghost use Rattle.jm_form.specs.Entries.{content_of, name_of, texts_end};
 ghost use Rattle.jm_form.specs.Head.{header_of, IsFileOf};

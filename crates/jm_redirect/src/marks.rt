@@ -1,5 +1,5 @@
 //! The flags of the slots that are taken, while seeds are tried.
-ghost use Rattle.std.specs.Prelude.{◌≡◌, ◌<◌, ◌-◌, ◌%◌, ◌++◌, [], ℕ, List, Bool, true, false, not};
+ghost use Rattle.std.specs.Prelude.{◌≡◌, ◌<◌, ◌-◌, ◌%◌, ◌++◌, ℕ, List, true, false, not};
 ghost use Rattle.std.specs.Prelude.{find, length, map, slice_index_or, if◌then◌else◌};
 ghost use Rattle.std.specs.List.{range_with_len};
 ghost use Rattle.jm_names.specs.Hash.{hash};

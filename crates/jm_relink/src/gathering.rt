@@ -1,11 +1,11 @@
 //! The resources that the files of chosen modules are.
 ghost use Rattle.std.specs.Prelude.{◌≡◌, ◌≢◌, ◌<◌, ◌∷◌, ◌++◌, [], None, AllPairs};
-ghost use Rattle.std.specs.Prelude.{length, map};
+ghost use Rattle.std.specs.Prelude.{length};
 ghost use Rattle.jm_bytes.specs.Results.{IfAnswered};
 ghost use Rattle.jm_pool.specs.Pairs.{bytes_of, names_of};
 ghost use Rattle.jm_relink.specs.Files.{file_as, file_name, files_as};
 ghost use Rattle.jm_relink.specs.Gathering.{ArePlaces, AreModules, Gathers, GathersAll};
-ghost use Rattle.jm_relink.specs.Gathering.{first_bad_name, gathered, resource_of, resources_with};
+ghost use Rattle.jm_relink.specs.Gathering.{gathered, resource_of, resources_with};
 
 use crate::fault::GatherFault;
 use crate::modules::{ImageFile, ImageModules};

@@ -1,5 +1,5 @@
 //! Files side by side, module by module.
-ghost use Rattle.std.specs.Prelude.{◌≡◌, ◌∷◌, ◌++◌, [], List, ℕ, IfOk, map};
+ghost use Rattle.std.specs.Prelude.{◌≡◌, ◌∷◌, ◌++◌, List, IfOk, map};
 ghost use Rattle.jm_relink.specs.Files.{Filed, located_as};
 ghost use Rattle.jm_relink.specs.Groups.{begun_as, group_as, groups, groups_from};
 

@@ -1,8 +1,8 @@
 //! The modules among those that have files: whose `module-info.class` is there.
-ghost use Rattle.std.specs.Prelude.{◌≡◌, [], ℕ, ◌∷◌, ◌++◌, IfOk, map, option_map};
+ghost use Rattle.std.specs.Prelude.{◌≡◌, [], IfOk, map, option_map};
 ghost use Rattle.jm_bytes.specs.Results.{IfAnswered};
 ghost use Rattle.jm_modinfo.specs.Descriptions.{info_in};
-ghost use Rattle.jm_relink.specs.Files.{file_as, files_as, info_entry};
+ghost use Rattle.jm_relink.specs.Files.{files_as, info_entry};
 ghost use Rattle.jm_relink.specs.Groups.{group_as, info_content};
 ghost use Rattle.jm_relink.specs.Judging.{descriptor_due, group_due, groups_due, mapped, seen_as};
 ghost use Rattle.jm_relink.specs.Judging.{seen_due};

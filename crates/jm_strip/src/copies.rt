@@ -1,4 +1,3 @@
-ghost use Rattle.std.specs.Prelude.{◌≡◌};
 ghost use Rattle.std.specs.Int.{w16};
 ghost use Rattle.jm_class.specs.Classes.{u2, sized_text, rows_text};
 ghost use Rattle.jm_class.specs.ComputedClass.{name_field, rows_field};

@@ -1,4 +1,4 @@
-ghost use Rattle.std.specs.Prelude.{◌≡◌, ◌≤◌, ◌∷◌, [], filter, IfOk};
+ghost use Rattle.std.specs.Prelude.{◌≤◌, ◌∷◌, [], filter, IfOk};
 ghost use Rattle.jm_class.specs.Classes.{opaque_text, counted_text};
 ghost use Rattle.jm_class.specs.ComputedClass.{opaque_field};
 ghost use Rattle.jm_class.specs.Readings.{list_of};

@@ -3,7 +3,7 @@ ghost use Rattle.jm_class.specs.declared.class.ClassFault.TheVariants.{Short};
 ghost use Rattle.jm_bytes.specs.declared.faults.Or.TheVariants.{Fault};
 ghost use Rattle.jm_class.specs.Classes.{ClassData, attribute_text, counted_text, class_text};
 ghost use Rattle.jm_class.specs.Classes.{ReadsAs};
-ghost use Rattle.jm_class.specs.ComputedClass.{attribute_field, class_fields, class_of};
+ghost use Rattle.jm_class.specs.ComputedClass.{attribute_field, class_fields};
 ghost use Rattle.jm_class.specs.ComputedClass.{class_fault};
 ghost use Rattle.jm_class.specs.Readings.{list_of};
 ghost use Rattle.jm_class.specs.Views.{Gives};

@@ -1,5 +1,5 @@
 //! The text of a module's descriptor.
-ghost use Rattle.std.specs.Prelude.{◌≡◌, ◌++◌, ◌∷◌, [], codes, OnOk, IfOk};
+ghost use Rattle.std.specs.Prelude.{◌≡◌, ◌++◌, OnOk, IfOk};
 ghost use Rattle.std.specs.List.{flat_map};
 ghost use Rattle.jm_names.specs.UtfForms.{utf};
 ghost use Rattle.jm_texts.specs.DescribeText.{describe_text, is_marked, listed_behind};

@@ -13,7 +13,7 @@ fn call_numbers(alloc: Global, numbers: &[u64]) -> Result<List<u64>, NoMemory> {
 }
 
 /// Puts a file on a shelf.
-pub fn put(alloc: Global, shelf: &mut MemShelf, path: &str, bytes: &[u8]) -> Result<(), NoMemory> {
+fn put(alloc: Global, shelf: &mut MemShelf, path: &str, bytes: &[u8]) -> Result<(), NoMemory> {
     let path = Text::copy_of(alloc, path.as_bytes())?;
     shelf.put_file(path, Text::copy_of(alloc, bytes)?)
 }

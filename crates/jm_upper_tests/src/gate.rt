@@ -1,10 +1,8 @@
 //! A gate at which two pieces of work meet.
 
 use crate::calls::shelf_of;
-use crate::images::{SIX, SIX_IMAGE};
 use crate::runs::told_by;
 use jm_halves::Gate;
-use jm_valid::open_image;
 use std::hint::spin_loop;
 use std::sync::atomic::{AtomicBool, AtomicUsize, Ordering};
 use std::test::Fail;
@@ -63,31 +61,33 @@ impl Meeting {
     }
 }
 
-/// Command lines of two jobs, one behind another on a shelf with six files, the front of what each
-/// gives, and how often each piece enters the gate: once for a plug-in. For an image that is opened
-/// both enter for its slots, and one for its names, which are a single part.
+/// Command lines of two jobs, one behind another on one shelf, the front of what each gives, and
+/// how often each piece enters the gate: once for a plug-in. For an image that is opened both enter
+/// for its slots, and one for its names, which are a single part.
 const LINES: &[(&str, &str, (usize, usize))] = &[
     (
-        "link --module-path mods --add-modules a --output img --exclude-resources=/c/** --jobs 2",
-        "0|modules 3\nresources 6\nbytes 1006\n|",
+        "gen d --modules 3 --classes 2 --seed 0 --jobs 2",
+        "0|modules 3\nresources 9\n",
         (1, 1),
     ),
-    ("verify img --jobs 2", "0|valid 21\n|", (2, 1)),
     (
-        "link --from-image img --add-modules a --output two --exclude-resources=/c/** --jobs 2",
-        "0|modules 3\nresources 6\nbytes 1006\n|",
+        "link --module-path d/mods --add-modules m000,m001,m002 --output img \
+         --exclude-resources=/c/** --jobs 2",
+        "0|modules 3\nresources 9\n",
+        (1, 1),
+    ),
+    ("verify img --jobs 2", "0|valid ", (2, 1)),
+    (
+        "link --from-image img --add-modules m000,m001,m002 --output two \
+         --exclude-resources=/c/** --jobs 2",
+        "0|modules 3\nresources 9\n",
         (3, 2),
-    ),
-    (
-        "gen d --modules 1 --classes 2 --seed 0 --jobs 2",
-        "0|modules 1\nresources 3\n",
-        (1, 1),
     ),
 ];
 
 #[test]
 fn both_pieces_of_a_run_meet(rt: HostRuntime) -> Result<(), Fail> {
-    let mut shelf = shelf_of(rt.alloc(), SIX, &[])?;
+    let mut shelf = shelf_of(rt.alloc(), &[], &[])?;
     for (line, front, entries) in LINES {
         let gate = Meeting::new();
         let told = told_by(&rt, rt.alloc(), line, &mut shelf, &gate)?;
@@ -98,18 +98,5 @@ fn both_pieces_of_a_run_meet(rt: HostRuntime) -> Result<(), Fail> {
             "how often each piece of {line} entered the gate, and whether one missed the other"
         );
     }
-    Ok(())
-}
-
-#[test]
-fn both_pieces_of_an_opening_meet(rt: HostRuntime) -> Result<(), Fail> {
-    let gate = Meeting::new();
-    let image = open_image(&rt, rt.alloc(), 2, SIX_IMAGE, &gate)?;
-    assert_eq!(rt; image.header().count, 21, "the image that was opened");
-    assert_eq!(rt;
-        gate.told(),
-        ((2, 1), false),
-        "how often each piece entered the gate, and whether one missed the other"
-    );
     Ok(())
 }

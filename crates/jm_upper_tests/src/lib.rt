@@ -1,29 +1,13 @@
-//! The tests of the upper crates, by their public calls: shelves and streams, files that are made,
-//! images that are written and linked, what stands in an image, and sessions over one.
+//! The tests of the upper crates, of what no line of a case shows: shelves and streams, of memory
+//! and of the system, and that two pieces of a run work side by side.
 #![tactic(auto)]
 
 #[cfg(test)]
 mod calls;
 #[cfg(test)]
-mod entries;
-#[cfg(test)]
 mod gate;
 #[cfg(test)]
-mod images;
-#[cfg(test)]
-mod linked;
-#[cfg(test)]
-mod made_files;
-#[cfg(test)]
-mod nodes;
-#[cfg(test)]
-mod pools;
-#[cfg(test)]
 mod runs;
-#[cfg(test)]
-mod services;
-#[cfg(test)]
-mod sessions;
 #[cfg(test)]
 mod shelves;
 #[cfg(test)]
@@ -32,7 +16,3 @@ mod streams;
 mod system;
 #[cfg(test)]
 mod told;
-#[cfg(test)]
-mod tree_paths;
-#[cfg(test)]
-mod written;

@@ -1,6 +1,6 @@
 //! Hashes of the names of an image's rows, in time that the length of a text that many rows share
 //! doesn't multiply.
-ghost use Rattle.std.specs.Prelude.{◌≡◌, ◌≤◌, ◌+◌, ◌/◌, true, length, drop, IfErr, IfOk, IfSome};
+ghost use Rattle.std.specs.Prelude.{◌≡◌, ◌+◌, ◌/◌, true, drop, IfErr, IfOk, IfSome};
 ghost use Rattle.jm_form.specs.Entries.{name_of, texts_end};
 ghost use Rattle.jm_form.specs.Texts.{text_at, text_ends};
 ghost use Rattle.jm_names.specs.Hash.{state_after};

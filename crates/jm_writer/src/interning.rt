@@ -1,6 +1,5 @@
 //! The strings of all names, and where each name has its pieces among them.
 ghost use Rattle.std.specs.Prelude.{◌≡◌, ◌<◌, length, All, Err, IfOk, OnOk};
-ghost use Rattle.std.specs.Prelude.{IsErrOf};
 ghost use Rattle.jm_names.specs.Names.{split};
 ghost use Rattle.jm_form.specs.Strings.{section_of, IsZeroFree};
 ghost use Rattle.jm_strings.specs.Limit.{limit};

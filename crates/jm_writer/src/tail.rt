@@ -1,8 +1,7 @@
 //! The contents of the nodes.
-ghost use Rattle.std.specs.Prelude.{◌≡◌, ◌∷◌, ◌++◌, [], map, slice_get, unwrap_or, IfOk, OnOk};
+ghost use Rattle.std.specs.Prelude.{◌≡◌, ◌++◌, map, slice_get, unwrap_or, IfOk, OnOk};
 ghost use Rattle.std.specs.List.{flat_map};
-ghost use Rattle.jm_form.specs.Nodes.{empty_flag, words_text};
-ghost use Rattle.jm_form.specs.Layout.{text_place};
+ghost use Rattle.jm_form.specs.Nodes.{words_text};
 ghost use Rattle.jm_writer.specs.Parts.{child_word, owner_pair};
 ghost use Rattle.jm_writer.specs.Parts.{slot_or_first, tail_bytes};
 

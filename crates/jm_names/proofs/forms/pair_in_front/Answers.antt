@@ -1,7 +1,9 @@
-use Rattle.std.proofs.Common.{sym, ◌∙◌}
+use Rattle.std.proofs.Common.{refl, sym, ◌∙◌}
 use Rattle.jm_names.proofs.UtfSteps.{utf_pair}
 use Rattle.jm_names.proofs.forms.pair_in_front.Goals as goal
 
-pub returns-then-is_pair-clause-some : goal.returns-then-is_pair-clause-some
-returns-then-is_pair-clause-some c = utf_pair c.args.bytes.now c.pair_number.result c.in-len6-up.len_at_least (sym c.is_pair.ensures
-    ∙ c.if-is_pair.true) c.pair_number.ensures
+pub returns-then-is_surrogate-2-clause-some : goal.returns-then-is_surrogate-2-clause-some
+returns-then-is_surrogate-2-clause-some c =
+    let high = sym c.is_surrogate.ensures ∙ c.if-is_surrogate.true in
+    let low = sym c.is_surrogate-then-is_surrogate.ensures ∙ c.if-is_surrogate-2.true in
+    utf_pair c.args.bytes.now c.pair_number.result c.in-len6-up.len_at_least (rw (high, low) refl) c.pair_number.ensures

@@ -1,7 +1,9 @@
-use Rattle.std.proofs.Common.{sym, ◌∙◌}
+use Rattle.std.proofs.Common.{◌==◌, sym, ◌∙◌}
+use Rattle.jm_names.proofs.ByteSearches.{found_any}
 use Rattle.jm_names.proofs.UtfPlain.{utf_plain}
 use Rattle.jm_names.proofs.printed.extend_utf8.Goals as goal
 
-pub returns-then-not-has_surrogate : goal.returns-then-not-has_surrogate
-returns-then-not-has_surrogate c = rw (utf_plain c.args.name.now (sym c.has_surrogate.ensures ∙ c.if-not-has_surrogate.true))
-    c.extend.ensures.ok
+pub returns-then-is_none : goal.returns-then-is_none
+returns-then-is_none c =
+    let found = found_any (λ x. x == 0xED) c.args.name.now c.memchr.result c.memchr.ensures in
+    rw (utf_plain c.args.name.now (sym found ∙ c.if-is_none.ensures)) c.extend.ensures.ok

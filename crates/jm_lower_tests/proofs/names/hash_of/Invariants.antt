@@ -1,4 +1,0 @@
-use Rattle.jm_lower_tests.proofs.names.hash_of.Given as goal
-
-abbrev pub ghosts-counted_hash : goal.ghosts-counted_hash
-ghosts-counted_hash a = record { name = a.blank.name; parts = a.blank.parts }
