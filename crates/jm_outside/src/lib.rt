@@ -12,6 +12,7 @@ mod mem_streams;
 mod shelf;
 mod std_streams;
 mod streams;
+mod system_error;
 
 pub use handed::Handed;
 pub use making::make_file;
@@ -20,3 +21,4 @@ pub use mem_streams::{MemSink, MemSource};
 pub use shelf::{Shelf, ShelfError};
 pub use std_streams::{StdSink, StdSource};
 pub use streams::{Failed, Sink, SinkError, Source};
+pub use system_error::SystemError;

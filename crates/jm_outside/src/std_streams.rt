@@ -1,6 +1,7 @@
 ghost use Rattle.std.specs.Prelude.{◌≡◌, None};
 
 use crate::streams::{Failed, Sink, SinkError, Source};
+use crate::system_error::SystemError;
 use std::alloc::Global;
 use std::io;
 use std::io::{ErrorKind, Read, Write};
@@ -37,8 +38,8 @@ impl<R: Read + Drop> StdSource<R> {
     }
 
     /// For a user: what the system said in the last call that answered `Failed`.
-    pub fn last_failure(&self) -> Option<ErrorKind> {
-        self.last_failure.as_ref().map(|error| error.kind())
+    pub fn last_failure(&self) -> Option<SystemError> {
+        self.last_failure.map(|error| SystemError(error))
     }
 }
 
@@ -76,8 +77,8 @@ impl<W: Write + Drop> StdSink<W> {
     }
 
     /// For a user: what the system said in the last call that answered `Failed`.
-    pub fn last_failure(&self) -> Option<ErrorKind> {
-        self.last_failure.as_ref().map(|error| error.kind())
+    pub fn last_failure(&self) -> Option<SystemError> {
+        self.last_failure.map(|error| SystemError(error))
     }
 }
 

@@ -1,7 +1,6 @@
 //! What a user is told where the outside failed or no memory was found. `run` says nothing then.
-use jm_outside::{Sink, StdSink};
+use jm_outside::{Sink, StdSink, SystemError};
 use std::alloc::Global;
-use std::io::ErrorKind;
 
 /// The line on the last failure of the file system, if there was one.
 pub fn shelf_line(alloc: Global, failure: Option<&str>) -> Option<String> {
@@ -10,9 +9,9 @@ pub fn shelf_line(alloc: Global, failure: Option<&str>) -> Option<String> {
 }
 
 /// The line on the last failure of a stream, if there was one.
-pub fn stream_line(alloc: Global, stream: &str, failure: Option<ErrorKind>) -> Option<String> {
-    let kind = failure?;
-    format!(in alloc; "failed: {stream}: {kind}\n").ok()
+pub fn stream_line(alloc: Global, stream: &str, failure: Option<SystemError>) -> Option<String> {
+    let error = failure?;
+    format!(in alloc; "failed: {stream}: {error}\n").ok()
 }
 
 /// Puts a line to the standard error, as far as that takes it.

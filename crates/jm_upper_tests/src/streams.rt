@@ -3,7 +3,7 @@
 use crate::calls::{sink_of, source_of};
 use crate::told::text_of;
 use jm_bytes::extend;
-use jm_outside::{Sink, SinkError, Source, StdSink, StdSource};
+use jm_outside::{Sink, SinkError, Source, StdSink, StdSource, SystemError};
 use std::alloc::{AllocError, Global};
 use std::io;
 use std::io::{ErrorKind, Read, Write};
@@ -107,7 +107,11 @@ fn streams_that_halt_are_faults(rt: HostRuntime) -> Result<(), Fail> {
         ".!!",
         "an interrupted put goes on, and the next take nothing"
     );
-    assert_eq!(rt; source.last_failure(), Some(ErrorKind::PermissionDenied));
-    assert_eq!(rt; sink.last_failure(), Some(ErrorKind::WriteZero));
+    let kinds = (source.last_failure(), sink.last_failure());
+    let (Some(SystemError(taken)), Some(SystemError(put))) = kinds else {
+        return Err(Fail::new("both streams have failed"));
+    };
+    assert_eq!(rt; taken.kind(), ErrorKind::PermissionDenied);
+    assert_eq!(rt; put.kind(), ErrorKind::WriteZero);
     Ok(())
 }
