@@ -20,10 +20,11 @@ IsListed calls = Contains calls.failing calls.next
 abbrev pub one_more : ℕ → ℕ
 one_more n = min (n + 1) (2 ^ 64 - 1)
 
+-- the same numbers with one more fault, if something failed
+abbrev pub with_fault : CallNumbers → Bool → CallNumbers
+with_fault calls failed =
+    record calls { faults = if failed then one_more calls.faults else calls.faults }
+
 -- the numbers after a call, which failed or not
 abbrev pub after_call : CallNumbers → Bool → CallNumbers
-after_call calls failed = record {
-  failing = calls.failing;
-  next = one_more calls.next;
-  faults = if failed then one_more calls.faults else calls.faults;
-}
+after_call calls failed = with_fault (record calls { next = one_more calls.next }) failed

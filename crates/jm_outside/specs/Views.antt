@@ -14,6 +14,10 @@ files_on shelf = shelf.files
 abbrev pub calls_of : MemShelf → CallNumbers
 calls_of shelf = shelf.calls
 
+-- the numbered calls of a shelf in memory for a part of a file
+abbrev pub parts_of : MemShelf → CallNumbers
+parts_of shelf = shelf.parts
+
 -- how many bytes of files a shelf in memory handed out
 abbrev pub handed_by : MemShelf → ℕ
 handed_by shelf = shelf.handed

@@ -1,11 +1,11 @@
-ghost use Rattle.std.specs.Prelude.{◌≡◌, ◌≤◌, ◌+◌, ◌/◌, ◌↔◌, [], Some, true, All, IsUtf8};
+ghost use Rattle.std.specs.Prelude.{◌≡◌, ◌≤◌, ◌+◌, ◌/◌, ◌↔◌, [], Some, true, false, All, IsUtf8};
 ghost use Rattle.std.specs.Prelude.{IsOk, IfOk, OnOk, OnErr, IsErrOf, length, option_map};
 ghost use Rattle.std.specs.List.Sorted.{IsStrictlySortedBy-prop};
 ghost use Rattle.std.proofs.lemmas.Str.{IsUtf8-had};
 ghost use Rattle.jm_outside.specs.Files.{Rising, paths, file, file_length, file_part, put, add};
 ghost use Rattle.jm_outside.specs.Files.{names_below};
 ghost use Rattle.jm_outside.specs.Outcome.{CountsFaults};
-ghost use Rattle.jm_outside.specs.ComputedCalls.{no_calls, IsListed, after_call};
+ghost use Rattle.jm_outside.specs.ComputedCalls.{no_calls, IsListed, after_call, with_fault};
 ghost use Rattle.jm_outside.specs.ComputedCuts.{first_half};
 
 use crate::calls::Calls;
@@ -17,12 +17,15 @@ use std::alloc::Global;
 
 /// A shelf in memory, which tells its files. A file is just a path.
 ///
-/// It numbers the calls of the trait from 0 and fails those that `fail_on` lists, with one fault
-/// each. The numbers stand still at the last of 64 bits.
+/// It numbers the calls of the trait from 0, those of `read_part` by themselves, and fails those
+/// that `fail_on` and `fail_parts_on` list, with one fault each. The numbers stand still at the last
+/// of 64 bits.
 #[derive(Debug, Drop)]
 pub struct MemShelf {
     files: FileMap,
     calls: Calls,
+    /// The calls of `read_part`. Their faults are counted with those of the others.
+    parts: Calls,
     handed: Handed,
     ghost rising: { Rising (paths files) } by { IsStrictlySortedBy-prop _ (paths files) },
     ghost texts: { All (λ path. ∥ IsUtf8 path ∥₁) (paths files) },
@@ -40,28 +43,41 @@ fn handed_copy(alloc: Global, handed: &mut Handed, bytes: &[u8]) -> Result<Text,
 }
 
 impl MemShelf {
-    ghost use Rattle.jm_outside.specs.Views.{files_on, calls_of, handed_by};
+    ghost use Rattle.jm_outside.specs.Views.{files_on, calls_of, parts_of, handed_by};
 
     /// A shelf of no file, none of whose calls fails.
     pub fn new(alloc: Global) -> MemShelf
         ensures files { files_on result ≡ [] }
         ensures calls { calls_of result ≡ no_calls }
+        ensures parts { parts_of result ≡ no_calls }
         ensures handed { handed_by result ≡ 0 }
     {
         MemShelf {
             files: FileMap::new(alloc),
             calls: Calls::new(alloc),
+            parts: Calls::new(alloc),
             handed: Handed::new(),
         }
     }
 
-    /// Makes the calls with these numbers fail, and no others.
+    /// Makes the calls with these numbers fail, and no others. Those of `read_part` have none.
     pub fn fail_on(&mut self, calls: List<u64>)
         ensures files { files_on self.new ≡ files_on self.old }
         ensures calls { calls_of self.new ≡ record (calls_of self.old) { failing = calls } }
+        ensures parts { parts_of self.new ≡ parts_of self.old }
         ensures handed { handed_by self.new ≡ handed_by self.old }
     {
         self.calls.fail_on(calls);
+    }
+
+    /// Makes the calls of `read_part` with these numbers, from 0, fail, and none of its others.
+    pub fn fail_parts_on(&mut self, calls: List<u64>)
+        ensures files { files_on self.new ≡ files_on self.old }
+        ensures calls { calls_of self.new ≡ calls_of self.old }
+        ensures parts { parts_of self.new ≡ record (parts_of self.old) { failing = calls } }
+        ensures handed { handed_by self.new ≡ handed_by self.old }
+    {
+        self.parts.fail_on(calls);
     }
 
     /// Gives a path these bytes. It is no numbered call.
@@ -70,6 +86,7 @@ impl MemShelf {
         ensures ok { OnOk result (files_on self.new ≡ put (files_on self.old) path bytes) }
         ensures err { OnErr result (files_on self.new ≡ files_on self.old) }
         ensures calls { calls_of self.new ≡ calls_of self.old }
+        ensures parts { parts_of self.new ≡ parts_of self.old }
         ensures handed { handed_by self.new ≡ handed_by self.old }
     {
         self.files.put(path.into_vec(), bytes.into_vec())
@@ -84,7 +101,7 @@ impl MemShelf {
 }
 
 impl Shelf for MemShelf {
-    ghost use Rattle.jm_outside.specs.Views.{files_on, calls_of, handed_by};
+    ghost use Rattle.jm_outside.specs.Views.{files_on, calls_of, parts_of, handed_by};
     ghost use Rattle.jm_outside.specs.Answers.{shelf_failed, handed_out};
 
     ghost files = { λ shelf. Some (files_on shelf) };
@@ -106,6 +123,7 @@ impl Shelf for MemShelf {
         ensures listed { IsErrOf result ShelfError.Failed ↔ IsListed (calls_of self.old) }
         ensures handed { handed_by self.new ≡ handed_by self.old }
         ensures calls { calls_of self.new ≡ after_call (calls_of self.old) (shelf_failed result) }
+        ensures parts { parts_of self.new ≡ parts_of self.old }
 
         // Follows from `calls`.
         ensures faults { CountsFaults (calls_of self.old).faults (calls_of self.new).faults
@@ -123,6 +141,7 @@ impl Shelf for MemShelf {
         ensures listed { IsErrOf result ShelfError.Failed ↔ IsListed (calls_of self.old) }
         ensures handed { handed_by self.new ≡ handed_by self.old + handed_out result }
         ensures calls { calls_of self.new ≡ after_call (calls_of self.old) (shelf_failed result) }
+        ensures parts { parts_of self.new ≡ parts_of self.old }
 
         // Follows from `calls`.
         ensures faults { CountsFaults (calls_of self.old).faults (calls_of self.new).faults
@@ -144,6 +163,7 @@ impl Shelf for MemShelf {
         ensures memory { ¬ IsErrOf result ShelfError.Memory }
         ensures handed { handed_by self.new ≡ handed_by self.old }
         ensures calls { calls_of self.new ≡ after_call (calls_of self.old) (shelf_failed result) }
+        ensures parts { parts_of self.new ≡ parts_of self.old }
 
         // Follows from `calls`.
         ensures faults { CountsFaults (calls_of self.old).faults (calls_of self.new).faults
@@ -168,16 +188,20 @@ impl Shelf for MemShelf {
         ensures files { files_on self.new ≡ files_on self.old }
         ensures found { IfOk result
             (λ found. found ≡ file_part (files_on self.old) path.now at length) }
-        ensures listed { IsErrOf result ShelfError.Failed ↔ IsListed (calls_of self.old) }
+        ensures listed { IsErrOf result ShelfError.Failed ↔ IsListed (parts_of self.old) }
         ensures within { handed_out result ≤ length }
         ensures handed { handed_by self.new ≡ handed_by self.old + handed_out result }
-        ensures calls { calls_of self.new ≡ after_call (calls_of self.old) (shelf_failed result) }
+        ensures calls { calls_of self.new ≡ with_fault (calls_of self.old) (shelf_failed result) }
+        ensures parts { parts_of self.new ≡ after_call (parts_of self.old) false }
 
         // Follows from `calls`.
         ensures faults { CountsFaults (calls_of self.old).faults (calls_of self.new).faults
             (IsOk result) (IsErrOf result ShelfError.Failed) }
     {
-        self.calls.pass()?;
+        if self.parts.number() {
+            self.calls.fault();
+            return Err(ShelfError::Failed);
+        }
         match self.files.file(path) {
             Some(bytes) => {
                 let part = part_of(bytes, at, length);
@@ -195,6 +219,7 @@ impl Shelf for MemShelf {
         ensures listed { IsErrOf result ShelfError.Failed ↔ IsListed (calls_of self.old) }
         ensures handed { handed_by self.new ≡ handed_by self.old }
         ensures calls { calls_of self.new ≡ after_call (calls_of self.old) (shelf_failed result) }
+        ensures parts { parts_of self.new ≡ parts_of self.old }
 
         // Follows from `calls`.
         ensures faults { CountsFaults (calls_of self.old).faults (calls_of self.new).faults
@@ -217,6 +242,7 @@ impl Shelf for MemShelf {
         ensures unlisted { OnOk result (¬ IsListed (calls_of self.old)) }
         ensures handed { handed_by self.new ≡ handed_by self.old }
         ensures calls { calls_of self.new ≡ after_call (calls_of self.old) (shelf_failed result) }
+        ensures parts { parts_of self.new ≡ parts_of self.old }
 
         // Follows from `calls`.
         ensures faults { CountsFaults (calls_of self.old).faults (calls_of self.new).faults
@@ -239,6 +265,7 @@ impl Shelf for MemShelf {
         ensures memory { ¬ IsErrOf result ShelfError.Memory }
         ensures handed { handed_by self.new ≡ handed_by self.old }
         ensures calls { calls_of self.new ≡ after_call (calls_of self.old) (shelf_failed result) }
+        ensures parts { parts_of self.new ≡ parts_of self.old }
 
         // Follows from `calls`.
         ensures faults { CountsFaults (calls_of self.old).faults (calls_of self.new).faults
