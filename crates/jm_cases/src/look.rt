@@ -46,6 +46,7 @@ fn paths_below(
     folder: &str,
 ) -> Result<Option<Vec<String>>, AllocError> {
     case.shelf.fail_on(List::new(alloc));
+    case.shelf.fail_parts_on(List::new(alloc));
     let Ok(names) = case.shelf.names(alloc, folder.as_bytes()) else {
         return Ok(None);
     };

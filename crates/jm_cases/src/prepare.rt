@@ -1,6 +1,7 @@
 //! The steps that print nothing. Each says whether its line was one.
 
 use crate::case::{Case, numbers_from};
+use jm_bytes::List;
 use jm_lines::{Known, first_word};
 use std::alloc::{AllocError, Global};
 
@@ -112,25 +113,42 @@ fn change_file(
 /// How many calls of the shelf fail where all do from one on; no case makes more.
 const LATER: u64 = 100;
 
-/// Makes a call of the shelf fail, or behind its number and `..` this call and all later ones.
-fn fail_shelf(alloc: Global, case: &mut Case, number: &str) -> Result<bool, AllocError> {
+/// The number of a call, or behind a number and `..` this one and all later ones.
+fn failing_calls(alloc: Global, number: &str) -> Result<Option<List<u64>>, AllocError> {
     let (first, count) = match number.split_once("..") {
         Some((first, "")) => (first, LATER),
         _ => (number, 1),
     };
-    let Ok(first) = first.parse::<u64>() else {
+    match first.parse::<u64>() {
+        Ok(first) => Ok(Some(numbers_from(alloc, first, count)?)),
+        Err(_) => Ok(None),
+    }
+}
+
+/// Makes calls of the shelf fail, or those that give a part of a file.
+fn fail_shelf(
+    alloc: Global,
+    case: &mut Case,
+    place: &str,
+    number: &str,
+) -> Result<bool, AllocError> {
+    let Some(calls) = failing_calls(alloc, number)? else {
         return Ok(false);
     };
-    case.shelf.fail_on(numbers_from(alloc, first, count)?);
+    if place == "parts" {
+        case.shelf.fail_parts_on(calls);
+    } else {
+        case.shelf.fail_on(calls);
+    }
     Ok(true)
 }
 
-/// `fail WHERE NUMBER`: which call fails of the shelf, of the input, or of the output or the error
-/// sink of each run.
+/// `fail WHERE NUMBER`: which call fails of the shelf, of its parts, of the input, or of the output
+/// or the error sink of each run.
 fn fail_call(alloc: Global, case: &mut Case, rest: &str) -> Result<bool, AllocError> {
     let (place, number) = first_word(rest);
-    if place == "shelf" {
-        return fail_shelf(alloc, case, number);
+    if place == "shelf" || place == "parts" {
+        return fail_shelf(alloc, case, place, number);
     }
     let Ok(number) = number.parse::<u64>() else {
         return Ok(false);

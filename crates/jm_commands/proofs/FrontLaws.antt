@@ -3,7 +3,7 @@ use Rattle.std.proofs.Common.{◌≡◌, ◌≢◌, ◌+◌, ◌-◌, ◌≤◌,
 use Rattle.std.proofs.Common.{length, take, drop, min, replicate, Option, Some, None, option_map}
 use Rattle.std.proofs.Common.{Result, Ok, Err, refl, sym, ap, ◌∙◌, subst, arith}
 use Rattle.std.proofs.lemmas.List.{append_assoc, length-append, length-replicate, length-take}
-use Rattle.std.proofs.lemmas.List.{length-drop, take_at, take-take, drop-take, take-append-drop}
+use Rattle.std.proofs.lemmas.List.{length-drop, take_all, take_at, take-take, drop-take, take-append-drop}
 use Rattle.jm_bytes.proofs.Choice.{same_ok, same_some}
 use Rattle.jm_form.specs.declared.container.Header.{Header}
 use Rattle.jm_form.specs.declared.container.HeaderFault.{HeaderFault}
@@ -31,7 +31,7 @@ use Rattle.jm_commands.specs.Run.{OpenedComesTo, Opens, PutDoes, ReadsFile, Step
 use Rattle.jm_commands.specs.Sinks.{Seen}
 use Rattle.jm_commands.specs.World.{world}
 use Rattle.jm_commands.proofs.StepLaws.{file_read, file_unread, image_unopened, put_on_text}
-use Rattle.jm_commands.specs.FileParts.{Comes, ReadsFront, ReadsMore, Adds, HasFront, HasLength, HasPart, IsFrontOf, IsHeadOf, LacksPart}
+use Rattle.jm_commands.specs.FileParts.{Comes, ReadsFront, ReadsMore, Adds, HasFront, HasLength, HasPart, IsFrontOf, IsHeadOf, IsPart, LacksPart}
 use Rattle.jm_commands.specs.Run.{HasFile}
 use Rattle.jm_commands.specs.Taken.{TakesFrom, TakesNoMore, TakesOf, TaskTakes, WorkTakes, front_size, front_with, sought_size}
 
@@ -82,6 +82,18 @@ pub lacks_short : (told : Option Files) (path : List ℕ) (at count : ℕ) (shor
 lacks_short None path at count short has other = tt
 lacks_short (Some files) path at count short has other = λ bytes some same.
     let one : short ≡ bytes = same_some _ _ (has ∙ sym some) in other (ap (λ l. length l) one ∙ same)
+
+-- all bytes of a file are those of a part of its length from its first byte on
+pub whole_there : (told : Option Files) (path bytes : List ℕ) (size : ℕ) → HasLength told path (Some size)
+    → IsPart told path 0 size bytes → HasFile told path (Some bytes)
+whole_there None path bytes size long part = tt
+whole_there (Some files) path bytes size long part = go (file files path) refl
+  where
+    go : (found : Option (List ℕ)) → file files path ≡ found → Some bytes ≡ file files path
+    go None is = absurd (no_length files path size is long)
+    go (Some b) is =
+        let all : take size b ≡ b = take_all size b (omega (arith, size_of files path b is size long)) in
+        ap (λ l. Some l) (part_of files path b is 0 size bytes part.1 ∙ all) ∙ sym is
 
 -- Fronts
 
@@ -378,7 +390,7 @@ work_takes_nothing told path (work_of.List include) n = takes_nothing told path 
 work_takes_nothing told path (work_of.Cat name) n = takes_nothing told path (sought_size (λ b. look b name)) n
 work_takes_nothing told path (work_of.Ls folder) n = takes_nothing told path (sought_size (λ b. node_sought b folder)) n
 work_takes_nothing told path (work_of.Extract dir include) n = tt
-work_takes_nothing told path work_of.Serve n = tt
+work_takes_nothing told path work_of.Serve n = takes_nothing told path (λ b. length b) n
 
 task_takes_nothing : (told : Option Files) (given : Task) (n : ℕ) → TaskTakes told given n n
 task_takes_nothing told (task.Image image does) n = work_takes_nothing told image does n

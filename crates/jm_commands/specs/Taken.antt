@@ -40,8 +40,8 @@ abbrev pub TakesFrom : Option Files → List ℕ → (List ℕ → ℕ) → (old
 TakesFrom told path most old new = Shows told (λ files. TakesOf most (file files path) old new)
 
 -- what a work on the image in the file of a path takes: `info`, `verify` and `list` the front,
--- `cat` and `ls` the front and the content of the name or of the folder's node; the others read the
--- whole file
+-- `cat` and `ls` the front and the content of the name or of the folder's node, `serve` the file; of
+-- `extract` nothing is said
 abbrev pub WorkTakes : Option Files → List ℕ → ImageWork → (old new : ℕ) → Type 0
 WorkTakes told path work.Info old new = TakesFrom told path front_size old new
 WorkTakes told path work.Verify old new = TakesFrom told path front_size old new
@@ -51,7 +51,7 @@ WorkTakes told path (work.Cat name) old new =
 WorkTakes told path (work.Ls folder) old new =
     TakesFrom told path (sought_size (λ b. node_sought b folder)) old new
 WorkTakes told path (work.Extract dir include) old new = Unit {0}
-WorkTakes told path work.Serve old new = Unit {0}
+WorkTakes told path work.Serve old new = TakesFrom told path (λ b. length b) old new
 
 -- what a task takes, if it is such a work
 abbrev pub TaskTakes : Option Files → Task → (old new : ℕ) → Type 0

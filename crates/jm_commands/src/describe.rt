@@ -1,12 +1,12 @@
-ghost use Rattle.std.specs.Prelude.{◌≡◌, IsUtf8, List, ℕ};
+ghost use Rattle.std.specs.Prelude.{◌≡◌, IsOk, IsErrOf, IsUtf8, List, ℕ};
+ghost use Rattle.jm_outside.specs.Outcome.{CountsFaults};
 ghost use Rattle.jm_outside.specs.Shelves.{shelf_at};
 ghost use Rattle.jm_commands.specs.Outcome.{describe_outcome, reading};
-ghost use Rattle.jm_commands.specs.Run.{FileComesTo, PutDoes, StepComesTo};
+ghost use Rattle.jm_commands.specs.Run.{FileComesTo, PutDoes, ReadsFile, StepComesTo};
 ghost use Rattle.jm_commands.specs.Sinks.{Seen};
 ghost use Rattle.jm_commands.specs.World.{sink_at, world};
 
 use crate::complaint::Complaint;
-use crate::opened::file_bytes;
 use crate::output::put_output;
 use crate::stop::Stop;
 use jm_bytes::{Or, Text};
@@ -14,6 +14,24 @@ use jm_modinfo::describe_bytes;
 use jm_outside::{Shelf, Sink};
 use jm_texts::{Refusal, describe_text};
 use std::alloc::Global;
+
+/// The bytes of the file at a path, which may be a pipe.
+fn file_bytes<S: Shelf>(alloc: Global, path: &Text, shelf: &mut S) -> Result<Text, Stop>
+    requires { IsUtf8 path.now }
+    ensures files { S.files shelf.new ≡ S.files shelf.old }
+    ensures reads { ReadsFile (S.files shelf.old) path.now result }
+    ensures faults { CountsFaults (S.faults shelf.old) (S.faults shelf.new) (IsOk result)
+        (IsErrOf result Stop.Outside) }
+{
+    match shelf.read(alloc, path.as_slice()) {
+        Ok(Some(bytes)) => Ok(bytes),
+        Ok(None) => {
+            let path = Text::copy_of(alloc, path.as_slice())?;
+            Err(Stop::Complaint(Complaint::NotThere(path)))
+        }
+        Err(error) => Err(Stop::from(error)),
+    }
+}
 
 /// Puts what these bytes, which are those of the file at a path, say as the class of a module.
 fn put_described<O: Sink>(alloc: Global, path: &[u8], bytes: &[u8], out: &mut O) -> Result<(), Stop>

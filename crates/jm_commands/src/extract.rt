@@ -11,7 +11,8 @@ ghost use Rattle.jm_commands.specs.Run.{PutDoes, StepComesTo, WorkComesTo};
 ghost use Rattle.jm_commands.specs.Sinks.{Seen};
 ghost use Rattle.jm_commands.specs.World.{sink_at, world};
 
-use crate::opened::{Opened, file_bytes};
+use crate::front::whole_file;
+use crate::opened::Opened;
 use crate::output::put_output;
 use crate::stop::Stop;
 use crate::workers::Workers;
@@ -84,7 +85,7 @@ pub fn extract_file<T: Threads + Sync, S: Shelf, O: Sink, G: Gate + Sync>(
         (world (shelf_at S.Shelf shelf.old) source (sink_at O.Sink out.old))
         (world (shelf_at S.Shelf shelf.new) source (sink_at O.Sink out.new)) }
 {
-    match file_bytes(workers.alloc, path, shelf) {
+    match whole_file(workers.alloc, path, shelf) {
         Ok(bytes) => match Opened::of(workers, bytes.as_slice()) {
             Ok(image) => {
                 let reads = Blank::new(1);

@@ -1,10 +1,10 @@
 //! The first bytes of a file, up to the end of an image's index.
-ghost use Rattle.std.specs.Prelude.{◌≡◌, ◌≤◌, ◌<◌, ◌+◌, ℕ, List, IfOk, IsOk, IsErrOf, IsUtf8};
+ghost use Rattle.std.specs.Prelude.{◌≡◌, ◌≤◌, ◌<◌, ◌+◌, ℕ, List, IfOk, IsOk, IsErrOf, IsUtf8, length};
 ghost use Rattle.jm_form.specs.Head.{HoldsIndex, IsFileOf};
 ghost use Rattle.jm_outside.specs.Outcome.{CountsFaults};
 ghost use Rattle.jm_commands.specs.FileParts.{ReadsFront, ReadsHead, ReadsLength, ReadsMore};
 ghost use Rattle.jm_commands.specs.FileParts.{ReadsPart};
-ghost use Rattle.jm_commands.specs.Run.{Opens};
+ghost use Rattle.jm_commands.specs.Run.{Opens, ReadsFile};
 ghost use Rattle.jm_commands.specs.Taken.{TakesFrom, front_size};
 
 use crate::complaint::Complaint;
@@ -137,6 +137,21 @@ pub fn file_front<S: Shelf>(alloc: Global, path: &Text, shelf: &mut S) -> Result
         }
         Err(_) => Ok(FileFront { bytes, length }),
     }
+}
+
+/// All bytes of the file at a path, as one part behind its length: a shelf of the system refuses so
+/// what is no file, as a pipe, before it waits for it.
+pub fn whole_file<S: Shelf>(alloc: Global, path: &Text, shelf: &mut S) -> Result<Text, Stop>
+    requires { IsUtf8 path.now }
+    ensures files { S.files shelf.new ≡ S.files shelf.old }
+    ensures reads { ReadsFile (S.files shelf.old) path.now result }
+    ensures takes { TakesFrom (S.files shelf.old) path.now (λ b. length b)
+        (S.handed shelf.old) (S.handed shelf.new) }
+    ensures faults { CountsFaults (S.faults shelf.old) (S.faults shelf.new) (IsOk result)
+        (IsErrOf result Stop.Outside) }
+{
+    let length = file_length(alloc, path, shelf)?;
+    file_part(alloc, path, 0, length as usize, shelf)
 }
 
 /// The index of an image beside the first bytes of its file: a meter of what is read of the index

@@ -12,7 +12,8 @@ ghost use Rattle.jm_commands.specs.Run.{StepComesTo};
 ghost use Rattle.jm_commands.specs.Sinks.{Seen};
 ghost use Rattle.jm_commands.specs.World.{sink_at, world};
 
-use crate::opened::{Opened, file_bytes};
+use crate::front::whole_file;
+use crate::opened::Opened;
 use crate::output::put_output;
 use crate::stop::Stop;
 use crate::workers::Workers;
@@ -86,7 +87,7 @@ fn link_from_image<T: Threads + Sync, S: Shelf, O: Sink, G: Gate + Sync>(
         (world (shelf_at S.Shelf shelf.old) source (sink_at O.Sink out.old))
         (world (shelf_at S.Shelf shelf.new) source (sink_at O.Sink out.new)) }
 {
-    match file_bytes(workers.alloc, path, shelf) {
+    match whole_file(workers.alloc, path, shelf) {
         Ok(bytes) => {
             let bytes = bytes.as_slice();
             match Opened::of(workers, bytes) {

@@ -1,35 +1,13 @@
-ghost use Rattle.std.specs.Prelude.{◌≡◌, ◌<◌, IfOk, IsOk, IsErrOf, IsUtf8};
-ghost use Rattle.jm_outside.specs.Outcome.{CountsFaults};
-ghost use Rattle.jm_commands.specs.Run.{Opens, ReadsFile};
+ghost use Rattle.std.specs.Prelude.{◌≡◌, ◌<◌, IfOk};
+ghost use Rattle.jm_commands.specs.Run.{Opens};
 
 use crate::complaint::Complaint;
 use crate::stop::Stop;
 use crate::workers::Workers;
-use jm_bytes::Text;
 use jm_halves::Gate;
-use jm_outside::Shelf;
 use jm_valid::{Image, OpenError, open_image};
-use std::alloc::Global;
 use std::marker::Model;
 use std::thread::Threads;
-
-/// The bytes of the file at a path.
-pub fn file_bytes<S: Shelf>(alloc: Global, path: &Text, shelf: &mut S) -> Result<Text, Stop>
-    requires { IsUtf8 path.now }
-    ensures files { S.files shelf.new ≡ S.files shelf.old }
-    ensures reads { ReadsFile (S.files shelf.old) path.now result }
-    ensures faults { CountsFaults (S.faults shelf.old) (S.faults shelf.new) (IsOk result)
-        (IsErrOf result Stop.Outside) }
-{
-    match shelf.read(alloc, path.as_slice()) {
-        Ok(Some(bytes)) => Ok(bytes),
-        Ok(None) => {
-            let path = Text::copy_of(alloc, path.as_slice())?;
-            Err(Stop::Complaint(Complaint::NotThere(path)))
-        }
-        Err(error) => Err(Stop::from(error)),
-    }
-}
 
 /// An image beside the bytes that it is: a meter of what is read of it is made of the bytes.
 #[derive(Drop)]

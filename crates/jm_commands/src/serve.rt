@@ -1,5 +1,5 @@
 //! The command `serve`.
-ghost use Rattle.std.specs.Prelude.{◌≡◌, ◌<◌, IsOk, IsErrOf, IsUtf8};
+ghost use Rattle.std.specs.Prelude.{◌≡◌, ◌<◌, IsOk, IsErrOf, IsUtf8, length};
 ghost use Rattle.jm_bytes.specs.Metered.{Metered};
 ghost use Rattle.jm_outside.specs.Outcome.{CountsFaults};
 ghost use Rattle.jm_jrt.specs.Sessions.{Serves};
@@ -7,11 +7,13 @@ ghost use Rattle.jm_commands.specs.Ledgers.{IsLedger};
 ghost use Rattle.jm_commands.specs.Outcome.{reading};
 ghost use Rattle.jm_commands.specs.Run.{StepComesTo, WorkComesTo};
 ghost use Rattle.jm_commands.specs.Stops.{stop_of_session};
+ghost use Rattle.jm_commands.specs.Taken.{TakesFrom};
 ghost use Rattle.jm_commands.specs.World.{world_of};
 
 use crate::blanks::Blanks;
 use crate::complaint::Complaint;
-use crate::opened::{Opened, file_bytes};
+use crate::front::whole_file;
+use crate::opened::Opened;
 use crate::stop::Stop;
 use crate::workers::Workers;
 use jm_bytes::{Meter, Steps, Text};
@@ -72,12 +74,14 @@ pub fn serve_file<T: Threads + Sync, S: Shelf, I: Source, O: Sink, G: Gate + Syn
 ) -> Result<(), Stop>
     requires jobs { 0 < workers.now.jobs }
     requires path { IsUtf8 path.now }
-    ensures { StepComesTo
+    ensures comes { StepComesTo
         (WorkComesTo (S.files shelf.old) (I.rest input.old) path.now ImageWork.Serve) reading result
         (world_of S.Shelf I.Source O.Sink shelf.old input.old out.old)
         (world_of S.Shelf I.Source O.Sink shelf.new input.new out.new) }
+    ensures takes { TakesFrom (S.files shelf.old) path.now (λ b. length b)
+        (S.handed shelf.old) (S.handed shelf.new) }
 {
-    match file_bytes(workers.alloc, path, shelf) {
+    match whole_file(workers.alloc, path, shelf) {
         Ok(bytes) => match Opened::of(workers, bytes.as_slice()) {
             Ok(image) => {
                 let blanks = Blanks::new();

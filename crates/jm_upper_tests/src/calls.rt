@@ -5,7 +5,7 @@ use jm_outside::{MemShelf, MemSink, MemSource};
 use std::alloc::Global;
 
 /// The numbers of calls as a list.
-fn call_numbers(alloc: Global, numbers: &[u64]) -> Result<List<u64>, NoMemory> {
+pub fn call_numbers(alloc: Global, numbers: &[u64]) -> Result<List<u64>, NoMemory> {
     match Vec::from_slice(alloc, numbers) {
         Ok(numbers) => Ok(List::from_vec(numbers)),
         Err(_) => Err(NoMemory),

@@ -6,7 +6,7 @@
 //! `length` answers a number or `-`. For `part` the place and the number of bytes that are asked
 //! for, with a space between, stand where a write has its bytes; it answers as `read`.
 
-use crate::calls::shelf_of;
+use crate::calls::{call_numbers, shelf_of};
 use jm_bytes::{NoMemory, Text, extend};
 use jm_outside::{Shelf, ShelfError};
 use std::alloc::Global;
@@ -172,15 +172,16 @@ pub const PARTS: &[&str] = &[
     "a part behind the list|part|p/six|0 1|z",
 ];
 
-/// The first seven calls fail, the fourth of them with half its bytes added.
+/// The first six calls fail, the fourth of them with half its bytes added, and the first one for a
+/// part, which has a number of its own.
 const FAILING: &[&str] = &[
     "a list fails|names|d||!",
+    "a part fails|part|d/a|0 2|!",
     "a read fails|read|d/a||!",
     "a create fails|create|d/a||!",
     "an append fails|append|d/a|12345|!",
     "a finish fails|finish|||!",
     "a length fails|length|d/a||!",
-    "a part fails|part|d/a|0 2|!",
     "a list|names|d||a,",
     "half was added|read|d/a||one12",
     "the same list|names|d||a,",
@@ -211,7 +212,8 @@ fn a_shelf_in_memory_gives_parts(rt: HostRuntime) -> Result<(), Fail> {
 
 #[test]
 fn a_shelf_in_memory_fails_the_listed_calls(rt: HostRuntime) -> Result<(), Fail> {
-    let mut shelf = shelf_of(rt.alloc(), &[("d/a", b"one")], &[0, 1, 2, 3, 4, 5, 6])?;
+    let mut shelf = shelf_of(rt.alloc(), &[("d/a", b"one")], &[0, 1, 2, 3, 4, 5])?;
+    shelf.fail_parts_on(call_numbers(rt.alloc(), &[0])?);
     assert_eq!(rt; unlike(rt.alloc(), &mut shelf, FAILING)?, None);
     assert_eq!(rt; shelf.file(b"d/a"), Some(b"12345".as_slice()));
     Ok(())

@@ -15,14 +15,14 @@ returns-in-Ok-of g c source =
     let dir = c.args.work.dir.now in
     let include = c.args.work.include.now in
     let did = c.in_ok-count-in-Ok-of.ensures in
-    let old = world (shelf_at g.S.Shelf c.file_bytes.new.shelf) source (sink_at g.O.Sink c.args.out.now) in
+    let old = world (shelf_at g.S.Shelf c.whole_file.new.shelf) source (sink_at g.O.Sink c.args.out.now) in
     let new = world (shelf_at g.S.Shelf c.extract_counted.new.shelf) source (sink_at g.O.Sink c.put_count.new.out) in
     let put = extract_put dir (extracted c.in-Ok-of.image include) old new refl _ c.put_count.result did.extracts did.whole
     (did.faults.kept refl) c.put_count.ensures in
     let does = on_any_text (image_outcome (work.Extract dir include) b) (extract_outcome dir (extracted b include)) c.put_count.result
     old new (λ text. refl) (rw c.in-Ok-of.ensures.same at put) in
     whole_read (work.Extract dir include) c.args.path.now b (shelf_at g.S.Shelf c.args.shelf.now)
-    (world (shelf_at g.S.Shelf c.file_bytes.new.shelf) source (sink_at g.O.Sink c.args.out.now)) _ _
+    (world (shelf_at g.S.Shelf c.whole_file.new.shelf) source (sink_at g.O.Sink c.args.out.now)) _ _
     (rw c.as_slice.ensures read.reads) read.files (read.faults.kept refl) (rw c.in-Ok-of.ensures.opens does)
 
 pub returns-in_err-count-in-Ok-of : goal.returns-in_err-count-in-Ok-of
@@ -32,7 +32,7 @@ returns-in_err-count-in-Ok-of g c source =
     let dir = c.args.work.dir.now in
     let include = c.args.work.include.now in
     let did = c.in_err-count-in-Ok-of.ensures in
-    let old = world (shelf_at g.S.Shelf c.file_bytes.new.shelf) source (sink_at g.O.Sink c.args.out.now) in
+    let old = world (shelf_at g.S.Shelf c.whole_file.new.shelf) source (sink_at g.O.Sink c.args.out.now) in
     let new = world (shelf_at g.S.Shelf c.extract_counted.new.shelf) source (sink_at g.O.Sink c.args.out.now) in
     let is = from_stop c.from_residual.result _ c.from_residual.ensures.1 in
     let stopped = extract_stopped dir (extracted c.in-Ok-of.image include) old new refl _ did.extracts

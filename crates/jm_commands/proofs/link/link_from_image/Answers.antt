@@ -13,14 +13,14 @@ returns-in-Ok-of g c source =
     let read = c.in-Ok.ensures in
     let b = c.as_slice-bytes.result.now in
     let link = c.args.task.now in
-    let old = world (shelf_at g.S.Shelf c.file_bytes.new.shelf) source (sink_at g.O.Sink c.args.out.now) in
+    let old = world (shelf_at g.S.Shelf c.whole_file.new.shelf) source (sink_at g.O.Sink c.args.out.now) in
     let new = world (shelf_at g.S.Shelf c.link_counted.new.shelf) source (sink_at g.O.Sink c.put_summary.new.out) in
     let put = image_put link_text link c.in-Ok-of.image old new refl _ c.put_summary.result c.in_ok-summary-in-Ok-of.ensures
     c.put_summary.ensures in
     let does = rw c.in-Ok-of.ensures.same at put in
     file_read (λ bytes. OpenedComesTo (ImageLinkComesTo link_text link bytes) (first_damage bytes)) c.args.path.now b
     (shelf_at g.S.Shelf c.args.shelf.now)
-    (world (shelf_at g.S.Shelf c.file_bytes.new.shelf) source (sink_at g.O.Sink c.args.out.now)) _ _
+    (world (shelf_at g.S.Shelf c.whole_file.new.shelf) source (sink_at g.O.Sink c.args.out.now)) _ _
     (rw c.as_slice-bytes.ensures read.reads) read.files (read.faults.kept refl) (rw c.in-Ok-of.ensures.opens does)
 
 pub returns-in_err-summary-in-Ok-of : goal.returns-in_err-summary-in-Ok-of
@@ -28,7 +28,7 @@ returns-in_err-summary-in-Ok-of g c source =
     let read = c.in-Ok.ensures in
     let b = c.as_slice-bytes.result.now in
     let link = c.args.task.now in
-    let old = world (shelf_at g.S.Shelf c.file_bytes.new.shelf) source (sink_at g.O.Sink c.args.out.now) in
+    let old = world (shelf_at g.S.Shelf c.whole_file.new.shelf) source (sink_at g.O.Sink c.args.out.now) in
     let new = world (shelf_at g.S.Shelf c.link_counted.new.shelf) source (sink_at g.O.Sink c.args.out.now) in
     let is = from_stop c.from_residual.result _ c.from_residual.ensures.1 in
     let stopped = image_stopped link_text link c.in-Ok-of.image old new refl _ c.in_err-summary-in-Ok-of.ensures refl in

@@ -48,7 +48,10 @@ returns-in-Extract-clause-comes g c =
     rw (c.in-Image.is, c.in-Extract.is, sym c.as_slice-in-Extract.ensures) (c.extract_file.ensures (source_at g.I.Source c.args.input.now))
 
 pub returns-in-Serve-clause-comes : goal.returns-in-Serve-clause-comes
-returns-in-Serve-clause-comes g c = rw (c.in-Image.is, c.in-Serve.is) c.serve_file.ensures
+returns-in-Serve-clause-comes g c = rw (c.in-Image.is, c.in-Serve.is) c.serve_file.ensures.comes
+
+pub returns-in-Serve-clause-takes : goal.returns-in-Serve-clause-takes
+returns-in-Serve-clause-takes g c = rw (c.in-Image.is, c.in-Serve.is) c.serve_file.ensures.takes
 
 pub returns-in-Gen-clause-comes : goal.returns-in-Gen-clause-comes
 returns-in-Gen-clause-comes g c = rw c.in-Gen.is (c.gen_command.ensures (source_at g.I.Source c.args.input.now))
