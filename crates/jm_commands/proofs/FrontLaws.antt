@@ -397,13 +397,13 @@ task_takes_nothing told (task.Image image does) n = work_takes_nothing told imag
 task_takes_nothing told (task.Link link) n = tt
 task_takes_nothing told (task.Gen gen) n = tt
 task_takes_nothing told (task.Describe file) n = tt
-task_takes_nothing told task.Help n = tt
-task_takes_nothing told task.Version n = tt
+task_takes_nothing told task.Help n = refl
+task_takes_nothing told task.Version n = refl
 
 -- words that weren't read to a command take nothing
 pub words_take_nothing : (told : Option Files) (asked : Result Command WordsFault) (n : ℕ) → TakesNoMore told asked n n
 words_take_nothing told (Ok command) n = task_takes_nothing told command.task n
-words_take_nothing told (Err fault) n = tt
+words_take_nothing told (Err fault) n = refl
 
 -- words that were read to a command take what its task does
 pub words_take : (told : Option Files) (asked : Result Command WordsFault) (given : Command) (old new : ℕ)

@@ -53,12 +53,17 @@ WorkTakes told path (work.Ls folder) old new =
 WorkTakes told path (work.Extract dir include) old new = Unit {0}
 WorkTakes told path work.Serve old new = TakesFrom told path (λ b. length b) old new
 
--- what a task takes, if it is such a work
+-- what a task takes: such a work as said, `--help` and `--version` nothing; of the others nothing is
+-- said
 abbrev pub TaskTakes : Option Files → Task → (old new : ℕ) → Type 0
 TaskTakes told (task.Image image work) old new = WorkTakes told image work old new
-TaskTakes told _ old new = Unit {0}
+TaskTakes told (task.Link link) old new = Unit {0}
+TaskTakes told (task.Gen gen) old new = Unit {0}
+TaskTakes told (task.Describe file) old new = Unit {0}
+TaskTakes told task.Help old new = new ≡ old
+TaskTakes told task.Version old new = new ≡ old
 
--- what a run of all words takes, by the task of their command
+-- what a run of all words takes: their command as its task does, faulty words nothing
 abbrev pub TakesNoMore : Option Files → Result Command WordsFault → (old new : ℕ) → Type 0
 TakesNoMore told (Ok command) old new = TaskTakes told command.task old new
-TakesNoMore told (Err fault) old new = Unit {0}
+TakesNoMore told (Err fault) old new = new ≡ old

@@ -66,3 +66,9 @@ returns-in-Help-clause-comes g c = rw c.in-Help.is (put_comes (λ due. due ≡ d
 pub returns-in-Version-clause-comes : goal.returns-in-Version-clause-comes
 returns-in-Version-clause-comes g c = rw c.in-Version.is (put_comes (λ due. due ≡ done version_text) without_files
     (done version_text) _ _ _ refl c.version_command.ensures refl refl refl (λ ok. (refl, refl)))
+
+pub returns-in-Help-clause-takes : goal.returns-in-Help-clause-takes
+returns-in-Help-clause-takes g c = rw c.in-Help.is refl
+
+pub returns-in-Version-clause-takes : goal.returns-in-Version-clause-takes
+returns-in-Version-clause-takes g c = rw c.in-Version.is refl
