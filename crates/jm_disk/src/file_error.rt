@@ -1,5 +1,6 @@
 //! What a call of the file system ended with in place of its answer.
 use jm_bytes::NoMemory;
+use jm_outside::SystemError;
 use std::alloc::{AllocError, AllocFailed, Global};
 use std::io::ErrorKind;
 use std::{fmt, io};
@@ -13,17 +14,20 @@ pub enum Reason {
     TooLarge,
     /// The folder has more files and folders than may be listed.
     TooMany,
-    /// The path isn't UTF-8.
+    /// The path, or a name in a folder that is listed, isn't UTF-8.
     NotText,
     /// A file or a folder went away while its folder was listed.
     Vanished,
     /// The file gave more or fewer bytes than it had when it was opened, or fewer than its length
     /// that was told.
     Changed,
-    /// What is to be replaced, or to be read in parts, is neither a file nor a link to one.
+    /// What is to be replaced, or to be read in parts, is neither a file nor a link to one, or a
+    /// path at which a file is to be made ends in no name.
     NotFile,
     /// What stands in a folder is neither a file nor a folder.
     NotListed,
+    /// A file that was made beside its place, and whose run ended before it took its name.
+    Unfinished,
     /// A link leads nowhere.
     LeadsNowhere,
     /// More links than the system follows on one way, as in a ring of them.
@@ -37,7 +41,7 @@ pub enum Reason {
 impl fmt::Display for Reason {
     fn fmt<W: fmt::Write>(&self, f: &mut fmt::Formatter<W>) -> fmt::Result {
         let text = match self {
-            Reason::System(error) => return error.kind().fmt(f),
+            Reason::System(error) => return SystemError(*error).fmt(f),
             Reason::TooLarge => "more than 4294967296 bytes",
             Reason::TooMany => "more than 16777216 files and folders",
             Reason::NotText => "not UTF-8",
@@ -45,6 +49,7 @@ impl fmt::Display for Reason {
             Reason::Changed => "changed while it was read",
             Reason::NotFile => "neither a file nor a link to one",
             Reason::NotListed => "neither a file nor a folder",
+            Reason::Unfinished => "an unfinished file of a run that was stopped",
             Reason::LeadsNowhere => "a link that leads nowhere",
             Reason::ManyLinks => "more than 40 links on one way, or links in a ring",
             Reason::NoName => "1000 unfinished files stand beside it",
@@ -86,14 +91,17 @@ impl From<Reason> for FileError {
     }
 }
 
-/// `Memory` where the system found none, and else `System`.
+/// `System` but for three kinds: where no memory was found, for links without an end, and for a
+/// name that isn't UTF-8, of which the system itself has no error and so no number.
 impl From<io::Error> for FileError {
     fn from(error: io::Error) -> FileError {
-        if error.kind() == ErrorKind::OutOfMemory {
-            FileError::from(Reason::Memory)
-        } else {
-            FileError::from(Reason::System(error))
-        }
+        let reason = match (error.kind(), error.raw_os_error()) {
+            (ErrorKind::OutOfMemory, _) => Reason::Memory,
+            (ErrorKind::FilesystemLoop, _) => Reason::ManyLinks,
+            (ErrorKind::InvalidFilename, None) => Reason::NotText,
+            _ => Reason::System(error),
+        };
+        FileError::from(reason)
     }
 }
 

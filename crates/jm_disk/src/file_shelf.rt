@@ -15,8 +15,13 @@ use std::str;
 /// The shelf of the file system, which tells no files. A path is the system's: one that begins with
 /// no slash goes from the folder in which the program runs.
 ///
+/// A file is made beside its place, in the same folder, as its name with `.jm_tool-` and a number
+/// behind, and takes its name when it is complete. So what was at its path is replaced whole or
+/// stays, and no other run sees a front of it.
+///
 /// The file that was made last is open and unfinished until the next one is made, or until a call
-/// looks at files or ends their making. Bytes go to the system at once, and to the end of the file.
+/// looks at files or ends their making. Bytes go to the system at once, and to the end of the file;
+/// only `finish` waits until they are on the disk.
 ///
 /// The file of which the length or a part was asked last is open until another file's is, or until
 /// files are made: what comes of it is of one file, whatever stands at its path by then.
@@ -81,7 +86,7 @@ impl<'a, R: Files + AllocGlobal> FileShelf<'a, R> {
         }
     }
 
-    /// Finishes the file that isn't finished, if there is one.
+    /// Has the file that isn't finished take its name, if there is one.
     fn settle(&mut self, alloc: Global) -> Result<(), ShelfError>
         ensures whole { IsTrue (is_none self.new.made_last) }
         ensures handed { self.new.handed ≡ self.old.handed }
@@ -90,7 +95,7 @@ impl<'a, R: Files + AllocGlobal> FileShelf<'a, R> {
     {
         match self.made_last.take() {
             Some(file) => {
-                let answer = file.finish(self.rt);
+                let answer = file.take_place(self.rt);
                 self.judge(alloc, b"", answer)
             }
             None => Ok(()),
@@ -152,8 +157,9 @@ impl<'a, R: Files + AllocGlobal> Shelf for FileShelf<'a, R> {
 
     /// Goes through the folder to any depth, and through links to files and folders as if these
     /// stood there. A link that leads nowhere is a fault, and so are a ring of links, what is
-    /// neither a file nor a folder, a folder that can't be listed, a name that isn't UTF-8, and
-    /// more than 16,777,216 files and folders. A folder that isn't there has no names.
+    /// neither a file nor a folder, an unfinished file that a run left, a folder that can't be
+    /// listed, a name that isn't UTF-8, and more than 16,777,216 files and folders. A folder that
+    /// isn't there has no names.
     fn names(&mut self, alloc: Global, dir: &[u8]) -> Result<List<Text>, ShelfError> {
         self.settle(alloc)?;
         let answer = names_in(self.rt, alloc, dir);
@@ -174,8 +180,8 @@ impl<'a, R: Files + AllocGlobal> Shelf for FileShelf<'a, R> {
         Ok(Some(text))
     }
 
-    /// None as `read`. What is there and is neither a file nor a link to one is a fault. A file
-    /// that is open has the length that it has by now.
+    /// None as `read`. What is there and is neither a file nor a link to one is a fault, and isn't
+    /// opened. A file that is open has the length that it has by now.
     fn length(&mut self, alloc: Global, path: &[u8]) -> Result<Option<u64>, ShelfError> {
         self.open(alloc, path)?;
         let Some(file) = &mut self.parted else {
@@ -185,8 +191,8 @@ impl<'a, R: Files + AllocGlobal> Shelf for FileShelf<'a, R> {
         Ok(Some(self.judge(alloc, path, answer)?))
     }
 
-    /// None and a fault as `length`. Fewer bytes than the length that was told last promises are a
-    /// fault: the file got shorter.
+    /// None and a fault as `length`. More than 4,294,967,296 bytes are a fault, and so are fewer
+    /// than the length that was told last promises: the file got shorter.
     fn read_part(
         &mut self,
         alloc: Global,
@@ -204,8 +210,10 @@ impl<'a, R: Files + AllocGlobal> Shelf for FileShelf<'a, R> {
         Ok(Some(text))
     }
 
-    /// Makes the folders of the path that are missing. Where a file is there, or a link to one, it
-    /// stays until the new one is finished; where anything else is there, that is a fault.
+    /// Makes the file beside its place, and the folders of the path that are missing. Where a file
+    /// is at the path, or a link to one, it stays until the new one takes its name, which has its
+    /// permissions; where anything else is there, that is a fault, and so is a path that ends in no
+    /// name. The file that was made before takes its name first.
     fn create(&mut self, alloc: Global, path: &[u8]) -> Result<(), ShelfError> {
         self.parted = None;
         self.settle(alloc)?;
@@ -214,8 +222,9 @@ impl<'a, R: Files + AllocGlobal> Shelf for FileShelf<'a, R> {
         Ok(())
     }
 
-    /// Makes no folder: one that is missing is a fault. Where bytes can't be added to the file that
-    /// was made last, it is removed.
+    /// Adds to the file that was made last, and else to one that is there, in its place: where none
+    /// is, that is a fault. Where bytes can't be added to the file that was made last, it is
+    /// removed.
     fn append(&mut self, alloc: Global, path: &[u8], bytes: &[u8]) -> Result<(), ShelfError> {
         self.parted = None;
         let answer = match &mut self.made_last {
@@ -231,8 +240,18 @@ impl<'a, R: Files + AllocGlobal> Shelf for FileShelf<'a, R> {
         self.judge(alloc, path, answer)
     }
 
+    /// Has the bytes of the file that was made last on the disk, and then has it take its name.
+    /// Where they can't be had there, it is removed: the system tells of lost bytes only once.
     fn finish(&mut self, alloc: Global) -> Result<(), ShelfError> {
         self.parted = None;
+        let answer = match &self.made_last {
+            Some(file) => file.flush(alloc),
+            None => Ok(()),
+        };
+        if answer.is_err() {
+            self.give_up();
+        }
+        self.judge(alloc, b"", answer)?;
         self.settle(alloc)
     }
 

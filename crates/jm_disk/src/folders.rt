@@ -3,6 +3,7 @@ ghost use Rattle.std.specs.Prelude.{◌∷◌, ◌++◌, [], All, IsUtf8, IfOk, 
 ghost use Rattle.jm_outside.specs.Files.{Rising};
 
 use crate::file_error::{FileError, Reason};
+use crate::new_file::is_unfinished;
 use crate::paths::{Kind, is_absence, kind_at, node_at, text_of};
 use jm_bytes::{List, Text};
 use std::alloc::Global;
@@ -118,6 +119,10 @@ fn add_entries<'a, R: Files + AllocGlobal>(
         tree.entry_count += 1;
         let name = entry.file_name();
         match kind {
+            Kind::File if is_unfinished(name) => {
+                let place = entry.path().to_string_lossy();
+                return Err(FileError::from(Reason::Unfinished).at(alloc, place));
+            }
             Kind::File => tree.names.push(format!(in alloc; "{inner}{name}")?)?,
             Kind::Folder => tree.folders.push(format!(in alloc; "{inner}{name}/")?)?,
         }

@@ -2,8 +2,8 @@
 ghost use Rattle.std.specs.Prelude.{◌≤◌, IfOk, length};
 
 use crate::file_error::{FileError, Reason};
-use crate::paths::{is_absence, text_of};
-use crate::reading::read_up_to;
+use crate::paths::{is_absence, is_file_at, text_of};
+use crate::reading::{MOST_BYTES, read_up_to};
 use jm_bytes::Text;
 use std::alloc::Global;
 use std::fs;
@@ -21,7 +21,7 @@ pub struct PartedFile<F: Read + Seek + OpenFile + Drop> {
 }
 
 /// The file of a path: the one that was kept, if it is for this path, and else the one that stands
-/// there, or None where none does.
+/// there, or None where none does. What is no file isn't opened: a pipe would wait for a writer.
 pub fn open_for<R: Files + AllocGlobal>(
     rt: &R,
     kept: Option<PartedFile<R::File>>,
@@ -31,11 +31,15 @@ pub fn open_for<R: Files + AllocGlobal>(
         Some(file) if file.path.as_bytes() == path => Ok(Some(file)),
         Some(_) | None => {
             let path = text_of(path)?;
+            if !is_file_at(rt, path)? {
+                return Ok(None);
+            }
             let file = match fs::open(rt, path) {
                 Ok(file) => file,
                 Err(e) if is_absence(e.kind()) => return Ok(None),
                 Err(e) => return Err(FileError::from(e)),
             };
+            // Another thing may stand there by now.
             if !file.metadata()?.is_file() {
                 return Err(FileError::from(Reason::NotFile));
             }
@@ -56,12 +60,16 @@ impl<F: Read + Seek + OpenFile + Drop> PartedFile<F> {
         Ok(self.told_length)
     }
 
-    /// The bytes from a place on, so many or as many as the file has there now. Fewer than there
-    /// were by the length that was told last are a fault.
+    /// The bytes from a place on, so many or as many as the file has there now, and at most as many
+    /// as a file may have that is read. Fewer than there were by the length that was told last are
+    /// a fault.
     pub fn part(&mut self, alloc: Global, at: u64, count: usize) -> Result<Text, FileError>
         ensures { IfOk result (λ text. length text ≤ count) }
     {
         let rest = self.file.metadata()?.len().saturating_sub(at) as usize;
+        if count.min(rest) as u64 > MOST_BYTES {
+            return Err(FileError::from(Reason::TooLarge));
+        }
         let mut bytes = Vec::new(alloc);
         // The system takes no place that is far behind the end.
         if rest > 0 {

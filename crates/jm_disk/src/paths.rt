@@ -30,10 +30,20 @@ pub fn node_at<R: Files>(rt: &R, path: &str) -> Result<Option<(u64, u64)>, FileE
 
 /// What a way that ends in a link comes to.
 fn behind_link(error: io::Error) -> FileError {
-    match error.kind() {
-        ErrorKind::FilesystemLoop => FileError::from(Reason::ManyLinks),
-        kind if is_absence(kind) => FileError::from(Reason::LeadsNowhere),
-        _ => FileError::from(error),
+    if is_absence(error.kind()) {
+        FileError::from(Reason::LeadsNowhere)
+    } else {
+        FileError::from(error)
+    }
+}
+
+/// Whether a file stands at a path, or a link to one. What else is there is a fault.
+pub fn is_file_at<R: Files>(rt: &R, path: &str) -> Result<bool, FileError> {
+    match fs::metadata(rt, path) {
+        Ok(found) if found.is_file() => Ok(true),
+        Ok(_) => Err(FileError::from(Reason::NotFile)),
+        Err(e) if is_absence(e.kind()) => Ok(false),
+        Err(e) => Err(FileError::from(e)),
     }
 }
 
@@ -64,35 +74,57 @@ pub fn kind_at<R: Files>(rt: &R, path: Path<'_>) -> Result<Kind, FileError> {
     }
 }
 
-/// A file that is to be replaced: its path without a link in it, and who may do what with it.
+/// Where a file is to be made: its path without a link at its end, and the permissions of the file
+/// that it replaces, or None where nothing is there.
 #[derive(Drop)]
-pub struct OldFile {
+pub struct Place {
     pub path: String,
-    pub mode: u32,
+    pub old_mode: Option<u32>,
 }
 
-/// The file at a path, or the one that the link there leads to. It may be written to.
-pub fn old_file<R: Files + AllocGlobal>(rt: &R, path: &str) -> Result<OldFile, FileError> {
-    let there = fs::symlink_metadata(rt, path)?;
-    let old = if there.is_symlink() {
-        linked_file(rt, path)?
+/// The place of a file that is to be made at a path. A file that is there may be written to.
+pub fn place_at<R: Files + AllocGlobal>(rt: &R, path: &str) -> Result<Place, FileError> {
+    if !ends_in_name(path) {
+        return Err(FileError::from(Reason::NotFile));
+    }
+    let there = match fs::symlink_metadata(rt, path) {
+        Ok(there) => there,
+        Err(e) if e.kind() == ErrorKind::NotFound => {
+            return Ok(Place {
+                path: String::from_str(rt.alloc(), path)?,
+                old_mode: None,
+            });
+        }
+        Err(e) => return Err(FileError::from(e)),
+    };
+    let place = if there.is_symlink() {
+        linked_place(rt, path)?
     } else if there.is_file() {
-        OldFile {
+        Place {
             path: String::from_str(rt.alloc(), path)?,
-            mode: there.mode() & 0o777,
+            old_mode: Some(there.mode() & 0o777),
         }
     } else {
         return Err(FileError::from(Reason::NotFile));
     };
     let _writable = fs::OpenOptions::new()
         .append(true)
-        .open(rt, old.path.as_str())?;
-    Ok(old)
+        .open(rt, place.path.as_str())?;
+    Ok(place)
 }
 
-/// The file that a link leads to. What has no path of its own is none, as a file behind a stream
-/// that was removed.
-fn linked_file<R: Files + AllocGlobal>(rt: &R, path: &str) -> Result<OldFile, FileError> {
+/// Whether the last part of a path is a name, which no folder has by itself.
+fn ends_in_name(path: &str) -> bool {
+    let last = match path.rsplit_once('/') {
+        Some((_, last)) => last,
+        None => path,
+    };
+    !matches!(last, "" | "." | "..")
+}
+
+/// The place of the file that a link leads to. What has no path of its own is none, as a file
+/// behind a stream that was removed.
+fn linked_place<R: Files + AllocGlobal>(rt: &R, path: &str) -> Result<Place, FileError> {
     let target = match fs::metadata(rt, path) {
         Ok(target) if target.is_file() => target,
         Ok(_) => return Err(FileError::from(Reason::NotFile)),
@@ -103,8 +135,8 @@ fn linked_file<R: Files + AllocGlobal>(rt: &R, path: &str) -> Result<OldFile, Fi
     if (found.dev(), found.ino()) != (target.dev(), target.ino()) {
         return Err(FileError::from(Reason::NotFile));
     }
-    Ok(OldFile {
+    Ok(Place {
         path: real,
-        mode: target.mode() & 0o777,
+        old_mode: Some(target.mode() & 0o777),
     })
 }

@@ -10,8 +10,8 @@ use std::io::{ErrorKind, Read};
 use std::rt::Files;
 use std::{fs, io};
 
-/// The most bytes that a file may have which is read.
-const MOST_BYTES: u64 = 4_294_967_296;
+/// The most bytes that a file, or a part of one, may have which is read.
+pub const MOST_BYTES: u64 = 4_294_967_296;
 
 /// The most bytes that one read asks for.
 const MOST_PIECE: usize = 256 * 1024;

@@ -29,11 +29,13 @@ fn remove<R: Env + Files + AllocGlobal>(rt: &R, id: u32) -> Result<(), Fail> {
     Ok(fs::remove_dir_all(rt, own.as_str())?)
 }
 
-/// Links to a file, to folders, to nothing, to a device and to the folder in which the link stands.
+/// Links to a file, to folders, to nothing, to a device and to the folder in which the link stands,
+/// and a file as a run that was stopped leaves it.
 fn make_links<R: Files>(rt: &R) -> io::Result<()> {
-    for folder in ["d/empty", "gone", "ring", "device"] {
+    for folder in ["d/empty", "gone", "ring", "device", "left"] {
         fs::create_dir(rt, folder)?;
     }
+    fs::write(rt, "left/x.jm_tool-12", "")?;
     symlink(rt, "a b", "d/link")?;
     symlink(rt, "a/b", "d/way")?;
     symlink(rt, "d", "f")?;
@@ -66,6 +68,14 @@ const LINKED: &[&str] = &[
     "a file in place of a folder is a fault of a create|create|d/a/b.txt/c||!",
     "a folder in place of a file is a fault of a create|create|d/empty||!",
     "a folder that isn't there is a fault of an append|append|e/a|1|!",
+];
+
+/// No folder is made for a path that can't be a file's.
+const NAMELESS: &[&str] = &[
+    "the last part is a parent|create|none/x/..||!",
+    "it is the folder itself|create|none/.||!",
+    "there is none|create|none/||!",
+    "nothing is there|length|none||-",
 ];
 
 const FOLDERS: &[&str] = &[
@@ -106,6 +116,16 @@ const SCRIPTS: &[(&str, &[&str], Option<&str>)] = &[
         Some("gone/x: a link that leads nowhere"),
     ),
     (
+        "an unfinished file is a fault with its own path",
+        &["the folder is no list|names|left||!"],
+        Some("left/x.jm_tool-12: an unfinished file of a run that was stopped"),
+    ),
+    (
+        "a path that ends in no name makes no folder",
+        NAMELESS,
+        Some("none/: neither a file nor a link to one"),
+    ),
+    (
         "a device isn't replaced",
         &["the device is no file|create|device/x||!"],
         Some("device/x: neither a file nor a link to one"),
@@ -128,7 +148,8 @@ const SCRIPTS: &[(&str, &[&str], Option<&str>)] = &[
 ];
 
 /// The bytes of a file while it is made over another one; then, when it was given up, whether it is
-/// there and the bytes of the other one; and whether one is there that was given up where none was.
+/// there and the bytes of the other one. Of a file where none was, whether one is there while it is
+/// made, and when it was given up; and the bytes of one that took its name.
 fn given_up<R: Files + AllocGlobal>(rt: &R) -> Result<String, Fail> {
     let alloc = rt.alloc();
     let mut shelf = FileShelf::new(rt);
@@ -139,9 +160,14 @@ fn given_up<R: Files + AllocGlobal>(rt: &R) -> Result<String, Fail> {
     let is_left = fs::exists(rt, "d/a b.jm_tool-0")?;
     let old = fs::read_to_string(rt, "d/a b")?;
     shelf.create(alloc, b"new")?;
+    let is_early = fs::exists(rt, "new")?;
     shelf.give_up();
     let is_new = fs::exists(rt, "new")?;
-    Ok(format!(in alloc; "{made} {is_left} {old} {is_new}")?)
+    shelf.create(alloc, b"new")?;
+    shelf.append(alloc, b"new", b"1")?;
+    shelf.finish(alloc)?;
+    let new = fs::read_to_string(rt, "new")?;
+    Ok(format!(in alloc; "{made} {is_left} {old} {is_early} {is_new} {new}")?)
 }
 
 /// The length of the file `open`, a space, and what it has of the three bytes from its second on.
@@ -188,7 +214,7 @@ fn the_system_keeps_files(rt: HostRuntime) -> Result<(), Fail> {
         assert_eq!(rt; unlike(rt.alloc(), &mut shelf, script)?, None, "{shows}");
         assert_eq!(rt; shelf.last_failure(), *failure, "{shows}");
     }
-    assert_eq!(rt; given_up(&rt)?.as_str(), "55555 false 333 false");
+    assert_eq!(rt; given_up(&rt)?.as_str(), "55555 false 333 false false 1");
     assert_eq!(rt; kept_open(&rt)?.as_str(), "6 bcd, true, 2 b, 2 b, 6 234");
     let mut sink = StdSink::new(fs::create(&rt, "stream")?);
     assert_eq!(rt; put_marks(rt.alloc(), &mut sink)?.as_str(), "...");
