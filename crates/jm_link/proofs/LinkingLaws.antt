@@ -16,7 +16,7 @@ use Rattle.jm_form.specs.Layout.{Written, names_of}
 use Rattle.jm_names.specs.ByName.{Named}
 use Rattle.jm_names.specs.NameFaults.{IsSound}
 use Rattle.jm_names.specs.Names.{is_node}
-use Rattle.jm_outside.specs.Files.{Files, file}
+use Rattle.jm_outside.specs.Files.{Files}
 use Rattle.jm_outside.specs.Holds.{Holds, HoldsPart}
 use Rattle.jm_outside.specs.Outcome.{Rose, Shows}
 use Rattle.jm_outside.specs.Shelves.{ShelfFailed, ShelfSeen}
@@ -29,7 +29,7 @@ use Rattle.jm_modpath.specs.declared.refusal.PathStop.{PathStop}
 use Rattle.jm_modpath.specs.declared.refusal.PathStop.TheVariants as path_stop
 use Rattle.jm_modpath.specs.declared.visible.VisibleModule.{VisibleModule}
 use Rattle.jm_modpath.specs.Finding.{AreVisible, ShowsModules}
-use Rattle.jm_modpath.specs.Modules.{candidates}
+use Rattle.jm_modpath.specs.Modules.{candidates, visible}
 use Rattle.jm_texts.specs.declared.refusal.Refusal.{Refusal}
 use Rattle.jm_texts.specs.NameRefusals.{first_bad_name, name_refusal}
 use Rattle.jm_link.specs.declared.linking.LinkStop.{LinkStop}
@@ -41,14 +41,13 @@ use Rattle.jm_link.specs.Closing.{ClosesAmong, ClosesWith, IsRefusedAmong}
 use Rattle.jm_link.specs.Linked.{IsGatheredTo, LinkedImage, LinksAmong, PlugsTo, Request, image_with}
 use Rattle.jm_link.specs.Linked.{laid_out, layout_refusal, path_refusal_as, plugging_refusal}
 use Rattle.jm_link.specs.Links.{BreaksOff, ComesTo, IsLaid, LinksBy, PoolComesTo, TellsNothing}
-use Rattle.jm_link.specs.ResourceFiles.{file_names, pair_of}
+use Rattle.jm_link.specs.ResourceFiles.{IsTakenFrom, IsToldIn, file_names, pair_of}
 use Rattle.jm_link.specs.Resources.{AreFit, link_files, resources_in, resources_of}
-use Rattle.jm_link.specs.Showing.{ListsItsFiles}
 use Rattle.jm_link.specs.Steps.{StepStops, stop_of_fault, stop_of_path}
 use Rattle.jm_link.specs.Written.{WritesImage, WritesPart}
 use Rattle.jm_link.proofs.FileLaws.{files_free}
 use Rattle.jm_link.proofs.LaidLaws.{laid_free}
-use Rattle.jm_link.proofs.ListedLaws.{files_there, visible_lists}
+use Rattle.jm_link.proofs.ListedLaws.{files_told, visible_told}
 use Rattle.jm_link.proofs.ResourcesApart.{file_names_apart}
 
 -- a failed link of results that are others' too
@@ -288,17 +287,11 @@ files_fit found places fs is visible free within apart sound = record {
     plain all = all_from_contains (λ f. is_node f.name ≡ false) fs (λ f there. All-contains (λ g. is_node g.0 ≡ false)
         (map pair_of fs) (pair_of f) all (contains_map pair_of fs f there))
 
-pub named_there : (told : Option Files) (fs : List ResourceFile) (found : List VisibleModule) (places : List ℕ) → map pair_of fs
-    ≡ link_files found places → Shows told (λ files. ListsItsFiles files found)
-    → Shows told (λ files. All (λ f. file files f.path ≢ None) fs)
-named_there None fs found places is lists = tt
-named_there (Some files) fs found places is lists =
-    let all = subst (All (λ f. file files f.1 ≢ None)) (sym is) (files_there files found places lists) in
-    all_from_contains (λ f. file files f.path ≢ None) fs (λ f there. All-contains (λ g. file files g.1 ≢ None) (map pair_of fs)
-    (pair_of f) all (contains_map pair_of fs f there))
-
--- visible modules list their files
-pub shown_lists : (told : Option Files) (directories : List (List ℕ)) (found : List VisibleModule)
-    → Shows told (λ files. ShowsModules files directories (Ok found)) → Shows told (λ files. ListsItsFiles files found)
-shown_lists None directories found shows = tt
-shown_lists (Some files) directories found (free, is) = subst (ListsItsFiles files) (sym is) (visible_lists files directories)
+-- those of visible modules are told, as they were described
+pub taken_told : (told : Option Files) (directories : List (List ℕ)) (found : List VisibleModule) (fs : List ResourceFile)
+    → Shows told (λ files. ShowsModules files directories (Ok found)) → All (IsTakenFrom found) fs
+    → Shows told (λ files. All (IsToldIn files) fs)
+taken_told None directories found fs shows taken = tt
+taken_told (Some files) directories found fs (free, is) taken =
+    files_told files (visible files directories) fs (visible_told files directories)
+    (subst (λ ms. All (IsTakenFrom ms) fs) is taken)

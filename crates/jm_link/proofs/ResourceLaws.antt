@@ -1,12 +1,14 @@
 -- The files that are linked: sorted, module by module, checked and read.
 use Rattle.std.proofs.Common.{◌≡◌, ◌≢◌, ℕ, ◌+◌, ◌<◌, List, [], ◌∷◌, ◌++◌, append-nil, arith, length}
-use Rattle.std.proofs.Common.{length-append, map, take, get_or, All, AllPairs, IsUtf8, IsPermutation, Option}
-use Rattle.std.proofs.Common.{Some, None, slice_get, refl, sym, ap, subst, ◌∙◌}
+use Rattle.std.proofs.Common.{length-append, map, take, get_or, All, AllPairs, Contains, IsUtf8, IsPermutation, Option}
+use Rattle.std.proofs.Common.{Some, None, IfSome, unwrap_or, slice_get, refl, sym, ap, subst, ◌∙◌}
 use Rattle.std.proofs.lemmas.Grind.{flat_map-append}
 use Rattle.std.proofs.lemmas.List.{map-append, take_at, take_more}
-use Rattle.std.proofs.lemmas.List.Elements.{All-contains, Contains-append_right, filter_map-append}
+use Rattle.std.proofs.lemmas.List.Elements.{All-append, All-contains, All-push, All-weaker, Contains-append_left}
+use Rattle.std.proofs.lemmas.List.Elements.{Contains-append_right, filter_map-append}
+use Rattle.std.proofs.lemmas.List.Sorted.{Contains-permutation, IsPermutation-sym}
 use Rattle.std.specs.List.{filter_map, flat_map}
-use Rattle.jm_bytes.proofs.Members.{all_filter_map, all_from_contains, contains_here, contains_map}
+use Rattle.jm_bytes.proofs.Members.{all_filter_map, all_from_contains, contains_here, contains_map, from_map}
 use Rattle.jm_bytes.proofs.Pairs.{pairs_before}
 use Rattle.jm_pool.specs.Pairs.{bytes_of, names_of}
 use Rattle.jm_link.specs.declared.resources.ResourceFile.{ResourceFile}
@@ -14,22 +16,33 @@ use Rattle.jm_modpath.specs.declared.visible.VisibleModule.{VisibleModule}
 use Rattle.jm_names.specs.ByName.{Named, NeverFalls}
 use Rattle.jm_modpath.specs.Finding.{HasTexts}
 use Rattle.jm_modpath.specs.Modules.{bytes_at}
-use Rattle.jm_outside.specs.Files.{Files}
+use Rattle.jm_outside.specs.Files.{Files, file}
 use Rattle.jm_outside.specs.Outcome.{Shows}
-use Rattle.jm_link.specs.ResourceFiles.{file_names, file_of, pair_of}
+use Rattle.jm_link.specs.ResourceFiles.{HoldsDescribed, IsTakenFrom, IsTakenOf, IsToldIn, PutsRead, file_names, file_of, pair_of}
+use Rattle.jm_link.specs.ResourceFiles.{resource_file}
 use Rattle.jm_link.specs.Resources.{link_files, module_files, resources_of}
 use Rattle.jm_modpath.proofs.FoundLaws.{got}
+use Rattle.jm_modpath.proofs.StepLaws.{told_both}
 use Rattle.jm_names.proofs.NameOrder.{items_sorted}
 use Rattle.jm_relink.proofs.GatherLaws.{bytes_of_none}
+use Rattle.jm_bytes.proofs.SameOrder.{mapped_twice}
+use Rattle.jm_link.proofs.FileLaws as shown
 use Rattle.jm_link.proofs.ResourceNames.{PathIsText, files_differ, modules_texts}
 
 -- The order of a sort
 
 -- the files of a module, sorted
-pub files_sorted : (m : VisibleModule) (ts us : List ResourceFile) → HasTexts m → map pair_of ts ≡ map (file_of m) m.files
+pub files_sorted : (m : VisibleModule) (ts us : List ResourceFile) → HasTexts m → ts ≡ map (resource_file m) m.files
     → IsPermutation ts us → NeverFalls (map pair_of us) → map pair_of us ≡ module_files m
 files_sorted m ts us has is moved sorted =
-    items_sorted pair_of (map (file_of m) m.files) ts us is moved sorted (files_differ m has)
+    items_sorted pair_of (map (file_of m) m.files) ts us (ap (map pair_of) is ∙ mapped_twice pair_of (resource_file m) m.files)
+    moved sorted (files_differ m has)
+
+pub sorted_taken : (m : VisibleModule) (ts us : List ResourceFile) → ts ≡ map (resource_file m) m.files → IsPermutation ts us
+    → All (IsTakenOf m) us
+sorted_taken m ts us is moved = all_from_contains (IsTakenOf m) us
+    (λ f there. from_map (resource_file m) m.files f (subst (λ fs. Contains fs f) is
+    (Contains-permutation us ts f (IsPermutation-sym ts us moved) there)))
 
 -- Module by module
 
@@ -47,6 +60,15 @@ files_more found places i m old new below there put so_far =
     ap (flat_map module_files) (filter_map-append (slice_get found) (take i places) (place ∷ [])) ∙ both
     ∙ ap (λ es. link_files found (take i places) ++ es) ends in
     put ∙ ap (λ es. es ++ module_files m) so_far ∙ sym joined ∙ ap (link_files found) (sym step)
+
+-- the files of one module more
+pub taken_more : (found : List VisibleModule) (place : ℕ) (m : VisibleModule) (old more new : List ResourceFile)
+    → slice_get found place ≡ Some m → new ≡ old ++ more → All (IsTakenFrom found) old → All (IsTakenOf m) more
+    → All (IsTakenFrom found) new
+taken_more found place m old more new there put so_far taken =
+    let among : Contains found m = shown.got found place m there in
+    subst (All (IsTakenFrom found)) (sym put) (All-append (IsTakenFrom found) old more so_far
+    (All-weaker (IsTakenOf m) (IsTakenFrom found) (λ f of. (m, among, of)) more taken))
 
 pub all_chosen : (found : List VisibleModule) (places : List ℕ) → All HasTexts found → All (λ p. p < length found) places
     → All HasTexts (filter_map (slice_get found) places)
@@ -94,19 +116,56 @@ pub held_among : (P : ResourceFile → Type 0) (fs done : List ResourceFile) (f 
 held_among P fs done f rest each all =
     All-contains P (done ++ f ∷ rest) f (subst (All P) (sym all) each) (Contains-append_right done (f ∷ rest) f (contains_here f rest))
 
--- one resource more
-pub read_more : (told now : Option Files) (done : List ResourceFile) (f : ResourceFile) (pool new : List Named) → now ≡ told
-    → Shows told (λ files. pool ≡ resources_of files (map pair_of done))
-    → Shows now (λ files. new ≡ pool ++ (f.name, bytes_at files f.path) ∷ [])
-    → Shows told (λ files. new ≡ resources_of files (map pair_of (done ++ f ∷ [])))
-read_more told now done f pool new same so_far put =
-    go told so_far (subst (λ t. Shows t (λ files. new ≡ pool ++ (f.name, bytes_at files f.path) ∷ [])) same put)
+if_some_map : {X : Type 0} (o : Option X) (P Q : X → Type 0) → ((x : X) → P x → Q x) → IfSome o P → IfSome o Q
+if_some_map None P Q more holds = tt
+if_some_map (Some x) P Q more holds = more x holds
+
+-- the bytes that are put, of those that were described and those that were read
+pub put_read : (told : Option Files) (f : ResourceFile) (read : List ℕ) (old new : List Named)
+    → new ≡ old ++ (f.name, unwrap_or f.described read) ∷ [] → Shows told (λ files. IsToldIn files f)
+    → Shows told (λ files. Some read ≡ file files f.path) → PutsRead told f old new
+put_read told f read old new put told_file found = record {
+  bytes = unwrap_or f.described read;
+  put = put;
+  described = given f.described;
+  told = told_both told _ _ _ (λ files is same. chosen files f.described is.described (ap (λ o. unwrap_or o []) same)) told_file found;
+}
   where
-    go : (t : Option Files) → Shows t (λ files. pool ≡ resources_of files (map pair_of done))
-        → Shows t (λ files. new ≡ pool ++ (f.name, bytes_at files f.path) ∷ [])
-        → Shows t (λ files. new ≡ resources_of files (map pair_of (done ++ f ∷ [])))
-    go None so_far put = tt
-    go (Some files) so_far put =
-        put ∙ ap (λ rs. rs ++ (f.name, bytes_at files f.path) ∷ []) so_far
-        ∙ sym (ap (resources_of files) (map-append pair_of done (f ∷ [])) ∙ map-append (λ (n : Named). (n.0, bytes_at files n.1))
-        (map pair_of done) (pair_of f ∷ []))
+    given : (o : Option (List ℕ)) → IfSome o (λ bytes. unwrap_or o read ≡ bytes)
+    given None = tt
+    given (Some bytes) = refl
+
+    chosen : (files : Files) (o : Option (List ℕ)) → IfSome o (λ bytes. bytes ≡ bytes_at files f.path) → read ≡ bytes_at files f.path
+        → unwrap_or o read ≡ bytes_at files f.path
+    chosen files None is same = same
+    chosen files (Some bytes) is same = is
+
+-- one resource more
+module _ (now : Option Files) (done : List ResourceFile) (f : ResourceFile) (pool new : List Named) (puts : PutsRead now f pool new) where
+  pub read_more : (told : Option Files) → now ≡ told → Shows told (λ files. pool ≡ resources_of files (map pair_of done))
+      → Shows told (λ files. new ≡ resources_of files (map pair_of (done ++ f ∷ [])))
+  read_more told same so_far =
+      told_both told _ _ _ (λ files are is. puts.put ∙ ap (λ rs. rs ++ (f.name, puts.bytes) ∷ []) are
+      ∙ ap (λ bytes. resources_of files (map pair_of done) ++ (f.name, bytes) ∷ []) is
+      ∙ sym (ap (resources_of files) (map-append pair_of done (f ∷ [])) ∙ map-append (λ (n : Named). (n.0, bytes_at files n.1))
+      (map pair_of done) (pair_of f ∷ []))) so_far (subst (λ t. Shows t (λ files. puts.bytes ≡ bytes_at files f.path)) same puts.told)
+
+  pub names_more : names_of pool ≡ file_names done → names_of new ≡ file_names (done ++ f ∷ [])
+  names_more so_far =
+      ap names_of puts.put ∙ map-append (λ (n : Named). n.0) pool ((f.name, puts.bytes) ∷ []) ∙ ap (λ names. names ++ f.name ∷ []) so_far
+      ∙ sym (map-append (λ (g : ResourceFile). g.name) done (f ∷ []))
+
+  pub described_more : All (HoldsDescribed pool) done → All (HoldsDescribed new) (done ++ f ∷ [])
+  described_more so_far =
+      All-push (HoldsDescribed new) done f (All-weaker (HoldsDescribed pool) (HoldsDescribed new) earlier done so_far)
+      (if_some_map f.described _ _ last puts.described)
+    where
+      among : (n : Named) → Contains (pool ++ (f.name, puts.bytes) ∷ []) n → Contains new n
+      among n = subst (λ ns. Contains ns n) (sym puts.put)
+
+      earlier : (g : ResourceFile) → HoldsDescribed pool g → HoldsDescribed new g
+      earlier g = if_some_map g.described _ _ (λ bytes there. among (g.name, bytes) (Contains-append_left pool _ (g.name, bytes) there))
+
+      last : (given : List ℕ) → puts.bytes ≡ given → Contains new (f.name, given)
+      last given same = among (f.name, given) (Contains-append_right pool _ (f.name, given)
+          (subst (λ bytes. Contains ((f.name, puts.bytes) ∷ []) (f.name, bytes)) same (contains_here (f.name, puts.bytes) [])))

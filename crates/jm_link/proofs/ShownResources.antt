@@ -115,12 +115,12 @@ module _ (files : Files) (directories : List (List ℕ)) (bytes : (path : List �
   record IsShown (m : VisibleModule) : Type 0 where
     descriptor : Descriptor
     says : Says (bytes_at files (info_path m.folder)) descriptor
-    is : module_with m.folder descriptor (names_below m.folder files) ≡ m
+    is : module_with m.folder descriptor (bytes_at files (info_path m.folder)) (names_below m.folder files) ≡ m
 
   shown_by : (folder : List ℕ) (r : Result Descriptor DescriptorFault) (m : VisibleModule) → folder_info files folder ≡ r
       → module_of files folder r ≡ Some m → IsShown m
   shown_by folder (Ok d) m info is =
-      let same = same_some (module_with folder d (names_below folder files)) m is in
+      let same = same_some (module_with folder d (bytes_at files (info_path folder)) (names_below folder files)) m is in
       subst IsShown same (record {
         descriptor = d;
         says = says_from (bytes_at files (info_path folder)) d (bytes (info_path folder))

@@ -1,14 +1,15 @@
 //! The files of the modules that are linked, and the resources that they are.
-ghost use Rattle.std.specs.Prelude.{◌≡◌, ◌≢◌, ◌<◌, ◌∷◌, ◌++◌, [], All, AllPairs, IsUtf8, IfOk};
+ghost use Rattle.std.specs.Prelude.{◌≡◌, ◌≢◌, ◌<◌, ◌++◌, All, AllPairs, IsUtf8, IfOk};
 ghost use Rattle.std.specs.Prelude.{OnOk, IsOk, IsErrOf, None, length, map};
-ghost use Rattle.jm_outside.specs.Files.{file};
 ghost use Rattle.jm_outside.specs.Outcome.{CountsFaults, Shows};
 ghost use Rattle.jm_pool.specs.Pairs.{bytes_of, names_of};
 ghost use Rattle.jm_modpath.specs.Finding.{AreVisible, HasTexts};
-ghost use Rattle.jm_modpath.specs.Modules.{bytes_at, candidates};
+ghost use Rattle.jm_modpath.specs.Modules.{candidates};
 ghost use Rattle.jm_modpath.specs.ModulesView.{module_with_folder};
 ghost use Rattle.jm_link.specs.Chosen.{reserved};
-ghost use Rattle.jm_link.specs.ResourceFiles.{NamesAll, OnlyFails, file_names, pair_of};
+ghost use Rattle.jm_link.specs.ResourceFiles.{HoldsDescribed, IsTakenFrom, IsTakenOf, IsToldIn};
+ghost use Rattle.jm_link.specs.ResourceFiles.{NamesAll, OnlyFails, PutsRead, described_of};
+ghost use Rattle.jm_link.specs.ResourceFiles.{file_names, pair_of, resource_file};
 ghost use Rattle.jm_link.specs.Resources.{AreFit, link_files, module_files, resources_of};
 
 use crate::linking::LinkStop;
@@ -29,6 +30,8 @@ pub struct ResourceFile {
     pub name: Text,
     /// Its path on the shelf.
     pub path: Text,
+    /// Its bytes, if they were described: it is the descriptor of a module.
+    pub described: Option<Text>,
 }
 
 impl HasName for ResourceFile {
@@ -45,6 +48,39 @@ impl HasName for ResourceFile {
     }
 }
 
+/// The bytes of a file of a module, if they were described.
+fn described_of(
+    alloc: Global,
+    folder: &ModuleFolder,
+    inside_module: &[u8],
+) -> Result<Option<Text>, NoMemory>
+    ensures { IfOk result (λ bytes. bytes ≡ described_of folder.now.info inside_module.now) }
+{
+    if inside_module == b"module-info.class".as_slice() {
+        Ok(Some(Text::copy_of(alloc, folder.info.as_slice())?))
+    } else {
+        Ok(None)
+    }
+}
+
+/// A file of a module, by its path within the module's folder.
+fn resource_file(
+    alloc: Global,
+    module: &Candidate,
+    folder: &ModuleFolder,
+    inside_module: &[u8],
+) -> Result<ResourceFile, NoMemory>
+    ensures { IfOk result (λ file.
+        file ≡ resource_file (module_with_folder («module».now, folder.now)) inside_module.now) }
+{
+    let name = resource_name(alloc, module.descriptor.name.as_slice(), inside_module)?;
+    Ok(ResourceFile {
+        name: Text::from_vec(name),
+        path: inside(alloc, folder.path.as_slice(), inside_module)?,
+        described: described_of(alloc, folder, inside_module)?,
+    })
+}
+
 /// The files of a module, rising by name.
 fn module_files(
     alloc: Global,
@@ -52,17 +88,14 @@ fn module_files(
     folder: &ModuleFolder,
 ) -> Result<List<ResourceFile>, NoMemory>
     requires { HasTexts (module_with_folder («module».now, folder.now)) }
-    ensures { IfOk result (λ files. map pair_of files
+    ensures files { IfOk result (λ files. map pair_of files
         ≡ module_files (module_with_folder («module».now, folder.now))) }
+    ensures taken { IfOk result
+        (All (IsTakenOf (module_with_folder («module».now, folder.now)))) }
 {
     let mut files = List::new(alloc);
     for path in folder.files.as_slice() {
-        let inside_module = path.as_slice();
-        let name = resource_name(alloc, module.descriptor.name.as_slice(), inside_module)?;
-        files.push(ResourceFile {
-            name: Text::from_vec(name),
-            path: inside(alloc, folder.path.as_slice(), inside_module)?,
-        })?;
+        files.push(resource_file(alloc, module, folder, path.as_slice())?)?;
     }
     Ok(sorted_by_name(files))
 }
@@ -85,7 +118,9 @@ fn files_at(
 ) -> Result<List<ResourceFile>, NoMemory>
     requires places { All (λ place. place < length visible.now) places.now }
     requires texts { All HasTexts visible.now }
-    ensures { IfOk result (λ files. map pair_of files ≡ link_files visible.now places.now) }
+    ensures files { IfOk result (λ files. map pair_of files
+        ≡ link_files visible.now places.now) }
+    ensures taken { IfOk result (All (IsTakenFrom visible.now)) }
 {
     let mut files = List::new(alloc);
     for place in places {
@@ -109,6 +144,7 @@ pub fn link_files(
     ensures files { NamesAll (link_files visible.now places.now) result }
     ensures fit { IfOk result (λ files. AreFit (file_names files)) }
     ensures texts { IfOk result (All (λ f. IsUtf8 f.path)) }
+    ensures taken { IfOk result (All (IsTakenFrom visible.now)) }
 {
     let files = files_at(alloc, visible, places)?;
     match first_bad_name(alloc, files.as_slice())? {
@@ -117,7 +153,8 @@ pub fn link_files(
     }
 }
 
-/// Puts the resource that a file is at the end.
+/// Puts the resource that a file is at the end. It is read in any case: a file that is gone, or
+/// whose reading fails, is none of an image.
 fn read_resource<S: Shelf>(
     alloc: Global,
     pool: &mut Pool,
@@ -126,23 +163,27 @@ fn read_resource<S: Shelf>(
 ) -> Result<(), LinkStop>
     requires text { IsUtf8 resource.path }
     requires new { bytes_of resource.name pool.old ≡ None }
-    requires told { Shows (S.files shelf.old) (λ told. file told resource.path ≢ None) }
+    requires told { Shows (S.files shelf.old) (λ told. IsToldIn told resource) }
     ensures files { S.files shelf.new ≡ S.files shelf.old }
-    ensures pool { OnOk result (Shows (S.files shelf.old) (λ told.
-        pool.new ≡ pool.old ++ (resource.name, bytes_at told resource.path) ∷ [])) }
-    ensures names { OnOk result (names_of pool.new ≡ names_of pool.old ++ resource.name ∷ []) }
+    ensures put { OnOk result (PutsRead (S.files shelf.old) resource pool.old pool.new) }
     ensures stops { OnlyFails (S.files shelf.old) result }
     ensures faults { CountsFaults (S.faults shelf.old) (S.faults shelf.new) (IsOk result)
         (IsErrOf result LinkStop.Outside) }
 {
-    let ResourceFile { name, path } = resource;
+    let ResourceFile {
+        name,
+        path,
+        described,
+    } = resource;
     match shelf.read(alloc, path.as_slice())? {
-        Some(bytes) => Ok(pool.push(name, bytes)?),
+        // What was described decided the closure, and may be another text by now.
+        Some(bytes) => Ok(pool.push(name, described.unwrap_or(bytes))?),
         None => Err(LinkStop::NotThere(path)),
     }
 }
 
-/// The resources that these files are, in their order. Each file is read once.
+/// The resources that these files are, in their order. Each file is read once; of a descriptor the
+/// bytes that were described are taken.
 pub fn read_resources<S: Shelf>(
     alloc: Global,
     files: List<ResourceFile>,
@@ -150,12 +191,12 @@ pub fn read_resources<S: Shelf>(
 ) -> Result<Pool, LinkStop>
     requires texts { All (λ f. IsUtf8 f.path) files }
     requires differ { AllPairs (λ name other. name ≢ other) (file_names files) }
-    requires told { Shows (S.files shelf.old) (λ told.
-        All (λ f. file told f.path ≢ None) files) }
+    requires told { Shows (S.files shelf.old) (λ told. All (IsToldIn told) files) }
     ensures files { S.files shelf.new ≡ S.files shelf.old }
     ensures pool { IfOk result (λ pool. Shows (S.files shelf.old) (λ told.
         pool ≡ resources_of told (map pair_of files))) }
     ensures names { IfOk result (λ pool. names_of pool ≡ file_names files) }
+    ensures described { IfOk result (λ pool. All (HoldsDescribed pool) files) }
     ensures stops { OnlyFails (S.files shelf.old) result }
     ensures faults { CountsFaults (S.faults shelf.old) (S.faults shelf.new) (IsOk result)
         (IsErrOf result LinkStop.Outside) }

@@ -20,7 +20,7 @@ use Rattle.jm_modpath.specs.declared.refusal.PathRefusal.TheVariants as refusal
 use Rattle.jm_modpath.specs.declared.visible.VisibleModule.{VisibleModule}
 use Rattle.jm_modpath.specs.Finding.{Comes, ShowsModules, directories_due, directory_due, folders_among}
 use Rattle.jm_modpath.specs.Finding.{folders_due, refused_at, shown_due, shown_more, with_unhidden}
-use Rattle.jm_modpath.specs.Modules.{directory_checks, folder_checks, folder_info, folders_in, info_path}
+use Rattle.jm_modpath.specs.Modules.{bytes_at, directory_checks, folder_checks, folder_info, folders_in, info_path}
 use Rattle.jm_modpath.specs.Modules.{inside, is_named, module_in, module_of, module_with, modules_in, name_of}
 use Rattle.jm_modpath.specs.Modules.{path_refusal, unhidden, visible}
 use Rattle.jm_modpath.proofs.StepLaws.{comes_ended, told_both, told_more}
@@ -55,6 +55,9 @@ module _ (files : Files) (directory : List ℕ) where
       at : List ℕ
       at = inside directory folder
 
+      of : Descriptor → VisibleModule
+      of d = module_with at d (bytes_at files (info_path at)) (names_below at files)
+
       later : List (Option PathRefusal)
       later = flat_map (checks_in all) (range_with_len (length front + 1) (length back))
 
@@ -69,24 +72,23 @@ module _ (files : Files) (directory : List ℕ) where
           (length back)))) (shown fs)) list
           ∙ ap (λ n. unless_fault (first_fault (flat_map (checks_in all) (range_with_len n (length back)))) (shown all)) size
 
-      one_more : (d : Descriptor) → folder_info files at ≡ Ok d → shown (front ++ folder ∷ []) ≡ shown front ++ module_with at d
-          (names_below at files) ∷ []
+      one_more : (d : Descriptor) → folder_info files at ≡ Ok d → shown (front ++ folder ∷ []) ≡ shown front ++ of d ∷ []
       one_more d is =
-          let m : module_in files at ≡ Some (module_with at d (names_below at files)) = ap (module_of files at) is in
+          let m : module_in files at ≡ Some (of d) = ap (module_of files at) is in
           filter_map-append (λ f. module_in files (inside directory f)) front (folder ∷ []) ∙ ap (λ o. shown front ++ cons_option o []) m
 
-      named : (d : Descriptor) (b : Bool) → folders_due files directory (shown front ++ module_with at d (names_below at files)
-          ∷ []) back ≡ unless_fault (first_fault later) (shown all)
-          → followed (followed (cond b (Err (refusal.TwoModules directory d.name)) (Ok (module_with at d (names_below at files))))
-          (λ m. Ok (shown front ++ m ∷ []))) (λ ms. folders_due files directory ms back)
+      named : (d : Descriptor) (b : Bool) → folders_due files directory (shown front ++ of d ∷ []) back
+          ≡ unless_fault (first_fault later) (shown all)
+          → followed (followed (cond b (Err (refusal.TwoModules directory d.name)) (Ok (of d))) (λ m. Ok (shown front ++ m ∷ [])))
+          (λ ms. folders_due files directory ms back)
           ≡ unless_fault (first_fault (fault_if b (refusal.TwoModules directory d.name) ∷ later)) (shown all)
       named d true rest = refl
       named d false rest = rest
 
       by_info : (info : Result Descriptor DescriptorFault) → folder_info files at ≡ info
           → folders_due files directory (shown (front ++ folder ∷ [])) back ≡ whole (front ++ folder ∷ []) back
-          → followed (followed (followed (refused_at (info_path at) info) (λ d. shown_due directory (shown front) at d
-          (names_below at files))) (λ m. Ok (shown front ++ m ∷ []))) (λ ms. folders_due files directory ms back)
+          → followed (followed (followed (refused_at (info_path at) (bytes_at files (info_path at)) info) (λ d. shown_due directory
+          (shown front) at d (names_below at files))) (λ m. Ok (shown front ++ m ∷ []))) (λ ms. folders_due files directory ms back)
           ≡ unless_fault (first_fault (folder_checks directory (shown front) at info ++ later)) (shown all)
       by_info (Err fault) is rest = refl
       by_info (Ok d) is rest =

@@ -55,6 +55,12 @@ other_order = refl
 same_directory : map shown (visible two_directories (codes "x" ∷ codes "x" ∷ [])) ≡ a_of_x ∷ []
 same_directory = refl
 
+-- each has the bytes that say its descriptor
+their_infos :
+    map (λ m. m.info) (visible two_directories (codes "x" ∷ codes "y" ∷ []))
+    ≡ alone (codes "a") ∷ alone (codes "b") ∷ []
+their_infos = refl
+
 no_refusal : path_refusal two_directories (codes "x" ∷ codes "y" ∷ codes "x" ∷ []) ≡ None
 no_refusal = refl
 

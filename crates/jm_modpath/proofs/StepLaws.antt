@@ -14,7 +14,7 @@ use Rattle.jm_bytes.proofs.ByteOrderLaws.{ascii_all}
 use Rattle.jm_bytes.proofs.Choice.{same_some}
 use Rattle.jm_bytes.proofs.Cuts.{first_parts}
 use Rattle.jm_bytes.proofs.Members.{any_contains, contains_cases, contains_here, contains_later, from_filter_map}
-use Rattle.jm_modinfo.specs.declared.descriptor.Descriptor.{Descriptor}
+use Rattle.jm_modpath.specs.declared.directory.Described.{Described}
 use Rattle.jm_names.specs.Names.{is_empty, is_slash}
 use Rattle.jm_outside.specs.Files.{Files, after_front, file, names_below}
 use Rattle.jm_outside.specs.Outcome.{Shows}
@@ -29,7 +29,7 @@ use Rattle.jm_modpath.specs.Finding.{Comes, folder_due, folders_among, info_due}
 use Rattle.jm_modpath.specs.Finding.{names_within, refused_at, shown_due}
 use Rattle.jm_form.specs.ModuleFiles.{info_name}
 use Rattle.jm_modinfo.specs.Descriptions.{info_in}
-use Rattle.jm_modpath.specs.Modules.{folder_info, folder_with_info, info_path, inside, is_named, module_with, name_of, unhidden}
+use Rattle.jm_modpath.specs.Modules.{bytes_at, folder_with_info, info_path, inside, is_named, module_with, name_of, unhidden}
 use Rattle.jm_form.proofs.RisingLaws.{from_rising}
 
 pub info_is_text : IsUtf8 info_name
@@ -60,6 +60,12 @@ comes_ended due next stop.Memory h = tt
 
 -- Told
 
+-- without memory nothing is said
+pub out_of_memory : {A : Type 0} (told : Option Files) (due : Files → Result A PathRefusal)
+    → Shows told (λ files. Comes ⊥ (due files) (Err stop.Memory))
+out_of_memory None due = tt
+out_of_memory (Some files) due = tt
+
 pub told_more : (told : Option Files) (P Q : Files → Type 0) → ((files : Files) → P files → Q files) → Shows told P → Shows told Q
 told_more None P Q more h = tt
 told_more (Some files) P Q more h = more files h
@@ -71,15 +77,16 @@ told_both (Some files) P Q R more h k = more files h k
 
 -- The file of a folder
 
-pub read_told : (told : Option Files) (folder path bytes : List ℕ) (r : Result Descriptor PathStop) → path ≡ info_path folder
-    → Shows told (λ files. Some bytes ≡ file files path) → Comes ⊥ (refused_at path (info_in bytes)) r
-    → Shows told (λ files. Comes (file files (info_path folder) ≡ None) (info_due folder (folder_info files folder)) r)
+pub read_told : (told : Option Files) (folder path bytes : List ℕ) (r : Result Described PathStop) → path ≡ info_path folder
+    → Shows told (λ files. Some bytes ≡ file files path) → Comes ⊥ (refused_at path bytes (info_in bytes)) r
+    → Shows told (λ files. Comes (file files (info_path folder) ≡ None) (info_due folder (bytes_at files (info_path folder))) r)
 read_told told folder path bytes r is read comes =
     told_more told _ _
     (λ files found.
-    let there : info_in bytes ≡ folder_info files folder = ap (λ o. info_in (unwrap_or o [])) (found ∙ ap (file files) is) in
-    let due = ap (refused_at path) there ∙ ap (λ p. refused_at p (folder_info files folder)) is in
-    comes_weaker (info_due folder (folder_info files folder)) r (λ (h : ⊥). absurd h) (subst (λ d. Comes ⊥ d r) due comes))
+    let said = bytes_at files (info_path folder) in
+    let there : bytes ≡ said = ap (λ o. unwrap_or o []) (found ∙ ap (file files) is) in
+    let due = ap (λ b. refused_at path b (info_in b)) there ∙ ap (λ p. refused_at p said (info_in said)) is in
+    comes_weaker (info_due folder said) r (λ (h : ⊥). absurd h) (subst (λ d. Comes ⊥ d r) due comes))
     read
 
 -- a told shelf has the file of a folder with one
@@ -138,29 +145,29 @@ below_within (f ∷ files) directory folder =
 -- A folder
 
 -- a folder whose module has the name of an earlier one
-pub shown_twice : (directory : List ℕ) (earlier : List VisibleModule) (folder : List ℕ) (d : Descriptor) (paths : List (List ℕ))
-    (r : Result VisibleModule PathStop) → is_named earlier d.name ≡ true → Comes ⊥ (Err (refusal.TwoModules directory d.name)) r
-    → Comes ⊥ (shown_due directory earlier folder d paths) r
+pub shown_twice : (directory : List ℕ) (earlier : List VisibleModule) (folder : List ℕ) (d : Described) (paths : List (List ℕ))
+    (r : Result VisibleModule PathStop) → is_named earlier d.descriptor.name ≡ true
+    → Comes ⊥ (Err (refusal.TwoModules directory d.descriptor.name)) r → Comes ⊥ (shown_due directory earlier folder d paths) r
 shown_twice directory earlier folder d paths r again comes = rw again comes
 
 -- one whose module has a new name
-pub shown_new : (directory : List ℕ) (earlier : List VisibleModule) (folder : List ℕ) (d : Descriptor) (paths : List (List ℕ))
-    (m : VisibleModule) → is_named earlier d.name ≡ false → m ≡ module_with folder d paths
+pub shown_new : (directory : List ℕ) (earlier : List VisibleModule) (folder : List ℕ) (d : Described) (paths : List (List ℕ))
+    (m : VisibleModule) → is_named earlier d.descriptor.name ≡ false → m ≡ module_with folder d.descriptor d.bytes paths
     → Comes ⊥ (shown_due directory earlier folder d paths) (Ok m)
 shown_new directory earlier folder d paths m new is = rw (new, is) refl
 
 pub folder_shown : (told : Option Files) (directory folder path : List ℕ) (names : List (List ℕ)) (earlier : List VisibleModule)
-    (d : Descriptor) (r : Result VisibleModule PathStop) → path ≡ inside directory folder
+    (d : Described) (r : Result VisibleModule PathStop) → path ≡ inside directory folder
     → Shows told (λ files. names ≡ names_below directory files) → Shows told (λ files. Comes (file files (info_path path) ≡ None)
-    (info_due path (folder_info files path)) (Ok d))
+    (info_due path (bytes_at files (info_path path))) (Ok d))
     → Comes ⊥ (shown_due directory earlier path d (names_within folder names)) r
     → Shows told (λ files. Comes ⊥ (folder_due files directory earlier folder) r)
 folder_shown told directory folder path names earlier d r is listed read shown =
     told_both told _ _ _
     (λ files named info.
     let paths = ap (names_within folder) named ∙ sym (below_within files directory folder) in
-    comes_next (info_due (inside directory folder) (folder_info files (inside directory folder))) (λ e. shown_due directory earlier
-    (inside directory folder) e (names_below (inside directory folder) files)) d r
+    comes_next (info_due (inside directory folder) (bytes_at files (info_path (inside directory folder)))) (λ e. shown_due directory
+    earlier (inside directory folder) e (names_below (inside directory folder) files)) d r
     (rw is at info)
     (rw (is, paths) at shown))
     listed read
@@ -168,16 +175,16 @@ folder_shown told directory folder path names earlier d r is listed read shown =
 pub folder_ended : (told : Option Files) (directory folder path : List ℕ) (names : List (List ℕ)) (earlier : List VisibleModule)
     (e : PathStop) → path ≡ inside directory folder → Contains (folders_among names) folder
     → Shows told (λ files. names ≡ names_below directory files) → Shows told (λ files. Comes (file files (info_path path) ≡ None)
-    (info_due path (folder_info files path)) (Err e))
+    (info_due path (bytes_at files (info_path path))) (Err e))
     → Shows told (λ files. Comes ⊥ (folder_due files directory earlier folder) (Err e))
 folder_ended told directory folder path names earlier e is among listed read =
     told_both told _ _ _
     (λ files named info.
     let none : file files (info_path path) ≡ None → ⊥ = λ h. info_there files directory folder (rw named at among) (rw is at h) in
-    comes_ended (info_due (inside directory folder) (folder_info files (inside directory folder))) (λ d. shown_due directory earlier
-    (inside directory folder) d (names_below (inside directory folder) files)) e
-    (subst (λ p. Comes ⊥ (info_due p (folder_info files p)) (Err e)) is (comes_weaker {A = Descriptor}
-    (info_due path (folder_info files path)) (Err e) none info)))
+    comes_ended (info_due (inside directory folder) (bytes_at files (info_path (inside directory folder)))) (λ d. shown_due directory
+    earlier (inside directory folder) d (names_below (inside directory folder) files)) e
+    (subst (λ p. Comes ⊥ (info_due p (bytes_at files (info_path p))) (Err e)) is (comes_weaker {A = Described}
+    (info_due path (bytes_at files (info_path path))) (Err e) none info)))
     listed read
 
 pub read_none : (told : Option Files) (folder path : List ℕ) → path ≡ info_path folder

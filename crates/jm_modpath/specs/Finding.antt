@@ -10,16 +10,18 @@ use Rattle.jm_form.specs.Rising.{rising}
 use Rattle.jm_modinfo.specs.declared.descriptor.Descriptor.{Descriptor}
 use Rattle.jm_modinfo.specs.declared.faults.DescriptorFault.{DescriptorFault}
 use Rattle.jm_modinfo.specs.Constants.{is_legal}
+use Rattle.jm_modinfo.specs.Descriptions.{info_in}
 use Rattle.jm_outside.specs.declared.shelf.ShelfError.{ShelfError}
 use Rattle.jm_outside.specs.declared.shelf.ShelfError.TheVariants as outside
 use Rattle.jm_outside.specs.Files.{Files, after_front, names_below}
+use Rattle.jm_modpath.specs.declared.directory.Described.{Described}
 use Rattle.jm_modpath.specs.declared.refusal.PathStop.{PathStop}
 use Rattle.jm_modpath.specs.declared.refusal.PathStop.TheVariants as stop
 use Rattle.jm_modpath.specs.declared.refusal.PathRefusal.{PathRefusal}
 use Rattle.jm_modpath.specs.declared.refusal.PathRefusal.TheVariants as refusal
 use Rattle.jm_modpath.specs.declared.visible.VisibleModule.{VisibleModule}
-use Rattle.jm_modpath.specs.Modules.{candidates}
-use Rattle.jm_modpath.specs.Modules.{directory_checks, folder_info, folder_with_info, info_path}
+use Rattle.jm_modpath.specs.Modules.{bytes_at, candidates}
+use Rattle.jm_modpath.specs.Modules.{directory_checks, folder_with_info, info_path}
 use Rattle.jm_modpath.specs.Modules.{inside, is_named}
 use Rattle.jm_modpath.specs.Modules.{module_with, modules_in, name_of, path_refusal, unhidden}
 use Rattle.jm_modpath.specs.Modules.{visible}
@@ -50,29 +52,32 @@ names_within folder names = filter_map (after_front (folder ++ 47 ∷ [])) names
 
 -- Folders
 
--- the descriptor, or the refusal of the file at this path
-abbrev pub refused_at : List ℕ → Result Descriptor DescriptorFault → Result Descriptor PathRefusal
-refused_at path (Err fault) = Err (refusal.BadInfo path fault)
-refused_at path (Ok d) = Ok d
+-- the descriptor with the bytes that say it, or the refusal of the file at this path
+abbrev pub refused_at : List ℕ → List ℕ → Result Descriptor DescriptorFault
+    → Result Described PathRefusal
+refused_at path bytes (Err fault) = Err (refusal.BadInfo path fault)
+refused_at path bytes (Ok d) = Ok (record { descriptor = d; bytes = bytes })
 
--- the descriptor of a folder, or the refusal of its file
-abbrev pub info_due : List ℕ → Result Descriptor DescriptorFault → Result Descriptor PathRefusal
-info_due folder info = refused_at (info_path folder) info
+-- what the file of a folder says by its bytes, or its refusal
+abbrev pub info_due : List ℕ → List ℕ → Result Described PathRefusal
+info_due folder bytes = refused_at (info_path folder) bytes (info_in bytes)
 
 -- the module of a folder of a directory with this descriptor and these files, where earlier folders
 -- showed some modules
-abbrev pub shown_due : List ℕ → List VisibleModule → List ℕ → Descriptor → List (List ℕ)
+abbrev pub shown_due : List ℕ → List VisibleModule → List ℕ → Described → List (List ℕ)
     → Result VisibleModule PathRefusal
-shown_due directory earlier folder d paths =
-    if is_named earlier d.name then Err (refusal.TwoModules directory d.name)
-    else Ok (module_with folder d paths)
+shown_due directory earlier folder info paths =
+    if is_named earlier info.descriptor.name
+    then Err (refusal.TwoModules directory info.descriptor.name)
+    else Ok (module_with folder info.descriptor info.bytes paths)
 
 -- the module that a folder of a directory shows, where earlier folders showed some, or its refusal
 abbrev pub folder_due : Files → List ℕ → List VisibleModule → List ℕ
     → Result VisibleModule PathRefusal
 folder_due files directory earlier folder =
-    followed (info_due (inside directory folder) (folder_info files (inside directory folder)))
-    (λ d. shown_due directory earlier (inside directory folder) d
+    followed
+    (info_due (inside directory folder) (bytes_at files (info_path (inside directory folder))))
+    (λ info. shown_due directory earlier (inside directory folder) info
     (names_below (inside directory folder) files))
 
 -- the earlier modules and that of the folder
@@ -124,19 +129,20 @@ ShowsModules files directories (Err stop.Memory) = Unit {0}
 
 -- Modules found
 
--- the path of a module's folder and those of its files are text, the files differ, and its name is
--- legal
+-- the path of a module's folder and those of its files are text, the files differ, its name is
+-- legal, and its descriptor is what its bytes say
 pub record HasTexts (m : VisibleModule) : Type 0 where
   pub folder : IsUtf8 m.folder
   pub files : All IsUtf8 m.files
   pub differ : AllPairs (λ path other. path ≢ other) m.files
   pub legal : is_legal (name_of m) ≡ true
+  pub said : info_in m.info ≡ Ok m.candidate.descriptor
 
 -- no two modules have one name
 abbrev pub Differing : List VisibleModule → Type 0
 Differing ms = AllPairs (λ m k. name_of m ≢ name_of k) ms
 
--- modules as a module path shows them: their texts are as said, and no two of them have one name
+-- modules as a module path shows them: each has its texts, and no two of them have one name
 pub record AreVisible (ms : List VisibleModule) : Type 0 where
   pub texts : All HasTexts ms
   pub differ : NamesDiffer (candidates ms)

@@ -62,11 +62,12 @@ folder_info files folder = info_in (bytes_at files (info_path folder))
 abbrev pub resource_name : List ℕ → List ℕ → List ℕ
 resource_name «module» path = 47 ∷ «module» ++ 47 ∷ modified path
 
--- a module of a descriptor, with its files by their paths within the folder, and the packages that
--- have a class among them
-abbrev pub module_with : List ℕ → Descriptor → List (List ℕ) → VisibleModule
-module_with folder descriptor paths = record {
+-- a module of a descriptor and of the bytes that say it, with its files by their paths within the
+-- folder, and the packages that have a class among them
+abbrev pub module_with : List ℕ → Descriptor → List ℕ → List (List ℕ) → VisibleModule
+module_with folder descriptor info paths = record {
   folder = folder;
+  info = info;
   files = paths;
   candidate = record {
     descriptor = descriptor;
@@ -77,7 +78,8 @@ module_with folder descriptor paths = record {
 -- the module of a folder by what its file says, none where that is a fault
 abbrev pub module_of : Files → List ℕ → Result Descriptor DescriptorFault → Option VisibleModule
 module_of files folder (Err fault) = None
-module_of files folder (Ok d) = Some (module_with folder d (names_below folder files))
+module_of files folder (Ok d) =
+    Some (module_with folder d (bytes_at files (info_path folder)) (names_below folder files))
 
 -- the module that a folder shows, if its file says one
 abbrev pub module_in : Files → List ℕ → Option VisibleModule

@@ -1,6 +1,6 @@
 //! The modules that the folders of a directory show.
 ghost use Rattle.std.specs.Prelude.{◌≡◌, ◌≢◌, [], All, Contains, IsUtf8, IfOk, IsOk, IsErrOf};
-ghost use Rattle.std.specs.Prelude.{None, Err, true, false};
+ghost use Rattle.std.specs.Prelude.{None, Ok, Err, true, false};
 ghost use Rattle.jm_modinfo.specs.Constants.{is_legal};
 ghost use Rattle.jm_modinfo.specs.Descriptions.{info_in};
 ghost use Rattle.jm_outside.specs.Files.{Rising, file, names_below};
@@ -8,7 +8,7 @@ ghost use Rattle.jm_outside.specs.Outcome.{CountsFaults, Shows};
 ghost use Rattle.jm_modpath.specs.Finding.{Comes, HasTexts, directory_due, folder_due};
 ghost use Rattle.jm_modpath.specs.Finding.{folders_among, folders_due, info_due, refused_at};
 ghost use Rattle.jm_modpath.specs.declared.refusal.PathRefusal.TheVariants.{TwoModules};
-ghost use Rattle.jm_modpath.specs.Modules.{folder_info, info_path, inside};
+ghost use Rattle.jm_modpath.specs.Modules.{bytes_at, info_path, inside};
 ghost use Rattle.jm_modpath.specs.Modules.{is_named, module_with, name_of};
 
 use crate::folders::{folders_among, names_within};
@@ -23,33 +23,42 @@ use jm_modinfo::{Descriptor, describe_bytes};
 use jm_outside::Shelf;
 use std::alloc::Global;
 
+/// A descriptor, with the bytes that say it.
+#[derive(Drop)]
+struct Described {
+    descriptor: Descriptor,
+    bytes: Text,
+}
+
 /// The descriptor of the bytes of the file at a path.
-fn info_at(alloc: Global, path: Text, bytes: &[u8]) -> Result<Descriptor, PathStop>
-    ensures due { Comes ⊥ (refused_at path (info_in bytes.now)) result }
-    ensures legal { IfOk result (λ d. is_legal d.name ≡ true) }
+fn info_at(alloc: Global, path: Text, bytes: Text) -> Result<Described, PathStop>
+    ensures due { Comes ⊥ (refused_at path bytes (info_in bytes)) result }
+    ensures legal { IfOk result (λ info. is_legal info.descriptor.name ≡ true) }
+    ensures said { IfOk result (λ info. info_in info.bytes ≡ Ok info.descriptor) }
     ensures inside { ¬ IsErrOf result PathStop.Outside }
 {
-    match describe_bytes(alloc, bytes) {
-        Ok(descriptor) => Ok(descriptor),
+    match describe_bytes(alloc, bytes.as_slice()) {
+        Ok(descriptor) => Ok(Described { descriptor, bytes }),
         Err(Or::Fault(fault)) => Err(PathStop::Refused(PathRefusal::BadInfo { path, fault })),
         Err(Or::Memory) => Err(PathStop::Memory),
     }
 }
 
 /// The descriptor that the file of a folder says.
-fn read_info<S: Shelf>(alloc: Global, folder: &[u8], shelf: &mut S) -> Result<Descriptor, PathStop>
+fn read_info<S: Shelf>(alloc: Global, folder: &[u8], shelf: &mut S) -> Result<Described, PathStop>
     requires { IsUtf8 folder.now }
     ensures files { S.files shelf.new ≡ S.files shelf.old }
     ensures told { Shows (S.files shelf.old) (λ files.
         Comes (file files (info_path folder.now) ≡ None)
-        (info_due folder.now (folder_info files folder.now)) result) }
-    ensures legal { IfOk result (λ d. is_legal d.name ≡ true) }
+        (info_due folder.now (bytes_at files (info_path folder.now))) result) }
+    ensures legal { IfOk result (λ info. is_legal info.descriptor.name ≡ true) }
+    ensures said { IfOk result (λ info. info_in info.bytes ≡ Ok info.descriptor) }
     ensures faults { CountsFaults (S.faults shelf.old) (S.faults shelf.new) (IsOk result)
         (IsErrOf result PathStop.Outside) }
 {
     let path = inside(alloc, folder, b"module-info.class")?;
     match shelf.read(alloc, path.as_slice()) {
-        Ok(Some(bytes)) => info_at(alloc, path, bytes.as_slice()),
+        Ok(Some(bytes)) => info_at(alloc, path, bytes),
         Ok(None) => Err(PathStop::NotThere(path)),
         Err(error) => Err(PathStop::from(error)),
     }
@@ -59,14 +68,16 @@ fn read_info<S: Shelf>(alloc: Global, folder: &[u8], shelf: &mut S) -> Result<De
 fn module_with(
     alloc: Global,
     folder: Text,
-    descriptor: Descriptor,
+    info: Described,
     files: List<Text>,
 ) -> Result<VisibleModule, NoMemory>
-    ensures { IfOk result (λ m. m ≡ module_with folder descriptor files) }
+    ensures { IfOk result (λ m. m ≡ module_with folder info.descriptor info.bytes files) }
 {
+    let Described { descriptor, bytes } = info;
     let packages = class_packages(alloc, descriptor.name.as_slice(), files.as_slice())?;
     Ok(VisibleModule {
         folder,
+        info: bytes,
         files,
         candidate: Candidate {
             descriptor,
@@ -75,13 +86,17 @@ fn module_with(
     })
 }
 
-/// The refusal of a second module of a name in a directory.
-fn two_modules(alloc: Global, directory: &[u8], name: Text) -> PathStop
-    ensures due { Comes {A = VisibleModule} ⊥ (Err (TwoModules directory.now name)) (Err result) }
+/// The refusal of a directory with a second module of the name of this one.
+fn two_modules(alloc: Global, directory: &[u8], second: Descriptor) -> PathStop
+    ensures due { Comes {A = VisibleModule} ⊥ (Err (TwoModules directory.now second.name))
+        (Err result) }
     ensures inside { result ≢ PathStop.Outside }
 {
     match Text::copy_of(alloc, directory) {
-        Ok(dir) => PathStop::Refused(PathRefusal::TwoModules { dir, name }),
+        Ok(dir) => PathStop::Refused(PathRefusal::TwoModules {
+            dir,
+            name: second.name,
+        }),
         Err(_) => PathStop::Memory,
     }
 }
@@ -116,12 +131,12 @@ fn visible_module<S: Shelf>(
         (IsErrOf result PathStop.Outside) }
 {
     let path = inside(alloc, listing.directory, folder)?;
-    let descriptor = read_info(alloc, path.as_slice(), shelf)?;
-    if earlier.has(descriptor.name.as_slice()) {
-        return Err(two_modules(alloc, listing.directory, descriptor.name));
+    let info = read_info(alloc, path.as_slice(), shelf)?;
+    if earlier.has(info.descriptor.name.as_slice()) {
+        return Err(two_modules(alloc, listing.directory, info.descriptor));
     }
     let files = names_within(alloc, listing.names, folder)?;
-    Ok(module_with(alloc, path, descriptor, files)?)
+    Ok(module_with(alloc, path, info, files)?)
 }
 
 /// The modules of a listed directory.

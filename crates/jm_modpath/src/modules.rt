@@ -42,6 +42,7 @@ fn parted(
         candidates.push(module.candidate)?;
         folders.push(ModuleFolder {
             path: module.folder,
+            info: module.info,
             files: module.files,
         })?;
     }

@@ -5,6 +5,8 @@
 #[cfg(test)]
 mod calls;
 #[cfg(test)]
+mod changing;
+#[cfg(test)]
 mod gate;
 #[cfg(test)]
 mod runs;

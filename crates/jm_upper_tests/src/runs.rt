@@ -4,7 +4,7 @@ use crate::told::text_of;
 use jm_bytes::{List, Text};
 use jm_commands::run;
 use jm_halves::Gate;
-use jm_outside::{MemShelf, MemSink, MemSource};
+use jm_outside::{MemSink, MemSource, Shelf};
 use std::alloc::Global;
 use std::test::Fail;
 use std::thread::Threads;
@@ -20,11 +20,11 @@ fn words_of(alloc: Global, line: &str) -> Result<Vec<String>, Fail> {
 
 /// What a command line gives on a shelf: the status, the output and the error sink's text, with a
 /// bar behind each of the first two.
-pub fn told_by<T: Threads + Sync, G: Gate + Sync>(
+pub fn told_by<T: Threads + Sync, S: Shelf, G: Gate + Sync>(
     rt: &T,
     alloc: Global,
     line: &str,
-    shelf: &mut MemShelf,
+    shelf: &mut S,
     gate: &G,
 ) -> Result<String, Fail> {
     let words = words_of(alloc, line)?;

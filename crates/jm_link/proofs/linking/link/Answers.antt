@@ -15,7 +15,7 @@ use Rattle.jm_link.specs.ResourceFiles.{NamesAll, pair_of}
 use Rattle.jm_link.specs.Resources.{AreFit, link_files, resources_of}
 use Rattle.jm_link.proofs.ChosenLaws.{chosen_differ, chosen_within}
 use Rattle.jm_link.proofs.LinkingLaws.{candidates_length, ended, fit_left, image_written, links_as}
-use Rattle.jm_link.proofs.LinkingLaws.{links_sooner, named_there, none_absent, read_to, refused, shown_lists}
+use Rattle.jm_link.proofs.LinkingLaws.{links_sooner, none_absent, read_to, refused, taken_told}
 use Rattle.jm_link.proofs.LinkingLaws.{unclosed, unfit, unplugged}
 use Rattle.jm_link.proofs.linking.link.Goals as goal
 
@@ -68,10 +68,8 @@ returns-in_err-files g c =
 pub read_resources-requires-clause-told : goal.read_resources-requires-clause-told
 read_resources-requires-clause-told g c =
     let shows = rw c.as_slice.ensures at c.in_ok-visible.ensures.modules in
-    let visible = c.in_ok-visible.visible in
     rw c.visible_modules.ensures.files
-    (named_there _ c.in_ok-files.files visible c.as_slice-2.result.now c.in_ok-files.ensures.files.1
-    (shown_lists _ c.args.task.now.dirs visible shows))
+    (taken_told _ c.args.task.now.dirs c.in_ok-visible.visible c.in_ok-files.files shows c.in_ok-files.ensures.taken)
 
 pub returns-in_err-left : goal.returns-in_err-left
 returns-in_err-left g c =

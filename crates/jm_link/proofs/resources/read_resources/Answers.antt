@@ -1,7 +1,6 @@
 use Rattle.std.proofs.Common.{◌∙◌, ◌∷◌, ◌++◌, [], IsUtf8, append_assoc, ap, refl, sym}
-use Rattle.std.proofs.lemmas.List.{map-append}
 use Rattle.jm_link.specs.declared.resources.ResourceFile.{ResourceFile}
-use Rattle.jm_link.proofs.ResourceLaws.{held_among, name_is_new, read_more}
+use Rattle.jm_link.proofs.ResourceLaws.{described_more, held_among, name_is_new, names_more, read_more}
 use Rattle.jm_link.proofs.resources.read_resources.Goals as goal
 
 pub read_resource-requires-clause-text : goal.read_resource-requires-clause-text
@@ -26,8 +25,8 @@ loop-file-preserved g c =
           (sym c.in-Some.ensures.steps.0) ∙ before.all;
       files = did.files ∙ before.files;
       faults = did.faults.kept refl ∙ before.faults;
-      pool = read_more (g.S.Shelf.files c.args.shelf.now) (g.S.Shelf.files c.loop-file.shelf) c.loop-file.yielded file
-          c.loop-file.pool c.read_resource.new.pool before.files before.pool did.pool;
-      names = did.names ∙ ap (λ names. names ++ file.name ∷ []) before.names
-          ∙ sym (map-append (λ (f : ResourceFile). f.name) c.loop-file.yielded (file ∷ []));
+      pool = read_more _ c.loop-file.yielded file c.loop-file.pool c.read_resource.new.pool did.put
+          (g.S.Shelf.files c.args.shelf.now) before.files before.pool;
+      names = names_more _ c.loop-file.yielded file c.loop-file.pool c.read_resource.new.pool did.put before.names;
+      described = described_more _ c.loop-file.yielded file c.loop-file.pool c.read_resource.new.pool did.put before.described;
     }

@@ -11,7 +11,7 @@ read-requires g c = record {
 pub returns-in-Ok-Some-clause-told : goal.returns-in-Ok-Some-clause-told
 returns-in-Ok-Some-clause-told g c =
     read_told _ c.args.folder.now _ c.in-Ok-Some.bytes _ c.in_ok-path.ensures (rw (c.as_slice.ensures, c.in-Ok-Some.field-0-is) at
-    c.in-Ok-Some.ensures.told) (rw c.as_slice-in-Ok-Some.ensures at c.info_at.ensures.due)
+    c.in-Ok-Some.ensures.told) c.info_at.ensures.due
 
 pub returns-in-Ok-None-clause-told : goal.returns-in-Ok-None-clause-told
 returns-in-Ok-None-clause-told g c =
