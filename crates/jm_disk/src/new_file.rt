@@ -47,21 +47,18 @@ pub fn make<R: Files + AllocGlobal>(rt: &R, path: &[u8]) -> Result<NewFile<R::Fi
         path: due,
         old_mode,
     } = place_at(rt, path.as_str())?;
-    let Some(mode) = old_mode else {
-        let (own, file) = open_with_folders(rt, due.as_str())?;
-        return Ok(NewFile {
-            path,
-            due,
-            own,
-            file,
-        });
+    let (own, file) = match old_mode {
+        Some(mode) => open_beside(rt, due.as_str(), mode)?,
+        None => open_with_folders(rt, due.as_str())?,
     };
-    let (own, file) = open_beside(rt, due.as_str(), mode)?;
     let made = NewFile {
         path,
         due,
         own,
         file,
+    };
+    let Some(mode) = old_mode else {
+        return Ok(made);
     };
     match made.file.set_permissions(Permissions::from_mode(mode)) {
         Ok(()) => Ok(made),
