@@ -51,12 +51,12 @@ described_told files m path is = go (bytes_eq path info_name) refl
 pub files_told : (files : Files) (found : List VisibleModule) (fs : List ResourceFile) → AreAsTold files found
     → All (IsTakenFrom found) fs → All (IsToldIn files) fs
 files_told files found fs as_told taken = all_from_contains (IsToldIn files) fs
-    (λ f among. told (All-contains (IsTakenFrom found) fs f taken among))
+    (λ f among. told f (All-contains (IsTakenFrom found) fs f taken among))
   where
-    told : {f : ResourceFile} → IsTakenFrom found f → IsToldIn files f
-    told (m, there, path, listed, is) =
+    told : (f : ResourceFile) → IsTakenFrom found f → IsToldIn files f
+    told f (m, there, of) =
         let has = as_told m there in
-        subst (IsToldIn files) is (record {
-          there = listed_there files m.folder path (subst (λ names. Contains names path) has.0 listed);
-          described = described_told files m path has.1;
+        subst (IsToldIn files) of.2 (record {
+          there = listed_there files m.folder of.0 (subst (λ names. Contains names of.0) has.0 of.1);
+          described = described_told files m of.0 has.1;
         })

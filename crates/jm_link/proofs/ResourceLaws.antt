@@ -128,7 +128,7 @@ put_read told f read old new put told_file found = record {
   bytes = unwrap_or f.described read;
   put = put;
   described = given f.described;
-  told = told_both told _ _ _ (λ files is same. chosen files f.described is.described (ap (λ o. unwrap_or o []) same)) told_file found;
+  shown = told_both told _ _ _ (λ files is same. chosen files f.described is.described (ap (λ o. unwrap_or o []) same)) told_file found;
 }
   where
     given : (o : Option (List ℕ)) → IfSome o (λ bytes. unwrap_or o read ≡ bytes)
@@ -148,7 +148,7 @@ module _ (now : Option Files) (done : List ResourceFile) (f : ResourceFile) (poo
       told_both told _ _ _ (λ files are is. puts.put ∙ ap (λ rs. rs ++ (f.name, puts.bytes) ∷ []) are
       ∙ ap (λ bytes. resources_of files (map pair_of done) ++ (f.name, bytes) ∷ []) is
       ∙ sym (ap (resources_of files) (map-append pair_of done (f ∷ [])) ∙ map-append (λ (n : Named). (n.0, bytes_at files n.1))
-      (map pair_of done) (pair_of f ∷ []))) so_far (subst (λ t. Shows t (λ files. puts.bytes ≡ bytes_at files f.path)) same puts.told)
+      (map pair_of done) (pair_of f ∷ []))) so_far (subst (λ t. Shows t (λ files. puts.bytes ≡ bytes_at files f.path)) same puts.shown)
 
   pub names_more : names_of pool ≡ file_names done → names_of new ≡ file_names (done ++ f ∷ [])
   names_more so_far =
@@ -168,4 +168,4 @@ module _ (now : Option Files) (done : List ResourceFile) (f : ResourceFile) (poo
 
       last : (given : List ℕ) → puts.bytes ≡ given → Contains new (f.name, given)
       last given same = among (f.name, given) (Contains-append_right pool _ (f.name, given)
-          (subst (λ bytes. Contains ((f.name, puts.bytes) ∷ []) (f.name, bytes)) same (contains_here (f.name, puts.bytes) [])))
+          (subst (λ bytes. Contains {X = Named} ((f.name, puts.bytes) ∷ []) (f.name, bytes)) same (contains_here (f.name, puts.bytes) [])))

@@ -63,7 +63,7 @@ pub record PutsRead (told : Option Files) (f : ResourceFile) (old new : List Wri
   pub bytes : List ℕ
   pub put : new ≡ old ++ (f.name, bytes) ∷ []
   pub described : IfSome f.described (λ given. bytes ≡ given)
-  pub told : Shows told (λ files. bytes ≡ bytes_at files f.path)
+  pub shown : Shows told (λ files. bytes ≡ bytes_at files f.path)
 
 -- files of these names and paths, or the refusal of the first name that may not stand in an image
 abbrev pub NamesAll : List Named → Result (List ResourceFile) LinkStop → Type 0
