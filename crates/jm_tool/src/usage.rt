@@ -1,4 +1,4 @@
-//! The usage, for who sits at a terminal and gave words that make no command.
+//! The usage, for those who sit at a terminal and gave words that make no command.
 use crate::failures::put;
 use jm_commands::usage;
 use std::env::Env;
