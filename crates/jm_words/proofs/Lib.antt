@@ -1,4 +1,4 @@
-pub mod FieldLaws
+pub mod DraftLaws
 pub mod PathLaws
 pub mod ReadingLaws
 pub mod RuleLaws

@@ -1,7 +1,7 @@
 -- The command that is computed is what the words say, and they say one thing.
 use Rattle.std.proofs.Common.{◌≡◌, ℕ, zero, suc, ◌+◌, ◌<◌, Bool, cond, List, [], ◌∷◌, ◌++◌, length, drop}
 use Rattle.std.proofs.Common.{map, inl, inr, Option, Some, None, Result, Ok, Err, refl, sym, ap, ◌∙◌, subst}
-use Rattle.std.proofs.Common.{append-nil, arith}
+use Rattle.std.proofs.Common.{arith}
 use Rattle.std.specs.Prelude.{count_by, slice_get, unwrap_or}
 use Rattle.std.specs.List.{filter_map, cons_option, range_with_len}
 use Rattle.std.proofs.lemmas.Bool.{cases_lt}
@@ -19,19 +19,17 @@ use Rattle.jm_words.specs.declared.drafts.Draft.{Draft}
 use Rattle.jm_words.specs.declared.errors.WordsFault.{WordsFault}
 use Rattle.jm_words.specs.declared.errors.WordsKind.{WordsKind}
 use Rattle.jm_words.specs.declared.tables.Verb.{Verb}
-use Rattle.jm_words.specs.declared.tables.Argument.{Argument}
-use Rattle.jm_words.specs.declared.tables.Choice.{Choice}
 use Rattle.jm_words.specs.Commands.{command_after, command_in, command_or_missing, command_unless_fault, verb_named}
 use Rattle.jm_words.specs.declared.given.Given.{Given}
-use Rattle.jm_words.specs.Drafts.{by_field}
+use Rattle.jm_words.specs.Drafts.{draft_of}
 use Rattle.jm_words.specs.Reading.{Standing, after_role, after_sound, after_words, draft_or_fault}
-use Rattle.jm_words.specs.Reading.{left_behind, reading_of, unless_kind, with_option, with_word}
-use Rattle.jm_words.specs.Roles.{Role, Unknown, Flag, Waits, WithValue, ValueFor, AsArgument, is_argument, named_by, role_of, waiting}
+use Rattle.jm_words.specs.Reading.{left_behind, reading_of, unless_kind, with_word}
+use Rattle.jm_words.specs.Roles.{Role, Unknown, Flag, Waits, WithValue, ValueFor, AsArgument, is_argument, role_of, waiting}
 use Rattle.jm_words.specs.Rule.{AreSound, IsFirstFault, SaysAfter, SaysBehind, SaysCommand, command_given}
-use Rattle.jm_words.specs.Rule.{given_at, givens_before, kind_at, left_at, options_before, role_at}
+use Rattle.jm_words.specs.Rule.{draft_before, given_at, givens_before, kind_at, left_at, role_at}
 use Rattle.jm_words.specs.Rule.{roles_before, word_at}
-use Rattle.jm_words.specs.Tables.{arguments, options}
-use Rattle.jm_words.proofs.FieldLaws.{by_field_more}
+use Rattle.jm_words.specs.Tables.{Row, arguments, options}
+use Rattle.jm_words.proofs.DraftLaws.{draft_of_more}
 use Rattle.jm_words.proofs.ReadingLaws.{after_words_err}
 
 -- Lists
@@ -54,15 +52,14 @@ there (y ∷ xs) (suc i) x rest is = there xs i x rest is
 
 module _ (verb : Verb) (words : List (List ℕ)) where
   -- the option that waits for the word at a place
-  abbrev pending_at : ℕ → Option Choice
+  abbrev pending_at : ℕ → Option Row
   pending_at zero = None
   pending_at (suc i) = waiting (role_at verb words i)
 
   -- what stands at a place
   abbrev standing_at : ℕ → Standing
   standing_at i = record {
-    draft = by_field (givens_before verb words i);
-    before = options_before verb words i;
+    draft = draft_before verb words i;
     left = left_at verb words i;
     pending = pending_at i;
   }
@@ -85,21 +82,10 @@ module _ (verb : Verb) (words : List (List ℕ)) where
       ∙ ap (λ (j : ℕ). filter_map (given_at verb words) (range_with_len 0 i ++ range_with_len j 1)) same
       ∙ filter_map-append (given_at verb words) (range_with_len 0 i) (i ∷ [])
 
-  draft_more : (i : ℕ) → by_field (givens_before verb words (suc i)) ≡ with_word (by_field (givens_before verb words i))
-      (given_at verb words i)
+  draft_more : (i : ℕ) → draft_before verb words (suc i) ≡ with_word (draft_before verb words i) (given_at verb words i)
   draft_more i =
-      ap (λ (givens : List Given). by_field givens) (givens_more i)
-      ∙ by_field_more (givens_before verb words i) (given_at verb words i)
-
-  options_more : (i : ℕ) → options_before verb words (suc i) ≡ with_option (options_before verb words i) (named_by (role_at verb words i))
-  options_more i =
-      ap (filter_map named_by) (roles_more i)
-      ∙ filter_map-append named_by (roles_before verb words i) (role_at verb words i ∷ [])
-      ∙ go (named_by (role_at verb words i))
-    where
-      go : (o : Option Choice) → options_before verb words i ++ cons_option o [] ≡ with_option (options_before verb words i) o
-      go None = append-nil (options_before verb words i)
-      go (Some choice) = refl
+      ap (λ (givens : List Given). draft_of givens) (givens_more i)
+      ∙ draft_of_more (givens_before verb words i) (given_at verb words i)
 
   left_more : (i : ℕ) → left_at verb words (suc i) ≡ left_behind (left_at verb words i) (role_at verb words i)
   left_more i =
@@ -115,24 +101,18 @@ module _ (verb : Verb) (words : List (List ℕ)) where
 
       go : (role : Role) → drop (taken + cond (is_argument role) 1 0) (arguments verb) ≡ left_behind (drop taken (arguments verb)) role
       go Unknown = none
-      go (Flag choice given) = none
-      go (Waits choice) = none
-      go (WithValue choice text) = none
-      go (ValueFor choice text) = none
+      go (Flag row) = none
+      go (Waits row) = none
+      go (WithValue row text) = none
+      go (ValueFor row text) = none
       go (AsArgument text) = sym (drop-drop 1 taken (arguments verb))
 
-  same_standing : (a b : Draft) (c d : List Choice) (e f : List Argument) (p : Option Choice) → a ≡ b → c ≡ d → e ≡ f
-      → ◌≡◌ {A = Standing} (record { draft = a; before = c; left = e; pending = p }) (record {
-        draft = b;
-        before = d;
-        left =
-            f;
-        pending = p;
-      })
-  same_standing a b c d e f p first second third = rw (first, second, third) refl
+  same_standing : (a b : Draft) (c d : List Row) (p : Option Row) → a ≡ b → c ≡ d
+      → ◌≡◌ {A = Standing} (record { draft = a; left = c; pending = p }) (record { draft = b; left = d; pending = p })
+  same_standing a b c d p first second = rw (first, second) refl
 
   standing_more : (i : ℕ) → after_sound (standing_at i) (role_at verb words i) ≡ standing_at (suc i)
-  standing_more i = sym (same_standing _ _ _ _ _ _ _ (draft_more i) (options_more i) (left_more i))
+  standing_more i = sym (same_standing _ _ _ _ _ (draft_more i) (left_more i))
 
   -- all words
 

@@ -6,13 +6,14 @@ use Rattle.jm_words.specs.declared.tasks.Plugin.TheVariants as plugin
 use Rattle.jm_words.specs.declared.tasks.ImageWork.TheVariants as work
 use Rattle.jm_words.specs.declared.tasks.Task.TheVariants as task
 use Rattle.jm_words.specs.declared.errors.WordsKind.TheVariants as kind
-use Rattle.jm_words.specs.declared.tables.Argument.TheVariants as argument
-use Rattle.jm_words.specs.declared.tables.Choice.TheVariants as choice
+use Rattle.jm_words.specs.declared.tables.Field.TheVariants as field
+use Rattle.jm_words.specs.declared.tables.Form.TheVariants as form
 use Rattle.jm_words.specs.declared.tables.Verb.TheVariants as verb
 use Rattle.jm_words.specs.Reading.{fault_at}
 use Rattle.jm_words.specs.Roles.{AsArgument, Unknown, ValueFor, Waits}
 use Rattle.jm_words.specs.Rule.{kind_at, left_at, role_at}
 use Rattle.jm_words.specs.Commands.{command_in}
+use Rattle.jm_words.specs.Tables.{jobs, row}
 
 no_word : command_in [] ≡ fault_at 0 kind.NoCommand
 no_word = refl
@@ -103,10 +104,10 @@ no_source = refl
 
 -- The rule of one word
 
-waiting_option : role_at verb.Cat (codes "--jobs" ∷ codes "--zap" ∷ []) 0 ≡ Waits choice.Jobs
+waiting_option : role_at verb.Cat (codes "--jobs" ∷ codes "--zap" ∷ []) 0 ≡ Waits jobs
 waiting_option = refl
 
-value_of_option : role_at verb.Cat (codes "--jobs" ∷ codes "--zap" ∷ []) 1 ≡ ValueFor choice.Jobs (codes "--zap")
+value_of_option : role_at verb.Cat (codes "--jobs" ∷ codes "--zap" ∷ []) 1 ≡ ValueFor jobs (codes "--zap")
 value_of_option = refl
 
 option_behind_value : role_at verb.Cat (codes "--jobs" ∷ codes "--jobs" ∷ codes "--zap" ∷ []) 2 ≡ Unknown
@@ -115,7 +116,7 @@ option_behind_value = refl
 second_argument : role_at verb.Cat (codes "img" ∷ codes "--jobs=2" ∷ codes "-" ∷ []) 2 ≡ AsArgument (codes "-")
 second_argument = refl
 
-left_for_second : left_at verb.Cat (codes "img" ∷ codes "--jobs=2" ∷ codes "-" ∷ []) 2 ≡ argument.Name ∷ []
+left_for_second : left_at verb.Cat (codes "img" ∷ codes "--jobs=2" ∷ codes "-" ∷ []) 2 ≡ row (codes "NAME") form.Name field.Name ∷ []
 left_for_second = refl
 
 again_before_bad : kind_at verb.Cat (codes "--jobs=2" ∷ codes "--jobs=0" ∷ []) 1 ≡ Some kind.Repeated

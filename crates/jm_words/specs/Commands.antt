@@ -7,8 +7,10 @@ use Rattle.jm_bytes.specs.declared.words.Order.TheVariants.{Little}
 use Rattle.jm_words.specs.declared.drafts.Draft.{Draft}
 use Rattle.jm_words.specs.declared.errors.WordsFault.{WordsFault}
 use Rattle.jm_words.specs.declared.errors.WordsKind.TheVariants as kind
-use Rattle.jm_words.specs.declared.given.Source.{Source}
-use Rattle.jm_words.specs.declared.given.Source.TheVariants as source
+use Rattle.jm_words.specs.declared.given.Given.{Given}
+use Rattle.jm_words.specs.declared.given.Value.{Value}
+use Rattle.jm_words.specs.declared.given.Value.TheVariants as value
+use Rattle.jm_words.specs.declared.tables.Field.TheVariants as field
 use Rattle.jm_words.specs.declared.tables.Verb.{Verb}
 use Rattle.jm_words.specs.declared.tables.Verb.TheVariants as verb
 use Rattle.jm_words.specs.declared.tasks.Command.{Command}
@@ -18,6 +20,9 @@ use Rattle.jm_words.specs.declared.tasks.ImageWork.TheVariants as work
 use Rattle.jm_words.specs.declared.tasks.LinkTask.{LinkTask}
 use Rattle.jm_words.specs.declared.tasks.Task.{Task}
 use Rattle.jm_words.specs.declared.tasks.Task.TheVariants as task
+use Rattle.jm_pattern.specs.declared.signs.Sign.{Sign}
+use Rattle.jm_words.specs.Drafts.{has, long_in, name_in, names_in, number_in, order_in, path_in}
+use Rattle.jm_words.specs.Drafts.{patterns_in, the}
 use Rattle.jm_words.specs.Tables.{verbs, verb_name}
 use Rattle.jm_words.specs.Reading.{draft_or_fault, fault_at, reading_of}
 
@@ -26,61 +31,76 @@ abbrev pub needing : {A B : Type 0} → Option A → (A → Option B) → Option
 needing None make = None
 needing (Some value) make = make value
 
--- the folders of `--module-path`, none where an image stands in their place
-abbrev pub folders_in : Source → List (List ℕ)
-folders_in (source.Folders dirs) = dirs
-folders_in (source.Image image) = []
-
--- the image of `--from-image`, if it stands
-abbrev pub image_in : Source → Option (List ℕ)
-image_in (source.Folders dirs) = None
-image_in (source.Image image) = Some image
+-- the folders of `--module-path`, or none and the image of `--from-image`, if a value is either
+abbrev pub source_in : Option Value → Option (List (List ℕ) × Option (List ℕ))
+source_in (Some (value.Paths dirs)) = Some (dirs, None)
+source_in (Some (value.Path image)) = Some ([], Some image)
+source_in _ = None
 
 -- the `link` of what was given, or none where an option isn't there that must be
 abbrev pub link_of : Draft → Option LinkTask
 link_of draft =
-    needing draft.source (λ source. needing draft.roots (λ roots. needing draft.output (λ output.
+    needing (source_in (the field.Source draft.values)) (λ source.
+    needing (names_in (the field.Roots draft.values)) (λ roots.
+    needing (path_in (the field.Output draft.values)) (λ output.
     Some (record {
-      dirs = folders_in source;
+      dirs = source.0;
       roots = roots;
       output = output;
       plugins = draft.plugins;
-      order = unwrap_or draft.order Little;
-      bind = draft.bind;
-      from_image = image_in source;
+      order = unwrap_or (order_in (the field.Order draft.values)) Little;
+      bind = has draft.values field.Bind;
+      from_image = source.1;
     }))))
 
 -- the `gen` of what was given, or none where something isn't there that must be
-abbrev pub gen_of : Draft → Option GenTask
-gen_of draft =
-    needing draft.folder (λ dir. needing draft.modules (λ modules.
-    needing draft.classes (λ classes. needing draft.seed (λ seed.
+abbrev pub gen_of : List Given → Option GenTask
+gen_of values =
+    needing (number_in (the field.Modules values)) (λ modules.
+    needing (number_in (the field.Classes values)) (λ classes.
+    needing (long_in (the field.Seed values)) (λ seed.
+    needing (path_in (the field.Folder values)) (λ dir.
     Some (record { dir = dir; modules = modules; classes = classes; seed = seed })))))
 
 -- the work on an image, or none where the image wasn't given
-abbrev pub on_image : Option (List ℕ) → ImageWork → Option Task
-on_image file work = needing file (λ image. Some (task.Image image work))
+abbrev pub on_image : List Given → ImageWork → Option Task
+on_image values work =
+    needing (path_in (the field.File values)) (λ image. Some (task.Image image work))
+
+-- the patterns of what is taken, if some were given
+abbrev pub included : List Given → Option (List (List Sign))
+included values = patterns_in (the field.Include values)
 
 -- the task of what was given, or none where an argument or an option isn't there that must be
 abbrev pub task_of : Verb → Draft → Option Task
 task_of verb.Link draft = needing (link_of draft) (λ link. Some (task.Link link))
-task_of verb.Cat draft = needing draft.name (λ name. on_image draft.file (work.Cat name))
-task_of verb.List draft = on_image draft.file (work.List draft.include)
-task_of verb.Ls draft = needing draft.name (λ path. on_image draft.file (work.Ls path))
-task_of verb.Info draft = on_image draft.file work.Info
+task_of verb.Cat draft =
+    needing (name_in (the field.Name draft.values)) (λ name.
+    on_image draft.values (work.Cat name))
+task_of verb.List draft = on_image draft.values (work.List (included draft.values))
+task_of verb.Ls draft =
+    needing (name_in (the field.Name draft.values)) (λ path.
+    on_image draft.values (work.Ls path))
+task_of verb.Info draft = on_image draft.values work.Info
 task_of verb.Extract draft =
-    needing draft.folder (λ dir. on_image draft.file (work.Extract dir draft.include))
-task_of verb.Verify draft = on_image draft.file work.Verify
-task_of verb.Serve draft = on_image draft.file work.Serve
-task_of verb.Gen draft = needing (gen_of draft) (λ gen. Some (task.Gen gen))
-task_of verb.Describe draft = needing draft.file (λ file. Some (task.Describe file))
+    needing (path_in (the field.Folder draft.values)) (λ dir.
+    on_image draft.values (work.Extract dir (included draft.values)))
+task_of verb.Verify draft = on_image draft.values work.Verify
+task_of verb.Serve draft = on_image draft.values work.Serve
+task_of verb.Gen draft = needing (gen_of draft.values) (λ gen. Some (task.Gen gen))
+task_of verb.Describe draft =
+    needing (path_in (the field.File draft.values)) (λ file. Some (task.Describe file))
 task_of verb.Help draft = Some task.Help
 task_of verb.Version draft = Some task.Version
 
--- the task of what was given, for the number of jobs that was, or else for one
+-- the number of jobs that was given, or else one
+abbrev pub jobs_of : List Given → ℕ
+jobs_of values = unwrap_or (number_in (the field.Jobs values)) 1
+
+-- the task of what was given, for the number of jobs
 abbrev pub command_of : Verb → Draft → Option Command
 command_of verb draft =
-    option_map (λ task. record { jobs = unwrap_or draft.jobs 1; task = task }) (task_of verb draft)
+    option_map (λ task. record { jobs = jobs_of draft.values; task = task }) (task_of verb draft)
 
 -- the command of a name
 abbrev pub verb_named : List ℕ → Option Verb

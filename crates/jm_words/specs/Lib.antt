@@ -6,6 +6,7 @@ pub mod Paths
 pub mod Reading
 pub mod ReadingSteps
 pub mod Roles
+pub mod Rows
 pub mod Rule
 pub mod Tables
 pub mod Values

@@ -3,10 +3,10 @@ use Rattle.std.specs.Prelude.{ℕ, List, [], ◌∷◌, Option, Some, None, Resu
 use Rattle.jm_words.specs.declared.errors.WordsFault.{WordsFault}
 use Rattle.jm_words.specs.declared.errors.WordsKind.TheVariants as kind
 use Rattle.jm_words.specs.declared.given.Given.{Given}
-use Rattle.jm_words.specs.declared.tables.Argument.{Argument}
 use Rattle.jm_words.specs.Drafts.{with_given}
-use Rattle.jm_words.specs.Givens.{argument_of}
+use Rattle.jm_words.specs.Givens.{given_of}
 use Rattle.jm_words.specs.Reading.{Standing, fault_at}
+use Rattle.jm_words.specs.Tables.{Row}
 
 -- what stands after a text that gives something, or `BadValue` where it gives nothing: a word of
 -- the proofs
@@ -16,7 +16,7 @@ after_text at (Some given) standing =
     Ok (record standing { draft = with_given standing.draft given; pending = None })
 
 -- what stands after an argument, or its fault: a word of the proofs
-abbrev pub after_argument : ℕ → List ℕ → List Argument → Standing → Result Standing WordsFault
+abbrev pub after_argument : ℕ → List ℕ → List Row → Standing → Result Standing WordsFault
 after_argument at word [] standing = fault_at at kind.TooManyArguments
-after_argument at word (argument ∷ left) standing =
-    after_text at (argument_of argument word) (record standing { left = left; pending = None })
+after_argument at word (row ∷ left) standing =
+    after_text at (given_of row word) (record standing { left = left; pending = None })

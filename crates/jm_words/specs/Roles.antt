@@ -1,27 +1,26 @@
 -- The role of a word behind the command, and what is wrong with a word in its role (this project's
 -- rule).
-use Rattle.std.specs.Prelude.{ℕ, Bool, true, false, not, nat_eq, ◌==◌, ◌&&◌, ◌||◌, List, [], ◌∷◌}
+use Rattle.std.specs.Prelude.{ℕ, Bool, true, false, not, nat_eq, ◌==◌, ◌&&◌, List, [], ◌∷◌}
 use Rattle.std.specs.Prelude.{Option, Some, None, is_some, is_none, if◌then◌else◌, codes}
-use Rattle.std.specs.List.{find, list_any, before_first, starts_with}
+use Rattle.std.specs.List.{find, before_first, starts_with}
 use Rattle.std.specs.Str.{bytes_eq}
 use Rattle.jm_words.specs.declared.errors.WordsKind.{WordsKind}
 use Rattle.jm_words.specs.declared.errors.WordsKind.TheVariants as kind
 use Rattle.jm_words.specs.declared.given.Given.{Given}
-use Rattle.jm_words.specs.declared.tables.Argument.{Argument}
-use Rattle.jm_words.specs.declared.tables.Choice.{Choice}
-use Rattle.jm_words.specs.Givens.{argument_of, flag_of, value_of}
-use Rattle.jm_words.specs.Tables.{instead_of, is_plugin, option_name}
+use Rattle.jm_words.specs.Drafts.{has}
+use Rattle.jm_words.specs.Givens.{flag_given, given_of}
+use Rattle.jm_words.specs.Tables.{Row, is_flag}
 use Rattle.jm_words.specs.Values.{behind_first}
 
--- the role of a word behind the command: an option that the command doesn't have; a flag and what
--- it gives; an option that waits for its value; an option with its value behind `=`; the value of
--- the option in front of it; or an argument
+-- the role of a word behind the command: an option that the command doesn't have; an option
+-- without a value; an option that waits for its value; an option with its value behind `=`; the
+-- value of the option in front of it; or an argument
 pub data Role : Type 0 where
   Unknown : Role
-  Flag : Choice → Given → Role
-  Waits : Choice → Role
-  WithValue : Choice → List ℕ → Role
-  ValueFor : Choice → List ℕ → Role
+  Flag : Row → Role
+  Waits : Row → Role
+  WithValue : Row → List ℕ → Role
+  ValueFor : Row → List ℕ → Role
   AsArgument : List ℕ → Role
 
 -- a byte is `=`
@@ -33,46 +32,45 @@ abbrev pub has_hyphens : List ℕ → Bool
 has_hyphens word = starts_with nat_eq word (codes "--")
 
 -- the option of a name
-abbrev pub option_named : List ℕ → List Choice → Option Choice
-option_named name choices = find (λ choice. bytes_eq (option_name choice) name) choices
+abbrev pub option_named : List ℕ → List Row → Option Row
+option_named name rows = find (λ row. bytes_eq row.name name) rows
 
 -- what stands behind the first `=` of a word, if it has one
 abbrev pub value_behind : List ℕ → Option (List ℕ)
 value_behind word = behind_first 61 word
 
--- the role of an option without a value behind `=`: it is a flag, or waits for its value
-abbrev pub bare_role : Choice → Option Given → Role
-bare_role choice (Some given) = Flag choice given
-bare_role choice None = Waits choice
+-- the role of an option without a value behind `=`: it has none, or waits for it
+abbrev pub bare_role : Row → Role
+bare_role row = if is_flag row.form then Flag row else Waits row
 
 -- the role of a word that names an option, if the command has it, with the value behind its `=`
-abbrev pub option_role : Option Choice → Option (List ℕ) → Role
+abbrev pub option_role : Option Row → Option (List ℕ) → Role
 option_role None value = Unknown
-option_role (Some choice) (Some text) = WithValue choice text
-option_role (Some choice) None = bare_role choice (flag_of choice)
+option_role (Some row) (Some text) = WithValue row text
+option_role (Some row) None = bare_role row
 
 -- the role of a word for which no option waits
-abbrev pub plain_role : List Choice → List ℕ → Role
-plain_role choices word =
+abbrev pub plain_role : List Row → List ℕ → Role
+plain_role rows word =
     if has_hyphens word
-    then option_role (option_named (before_first is_equals word) choices) (value_behind word)
+    then option_role (option_named (before_first is_equals word) rows) (value_behind word)
     else AsArgument word
 
 -- the role of a word: the value of the option that waits for it, if one does, whatever it is
-abbrev pub role_of : List Choice → Option Choice → List ℕ → Role
-role_of choices None word = plain_role choices word
-role_of choices (Some choice) word = ValueFor choice word
+abbrev pub role_of : List Row → Option Row → List ℕ → Role
+role_of rows None word = plain_role rows word
+role_of rows (Some row) word = ValueFor row word
 
 -- the option that a word in its role names
-abbrev pub named_by : Role → Option Choice
-named_by (Flag choice given) = Some choice
-named_by (Waits choice) = Some choice
-named_by (WithValue choice text) = Some choice
+abbrev pub named_by : Role → Option Row
+named_by (Flag row) = Some row
+named_by (Waits row) = Some row
+named_by (WithValue row text) = Some row
 named_by _ = None
 
 -- the option that waits for the next word
-abbrev pub waiting : Role → Option Choice
-waiting (Waits choice) = Some choice
+abbrev pub waiting : Role → Option Row
+waiting (Waits row) = Some row
 waiting _ = None
 
 -- the role is that of an argument
@@ -86,40 +84,35 @@ is_unknown Unknown = true
 is_unknown _ = false
 
 -- a text stands for the first of the arguments that are left
-abbrev pub first_argument : List Argument → List ℕ → Option Given
+abbrev pub first_argument : List Row → List ℕ → Option Given
 first_argument [] text = None
-first_argument (argument ∷ left) text = argument_of argument text
+first_argument (row ∷ left) text = given_of row text
 
 -- what a word in its role gives, where some arguments are left
-abbrev pub given_by : List Argument → Role → Option Given
-given_by left (Flag choice given) = Some given
-given_by left (WithValue choice text) = value_of choice text
-given_by left (ValueFor choice text) = value_of choice text
+abbrev pub given_by : List Row → Role → Option Given
+given_by left (Flag row) = Some (flag_given row)
+given_by left (WithValue row text) = given_of row text
+given_by left (ValueFor row text) = given_of row text
 given_by left (AsArgument text) = first_argument left text
 given_by left _ = None
 
 -- no argument is left
-abbrev pub is_none_left : List Argument → Bool
+abbrev pub is_none_left : List Row → Bool
 is_none_left [] = true
-is_none_left (argument ∷ left) = false
+is_none_left (row ∷ left) = false
 
 -- a form is asked of the text of a word in its role
-abbrev pub has_form : List Argument → Role → Bool
-has_form left (WithValue choice text) = true
-has_form left (ValueFor choice text) = true
+abbrev pub has_form : List Row → Role → Bool
+has_form left (WithValue row text) = true
+has_form left (ValueFor row text) = true
 has_form left (AsArgument text) = not (is_none_left left)
 has_form left _ = false
 
--- an option is among some
-abbrev pub is_among : List Choice → Choice → Bool
-is_among choices choice = list_any (λ c. bytes_eq (option_name c) (option_name choice)) choices
-
--- an option stands again behind some: it, or the one in whose place it stands, is among them, and
--- it is no plug-in
-abbrev pub stands_again : List Choice → Option Choice → Bool
-stands_again before None = false
-stands_again before (Some choice) =
-    not (is_plugin choice) && (is_among before choice || is_among before (instead_of choice))
+-- an option stands again where its field is given already: by it, or by the one in whose place it
+-- stands. Plug-ins may, and give none of these values
+abbrev pub stands_again : List Given → Option Row → Bool
+stands_again values None = false
+stands_again values (Some row) = has values row.field
 
 -- the kinds of faults, in the order in which they are judged at one word
 abbrev pub kinds : List WordsKind
@@ -127,16 +120,16 @@ kinds =
     kind.NoCommand ∷ kind.UnknownCommand ∷ kind.UnknownOption ∷ kind.Repeated ∷ kind.NoValue
     ∷ kind.BadValue ∷ kind.TooManyArguments ∷ kind.Missing ∷ []
 
--- a kind of fault holds of a word in its role, behind these options, where these arguments are
--- left, and it is the last word or not
-abbrev pub is_faulty : List Choice → List Argument → Bool → Role → WordsKind → Bool
-is_faulty before left last role kind.UnknownOption = is_unknown role
-is_faulty before left last role kind.Repeated = stands_again before (named_by role)
-is_faulty before left last role kind.NoValue = is_some (waiting role) && last
-is_faulty before left last role kind.BadValue = has_form left role && is_none (given_by left role)
-is_faulty before left last role kind.TooManyArguments = is_argument role && is_none_left left
-is_faulty before left last role _ = false
+-- a kind of fault holds of a word in its role, where these values are given and these arguments
+-- are left, and it is the last word or not
+abbrev pub is_faulty : List Given → List Row → Bool → Role → WordsKind → Bool
+is_faulty values left last role kind.UnknownOption = is_unknown role
+is_faulty values left last role kind.Repeated = stands_again values (named_by role)
+is_faulty values left last role kind.NoValue = is_some (waiting role) && last
+is_faulty values left last role kind.BadValue = has_form left role && is_none (given_by left role)
+is_faulty values left last role kind.TooManyArguments = is_argument role && is_none_left left
+is_faulty values left last role _ = false
 
 -- the first kind of fault that holds of a word in its role
-abbrev pub first_kind : List Choice → List Argument → Bool → Role → Option WordsKind
-first_kind before left last role = find (is_faulty before left last role) kinds
+abbrev pub first_kind : List Given → List Row → Bool → Role → Option WordsKind
+first_kind values left last role = find (is_faulty values left last role) kinds

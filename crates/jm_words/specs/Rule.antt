@@ -11,13 +11,11 @@ use Rattle.jm_words.specs.declared.errors.WordsKind.{WordsKind}
 use Rattle.jm_words.specs.declared.errors.WordsKind.TheVariants as kind
 use Rattle.jm_words.specs.declared.given.Given.{Given}
 use Rattle.jm_words.specs.declared.tables.Verb.{Verb}
-use Rattle.jm_words.specs.declared.tables.Argument.{Argument}
-use Rattle.jm_words.specs.declared.tables.Choice.{Choice}
+use Rattle.jm_words.specs.declared.drafts.Draft.{Draft}
 use Rattle.jm_words.specs.Commands.{command_of, verb_named}
-use Rattle.jm_words.specs.Drafts.{by_field}
-use Rattle.jm_words.specs.Roles.{Role, first_kind, given_by, is_argument, named_by, role_of}
-use Rattle.jm_words.specs.Roles.{waiting}
-use Rattle.jm_words.specs.Tables.{arguments, options}
+use Rattle.jm_words.specs.Drafts.{draft_of}
+use Rattle.jm_words.specs.Roles.{Role, first_kind, given_by, is_argument, role_of, waiting}
+use Rattle.jm_words.specs.Tables.{Row, arguments, options}
 
 -- the word at a place
 abbrev pub word_at : List (List ℕ) → ℕ → List ℕ
@@ -34,18 +32,26 @@ role_at verb words (suc i) =
 abbrev pub roles_before : Verb → List (List ℕ) → ℕ → List Role
 roles_before verb words i = map (role_at verb words) (range_with_len 0 i)
 
--- the options that stand before a place
-abbrev pub options_before : Verb → List (List ℕ) → ℕ → List Choice
-options_before verb words i = filter_map named_by (roles_before verb words i)
-
 -- the arguments of the command that are left at a place: all but as many as stand before it
-abbrev pub left_at : Verb → List (List ℕ) → ℕ → List Argument
+abbrev pub left_at : Verb → List (List ℕ) → ℕ → List Row
 left_at verb words i = drop (count_by is_argument (roles_before verb words i)) (arguments verb)
+
+-- what the word at a place gives in its role
+abbrev pub given_at : Verb → List (List ℕ) → ℕ → Option Given
+given_at verb words i = given_by (left_at verb words i) (role_at verb words i)
+
+-- what the words before a place give in their roles, in their order
+abbrev pub givens_before : Verb → List (List ℕ) → ℕ → List Given
+givens_before verb words i = filter_map (given_at verb words) (range_with_len 0 i)
+
+-- what the words before a place give, the plug-ins apart
+abbrev pub draft_before : Verb → List (List ℕ) → ℕ → Draft
+draft_before verb words i = draft_of (givens_before verb words i)
 
 -- the first kind of fault, in the order of `kinds`, that the word at a place has in its role
 abbrev pub kind_at : Verb → List (List ℕ) → ℕ → Option WordsKind
 kind_at verb words i =
-    first_kind (options_before verb words i) (left_at verb words i)
+    first_kind (draft_before verb words i).values (left_at verb words i)
     (i + 2 == length words + 1) (role_at verb words i)
 
 -- no word behind the command has a fault in its role
@@ -60,19 +66,11 @@ pub record IsFirstFault (verb : Verb) (words : List (List ℕ)) (fault : WordsFa
   pub before : (i : ℕ) → i < place → kind_at verb words i ≡ None
   pub first : kind_at verb words place ≡ Some fault.kind
 
--- what the word at a place gives in its role
-abbrev pub given_at : Verb → List (List ℕ) → ℕ → Option Given
-given_at verb words i = given_by (left_at verb words i) (role_at verb words i)
-
--- what the words before a place give in their roles, in their order
-abbrev pub givens_before : Verb → List (List ℕ) → ℕ → List Given
-givens_before verb words i = filter_map (given_at verb words) (range_with_len 0 i)
-
 -- the command of which each field is the value of the one word that gives it, or its default; the
 -- plug-ins are those of all words that give one; none where a field isn't there that must be
 abbrev pub command_given : Verb → List (List ℕ) → Option Command
 command_given verb words =
-    command_of verb (by_field (givens_before verb words (length words)))
+    command_of verb (draft_before verb words (length words))
 
 -- what the words behind a command say: their first fault; `Missing` with the number of all words;
 -- or the command that they give

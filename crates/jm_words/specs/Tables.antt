@@ -1,11 +1,35 @@
--- The commands, their arguments in order and their options (this project's rule).
+-- The commands, their arguments in order and their options, a row each (this project's rule).
 use Rattle.std.specs.Prelude.{ℕ, Bool, true, false, List, [], ◌∷◌, codes}
+use denote.Enum.Bare.{sameb}
+use Rattle.jm_words.specs.contracts.tables.Field.{the_type}
+use Rattle.jm_words.specs.declared.tables.Field.{Field}
+use Rattle.jm_words.specs.declared.tables.Field.TheVariants as field
+use Rattle.jm_words.specs.declared.tables.Form.{Form}
+use Rattle.jm_words.specs.declared.tables.Form.TheVariants as form
 use Rattle.jm_words.specs.declared.tables.Verb.{Verb}
 use Rattle.jm_words.specs.declared.tables.Verb.TheVariants as verb
-use Rattle.jm_words.specs.declared.tables.Argument.{Argument}
-use Rattle.jm_words.specs.declared.tables.Argument.TheVariants as argument
-use Rattle.jm_words.specs.declared.tables.Choice.{Choice}
-use Rattle.jm_words.specs.declared.tables.Choice.TheVariants as choice
+
+-- an argument or an option: its name, the form of its text, and the field that it gives
+pub record Row : Type 0 where
+  pub name : List ℕ
+  pub form : Form
+  pub field : Field
+
+-- a row of this name, form and field
+abbrev pub row : List ℕ → Form → Field → Row
+row name form field = record { name = name; form = form; field = field }
+
+-- the image that a command reads
+abbrev pub image : Row
+image = row (codes "IMAGE") form.Path field.File
+
+-- how many pieces work at the same time
+abbrev pub jobs : Row
+jobs = row (codes "--jobs") (form.Number 1 64) field.Jobs
+
+-- the patterns of what is taken
+abbrev pub include : Row
+include = row (codes "--include") form.Patterns field.Include
 
 -- the name of a command
 abbrev pub verb_name : Verb → List ℕ
@@ -29,60 +53,50 @@ verbs =
     ∷ verb.Serve ∷ verb.Gen ∷ verb.Describe ∷ verb.Help ∷ verb.Version ∷ []
 
 -- the arguments of a command, in order
-abbrev pub arguments : Verb → List Argument
-arguments verb.Cat = argument.Image ∷ argument.Name ∷ []
-arguments verb.List = argument.Image ∷ []
-arguments verb.Ls = argument.Image ∷ argument.Path ∷ []
-arguments verb.Info = argument.Image ∷ []
-arguments verb.Extract = argument.Image ∷ []
-arguments verb.Verify = argument.Image ∷ []
-arguments verb.Serve = argument.Image ∷ []
-arguments verb.Gen = argument.Folder ∷ []
-arguments verb.Describe = argument.File ∷ []
+abbrev pub arguments : Verb → List Row
+arguments verb.Cat = image ∷ row (codes "NAME") form.Name field.Name ∷ []
+arguments verb.List = image ∷ []
+arguments verb.Ls = image ∷ row (codes "PATH") form.InnerPath field.Name ∷ []
+arguments verb.Info = image ∷ []
+arguments verb.Extract = image ∷ []
+arguments verb.Verify = image ∷ []
+arguments verb.Serve = image ∷ []
+arguments verb.Gen = row (codes "DIR") form.Folder field.Folder ∷ []
+arguments verb.Describe = row (codes "FILE") form.Path field.File ∷ []
 arguments _ = []
 
 -- the options of a command
-abbrev pub options : Verb → List Choice
+abbrev pub options : Verb → List Row
 options verb.Link =
-    choice.Jobs ∷ choice.ModulePath ∷ choice.FromImage ∷ choice.AddModules ∷ choice.Output
-    ∷ choice.Endian ∷ choice.BindServices ∷ choice.ExcludeResources ∷ choice.OrderResources
-    ∷ choice.StripDebug ∷ choice.CompactPool ∷ choice.ModulePackages ∷ []
-options verb.List = choice.Jobs ∷ choice.Include ∷ []
-options verb.Extract = choice.Jobs ∷ choice.Dir ∷ choice.Include ∷ []
-options verb.Gen = choice.Jobs ∷ choice.Modules ∷ choice.Classes ∷ choice.Seed ∷ []
-options _ = choice.Jobs ∷ []
+    jobs
+    ∷ row (codes "--module-path") form.Folders field.Source
+    ∷ row (codes "--from-image") form.Path field.Source
+    ∷ row (codes "--add-modules") form.Names field.Roots
+    ∷ row (codes "--output") form.Path field.Output
+    ∷ row (codes "--endian") form.Order field.Order
+    ∷ row (codes "--bind-services") form.Flag field.Bind
+    ∷ row (codes "--exclude-resources") form.Patterns field.Exclude
+    ∷ row (codes "--order-resources") form.Patterns field.Rank
+    ∷ row (codes "--strip-java-debug-attributes") form.Flag field.Strip
+    ∷ row (codes "--compact-pool") form.Flag field.Compact
+    ∷ row (codes "--module-packages") form.Flag field.Packages
+    ∷ []
+options verb.List = jobs ∷ include ∷ []
+options verb.Extract =
+    jobs ∷ row (codes "--dir") form.Folder field.Folder ∷ include ∷ []
+options verb.Gen =
+    jobs
+    ∷ row (codes "--modules") (form.Number 1 256) field.Modules
+    ∷ row (codes "--classes") (form.Number 1 1024) field.Classes
+    ∷ row (codes "--seed") form.Long field.Seed
+    ∷ []
+options _ = jobs ∷ []
 
--- the name of an option
-abbrev pub option_name : Choice → List ℕ
-option_name choice.Jobs = codes "--jobs"
-option_name choice.ModulePath = codes "--module-path"
-option_name choice.FromImage = codes "--from-image"
-option_name choice.AddModules = codes "--add-modules"
-option_name choice.Output = codes "--output"
-option_name choice.Endian = codes "--endian"
-option_name choice.BindServices = codes "--bind-services"
-option_name choice.ExcludeResources = codes "--exclude-resources"
-option_name choice.OrderResources = codes "--order-resources"
-option_name choice.StripDebug = codes "--strip-java-debug-attributes"
-option_name choice.CompactPool = codes "--compact-pool"
-option_name choice.ModulePackages = codes "--module-packages"
-option_name choice.Include = codes "--include"
-option_name choice.Dir = codes "--dir"
-option_name choice.Modules = codes "--modules"
-option_name choice.Classes = codes "--classes"
-option_name choice.Seed = codes "--seed"
+-- two fields are one
+abbrev pub same_field : Field → Field → Bool
+same_field = sameb the_type
 
--- an option is a plug-in, which may stand again and again
-abbrev pub is_plugin : Choice → Bool
-is_plugin choice.ExcludeResources = true
-is_plugin choice.OrderResources = true
-is_plugin choice.StripDebug = true
-is_plugin choice.CompactPool = true
-is_plugin choice.ModulePackages = true
-is_plugin _ = false
-
--- the option in whose place an option stands, or the option itself
-abbrev pub instead_of : Choice → Choice
-instead_of choice.ModulePath = choice.FromImage
-instead_of choice.FromImage = choice.ModulePath
-instead_of other = other
+-- a form is that of an option without a value
+abbrev pub is_flag : Form → Bool
+is_flag form.Flag = true
+is_flag _ = false

@@ -57,13 +57,13 @@ abbrev pub names_of : List ℕ → Option (List (List ℕ))
 names_of text = unless_empty (map modified (parts_at 44 text))
 
 -- the patterns of a list that reads as some
-abbrev pub patterns_in : Result (List (List Sign)) PatternFault → Option (List (List Sign))
-patterns_in (Ok patterns) = Some patterns
-patterns_in (Err fault) = None
+abbrev pub patterns_if_ok : Result (List (List Sign)) PatternFault → Option (List (List Sign))
+patterns_if_ok (Ok patterns) = Some patterns
+patterns_if_ok (Err fault) = None
 
 -- the patterns of a text in Modified UTF-8, if it is a comma list of patterns
 abbrev pub patterns_of : List ℕ → Option (List (List Sign))
-patterns_of text = patterns_in (list_of (modified text))
+patterns_of text = patterns_if_ok (list_of (modified text))
 
 -- the order of bytes that a text names: `little` or `big`
 abbrev pub order_of : List ℕ → Option Order

@@ -2,18 +2,20 @@ ghost use Rattle.std.specs.Prelude.{◌≡◌, ◌<◌, map, string_bytes, IfOk}
 ghost use Rattle.std.specs.List.{find};
 ghost use Rattle.std.specs.Str.{bytes_eq};
 ghost use Rattle.jm_bytes.specs.Results.{IfAnswered};
-ghost use Rattle.jm_words.specs.Commands.{command_in, link_of, on_image};
+ghost use Rattle.jm_words.specs.Commands.{command_in, gen_of, link_of, on_image, source_in};
 ghost use Rattle.jm_words.specs.Commands.{task_of, verb_named};
 ghost use Rattle.jm_words.specs.Paths.{FilePathsAreText, NumbersFit};
 ghost use Rattle.jm_words.specs.Rule.{SaysCommand};
 ghost use Rattle.jm_words.specs.Tables.{verb_name};
 
-use crate::drafts::Draft;
+use crate::drafts::{
+    Draft, find, has, long_in, name_in, names_in, number_in, order_in, path_in, patterns_in, take,
+};
 use crate::errors::{WordsFault, WordsKind};
-use crate::given::Source;
+use crate::given::{Given, Value};
 use crate::reading::draft_of;
-use crate::tables::{Verb, verb_name};
-use crate::tasks::{Command, GenTask, ImageWork, LinkTask, Task};
+use crate::tables::{Field, Verb, verb_name};
+use crate::tasks::{Command, GenTask, ImageWork, LinkTask, Plugin, Task};
 use jm_bytes::{List, Or, Order, Text};
 use std::alloc::Global;
 
@@ -43,7 +45,7 @@ pub fn read_words(alloc: Global, words: &[String]) -> Result<Command, Or<WordsFa
         })),
     };
     let draft = draft_of(alloc, verb, behind)?;
-    let jobs = draft.jobs.unwrap_or(1);
+    let jobs = number_in(find(draft.values.as_slice(), Field::Jobs)).unwrap_or(1);
     match task_of(alloc, verb, draft) {
         Some(task) => Ok(Command { jobs, task }),
         None => Err(Or::Fault(WordsFault {
@@ -90,60 +92,88 @@ fn first_named(verbs: &[Verb], name: &[u8]) -> Option<Verb>
 fn task_of(alloc: Global, verb: Verb, draft: Draft) -> Option<Task>
     ensures { result ≡ task_of verb draft }
 {
+    let mut values = draft.values.into_vec();
+    let values = values.as_mut_slice();
     match verb {
-        Verb::Link => Some(Task::Link(link_of(alloc, draft)?)),
-        Verb::Gen => Some(Task::Gen(GenTask {
-            dir: draft.folder?,
-            modules: draft.modules?,
-            classes: draft.classes?,
-            seed: draft.seed?,
-        })),
-        Verb::Describe => Some(Task::Describe { file: draft.file? }),
+        Verb::Link => Some(Task::Link(link_of(alloc, values, draft.plugins)?)),
+        Verb::Gen => Some(Task::Gen(gen_of(values)?)),
+        Verb::Describe => Some(Task::Describe {
+            file: path_in(take(values, Field::File))?,
+        }),
         Verb::Help => Some(Task::Help),
         Verb::Version => Some(Task::Version),
-        Verb::Cat => on_image(draft.file, ImageWork::Cat { name: draft.name? }),
-        Verb::List => on_image(
-            draft.file,
-            ImageWork::List {
-                include: draft.include,
-            },
-        ),
-        Verb::Ls => on_image(draft.file, ImageWork::Ls { path: draft.name? }),
-        Verb::Info => on_image(draft.file, ImageWork::Info),
-        Verb::Extract => on_image(
-            draft.file,
-            ImageWork::Extract {
-                dir: draft.folder?,
-                include: draft.include,
-            },
-        ),
-        Verb::Verify => on_image(draft.file, ImageWork::Verify),
-        Verb::Serve => on_image(draft.file, ImageWork::Serve),
+        Verb::Cat => {
+            let name = name_in(take(values, Field::Name))?;
+            on_image(values, ImageWork::Cat { name })
+        }
+        Verb::List => {
+            let include = patterns_in(take(values, Field::Include));
+            on_image(values, ImageWork::List { include })
+        }
+        Verb::Ls => {
+            let path = name_in(take(values, Field::Name))?;
+            on_image(values, ImageWork::Ls { path })
+        }
+        Verb::Info => on_image(values, ImageWork::Info),
+        Verb::Extract => {
+            let dir = path_in(take(values, Field::Folder))?;
+            let include = patterns_in(take(values, Field::Include));
+            on_image(values, ImageWork::Extract { dir, include })
+        }
+        Verb::Verify => on_image(values, ImageWork::Verify),
+        Verb::Serve => on_image(values, ImageWork::Serve),
     }
 }
 
 /// The work on an image, if the image was given.
-fn on_image(file: Option<Text>, work: ImageWork) -> Option<Task>
-    ensures { result ≡ on_image file work }
+fn on_image(values: &mut [Given], work: ImageWork) -> Option<Task>
+    ensures { result ≡ on_image values.old work }
 {
-    Some(Task::Image { image: file?, work })
+    Some(Task::Image {
+        image: path_in(take(values, Field::File))?,
+        work,
+    })
+}
+
+/// The `gen` of what was given, if all is there that must be.
+fn gen_of(values: &mut [Given]) -> Option<GenTask>
+    ensures { result ≡ gen_of values.old }
+{
+    Some(GenTask {
+        modules: number_in(find(values, Field::Modules))?,
+        classes: number_in(find(values, Field::Classes))?,
+        seed: long_in(find(values, Field::Seed))?,
+        dir: path_in(take(values, Field::Folder))?,
+    })
 }
 
 /// The `link` of what was given, if all is there that must be.
-fn link_of(alloc: Global, draft: Draft) -> Option<LinkTask>
-    ensures { result ≡ link_of draft }
+fn link_of(alloc: Global, values: &mut [Given], plugins: List<Plugin>) -> Option<LinkTask>
+    ensures { result ≡ link_of (record { values = values.old; plugins = plugins }) }
 {
-    let (dirs, from_image) = match draft.source? {
-        Source::Folders(dirs) => (dirs, None),
-        Source::Image(image) => (List::new(alloc), Some(image)),
-    };
+    let order = order_in(find(values, Field::Order)).unwrap_or(Order::Little);
+    let bind = has(values, Field::Bind);
+    let (dirs, from_image) = source_in(alloc, take(values, Field::Source))?;
+    let roots = names_in(take(values, Field::Roots))?;
+    let output = path_in(take(values, Field::Output))?;
     Some(LinkTask {
         dirs,
-        roots: draft.roots?,
-        output: draft.output?,
-        plugins: draft.plugins,
-        order: draft.order.unwrap_or(Order::Little),
-        bind: draft.bind,
+        roots,
+        output,
+        plugins,
+        order,
+        bind,
         from_image,
     })
+}
+
+/// The folders of a module path, or none and an image, if a value is either.
+fn source_in(alloc: Global, value: Option<Value>) -> Option<(List<Text>, Option<Text>)>
+    ensures { result ≡ source_in value }
+{
+    match value {
+        Some(Value::Paths(dirs)) => Some((dirs, None)),
+        Some(Value::Path(image)) => Some((List::new(alloc), Some(image))),
+        _ => None,
+    }
 }

@@ -3,17 +3,15 @@ ghost use Rattle.jm_bytes.specs.Results.{IfAnswered};
 ghost use Rattle.jm_bytes.specs.declared.faults.Or.TheVariants.{Fault};
 ghost use Rattle.jm_words.specs.Reading.{after_role, draft_or_fault, reading_of};
 ghost use Rattle.jm_words.specs.ReadingSteps.{after_argument, after_text};
-ghost use Rattle.jm_words.specs.Roles.{is_among, option_named, option_role};
-ghost use Rattle.jm_words.specs.Roles.{role_of, stands_again};
+ghost use Rattle.jm_words.specs.Roles.{option_named, option_role, role_of};
+ghost use Rattle.jm_words.specs.Rows.{row_of};
 
-use crate::drafts::Draft;
+use crate::drafts::{Draft, has};
 use crate::errors::{WordsFault, WordsKind};
-use crate::given::{Given, argument_of, flag_of, value_of};
-use crate::tables::{
-    Argument, Choice, Verb, arguments, instead_of, is_plugin, option_name, options,
-};
+use crate::given::{Given, Value, given_of};
+use crate::tables::{Row, Verb, arguments, options};
 use crate::values::first_part;
-use jm_bytes::{List, Or};
+use jm_bytes::Or;
 use std::alloc::Global;
 use std::marker::Model;
 
@@ -21,24 +19,23 @@ use std::marker::Model;
 #[derive(Drop)]
 struct Progress {
     draft: Draft,
-    /// The options so far.
-    before: List<Choice>,
     /// The arguments still to come.
-    left: &'static [Argument],
+    left: &'static [Row],
     /// The option whose value is the next word.
-    pending: Option<Choice>,
+    pending: Option<Row>,
 }
 
 impl Model for Progress {
+    ghost use Rattle.std.specs.Prelude.{map, option_map};
     ghost use Rattle.jm_words.specs.Reading.{Standing};
+    ghost use Rattle.jm_words.specs.Rows.{row_of};
 
     ghost Value = { Standing };
 
     ghost view = { λ a. record {
       draft = a.draft;
-      before = a.before;
-      left = a.left.now;
-      pending = a.pending;
+      left = map row_of a.left.now;
+      pending = option_map row_of a.pending;
     } };
 }
 
@@ -54,10 +51,9 @@ pub fn draft_of(alloc: Global, verb: Verb, words: &[String]) -> Result<Draft, Or
     ensures { IfAnswered
         (λ r. r ≡ draft_or_fault (reading_of verb (map string_bytes words.now))) result }
 {
-    let choices = options(verb);
+    let rows = options(verb);
     let mut progress = Progress {
         draft: Draft::new(alloc),
-        before: List::new(alloc),
         left: arguments(verb),
         pending: None,
     };
@@ -66,7 +62,7 @@ pub fn draft_of(alloc: Global, verb: Verb, words: &[String]) -> Result<Draft, Or
             at: i + 2,
             last: words.len() + 1,
         };
-        progress = after_word(alloc, choices, position, words[i].as_bytes(), progress)?;
+        progress = after_word(alloc, rows, position, words[i].as_bytes(), progress)?;
     }
     Ok(progress.draft)
 }
@@ -75,59 +71,60 @@ pub fn draft_of(alloc: Global, verb: Verb, words: &[String]) -> Result<Draft, Or
 #[tactic(auto, using(crate::proofs::ReadingLaws::argument_read))]
 fn after_word(
     alloc: Global,
-    choices: &[Choice],
+    rows: &[Row],
     position: Position,
     word: &[u8],
     progress: Progress,
 ) -> Result<Progress, Or<WordsFault>>
     ensures { IfAnswered (λ r. r
         ≡ after_role position.at position.last progress
-        (role_of choices.now progress.pending word.now)) result }
+        (role_of (map row_of rows.now) progress.pending word.now)) result }
 {
-    if let Some(choice) = progress.pending {
-        return after_text(position.at, value_of(alloc, choice, word)?, progress);
+    if let Some(row) = progress.pending {
+        return after_text(position.at, given_of(alloc, row, word)?, progress);
     }
     if !word.starts_with(b"--") {
         return after_argument(alloc, position.at, word, progress);
     }
     let (name, value) = first_part(b'=', word);
-    match option_named(name, choices) {
-        Some(choice) => after_option(alloc, position, choice, value, progress),
+    match option_named(name, rows) {
+        Some(row) => after_option(alloc, position, row, value, progress),
         None => fault_at(position.at, WordsKind::UnknownOption),
     }
 }
 
-/// An option that the command has, with what stands behind its `=`; without one it is a flag, or
+/// An option that the command has, with what stands behind its `=`; without it, it has no value, or
 /// the next word is its value.
 fn after_option(
     alloc: Global,
     position: Position,
-    choice: Choice,
+    row: Row,
     value: Option<&[u8]>,
     progress: Progress,
 ) -> Result<Progress, Or<WordsFault>>
     ensures { IfAnswered (λ r. r ≡ after_role position.at position.last progress
-        (option_role (Some choice) (option_map (λ text. text.now) value.entry))) result }
+        (option_role (Some (row_of row)) (option_map (λ text. text.now) value.entry))) result }
 {
     let Position { at, last } = position;
     let mut progress = progress;
-    if stands_again(progress.before.as_slice(), choice) {
+    if has(progress.draft.values.as_slice(), row.2) {
         return fault_at(at, WordsKind::Repeated);
     }
-    progress.before.push(choice)?;
-    match value {
-        Some(text) => after_text(at, value_of(alloc, choice, text)?, progress),
-        None => match flag_of(choice) {
-            Some(given) => after_text(at, Some(given), progress),
-            None => {
-                if at == last {
-                    return fault_at(at, WordsKind::NoValue);
-                }
-                progress.pending = Some(choice);
-                Ok(progress)
-            }
-        },
+    if let Some(text) = value {
+        return after_text(at, given_of(alloc, row, text)?, progress);
     }
+    if row.1.is_flag() {
+        let given = Given {
+            field: row.2,
+            value: Value::Flag,
+        };
+        return after_text(at, Some(given), progress);
+    }
+    if at == last {
+        return fault_at(at, WordsKind::NoValue);
+    }
+    progress.pending = Some(row);
+    Ok(progress)
 }
 
 /// A word that is an argument.
@@ -141,9 +138,9 @@ fn after_argument(
 {
     let mut progress = progress;
     match progress.left.split_first() {
-        Some((argument, left)) => {
+        Some((row, left)) => {
             progress.left = left;
-            after_text(at, argument_of(alloc, *argument, word)?, progress)
+            after_text(at, given_of(alloc, *row, word)?, progress)
         }
         None => fault_at(at, WordsKind::TooManyArguments),
     }
@@ -169,31 +166,15 @@ fn after_text(
 }
 
 /// The option of a name.
-fn option_named(name: &[u8], choices: &[Choice]) -> Option<Choice>
-    ensures { result ≡ option_named name.now choices.now }
+fn option_named(name: &[u8], rows: &[Row]) -> Option<Row>
+    ensures { option_map row_of result ≡ option_named name.now (map row_of rows.now) }
 {
-    for choice in choices {
-        if option_name(*choice) == name {
-            return Some(*choice);
+    for row in rows {
+        if row.0 == name {
+            return Some(*row);
         }
     }
     None
-}
-
-/// Whether an option stands behind these, or behind the one in whose place it stands, and may not.
-fn stands_again(before: &[Choice], choice: Choice) -> bool
-    ensures { result ≡ stands_again before.now (Some choice) }
-{
-    !is_plugin(choice) && (is_among(before, choice) || is_among(before, instead_of(choice)))
-}
-
-/// Whether an option is among some.
-fn is_among(choices: &[Choice], choice: Choice) -> bool
-    ensures { result ≡ is_among choices.now choice }
-{
-    choices
-        .iter()
-        .any(|one| option_name(*one) == option_name(choice))
 }
 
 fn fault_at(at: usize, kind: WordsKind) -> Result<Progress, Or<WordsFault>>

@@ -124,11 +124,11 @@ pub fn order_of(text: &[u8]) -> Option<Order>
     }
 }
 
-/// The number of a text, if it is one from 1 to `high`.
-pub fn count_of(high: u32, text: &[u8]) -> Option<u32>
-    ensures { result ≡ number_of 1 high text.now }
+/// The number of a text, if it is one within these limits of 32 bits.
+pub fn count_of(low: u32, high: u32, text: &[u8]) -> Option<u32>
+    ensures { result ≡ number_of low high text.now }
 {
-    match number_of(1, u64::from(high), text) {
+    match number_of(u64::from(low), u64::from(high), text) {
         Some(number) => Some(number as u32),
         None => None,
     }
