@@ -1,8 +1,11 @@
 //! A file that is another one by the time that it is read again.
 
+ghost use Rattle.std.specs.Prelude.{◌≡◌, IsUtf8};
+ghost use Rattle.jm_outside.specs.Views.{calls_of, handed_by};
+
 use crate::calls::shelf_of;
 use crate::runs::told_by;
-use jm_bytes::{List, Text};
+use jm_bytes::{List, NoMemory, Text};
 use jm_halves::NoGate;
 use jm_outside::{MemShelf, Shelf, ShelfError};
 use std::alloc::Global;
@@ -26,6 +29,25 @@ struct Changing {
     is_read: bool,
 }
 
+impl Changing {
+    /// Changes the file, if it is the one that is to be read and was read before.
+    fn change(&mut self, alloc: Global, path: &[u8]) -> Result<(), NoMemory>
+        requires text { IsUtf8 path.now }
+        ensures handed { handed_by self.new.shelf ≡ handed_by self.old.shelf }
+        ensures faults { (calls_of self.new.shelf).faults ≡ (calls_of self.old.shelf).faults }
+    {
+        if path != PATH {
+            return Ok(());
+        }
+        if self.is_read {
+            let path = Text::copy_of(alloc, path)?;
+            return self.shelf.put_file(path, Text::copy_of(alloc, LATER)?);
+        }
+        self.is_read = true;
+        Ok(())
+    }
+}
+
 /// It tells no files, since they change by themselves.
 impl Shelf for Changing {
     ghost use Rattle.std.specs.Prelude.{None, true};
@@ -44,13 +66,7 @@ impl Shelf for Changing {
     }
 
     fn read(&mut self, alloc: Global, path: &[u8]) -> Result<Option<Text>, ShelfError> {
-        if path == PATH {
-            if self.is_read {
-                let path = Text::copy_of(alloc, path)?;
-                self.shelf.put_file(path, Text::copy_of(alloc, LATER)?)?;
-            }
-            self.is_read = true;
-        }
+        self.change(alloc, path)?;
         self.shelf.read(alloc, path)
     }
 
