@@ -3,7 +3,7 @@
 use jm_bytes::{List, Or, Order, Text};
 use jm_lines::{put_bytes, words_of};
 use jm_pattern::Pattern;
-use jm_words::{Command, GenTask, ImageWork, LinkTask, Plugin, Task, read_words};
+use jm_words::{Command, GenTask, ImageWork, LinkTask, Plugin, Source, Task, read_words};
 use std::alloc::{AllocError, Global};
 
 /// Puts a text between bars.
@@ -69,30 +69,30 @@ fn put_file(
     }
 }
 
-/// Puts where a `link` reads: the folders, or the image.
-fn put_source(
-    line: &mut String,
-    dirs: &List<Text>,
-    image: &Option<Text>,
-) -> Result<(), AllocError> {
-    put_texts(line, dirs)?;
-    match image {
-        Some(image) => {
+/// Puts where a `link` reads: the directories, or the image.
+fn put_source(line: &mut String, source: &Source) -> Result<(), AllocError> {
+    match source {
+        Source::Path(directories) => put_texts(line, directories),
+        Source::Image(image) => {
             line.push_str(" from")?;
             put_text(line, image)
         }
-        None => Ok(()),
     }
 }
 
 /// Puts what a `link` reads, takes and makes.
 fn put_link(line: &mut String, task: &LinkTask) -> Result<(), AllocError> {
     line.push_str("link")?;
-    put_source(line, &task.dirs, &task.from_image)?;
+    put_source(line, &task.source)?;
     line.push_str(" add")?;
     put_texts(line, &task.roots)?;
     line.push_str(" to")?;
     put_text(line, &task.output)
+}
+
+/// Puts up to which release classes are taken.
+fn put_release(line: &mut String, release: u32) -> Result<(), AllocError> {
+    write!(line, " release {release}")
 }
 
 /// Puts what a `link` does.
@@ -103,7 +103,8 @@ fn put_linking(line: &mut String, task: &LinkTask) -> Result<(), AllocError> {
     } else {
         " little"
     })?;
-    line.push_str(if task.bind { " bound" } else { "" })
+    line.push_str(if task.bind { " bound" } else { "" })?;
+    put_release(line, task.release)
 }
 
 /// Puts what a `gen` makes.
@@ -136,7 +137,7 @@ fn put_task(line: &mut String, task: &Task) -> Result<(), AllocError> {
         Task::Link(task) => put_link(line, task),
         Task::Image { image, work } => put_work(line, image, work),
         Task::Gen(task) => put_file(line, "gen", &task.dir, None),
-        Task::Describe { file } => put_file(line, "describe", file, None),
+        Task::Describe { file, .. } => put_file(line, "describe", file, None),
         Task::Help => line.push_str("--help"),
         Task::Version => line.push_str("--version"),
     }
@@ -151,6 +152,7 @@ fn put_more(line: &mut String, task: &Task) -> Result<(), AllocError> {
             ..
         } => put_patterns(line, include),
         Task::Gen(task) => put_gen(line, task),
+        Task::Describe { release, .. } => put_release(line, *release),
         _ => Ok(()),
     }
 }

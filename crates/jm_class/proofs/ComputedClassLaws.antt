@@ -25,13 +25,13 @@ magic-lawful = checked-lawful (λ found. nat_eq found magic) (λ at found. Magic
 pub major-lawful : Lawful major_field u2 (λ n. (n < 2 ^ 16) × (is_major n ≡ true))
 major-lawful = checked-lawful is_major (λ at major. Version major) _ _ _ (number16-lawful Short)
 
-major_parts : (n : ℕ) → is_major n ≡ true → (45 ≤ n) × (n ≤ 65)
+major_parts : (n : ℕ) → is_major n ≡ true → (45 ≤ n) × (n ≤ 69)
 major_parts n is =
-    let both = and_parts (nat_le 45 n) (nat_le n 65) is in
-    (leb-true 45 n both.0, leb-true n 65 both.1)
+    let both = and_parts (nat_le 45 n) (nat_le n 69) is in
+    (leb-true 45 n both.0, leb-true n 69 both.1)
 
-major_from : (n : ℕ) → (45 ≤ n) × (n ≤ 65) → is_major n ≡ true
-major_from n is = and_from (nat_le 45 n) (nat_le n 65) (le-leb 45 n is.0) (le-leb n 65 is.1)
+major_from : (n : ℕ) → (45 ≤ n) × (n ≤ 69) → is_major n ≡ true
+major_from n is = and_from (nat_le 45 n) (nat_le n 69) (le-leb 45 n is.0) (le-leb n 69 is.1)
 
 pub class-lawful : Lawful class_fields class_text IsClass
 class-lawful =

@@ -5,6 +5,7 @@ pub mod FormatLaws
 pub mod ListReadings
 pub mod PoolLaws
 pub mod ReadingLaws
+pub mod ReleaseLaws
 pub mod Stops
 pub mod Vectors
 pub mod WholeReadings

@@ -235,15 +235,15 @@ pub record IsMember (pool : List SlotData) (in_method : Bool) (m : MemberData) :
   pub descriptor : m.descriptor < 2 ^ 16
   pub attributes : FitsCounted (IsAttribute pool in_method) m.attributes
 
--- a major version that is taken: from 45 to 65
+-- a major version that is taken: from 45 to 69, which is that of Java SE 25
 abbrev pub is_major : ℕ → Bool
-is_major major = nat_le 45 major && nat_le major 65
+is_major major = nat_le 45 major && nat_le major 69
 
 -- well formed: numbers, counts and lengths fit their fields, names of attributes are Utf8, and
 -- exactly in methods a Code is taken apart
 pub record IsClass (c : ClassData) : Type 0 where
   pub minor : c.minor < 2 ^ 16
-  pub major : (45 ≤ c.major) × (c.major ≤ 65)
+  pub major : (45 ≤ c.major) × (c.major ≤ 69)
   pub slots : length c.pool < 65535
   pub pool : IsPoolFrom false c.pool
   pub access : c.access < 2 ^ 16

@@ -4,4 +4,5 @@ pub mod ComputedClass
 pub mod FaultText
 pub mod Formats
 pub mod Readings
+pub mod Releases
 pub mod Views

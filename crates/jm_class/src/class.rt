@@ -9,7 +9,7 @@ use std::fmt;
 pub struct Class<'a> {
     /// The minor version.
     pub minor: u16,
-    /// The major version, 45 to 65.
+    /// The major version, 45 to 69.
     pub major: u16,
     /// The constants: the item of place k is constant k + 1.
     pub pool: List<Slot<'a>>,
@@ -99,7 +99,7 @@ pub struct Plain<'a> {
 pub enum ClassFault {
     /// The first four bytes aren't the magic.
     Magic,
-    /// The major version isn't 45 to 65.
+    /// The major version is below 45, or above that of the release.
     Version(u16),
     /// The field or body that begins here doesn't fit in the file.
     Short(usize),

@@ -1,9 +1,8 @@
-ghost use Rattle.std.specs.Prelude.{◌≡◌, None, Some, Err, option_map, IfOk, OnOk};
-ghost use Rattle.jm_bytes.specs.declared.faults.Or.TheVariants.{Fault};
-ghost use Rattle.jm_class.specs.ClassFaults.{HasClassFault, HasNoClassFault};
-ghost use Rattle.jm_class.specs.Classes.{ClassData, ReadsAs, utf8_at};
-ghost use Rattle.jm_class.specs.ComputedClass.{magic_field, major_field, class_fields, class_fault};
-ghost use Rattle.jm_class.specs.Views.{Gives, plain};
+ghost use Rattle.std.specs.Prelude.{◌≡◌, option_map};
+ghost use Rattle.jm_class.specs.Classes.{utf8_at};
+ghost use Rattle.jm_class.specs.ComputedClass.{magic_field, major_field, class_fields};
+ghost use Rattle.jm_class.specs.Releases.{IsReadFor};
+ghost use Rattle.jm_class.specs.Views.{Gives, ReadsClass, plain};
 
 use crate::attributes::attributes;
 use crate::class::{Class, ClassFault};
@@ -11,10 +10,11 @@ use crate::constants::{pool, utf8_in};
 use crate::cursor::Cursor;
 use crate::fields::{Missing, number16, number32};
 use crate::members::{interfaces, members};
+use crate::release::{DEFAULT_RELEASE, release_fault};
 use jm_bytes::Or;
 use std::alloc::Global;
 
-const MAGIC: u32 = 0xCAFE_BABE;
+pub const MAGIC: u32 = 0xCAFE_BABE;
 
 /// The magic.
 pub fn magic(cursor: &mut Cursor) -> Result<u32, Or<ClassFault>>
@@ -32,7 +32,7 @@ pub fn major(cursor: &mut Cursor) -> Result<u16, Or<ClassFault>>
     ensures { Gives (λ n. n) (major_field cursor.old) result cursor.new }
 {
     let major = number16(cursor, Missing::Here)?;
-    if major < 45 || 65 < major {
+    if major < 45 || 69 < major {
         return Err(Or::Fault(ClassFault::Version(major)));
     }
     Ok(major)
@@ -67,18 +67,9 @@ fn class<'a>(alloc: Global, cursor: &mut Cursor<'a>) -> Result<Class<'a>, Or<Cla
     })
 }
 
-/// Reads a class file. A fault is that of the first field from left to right that doesn't fit or
-/// isn't allowed, by JVMS 4 and the rules of this project.
-pub fn read<'a>(alloc: Global, bytes: &'a [u8]) -> Result<Class<'a>, Or<ClassFault>>
-    ensures class { IfOk result (λ class. ReadsAs bytes.now (plain class)) }
-    ensures only { IfOk result (λ class.
-        (other : ClassData) → ReadsAs bytes.now other → other ≡ plain class) }
-    ensures allowed { OnOk result (HasNoClassFault bytes.now) }
-    ensures no_fault { OnOk result (class_fault bytes.now ≡ None) }
-    ensures first { (fault : _) → result ≡ Err (Fault fault) → HasClassFault bytes.now fault }
-    ensures fault { (fault : _) → result ≡ Err (Fault fault) → class_fault bytes.now ≡ Some fault }
-    ensures no_class { (fault : _) → result ≡ Err (Fault fault)
-        → (c : ClassData) → ¬ ReadsAs bytes.now c }
+/// The class that all of some bytes are, of whatever release.
+fn whole<'a>(alloc: Global, bytes: &'a [u8]) -> Result<Class<'a>, Or<ClassFault>>
+    ensures { ReadsClass bytes.now result }
 {
     let mut cursor = Cursor::new(bytes);
     let class = class(alloc, &mut cursor)?;
@@ -86,6 +77,28 @@ pub fn read<'a>(alloc: Global, bytes: &'a [u8]) -> Result<Class<'a>, Or<ClassFau
         return Err(Or::Fault(ClassFault::Rest(cursor.place())));
     }
     Ok(class)
+}
+
+/// Reads a class file of a release of Java SE. A fault is that of the first field from left to
+/// right that doesn't fit or isn't allowed, by JVMS 4 and the rules of this project.
+pub fn read_for<'a>(
+    alloc: Global,
+    release: u32,
+    bytes: &'a [u8],
+) -> Result<Class<'a>, Or<ClassFault>>
+    ensures { IsReadFor release bytes.now result }
+{
+    match release_fault(release, bytes) {
+        Some(fault) => Err(Or::Fault(fault)),
+        None => whole(alloc, bytes),
+    }
+}
+
+/// Reads a class file of release 21, as `read_for` does.
+pub fn read<'a>(alloc: Global, bytes: &'a [u8]) -> Result<Class<'a>, Or<ClassFault>>
+    ensures { IsReadFor 21 bytes.now result }
+{
+    read_for(alloc, DEFAULT_RELEASE, bytes)
 }
 
 /// The bytes of the Utf8 of a number, from 1 on; none where the constant isn't one.

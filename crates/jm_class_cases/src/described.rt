@@ -28,9 +28,14 @@ fn put_descriptor(told: &mut String, found: &Descriptor) -> Result<(), AllocErro
     Ok(())
 }
 
-/// Puts what bytes say of a module, or the fault that they have as one.
-pub fn put_described(told: &mut String, alloc: Global, bytes: &[u8]) -> Result<(), AllocError> {
-    match describe_bytes(alloc, bytes) {
+/// Puts what bytes say of a module for a release, or the fault that they have as one.
+pub fn put_described(
+    told: &mut String,
+    alloc: Global,
+    release: u32,
+    bytes: &[u8],
+) -> Result<(), AllocError> {
+    match describe_bytes(alloc, release, bytes) {
         Ok(found) => put_descriptor(told, &found),
         Err(Or::Fault(fault)) => write!(told, "{fault}"),
         Err(Or::Memory) => told.push_str("no memory"),

@@ -1,5 +1,6 @@
 //! Does things with classes: reads lines `VERB NAME: HEX` from the standard input, with the bytes
-//! of a file as hexadecimal digits, and prints for each what comes of it behind `VERB NAME: `.
+//! of a file as hexadecimal digits, and prints for each what comes of it behind `VERB NAME: `. A
+//! number in front of the verb is the release, which is 21 without it.
 //!
 //! compact     the bytes of the compacted class, or `same`
 //! strip       the bytes of the class without debug information, or `same`

@@ -1,7 +1,7 @@
 //! The parts of a class.
 
 use crate::texts::{put_error, put_stored};
-use jm_class::{Attribute, Body, Class, Member, read, utf8};
+use jm_class::{Attribute, Body, Class, Member, read_for, utf8};
 use jm_classout::{size, write};
 use jm_lines::put_digits;
 use std::alloc::{AllocError, Global};
@@ -55,8 +55,8 @@ fn put_parts(told: &mut String, class: &Class) -> Result<(), AllocError> {
 }
 
 /// Whether the text of the class of some bytes is these bytes, and has their length.
-fn comes_back(alloc: Global, bytes: &[u8]) -> bool {
-    let Ok(class) = read(alloc, bytes) else {
+fn comes_back(alloc: Global, release: u32, bytes: &[u8]) -> bool {
+    let Ok(class) = read_for(alloc, release, bytes) else {
         return false;
     };
     let len = size(&class);
@@ -66,11 +66,16 @@ fn comes_back(alloc: Global, bytes: &[u8]) -> bool {
     }
 }
 
-/// Puts what a class is read as.
-pub fn put_read(told: &mut String, alloc: Global, bytes: &[u8]) -> Result<(), AllocError> {
-    match read(alloc, bytes) {
+/// Puts what a class of a release is read as.
+pub fn put_read(
+    told: &mut String,
+    alloc: Global,
+    release: u32,
+    bytes: &[u8],
+) -> Result<(), AllocError> {
+    match read_for(alloc, release, bytes) {
         Ok(class) => {
-            if comes_back(alloc, bytes) {
+            if comes_back(alloc, release, bytes) {
                 let len = bytes.len();
                 write!(told, "written as it was, {len} bytes: ")?;
             } else {

@@ -396,7 +396,7 @@ task_takes_nothing : (told : Option Files) (given : Task) (n : ℕ) → TaskTake
 task_takes_nothing told (task.Image image does) n = work_takes_nothing told image does n
 task_takes_nothing told (task.Link link) n = tt
 task_takes_nothing told (task.Gen gen) n = tt
-task_takes_nothing told (task.Describe file) n = tt
+task_takes_nothing told (task.Describe file release) n = tt
 task_takes_nothing told task.Help n = refl
 task_takes_nothing told task.Version n = refl
 

@@ -120,15 +120,16 @@ module _ (gen : GenTask) (shelf : ShelfSeen) (now new : World) where
       → now.shelf.faults ≡ shelf.faults → new.input ≡ now.input → Links (modules_path gen ∷ []) (request_of (gen_link gen))
       (image_path gen) (Ok summary) now.shelf new.shelf → PutDoes (done (gen_text summary)) answer now.out new.out → Does answer
   gen_put summary answer made kept input links put =
-      linked_after answer made kept (inl links.3.whole) (link_put gen_text (gen_link gen) now new input summary answer links put)
+      linked_after answer made kept (inl links.3.whole) (link_put gen_text (gen_link gen) (modules_path gen ∷ []) now
+      new input summary answer links put)
 
   -- all was made, and the link stopped
   pub gen_stopped : (given : LinkStop) → MadeAll (made_first gen) shelf.told now.shelf.told → now.shelf.faults ≡ shelf.faults
       → new.input ≡ now.input → Links (modules_path gen ∷ []) (request_of (gen_link gen)) (image_path gen) (Err given) now.shelf
       new.shelf → new.out.told ≡ now.out.told → Does (Err (stop_of_link given))
   gen_stopped given made kept input links unput =
-      linked_after (Err (stop_of_link given)) made kept (inr ((λ ok. cc), unput)) (link_stopped gen_text (gen_link gen) now new
-      input given links unput)
+      linked_after (Err (stop_of_link given)) made kept (inr ((λ ok. cc), unput)) (link_stopped gen_text (gen_link gen)
+      (modules_path gen ∷ []) now new input given links unput)
 
 -- the making was broken off
 pub gen_unmade : (gen : GenTask) (error : ShelfError) (old new : World) → MadePart (made_first gen) old.shelf.told new.shelf.told

@@ -1,10 +1,11 @@
 -- What `link` does, from what its call answered.
-use Rattle.std.proofs.Common.{◌≡◌, ◌∷◌, inl, inr, ℕ, List, [], Option, Some, None, Result, Ok, Err, refl, sym, ap, subst, arith}
+use Rattle.std.proofs.Common.{◌≡◌, ◌∷◌, inl, inr, ℕ, List, [], Option, Some, None, Result, Ok, Err, refl, sym, ap, subst, arith, All, IsUtf8}
+use Rattle.std.proofs.lemmas.List.Elements.{All-nil}
 use Rattle.jm_bytes.proofs.Choice.{same_err}
 use Rattle.jm_bytes.specs.declared.words.Order.{Order}
 use Rattle.jm_outside.specs.Files.{Files, put}
 use Rattle.jm_outside.specs.Outcome.{Shows}
-use Rattle.jm_outside.specs.Shelves.{ShelfFailed}
+use Rattle.jm_outside.specs.Shelves.{ShelfFailed, ShelfSeen}
 use Rattle.jm_outside.proofs.MadeLaws.{part_alone}
 use Rattle.jm_link.specs.declared.linking.LinkStop.{LinkStop}
 use Rattle.jm_link.specs.declared.linking.LinkStop.TheVariants as link_stop
@@ -15,6 +16,9 @@ use Rattle.jm_link.specs.Linked.{LinkedImage, Request}
 use Rattle.jm_link.specs.ImageLinked.{ImageComesTo, ImageLinks}
 use Rattle.jm_link.specs.Links.{BreaksOff, ComesTo, IsLaid, Links, LinksBy, TellsNothing, request_of, summary_of}
 use Rattle.jm_words.specs.declared.tasks.LinkTask.{LinkTask}
+use Rattle.jm_words.specs.declared.tasks.Source.{Source}
+use Rattle.jm_words.specs.declared.tasks.Source.TheVariants.{Path, Image}
+use Rattle.jm_words.specs.Paths.{SourceIsText, directories_of}
 use Rattle.jm_commands.specs.declared.complaint.Complaint.TheVariants as complaint
 use Rattle.jm_commands.specs.declared.stop.Stop.{Stop}
 use Rattle.jm_commands.specs.declared.stop.Stop.TheVariants as stop
@@ -85,24 +89,24 @@ module _ (text : Summary → List ℕ) (link : LinkTask) (Comes : Result LinkedI
 
 -- From a module path
 
-module _ (text : Summary → List ℕ) (link : LinkTask) (old new : World) (input : new.input ≡ old.input) where
-  path_due : (result : Result LinkedImage Refusal) → ComesTo old.shelf.told link.dirs (request_of link) result
-      → PathLinkComesTo text old.shelf.told link (link_outcome text link result)
-  path_due result comes = inl (result, comes, comes_shown old.shelf.told link.dirs (request_of link) result comes, refl)
+module _ (text : Summary → List ℕ) (link : LinkTask) (directories : List (List ℕ)) (old new : World) (input : new.input ≡ old.input) where
+  path_due : (result : Result LinkedImage Refusal) → ComesTo old.shelf.told directories (request_of link) result
+      → PathLinkComesTo text old.shelf.told link directories (link_outcome text link result)
+  path_due result comes = inl (result, comes, comes_shown old.shelf.told directories (request_of link) result comes, refl)
 
-  path_absent : (listed : List ℕ) → TellsNothing old.shelf.told → PathLinkComesTo text old.shelf.told link (not_there listed)
+  path_absent : (listed : List ℕ) → TellsNothing old.shelf.told → PathLinkComesTo text old.shelf.told link directories (not_there listed)
   path_absent listed none = inr (listed, none, refl)
 
-  pub link_put : (summary : Summary) (answer : Result (Unit {0}) Stop) → Links link.dirs (request_of link) link.output (Ok summary)
+  pub link_put : (summary : Summary) (answer : Result (Unit {0}) Stop) → Links directories (request_of link) link.output (Ok summary)
       old.shelf new.shelf → PutDoes (done (text summary)) answer old.out new.out
-      → StepComesTo (PathLinkComesTo text old.shelf.told link) reading answer old new
-  link_put = put_linked text link (ComesTo old.shelf.told link.dirs (request_of link)) (TellsNothing old.shelf.told)
-      (PathLinkComesTo text old.shelf.told link) old new input path_due path_absent
+      → StepComesTo (PathLinkComesTo text old.shelf.told link directories) reading answer old new
+  link_put = put_linked text link (ComesTo old.shelf.told directories (request_of link)) (TellsNothing old.shelf.told)
+      (PathLinkComesTo text old.shelf.told link directories) old new input path_due path_absent
 
-  pub link_stopped : (given : LinkStop) → Links link.dirs (request_of link) link.output (Err given) old.shelf new.shelf
-      → new.out.told ≡ old.out.told → StepComesTo (PathLinkComesTo text old.shelf.told link) reading (Err (stop_of_link given)) old new
-  link_stopped = stopped_linked text link (ComesTo old.shelf.told link.dirs (request_of link)) (TellsNothing old.shelf.told)
-      (PathLinkComesTo text old.shelf.told link) old new input path_due path_absent
+  pub link_stopped : (given : LinkStop) → Links directories (request_of link) link.output (Err given) old.shelf new.shelf
+      → new.out.told ≡ old.out.told → StepComesTo (PathLinkComesTo text old.shelf.told link directories) reading (Err (stop_of_link given)) old new
+  link_stopped = stopped_linked text link (ComesTo old.shelf.told directories (request_of link)) (TellsNothing old.shelf.told)
+      (PathLinkComesTo text old.shelf.told link directories) old new input path_due path_absent
 
 -- From an image
 
@@ -122,9 +126,36 @@ module _ (text : Summary → List ℕ) (link : LinkTask) (b : List ℕ) (old new
   image_stopped = stopped_linked text link (ImageComesTo b (request_of link)) ⊥ (ImageLinkComesTo text link b) old new input
       image_due (λ listed never. absurd never)
 
--- by where the modules are
-pub link_comes : (text : Summary → List ℕ) (told : Option Files) (link : LinkTask) (image : Option (List ℕ))
-    (answer : Result (Unit {0}) Stop) (old new : World) → link.from_image ≡ image → StepComesTo (LinkComesFrom text told link image)
-    reading answer old new → StepComesTo (LinkComesTo text told link) reading answer old new
-link_comes text told link image answer old new is step =
-    subst (λ (o : Option (List ℕ)). StepComesTo (LinkComesFrom text told link o) reading answer old new) (sym is) step
+-- By where the modules are
+
+-- the directories of a source are text where its paths are
+pub directories_text : (given : Source) → SourceIsText given → All IsUtf8 (directories_of given)
+directories_text (Path directories) text = text
+directories_text (Image path) text = All-nil IsUtf8
+
+pub link_comes : (text : Summary → List ℕ) (told : Option Files) (link : LinkTask) (given : Source) (answer : Result (Unit {0}) Stop)
+    (old new : World) → link.source ≡ given → StepComesTo (LinkComesFrom text told link given) reading answer old new
+    → StepComesTo (LinkComesTo text told link) reading answer old new
+link_comes text told link given answer old new is step =
+    subst (λ (s : Source). StepComesTo (LinkComesFrom text told link s) reading answer old new) (sym is) step
+
+module _ (text : Summary → List ℕ) (link : LinkTask) (directories : List (List ℕ)) (old new : World) (input : new.input ≡ old.input)
+    (is : link.source ≡ Path directories) where
+  -- what the call of `link` did, by these directories
+  by_directories : (answer : Result Summary LinkStop) → Links (directories_of link.source) (request_of link) link.output answer old.shelf
+      new.shelf → Links directories (request_of link) link.output answer old.shelf new.shelf
+  by_directories answer =
+      subst (λ (s : Source). Links (directories_of s) (request_of link) link.output answer old.shelf new.shelf) is
+
+  pub path_put : (summary : Summary) (answer : Result (Unit {0}) Stop) → Links (directories_of link.source) (request_of link) link.output
+      (Ok summary) old.shelf new.shelf → PutDoes (done (text summary)) answer old.out new.out
+      → StepComesTo (LinkComesTo text old.shelf.told link) reading answer old new
+  path_put summary answer links puts =
+      link_comes text old.shelf.told link (Path directories) answer old new is
+      (link_put text link directories old new input summary answer (by_directories (Ok summary) links) puts)
+
+  pub path_stopped : (given : LinkStop) → Links (directories_of link.source) (request_of link) link.output (Err given) old.shelf new.shelf
+      → new.out.told ≡ old.out.told → StepComesTo (LinkComesTo text old.shelf.told link) reading (Err (stop_of_link given)) old new
+  path_stopped given links unput =
+      link_comes text old.shelf.told link (Path directories) (Err (stop_of_link given)) old new is
+      (link_stopped text link directories old new input given (by_directories (Err given) links) unput)

@@ -12,7 +12,7 @@ use Rattle.jm_jrt.specs.Stat.{held, stat}
 use Rattle.jm_form.specs.Validity.{look}
 use Rattle.jm_modinfo.specs.declared.descriptor.Descriptor.{Descriptor}
 use Rattle.jm_modinfo.specs.declared.faults.DescriptorFault.{DescriptorFault}
-use Rattle.jm_modinfo.specs.Descriptions.{info_in}
+use Rattle.jm_modinfo.specs.Descriptions.{info_for}
 use Rattle.jm_outside.specs.Files.{Files}
 use Rattle.jm_words.specs.declared.tasks.ImageWork.{ImageWork}
 use Rattle.jm_words.specs.declared.tasks.ImageWork.TheVariants as work
@@ -43,8 +43,8 @@ descriptor_session : (path : List ℕ) (d : Result Descriptor DescriptorFault) �
 descriptor_session path (Ok d) = refl
 descriptor_session path (Err fault) = refl
 
-pub describe_session : (path b : List ℕ) → (describe_outcome path b).session ≡ None
-describe_session path b = descriptor_session path (info_in b)
+pub describe_session : (release : ℕ) (path b : List ℕ) → (describe_outcome release path b).session ≡ None
+describe_session release path b = descriptor_session path (info_for release b)
 
 -- Files
 
@@ -87,8 +87,8 @@ pub task_writes : (told : Option Files) (rest : Option (List ℕ)) (given : Task
     → TaskComesTo told rest given due → due.writes ≡ []
 task_writes told rest task.Help due other is = ap (λ o. o.writes) is
 task_writes told rest task.Version due other is = ap (λ o. o.writes) is
-task_writes told rest (task.Describe file) due other (None, has, is) = ap (λ o. o.writes) is
-task_writes told rest (task.Describe file) due other (Some b, has, is) = ap (λ o. o.writes) is ∙ descriptor_writes file (info_in b)
+task_writes told rest (task.Describe file release) due other (None, has, is) = ap (λ o. o.writes) is
+task_writes told rest (task.Describe file release) due other (Some b, has, is) = ap (λ o. o.writes) is ∙ descriptor_writes file (info_for release b)
 task_writes told rest (task.Link link) due other comes = cc
 task_writes told rest (task.Gen gen) due other comes = cc
 task_writes told rest (task.Image image does) due other (None, has, is) = ap (λ o. o.writes) is

@@ -20,6 +20,8 @@ use Rattle.jm_words.specs.declared.tasks.Command.{Command}
 use Rattle.jm_words.specs.declared.tasks.ImageWork.{ImageWork}
 use Rattle.jm_words.specs.declared.tasks.ImageWork.TheVariants as work
 use Rattle.jm_words.specs.declared.tasks.LinkTask.{LinkTask}
+use Rattle.jm_words.specs.declared.tasks.Source.{Source}
+use Rattle.jm_words.specs.declared.tasks.Source.TheVariants.{Path, Image}
 use Rattle.jm_words.specs.declared.tasks.Task.{Task}
 use Rattle.jm_words.specs.declared.tasks.Task.TheVariants as task
 use Rattle.jm_commands.specs.declared.complaint.Complaint.{Complaint}
@@ -62,13 +64,13 @@ opened_session Sound due alone (Some damage) is = ap (λ o. o.session) is
 -- what a link comes to
 linked_session : (text : Summary → List ℕ) (told : Option Files) (link : LinkTask) (due : Outcome) → LinkComesTo text told link due
     → due.session ≡ None
-linked_session text told link due comes = from link.from_image comes
+linked_session text told link due comes = from link.source comes
   where
-    from : (image : Option (List ℕ)) → LinkComesFrom text told link image due → due.session ≡ None
-    from None (inl (result, comes, shows, is)) = ap (λ o. o.session) is ∙ link_session text link result
-    from None (inr (listed, never, is)) = ap (λ o. o.session) is
-    from (Some path) (None, has, is) = ap (λ o. o.session) is
-    from (Some path) (Some b, has, comes) =
+    from : (source : Source) → LinkComesFrom text told link source due → due.session ≡ None
+    from (Path directories) (inl (result, comes, shows, is)) = ap (λ o. o.session) is ∙ link_session text link result
+    from (Path directories) (inr (listed, never, is)) = ap (λ o. o.session) is
+    from (Image path) (None, has, is) = ap (λ o. o.session) is
+    from (Image path) (Some b, has, comes) =
         opened_session (ImageLinkComesTo text link b) due (λ (result, comes, shows, is). ap (λ o. o.session) is
         ∙ link_session text link result) (first_damage b) comes
 
@@ -76,8 +78,8 @@ due_session : (told : Option Files) (rest : Option (List ℕ)) (given : Task) (d
     → TaskComesTo told rest given due → due.session ≡ None
 due_session told rest task.Help due none is = ap (λ o. o.session) is
 due_session told rest task.Version due none is = ap (λ o. o.session) is
-due_session told rest (task.Describe file) due none (None, has, is) = ap (λ o. o.session) is
-due_session told rest (task.Describe file) due none (Some b, has, is) = ap (λ o. o.session) is ∙ describe_session file b
+due_session told rest (task.Describe file release) due none (None, has, is) = ap (λ o. o.session) is
+due_session told rest (task.Describe file release) due none (Some b, has, is) = ap (λ o. o.session) is ∙ describe_session release file b
 due_session told rest (task.Image image does) due none (None, has, is) = ap (λ o. o.session) is
 due_session told rest (task.Image image does) due none (Some b, has, comes) =
     opened_session (TextComesTo rest (image_outcome does b)) due (λ (text, told_text, is). ap (λ o. o.session) is

@@ -28,7 +28,7 @@ use Rattle.jm_words.specs.declared.tasks.Task.TheVariants as task
 use Rattle.jm_words.specs.FaultText.{fault_text}
 use Rattle.jm_modinfo.specs.declared.descriptor.Descriptor.{Descriptor}
 use Rattle.jm_modinfo.specs.declared.faults.DescriptorFault.{DescriptorFault}
-use Rattle.jm_modinfo.specs.Descriptions.{info_in}
+use Rattle.jm_modinfo.specs.Descriptions.{info_for}
 use Rattle.jm_extract.specs.Extracted.{extracted, writes_of}
 use Rattle.jm_names.specs.ByName.{Named}
 use Rattle.jm_link.specs.declared.linking.Summary.{Summary}
@@ -170,9 +170,9 @@ abbrev pub descriptor_outcome : List ℕ → Result Descriptor DescriptorFault �
 descriptor_outcome path (Ok d) = done (describe_text d)
 descriptor_outcome path (Err fault) = bad_info path fault
 
--- what `describe` comes to, by the bytes of the file
-abbrev pub describe_outcome : List ℕ → List ℕ → Outcome
-describe_outcome path b = descriptor_outcome path (info_in b)
+-- what `describe` comes to, by the release and the bytes of the file
+abbrev pub describe_outcome : ℕ → List ℕ → List ℕ → Outcome
+describe_outcome release path b = descriptor_outcome path (info_for release b)
 
 -- `link`: the image stands at the path, and the output says what it has
 
@@ -241,7 +241,7 @@ abbrev pub early_of : Task → Early
 early_of (task.Link link) = reading
 early_of (task.Image image work) = reading
 early_of (task.Gen gen) = making (made_first gen)
-early_of (task.Describe file) = reading
+early_of (task.Describe file release) = reading
 early_of task.Help = without_files
 early_of task.Version = without_files
 

@@ -7,6 +7,7 @@ use Rattle.jm_outside.specs.Files.{Files, file}
 use Rattle.jm_words.specs.declared.errors.WordsFault.{WordsFault}
 use Rattle.jm_words.specs.declared.tasks.Command.{Command}
 use Rattle.jm_words.specs.declared.tasks.LinkTask.{LinkTask}
+use Rattle.jm_words.specs.declared.tasks.Source.TheVariants.{Image}
 use Rattle.jm_words.specs.declared.tasks.Task.{Task}
 use Rattle.jm_words.specs.declared.tasks.Task.TheVariants as task
 use Rattle.jm_commands.specs.declared.status.Status.{Status}
@@ -16,7 +17,7 @@ use Rattle.jm_commands.specs.declared.status.Status.TheVariants as status
 -- it
 pub record RelinksFile (link : LinkTask) (told : Option Files) (b : List ℕ) : Type 0 where
   pub path : List ℕ
-  pub image : link.from_image ≡ Some path
+  pub image : link.source ≡ Image path
   pub files : Files
   pub tells : told ≡ Some files
   pub found : file files path ≡ Some b

@@ -19,6 +19,8 @@ use Rattle.jm_words.specs.declared.tasks.Command.{Command}
 use Rattle.jm_words.specs.declared.tasks.GenTask.{GenTask}
 use Rattle.jm_words.specs.declared.tasks.ImageWork.{ImageWork}
 use Rattle.jm_words.specs.declared.tasks.LinkTask.{LinkTask}
+use Rattle.jm_words.specs.declared.tasks.Source.{Source}
+use Rattle.jm_words.specs.declared.tasks.Source.TheVariants as source
 use Rattle.jm_words.specs.declared.tasks.Task.{Task}
 use Rattle.jm_words.specs.declared.tasks.Task.TheVariants as task
 use Rattle.jm_commands.specs.declared.complaint.Complaint.{Complaint}
@@ -82,11 +84,12 @@ abbrev pub ShowsLinked : Result LinkedImage Refusal → Type 0
 ShowsLinked (Ok image) = ShowsTrees image.bytes image.resources
 ShowsLinked (Err refusal) = Unit {0}
 
--- a link from a module path comes to what its files do, where the shelf tells them; a shelf that
--- tells nothing may say of a file that it listed that it isn't there
-abbrev pub PathLinkComesTo : (Summary → List ℕ) → Option Files → LinkTask → Outcome → Type 0
-PathLinkComesTo text told link due =
-    ((result : Result LinkedImage Refusal) × ComesTo told link.dirs (request_of link) result
+-- a link from the directories of a module path comes to what their files do, where the shelf tells
+-- them; a shelf that tells nothing may say of a file that it listed that it isn't there
+abbrev pub PathLinkComesTo
+    : (Summary → List ℕ) → Option Files → LinkTask → List (List ℕ) → Outcome → Type 0
+PathLinkComesTo text told link directories due =
+    ((result : Result LinkedImage Refusal) × ComesTo told directories (request_of link) result
     × Shows told (λ files. ShowsLinked result) × (due ≡ link_outcome text link result))
     ⊎ ((listed : List ℕ) × Shows told (λ files. ⊥) × (due ≡ not_there listed))
 
@@ -98,14 +101,15 @@ ImageLinkComesTo text link b due =
 
 -- what a link comes to, by where its modules are
 abbrev pub LinkComesFrom
-    : (Summary → List ℕ) → Option Files → LinkTask → Option (List ℕ) → Outcome → Type 0
-LinkComesFrom text told link None due = PathLinkComesTo text told link due
-LinkComesFrom text told link (Some path) due =
+    : (Summary → List ℕ) → Option Files → LinkTask → Source → Outcome → Type 0
+LinkComesFrom text told link (source.Path directories) due =
+    PathLinkComesTo text told link directories due
+LinkComesFrom text told link (source.Image path) due =
     ImageComes told path (ImageLinkComesTo text link) due
 
 -- what a link comes to, by the text on what was linked, by the files and by where its modules are
 abbrev pub LinkComesTo : (Summary → List ℕ) → Option Files → LinkTask → Outcome → Type 0
-LinkComesTo text told link due = LinkComesFrom text told link link.from_image due
+LinkComesTo text told link due = LinkComesFrom text told link link.source due
 
 -- a `gen` comes to what its link does, where the files that it makes first are there
 abbrev pub GenComesTo : Option Files → GenTask → Outcome → Type 0
@@ -120,8 +124,8 @@ abbrev pub TaskComesTo : Option Files → Option (List ℕ) → Task → Outcome
 TaskComesTo told rest (task.Link link) due = LinkComesTo link_text told link due
 TaskComesTo told rest (task.Image image work) due = WorkComesTo told rest image work due
 TaskComesTo told rest (task.Gen gen) due = GenComesTo told gen due
-TaskComesTo told rest (task.Describe file) due =
-    FileComesTo told file (λ b described. described ≡ describe_outcome file b) due
+TaskComesTo told rest (task.Describe file release) due =
+    FileComesTo told file (λ b described. described ≡ describe_outcome release file b) due
 TaskComesTo told rest task.Help due = due ≡ done help_text
 TaskComesTo told rest task.Version due = due ≡ done version_text
 

@@ -40,8 +40,8 @@ abbrev pub TakesFrom : Option Files → List ℕ → (List ℕ → ℕ) → (old
 TakesFrom told path most old new = Shows told (λ files. TakesOf most (file files path) old new)
 
 -- what a work on the image in the file of a path takes: `info`, `verify` and `list` the front,
--- `cat` and `ls` the front and the content of the name or of the folder's node, `serve` the file; of
--- `extract` nothing is said
+-- `cat` and `ls` the front and the content of the name or of the folder's node, `serve` the file;
+-- of `extract` nothing is said
 abbrev pub WorkTakes : Option Files → List ℕ → ImageWork → (old new : ℕ) → Type 0
 WorkTakes told path work.Info old new = TakesFrom told path front_size old new
 WorkTakes told path work.Verify old new = TakesFrom told path front_size old new
@@ -53,13 +53,13 @@ WorkTakes told path (work.Ls folder) old new =
 WorkTakes told path (work.Extract dir include) old new = Unit {0}
 WorkTakes told path work.Serve old new = TakesFrom told path (λ b. length b) old new
 
--- what a task takes: such a work as said, `--help` and `--version` nothing; of the others nothing is
--- said
+-- what a task takes: such a work as said, `--help` and `--version` nothing; of the others nothing
+-- is said
 abbrev pub TaskTakes : Option Files → Task → (old new : ℕ) → Type 0
 TaskTakes told (task.Image image work) old new = WorkTakes told image work old new
 TaskTakes told (task.Link link) old new = Unit {0}
 TaskTakes told (task.Gen gen) old new = Unit {0}
-TaskTakes told (task.Describe file) old new = Unit {0}
+TaskTakes told (task.Describe file release) old new = Unit {0}
 TaskTakes told task.Help old new = new ≡ old
 TaskTakes told task.Version old new = new ≡ old
 

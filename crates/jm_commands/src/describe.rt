@@ -34,11 +34,17 @@ fn file_bytes<S: Shelf>(alloc: Global, path: &Text, shelf: &mut S) -> Result<Tex
 }
 
 /// Puts what these bytes, which are those of the file at a path, say as the class of a module.
-fn put_described<O: Sink>(alloc: Global, path: &[u8], bytes: &[u8], out: &mut O) -> Result<(), Stop>
-    ensures { PutDoes (describe_outcome path.now bytes.now) result
+fn put_described<O: Sink>(
+    alloc: Global,
+    path: &[u8],
+    release: u32,
+    bytes: &[u8],
+    out: &mut O,
+) -> Result<(), Stop>
+    ensures { PutDoes (describe_outcome release path.now bytes.now) result
         (sink_at O.Sink out.old) (sink_at O.Sink out.new) }
 {
-    match describe_bytes(alloc, bytes) {
+    match describe_bytes(alloc, release, bytes) {
         Ok(descriptor) => {
             let text = describe_text(alloc, &descriptor)?;
             put_output(alloc, text.as_slice(), out)
@@ -52,23 +58,24 @@ fn put_described<O: Sink>(alloc: Global, path: &[u8], bytes: &[u8], out: &mut O)
     }
 }
 
-/// `describe`: puts what the class of a module says, which the file at a path is. The source of the
-/// run isn't lent to it.
+/// `describe`: puts what the class of a module says, which the file at a path is, one of a release
+/// of Java SE. The source of the run isn't lent to it.
 pub fn describe_command<S: Shelf, O: Sink>(
     alloc: Global,
     path: &Text,
+    release: u32,
     shelf: &mut S,
     out: &mut O,
 ) -> Result<(), Stop>
     requires { IsUtf8 path.now }
     ensures { (source : Seen (List ℕ)) →
         StepComesTo (FileComesTo (S.files shelf.old) path.now
-        (λ b due. due ≡ describe_outcome path.now b)) reading result
+        (λ b due. due ≡ describe_outcome release path.now b)) reading result
         (world (shelf_at S.Shelf shelf.old) source (sink_at O.Sink out.old))
         (world (shelf_at S.Shelf shelf.new) source (sink_at O.Sink out.new)) }
 {
     match file_bytes(alloc, path, shelf) {
-        Ok(bytes) => put_described(alloc, path.as_slice(), bytes.as_slice(), out),
+        Ok(bytes) => put_described(alloc, path.as_slice(), release, bytes.as_slice(), out),
         Err(stop) => Err(stop),
     }
 }

@@ -1,5 +1,6 @@
 //! The first bytes of a file, up to the end of an image's index.
-ghost use Rattle.std.specs.Prelude.{◌≡◌, ◌≤◌, ◌<◌, ◌+◌, ℕ, List, IfOk, IsOk, IsErrOf, IsUtf8, length};
+ghost use Rattle.std.specs.Prelude.{◌≡◌, ◌≤◌, ◌<◌, ◌+◌, ℕ, List, length};
+ghost use Rattle.std.specs.Prelude.{IfOk, IsOk, IsErrOf, IsUtf8};
 ghost use Rattle.jm_form.specs.Head.{HoldsIndex, IsFileOf};
 ghost use Rattle.jm_outside.specs.Outcome.{CountsFaults};
 ghost use Rattle.jm_commands.specs.FileParts.{ReadsFront, ReadsHead, ReadsLength, ReadsMore};

@@ -19,7 +19,7 @@ use jm_gen::{generate, module_names};
 use jm_halves::Gate;
 use jm_link::{LinkStop, Summary, link};
 use jm_outside::{Shelf, Sink};
-use jm_words::{GenTask, LinkTask, Plugin};
+use jm_words::{GenTask, LinkTask, Plugin, Source};
 use std::alloc::Global;
 use std::thread::Threads;
 
@@ -54,13 +54,13 @@ fn link_generated<T: Threads + Sync, S: Shelf, G: Gate + Sync>(
     let mut plugins = List::new(workers.alloc);
     plugins.push(Plugin::Strip)?;
     let link_task = LinkTask {
-        dirs,
+        source: Source::Path(dirs),
         roots: module_names(workers.alloc, task.modules)?,
         output: below(workers.alloc, task.dir.as_slice(), "/image".as_bytes())?,
         plugins,
         order: Order::Little,
         bind: false,
-        from_image: None,
+        release: 21,
     };
     link(
         workers.rt,

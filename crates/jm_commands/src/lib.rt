@@ -26,5 +26,6 @@ mod version;
 mod workers;
 
 pub use cat::cat_command;
+pub use help::usage;
 pub use program::run;
 pub use status::Status;

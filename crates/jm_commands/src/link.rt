@@ -21,7 +21,7 @@ use jm_bytes::{Meter, Text};
 use jm_halves::Gate;
 use jm_link::{LinkStop, Summary, link, link_image};
 use jm_outside::{Shelf, Sink};
-use jm_words::LinkTask;
+use jm_words::{LinkTask, Source};
 use std::alloc::Global;
 use std::marker::Brand;
 use std::sync::ledger::{Blank, Ledger};
@@ -120,9 +120,9 @@ pub fn link_command<T: Threads + Sync, S: Shelf, O: Sink, G: Gate + Sync>(
         (world (shelf_at S.Shelf shelf.old) source (sink_at O.Sink out.old))
         (world (shelf_at S.Shelf shelf.new) source (sink_at O.Sink out.new)) }
 {
-    match &task.from_image {
-        Some(path) => link_from_image(workers, task, path, shelf, out),
-        None => {
+    match &task.source {
+        Source::Image(path) => link_from_image(workers, task, path, shelf, out),
+        Source::Path(_) => {
             let summary = link(
                 workers.rt,
                 workers.alloc,

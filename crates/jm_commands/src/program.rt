@@ -91,7 +91,9 @@ fn do_command<T: Threads + Sync, S: Shelf, I: Source, O: Sink, G: Gate + Sync>(
             ImageWork::Serve => serve_file(workers, image, shelf, input, out),
         },
         Task::Gen(task) => gen_command(workers, task, shelf, out),
-        Task::Describe { file } => describe_command(workers.alloc, file, shelf, out),
+        Task::Describe { file, release } => {
+            describe_command(workers.alloc, file, *release, shelf, out)
+        }
         Task::Help => help_command(workers.alloc, out),
         Task::Version => version_command(workers.alloc, out),
     }

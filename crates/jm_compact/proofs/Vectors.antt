@@ -1,7 +1,7 @@
 -- The definitions, evaluated on small classes.
 use Rattle.std.proofs.Common.{◌≡◌, ℕ, List, [], ◌∷◌, ◌++◌, length, take, drop, Ok, refl}
 use Rattle.jm_poolmap.proofs.Vectors.{generated}
-use Rattle.jm_compact.specs.Compact.{compact_of}
+use Rattle.jm_compact.specs.Compact.{compact_for}
 
 -- the generated class loses its constants 8 to 10; the Long behind them gets their number
 abbrev compacted : List ℕ
@@ -12,8 +12,8 @@ compacted =
 generated-length : length compacted ≡ 121
 generated-length = refl
 
-generated-compacted : compact_of generated ≡ Ok compacted
+generated-compacted : compact_for 21 generated ≡ Ok compacted
 generated-compacted = refl
 
-generated-again : compact_of compacted ≡ Ok compacted
+generated-again : compact_for 21 compacted ≡ Ok compacted
 generated-again = refl

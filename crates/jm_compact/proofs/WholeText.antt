@@ -1,16 +1,22 @@
 -- The compact text of the bytes of a class: what follows from what is computed.
-use Rattle.std.proofs.Common.{◌≡◌, ℕ, ◌≤◌, List, Option, Some, None, Ok, refl, sym, ap, ◌∙◌, subst, arith, length, Bool}
-use Rattle.jm_bytes.proofs.Choice.{same_ok}
+use Rattle.std.proofs.Common.{◌≡◌, ℕ, ◌≤◌, List, Option, Some, None, Result, Ok, Err, IsErrAnd, refl, sym, ap, ◌∙◌, subst, arith}
+use Rattle.std.proofs.Common.{length, Bool}
+use Rattle.jm_bytes.specs.declared.faults.Or.{Or}
+use Rattle.jm_bytes.specs.declared.faults.Or.TheVariants.{Fault, Memory}
 use Rattle.jm_class.specs.declared.class.ClassFault.{ClassFault}
 use Rattle.jm_class.specs.Classes.{ClassData, class_text, ReadsAs, IsClass}
-use Rattle.jm_class.proofs.ComputedClassLaws.{reads-class_of}
+use Rattle.jm_class.specs.ComputedClass.{fault_of}
+use Rattle.jm_class.specs.Releases.{IsReadFor, ReadsFor, class_for, fault_for, newest_major}
+use Rattle.jm_class.proofs.ComputedClassLaws.{reads_once}
+use Rattle.jm_class.proofs.ReleaseLaws.{reads-class_for}
 use Rattle.jm_class.proofs.ReadingLaws.{IsBytes}
 use Rattle.jm_poolmap.specs.declared.site.Site.{Site}
 use Rattle.jm_poolmap.specs.Live.{TellsLive}
 use Rattle.jm_poolmap.specs.Sites.{sites_of}
 use Rattle.jm_poolmap.proofs.ComputedLiveLaws.{live_known}
 use Rattle.jm_compact.specs.Compact.{IsCompact, Whole, Smaller, live_flags, flags_by, compact_with, text_by}
-use Rattle.jm_compact.specs.Compact.{compact_text, with_text, compact_of}
+use Rattle.jm_compact.specs.Compact.{compact_text, with_text, compact_for}
+use Rattle.jm_compact.specs.Compacts.{CompactsFor}
 use Rattle.jm_compact.specs.Meaning.{SaysTheSame}
 use Rattle.jm_compact.proofs.CompactClass.{m, class_fits, class_reads, sites_again, again_same, says_the_same, not_longer}
 use Rattle.jm_compact.proofs.Names.{judged_parts, told_once}
@@ -59,13 +65,17 @@ module _ (c : ClassData) (fits : IsClass c) (bytes : IsBytes (class_text c)) whe
           let less = not_longer c fits bytes sites is (live_flags c) (live_flags-tell c sites fits is) in
           omega (arith, same, less)
 
-  pub once : compact_of (compact_text c) ≡ Ok (compact_text c)
-  once = go (sites_of c) refl
+  pub once : (release : ℕ) → c.major ≤ newest_major release → compact_for release (compact_text c) ≡ Ok (compact_text c)
+  once release most = go (sites_of c) refl
     where
-      go : (found : Option (List Site)) → sites_of c ≡ found → compact_of (compact_text c) ≡ Ok (compact_text c)
-      go None is =
-          let same : compact_text c ≡ class_text c = ap (text_by c) is in
-          ap compact_of same ∙ ap with_text (reads-class_of (class_text c) c (record { well_formed = fits; text = refl }))
+      read_back : (d : ClassData) → IsClass d → d.major ≤ newest_major release → compact_for release (class_text d) ≡ Ok (compact_text d)
+      read_back d fine least = ap with_text (reads-class_for release (class_text d) d (record {
+        reads = record { well_formed = fine; text = refl };
+        major = least;
+      }))
+
+      go : (found : Option (List Site)) → sites_of c ≡ found → compact_for release (compact_text c) ≡ Ok (compact_text c)
+      go None is = ap (compact_for release) (ap (text_by c) is) ∙ read_back c fits most
       go (Some sites) is =
           let tells = live_flags-tell c sites fits is in
           let d : ClassData = m c fits bytes sites is (live_flags c) tells in
@@ -74,38 +84,83 @@ module _ (c : ClassData) (fits : IsClass c) (bytes : IsBytes (class_text c)) whe
           let fine : IsClass d = class_fits c fits bytes sites is (live_flags c) tells in
           let found = sites_again c fits bytes sites is (live_flags c) tells in
           let stays = again_same c fits bytes sites is (live_flags c) tells (live_flags d) (live_flags-tell d _ fine found) in
-          ap compact_of text
-          ∙ ap with_text (reads-class_of (class_text d) d (record { well_formed = fine; text = refl }))
-          ∙ ap Ok (ap (text_by d) found ∙ stays ∙ sym text)
+          ap (compact_for release) text ∙ read_back d fine most ∙ ap Ok (ap (text_by d) found ∙ stays ∙ sym text)
 
--- Of the bytes of a class
+-- Of the bytes of a class of a release
 
-module _ (bytes : List ℕ) (c : ClassData) (reads : ReadsAs bytes c) (all : IsBytes bytes) where
+module _ (release : ℕ) (bytes : List ℕ) (c : ClassData) (is : ReadsFor release bytes c) (all : IsBytes bytes) where
+  abbrev reads : ReadsAs bytes c
+  reads = is.reads
+
   class_bytes : IsBytes (class_text c)
   class_bytes = subst IsBytes (sym reads.text) all
 
   only : (d : ClassData) → ReadsAs bytes d → c ≡ d
-  only d other = same_ok {E = ClassFault} c d (sym (reads-class_of bytes c reads) ∙ reads-class_of bytes d other)
+  only d other = reads_once bytes c d reads other
 
-  pub computed_text : compact_of bytes ≡ Ok (compact_text c)
-  computed_text = ap with_text (reads-class_of bytes c reads)
-
-  pub rule_text : (d : ClassData) → ReadsAs bytes d → IsCompact d (compact_text c)
+  rule_text : (d : ClassData) → ReadsAs bytes d → IsCompact d (compact_text c)
   rule_text d other = subst (λ e. IsCompact e (compact_text c)) (only d other) (rule c reads.well_formed)
 
-  pub says_text : (d : ClassData) (sites : List Site) → ReadsAs bytes d → sites_of d ≡ Some sites → SaysTheSame d sites (compact_text c)
-  says_text d sites other is =
+  says_text : (d : ClassData) (sites : List Site) → ReadsAs bytes d → sites_of d ≡ Some sites → SaysTheSame d sites (compact_text c)
+  says_text d sites other sites_are =
       let same = only d other in
-      subst (λ e. SaysTheSame e sites (compact_text c)) same (says c reads.well_formed class_bytes sites (ap sites_of same ∙ is))
+      subst (λ e. SaysTheSame e sites (compact_text c)) same (says c reads.well_formed class_bytes sites (ap sites_of same ∙ sites_are))
 
-  pub stays_text : (d : ClassData) → ReadsAs bytes d → sites_of d ≡ None → compact_text c ≡ bytes
-  stays_text d other is = ap (text_by c) (ap sites_of (only d other) ∙ is) ∙ reads.text
+  stays_text : (d : ClassData) → ReadsAs bytes d → sites_of d ≡ None → compact_text c ≡ bytes
+  stays_text d other none = ap (text_by c) (ap sites_of (only d other) ∙ none) ∙ reads.text
 
-  pub shorter_text : length (compact_text c) ≤ length bytes
+  shorter_text : length (compact_text c) ≤ length bytes
   shorter_text =
       let less = shorter c reads.well_formed class_bytes in
       let size = ap length reads.text in
       omega (arith, less, size)
 
-  pub once_text : compact_of (compact_text c) ≡ Ok (compact_text c)
-  once_text = once c reads.well_formed class_bytes
+  pub compacts : (text : List ℕ) → text ≡ compact_text c → CompactsFor release bytes (Ok text)
+  compacts text same = subst (λ t. CompactsFor release bytes (Ok t)) (sym same) (record {
+    computed = ap with_text (reads-class_for release bytes c is);
+    rule = rule_text;
+    says = says_text;
+    stays = stays_text;
+    again = once c reads.well_formed class_bytes release is.major;
+    shorter = shorter_text;
+    no_fault = ap fault_of (reads-class_for release bytes c is);
+    fault = λ fault e. cc;
+  })
+
+-- Of bytes that are none, or where memory is wanted
+
+refused_text : (release : ℕ) (bytes : List ℕ) (fault : ClassFault) → fault_for release bytes ≡ Some fault → compact_for release bytes
+    ≡ Err fault
+refused_text release bytes fault is = go (class_for release bytes) refl is
+  where
+    go : (r : Result ClassData ClassFault) → class_for release bytes ≡ r → fault_of r ≡ Some fault → with_text r ≡ Err fault
+    go (Ok c) e found = cc
+    go (Err other) e found = cc
+
+pub compacts_not : (release : ℕ) (bytes : List ℕ) (error : Or ClassFault) (result : Result (List ℕ) (Or ClassFault))
+    → IsReadFor release bytes (Err error) → IsErrAnd result (λ is. is ≡ error) → CompactsFor release bytes result
+compacts_not release bytes error (Ok text) read is = absurd is
+compacts_not release bytes Memory (Err (Fault found)) read is = cc
+compacts_not release bytes (Fault fault) (Err (Fault found)) read is =
+    let same : fault ≡ found = cc in
+    let bad : fault_for release bytes ≡ Some found = read.fault fault refl ∙ ap (λ f. Some f) same in
+    record {
+      computed = refused_text release bytes found bad;
+      rule = tt;
+      says = tt;
+      stays = tt;
+      again = tt;
+      shorter = tt;
+      no_fault = tt;
+      fault = λ other e. bad ∙ let these : found ≡ other = cc in ap (λ f. Some f) these;
+    }
+compacts_not release bytes error (Err Memory) read is = record {
+  computed = tt;
+  rule = tt;
+  says = tt;
+  stays = tt;
+  again = tt;
+  shorter = tt;
+  no_fault = tt;
+  fault = λ fault e. cc;
+}

@@ -6,7 +6,7 @@ use Rattle.std.specs.Prelude.{if◌then◌else◌}
 use Rattle.std.specs.List.{zip}
 use Rattle.jm_class.specs.declared.class.ClassFault.{ClassFault}
 use Rattle.jm_class.specs.Classes.{SlotData, Constant, Hole, ClassData, pool_text, class_text}
-use Rattle.jm_class.specs.ComputedClass.{class_of}
+use Rattle.jm_class.specs.Releases.{class_for}
 use Rattle.jm_poolmap.specs.declared.site.FoundSite.{FoundSite}
 use Rattle.jm_poolmap.specs.declared.site.Site.{Site}
 use Rattle.jm_poolmap.specs.ComputedLive.{flags_of}
@@ -94,6 +94,6 @@ abbrev pub with_text : Result ClassData ClassFault → Result (List ℕ) ClassFa
 with_text (Ok c) = Ok (compact_text c)
 with_text (Err fault) = Err fault
 
--- the compact text of the class that the bytes are, or their fault
-abbrev pub compact_of : List ℕ → Result (List ℕ) ClassFault
-compact_of bytes = with_text (class_of bytes)
+-- the compact text of the class of a release that the bytes are, or their fault
+abbrev pub compact_for : ℕ → List ℕ → Result (List ℕ) ClassFault
+compact_for release bytes = with_text (class_for release bytes)

@@ -1,4 +1,5 @@
 pub mod Compact
+pub mod Compacts
 pub mod Meaning
 pub mod Pieces
 pub mod Steps

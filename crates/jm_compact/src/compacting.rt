@@ -1,22 +1,16 @@
-ghost use Rattle.std.specs.Prelude.{◌≡◌, ◌≤◌, None, Some, Ok, Err, List, length};
-ghost use Rattle.std.specs.Prelude.{IfOk, OnOk};
-ghost use Rattle.jm_bytes.specs.declared.faults.Or.TheVariants.{Fault};
-ghost use Rattle.jm_bytes.specs.Results.{IfAnswered};
-ghost use Rattle.jm_class.specs.Classes.{ClassData, ReadsAs};
-ghost use Rattle.jm_class.specs.ComputedClass.{class_fault};
+ghost use Rattle.std.specs.Prelude.{◌≡◌, Some, IfOk};
+ghost use Rattle.jm_class.specs.Classes.{ReadsAs};
 ghost use Rattle.jm_class.specs.Views.{plain};
-ghost use Rattle.jm_poolmap.specs.declared.site.Site.{Site};
 ghost use Rattle.jm_poolmap.specs.Live.{TellsLive};
 ghost use Rattle.jm_poolmap.specs.Sites.{sites_of};
-ghost use Rattle.jm_compact.specs.Compact.{IsCompact, compact_with, compact_text};
-ghost use Rattle.jm_compact.specs.Compact.{compact_of};
-ghost use Rattle.jm_compact.specs.Meaning.{SaysTheSame};
+ghost use Rattle.jm_compact.specs.Compact.{compact_with, compact_text};
+ghost use Rattle.jm_compact.specs.Compacts.{CompactsFor};
 
 use crate::numbers::Numbers;
 use crate::pool::put_pool;
 use crate::sites::put_renumbered;
 use jm_bytes::{NoMemory, Or, Text, extend};
-use jm_class::{Class, ClassFault, read};
+use jm_class::{Class, ClassFault, DEFAULT_RELEASE, read_for};
 use jm_classout::put16;
 use jm_poolmap::{PoolMap, pool_map};
 use std::alloc::Global;
@@ -52,22 +46,20 @@ fn text_of(alloc: Global, bytes: &[u8], class: &Class) -> Result<Text, NoMemory>
     }
 }
 
-/// A class file without the constants that nothing names, the others numbered anew in their order.
-/// It says the same as before, and is never longer. A class with an attribute or an instruction
-/// that isn't known stays as it is. A fault is the one that `read` finds.
-pub fn compact(alloc: Global, bytes: &[u8]) -> Result<Text, Or<ClassFault>>
-    ensures computed { IfAnswered (λ r. compact_of bytes.now ≡ r) result }
-    ensures rule { IfOk result (λ text. (c : ClassData) → ReadsAs bytes.now c → IsCompact c text) }
-    ensures says { IfOk result (λ text. (c : ClassData) (sites : List Site) → ReadsAs bytes.now c
-        → sites_of c ≡ Some sites → SaysTheSame c sites text) }
-    ensures stays { IfOk result (λ text. (c : ClassData) → ReadsAs bytes.now c
-        → sites_of c ≡ None → text ≡ bytes.now) }
-    ensures again { IfOk result (λ text. compact_of text ≡ Ok text) }
-    ensures shorter { IfOk result (λ text. length text ≤ length bytes.now) }
-    ensures no_fault { OnOk result (class_fault bytes.now ≡ None) }
-    ensures fault { (fault : _) → result ≡ Err (Fault fault) → class_fault bytes.now ≡ Some fault }
+/// A class file of a release without the constants that nothing names, the others numbered anew in
+/// their order. It says the same as before, and is never longer. A class with an attribute or an
+/// instruction that isn't known stays as it is. A fault is the one that `read_for` finds.
+pub fn compact_for(alloc: Global, release: u32, bytes: &[u8]) -> Result<Text, Or<ClassFault>>
+    ensures { CompactsFor release bytes.now result }
 {
-    let class = read(alloc, bytes)?;
+    let class = read_for(alloc, release, bytes)?;
     let text = text_of(alloc, bytes, &class)?;
     Ok(text)
+}
+
+/// A class file of release 21 without the constants that nothing names, as `compact_for` leaves it.
+pub fn compact(alloc: Global, bytes: &[u8]) -> Result<Text, Or<ClassFault>>
+    ensures { CompactsFor 21 bytes.now result }
+{
+    compact_for(alloc, DEFAULT_RELEASE, bytes)
 }

@@ -6,4 +6,4 @@ mod numbers;
 mod pool;
 mod sites;
 
-pub use compacting::compact;
+pub use compacting::{compact, compact_for};

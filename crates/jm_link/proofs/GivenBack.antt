@@ -29,7 +29,7 @@ use Rattle.jm_link.proofs.RelinkedLaws.{IsMade, links_to}
 pub image_once : (b : List ℕ) (asked : Request) (one other : Result LinkedImage Refusal) → ImageLinksTo b asked one
     → ImageLinksTo b asked other → one ≡ other
 image_once b asked one other (seen, shows, is) (seen', shows', is') =
-    let same = modules_once b seen seen' shows shows' in
+    let same = modules_once asked.release b seen seen' shows shows' in
     by seen' one other (subst (λ m. IsImageTo asked m one) same is) is'
   where
     by : (m : Result (List SeenModule) RelinkFault) (r s : Result LinkedImage Refusal) → IsImageTo asked m r → IsImageTo asked m s → r ≡ s
@@ -88,7 +88,7 @@ module _ (b : List ℕ) (asked : Request) (relinks : Relinks b asked) where
         made) from.of stands infos
         (λ c there. (relinks.roots (closure.name_of c)).1 (takes c there))
         (λ name has. taken_by name ((relinks.roots name).0 has))
-        relinks.order relinks.plugins
+        relinks.release relinks.order relinks.plugins
 
   -- the link comes to the same image
   pub comes_again : ImageLinksTo b asked (Ok relinks.image)

@@ -49,7 +49,7 @@ use Rattle.jm_bytes.proofs.ByteOrderLaws.{before_less, before_other}
 
 -- Two lists of modules that were seen
 
-module _ (b : List ℕ) (modules : ImageModules) (seen : List SeenModule) (visible : IsVisibleIn (resources_of b) seen)
+module _ (release : ℕ) (b : List ℕ) (modules : ImageModules) (seen : List SeenModule) (visible : IsVisibleIn release (resources_of b) seen)
     (holds : HoldsModules modules seen) where
   abbrev found : List Candidate
   found = modules.candidates
@@ -59,7 +59,7 @@ module _ (b : List ℕ) (modules : ImageModules) (seen : List SeenModule) (visib
   image_places roots bind places closes = record {
     within = all_from_contains (λ place. place < length found) places (chosen_within found roots bind places closes);
     rising = chosen_rise found roots bind places closes (λ i j c e one other less. before_less (closure.name_of c)
-        (closure.name_of e) (before_at found (candidates_rise b modules seen visible holds) i j c e one other less));
+        (closure.name_of e) (before_at found (candidates_rise release b modules seen visible holds) i j c e one other less));
   }
 
   -- What is gathered
@@ -106,9 +106,9 @@ no_node es r there =
 abbrev Differ : Written → Written → Type 0
 Differ e f = e.0 ≢ f.0
 
-module _ (b : List ℕ) where
+module _ (release : ℕ) (b : List ℕ) where
   abbrev Seen : SeenModule → Type 0
-  Seen = IsSeenIn (resources_of b)
+  Seen = IsSeenIn release (resources_of b)
 
   seen_free : (s : SeenModule) → Seen s → (r : Written) → Contains (seen_resources s) r → is_node r.0 ≡ false
   seen_free s is r there =
@@ -151,11 +151,11 @@ module _ (b : List ℕ) where
       two_apart s from.0 is (All-contains Seen ss from.0 later from.1) (All-contains (λ t. name_of s ≢ name_of t) ss from.0 others
       from.1) e f there from.2)
 
-module _ (b : List ℕ) (modules : ImageModules) (seen : List SeenModule) (visible : IsVisibleIn (resources_of b) seen)
+module _ (release : ℕ) (b : List ℕ) (modules : ImageModules) (seen : List SeenModule) (visible : IsVisibleIn release (resources_of b) seen)
     (holds : HoldsModules modules seen) (roots : List (List ℕ)) (bind : Bool) (places : List ℕ)
     (closes : ClosesWith bind modules.candidates roots (Ok places)) where
   abbrev Is : SeenModule → Type 0
-  Is = IsSeenIn (resources_of b)
+  Is = IsSeenIn release (resources_of b)
 
   abbrev chosen : List SeenModule
   chosen = filter_map (slice_get seen) places
@@ -172,21 +172,22 @@ module _ (b : List ℕ) (modules : ImageModules) (seen : List SeenModule) (visib
   chosen_apart : AllPairs (λ (s t : SeenModule). name_of s ≢ name_of t) chosen
   chosen_apart =
       pairs_filter_map (λ (p q : ℕ). p ≢ q) (λ (s t : SeenModule). name_of s ≢ name_of t) (slice_get seen)
-      (λ p q other s t one two same. other (image_names_differ b modules seen visible holds p q (name_of s)
+      (λ p q other s t one two same. other (image_names_differ release b modules seen visible holds p q (name_of s)
       (s.candidate, candidate_at p s one, refl) (t.candidate, candidate_at q t two, sym same)))
       places (chosen_differ modules.candidates roots bind places closes)
 
   pub image_free : All (λ name. is_node name ≡ false) (names_of (gathered modules places))
   image_free =
       subst (λ (rs : List Written). All (λ name. is_node name ≡ false) (names_of rs))
-      (sym (gathered_is b modules seen visible holds places))
-      (All-map (λ name. is_node name ≡ false) (λ (r : Written). r.0) (resources_seen seen places) (all_free b chosen all_chosen))
+      (sym (gathered_is release b modules seen visible holds places))
+      (All-map (λ name. is_node name ≡ false) (λ (r : Written). r.0) (resources_seen seen places) (all_free release b chosen all_chosen))
 
   pub image_apart : AllPairs (λ (m n : List ℕ). m ≢ n) (names_of (gathered modules places))
   image_apart =
       subst (λ (rs : List Written). AllPairs (λ (m n : List ℕ). m ≢ n) (names_of rs))
-      (sym (gathered_is b modules seen visible holds places))
-      (pairs_map (λ (m n : List ℕ). m ≢ n) (λ (r : Written). r.0) (resources_seen seen places) (apart_all b chosen all_chosen chosen_apart))
+      (sym (gathered_is release b modules seen visible holds places))
+      (pairs_map (λ (m n : List ℕ). m ≢ n) (λ (r : Written). r.0) (resources_seen seen places)
+      (apart_all release b chosen all_chosen chosen_apart))
 
 -- Names that were checked
 
@@ -226,11 +227,11 @@ same_bad (r ∷ rs) bad is = go (name_fault r.0) refl is (same_bad rs bad)
 -- The steps of a link from an image
 
 -- the image shows no modules
-pub unseen : (b : List ℕ) (asked : Request) (fault : RelinkFault) → FindsModules b (Err fault)
+pub unseen : (b : List ℕ) (asked : Request) (fault : RelinkFault) → FindsModules asked.release b (Err fault)
     → ImageComesTo b asked (Err (image_refusal fault))
 unseen b asked fault is = ((Err fault, is, refl), tt)
 
-module _ (b : List ℕ) (asked : Request) (modules : ImageModules) (seen : List SeenModule) (shows : ModulesOf b (Ok seen))
+module _ (b : List ℕ) (asked : Request) (modules : ImageModules) (seen : List SeenModule) (shows : ModulesOf asked.release b (Ok seen))
     (holds : HoldsModules modules seen) where
   -- no closure was had
   pub unclosed : (r : Refusal) → (reserved modules.candidates ≡ Some r) ⊎ IsRefusedAmong modules.candidates asked.roots asked.bind r
@@ -245,7 +246,7 @@ module _ (b : List ℕ) (asked : Request) (modules : ImageModules) (seen : List 
     as_seen = subst (λ (cs : List Candidate). ClosesAmong cs asked.roots asked.bind (Ok places)) holds.candidates closed
 
     abbrev is : gathered modules places ≡ resources_seen seen places
-    is = gathered_is b modules seen (visible_in b seen shows) holds places
+    is = gathered_is asked.release b modules seen (visible_in asked.release b seen shows) holds places
 
     -- a name is unfit
     pub unfit : (fault : GatherFault) → GathersAll (gathered modules places) (Err fault)
@@ -273,7 +274,9 @@ module _ (b : List ℕ) (asked : Request) (modules : ImageModules) (seen : List 
     -- they have fit names
     pub gathered_fit : (pool : List Written) → GathersAll (gathered modules places) (Ok pool) → AreFit (names_of pool)
     gathered_fit pool (none, same) = rw same (record {
-      differ = image_apart b modules seen (visible_in b seen shows) holds asked.roots asked.bind places closed.1;
+      differ = image_apart asked.release b modules seen (visible_in asked.release b seen shows) holds asked.roots asked.bind
+          places closed.1;
       sound = fit_names (gathered modules places) none;
-      plain = image_free b modules seen (visible_in b seen shows) holds asked.roots asked.bind places closed.1;
+      plain = image_free asked.release b modules seen (visible_in asked.release b seen shows) holds asked.roots asked.bind
+          places closed.1;
     })

@@ -8,10 +8,10 @@ use Rattle.jm_bytes.proofs.Choice.{chosen, same_ok}
 use Rattle.jm_bytes.proofs.Members.{all_from_contains, contains_cases, contains_here, contains_later, from_filter}
 use Rattle.jm_bytes.proofs.Pairs.{pairs_head, pairs_tail}
 use Rattle.std.proofs.lemmas.List.Elements.{All-contains}
-use Rattle.jm_class.specs.Classes.{ClassData, IsClass}
-use Rattle.jm_class.specs.ComputedClass.{class_of}
+use Rattle.jm_class.specs.Classes.{ClassData}
+use Rattle.jm_class.specs.Releases.{ReadsFor, class_for}
 use Rattle.jm_class.specs.declared.class.ClassFault.{ClassFault}
-use Rattle.jm_class.proofs.ComputedClassLaws.{reads-class_of}
+use Rattle.jm_class.proofs.ReleaseLaws.{reads-class_for}
 use Rattle.jm_compact.specs.Compact.{compact_text}
 use Rattle.jm_form.specs.Layout.{Written}
 use Rattle.jm_form.specs.Trees.{module_of}
@@ -29,12 +29,13 @@ use Rattle.jm_pool.specs.Pairs.{names_of}
 use Rattle.jm_link.specs.Relinked.{leaves_order}
 use Rattle.jm_link.proofs.SaidLaws.{Says, compacted_says, packaged_says, stripped_says}
 
--- a resource that has the name of one that was there, and says as a descriptor what that one said
-pub record IsKept (old : List Written) (r : Written) : Type 0 where
+-- a resource that has the name of one that was there, and says as a descriptor of a release what that
+-- one said
+pub record IsKept (release : ℕ) (old : List Written) (r : Written) : Type 0 where
   pub was : Written
   pub there : Contains old was
   pub name : was.0 ≡ r.0
-  pub says : (d : Descriptor) → Says was.1 d → Says r.1 d
+  pub says : (d : Descriptor) → Says release was.1 d → Says release r.1 d
 
 followed_ok : {A B : Type 0} (r : Result A BadClass) (next : A → Result B BadClass) (b : B) → followed r next ≡ Ok b → (a : A)
     × (r ≡ Ok a) × (next a ≡ Ok b)
@@ -47,18 +48,20 @@ remade_ok text name (Ok c) q is = (c, refl, same_ok {E = BadClass} (name, text c
 remade_ok text name (Err fault) q is = cc
 
 -- the class that bytes are which say a descriptor
-class_says : (bytes : List ℕ) (c : ClassData) (d : Descriptor) → class_of bytes ≡ Ok c → Says bytes d → IsClass c × (info_of c ≡ Ok d)
-class_says bytes c d reads says =
-    let same : says.class ≡ c = same_ok {E = ClassFault} says.class c (sym (reads-class_of bytes says.class says.reads) ∙ reads) in
-    (subst IsClass same says.reads.well_formed, subst (λ k. info_of k ≡ Ok d) same says.info)
+class_says : (release : ℕ) (bytes : List ℕ) (c : ClassData) (d : Descriptor) → class_for release bytes ≡ Ok c → Says release bytes d
+    → ReadsFor release bytes c × (info_of c ≡ Ok d)
+class_says release bytes c d computed says =
+    let same : says.class ≡ c = same_ok {E = ClassFault} says.class c (sym (reads-class_for release bytes says.class says.reads)
+    ∙ computed) in
+    (subst (ReadsFor release bytes) same says.reads, subst (λ k. info_of k ≡ Ok d) same says.info)
 
-module _ (R : List ℕ → List ℕ → Type 0) where
+module _ (release : ℕ) (R : List ℕ → List ℕ → Type 0) where
   abbrev pub Ordered : List Written → Type 0
   Ordered rs = AllPairs (λ (e f : Written). R e.0 f.0) rs
 
   -- each is kept, and what stood in an order stands in it
   pub record AreKept (old new : List Written) : Type 0 where
-    pub each : (r : Written) → Contains new r → IsKept old r
+    pub each : (r : Written) → Contains new r → IsKept release old r
     pub order : Ordered old → Ordered new
 
   same_kept : (rs : List Written) → AreKept rs rs
@@ -90,8 +93,8 @@ module _ (R : List ℕ → List ℕ → Type 0) where
   }
 
   -- one more in front
-  more_kept : (p q : Written) (old new : List Written) → p.0 ≡ q.0 → ((d : Descriptor) → Says p.1 d → Says q.1 d) → AreKept old new
-      → AreKept (p ∷ old) (q ∷ new)
+  more_kept : (p q : Written) (old new : List Written) → p.0 ≡ q.0 → ((d : Descriptor) → Says release p.1 d → Says release q.1 d)
+      → AreKept old new → AreKept (p ∷ old) (q ∷ new)
   more_kept p q old new name says kept = record {
     each = λ r there.
         elim (contains_cases q new r there) [
@@ -100,7 +103,7 @@ module _ (R : List ℕ → List ℕ → Type 0) where
             there = contains_here p old;
             name = name ∙ ap (λ (x : Written). x.0) same;
             says =
-                λ d was. subst (λ (x : Written). Says x.1 d) same (says d was);
+                λ d was. subst (λ (x : Written). Says release x.1 d) same (says d was);
           }
           | inr later ↦
               let one = kept.each r later in
@@ -119,45 +122,46 @@ module _ (R : List ℕ → List ℕ → Type 0) where
 
   -- classes of another text
 
-  module _ (takes : List ℕ → Bool) (text : List ℕ → ClassData → List ℕ) (keeps : (name : List ℕ) (c : ClassData) (d : Descriptor)
-      → IsClass c → info_of c ≡ Ok d → Says (text name c) d) where
-    remade_one : (p q : Written) → remade_pair takes text p ≡ Ok q → (p.0 ≡ q.0) × ((d : Descriptor) → Says p.1 d → Says q.1 d)
+  module _ (takes : List ℕ → Bool) (text : List ℕ → ClassData → List ℕ) (keeps : (name bytes : List ℕ) (c : ClassData)
+      (d : Descriptor) → ReadsFor release bytes c → info_of c ≡ Ok d → Says release (text name c) d) where
+    remade_one : (p q : Written) → remade_pair release takes text p ≡ Ok q → (p.0 ≡ q.0)
+        × ((d : Descriptor) → Says release p.1 d → Says release q.1 d)
     remade_one p q is =
-        elim (chosen (takes p.0) (remade (text p.0) p.0 (class_of p.1)) (Ok p) (Ok q) is) [
+        elim (chosen (takes p.0) (remade (text p.0) p.0 (class_for release p.1)) (Ok p) (Ok q) is) [
           | inl class ↦
-              let made = remade_ok (text p.0) p.0 (class_of p.1) q class.1 in (
+              let made = remade_ok (text p.0) p.0 (class_for release p.1) q class.1 in (
                 ap (λ (x : Written). x.0) made.2,
-                λ d was. subst (λ (x : Written). Says x.1 d) made.2
-                    (let says = class_says p.1 made.0 d made.1 was in keeps p.0 made.0 d says.0 says.1),
+                λ d was. subst (λ (x : Written). Says release x.1 d) made.2
+                    (let says = class_says release p.1 made.0 d made.1 was in keeps p.0 p.1 made.0 d says.0 says.1),
               )
           | inr other ↦
               let same = same_ok {E = BadClass} p q other.1 in
-              (ap (λ (x : Written). x.0) same, λ d was. subst (λ (x : Written). Says x.1 d) same was)
+              (ap (λ (x : Written). x.0) same, λ d was. subst (λ (x : Written). Says release x.1 d) same was)
         ]
 
-    remade_all : (old new : List Written) → remade_pairs takes text old ≡ Ok new → AreKept old new
+    remade_all : (old new : List Written) → remade_pairs release takes text old ≡ Ok new → AreKept old new
     remade_all [] new is = subst (AreKept []) (same_ok {E = BadClass} [] new is) (same_kept [])
     remade_all (p ∷ old) new is =
-        let one = followed_ok (remade_pair takes text p) (λ first. followed (remade_pairs takes text old)
+        let one = followed_ok (remade_pair release takes text p) (λ first. followed (remade_pairs release takes text old)
         (λ behind. Ok (first ∷ behind))) new is in
-        let rest = followed_ok (remade_pairs takes text old) (λ behind. Ok (one.0 ∷ behind)) new one.2 in
+        let rest = followed_ok (remade_pairs release takes text old) (λ behind. Ok (one.0 ∷ behind)) new one.2 in
         let same = remade_one p one.0 one.1 in
         subst (AreKept (p ∷ old)) (same_ok {E = BadClass} (one.0 ∷ rest.0) new rest.2) (more_kept p one.0 old rest.0 same.0 same.1
         (remade_all old rest.0 rest.1))
 
-  acted : (one : Plugin) (old new : List Written) → leaves_order one ≡ true → act one old ≡ Ok new → AreKept old new
+  acted : (one : Plugin) (old new : List Written) → leaves_order one ≡ true → act release one old ≡ Ok new → AreKept old new
   acted (plugin.Exclude patterns) old new leaves is =
       subst (AreKept old) (same_ok {E = BadClass} _ new is) (filtered (λ r. not (matches_any patterns r.0)) old)
   acted (plugin.Order patterns) old new leaves is = absurd (false≢true leaves)
-  acted plugin.Strip old new leaves is = remade_all is_class (λ name. stripped_text) (λ name. stripped_says) old new is
-  acted plugin.Compact old new leaves is = remade_all is_class (λ name. compact_text) (λ name. compacted_says) old new is
+  acted plugin.Strip old new leaves is = remade_all is_class (λ name. stripped_text) (λ name. stripped_says release) old new is
+  acted plugin.Compact old new leaves is = remade_all is_class (λ name. compact_text) (λ name. compacted_says release) old new is
   acted plugin.Packages old new leaves is = remade_all is_descriptor (listing_text (names_of old))
-      (λ name. packaged_says (packages_of (names_of old) (module_of name))) old new is
+      (λ name. packaged_says release (packages_of (names_of old) (module_of name))) old new is
 
-  pub applied : (plugins : List Plugin) (old new : List Written) → All (λ one. leaves_order one ≡ true) plugins → apply plugins old
-      ≡ Ok new → AreKept old new
+  pub applied : (plugins : List Plugin) (old new : List Written) → All (λ one. leaves_order one ≡ true) plugins
+      → apply release plugins old ≡ Ok new → AreKept old new
   applied [] old new leave is = subst (AreKept old) (same_ok {E = BadClass} old new is) (same_kept old)
   applied (one ∷ later) old new leave is =
-      let first = followed_ok (act one old) (apply later) new is in
+      let first = followed_ok (act release one old) (apply release later) new is in
       further old first.0 new (acted one old first.0 (leave 0 one (omega arith)) first.1)
       (applied later first.0 new (λ i d below. leave (suc i) d (omega arith)) first.2)

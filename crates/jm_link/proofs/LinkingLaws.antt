@@ -122,23 +122,24 @@ module _ (Comes : Result LinkedImage Refusal → Type 0) (Absent : Type 0) (path
 -- The image of resources
 
 -- names stay fit under plug-ins
-pub fit_left : (plugins : List Plugin) (before left : List Written) → Applies plugins before (Ok left) → AreFit (names_of before)
-    → AreFit (names_of left)
-fit_left plugins before left applies fit =
-    let is = sym (applies_only plugins before (Ok left) applies) in
+pub fit_left : (release : ℕ) (plugins : List Plugin) (before left : List Written) → Applies release plugins before (Ok left)
+    → AreFit (names_of before) → AreFit (names_of left)
+fit_left release plugins before left applies fit =
+    let is = sym (applies_only release plugins before (Ok left) applies) in
     record {
-      differ = names_differ plugins before left is fit.differ;
-      sound = names_kept IsSound plugins before left is fit.sound;
-      plain = names_kept (λ name. is_node name ≡ false) plugins before left is fit.plain;
+      differ = names_differ release plugins before left is fit.differ;
+      sound = names_kept IsSound release plugins before left is fit.sound;
+      plain = names_kept (λ name. is_node name ≡ false) release plugins before left is fit.plain;
     }
 
 module _ (asked : Request) (modules : ℕ) (before : List Written) where
   -- the plug-ins are refused
-  pub unplugged : (fault : BadClass) → Applies asked.plugins before (Err fault)
+  pub unplugged : (fault : BadClass) → Applies asked.release asked.plugins before (Err fault)
       → PoolComesTo asked modules before (Err (plugging_refusal fault))
   unplugged fault applies = ((Err fault, applies, refl), tt)
 
-  module _ (resources : List Written) (left : Applies asked.plugins before (Ok resources)) (fit : AreFit (names_of resources)) where
+  module _ (resources : List Written) (left : Applies asked.release asked.plugins before (Ok resources))
+      (fit : AreFit (names_of resources)) where
     abbrev order : Order
     order = asked.order
 
@@ -206,11 +207,11 @@ candidates_length (m ∷ ms) = ap suc (candidates_length ms)
 
 -- the path shows no modules
 pub unseen : (directories : List (List ℕ)) (asked : Request) (given : PathStop) (path : List ℕ) (old new : ShelfSeen) → new.told
-    ≡ old.told → Shows old.told (λ files. ShowsModules files directories (Err given)) → (given ≡ path_stop.Outside
+    ≡ old.told → Shows old.told (λ files. ShowsModules asked.release files directories (Err given)) → (given ≡ path_stop.Outside
     → ShelfFailed old new) → LinksBy (ComesTo old.told directories asked) (TellsNothing old.told) path (Err (stop_of_path given)) old new
 unseen directories asked (path_stop.Refused r) path old new same shows failed = (go old.told shows, same)
   where
-    go : (t : Option Files) → Shows t (λ files. ShowsModules files directories (Err (path_stop.Refused r)))
+    go : (t : Option Files) → Shows t (λ files. ShowsModules asked.release files directories (Err (path_stop.Refused r)))
         → ComesTo t directories asked (Err (path_refusal_as r))
     go None shows = tt
     go (Some files) shows = rw shows (refl, tt)
@@ -219,13 +220,15 @@ unseen directories asked path_stop.Outside path old new same shows failed = (inl
 unseen directories asked path_stop.Memory path old new same shows failed = inl same
 
 module _ (told : Option Files) (directories : List (List ℕ)) (asked : Request) where
-  module _ (found : List VisibleModule) (shows : Shows told (λ files. ShowsModules files directories (Ok found))) where
+  module _ (found : List VisibleModule) (shows : Shows told (λ files. ShowsModules asked.release files directories
+      (Ok found))) where
     found_to : (r : Result LinkedImage Refusal) → ((files : Files) → told ≡ Some files → LinksAmong asked (candidates found)
         (resources_in files found) r × IsLaid asked.order r) → ComesTo told directories asked r
     found_to r comes = go told shows comes
       where
-        go : (t : Option Files) → Shows t (λ files. ShowsModules files directories (Ok found)) → ((files : Files) → t ≡ Some files
-            → LinksAmong asked (candidates found) (resources_in files found) r × IsLaid asked.order r) → ComesTo t directories asked r
+        go : (t : Option Files) → Shows t (λ files. ShowsModules asked.release files directories (Ok found)) → ((files : Files)
+            → t ≡ Some files → LinksAmong asked (candidates found) (resources_in files found) r × IsLaid asked.order r)
+            → ComesTo t directories asked r
         go None shows comes = tt
         go (Some files) (free, is) comes = let both = comes files refl in (rw (free, sym is) both.0, both.1)
 
@@ -288,10 +291,10 @@ files_fit found places fs is visible free within apart sound = record {
         (map pair_of fs) (pair_of f) all (contains_map pair_of fs f there))
 
 -- those of visible modules are told, as they were described
-pub taken_told : (told : Option Files) (directories : List (List ℕ)) (found : List VisibleModule) (fs : List ResourceFile)
-    → Shows told (λ files. ShowsModules files directories (Ok found)) → All (IsTakenFrom found) fs
+pub taken_told : (release : ℕ) (told : Option Files) (directories : List (List ℕ)) (found : List VisibleModule) (fs : List ResourceFile)
+    → Shows told (λ files. ShowsModules release files directories (Ok found)) → All (IsTakenFrom found) fs
     → Shows told (λ files. All (IsToldIn files) fs)
-taken_told None directories found fs shows taken = tt
-taken_told (Some files) directories found fs (free, is) taken =
-    files_told files (visible files directories) fs (visible_told files directories)
+taken_told release None directories found fs shows taken = tt
+taken_told release (Some files) directories found fs (free, is) taken =
+    files_told files (visible release files directories) fs (visible_told release files directories)
     (subst (λ ms. All (IsTakenFrom ms) fs) is taken)

@@ -31,11 +31,12 @@ told_in files folder (Err fault) m is = cc
 told_in files folder (Ok d) m is = subst (IsAsTold files) (same_some _ m is) (refl, refl)
 
 -- a visible module has the files below its folder, and the bytes of its descriptor
-pub visible_told : (files : Files) (directories : List (List ℕ)) → AreAsTold files (visible files directories)
-visible_told files directories m there =
-    let one = from_flat_map (modules_in files) directories m (from_unhidden [] (flat_map (modules_in files) directories) m there) in
-    let folder = from_filter_map (λ folder. module_in files (inside one.0 folder)) (folders_in files one.0) m one.2 in
-    told_in files (inside one.0 folder.0) (folder_info files (inside one.0 folder.0)) m folder.2
+pub visible_told : (release : ℕ) (files : Files) (directories : List (List ℕ)) → AreAsTold files (visible release files directories)
+visible_told release files directories m there =
+    let one = from_flat_map (modules_in release files) directories m (from_unhidden [] (flat_map (modules_in release files)
+    directories) m there) in
+    let folder = from_filter_map (λ folder. module_in release files (inside one.0 folder)) (folders_in files one.0) m one.2 in
+    told_in files (inside one.0 folder.0) (folder_info release files (inside one.0 folder.0)) m folder.2
 
 -- what was described of a file is what it has
 described_told : (files : Files) (m : VisibleModule) (path : List ℕ) → m.info ≡ bytes_at files (info_path m.folder)

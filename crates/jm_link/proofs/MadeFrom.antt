@@ -50,15 +50,15 @@ module _ (asked : Request) (found : List Candidate) (gathered : List ℕ → Lis
 -- the modules that the source shows, and the parts of the link of them
 pub record IsMadeFrom (source : Source) (asked : Request) (image : LinkedImage) : Type 0 where
   pub found : List Candidate
-  pub shows : Shows source found
-  pub once : (others : List Candidate) → Shows source others → others ≡ found
+  pub shows : Shows asked.release source found
+  pub once : (others : List Candidate) → Shows asked.release source others → others ≡ found
   pub gathered : List ℕ → List Written
   pub made : IsMade asked found gathered image
-  pub of : AreOf (modules_taken asked found gathered image made) (gathered made.places)
+  pub of : AreOf asked.release (modules_taken asked found gathered image made) (gathered made.places)
 
 path_links : (files : Files) (directories : List (List ℕ)) (asked : Request) (o : Option PathRefusal) (image : LinkedImage)
-    → IsPathTo files directories asked o (Ok image) → LinksAmong asked (candidates (visible files directories))
-    (resources_in files (visible files directories)) (Ok image)
+    → IsPathTo files directories asked o (Ok image) → LinksAmong asked (candidates (visible asked.release files directories))
+    (resources_in files (visible asked.release files directories)) (Ok image)
 path_links files directories asked None linked is = is
 path_links files directories asked (Some given) linked is = cc
 
@@ -67,44 +67,46 @@ image_links : (asked : Request) (m : Result (List SeenModule) RelinkFault) (imag
 image_links asked (Ok ss) linked is = (ss, refl, is)
 image_links asked (Err fault) linked is = cc
 
-seen_once : (b : List ℕ) (ss : List SeenModule) → ModulesOf b (Ok ss) → (others : List Candidate) → Shows (Image b) others → others
-    ≡ seen_candidates ss
-seen_once b ss shows others (ss', shows', is) =
-    is ∙ ap seen_candidates (same_ok {E = RelinkFault} ss' ss (modules_once b (Ok ss') (Ok ss) shows' shows))
+seen_once : (release : ℕ) (b : List ℕ) (ss : List SeenModule) → ModulesOf release b (Ok ss) → (others : List Candidate)
+    → Shows release (Image b) others → others ≡ seen_candidates ss
+seen_once release b ss shows others (ss', shows', is) =
+    is ∙ ap seen_candidates (same_ok {E = RelinkFault} ss' ss (modules_once release b (Ok ss') (Ok ss) shows' shows))
 
 from_seen : (b : List ℕ) (asked : Request) (image : LinkedImage) → HoldsBytes (Image b) → (ss : List SeenModule)
-    → ModulesOf b (Ok ss) → LinksAmong asked (seen_candidates ss) (resources_seen ss) (Ok image) → IsMadeFrom (Image b) asked image
+    → ModulesOf asked.release b (Ok ss) → LinksAmong asked (seen_candidates ss) (resources_seen ss) (Ok image)
+    → IsMadeFrom (Image b) asked image
 from_seen b asked image holds ss shows links =
     let found = seen_candidates ss in
     let made = made_parts asked found (resources_seen ss) image links in
     record {
       found = found;
       shows = (ss, shows, refl);
-      once = seen_once b ss shows;
+      once = seen_once asked.release b ss shows;
       gathered = resources_seen ss;
       made = made;
-      of = image_resources b holds ss (visible_in b ss shows) (Chosen asked.bind found asked.roots) made.places made.closes.4
-          (taken_within asked found (resources_seen ss) image made);
+      of = image_resources asked.release b holds ss (visible_in asked.release b ss shows) (Chosen asked.bind found asked.roots)
+          made.places made.closes.4 (taken_within asked found (resources_seen ss) image made);
     }
 
 pub made_from : (source : Source) (asked : Request) (image : LinkedImage) → HoldsBytes source → LinksFrom source asked (Ok image)
     → IsMadeFrom source asked image
 made_from (ModulePath files directories) asked image holds linked =
-    let found = candidates (visible files directories) in
-    let gathered = resources_in files (visible files directories) in
-    let made = made_parts asked found gathered image (path_links files directories asked (path_refusal files directories) image linked) in
+    let found = candidates (visible asked.release files directories) in
+    let gathered = resources_in files (visible asked.release files directories) in
+    let made = made_parts asked found gathered image (path_links files directories asked (path_refusal asked.release files
+    directories) image linked) in
     record {
       found = found;
       shows = refl;
       once = λ others shown. shown;
       gathered = gathered;
       made = made;
-      of = path_resources files directories holds (Chosen asked.bind found asked.roots) made.places made.closes.4
+      of = path_resources asked.release files directories holds (Chosen asked.bind found asked.roots) made.places made.closes.4
           (taken_within asked found gathered image made);
     }
 made_from (Image b) asked image holds linked =
     let links = image_links asked linked.0 image linked.2 in
-    from_seen b asked image holds links.0 (subst (ModulesOf b) links.1 linked.1) links.2
+    from_seen b asked image holds links.0 (subst (ModulesOf asked.release b) links.1 linked.1) links.2
 
 -- Its layout
 
@@ -137,8 +139,8 @@ module _ (source : Source) (asked : Request) (image : LinkedImage) (from : IsMad
   made_laid =
       subst (λ (x : LinkedImage). IsLaid asked.order (Ok x)) (sym made.is)
       (laid_free asked.order made.left made.fits (length made.places)
-      (names_kept IsSound asked.plugins before made.left made.plugged sound)
-      (names_kept (λ name. is_node name ≡ false) asked.plugins before made.left made.plugged plain))
+      (names_kept IsSound asked.release asked.plugins before made.left made.plugged sound)
+      (names_kept (λ name. is_node name ≡ false) asked.release asked.plugins before made.left made.plugged plain))
 
 -- an image that was linked is what the layout of its resources is
 pub linked_laid : (source : Source) (asked : Request) (image : LinkedImage) → HoldsBytes source → LinksFrom source asked (Ok image)

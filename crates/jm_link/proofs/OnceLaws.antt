@@ -29,15 +29,15 @@ plugged_once order modules (Err fault) a b one other = one ∙ sym other
 
 -- what is laid out is what the plug-ins are computed to leave
 pub plugs_computed : (asked : Request) (modules : ℕ) (resources : List Written) (r : Answer) → PlugsTo asked modules resources r
-    → IsPluggedTo asked.order modules (apply asked.plugins resources) r
+    → IsPluggedTo asked.order modules (apply asked.release asked.plugins resources) r
 plugs_computed asked modules resources r (left, applies, is) =
-    subst (λ o. IsPluggedTo asked.order modules o r) (applies_only asked.plugins resources left applies) is
+    subst (λ o. IsPluggedTo asked.order modules o r) (applies_only asked.release asked.plugins resources left applies) is
 
 gathered_once : (asked : Request) (modules : ℕ) (resources : List Written) (bad : Option Refusal) (a b : Answer)
     → IsGatheredTo asked modules resources bad a → IsGatheredTo asked modules resources bad b → a ≡ b
 gathered_once asked modules resources (Some refusal) a b one other = one ∙ sym other
 gathered_once asked modules resources None a b one other =
-    plugged_once asked.order modules (apply asked.plugins resources) a b (plugs_computed asked modules resources a one)
+    plugged_once asked.order modules (apply asked.release asked.plugins resources) a b (plugs_computed asked modules resources a one)
     (plugs_computed asked modules resources b other)
 
 closed_once : (asked : Request) (resources : List ℕ → List Written) (closed : Result (List ℕ) CloseFault) (a b : Answer)
@@ -67,11 +67,11 @@ path_once : (files : Files) (directories : List (List ℕ)) (asked : Request) (g
     → IsPathTo files directories asked given a → IsPathTo files directories asked given b → a ≡ b
 path_once files directories asked (Some given) a b one other = one ∙ sym other
 path_once files directories asked None a b one other =
-    let found = visible files directories in
+    let found = visible asked.release files directories in
     among_once asked (candidates found) (resources_in files found) a b one other
 
 -- the rule of a link has one answer
 pub links_once : (files : Files) (directories : List (List ℕ)) (asked : Request) (a b : Answer) → LinksTo files directories asked a
     → LinksTo files directories asked b → a ≡ b
 links_once files directories asked a b one other =
-    path_once files directories asked (path_refusal files directories) a b one other
+    path_once files directories asked (path_refusal asked.release files directories) a b one other

@@ -1,5 +1,5 @@
 -- Relinking an image gives it back.
-use Rattle.std.proofs.Common.{◌≡◌, ◌≢◌, ◌<◌, ◌↔◌, ℕ, suc, ◌+◌, Bool, true, false, List, [], ◌∷◌, ◌++◌}
+use Rattle.std.proofs.Common.{◌≡◌, ◌≢◌, ◌<◌, ◌≤◌, ◌↔◌, ℕ, suc, ◌+◌, Bool, true, false, List, [], ◌∷◌, ◌++◌}
 use Rattle.std.proofs.Common.{append_assoc, length, length-append, map, All, AllPairs, Contains}
 use Rattle.std.proofs.Common.{IsPermutation, Option, Some, None, option_map, slice_get, Result, Ok, Err, refl}
 use Rattle.std.proofs.Common.{sym, ap, subst, ◌∙◌, codes}
@@ -56,7 +56,7 @@ pub record IsMade (asked : Request) (found : List Candidate) (gathered : List �
   pub closes : Closes found asked.roots (Chosen asked.bind found asked.roots) (Ok places)
   pub sound : first_bad_name (gathered places) ≡ None
   pub left : List Written
-  pub plugged : apply asked.plugins (gathered places) ≡ Ok left
+  pub plugged : apply asked.release asked.plugins (gathered places) ≡ Ok left
   pub fits : layout_refusal asked.order left ≡ None
   pub is : image ≡ image_with asked.order (length places) left
 
@@ -73,7 +73,8 @@ plugged_parts order modules (Ok left) image is =
 plugged_parts order modules (Err fault) image is = cc
 
 gathered_parts : (asked : Request) (modules : ℕ) (rs : List Written) (o : Option Refusal) (image : LinkedImage)
-    → IsGatheredTo asked modules rs o (Ok image) → (o ≡ None) × IsPluggedTo asked.order modules (apply asked.plugins rs) (Ok image)
+    → IsGatheredTo asked modules rs o (Ok image) → (o ≡ None) × IsPluggedTo asked.order modules (apply asked.release asked.plugins rs)
+    (Ok image)
 gathered_parts asked modules rs None image is = (refl, plugs_computed asked modules rs (Ok image) is)
 gathered_parts asked modules rs (Some refusal) image is = cc
 
@@ -94,7 +95,7 @@ made_parts asked found gathered image is =
     let first = found_parts asked found gathered (reserved found) image is in
     let closed = closed_parts asked gathered first.1.0 image first.1.2 in
     let sound = gathered_parts asked (length closed.0) (gathered closed.0) (first_bad_name (gathered closed.0)) image closed.2 in
-    let plugged = plugged_parts asked.order (length closed.0) (apply asked.plugins (gathered closed.0)) image sound.1 in
+    let plugged = plugged_parts asked.order (length closed.0) (apply asked.release asked.plugins (gathered closed.0)) image sound.1 in
     record {
       free = first.0;
       places = closed.0;
@@ -152,8 +153,9 @@ good_name : (rs : List Written) (r : Written) → first_bad_name rs ≡ None →
 good_name rs r none there = All-contains (λ o. o ≡ None) (map name_refusal rs) (name_refusal r) (no_fault_all (map name_refusal rs)
     none) (contains_map name_refusal rs r there)
 
-sound_again : (old new : List Written) → AreKept IsFirstOrOne old new → first_bad_name old ≡ None → first_bad_name new ≡ None
-sound_again old new kept none =
+sound_again : (release : ℕ) (old new : List Written) → AreKept release IsFirstOrOne old new → first_bad_name old ≡ None
+    → first_bad_name new ≡ None
+sound_again release old new kept none =
     no_fault_from (map name_refusal new)
     (all_from_contains (λ o. o ≡ None) (map name_refusal new)
     (λ o there.
@@ -195,37 +197,38 @@ module _ (b : List ℕ) (first asked : Request) (found : List Candidate) (gather
   abbrev cs : List Candidate
   cs = taken found Taken made.places made.closes.4 within
 
-  module _ (of : AreOf cs (gathered made.places)) (stands : Stands b made.left) (infos : (c : Candidate) → Contains cs c
+  module _ (of : AreOf first.release cs (gathered made.places)) (stands : Stands b made.left) (infos : (c : Candidate) → Contains cs c
       → (content : List ℕ) × Contains made.left (info_entry (closure.name_of c), content)) (rooted : (c : Candidate) → Contains cs c
       → Contains asked.roots (closure.name_of c)) (only : (name : List ℕ) → Contains asked.roots name → (c : Candidate)
-      × Contains cs c × (closure.name_of c ≡ name)) (order : asked.order ≡ first.order) (plugins : asked.plugins ≡ []) where
-    kept : AreKept IsFirstOrOne (gathered made.places) made.left
-    kept = applied IsFirstOrOne first.plugins (gathered made.places) made.left unordered made.plugged
+      × Contains cs c × (closure.name_of c ≡ name)) (rises : first.release ≤ asked.release)
+      (order : asked.order ≡ first.order) (plugins : asked.plugins ≡ []) where
+    kept : AreKept first.release IsFirstOrOne (gathered made.places) made.left
+    kept = applied first.release IsFirstOrOne first.plugins (gathered made.places) made.left unordered made.plugged
 
-    are : AreOf cs made.left
-    are = kept_of cs (gathered made.places) made.left kept of
+    are : AreOf first.release cs made.left
+    are = kept_of first.release cs (gathered made.places) made.left kept of
 
     apart : AllPairs (λ (e f : Written). e.0 ≢ f.0) made.left
     apart = names_apart b made.left stands
 
     abbrev ss : List SeenModule
-    ss = seen cs made.left are apart
+    ss = seen first.release cs made.left are apart
 
     abbrev again : Candidate → Candidate
-    again c = (see cs made.left are apart c).candidate
+    again c = (see first.release cs made.left are apart c).candidate
 
     abbrev others : List Candidate
-    others = found_again found Taken made.places made.closes.4 within again (λ c. refl) (only_packages cs made.left are apart)
+    others = found_again found Taken made.places made.closes.4 within again (λ c. refl) (only_packages first.release cs made.left are apart)
 
     same_found : seen_candidates ss ≡ others
-    same_found = mapped_twice (λ (s : SeenModule). s.candidate) (see cs made.left are apart) cs
+    same_found = mapped_twice (λ (s : SeenModule). s.candidate) (see first.release cs made.left are apart) cs
 
     abbrev all : List ℕ
     all = range_with_len 0 (length others)
 
     closes : Closes others asked.roots (Chosen asked.bind others asked.roots) (Ok all)
     closes =
-        closes_again found Taken made.places made.closes.4 within again (λ c. refl) (only_packages cs made.left are apart)
+        closes_again found Taken made.places made.closes.4 within again (λ c. refl) (only_packages first.release cs made.left are apart)
         asked.roots rooted only asked.bind
         made.closes.1 made.closes.2 made.closes.3 (λ i j has requires. chosen_further first.bind found first.roots i j has requires)
 
@@ -237,11 +240,11 @@ module _ (b : List ℕ) (first asked : Request) (found : List Candidate) (gather
         (from.0, got found at.0 from.0 at.2, ap closure.name_of from.2)) made.free
 
     long : length ss ≡ length others
-    long = length-map cs (see cs made.left are apart) ∙ sym (length-map cs again)
+    long = length-map cs (see first.release cs made.left are apart) ∙ sym (length-map cs again)
 
     gathered_again : resources_seen ss all ≡ made.left
     gathered_again = ap (λ n. resources_seen ss (range_with_len 0 n)) (sym long) ∙ ap (flat_map seen_resources) (all_from [] ss)
-        ∙ resources_again cs made.left are apart
+        ∙ resources_again first.release cs made.left are apart
 
     count : length all ≡ length made.places
     count = length-range_with_len 0 (length others) ∙ length-map cs again ∙ count_taken found made.places within
@@ -255,21 +258,21 @@ module _ (b : List ℕ) (first asked : Request) (found : List Candidate) (gather
         ∙ ap (laid_out first.order (length made.places) made.left) made.fits)
 
     plugged_again : PlugsTo asked (length all) made.left (Ok image)
-    plugged_again = (Ok made.left, subst (λ ps. Applies ps made.left (Ok made.left)) (sym plugins) refl, laid_again)
+    plugged_again = (Ok made.left, subst (λ ps. Applies asked.release ps made.left (Ok made.left)) (sym plugins) refl, laid_again)
 
     gathered_to : IsGatheredTo asked (length all) (resources_seen ss all) (first_bad_name (resources_seen ss all)) (Ok image)
     gathered_to =
         subst (λ rs. IsGatheredTo asked (length all) rs (first_bad_name rs) (Ok image)) (sym gathered_again)
-        (subst (λ o. IsGatheredTo asked (length all) made.left o (Ok image)) (sym (sound_again (gathered made.places) made.left kept
-        made.sound)) plugged_again)
+        (subst (λ o. IsGatheredTo asked (length all) made.left o (Ok image))
+        (sym (sound_again first.release (gathered made.places) made.left kept made.sound)) plugged_again)
 
     links_again : LinksAmong asked (seen_candidates ss) (resources_seen ss) (Ok image)
     links_again =
         subst (λ fs. LinksAmong asked fs (resources_seen ss) (Ok image)) (sym same_found)
         (subst (λ o. IsFoundTo asked others (resources_seen ss) o (Ok image)) (sym free) (Ok all, closes, gathered_to))
 
-    infos_held : IsVisibleIn (resources_of b) ss
-    infos_held = seen_visible cs made.left are apart infos (resources_of b) (held b made.left stands)
+    infos_held : IsVisibleIn asked.release (resources_of b) ss
+    infos_held = seen_visible first.release cs made.left are apart asked.release rises infos (resources_of b) (held b made.left stands)
 
     pub links_to : ImageLinksTo b asked (Ok image)
     unfolding ModulesOf

@@ -1,6 +1,7 @@
 -- What the class of a module says stays as it is when its debug information is left out or a list
--- of its packages is added, and such a class isn't compacted.
-use Rattle.std.proofs.Common.{◌≡◌, ℕ, inl, inr, Bool, true, false, cond, List, [], ◌∷◌, Contains, Option}
+-- of its packages is added, and such a class isn't compacted. So what plug-ins make of a class of a
+-- release is one of that release, and of each later one.
+use Rattle.std.proofs.Common.{◌≡◌, ◌≤◌, ℕ, inl, inr, Bool, true, false, cond, List, [], ◌∷◌, Contains, Option}
 use Rattle.std.proofs.Common.{Some, None, Result, Ok, Err, refl, sym, ap, subst, ◌∙◌, filter, codes, length}
 use Rattle.std.proofs.Common.{map, nat_eq, not}
 use Rattle.std.proofs.lemmas.Bool.{false≢true}
@@ -10,11 +11,10 @@ use Rattle.std.specs.Prelude.{if◌then◌else◌, nat_lt, option_and_then}
 use Rattle.std.specs.Str.{bytes_eq}
 use Rattle.jm_bytes.proofs.Choice.{chosen, same_ok}
 use Rattle.jm_bytes.proofs.Members.{contains_cases, contains_here, contains_later, contains_map, contains_none, from_filter_map}
-use Rattle.jm_class.specs.Classes.{SlotData, BodyData, Opaque, Coded, AttributeData, ClassData, utf8_at, class_text, IsClass, ReadsAs}
-use Rattle.jm_class.specs.ComputedClass.{class_of}
-use Rattle.jm_class.specs.declared.class.ClassFault.{ClassFault}
-use Rattle.jm_class.proofs.ComputedClassLaws.{class_of-reads, reads-class_of}
+use Rattle.jm_class.specs.Classes.{SlotData, BodyData, Opaque, Coded, AttributeData, ClassData, utf8_at, class_text, IsClass}
+use Rattle.jm_class.specs.Releases.{ReadsFor, class_for}
 use Rattle.jm_class.proofs.ReadingLaws.{IsBytes}
+use Rattle.jm_class.proofs.ReleaseLaws.{class_for-reads, reads-class_for, reads_for-later}
 use Rattle.jm_compact.specs.Compact.{compact_text, text_by}
 use Rattle.jm_modinfo.specs.declared.descriptor.Descriptor.{Descriptor}
 use Rattle.jm_modinfo.specs.declared.faults.DescriptorFault.{DescriptorFault}
@@ -29,9 +29,10 @@ use Rattle.jm_modinfo.specs.declared.constants.Kind.TheVariants as kind_of
 use Rattle.jm_class.specs.Readings.{Left, Outcome, Reading, and_then, continued, ended, list_of, value}
 use Rattle.jm_modinfo.specs.Descriptors.{bodies, bytes_named, is_named, main_bodies, module_bodies, plain_bytes}
 use Rattle.jm_modinfo.specs.Flags.{is_module}
-use Rattle.jm_modinfo.specs.Descriptions.{info_in, info_with}
+use Rattle.jm_modinfo.specs.Descriptions.{info_for, info_with}
+use Rattle.jm_modinfo.proofs.DescriptionLaws.{class_from}
 use Rattle.jm_packages.specs.Packages.{packaged, packages_text}
-use Rattle.jm_packages.proofs.PackagedLaws.{packaged-class, packaged-info}
+use Rattle.jm_packages.proofs.PackagedLaws.{packaged-class, packaged-info, packaged-major}
 use Rattle.jm_plugins.specs.ComputedPlugins.{stripped_text}
 use Rattle.jm_poolmap.specs.declared.forms.Place.TheVariants.{Class, Field, Method}
 use Rattle.jm_poolmap.specs.declared.walk.Walk.{Walk}
@@ -42,11 +43,19 @@ use Rattle.jm_poolmap.proofs.ComputedSitesLaws.{found_is}
 use Rattle.jm_strip.specs.Strip.{debug_names, is_among, stays, strip}
 use Rattle.jm_strip.proofs.StripLaws.{strip-class}
 
--- these bytes are a class that says this
-pub record Says (bytes : List ℕ) (d : Descriptor) : Type 0 where
+-- these bytes are a class of a release that says this
+pub record Says (release : ℕ) (bytes : List ℕ) (d : Descriptor) : Type 0 where
   pub class : ClassData
-  pub reads : ReadsAs bytes class
+  pub reads : ReadsFor release bytes class
   pub info : info_of class ≡ Ok d
+
+-- so are they for a later release
+pub says_later : (release later : ℕ) → release ≤ later → (bytes : List ℕ) (d : Descriptor) → Says release bytes d → Says later bytes d
+says_later release later rises bytes d says = record {
+  class = says.class;
+  reads = reads_for-later release later rises bytes says.class says.reads;
+  info = says.info;
+}
 
 -- Without debug information
 
@@ -90,22 +99,31 @@ stripped_info c =
     ap (λ bs. info_by c bs (main_bodies (strip c))) (kept_bodies c.pool (codes "Module") refl c.attributes)
     ∙ ap (info_by c (module_bodies c)) (kept_bodies c.pool (codes "ModuleMainClass") refl c.attributes)
 
-pub stripped_says : (c : ClassData) (d : Descriptor) → IsClass c → info_of c ≡ Ok d → Says (stripped_text c) d
-stripped_says c d fits is = record {
+pub stripped_says : (release : ℕ) (bytes : List ℕ) (c : ClassData) (d : Descriptor) → ReadsFor release bytes c → info_of c ≡ Ok d
+    → Says release (stripped_text c) d
+stripped_says release bytes c d of_release is = record {
   class = strip c;
-  reads = record { well_formed = strip-class c fits; text = refl };
+  reads = record {
+    reads = record { well_formed = strip-class c of_release.reads.well_formed; text = refl };
+    major = of_release.major;
+  };
   info = stripped_info c ∙ is;
 }
 
 -- With a list of packages
 
-pub packaged_says : (packages : List (List ℕ)) (c : ClassData) (d : Descriptor) → IsClass c → info_of c ≡ Ok d
-    → Says (packages_text packages c) d
-packaged_says packages c d fits is = record {
-  class = packaged packages c;
-  reads = record { well_formed = packaged-class packages c fits; text = refl };
-  info = packaged-info packages c d fits is;
-}
+pub packaged_says : (release : ℕ) (packages : List (List ℕ)) (bytes : List ℕ) (c : ClassData) (d : Descriptor)
+    → ReadsFor release bytes c → info_of c ≡ Ok d → Says release (packages_text packages c) d
+packaged_says release packages bytes c d of_release is =
+    let fits = of_release.reads.well_formed in
+    record {
+      class = packaged packages c;
+      reads = record {
+        reads = record { well_formed = packaged-class packages c fits; text = refl };
+        major = rw (packaged-major packages c) of_release.major;
+      };
+      info = packaged-info packages c d fits is;
+    }
 
 -- An attribute that isn't listed
 
@@ -209,12 +227,18 @@ module_stays c d fits is =
     let none : found_in c ≡ None = found_is c fits ∙ ap found_by (walk_fails c (has_module c d is)) in
     ap (text_by c) (ap (option_and_then (judged c.pool)) none)
 
-pub compacted_says : (c : ClassData) (d : Descriptor) → IsClass c → info_of c ≡ Ok d → Says (compact_text c) d
-compacted_says c d fits is = record {
-  class = c;
-  reads = record { well_formed = fits; text = sym (module_stays c d fits is) };
-  info = is;
-}
+pub compacted_says : (release : ℕ) (bytes : List ℕ) (c : ClassData) (d : Descriptor) → ReadsFor release bytes c → info_of c ≡ Ok d
+    → Says release (compact_text c) d
+compacted_says release bytes c d of_release is =
+    let fits = of_release.reads.well_formed in
+    record {
+      class = c;
+      reads = record {
+        reads = record { well_formed = fits; text = sym (module_stays c d fits is) };
+        major = of_release.major;
+      };
+      info = is;
+    }
 
 -- What bytes say
 
@@ -222,21 +246,14 @@ abbrev of_class : Result Descriptor InfoFault → Result Descriptor DescriptorFa
 of_class (Ok d) = Ok d
 of_class (Err fault) = Err (kind.Info fault)
 
-back : (r : Result Descriptor InfoFault) (d : Descriptor) → of_class r ≡ Ok d → r ≡ Ok d
-back (Ok other) d is = ap (λ x. Ok x) (same_ok {E = DescriptorFault} other d is)
-back (Err fault) d is = cc
+pub says_from : (release : ℕ) (content : List ℕ) (d : Descriptor) → IsBytes content → info_for release content ≡ Ok d
+    → Says release content d
+says_from release content d bytes is =
+    let one = class_from (class_for release content) d is in
+    record { class = one.0; reads = class_for-reads release content one.0 bytes one.1; info = one.2 }
 
-class_from : (r : Result ClassData ClassFault) (d : Descriptor) → info_with r ≡ Ok d → (c : ClassData) × (r ≡ Ok c) × (info_of c ≡ Ok d)
-class_from (Ok c) d is = (c, refl, back (info_of c) d is)
-class_from (Err fault) d is = cc
-
-pub says_from : (content : List ℕ) (d : Descriptor) → IsBytes content → info_in content ≡ Ok d → Says content d
-says_from content d bytes is =
-    let one = class_from (class_of content) d is in
-    record { class = one.0; reads = class_of-reads content one.0 bytes one.1; info = one.2 }
-
-pub says_info : (content : List ℕ) (d : Descriptor) → Says content d → info_in content ≡ Ok d
-says_info content d says = ap info_with (reads-class_of content says.class says.reads) ∙ ap of_class says.info
+pub says_info : (release : ℕ) (content : List ℕ) (d : Descriptor) → Says release content d → info_for release content ≡ Ok d
+says_info release content d says = ap info_with (reads-class_for release content says.class says.reads) ∙ ap of_class says.info
 
 -- The name that is said is legal
 
@@ -312,8 +329,8 @@ name_from (Ok e) (Ok main) d is legal = subst IsLegal (same_ok {E = InfoFault} (
 name_from (Ok e) (Err fault) d is legal = cc
 name_from (Err fault) main d is legal = cc
 
-pub said_legal : (bytes : List ℕ) (d : Descriptor) → Says bytes d → is_legal d.name ≡ true
-said_legal bytes d says =
+pub said_legal : (release : ℕ) (bytes : List ℕ) (d : Descriptor) → Says release bytes d → is_legal d.name ≡ true
+said_legal release bytes d says =
     let c = says.class in
     let main = main_of c.pool (main_bodies c) in
     let only = body_of c.pool (module_bodies c) main d (said_body c d says.info) in

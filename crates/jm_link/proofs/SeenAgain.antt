@@ -1,6 +1,6 @@
 -- The modules that the resources of some modules show, where the descriptor of each stands among
 -- them: these modules, with the same descriptors, and only packages that they had.
-use Rattle.std.proofs.Common.{◌≡◌, ◌≢◌, ◌↔◌, inl, inr, ℕ, true, false, cond, List, map, All, AllPairs}
+use Rattle.std.proofs.Common.{◌≡◌, ◌≢◌, ◌≤◌, ◌↔◌, inl, inr, ℕ, true, false, cond, List, map, All, AllPairs}
 use Rattle.std.proofs.Common.{Contains, Option, Some, None, Ok, refl, sym, ap, subst, ◌∙◌}
 use Rattle.std.proofs.lemmas.Slice.Eq.{bytes_eq-Decides}
 use Rattle.std.specs.List.{filter_map, flat_map, list_any}
@@ -30,31 +30,32 @@ use Rattle.jm_bytes.proofs.ByteOrderLaws.{before_apart}
 use Rattle.jm_link.specs.ImageLinked.{seen_resources}
 use Rattle.jm_link.proofs.FileOrder.{IsFirst, IsFirstOrOne, modules_first, never_both, pairs_joined, paths_first}
 use Rattle.jm_link.proofs.KeptLaws.{AreKept}
-use Rattle.jm_link.proofs.SaidLaws.{Says, says_info}
+use Rattle.jm_link.proofs.SaidLaws.{Says, says_info, says_later}
 
 abbrev pub Before : Candidate → Candidate → Type 0
 Before c d = is_before (closure.name_of c) (closure.name_of d) ≡ true
 
 -- a resource of one of some modules, which has the package of the resource; that which makes the
--- module says its descriptor
-pub record IsOf (cs : List Candidate) (r : Written) : Type 0 where
+-- module says its descriptor, as a class of a release
+pub record IsOf (release : ℕ) (cs : List Candidate) (r : Written) : Type 0 where
   pub candidate : Candidate
   pub path : List ℕ
   pub among : Contains cs candidate
   pub name : r.0 ≡ file_name (closure.name_of candidate) path
   pub has_package : (shared : List ℕ) → named_package r.0 ≡ Some shared → Contains candidate.packages shared
-  pub says : path ≡ info_name → Says r.1 candidate.descriptor
+  pub says : path ≡ info_name → Says release r.1 candidate.descriptor
 
 -- resources of some modules, by module and then by path
-pub record AreOf (cs : List Candidate) (rs : List Written) : Type 0 where
+pub record AreOf (release : ℕ) (cs : List Candidate) (rs : List Written) : Type 0 where
   pub rising : AllPairs Before cs
   pub whole : (c : Candidate) → Contains cs c → list_any is_slash (closure.name_of c) ≡ false
-  pub each : (r : Written) → Contains rs r → IsOf cs r
+  pub each : (r : Written) → Contains rs r → IsOf release cs r
   pub order : AllPairs (λ (e f : Written). IsFirstOrOne e.0 f.0) rs
 
 -- what plug-ins leave of them
-pub kept_of : (cs : List Candidate) (old new : List Written) → AreKept IsFirstOrOne old new → AreOf cs old → AreOf cs new
-kept_of cs old new kept are = record {
+pub kept_of : (release : ℕ) (cs : List Candidate) (old new : List Written) → AreKept release IsFirstOrOne old new
+    → AreOf release cs old → AreOf release cs new
+kept_of release cs old new kept are = record {
   rising = are.rising;
   whole = are.whole;
   each = λ r there.
@@ -71,13 +72,14 @@ kept_of cs old new kept are = record {
   order = kept.order are.order;
 }
 
-module _ (cs : List Candidate) (rs : List Written) (are : AreOf cs rs) (differ : AllPairs (λ (e f : Written). e.0 ≢ f.0) rs) where
+module _ (release : ℕ) (cs : List Candidate) (rs : List Written) (are : AreOf release cs rs)
+    (differ : AllPairs (λ (e f : Written). e.0 ≢ f.0) rs) where
   strict : AllPairs (λ (e f : Written). IsFirst e.0 f.0) rs
   strict i j d before inside = are.order i j d before inside (differ i j d before inside)
 
   -- a resource with the name of a module's file is that module's
   pub own : (c : Candidate) → Contains cs c → (r : Written) → Contains rs r → (path : List ℕ) → r.0 ≡ file_name (closure.name_of c)
-      path → (of : IsOf cs r) × (of.candidate ≡ c) × (of.path ≡ path)
+      path → (of : IsOf release cs r) × (of.candidate ≡ c) × (of.path ≡ path)
   own c there r among path is =
       let of = are.each r among in
       let names = names_tell (closure.name_of of.candidate) (closure.name_of c) of.path path (are.whole of.candidate of.among)
@@ -226,19 +228,20 @@ module _ (cs : List Candidate) (rs : List Written) (are : AreOf cs rs) (differ :
           subst (Contains rs) (ap (λ (t : SeenModule). resource_of (name_of t) f) is ∙ made)
           (files_from c f.0 f.1 (subst (λ (t : SeenModule). Contains t.files f) (sym is) there))
 
-  -- In an image
+  -- In an image, for this release or a later one
 
-  module _ (infos : (c : Candidate) → Contains cs c → (content : List ℕ) × Contains rs (info_entry (closure.name_of c), content))
+  module _ (later : ℕ) (rises : release ≤ later) (infos : (c : Candidate) → Contains cs c
+      → (content : List ℕ) × Contains rs (info_entry (closure.name_of c), content))
       (held : List Named) (same : (r : Written) → Contains held r ↔ Contains rs r) where
-    seen_is : (c : Candidate) → Contains cs c → IsSeenIn held (see c)
+    seen_is : (c : Candidate) → Contains cs c → IsSeenIn later held (see c)
     seen_is c among =
         let info = infos c among in
         let of = own c among (info_entry (closure.name_of c), info.0) info.1 info_name refl in
-        let says = of.0.says of.2 in
+        let says = says_later release later rises info.0 of.0.candidate.descriptor (of.0.says of.2) in
         record {
           content = info.0;
           info = record { whole = are.whole c among; there = (same (info_entry (closure.name_of c), info.0)).1 info.1 };
-          says = says_info info.0 of.0.candidate.descriptor says ∙ ap (λ (d : Candidate). Ok d.descriptor) of.1;
+          says = says_info later info.0 of.0.candidate.descriptor says ∙ ap (λ (d : Candidate). Ok d.descriptor) of.1;
           packages = refl;
           files = record {
             rising = files_rise c;
@@ -249,12 +252,12 @@ module _ (cs : List Candidate) (rs : List Written) (are : AreOf cs rs) (differ :
           };
         }
 
-    pub seen_visible : IsVisibleIn held seen
+    pub seen_visible : IsVisibleIn later held seen
     seen_visible = record {
       rising = seen_rise;
-      each = all_from_contains (IsSeenIn held) seen (λ s there.
+      each = all_from_contains (IsSeenIn later held) seen (λ s there.
           let mine = from_map see cs s there in
-          subst (IsSeenIn held) mine.2 (seen_is mine.0 mine.1));
+          subst (IsSeenIn later held) mine.2 (seen_is mine.0 mine.1));
       all = λ m content info.
           let of = are.each (info_entry m, content) ((same (info_entry m, content)).0 info.there) in
           let names = names_tell m (closure.name_of of.candidate) info_name of.path info.whole (are.whole of.candidate of.among) of.name in

@@ -107,23 +107,24 @@ modified_back (a ∷ x ∷ y ∷ z ∷ text) form low is = go (is_four a x y z) 
 
 -- From a module path
 
-module _ (files : Files) (directories : List (List ℕ)) (bytes : (path : List ℕ) → All (λ byte. byte < 256) (bytes_at files path)) where
+module _ (release : ℕ) (files : Files) (directories : List (List ℕ))
+    (bytes : (path : List ℕ) → All (λ byte. byte < 256) (bytes_at files path)) where
   abbrev pub ms : List VisibleModule
-  ms = visible files directories
+  ms = visible release files directories
 
   -- the module that a folder shows
   record IsShown (m : VisibleModule) : Type 0 where
     descriptor : Descriptor
-    says : Says (bytes_at files (info_path m.folder)) descriptor
+    says : Says release (bytes_at files (info_path m.folder)) descriptor
     is : module_with m.folder descriptor (bytes_at files (info_path m.folder)) (names_below m.folder files) ≡ m
 
-  shown_by : (folder : List ℕ) (r : Result Descriptor DescriptorFault) (m : VisibleModule) → folder_info files folder ≡ r
+  shown_by : (folder : List ℕ) (r : Result Descriptor DescriptorFault) (m : VisibleModule) → folder_info release files folder ≡ r
       → module_of files folder r ≡ Some m → IsShown m
   shown_by folder (Ok d) m info is =
       let same = same_some (module_with folder d (bytes_at files (info_path folder)) (names_below folder files)) m is in
       subst IsShown same (record {
         descriptor = d;
-        says = says_from (bytes_at files (info_path folder)) d (bytes (info_path folder))
+        says = says_from release (bytes_at files (info_path folder)) d (bytes (info_path folder))
             info;
         is = refl;
       })
@@ -131,9 +132,10 @@ module _ (files : Files) (directories : List (List ℕ)) (bytes : (path : List �
 
   shown : (m : VisibleModule) → Contains ms m → IsShown m
   shown m there =
-      let one = from_flat_map (modules_in files) directories m (from_unhidden [] (flat_map (modules_in files) directories) m there) in
-      let two = from_filter_map (λ folder. module_in files (inside one.0 folder)) (folders_in files one.0) m one.2 in
-      shown_by (inside one.0 two.0) (folder_info files (inside one.0 two.0)) m refl two.2
+      let one = from_flat_map (modules_in release files) directories m (from_unhidden [] (flat_map (modules_in release files)
+      directories) m there) in
+      let two = from_filter_map (λ folder. module_in release files (inside one.0 folder)) (folders_in files one.0) m one.2 in
+      shown_by (inside one.0 two.0) (folder_info release files (inside one.0 two.0)) m refl two.2
 
   named_said : (m : VisibleModule) (is : IsShown m) → shelf.name_of m ≡ is.descriptor.name
   named_said m is = ap shelf.name_of (sym is.is)
@@ -142,7 +144,7 @@ module _ (files : Files) (directories : List (List ℕ)) (bytes : (path : List �
   shown_whole m there =
       let is = shown m there in
       subst (λ n. list_any is_slash n ≡ false) (sym (named_said m is)) (legal_plain is.descriptor.name
-      (said_legal (bytes_at files (info_path m.folder)) is.descriptor is.says))
+      (said_legal release (bytes_at files (info_path m.folder)) is.descriptor is.says))
 
   shown_package : (m : VisibleModule) → IsShown m → (path shared : List ℕ) → Contains m.files path
       → named_package (resource_name (shelf.name_of m) path) ≡ Some shared → Contains m.candidate.packages shared
@@ -157,8 +159,9 @@ module _ (files : Files) (directories : List (List ℕ)) (bytes : (path : List �
       subst (λ (k : VisibleModule). Contains k.candidate.packages shared) is.is (subst (λ ps. Contains ps shared)
       (class_packages_are names) among)
 
-  shown_says : (m : VisibleModule) → IsShown m → Says (bytes_at files (info_path m.folder)) m.candidate.descriptor
-  shown_says m is = subst (Says (bytes_at files (info_path m.folder))) (ap (λ (k : VisibleModule). k.candidate.descriptor) is.is) is.says
+  shown_says : (m : VisibleModule) → IsShown m → Says release (bytes_at files (info_path m.folder)) m.candidate.descriptor
+  shown_says m is = subst (Says release (bytes_at files (info_path m.folder)))
+      (ap (λ (k : VisibleModule). k.candidate.descriptor) is.is) is.says
 
   abbrev Comes : Named → Named → Type 0
   Comes e f = IsFirstOrOne e.0 f.0
@@ -209,7 +212,7 @@ module _ (files : Files) (directories : List (List ℕ)) (bytes : (path : List �
         (shown_whole k other) before)))
         modules modules_there modules_rise
 
-    pub path_resources : AreOf cs (resources_in files ms places)
+    pub path_resources : AreOf release cs (resources_in files ms places)
     path_resources = record {
       rising = taken_rise (candidates ms) Taken places chosen within;
       whole = λ c there.
@@ -234,8 +237,8 @@ module _ (files : Files) (directories : List (List ℕ)) (bytes : (path : List �
             has_package = λ shared has. shown_package m is file.0 shared file.1 (ap (λ (x : Written). named_package x.0) same ∙ has);
             says = λ named.
                 let plain : file.0 ≡ info_name = modified_back file.0 info_name refl named in
-                subst (λ (x : Written). Says x.1 m.candidate.descriptor) same
-                (subst (λ p. Says (bytes_at files (inside m.folder p)) m.candidate.descriptor) (sym plain) (shown_says m is));
+                subst (λ (x : Written). Says release x.1 m.candidate.descriptor) same
+                (subst (λ p. Says release (bytes_at files (inside m.folder p)) m.candidate.descriptor) (sym plain) (shown_says m is));
           };
       order = pairs_map Comes (λ (f : Named). (f.0, bytes_at files f.1)) (link_files ms places) files_sorted;
     }
@@ -266,9 +269,10 @@ content_with b (Ok h) r bytes there =
     (bytes_take row.0.size (drop row.0.offset (contents b h)) (bytes_drop row.0.offset (contents b h) (bytes_drop (index_length h) b
     bytes))))
 
-module _ (b : List ℕ) (bytes : All (λ byte. byte < 256) b) (ss : List SeenModule) (visible : IsVisibleIn (image.resources_of b) ss)
-    (Taken : ℕ → Type 0) (places : List ℕ) (chosen : AreChosen (seen_candidates ss) Taken places) (within : (i : ℕ)
-    → Contains places i → i < length (seen_candidates ss)) where
+module _ (release : ℕ) (b : List ℕ) (bytes : All (λ byte. byte < 256) b) (ss : List SeenModule)
+    (visible : IsVisibleIn release (image.resources_of b) ss) (Taken : ℕ → Type 0) (places : List ℕ)
+    (chosen : AreChosen (seen_candidates ss) Taken places)
+    (within : (i : ℕ) → Contains places i → i < length (seen_candidates ss)) where
   abbrev image_cs : List Candidate
   image_cs = taken (seen_candidates ss) Taken places chosen within
 
@@ -276,7 +280,7 @@ module _ (b : List ℕ) (bytes : All (λ byte. byte < 256) b) (ss : List SeenMod
   picked = filter_map (slice_get ss) places
 
   abbrev Is : SeenModule → Type 0
-  Is s = IsSeenIn (image.resources_of b) s
+  Is s = IsSeenIn release (image.resources_of b) s
 
   is_seen : (s : SeenModule) → Contains ss s → Is s
   is_seen s there = All-contains Is ss s visible.each there
@@ -297,18 +301,18 @@ module _ (b : List ℕ) (bytes : All (λ byte. byte < 256) b) (ss : List SeenMod
       (contains_map (λ (g : Named). file_name (name_of s) g.0) s.files f there) has) in
       subst (λ ps. Contains ps shared) (class_packages_are names ∙ sym is.packages) among
 
-  seen_says : (s : SeenModule) → Is s → (f : Named) → Contains s.files f → f.0 ≡ info_name → Says f.1 s.candidate.descriptor
+  seen_says : (s : SeenModule) → Is s → (f : Named) → Contains s.files f → f.0 ≡ info_name → Says release f.1 s.candidate.descriptor
   seen_says s is f there named =
       let here = (is.files.each f.0 f.1).0 there in
       let same = one_content (image.resources_of b) (file_name (name_of s) f.0) (info_entry (name_of s)) f.1 is.content
       (resources_differ b) here is.info.there (ap (file_name (name_of s)) named) in
       let content = content_with b (header_of b) (info_entry (name_of s), is.content) bytes is.info.there in
-      subst (λ c. Says c s.candidate.descriptor) (sym same) (says_from is.content s.candidate.descriptor content is.says)
+      subst (λ c. Says release c s.candidate.descriptor) (sym same) (says_from release is.content s.candidate.descriptor content is.says)
 
   abbrev Sorted : Written → Written → Type 0
   Sorted e f = IsFirstOrOne e.0 f.0
 
-  pub image_resources : AreOf image_cs (resources_seen ss places)
+  pub image_resources : AreOf release image_cs (resources_seen ss places)
   image_resources = record {
     rising = taken_rise (seen_candidates ss) Taken places chosen within;
     whole = λ c there.
@@ -328,7 +332,7 @@ module _ (b : List ℕ) (bytes : All (λ byte. byte < 256) b) (ss : List SeenMod
               (at_place (λ (t : SeenModule). t.candidate) ss at.0 s at.2);
           name = ap (λ (x : Written). x.0) (sym file.2);
           has_package = λ shared has. seen_package s is file.0 shared file.1 (ap (λ (x : Written). named_package x.0) file.2 ∙ has);
-          says = λ named. subst (λ (x : Written). Says x.1 s.candidate.descriptor) file.2 (seen_says s is file.0 file.1 named);
+          says = λ named. subst (λ (x : Written). Says release x.1 s.candidate.descriptor) file.2 (seen_says s is file.0 file.1 named);
         };
     order =
         pairs_joined Is (λ (s t : SeenModule). is_before (name_of s) (name_of t) ≡ true) Sorted seen_resources

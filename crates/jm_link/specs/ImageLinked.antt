@@ -43,7 +43,7 @@ IsImageTo asked (Err fault) result = result ≡ Err (image_refusal fault)
 -- the rule: what a link of the modules of an image comes to, refusal by refusal in their order
 abbrev pub ImageLinksTo : List ℕ → Request → Result LinkedImage Refusal → Type 0
 ImageLinksTo b asked result =
-    (modules : Result (List SeenModule) RelinkFault) × ModulesOf b modules
+    (modules : Result (List SeenModule) RelinkFault) × ModulesOf asked.release b modules
     × IsImageTo asked modules result
 
 -- what a link of the modules of an image comes to, with an image that is what the layout of its

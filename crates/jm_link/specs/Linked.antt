@@ -26,9 +26,11 @@ use Rattle.jm_link.specs.Chosen.{Chosen, reserved}
 use Rattle.jm_link.specs.Resources.{resources_in}
 use Rattle.jm_texts.specs.NameRefusals.{first_bad_name}
 
--- what is asked for, whatever shows the modules: the roots, whether providers of services are
--- linked too, the plug-ins in their order, and the byte order
+-- what is asked for, whatever shows the modules: the release of Java SE up to which classes are
+-- read, the roots, whether providers of services are linked too, the plug-ins in their order, and
+-- the byte order
 pub record Request : Type 0 where
+  pub release : ℕ
   pub roots : List (List ℕ)
   pub bind : Bool
   pub plugins : List Plugin
@@ -93,7 +95,8 @@ IsPluggedTo order modules (Err fault) result = result ≡ Err (plugging_refusal 
 -- laid out
 abbrev pub PlugsTo : Request → ℕ → List Written → Result LinkedImage Refusal → Type 0
 PlugsTo asked modules resources result =
-    (left : Result (List Written) BadClass) × Applies asked.plugins resources left
+    (left : Result (List Written) BadClass)
+    × Applies asked.release asked.plugins resources left
     × IsPluggedTo asked.order modules left result
 
 -- the first unfit name of the resources of so many modules is refused, else the plug-ins act on
@@ -152,11 +155,11 @@ abbrev pub IsPathTo : Files → List (List ℕ) → Request → Option PathRefus
     → Result LinkedImage Refusal → Type 0
 IsPathTo files directories asked (Some given) result = result ≡ Err (path_refusal_as given)
 IsPathTo files directories asked None result =
-    LinksAmong asked (candidates (visible files directories))
-    (resources_in files (visible files directories)) result
+    LinksAmong asked (candidates (visible asked.release files directories))
+    (resources_in files (visible asked.release files directories)) result
 
 -- the rule: what a link of the modules that the directories of these files show comes to, refusal
 -- by refusal in their order
 abbrev pub LinksTo : Files → List (List ℕ) → Request → Result LinkedImage Refusal → Type 0
 LinksTo files directories asked result =
-    IsPathTo files directories asked (path_refusal files directories) result
+    IsPathTo files directories asked (path_refusal asked.release files directories) result

@@ -17,6 +17,7 @@ use Rattle.jm_words.specs.declared.tasks.LinkTask.{LinkTask}
 -- what of a task decides its image, whatever shows the modules
 abbrev pub request_of : LinkTask → Request
 request_of task = record {
+  release = task.release;
   roots = task.roots;
   bind = task.bind;
   plugins = task.plugins;

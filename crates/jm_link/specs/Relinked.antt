@@ -1,6 +1,6 @@
 -- Relinking: what is linked of the image that a link made, of all its modules and without plug-ins,
 -- is that image (this project's rule).
-use Rattle.std.specs.Prelude.{ℕ, ◌≡◌, ◌<◌, ◌↔◌, Bool, true, false, List, [], All, Contains}
+use Rattle.std.specs.Prelude.{ℕ, ◌≡◌, ◌<◌, ◌≤◌, ◌↔◌, Bool, true, false, List, [], All, Contains}
 use Rattle.std.specs.Prelude.{Option, Result, Ok, Err}
 use Rattle.jm_closure.specs.declared.candidate.Candidate.{Candidate}
 use Rattle.jm_closure.specs.Modules.{HasName}
@@ -34,11 +34,12 @@ abbrev pub LinksFrom : Source → Request → Result LinkedImage Refusal → Typ
 LinksFrom (ModulePath files directories) asked result = LinksTo files directories asked result
 LinksFrom (Image b) asked result = ImageLinksTo b asked result
 
--- a source shows these modules
-abbrev pub Shows : Source → List Candidate → Type 0
-Shows (ModulePath files directories) found = found ≡ candidates (visible files directories)
-Shows (Image b) found =
-    (seen : List SeenModule) × ModulesOf b (Ok seen) × (found ≡ seen_candidates seen)
+-- a source shows these modules, where classes are those of a release
+abbrev pub Shows : ℕ → Source → List Candidate → Type 0
+Shows release (ModulePath files directories) found =
+    found ≡ candidates (visible release files directories)
+Shows release (Image b) found =
+    (seen : List SeenModule) × ModulesOf release b (Ok seen) × (found ≡ seen_candidates seen)
 
 -- all that a source holds are bytes: numbers below 256
 abbrev pub HoldsBytes : Source → Type 0
@@ -49,7 +50,7 @@ HoldsBytes (Image b) = All (λ byte. byte < 256) b
 -- a module of this name is linked
 abbrev pub Takes : Source → Request → List ℕ → Type 0
 Takes source asked name =
-    (found : List Candidate) × Shows source found
+    (found : List Candidate) × Shows asked.release source found
     × (i : ℕ) × Chosen asked.bind found asked.roots i × HasName found i name
 
 -- Relinking
@@ -63,7 +64,8 @@ leaves_order plugin.Compact = true
 leaves_order plugin.Packages = true
 
 -- a link made these bytes, without an order of resources, and the descriptor of each module that it
--- took stands in them; what is asked for is these modules, in the same byte order and no plug-in
+-- took stands in them; what is asked for is these modules, in the same byte order and no plug-in,
+-- with that link's release or a later one
 pub record Relinks (b : List ℕ) (asked : Request) : Type 0 where
   pub source : Source
   pub holds : HoldsBytes source
@@ -75,6 +77,7 @@ pub record Relinks (b : List ℕ) (asked : Request) : Type 0 where
   pub infos : (name : List ℕ) → Takes source first name
       → Contains (names_of image.resources) (info_entry name)
   pub roots : (name : List ℕ) → Contains asked.roots name ↔ Takes source first name
+  pub release : first.release ≤ asked.release
   pub order : asked.order ≡ first.order
   pub plugins : asked.plugins ≡ []
 

@@ -2,6 +2,7 @@
 ghost use Rattle.std.specs.Prelude.{◌<◌, All, IsUtf8};
 ghost use Rattle.jm_link.specs.Links.{Links, request_of};
 ghost use Rattle.jm_outside.specs.Shelves.{shelf_at};
+ghost use Rattle.jm_words.specs.Paths.{directories_of};
 
 use crate::closing::closed;
 use crate::image::write_image;
@@ -10,7 +11,7 @@ use jm_bytes::Text;
 use jm_halves::Gate;
 use jm_modpath::visible_modules;
 use jm_outside::Shelf;
-use jm_plugins::apply;
+use jm_plugins::apply_for;
 use jm_texts::Refusal;
 use jm_words::LinkTask;
 use std::alloc::Global;
@@ -44,8 +45,9 @@ pub enum LinkStop {
 
 /// Links the modules of a module path that are reached from the roots, or bound by them, lets the
 /// plug-ins act on their resources, each on all jobs, and writes the image to the file at a path. A
-/// module of an earlier directory hides its name in later ones. The task's `from_image` isn't
-/// looked at. The answer depends neither on the number of jobs nor on the gate.
+/// module of an earlier directory hides its name in later ones. A task whose source is an image has
+/// a module path without directories. The answer depends neither on the number of jobs nor on the
+/// gate.
 pub fn link<T: Threads + Sync, S: Shelf, G: Gate + Sync>(
     rt: &T,
     alloc: Global,
@@ -55,15 +57,17 @@ pub fn link<T: Threads + Sync, S: Shelf, G: Gate + Sync>(
     gate: &G,
 ) -> Result<Summary, LinkStop>
     requires jobs { 0 < jobs }
-    requires directories { All IsUtf8 task.now.dirs }
+    requires directories { All IsUtf8 (directories_of task.now.source) }
     requires output { IsUtf8 task.now.output }
-    ensures { Links task.now.dirs (request_of task.now) task.now.output result
+    ensures { Links (directories_of task.now.source) (request_of task.now) task.now.output result
         (shelf_at S.Shelf shelf.old) (shelf_at S.Shelf shelf.new) }
 {
-    let visible = visible_modules(alloc, task.dirs.as_slice(), shelf)?;
+    let directories = task.source.directories();
+    let visible = visible_modules(alloc, task.release, directories, shelf)?;
     let places = closed(alloc, visible.candidates(), task)?;
     let files = link_files(alloc, &visible, places.as_slice())?;
     let read = read_resources(alloc, files, shelf)?;
-    let left = apply(rt, alloc, jobs, read, task.plugins.as_slice(), gate)?;
+    let plugins = task.plugins.as_slice();
+    let left = apply_for(rt, alloc, jobs, task.release, read, plugins, gate)?;
     write_image(alloc, task, places.len(), &left, shelf)
 }

@@ -12,8 +12,8 @@ use crate::linking::{LinkStop, Summary};
 use jm_bytes::Meter;
 use jm_halves::Gate;
 use jm_outside::Shelf;
-use jm_plugins::apply;
-use jm_relink::{gather, modules_of};
+use jm_plugins::apply_for;
+use jm_relink::{gather, modules_for};
 use jm_valid::Image;
 use jm_words::LinkTask;
 use std::alloc::Global;
@@ -22,10 +22,10 @@ use std::thread::Threads;
 
 /// Links the modules of an image that are reached from the roots, or bound by them, lets the
 /// plug-ins act on their resources, each on all jobs, and writes the image to the file at a path,
-/// which may be that of the image that is read. No file is read, and the task's `dirs` and
-/// `from_image` aren't looked at. The answer depends neither on the number of jobs nor on the gate.
-/// An image that a link made comes back as it is, where all of its modules are linked without a
-/// plug-in.
+/// which may be that of the image that is read. No file is read, and the task's source isn't looked
+/// at. The answer depends neither on the number of jobs nor on the gate. An image that a link made
+/// comes back as it is, where all of its modules are linked without a plug-in and with that link's
+/// release or a later one.
 pub fn link_image<T: Threads + Sync, S: Shelf, G: Gate + Sync, R: Ledger>(
     rt: &T,
     alloc: Global,
@@ -45,9 +45,10 @@ pub fn link_image<T: Threads + Sync, S: Shelf, G: Gate + Sync, R: Ledger>(
         (S.files shelf.old) (S.files shelf.new) }
     ensures reads { IsLater reads.old reads.new }
 {
-    let modules = modules_of(alloc, image, reads)?;
+    let modules = modules_for(alloc, task.release, image, reads)?;
     let places = closed(alloc, modules.candidates.as_slice(), task)?;
     let read = gather(alloc, &modules, places.as_slice())?;
-    let left = apply(rt, alloc, jobs, read, task.plugins.as_slice(), gate)?;
+    let plugins = task.plugins.as_slice();
+    let left = apply_for(rt, alloc, jobs, task.release, read, plugins, gate)?;
     write_image(alloc, task, places.len(), &left, shelf)
 }

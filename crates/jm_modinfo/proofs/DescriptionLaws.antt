@@ -1,16 +1,18 @@
 -- What a file says as the class of a module, from what the calls answered that read it.
-use Rattle.std.proofs.Common.{◌≡◌, ℕ, true, List, Some, Result, Ok, Err, sym, ap, ◌∙◌}
+use Rattle.std.proofs.Common.{◌≡◌, ◌≤◌, ℕ, true, List, Some, Result, Ok, Err, refl, sym, ap, ◌∙◌}
+use Rattle.jm_bytes.proofs.Choice.{same_ok}
 use Rattle.jm_class.specs.declared.class.ClassFault.{ClassFault}
-use Rattle.jm_class.specs.Classes.{ClassData, ReadsAs}
-use Rattle.jm_class.specs.ComputedClass.{class_fault, class_of, fault_of}
-use Rattle.jm_class.proofs.ComputedClassLaws.{reads-class_of}
+use Rattle.jm_class.specs.Classes.{ClassData}
+use Rattle.jm_class.specs.ComputedClass.{fault_of}
+use Rattle.jm_class.specs.Releases.{ReadsFor, class_for, fault_for}
+use Rattle.jm_class.proofs.ReleaseLaws.{reads-class_for, class_for-class_of, class_for-later}
 use Rattle.jm_modinfo.specs.declared.descriptor.Descriptor.{Descriptor}
 use Rattle.jm_modinfo.specs.declared.faults.DescriptorFault.{DescriptorFault}
 use Rattle.jm_modinfo.specs.declared.faults.DescriptorFault.TheVariants as kind
 use Rattle.jm_modinfo.specs.declared.faults.InfoFault.{InfoFault}
 use Rattle.jm_modinfo.specs.ComputedInfo.{info_of}
 use Rattle.jm_modinfo.specs.Constants.{is_legal}
-use Rattle.jm_modinfo.specs.Descriptions.{info_in, info_with}
+use Rattle.jm_modinfo.specs.Descriptions.{info_for, info_in, info_with}
 use Rattle.jm_modinfo.specs.Descriptors.{InfoOf, IsModuleBody}
 use Rattle.jm_modinfo.specs.Faults.{info_fault}
 use Rattle.jm_modinfo.specs.Faults as info
@@ -20,11 +22,12 @@ class_faulty : (r : Result ClassData ClassFault) (fault : ClassFault) → fault_
 class_faulty (Ok c) fault is = cc
 class_faulty (Err other) fault is = cc
 
-pub no_class : (b : List ℕ) (fault : ClassFault) → class_fault b ≡ Some fault → info_in b ≡ Err (kind.Class fault)
-no_class b fault is = ap info_with (class_faulty (class_of b) fault is)
+pub no_class : (release : ℕ) (b : List ℕ) (fault : ClassFault) → fault_for release b ≡ Some fault
+    → info_for release b ≡ Err (kind.Class fault)
+no_class release b fault is = ap info_with (class_faulty (class_for release b) fault is)
 
-pub a_class : (b : List ℕ) (c : ClassData) → ReadsAs b c → info_in b ≡ info_with (Ok c)
-a_class b c reads = ap info_with (reads-class_of b c reads)
+pub a_class : (release : ℕ) (b : List ℕ) (c : ClassData) → ReadsFor release b c → info_for release b ≡ info_with (Ok c)
+a_class release b c reads = ap info_with (reads-class_for release b c reads)
 
 info_faulty : (r : Result Descriptor InfoFault) (fault : InfoFault) → info.fault_of r ≡ Some fault → r ≡ Err fault
 info_faulty (Ok d) fault is = cc
@@ -40,6 +43,27 @@ no_info c fault is = ap of_class (info_faulty (info_of c) fault (sym (info_fault
 
 pub an_info : (c : ClassData) (d : Descriptor) → InfoOf c d → info_with (Ok c) ≡ Ok d
 an_info c d says = ap of_class (info-computed c d says)
+
+-- the class that bytes are which say a descriptor
+told : (r : Result Descriptor InfoFault) (d : Descriptor) → of_class r ≡ Ok d → r ≡ Ok d
+told (Ok other) d is = ap (λ x. Ok x) (same_ok {E = DescriptorFault} other d is)
+told (Err fault) d is = cc
+
+pub class_from : (r : Result ClassData ClassFault) (d : Descriptor) → info_with r ≡ Ok d → (c : ClassData) × (r ≡ Ok c) × (info_of c ≡ Ok d)
+class_from (Ok c) d is = (c, refl, told (info_of c) d is)
+class_from (Err fault) d is = cc
+
+-- what a descriptor says for a release it says anyway, and for each later release
+pub info_for-info_in : (release : ℕ) (bytes : List ℕ) (d : Descriptor) → info_for release bytes ≡ Ok d → info_in bytes ≡ Ok d
+info_for-info_in release bytes d is =
+    let one = class_from (class_for release bytes) d is in
+    ap info_with (class_for-class_of release bytes one.0 one.1) ∙ ap of_class one.2
+
+pub info_for-later : (release later : ℕ) → release ≤ later → (bytes : List ℕ) (d : Descriptor) → info_for release bytes ≡ Ok d
+    → info_for later bytes ≡ Ok d
+info_for-later release later rises bytes d is =
+    let one = class_from (class_for release bytes) d is in
+    ap info_with (class_for-later release later rises bytes one.0 one.1) ∙ ap of_class one.2
 
 -- the name of a module is legal
 pub legal_name : (c : ClassData) (d : Descriptor) → InfoOf c d → is_legal d.name ≡ true

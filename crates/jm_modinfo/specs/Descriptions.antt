@@ -1,9 +1,10 @@
--- What bytes say as the class of a module (JVMS 4, 4.7.25). Which fault comes first is this project's
--- rule.
+-- What bytes say as the class of a module (JVMS 4, 4.7.25). Which fault comes first is this
+-- project's rule.
 use Rattle.std.specs.Prelude.{ℕ, List, Result, Ok, Err}
 use Rattle.jm_class.specs.declared.class.ClassFault.{ClassFault}
 use Rattle.jm_class.specs.Classes.{ClassData}
 use Rattle.jm_class.specs.ComputedClass.{class_of}
+use Rattle.jm_class.specs.Releases.{class_for}
 use Rattle.jm_modinfo.specs.declared.descriptor.Descriptor.{Descriptor}
 use Rattle.jm_modinfo.specs.declared.faults.DescriptorFault.{DescriptorFault}
 use Rattle.jm_modinfo.specs.declared.faults.DescriptorFault.TheVariants as fault_of
@@ -19,6 +20,10 @@ info_with (Ok c) = described (info_of c)
     described (Ok d) = Ok d
     described (Err fault) = Err (fault_of.Info fault)
 
--- what bytes say as the class of a module, or their first fault
+-- what bytes say as the class of a module, of whatever release, or their first fault
 abbrev pub info_in : List ℕ → Result Descriptor DescriptorFault
 info_in bytes = info_with (class_of bytes)
+
+-- what bytes say as the class of a module for a release, or their first fault
+abbrev pub info_for : ℕ → List ℕ → Result Descriptor DescriptorFault
+info_for release bytes = info_with (class_for release bytes)

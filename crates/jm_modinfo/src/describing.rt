@@ -7,7 +7,7 @@ ghost use Rattle.jm_modinfo.specs.declared.descriptor.Descriptor.{Descriptor};
 ghost use Rattle.jm_modinfo.specs.InfoFaults.{HasInfoFault};
 ghost use Rattle.jm_modinfo.specs.ComputedInfo.{body_info, info_of};
 ghost use Rattle.jm_modinfo.specs.Constants.{is_legal};
-ghost use Rattle.jm_modinfo.specs.Descriptions.{info_in};
+ghost use Rattle.jm_modinfo.specs.Descriptions.{info_for};
 ghost use Rattle.jm_modinfo.specs.Descriptors.{InfoOf, IsModuleBody};
 ghost use Rattle.jm_modinfo.specs.Faults.{info_fault};
 ghost use Rattle.jm_modinfo.specs.Views.{Answers};
@@ -17,7 +17,7 @@ use crate::descriptor::Descriptor;
 use crate::faults::{DescriptorFault, InfoFault};
 use crate::fields::module;
 use jm_bytes::Or;
-use jm_class::{Class, Cursor, read};
+use jm_class::{Class, Cursor, read_for};
 use std::alloc::Global;
 
 /// The fields of the Module attribute, and nothing behind them.
@@ -70,13 +70,17 @@ pub fn describe(alloc: Global, class: &Class) -> Result<Descriptor, Or<InfoFault
     info(alloc, class)
 }
 
-/// What bytes say as the class of a module: they are read as a class, which is described. The fault
-/// is that of the class, or else that of its descriptor.
-pub fn describe_bytes(alloc: Global, bytes: &[u8]) -> Result<Descriptor, Or<DescriptorFault>>
-    ensures info { IfAnswered (λ r. r ≡ info_in bytes.now) result }
+/// What bytes say as the class of a module: they are read as a class of a release, which is
+/// described. The fault is that of the class, or else that of its descriptor.
+pub fn describe_bytes(
+    alloc: Global,
+    release: u32,
+    bytes: &[u8],
+) -> Result<Descriptor, Or<DescriptorFault>>
+    ensures info { IfAnswered (λ r. r ≡ info_for release bytes.now) result }
     ensures legal { IfOk result (λ d. is_legal d.name ≡ true) }
 {
-    let class = match read(alloc, bytes) {
+    let class = match read_for(alloc, release, bytes) {
         Ok(class) => class,
         Err(Or::Fault(fault)) => return Err(Or::Fault(DescriptorFault::Class(fault))),
         Err(Or::Memory) => return Err(Or::Memory),

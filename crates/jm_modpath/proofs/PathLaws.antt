@@ -27,14 +27,14 @@ use Rattle.jm_modpath.proofs.StepLaws.{comes_ended, told_both, told_more}
 
 -- The folders of a directory
 
-module _ (files : Files) (directory : List ℕ) where
+module _ (release : ℕ) (files : Files) (directory : List ℕ) where
   abbrev shown : List (List ℕ) → List VisibleModule
-  shown folders = filter_map (λ folder. module_in files (inside directory folder)) folders
+  shown folders = filter_map (λ folder. module_in release files (inside directory folder)) folders
 
   abbrev checks_in : List (List ℕ) → ℕ → List (Option PathRefusal)
   checks_in folders place =
       folder_checks directory (shown (take place folders)) (inside directory (get_or folders place []))
-      (folder_info files (inside directory (get_or folders place [])))
+      (folder_info release files (inside directory (get_or folders place [])))
 
   got : (front : List (List ℕ)) (folder : List ℕ) (back : List (List ℕ)) → get_or (front ++ folder ∷ back) (length front) [] ≡ folder
   got [] folder back = refl
@@ -45,7 +45,7 @@ module _ (files : Files) (directory : List ℕ) where
       unless_fault (first_fault (flat_map (checks_in (front ++ back)) (range_with_len (length front) (length back))))
       (shown (front ++ back))
 
-  pub folders_law : (front back : List (List ℕ)) → folders_due files directory (shown front) back ≡ whole front back
+  pub folders_law : (front back : List (List ℕ)) → folders_due release files directory (shown front) back ≡ whole front back
   folders_law front [] = ap (λ fs. Ok (shown fs)) (sym (append-nil front))
   folders_law front (folder ∷ back) = go (folders_law (front ++ folder ∷ []) back)
     where
@@ -61,7 +61,7 @@ module _ (files : Files) (directory : List ℕ) where
       later : List (Option PathRefusal)
       later = flat_map (checks_in all) (range_with_len (length front + 1) (length back))
 
-      here : checks_in all (length front) ≡ folder_checks directory (shown front) at (folder_info files at)
+      here : checks_in all (length front) ≡ folder_checks directory (shown front) at (folder_info release files at)
       here = rw (take_at front (folder ∷ back) (length front) refl, got front folder back) refl
 
       moved : whole (front ++ folder ∷ []) back ≡ unless_fault (first_fault later) (shown all)
@@ -72,34 +72,38 @@ module _ (files : Files) (directory : List ℕ) where
           (length back)))) (shown fs)) list
           ∙ ap (λ n. unless_fault (first_fault (flat_map (checks_in all) (range_with_len n (length back)))) (shown all)) size
 
-      one_more : (d : Descriptor) → folder_info files at ≡ Ok d → shown (front ++ folder ∷ []) ≡ shown front ++ of d ∷ []
+      one_more : (d : Descriptor) → folder_info release files at ≡ Ok d → shown (front ++ folder ∷ []) ≡ shown front ++ of d ∷ []
       one_more d is =
-          let m : module_in files at ≡ Some (of d) = ap (module_of files at) is in
-          filter_map-append (λ f. module_in files (inside directory f)) front (folder ∷ []) ∙ ap (λ o. shown front ++ cons_option o []) m
+          let m : module_in release files at ≡ Some (of d) = ap (module_of files at) is in
+          filter_map-append (λ f. module_in release files (inside directory f)) front (folder ∷ [])
+          ∙ ap (λ o. shown front ++ cons_option o []) m
 
-      named : (d : Descriptor) (b : Bool) → folders_due files directory (shown front ++ of d ∷ []) back
+      named : (d : Descriptor) (b : Bool) → folders_due release files directory (shown front ++ of d ∷ []) back
           ≡ unless_fault (first_fault later) (shown all)
           → followed (followed (cond b (Err (refusal.TwoModules directory d.name)) (Ok (of d))) (λ m. Ok (shown front ++ m ∷ [])))
-          (λ ms. folders_due files directory ms back)
+          (λ ms. folders_due release files directory ms back)
           ≡ unless_fault (first_fault (fault_if b (refusal.TwoModules directory d.name) ∷ later)) (shown all)
       named d true rest = refl
       named d false rest = rest
 
-      by_info : (info : Result Descriptor DescriptorFault) → folder_info files at ≡ info
-          → folders_due files directory (shown (front ++ folder ∷ [])) back ≡ whole (front ++ folder ∷ []) back
+      by_info : (info : Result Descriptor DescriptorFault) → folder_info release files at ≡ info
+          → folders_due release files directory (shown (front ++ folder ∷ [])) back ≡ whole (front ++ folder ∷ []) back
           → followed (followed (followed (refused_at (info_path at) (bytes_at files (info_path at)) info) (λ d. shown_due directory
-          (shown front) at d (names_below at files))) (λ m. Ok (shown front ++ m ∷ []))) (λ ms. folders_due files directory ms back)
+          (shown front) at d (names_below at files))) (λ m. Ok (shown front ++ m ∷ [])))
+          (λ ms. folders_due release files directory ms back)
           ≡ unless_fault (first_fault (folder_checks directory (shown front) at info ++ later)) (shown all)
       by_info (Err fault) is rest = refl
       by_info (Ok d) is rest =
-          named d (is_named (shown front) d.name) (ap (λ ms. folders_due files directory ms back) (sym (one_more d is)) ∙ rest ∙ moved)
+          named d (is_named (shown front) d.name)
+          (ap (λ ms. folders_due release files directory ms back) (sym (one_more d is)) ∙ rest ∙ moved)
 
-      go : folders_due files directory (shown (front ++ folder ∷ [])) back ≡ whole (front ++ folder ∷ []) back
-          → folders_due files directory (shown front) (folder ∷ back) ≡ whole front (folder ∷ back)
-      go rest = by_info (folder_info files at) refl rest ∙ ap (λ checks. unless_fault (first_fault (checks ++ later)) (shown all))
-          (sym here)
+      go : folders_due release files directory (shown (front ++ folder ∷ [])) back ≡ whole (front ++ folder ∷ []) back
+          → folders_due release files directory (shown front) (folder ∷ back) ≡ whole front (folder ∷ back)
+      go rest =
+          by_info (folder_info release files at) refl rest
+          ∙ ap (λ checks. unless_fault (first_fault (checks ++ later)) (shown all)) (sym here)
 
-  pub directory_law : folders_due files directory [] (folders_in files directory) ≡ directory_due files directory
+  pub directory_law : folders_due release files directory [] (folders_in files directory) ≡ directory_due release files directory
   directory_law = folders_law [] (folders_in files directory)
 
 -- Hiding
@@ -127,34 +131,36 @@ with_both earlier xs ys =
 
 -- The directories of a path
 
-pub directories_law : (files : Files) (found : List VisibleModule) (directories : List (List ℕ))
-    → directories_due files found directories ≡ unless_fault (first_fault (flat_map (directory_checks files) directories))
-    (with_unhidden found (flat_map (modules_in files) directories))
-directories_law files found [] = ap Ok (sym (append-nil found))
-directories_law files found (directory ∷ directories) =
-    go (first_fault (directory_checks files directory)) refl
-    (directories_law files (with_unhidden found (modules_in files directory)) directories)
+pub directories_law : (release : ℕ) (files : Files) (found : List VisibleModule) (directories : List (List ℕ))
+    → directories_due release files found directories
+    ≡ unless_fault (first_fault (flat_map (directory_checks release files) directories))
+    (with_unhidden found (flat_map (modules_in release files) directories))
+directories_law release files found [] = ap Ok (sym (append-nil found))
+directories_law release files found (directory ∷ directories) =
+    go (first_fault (directory_checks release files directory)) refl
+    (directories_law release files (with_unhidden found (modules_in release files directory)) directories)
   where
     later : List (Option PathRefusal)
-    later = flat_map (directory_checks files) directories
+    later = flat_map (directory_checks release files) directories
 
     others : List VisibleModule
-    others = flat_map (modules_in files) directories
+    others = flat_map (modules_in release files) directories
 
-    go : (o : Option PathRefusal) → first_fault (directory_checks files directory) ≡ o
-        → directories_due files (with_unhidden found (modules_in files directory)) directories ≡ unless_fault (first_fault later)
-        (with_unhidden (with_unhidden found (modules_in files directory)) others)
-        → followed (followed (unless_fault o (modules_in files directory)) (λ ms. Ok (with_unhidden found ms)))
-        (λ ms. directories_due files ms directories)
-        ≡ unless_fault (first_fault (directory_checks files directory ++ later)) (with_unhidden found (modules_in files directory
-        ++ others))
+    go : (o : Option PathRefusal) → first_fault (directory_checks release files directory) ≡ o
+        → directories_due release files (with_unhidden found (modules_in release files directory)) directories
+        ≡ unless_fault (first_fault later)
+        (with_unhidden (with_unhidden found (modules_in release files directory)) others)
+        → followed (followed (unless_fault o (modules_in release files directory)) (λ ms. Ok (with_unhidden found ms)))
+        (λ ms. directories_due release files ms directories)
+        ≡ unless_fault (first_fault (directory_checks release files directory ++ later))
+        (with_unhidden found (modules_in release files directory ++ others))
     go None is rest =
-        rest ∙ ap (unless_fault (first_fault later)) (with_both found (modules_in files directory) others)
-        ∙ ap (λ o. unless_fault o (with_unhidden found (modules_in files directory ++ others)))
-        (sym (first_fault_append_none (directory_checks files directory) later is))
+        rest ∙ ap (unless_fault (first_fault later)) (with_both found (modules_in release files directory) others)
+        ∙ ap (λ o. unless_fault o (with_unhidden found (modules_in release files directory ++ others)))
+        (sym (first_fault_append_none (directory_checks release files directory) later is))
     go (Some r) is rest =
-        ap (λ o. unless_fault o (with_unhidden found (modules_in files directory ++ others)))
-        (sym (first_fault_append_some (directory_checks files directory) later r is))
+        ap (λ o. unless_fault o (with_unhidden found (modules_in release files directory ++ others)))
+        (sym (first_fault_append_some (directory_checks release files directory) later r is))
 
 -- what a path comes to, in the words of its refusal and its modules
 -- the same, of a refusal and modules
@@ -165,13 +171,14 @@ Shows_as o found (Err (stop.NotThere path)) = ⊥
 Shows_as o found (Err stop.Outside) = Unit {0}
 Shows_as o found (Err stop.Memory) = Unit {0}
 
-by_result : (files : Files) (directories : List (List ℕ)) (r : Result (List VisibleModule) PathStop)
-    → Shows_as (path_refusal files directories) (visible files directories) r → ShowsModules files directories r
-by_result files directories (Ok other) h = h
-by_result files directories (Err (stop.Refused e)) h = h
-by_result files directories (Err (stop.NotThere path)) h = h
-by_result files directories (Err stop.Outside) h = h
-by_result files directories (Err stop.Memory) h = h
+by_result : (release : ℕ) (files : Files) (directories : List (List ℕ)) (r : Result (List VisibleModule) PathStop)
+    → Shows_as (path_refusal release files directories) (visible release files directories) r
+    → ShowsModules release files directories r
+by_result release files directories (Ok other) h = h
+by_result release files directories (Err (stop.Refused e)) h = h
+by_result release files directories (Err (stop.NotThere path)) h = h
+by_result release files directories (Err stop.Outside) h = h
+by_result release files directories (Err stop.Memory) h = h
 
 shows_of : (o : Option PathRefusal) (found : List VisibleModule) (r : Result (List VisibleModule) PathStop)
     → Comes ⊥ (unless_fault o found) r → Shows_as o found r
@@ -183,60 +190,72 @@ shows_of o found (Err (stop.NotThere path)) h = h
 shows_of o found (Err stop.Outside) h = tt
 shows_of o found (Err stop.Memory) h = tt
 
-pub path_shown : (told : Option Files) (directories : List (List ℕ)) (r : Result (List VisibleModule) PathStop)
-    → Shows told (λ files. Comes ⊥ (directories_due files [] directories) r) → Shows told (λ files. ShowsModules files directories r)
-path_shown told directories r comes =
+pub path_shown : (release : ℕ) (told : Option Files) (directories : List (List ℕ)) (r : Result (List VisibleModule) PathStop)
+    → Shows told (λ files. Comes ⊥ (directories_due release files [] directories) r)
+    → Shows told (λ files. ShowsModules release files directories r)
+path_shown release told directories r comes =
     told_more told _ _
-    (λ files h. by_result files directories r (shows_of (path_refusal files directories) (visible files directories) r
-    (subst (λ due. Comes ⊥ due r) (directories_law files [] directories) h)))
+    (λ files h. by_result release files directories r
+    (shows_of (path_refusal release files directories) (visible release files directories) r
+    (subst (λ due. Comes ⊥ due r) (directories_law release files [] directories) h)))
     comes
 
 -- Loops
 
-pub directories_next : (files : Files) (directories : List (List ℕ)) (i : ℕ) (directory : List ℕ) (found more : List VisibleModule)
-    → i < length directories → directory ≡ get_or directories i directory → Comes ⊥ (shown_more files found directory) (Ok more)
-    → directories_due files more (drop (i + 1) directories) ≡ directories_due files found (drop i directories)
-directories_next files directories i directory found more below is comes =
+pub directories_next : (release : ℕ) (files : Files) (directories : List (List ℕ)) (i : ℕ) (directory : List ℕ)
+    (found more : List VisibleModule)
+    → i < length directories → directory ≡ get_or directories i directory
+    → Comes ⊥ (shown_more release files found directory) (Ok more)
+    → directories_due release files more (drop (i + 1) directories) ≡ directories_due release files found (drop i directories)
+directories_next release files directories i directory found more below is comes =
     rw (drop_more directories i directory below, ← is, comes) refl
 
-pub directories_ended : (files : Files) (directories : List (List ℕ)) (i : ℕ) (directory : List ℕ) (found : List VisibleModule)
+pub directories_ended : (release : ℕ) (files : Files) (directories : List (List ℕ)) (i : ℕ) (directory : List ℕ)
+    (found : List VisibleModule)
     (e : PathStop) → i < length directories → directory ≡ get_or directories i directory
-    → Comes ⊥ (shown_more files found directory) (Err e) → Comes ⊥ (directories_due files found (drop i directories)) (Err e)
-directories_ended files directories i directory found e below is comes =
-    subst (λ left. Comes ⊥ (directories_due files found left) (Err e)) (sym (drop_more directories i directory below
+    → Comes ⊥ (shown_more release files found directory) (Err e)
+    → Comes ⊥ (directories_due release files found (drop i directories)) (Err e)
+directories_ended release files directories i directory found e below is comes =
+    subst (λ left. Comes ⊥ (directories_due release files found left) (Err e)) (sym (drop_more directories i directory below
     ∙ ap (λ f. f ∷ drop (i + 1) directories) (sym is)))
-    (comes_ended (shown_more files found directory) (λ ms. directories_due files ms (drop (i + 1) directories)) e comes)
+    (comes_ended (shown_more release files found directory)
+    (λ ms. directories_due release files ms (drop (i + 1) directories)) e comes)
 
-pub found_told : (told : Option Files) (directory : List ℕ) (names : List (List ℕ)) (r : Result (List VisibleModule) PathStop)
+pub found_told : (release : ℕ) (told : Option Files) (directory : List ℕ) (names : List (List ℕ))
+    (r : Result (List VisibleModule) PathStop)
     → Shows told (λ files. names ≡ names_below directory files)
-    → Shows told (λ files. Comes ⊥ (folders_due files directory [] (folders_among names)) r)
-    → Shows told (λ files. Comes ⊥ (directory_due files directory) r)
-found_told told directory names r listed comes =
+    → Shows told (λ files. Comes ⊥ (folders_due release files directory [] (folders_among names)) r)
+    → Shows told (λ files. Comes ⊥ (directory_due release files directory) r)
+found_told release told directory names r listed comes =
     told_both told _ _ _
-    (λ files named h. subst (λ due. Comes ⊥ due r) (ap (λ ns. folders_due files directory [] (folders_among ns)) named
-    ∙ directory_law files directory) h)
+    (λ files named h. subst (λ due. Comes ⊥ due r) (ap (λ ns. folders_due release files directory [] (folders_among ns)) named
+    ∙ directory_law release files directory) h)
     listed comes
 
 pub with_none : (found : List VisibleModule) → with_unhidden found [] ≡ found
 with_none found = append-nil found
 
-pub path_ended : (told now : Option Files) (directories : List (List ℕ)) (i : ℕ) (directory given : List ℕ)
+pub path_ended : (release : ℕ) (told now : Option Files) (directories : List (List ℕ)) (i : ℕ) (directory given : List ℕ)
     (found : List VisibleModule) (e : PathStop) → now ≡ told → given ≡ directory → i < length directories → directory
     ≡ get_or directories i directory
-    → Shows told (λ files. directories_due files found (drop i directories) ≡ directories_due files [] directories)
-    → Shows now (λ files. Comes ⊥ (shown_more files found given) (Err e)) → Shows told (λ files. ShowsModules files directories (Err e))
-path_ended told now directories i directory given found e same read below is so_far comes =
-    path_shown told directories (Err e)
-    (told_both told _ _ _ (λ files left h. subst (λ due. Comes ⊥ due (Err e)) left (directories_ended files directories i directory
-    found e below is (subst (λ d. Comes ⊥ (shown_more files found d) (Err e)) read h))) so_far
-    (subst (λ t. Shows t (λ files. Comes ⊥ (shown_more files found given) (Err e))) same comes))
+    → Shows told (λ files. directories_due release files found (drop i directories) ≡ directories_due release files [] directories)
+    → Shows now (λ files. Comes ⊥ (shown_more release files found given) (Err e))
+    → Shows told (λ files. ShowsModules release files directories (Err e))
+path_ended release told now directories i directory given found e same read below is so_far comes =
+    path_shown release told directories (Err e)
+    (told_both told _ _ _
+    (λ files left h. subst (λ due. Comes ⊥ due (Err e)) left
+    (directories_ended release files directories i directory found e below is
+    (subst (λ d. Comes ⊥ (shown_more release files found d) (Err e)) read h))) so_far
+    (subst (λ t. Shows t (λ files. Comes ⊥ (shown_more release files found given) (Err e))) same comes))
 
-pub path_done : (told : Option Files) (directories : List (List ℕ)) (i : ℕ) (found : List VisibleModule) → length directories ≤ i
-    → Shows told (λ files. directories_due files found (drop i directories) ≡ directories_due files [] directories)
-    → Shows told (λ files. ShowsModules files directories (Ok found))
-path_done told directories i found all so_far =
-    path_shown told directories (Ok found)
-    (told_more told _ _ (λ files left. sym left ∙ at_drop_all (directories_due files found) directories i all) so_far)
+pub path_done : (release : ℕ) (told : Option Files) (directories : List (List ℕ)) (i : ℕ) (found : List VisibleModule)
+    → length directories ≤ i
+    → Shows told (λ files. directories_due release files found (drop i directories) ≡ directories_due release files [] directories)
+    → Shows told (λ files. ShowsModules release files directories (Ok found))
+path_done release told directories i found all so_far =
+    path_shown release told directories (Ok found)
+    (told_more told _ _ (λ files left. sym left ∙ at_drop_all (directories_due release files found) directories i all) so_far)
 
 pub nothing_left : {X : Type 0} (xs : List X) (n : ℕ) → n ≡ length xs → n ≡ 0 → xs ≡ []
 nothing_left [] n is none = refl

@@ -1,5 +1,5 @@
 -- The modules and the first refusal of module paths, evaluated on small told files.
-use Rattle.std.proofs.Common.{◌≡◌, ℕ, List, [], ◌∷◌, ◌++◌, map, Some, None, refl}
+use Rattle.std.proofs.Common.{◌≡◌, ℕ, List, [], ◌∷◌, ◌++◌, drop, map, take, Some, None, refl}
 use Rattle.std.specs.Prelude.{codes}
 use Rattle.jm_class.specs.declared.class.ClassFault.TheVariants as class
 use Rattle.jm_modinfo.specs.declared.faults.DescriptorFault.TheVariants as fault
@@ -44,24 +44,24 @@ folders = refl
 
 -- a module of an earlier directory hides one of its name in a later directory
 earlier_hides :
-    map shown (visible two_directories (codes "x" ∷ codes "y" ∷ [])) ≡ a_of_x ∷ b_of_y ∷ []
+    map shown (visible 21 two_directories (codes "x" ∷ codes "y" ∷ [])) ≡ a_of_x ∷ b_of_y ∷ []
 earlier_hides = refl
 
 other_order :
-    map shown (visible two_directories (codes "y" ∷ codes "x" ∷ [])) ≡ a_of_y ∷ b_of_y ∷ []
+    map shown (visible 21 two_directories (codes "y" ∷ codes "x" ∷ [])) ≡ a_of_y ∷ b_of_y ∷ []
 other_order = refl
 
 -- one directory twice shows its modules once
-same_directory : map shown (visible two_directories (codes "x" ∷ codes "x" ∷ [])) ≡ a_of_x ∷ []
+same_directory : map shown (visible 21 two_directories (codes "x" ∷ codes "x" ∷ [])) ≡ a_of_x ∷ []
 same_directory = refl
 
 -- each has the bytes that say its descriptor
 their_infos :
-    map (λ m. m.info) (visible two_directories (codes "x" ∷ codes "y" ∷ []))
+    map (λ m. m.info) (visible 21 two_directories (codes "x" ∷ codes "y" ∷ []))
     ≡ alone (codes "a") ∷ alone (codes "b") ∷ []
 their_infos = refl
 
-no_refusal : path_refusal two_directories (codes "x" ∷ codes "y" ∷ codes "x" ∷ []) ≡ None
+no_refusal : path_refusal 21 two_directories (codes "x" ∷ codes "y" ∷ codes "x" ∷ []) ≡ None
 no_refusal = refl
 
 -- x has one module twice and then a file that is no class; y has them the other way round
@@ -76,16 +76,33 @@ refused =
 
 -- the first folder that is refused decides
 two_first :
-    path_refusal refused (codes "x" ∷ []) ≡ Some (refusal.TwoModules (codes "x") (codes "a"))
+    path_refusal 21 refused (codes "x" ∷ []) ≡ Some (refusal.TwoModules (codes "x") (codes "a"))
 two_first = refl
 
 fault_first :
-    path_refusal refused (codes "y" ∷ [])
+    path_refusal 21 refused (codes "y" ∷ [])
     ≡ Some (refusal.BadInfo (codes "y/a/module-info.class") (fault.Class (class.Short 0)))
 fault_first = refl
 
 -- the first directory that is refused decides
 directory_first :
-    path_refusal refused (codes "y" ∷ codes "x" ∷ [])
-    ≡ path_refusal refused (codes "y" ∷ [])
+    path_refusal 21 refused (codes "y" ∷ codes "x" ∷ [])
+    ≡ path_refusal 21 refused (codes "y" ∷ [])
 directory_first = refl
+
+-- a module whose class is one of release 22
+abbrev newer : Files
+newer =
+    (codes "x/a/module-info.class", take 7 (alone (codes "a")) ++ 66 ∷ drop 8 (alone (codes "a")))
+    ∷ []
+
+newer_refused :
+    path_refusal 21 newer (codes "x" ∷ [])
+    ≡ Some (refusal.BadInfo (codes "x/a/module-info.class") (fault.Class (class.Version 66)))
+newer_refused = refl
+
+newer_shown : map name_of (visible 22 newer (codes "x" ∷ [])) ≡ codes "a" ∷ []
+newer_shown = refl
+
+newer_free : path_refusal 22 newer (codes "x" ∷ []) ≡ None
+newer_free = refl

@@ -1,5 +1,5 @@
 -- The steps that look for modules: what each comes to, from what its calls answered.
-use Rattle.std.proofs.Common.{◌≡◌, ℕ, ◌+◌, Bool, true, false, cond, ◌&&◌, not, List, [], ◌∷◌, ◌++◌}
+use Rattle.std.proofs.Common.{◌≡◌, ℕ, Bool, true, false, cond, ◌&&◌, not, List, [], ◌∷◌, ◌++◌}
 use Rattle.std.proofs.Common.{append_assoc, IsUtf8, Contains, Option, Some, None}
 use Rattle.std.proofs.Common.{unwrap_or, option_and_then, Result, Ok, Err, refl, sym, ap, ◌∙◌, subst}
 use Rattle.std.proofs.Common.{filter_map, inl, inr}
@@ -28,7 +28,7 @@ use Rattle.jm_modpath.specs.declared.visible.VisibleModule.{VisibleModule}
 use Rattle.jm_modpath.specs.Finding.{Comes, folder_due, folders_among, info_due}
 use Rattle.jm_modpath.specs.Finding.{names_within, refused_at, shown_due}
 use Rattle.jm_form.specs.ModuleFiles.{info_name}
-use Rattle.jm_modinfo.specs.Descriptions.{info_in}
+use Rattle.jm_modinfo.specs.Descriptions.{info_for}
 use Rattle.jm_modpath.specs.Modules.{bytes_at, folder_with_info, info_path, inside, is_named, module_with, name_of, unhidden}
 use Rattle.jm_form.proofs.RisingLaws.{from_rising}
 
@@ -77,16 +77,18 @@ told_both (Some files) P Q R more h k = more files h k
 
 -- The file of a folder
 
-pub read_told : (told : Option Files) (folder path bytes : List ℕ) (r : Result Described PathStop) → path ≡ info_path folder
-    → Shows told (λ files. Some bytes ≡ file files path) → Comes ⊥ (refused_at path bytes (info_in bytes)) r
-    → Shows told (λ files. Comes (file files (info_path folder) ≡ None) (info_due folder (bytes_at files (info_path folder))) r)
-read_told told folder path bytes r is read comes =
+pub read_told : (release : ℕ) (told : Option Files) (folder path bytes : List ℕ) (r : Result Described PathStop)
+    → path ≡ info_path folder → Shows told (λ files. Some bytes ≡ file files path)
+    → Comes ⊥ (refused_at path bytes (info_for release bytes)) r
+    → Shows told (λ files. Comes (file files (info_path folder) ≡ None)
+    (info_due release folder (bytes_at files (info_path folder))) r)
+read_told release told folder path bytes r is read comes =
     told_more told _ _
     (λ files found.
     let said = bytes_at files (info_path folder) in
     let there : bytes ≡ said = ap (λ o. unwrap_or o []) (found ∙ ap (file files) is) in
-    let due = ap (λ b. refused_at path b (info_in b)) there ∙ ap (λ p. refused_at p said (info_in said)) is in
-    comes_weaker (info_due folder said) r (λ (h : ⊥). absurd h) (subst (λ d. Comes ⊥ d r) due comes))
+    let due = ap (λ b. refused_at path b (info_for release b)) there ∙ ap (λ p. refused_at p said (info_for release said)) is in
+    comes_weaker (info_due release folder said) r (λ (h : ⊥). absurd h) (subst (λ d. Comes ⊥ d r) due comes))
     read
 
 -- a told shelf has the file of a folder with one
@@ -156,35 +158,37 @@ pub shown_new : (directory : List ℕ) (earlier : List VisibleModule) (folder : 
     → Comes ⊥ (shown_due directory earlier folder d paths) (Ok m)
 shown_new directory earlier folder d paths m new is = rw (new, is) refl
 
-pub folder_shown : (told : Option Files) (directory folder path : List ℕ) (names : List (List ℕ)) (earlier : List VisibleModule)
+pub folder_shown : (release : ℕ) (told : Option Files) (directory folder path : List ℕ) (names : List (List ℕ))
+    (earlier : List VisibleModule)
     (d : Described) (r : Result VisibleModule PathStop) → path ≡ inside directory folder
     → Shows told (λ files. names ≡ names_below directory files) → Shows told (λ files. Comes (file files (info_path path) ≡ None)
-    (info_due path (bytes_at files (info_path path))) (Ok d))
+    (info_due release path (bytes_at files (info_path path))) (Ok d))
     → Comes ⊥ (shown_due directory earlier path d (names_within folder names)) r
-    → Shows told (λ files. Comes ⊥ (folder_due files directory earlier folder) r)
-folder_shown told directory folder path names earlier d r is listed read shown =
+    → Shows told (λ files. Comes ⊥ (folder_due release files directory earlier folder) r)
+folder_shown release told directory folder path names earlier d r is listed read shown =
     told_both told _ _ _
     (λ files named info.
     let paths = ap (names_within folder) named ∙ sym (below_within files directory folder) in
-    comes_next (info_due (inside directory folder) (bytes_at files (info_path (inside directory folder)))) (λ e. shown_due directory
-    earlier (inside directory folder) e (names_below (inside directory folder) files)) d r
+    comes_next (info_due release (inside directory folder) (bytes_at files (info_path (inside directory folder))))
+    (λ e. shown_due directory earlier (inside directory folder) e (names_below (inside directory folder) files)) d r
     (rw is at info)
     (rw (is, paths) at shown))
     listed read
 
-pub folder_ended : (told : Option Files) (directory folder path : List ℕ) (names : List (List ℕ)) (earlier : List VisibleModule)
+pub folder_ended : (release : ℕ) (told : Option Files) (directory folder path : List ℕ) (names : List (List ℕ))
+    (earlier : List VisibleModule)
     (e : PathStop) → path ≡ inside directory folder → Contains (folders_among names) folder
     → Shows told (λ files. names ≡ names_below directory files) → Shows told (λ files. Comes (file files (info_path path) ≡ None)
-    (info_due path (bytes_at files (info_path path))) (Err e))
-    → Shows told (λ files. Comes ⊥ (folder_due files directory earlier folder) (Err e))
-folder_ended told directory folder path names earlier e is among listed read =
+    (info_due release path (bytes_at files (info_path path))) (Err e))
+    → Shows told (λ files. Comes ⊥ (folder_due release files directory earlier folder) (Err e))
+folder_ended release told directory folder path names earlier e is among listed read =
     told_both told _ _ _
     (λ files named info.
     let none : file files (info_path path) ≡ None → ⊥ = λ h. info_there files directory folder (rw named at among) (rw is at h) in
-    comes_ended (info_due (inside directory folder) (bytes_at files (info_path (inside directory folder)))) (λ d. shown_due directory
-    earlier (inside directory folder) d (names_below (inside directory folder) files)) e
-    (subst (λ p. Comes ⊥ (info_due p (bytes_at files (info_path p))) (Err e)) is (comes_weaker {A = Described}
-    (info_due path (bytes_at files (info_path path))) (Err e) none info)))
+    comes_ended (info_due release (inside directory folder) (bytes_at files (info_path (inside directory folder))))
+    (λ d. shown_due directory earlier (inside directory folder) d (names_below (inside directory folder) files)) e
+    (subst (λ p. Comes ⊥ (info_due release p (bytes_at files (info_path p))) (Err e)) is (comes_weaker {A = Described}
+    (info_due release path (bytes_at files (info_path path))) (Err e) none info)))
     listed read
 
 pub read_none : (told : Option Files) (folder path : List ℕ) → path ≡ info_path folder

@@ -10,7 +10,7 @@ use Rattle.jm_form.specs.Rising.{rising}
 use Rattle.jm_modinfo.specs.declared.descriptor.Descriptor.{Descriptor}
 use Rattle.jm_modinfo.specs.declared.faults.DescriptorFault.{DescriptorFault}
 use Rattle.jm_modinfo.specs.Constants.{is_legal}
-use Rattle.jm_modinfo.specs.Descriptions.{info_in}
+use Rattle.jm_modinfo.specs.Descriptions.{info_for, info_in}
 use Rattle.jm_outside.specs.declared.shelf.ShelfError.{ShelfError}
 use Rattle.jm_outside.specs.declared.shelf.ShelfError.TheVariants as outside
 use Rattle.jm_outside.specs.Files.{Files, after_front, names_below}
@@ -58,9 +58,9 @@ abbrev pub refused_at : List ℕ → List ℕ → Result Descriptor DescriptorFa
 refused_at path bytes (Err fault) = Err (refusal.BadInfo path fault)
 refused_at path bytes (Ok d) = Ok (record { descriptor = d; bytes = bytes })
 
--- what the file of a folder says by its bytes, or its refusal
-abbrev pub info_due : List ℕ → List ℕ → Result Described PathRefusal
-info_due folder bytes = refused_at (info_path folder) bytes (info_in bytes)
+-- what the file of a folder says by its bytes, as a class of a release, or its refusal
+abbrev pub info_due : ℕ → List ℕ → List ℕ → Result Described PathRefusal
+info_due release folder bytes = refused_at (info_path folder) bytes (info_for release bytes)
 
 -- the module of a folder of a directory with this descriptor and these files, where earlier folders
 -- showed some modules
@@ -72,60 +72,65 @@ shown_due directory earlier folder info paths =
     else Ok (module_with folder info.descriptor info.bytes paths)
 
 -- the module that a folder of a directory shows, where earlier folders showed some, or its refusal
-abbrev pub folder_due : Files → List ℕ → List VisibleModule → List ℕ
+abbrev pub folder_due : ℕ → Files → List ℕ → List VisibleModule → List ℕ
     → Result VisibleModule PathRefusal
-folder_due files directory earlier folder =
+folder_due release files directory earlier folder =
     followed
-    (info_due (inside directory folder) (bytes_at files (info_path (inside directory folder))))
+    (info_due release (inside directory folder)
+    (bytes_at files (info_path (inside directory folder))))
     (λ info. shown_due directory earlier (inside directory folder) info
     (names_below (inside directory folder) files))
 
 -- the earlier modules and that of the folder
-abbrev pub added_due : Files → List ℕ → List VisibleModule → List ℕ
+abbrev pub added_due : ℕ → Files → List ℕ → List VisibleModule → List ℕ
     → Result (List VisibleModule) PathRefusal
-added_due files directory earlier folder =
-    followed (folder_due files directory earlier folder) (λ m. Ok (earlier ++ m ∷ []))
+added_due release files directory earlier folder =
+    followed (folder_due release files directory earlier folder) (λ m. Ok (earlier ++ m ∷ []))
 
 -- the modules of a directory, once earlier folders showed some and these are left
-abbrev pub folders_due : Files → List ℕ → List VisibleModule → List (List ℕ)
+abbrev pub folders_due : ℕ → Files → List ℕ → List VisibleModule → List (List ℕ)
     → Result (List VisibleModule) PathRefusal
-folders_due files directory earlier [] = Ok earlier
-folders_due files directory earlier (folder ∷ folders) =
-    followed (added_due files directory earlier folder)
-    (λ ms. folders_due files directory ms folders)
+folders_due release files directory earlier [] = Ok earlier
+folders_due release files directory earlier (folder ∷ folders) =
+    followed (added_due release files directory earlier folder)
+    (λ ms. folders_due release files directory ms folders)
 
 -- Directories
 
 -- the modules of a directory, or its first refusal
-abbrev pub directory_due : Files → List ℕ → Result (List VisibleModule) PathRefusal
-directory_due files directory =
-    unless_fault (first_fault (directory_checks files directory)) (modules_in files directory)
+abbrev pub directory_due : ℕ → Files → List ℕ → Result (List VisibleModule) PathRefusal
+directory_due release files directory =
+    unless_fault (first_fault (directory_checks release files directory))
+    (modules_in release files directory)
 
 -- the modules found, with those of them that no earlier one hides
 abbrev pub with_unhidden : List VisibleModule → List VisibleModule → List VisibleModule
 with_unhidden found ms = found ++ unhidden found ms
 
 -- the modules found, and those of a directory that they don't hide
-abbrev pub shown_more : Files → List VisibleModule → List ℕ
+abbrev pub shown_more : ℕ → Files → List VisibleModule → List ℕ
     → Result (List VisibleModule) PathRefusal
-shown_more files found directory =
-    followed (directory_due files directory) (λ ms. Ok (with_unhidden found ms))
+shown_more release files found directory =
+    followed (directory_due release files directory) (λ ms. Ok (with_unhidden found ms))
 
 -- the modules of a path, once earlier directories showed some and these are left
-abbrev pub directories_due : Files → List VisibleModule → List (List ℕ)
+abbrev pub directories_due : ℕ → Files → List VisibleModule → List (List ℕ)
     → Result (List VisibleModule) PathRefusal
-directories_due files found [] = Ok found
-directories_due files found (directory ∷ directories) =
-    followed (shown_more files found directory) (λ ms. directories_due files ms directories)
+directories_due release files found [] = Ok found
+directories_due release files found (directory ∷ directories) =
+    followed (shown_more release files found directory)
+    (λ ms. directories_due release files ms directories)
 
 -- the rule: the modules that a path shows, or its first refusal; a told shelf has what it lists
-abbrev pub ShowsModules : Files → List (List ℕ) → Result (List VisibleModule) PathStop → Type 0
-ShowsModules files directories (Ok found) =
-    (path_refusal files directories ≡ None) × (found ≡ visible files directories)
-ShowsModules files directories (Err (stop.Refused r)) = path_refusal files directories ≡ Some r
-ShowsModules files directories (Err (stop.NotThere path)) = ⊥
-ShowsModules files directories (Err stop.Outside) = Unit {0}
-ShowsModules files directories (Err stop.Memory) = Unit {0}
+abbrev pub ShowsModules : ℕ → Files → List (List ℕ) → Result (List VisibleModule) PathStop
+    → Type 0
+ShowsModules release files directories (Ok found) =
+    (path_refusal release files directories ≡ None) × (found ≡ visible release files directories)
+ShowsModules release files directories (Err (stop.Refused r)) =
+    path_refusal release files directories ≡ Some r
+ShowsModules release files directories (Err (stop.NotThere path)) = ⊥
+ShowsModules release files directories (Err stop.Outside) = Unit {0}
+ShowsModules release files directories (Err stop.Memory) = Unit {0}
 
 -- Modules found
 

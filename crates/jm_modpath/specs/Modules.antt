@@ -1,6 +1,7 @@
 -- The modules that a module path shows: folders of its directories that hold a `module-info.class`
 -- (JEP 261, exploded modules; that a folder stands directly in a directory, and which module hides
--- another, is this project's rule).
+-- another, is this project's rule). The number in front is the release of Java SE whose classes are
+-- taken.
 use Rattle.std.specs.Prelude.{ℕ, ◌&&◌, not, Bool, List, [], ◌∷◌, ◌++◌, length, map, take}
 use Rattle.std.specs.Prelude.{Option, Some, None, unwrap_or, Result, Ok, Err, slice_index_or}
 use Rattle.std.specs.Prelude.{if◌then◌else◌}
@@ -14,7 +15,7 @@ use Rattle.jm_form.specs.Rising.{rising}
 use Rattle.jm_form.specs.Trees.{class_packages}
 use Rattle.jm_modinfo.specs.declared.descriptor.Descriptor.{Descriptor}
 use Rattle.jm_modinfo.specs.declared.faults.DescriptorFault.{DescriptorFault}
-use Rattle.jm_modinfo.specs.Descriptions.{info_in}
+use Rattle.jm_modinfo.specs.Descriptions.{info_for}
 use Rattle.jm_names.specs.Names.{is_empty, is_slash}
 use Rattle.jm_names.specs.UtfForms.{modified}
 use Rattle.jm_outside.specs.Files.{Files, file, names_below}
@@ -53,9 +54,9 @@ folders_in files directory = rising (filter_map folder_with_info (names_below di
 
 -- What a folder shows
 
--- what the `module-info.class` of a folder says, or its first fault
-abbrev pub folder_info : Files → List ℕ → Result Descriptor DescriptorFault
-folder_info files folder = info_in (bytes_at files (info_path folder))
+-- what the `module-info.class` of a folder says as a class of a release, or its first fault
+abbrev pub folder_info : ℕ → Files → List ℕ → Result Descriptor DescriptorFault
+folder_info release files folder = info_for release (bytes_at files (info_path folder))
 
 -- the name of the resource that a file of a module is: `/`, the module, `/`, and the path in
 -- Modified UTF-8
@@ -82,17 +83,18 @@ module_of files folder (Ok d) =
     Some (module_with folder d (bytes_at files (info_path folder)) (names_below folder files))
 
 -- the module that a folder shows, if its file says one
-abbrev pub module_in : Files → List ℕ → Option VisibleModule
-module_in files folder = module_of files folder (folder_info files folder)
+abbrev pub module_in : ℕ → Files → List ℕ → Option VisibleModule
+module_in release files folder = module_of files folder (folder_info release files folder)
 
 -- the name of a module
 abbrev pub name_of : VisibleModule → List ℕ
 name_of m = m.candidate.descriptor.name
 
 -- the modules of the folders of a directory, as far as their files say one
-abbrev pub modules_in : Files → List ℕ → List VisibleModule
-modules_in files directory =
-    filter_map (λ folder. module_in files (inside directory folder)) (folders_in files directory)
+abbrev pub modules_in : ℕ → Files → List ℕ → List VisibleModule
+modules_in release files directory =
+    filter_map (λ folder. module_in release files (inside directory folder))
+    (folders_in files directory)
 
 -- Refusals
 
@@ -110,23 +112,26 @@ folder_checks directory earlier folder (Ok d) =
     fault_if (is_named earlier d.name) (refusal.TwoModules directory d.name) ∷ []
 
 -- the same of the folder at a place of those of a directory
-abbrev pub checks_at : Files → List ℕ → ℕ → List (Option PathRefusal)
-checks_at files directory place =
+abbrev pub checks_at : ℕ → Files → List ℕ → ℕ → List (Option PathRefusal)
+checks_at release files directory place =
     folder_checks directory
-    (filter_map (λ folder. module_in files (inside directory folder))
+    (filter_map (λ folder. module_in release files (inside directory folder))
     (take place (folders_in files directory)))
     (inside directory (slice_index_or (folders_in files directory) place []))
-    (folder_info files (inside directory (slice_index_or (folders_in files directory) place [])))
+    (folder_info release files
+    (inside directory (slice_index_or (folders_in files directory) place [])))
 
 -- the same of all folders of a directory, in their order
-abbrev pub directory_checks : Files → List ℕ → List (Option PathRefusal)
-directory_checks files directory =
-    flat_map (checks_at files directory) (range_with_len 0 (length (folders_in files directory)))
+abbrev pub directory_checks : ℕ → Files → List ℕ → List (Option PathRefusal)
+directory_checks release files directory =
+    flat_map (checks_at release files directory)
+    (range_with_len 0 (length (folders_in files directory)))
 
 -- the first refusal of a module path, directory by directory and folder by folder: no module, or a
 -- name twice in a directory
-abbrev pub path_refusal : Files → List (List ℕ) → Option PathRefusal
-path_refusal files directories = first_fault (flat_map (directory_checks files) directories)
+abbrev pub path_refusal : ℕ → Files → List (List ℕ) → Option PathRefusal
+path_refusal release files directories =
+    first_fault (flat_map (directory_checks release files) directories)
 
 -- Hiding
 
@@ -139,8 +144,8 @@ unhidden earlier (m ∷ ms) =
 
 -- the modules of a module path without a refusal: one of an earlier directory hides those of its
 -- name in later ones
-abbrev pub visible : Files → List (List ℕ) → List VisibleModule
-visible files directories = unhidden [] (flat_map (modules_in files) directories)
+abbrev pub visible : ℕ → Files → List (List ℕ) → List VisibleModule
+visible release files directories = unhidden [] (flat_map (modules_in release files) directories)
 
 -- the modules as a closure takes them: by their descriptors and class packages
 abbrev pub candidates : List VisibleModule → List Candidate

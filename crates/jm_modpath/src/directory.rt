@@ -2,7 +2,7 @@
 ghost use Rattle.std.specs.Prelude.{◌≡◌, ◌≢◌, [], All, Contains, IsUtf8, IfOk, IsOk, IsErrOf};
 ghost use Rattle.std.specs.Prelude.{None, Ok, Err, true, false};
 ghost use Rattle.jm_modinfo.specs.Constants.{is_legal};
-ghost use Rattle.jm_modinfo.specs.Descriptions.{info_in};
+ghost use Rattle.jm_modinfo.specs.Descriptions.{info_for, info_in};
 ghost use Rattle.jm_outside.specs.Files.{Rising, file, names_below};
 ghost use Rattle.jm_outside.specs.Outcome.{CountsFaults, Shows};
 ghost use Rattle.jm_modpath.specs.Finding.{Comes, HasTexts, directory_due, folder_due};
@@ -30,27 +30,32 @@ struct Described {
     bytes: Text,
 }
 
-/// The descriptor of the bytes of the file at a path.
-fn info_at(alloc: Global, path: Text, bytes: Text) -> Result<Described, PathStop>
-    ensures due { Comes ⊥ (refused_at path bytes (info_in bytes)) result }
+/// The descriptor of the bytes of the file at a path, as a class of this release of Java SE.
+fn info_at(alloc: Global, release: u32, path: Text, bytes: Text) -> Result<Described, PathStop>
+    ensures due { Comes ⊥ (refused_at path bytes (info_for release bytes)) result }
     ensures legal { IfOk result (λ info. is_legal info.descriptor.name ≡ true) }
     ensures said { IfOk result (λ info. info_in info.bytes ≡ Ok info.descriptor) }
     ensures inside { ¬ IsErrOf result PathStop.Outside }
 {
-    match describe_bytes(alloc, bytes.as_slice()) {
+    match describe_bytes(alloc, release, bytes.as_slice()) {
         Ok(descriptor) => Ok(Described { descriptor, bytes }),
         Err(Or::Fault(fault)) => Err(PathStop::Refused(PathRefusal::BadInfo { path, fault })),
         Err(Or::Memory) => Err(PathStop::Memory),
     }
 }
 
-/// The descriptor that the file of a folder says.
-fn read_info<S: Shelf>(alloc: Global, folder: &[u8], shelf: &mut S) -> Result<Described, PathStop>
+/// The descriptor that the file of a folder says, as a class of this release of Java SE.
+fn read_info<S: Shelf>(
+    alloc: Global,
+    release: u32,
+    folder: &[u8],
+    shelf: &mut S,
+) -> Result<Described, PathStop>
     requires { IsUtf8 folder.now }
     ensures files { S.files shelf.new ≡ S.files shelf.old }
     ensures told { Shows (S.files shelf.old) (λ files.
         Comes (file files (info_path folder.now) ≡ None)
-        (info_due folder.now (bytes_at files (info_path folder.now))) result) }
+        (info_due release folder.now (bytes_at files (info_path folder.now))) result) }
     ensures legal { IfOk result (λ info. is_legal info.descriptor.name ≡ true) }
     ensures said { IfOk result (λ info. info_in info.bytes ≡ Ok info.descriptor) }
     ensures faults { CountsFaults (S.faults shelf.old) (S.faults shelf.new) (IsOk result)
@@ -58,7 +63,7 @@ fn read_info<S: Shelf>(alloc: Global, folder: &[u8], shelf: &mut S) -> Result<De
 {
     let path = inside(alloc, folder, b"module-info.class")?;
     match shelf.read(alloc, path.as_slice()) {
-        Ok(Some(bytes)) => info_at(alloc, path, bytes),
+        Ok(Some(bytes)) => info_at(alloc, release, path, bytes),
         Ok(None) => Err(PathStop::NotThere(path)),
         Err(error) => Err(PathStop::from(error)),
     }
@@ -101,9 +106,10 @@ fn two_modules(alloc: Global, directory: &[u8], second: Descriptor) -> PathStop
     }
 }
 
-/// A directory, and the names of the files below it.
+/// A directory, the names of the files below it, and the release of Java SE of its classes.
 #[derive(Clone, Copy)]
 struct Listing<'a> {
+    release: u32,
     directory: &'a [u8],
     names: &'a [Text],
 }
@@ -124,14 +130,15 @@ fn visible_module<S: Shelf>(
         listing.names.now ≡ names_below listing.directory.now files) }
     ensures files { S.files shelf.new ≡ S.files shelf.old }
     ensures told { Shows (S.files shelf.old) (λ files.
-        Comes ⊥ (folder_due files listing.entry.directory.now earlier.now folder.now) result) }
+        Comes ⊥ (folder_due listing.entry.release files listing.entry.directory.now earlier.now
+        folder.now) result) }
     ensures new { IfOk result (λ m. is_named earlier.now (name_of m) ≡ false) }
     ensures texts { IfOk result HasTexts }
     ensures faults { CountsFaults (S.faults shelf.old) (S.faults shelf.new) (IsOk result)
         (IsErrOf result PathStop.Outside) }
 {
     let path = inside(alloc, listing.directory, folder)?;
-    let info = read_info(alloc, path.as_slice(), shelf)?;
+    let info = read_info(alloc, listing.release, path.as_slice(), shelf)?;
     if earlier.has(info.descriptor.name.as_slice()) {
         return Err(two_modules(alloc, listing.directory, info.descriptor));
     }
@@ -152,7 +159,7 @@ fn found_among<S: Shelf>(
         listing.names.now ≡ names_below listing.directory.now files) }
     ensures files { S.files shelf.new ≡ S.files shelf.old }
     ensures told { Shows (S.files shelf.old) (λ files.
-        Comes ⊥ (folders_due files listing.entry.directory.now []
+        Comes ⊥ (folders_due listing.entry.release files listing.entry.directory.now []
         (folders_among listing.entry.names.now)) result) }
     ensures faults { CountsFaults (S.faults shelf.old) (S.faults shelf.new) (IsOk result)
         (IsErrOf result PathStop.Outside) }
@@ -166,21 +173,23 @@ fn found_among<S: Shelf>(
     Ok(found)
 }
 
-/// The modules of a directory.
+/// The modules of a directory, by classes of this release of Java SE.
 pub fn found_in<S: Shelf>(
     alloc: Global,
+    release: u32,
     directory: &[u8],
     shelf: &mut S,
 ) -> Result<FoundModules, PathStop>
     requires { IsUtf8 directory.now }
     ensures files { S.files shelf.new ≡ S.files shelf.old }
     ensures told { Shows (S.files shelf.old) (λ files.
-        Comes ⊥ (directory_due files directory.now) result) }
+        Comes ⊥ (directory_due release files directory.now) result) }
     ensures faults { CountsFaults (S.faults shelf.old) (S.faults shelf.new) (IsOk result)
         (IsErrOf result PathStop.Outside) }
 {
     let names = shelf.names(alloc, directory)?;
     let listing = Listing {
+        release,
         directory,
         names: names.as_slice(),
     };

@@ -47,9 +47,11 @@ fn with_unhidden(
     Ok(all)
 }
 
-/// The modules of earlier directories, with those of one more that they don't hide.
+/// The modules of earlier directories, with those of one more that they don't hide, by classes of
+/// this release of Java SE.
 fn with_directory<S: Shelf>(
     alloc: Global,
+    release: u32,
     found: FoundModules,
     directory: &[u8],
     shelf: &mut S,
@@ -57,33 +59,35 @@ fn with_directory<S: Shelf>(
     requires { IsUtf8 directory.now }
     ensures files { S.files shelf.new ≡ S.files shelf.old }
     ensures told { Shows (S.files shelf.old) (λ files.
-        Comes ⊥ (shown_more files found directory.now) result) }
+        Comes ⊥ (shown_more release files found directory.now) result) }
     ensures faults { CountsFaults (S.faults shelf.old) (S.faults shelf.new) (IsOk result)
         (IsErrOf result PathStop.Outside) }
 {
-    let modules = found_in(alloc, directory, shelf)?.into_list();
+    let modules = found_in(alloc, release, directory, shelf)?.into_list();
     Ok(with_unhidden(alloc, found, modules)?)
 }
 
 /// The modules that the directories of a module path show: the folders of each that directly hold
-/// a `module-info.class`, rising. A module of an earlier directory hides one of its name in a later
-/// directory. Time n log n in the files.
+/// a `module-info.class`, rising. These files are read as classes of this release of Java SE. A
+/// module of an earlier directory hides one of its name in a later directory. Time n log n in the
+/// files.
 pub fn visible_modules<S: Shelf>(
     alloc: Global,
+    release: u32,
     directories: &[Text],
     shelf: &mut S,
 ) -> Result<VisibleModules, PathStop>
     requires { All IsUtf8 directories.now }
     ensures files { S.files shelf.new ≡ S.files shelf.old }
     ensures modules { Shows (S.files shelf.old) (λ files.
-        ShowsModules files directories.now result) }
+        ShowsModules release files directories.now result) }
     ensures are { IfOk result AreVisible }
     ensures faults { CountsFaults (S.faults shelf.old) (S.faults shelf.new) (IsOk result)
         (IsErrOf result PathStop.Outside) }
 {
     let mut found = FoundModules::new(alloc);
     for directory in directories {
-        found = with_directory(alloc, found, directory.as_slice(), shelf)?;
+        found = with_directory(alloc, release, found, directory.as_slice(), shelf)?;
     }
     Ok(VisibleModules::of(alloc, found.into_list())?)
 }

@@ -127,6 +127,10 @@ packaged_cases P packages c takes stays = go (takes_packages packages c) refl
 pub packaged-class : (packages : List (List ℕ)) (c : ClassData) → IsClass c → IsClass (packaged packages c)
 packaged-class packages c is = packaged_cases IsClass packages c (λ takes. with-class packages c takes is) (λ stays. is)
 
+-- of the same version
+pub packaged-major : (packages : List (List ℕ)) (c : ClassData) → (packaged packages c).major ≡ c.major
+packaged-major packages c = packaged_cases (λ k. k.major ≡ c.major) packages c (λ takes. refl) (λ stays. refl)
+
 -- Once
 
 pub listed : (packages : List (List ℕ)) (c : ClassData) → has_packages (with_packages packages c) ≡ true

@@ -1,51 +1,83 @@
 -- What the call's answer says of the class that its bytes read as.
-use Rattle.std.proofs.Common.{◌≡◌, ◌↔◌, ℕ, List, true, Some, Ok, sym, ap, subst, ◌∙◌}
+use Rattle.std.proofs.Common.{◌≡◌, ◌↔◌, ◌≤◌, ℕ, List, true, Result, Ok, Err, IsErrAnd, sym, ap, subst, ◌∙◌, arith}
+use Rattle.jm_bytes.specs.declared.faults.Or.{Or}
+use Rattle.jm_bytes.specs.declared.faults.Or.TheVariants.{Fault}
 use Rattle.jm_class.specs.declared.class.ClassFault.{ClassFault}
 use Rattle.jm_class.specs.Classes.{ClassData, class_text, ReadsAs}
-use Rattle.jm_class.specs.ComputedClass.{class_fault}
-use Rattle.jm_class.proofs.ComputedClassLaws.{reads-no_fault, reads_once}
+use Rattle.jm_class.specs.ComputedClass.{fault_of}
+use Rattle.jm_class.specs.Releases.{IsReadFor, ReadsFor, newest_major}
+use Rattle.jm_class.proofs.ComputedClassLaws.{reads_once}
+use Rattle.jm_class.proofs.ReleaseLaws.{reads-class_for}
 use Rattle.jm_modinfo.specs.declared.descriptor.Descriptor.{Descriptor}
 use Rattle.jm_modinfo.specs.ComputedInfo.{info_of}
-use Rattle.jm_packages.specs.Packages.{packaged, packages_text, takes_none, PackagesTo, Stays}
-use Rattle.jm_packages.proofs.PackagedLaws.{none_stays, packaged-class, packaged-info, packaged_once}
+use Rattle.jm_packages.specs.Packages.{packaged, packages_text, takes_none, PackagesFor, Stays}
+use Rattle.jm_packages.proofs.PackagedLaws.{none_stays, packaged-class, packaged-info, packaged-major, packaged_once}
 
-module _ (packages : List (List ℕ)) (bytes text : List ℕ) (class : ClassData) (reads : ReadsAs bytes class) (is : text
-    ≡ packages_text packages class) where
-  pub packages_to : PackagesTo packages bytes text
-  packages_to = record { class = class; reads = reads; is = is }
+module _ (release : ℕ) (packages : List (List ℕ)) (bytes text : List ℕ) (class : ClassData) (of_release : ReadsFor release bytes class)
+    (is : text ≡ packages_text packages class) where
+  abbrev reads : ReadsAs bytes class
+  reads = of_release.reads
 
-  pub packages_only : (c : ClassData) → ReadsAs bytes c → text ≡ packages_text packages c
+  packages_only : (c : ClassData) → ReadsAs bytes c → text ≡ packages_text packages c
   packages_only c other = is ∙ ap (packages_text packages) (reads_once bytes class c reads other)
 
-  pub packages_read : (c : ClassData) → ReadsAs bytes c → ReadsAs text (packaged packages c)
+  packages_read : (c : ClassData) → ReadsAs bytes c → ReadsAs text (packaged packages c)
   packages_read c other = record { well_formed = packaged-class packages c other.well_formed; text = sym (packages_only c other) }
 
   made_is : (c made : ClassData) → ReadsAs bytes c → ReadsAs text made → packaged packages c ≡ made
   made_is c made other back = reads_once text (packaged packages c) made (packages_read c other) back
 
-  pub packages_say : (c made : ClassData) (d : Descriptor) → ReadsAs bytes c → ReadsAs text made → info_of c ≡ Ok d → info_of made ≡ Ok d
+  packages_major : (c : ClassData) → ReadsAs bytes c → (packaged packages c).major ≤ newest_major release
+  packages_major c other =
+      let major = packaged-major packages c ∙ ap (λ (d : ClassData). d.major) (reads_once bytes c class other reads) in
+      omega (arith, major, of_release.major)
+
+  packages_say : (c made : ClassData) (d : Descriptor) → ReadsAs bytes c → ReadsAs text made → info_of c ≡ Ok d → info_of made ≡ Ok d
   packages_say c made d other back says = subst (λ k. info_of k ≡ Ok d) (made_is c made other back) (packaged-info packages c d
       other.well_formed says)
 
-  pub packages_again : (made : ClassData) → ReadsAs text made → packages_text packages made ≡ text
+  packages_again : (made : ClassData) → ReadsAs text made → packages_text packages made ≡ text
   packages_again made back =
       ap (packages_text packages) (sym (made_is class made reads back))
       ∙ ap class_text (packaged_once packages class) ∙ sym is
 
+  pub packages_for : PackagesFor release packages bytes (Ok text)
+  packages_for = record {
+    text = record { class = class; reads = of_release; is = is };
+    only = packages_only;
+    reads = λ c other. record { reads = packages_read c other; major = packages_major c other };
+    info = packages_say;
+    again = packages_again;
+    no_fault = ap fault_of (reads-class_for release bytes class of_release);
+    fault = λ fault e. cc;
+  }
+
+-- Bytes that are no class, or where memory is wanted
+
+pub packages_not : (release : ℕ) (packages : List (List ℕ)) (bytes : List ℕ) (error : Or ClassFault)
+    (result : Result (List ℕ) (Or ClassFault)) → IsReadFor release bytes (Err error) → IsErrAnd result (λ is. is ≡ error)
+    → PackagesFor release packages bytes result
+packages_not release packages bytes error (Ok text) read is = absurd is
+packages_not release packages bytes error (Err found) read is = record {
+  text = tt;
+  only = tt;
+  reads = tt;
+  info = tt;
+  again = tt;
+  no_fault = tt;
+  fault = λ fault e. let same : error ≡ Fault fault = cc in read.fault fault (ap (λ x. Err x) same);
+}
+
 -- Bytes that stay
 
-pub class_stays : (bytes : List ℕ) (class : ClassData) → ReadsAs bytes class → (takes_none class ≡ true) ↔ Stays bytes
-class_stays bytes class reads = (
+pub class_stays : (release : ℕ) (bytes : List ℕ) (class : ClassData) → ReadsFor release bytes class
+    → (takes_none class ≡ true) ↔ Stays release bytes
+class_stays release bytes class reads = (
   λ none. record { class = class; reads = reads; none = none },
-  λ stays. ap takes_none (reads_once bytes class stays.class reads
-      stays.reads) ∙ stays.none,
+  λ stays. ap takes_none (reads_once bytes class stays.class reads.reads stays.reads.reads) ∙ stays.none,
 )
 
-pub fault_stays : (bytes : List ℕ) (fault : ClassFault) → class_fault bytes ≡ Some fault → Stays bytes → ⊥
-fault_stays bytes fault found stays =
-    let none = reads-no_fault bytes stays.class stays.reads in
-    cc
-
 -- what they stay with these packages
-pub stays_text : (packages : List (List ℕ)) (bytes : List ℕ) (stays : Stays bytes) → packages_text packages stays.class ≡ bytes
-stays_text packages bytes stays = ap class_text (none_stays packages stays.class stays.none) ∙ stays.reads.text
+pub stays_text : (release : ℕ) (packages : List (List ℕ)) (bytes : List ℕ) (stays : Stays release bytes)
+    → packages_text packages stays.class ≡ bytes
+stays_text release packages bytes stays = ap class_text (none_stays packages stays.class stays.none) ∙ stays.reads.reads.text

@@ -3,10 +3,17 @@
 -- the Utf8 of its name). Where the constants stand that it needs, and which classes stay as they
 -- are, is this project's rule.
 use Rattle.std.specs.Prelude.{◌≡◌, ℕ, ◌+◌, ◌*◌, nat_le, nat_lt, Bool, true, not, ◌&&◌, ◌||◌}
-use Rattle.std.specs.Prelude.{List, [], ◌∷◌, ◌++◌, length, codes, if◌then◌else◌}
+use Rattle.std.specs.Prelude.{List, [], ◌∷◌, ◌++◌, length, codes, if◌then◌else◌, Some, None}
+use Rattle.std.specs.Prelude.{Result, Ok, Err, IfOk, OnOk}
 use Rattle.std.specs.List.{list_all, list_any}
+use Rattle.jm_bytes.specs.declared.faults.Or.{Or}
+use Rattle.jm_bytes.specs.declared.faults.Or.TheVariants.{Fault}
+use Rattle.jm_class.specs.declared.class.ClassFault.{ClassFault}
 use Rattle.jm_class.specs.Classes.{SlotData, Constant, Opaque, AttributeData, ClassData, u2}
 use Rattle.jm_class.specs.Classes.{utf8_at, class_text, ReadsAs}
+use Rattle.jm_class.specs.Releases.{ReadsFor, fault_for}
+use Rattle.jm_modinfo.specs.declared.descriptor.Descriptor.{Descriptor}
+use Rattle.jm_modinfo.specs.ComputedInfo.{info_of}
 use Rattle.jm_modinfo.specs.Descriptors.{is_named}
 use Rattle.jm_modinfo.specs.Flags.{is_module}
 use Rattle.jm_modinfo.specs.Written.{utf8, numbers_text}
@@ -74,14 +81,36 @@ packaged packages c = if takes_packages packages c then with_packages packages c
 abbrev pub packages_text : List (List ℕ) → ClassData → List ℕ
 packages_text packages c = class_text (packaged packages c)
 
--- the text is that of the class that the bytes read as, with these packages
-pub record PackagesTo (packages : List (List ℕ)) (bytes text : List ℕ) : Type 0 where
+-- Classes of a release
+
+-- the text is that of the class of a release that the bytes read as, with these packages
+pub record PackagesTo (release : ℕ) (packages : List (List ℕ)) (bytes text : List ℕ)
+    : Type 0 where
   pub class : ClassData
-  pub reads : ReadsAs bytes class
+  pub reads : ReadsFor release bytes class
   pub is : text ≡ packages_text packages class
 
--- the bytes read as a class that takes no list, whatever the packages are, so that it stays
-pub record Stays (bytes : List ℕ) : Type 0 where
+-- what listing packages in the class of a release gives: the text of the one class with them, which
+-- reads as a class of that release, says what it said, and stays when they are listed again; or the
+-- first fault
+pub record PackagesFor (release : ℕ) (packages : List (List ℕ)) (bytes : List ℕ)
+    (result : Result (List ℕ) (Or ClassFault)) : Type 0 where
+  pub text : IfOk result (λ text. PackagesTo release packages bytes text)
+  pub only : IfOk result (λ text. (c : ClassData) → ReadsAs bytes c
+      → text ≡ packages_text packages c)
+  pub reads : IfOk result (λ text. (c : ClassData) → ReadsAs bytes c
+      → ReadsFor release text (packaged packages c))
+  pub info : IfOk result (λ text. (c made : ClassData) (d : Descriptor) → ReadsAs bytes c
+      → ReadsAs text made → info_of c ≡ Ok d → info_of made ≡ Ok d)
+  pub again : IfOk result (λ text. (made : ClassData) → ReadsAs text made
+      → packages_text packages made ≡ text)
+  pub no_fault : OnOk result (fault_for release bytes ≡ None)
+  pub fault : (fault : ClassFault) → result ≡ Err (Fault fault)
+      → fault_for release bytes ≡ Some fault
+
+-- the bytes read as a class of a release that takes no list, whatever the packages are, so that it
+-- stays
+pub record Stays (release : ℕ) (bytes : List ℕ) : Type 0 where
   pub class : ClassData
-  pub reads : ReadsAs bytes class
+  pub reads : ReadsFor release bytes class
   pub none : takes_none class ≡ true

@@ -1,19 +1,14 @@
-ghost use Rattle.std.specs.Prelude.{◌≡◌, ◌↔◌, ◌<◌, ◌+◌, true, length, None, Some, Ok, Err};
-ghost use Rattle.std.specs.Prelude.{IfOk, OnOk};
-ghost use Rattle.jm_bytes.specs.declared.faults.Or.TheVariants.{Fault};
-ghost use Rattle.jm_class.specs.Classes.{ClassData, ReadsAs, IsClass};
-ghost use Rattle.jm_class.specs.ComputedClass.{class_fault};
+ghost use Rattle.std.specs.Prelude.{◌≡◌, ◌↔◌, ◌<◌, ◌+◌, true, length, IfOk};
+ghost use Rattle.jm_class.specs.Classes.{ReadsAs, IsClass};
 ghost use Rattle.jm_class.specs.Views.{plain};
-ghost use Rattle.jm_modinfo.specs.declared.descriptor.Descriptor.{Descriptor};
-ghost use Rattle.jm_modinfo.specs.ComputedInfo.{info_of};
 ghost use Rattle.jm_modinfo.specs.Written.{numbers_text};
 ghost use Rattle.jm_packages.specs.Packages.{packages_body, with_packages, takes_packages};
-ghost use Rattle.jm_packages.specs.Packages.{packaged, packages_text, PackagesTo, Stays};
+ghost use Rattle.jm_packages.specs.Packages.{packages_text, PackagesFor, Stays};
 
 use crate::constants::{packages_body, push_packages, put_numbers};
 use crate::room::{takes_none, takes_packages};
 use jm_bytes::{NoMemory, Or, Text};
-use jm_class::{Attribute, Body, Class, ClassFault, Slot, read};
+use jm_class::{Attribute, Body, Class, ClassFault, DEFAULT_RELEASE, Slot, read_for};
 use jm_classout::write;
 use std::alloc::Global;
 
@@ -70,33 +65,35 @@ fn text_of(alloc: Global, bytes: &[u8], class: Class, packages: &[Text]) -> Resu
     }
 }
 
-/// The class of a module with the attribute ModulePackages, which lists these packages, as the last
-/// of its own (JVMS 4.7.26). A class that is no module's, that has such an attribute, or that has
-/// no room for it, stays as it is. A fault is the one that `read` finds.
-pub fn add_packages(alloc: Global, bytes: &[u8], packages: &[Text]) -> Result<Text, Or<ClassFault>>
-    ensures text { IfOk result (λ text. PackagesTo packages.now bytes.now text) }
-    ensures only { IfOk result (λ text. (c : ClassData) → ReadsAs bytes.now c
-        → text ≡ packages_text packages.now c) }
-    ensures reads { IfOk result (λ text. (c : ClassData) → ReadsAs bytes.now c
-        → ReadsAs text (packaged packages.now c)) }
-    ensures info { IfOk result (λ text. (c made : ClassData) (d : Descriptor) → ReadsAs bytes.now c
-        → ReadsAs text made → info_of c ≡ Ok d → info_of made ≡ Ok d) }
-    ensures again { IfOk result (λ text. (made : ClassData) → ReadsAs text made
-        → packages_text packages.now made ≡ text) }
-    ensures no_fault { OnOk result (class_fault bytes.now ≡ None) }
-    ensures fault { (fault : _) → result ≡ Err (Fault fault) → class_fault bytes.now ≡ Some fault }
+/// The class of a module, of a release, with the attribute ModulePackages, which lists these
+/// packages, as the last of its own (JVMS 4.7.26). A class that is no module's, that has such an
+/// attribute, or that has no room for it, stays as it is. A fault is the one that `read_for` finds.
+pub fn add_packages_for(
+    alloc: Global,
+    release: u32,
+    bytes: &[u8],
+    packages: &[Text],
+) -> Result<Text, Or<ClassFault>>
+    ensures { PackagesFor release packages.now bytes.now result }
 {
-    let class = read(alloc, bytes)?;
+    let class = read_for(alloc, release, bytes)?;
     let text = text_of(alloc, bytes, class, packages)?;
     Ok(text)
 }
 
-/// Whether some bytes are a class that stays as it is, whatever the packages are: one that is no
-/// module's or has a list.
-pub fn stays(alloc: Global, bytes: &[u8]) -> Result<bool, NoMemory>
-    ensures { IfOk result (λ stays. (stays ≡ true) ↔ Stays bytes.now) }
+/// The class of a module, of release 21, with these packages, as `add_packages_for` makes it.
+pub fn add_packages(alloc: Global, bytes: &[u8], packages: &[Text]) -> Result<Text, Or<ClassFault>>
+    ensures { PackagesFor 21 packages.now bytes.now result }
 {
-    match read(alloc, bytes) {
+    add_packages_for(alloc, DEFAULT_RELEASE, bytes, packages)
+}
+
+/// Whether some bytes are a class of a release that stays as it is, whatever the packages are: one
+/// that is no module's or has a list.
+pub fn stays(alloc: Global, release: u32, bytes: &[u8]) -> Result<bool, NoMemory>
+    ensures { IfOk result (λ stays. (stays ≡ true) ↔ Stays release bytes.now) }
+{
+    match read_for(alloc, release, bytes) {
         Ok(class) => Ok(takes_none(&class)),
         Err(Or::Fault(_)) => Ok(false),
         Err(Or::Memory) => Err(NoMemory),

@@ -5,4 +5,4 @@ mod adding;
 mod constants;
 mod room;
 
-pub use adding::{add_packages, stays};
+pub use adding::{add_packages, add_packages_for, stays};

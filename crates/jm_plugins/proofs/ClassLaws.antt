@@ -1,6 +1,6 @@
 -- Classes made anew, put at their places one after another, are the pairs with these texts.
 use Rattle.std.proofs.Common.{◌≡◌, ℕ, zero, suc, ◌+◌, ◌<◌, inl, inr, List, [], ◌∷◌, ◌++◌, Bool, true, false}
-use Rattle.std.proofs.Common.{cond, Result, Ok, Err, IfOk, Some, All, length, drop, ◌≤◌, get_or, slice_get}
+use Rattle.std.proofs.Common.{cond, Result, Ok, Err, Some, All, length, drop, ◌≤◌, get_or, slice_get}
 use Rattle.std.proofs.Common.{refl, sym, ap, subst, ◌∙◌, arith, append_assoc, append-nil}
 use Rattle.std.proofs.lemmas.Bool.{false≢true}
 use Rattle.std.proofs.lemmas.List.{length_push, drop_more, drop_all}
@@ -9,13 +9,14 @@ use Rattle.std.proofs.lemmas.List.Elements.{All-nil, All-cons, All-head, All-tai
 use Rattle.std.specs.List.{AllZip}
 use Rattle.jm_bytes.proofs.Choice.{same_ok}
 use Rattle.jm_class.specs.Classes.{ClassData}
-use Rattle.jm_class.specs.ComputedClass.{class_of, class_fault, fault_of}
+use Rattle.jm_class.specs.ComputedClass.{fault_of}
+use Rattle.jm_class.specs.Releases.{class_for, fault_for}
 use Rattle.jm_class.specs.declared.class.ClassFault.{ClassFault}
-use Rattle.jm_class.proofs.ComputedClassLaws.{reads-class_of}
-use Rattle.jm_compact.specs.Compact.{compact_of, compact_text, with_text}
-use Rattle.jm_packages.specs.Packages.{packages_text, PackagesTo}
+use Rattle.jm_class.proofs.ReleaseLaws.{reads-class_for}
+use Rattle.jm_compact.specs.Compact.{compact_for, compact_text, with_text}
+use Rattle.jm_packages.specs.Packages.{packages_text, PackagesFor}
 use Rattle.jm_pool.specs.Pairs.{names_of, with_bytes_at}
-use Rattle.jm_strip.specs.Strip.{StripsTo}
+use Rattle.jm_strip.specs.Strip.{StripsFor}
 use Rattle.jm_plugins.specs.declared.chain.BadClass.{BadClass}
 use Rattle.jm_plugins.specs.declared.classes.Remade.{Remade}
 use Rattle.jm_bytes.specs.declared.faults.Or.{Or}
@@ -91,56 +92,55 @@ classes_all takes pairs place found all past so_far = sym (append-nil found) ∙
     (sym (drop_all place pairs past)) ∙ so_far
 
 -- classes made anew are at places of the pool
-pub remade_within : (text : List ℕ → ClassData → List ℕ) (n : ℕ) (all : List (List ℕ × List ℕ)) (places : List ℕ)
-    (outs : List Remade) → AllZip (IsRemade text all) places outs → All (λ place. place < n) places → All (λ one. one.place < n) outs
-remade_within text n all [] [] zipped within = All-nil (λ one. one.place < n)
-remade_within text n all [] (one ∷ outs) zipped within = absurd zipped
-remade_within text n all (place ∷ places) [] zipped within = absurd zipped
-remade_within text n all (place ∷ places) (one ∷ outs) zipped within =
+pub remade_within : (release : ℕ) (text : List ℕ → ClassData → List ℕ) (n : ℕ) (all : List (List ℕ × List ℕ)) (places : List ℕ)
+    (outs : List Remade) → AllZip (IsRemade release text all) places outs → All (λ place. place < n) places
+    → All (λ one. one.place < n) outs
+remade_within release text n all [] [] zipped within = All-nil (λ one. one.place < n)
+remade_within release text n all [] (one ∷ outs) zipped within = absurd zipped
+remade_within release text n all (place ∷ places) [] zipped within = absurd zipped
+remade_within release text n all (place ∷ places) (one ∷ outs) zipped within =
     let own : place < n = within 0 0 (omega arith) in
-    All-cons (λ z. z.place < n) one outs (rw zipped.0.0 own) (remade_within text n all places outs zipped.1
+    All-cons (λ z. z.place < n) one outs (rw zipped.0.0 own) (remade_within release text n all places outs zipped.1
     (λ k d below. within (suc k) d (omega arith)))
 
 -- What is said of one text
 
 -- bytes with a fault are computed to be none
-pub fault_computed : (bytes : List ℕ) (fault : ClassFault) → class_fault bytes ≡ Some fault → class_of bytes ≡ Err fault
-fault_computed bytes fault found = go (class_of bytes) refl found
+pub fault_computed : (release : ℕ) (bytes : List ℕ) (fault : ClassFault) → fault_for release bytes ≡ Some fault
+    → class_for release bytes ≡ Err fault
+fault_computed release bytes fault found = go (class_for release bytes) refl found
   where
-    go : (r : Result ClassData ClassFault) → class_of bytes ≡ r → fault_of r ≡ Some fault → class_of bytes ≡ Err fault
+    go : (r : Result ClassData ClassFault) → class_for release bytes ≡ r → fault_of r ≡ Some fault → class_for release bytes ≡ Err fault
     go (Ok c) is none = cc
     go (Err found) is same = let found_is : found ≡ fault = cc in cc
 
-pub strips_as : (bytes : List ℕ) (result : Result (List ℕ) (Or ClassFault))
-    → IfOk result (λ text. StripsTo bytes text)
-    → ((fault : ClassFault) → result ≡ Err (Fault fault) → class_fault bytes ≡ Some fault) → RemadeAs stripped_text bytes result
-strips_as bytes (Ok text) given fails =
-    (given.class, reads-class_of bytes given.class given.reads, given.is)
-strips_as bytes (Err (Fault fault)) given fails = fault_computed bytes fault (fails fault refl)
-strips_as bytes (Err Memory) given fails = tt
+module _ (release : ℕ) (bytes : List ℕ) where
+  pub strips_as : (result : Result (List ℕ) (Or ClassFault)) → StripsFor release bytes result → RemadeAs release stripped_text bytes result
+  strips_as (Ok text) given = (given.text.class, reads-class_for release bytes given.text.class given.text.reads, given.text.is)
+  strips_as (Err (Fault fault)) given = fault_computed release bytes fault (given.fault fault refl)
+  strips_as (Err Memory) given = tt
 
-pub packages_as : (packages : List (List ℕ)) (bytes : List ℕ) (result : Result (List ℕ) (Or ClassFault))
-    → IfOk result (λ text. PackagesTo packages bytes text)
-    → ((fault : ClassFault) → result ≡ Err (Fault fault) → class_fault bytes ≡ Some fault)
-    → RemadeAs (packages_text packages) bytes result
-packages_as packages bytes (Ok text) given fails =
-    (given.class, reads-class_of bytes given.class given.reads, given.is)
-packages_as packages bytes (Err (Fault fault)) given fails = fault_computed bytes fault (fails fault refl)
-packages_as packages bytes (Err Memory) given fails = tt
+  pub packages_as : (packages : List (List ℕ)) (result : Result (List ℕ) (Or ClassFault)) → PackagesFor release packages bytes result
+      → RemadeAs release (packages_text packages) bytes result
+  packages_as packages (Ok text) given =
+      (given.text.class, reads-class_for release bytes given.text.class given.text.reads, given.text.is)
+  packages_as packages (Err (Fault fault)) given = fault_computed release bytes fault (given.fault fault refl)
+  packages_as packages (Err Memory) given = tt
 
-pub compacts_as : (bytes : List ℕ) (result : Result (List ℕ) (Or ClassFault)) → IfAnswered (λ r. compact_of bytes ≡ r) result
-    → RemadeAs compact_text bytes result
-compacts_as bytes (Ok text) given = go (class_of bytes) refl given
-  where
-    go : (r : Result ClassData ClassFault) → class_of bytes ≡ r → with_text r ≡ Ok text → RemadeAs compact_text bytes (Ok text)
-    go (Ok c) is same = (c, is, sym (same_ok (compact_text c) text same))
-    go (Err found) is same = cc
-compacts_as bytes (Err (Fault fault)) given = go (class_of bytes) refl given
-  where
-    go : (r : Result ClassData ClassFault) → class_of bytes ≡ r → with_text r ≡ Err fault → class_of bytes ≡ Err fault
-    go (Ok c) is same = cc
-    go (Err found) is same = let found_is : found ≡ fault = cc in cc
-compacts_as bytes (Err Memory) given = tt
+  pub compacts_as : (result : Result (List ℕ) (Or ClassFault)) → IfAnswered (λ r. compact_for release bytes ≡ r) result
+      → RemadeAs release compact_text bytes result
+  compacts_as (Ok text) given = go (class_for release bytes) refl given
+    where
+      go : (r : Result ClassData ClassFault) → class_for release bytes ≡ r → with_text r ≡ Ok text
+          → RemadeAs release compact_text bytes (Ok text)
+      go (Ok c) is same = (c, is, sym (same_ok (compact_text c) text same))
+      go (Err found) is same = cc
+  compacts_as (Err (Fault fault)) given = go (class_for release bytes) refl given
+    where
+      go : (r : Result ClassData ClassFault) → class_for release bytes ≡ r → with_text r ≡ Err fault → class_for release bytes ≡ Err fault
+      go (Ok c) is same = cc
+      go (Err found) is same = let found_is : found ≡ fault = cc in cc
+  compacts_as (Err Memory) given = tt
 
 -- All of them
 
@@ -153,70 +153,71 @@ joined : (done : List (List ℕ × List ℕ)) (first : List ℕ × List ℕ) (o 
 joined done first (Ok xs) = ap (λ l. Ok l) (append_assoc done (first ∷ []) xs)
 joined done first (Err refusal) = refl
 
-module _ (takes : List ℕ → Bool) (text : List ℕ → ClassData → List ℕ) where
+module _ (release : ℕ) (takes : List ℕ → Bool) (text : List ℕ → ClassData → List ℕ) where
   -- a first pair that is given, and then what the rest comes to
-  onward : (done rest : List (List ℕ × List ℕ)) (pair first : List ℕ × List ℕ) (outs : List Remade) → remade_pair takes text pair
-      ≡ Ok first → Comes (put_remade outs ((done ++ first ∷ []) ++ rest)) (followed (remade_pairs takes text rest)
+  onward : (done rest : List (List ℕ × List ℕ)) (pair first : List ℕ × List ℕ) (outs : List Remade) → remade_pair release takes text pair
+      ≡ Ok first → Comes (put_remade outs ((done ++ first ∷ []) ++ rest)) (followed (remade_pairs release takes text rest)
       (λ xs. Ok ((done ++ first ∷ []) ++ xs))) → Comes (put_remade outs (done ++ first ∷ rest))
-      (followed (remade_pairs takes text (pair ∷ rest)) (λ ys. Ok (done ++ ys)))
+      (followed (remade_pairs release takes text (pair ∷ rest)) (λ ys. Ok (done ++ ys)))
   onward done rest pair first outs is so_far =
       let place : (done ++ first ∷ []) ++ rest ≡ done ++ first ∷ rest = append_assoc done (first ∷ []) rest in
-      let whole : followed (remade_pairs takes text (pair ∷ rest)) (λ ys. Ok (done ++ ys))
-      ≡ followed (followed (remade_pairs takes text rest) (λ xs. Ok (first ∷ xs))) (λ ys. Ok (done ++ ys)) =
-      ap (λ o. followed (followed o (λ one. followed (remade_pairs takes text rest) (λ xs. Ok (one ∷ xs))))
+      let whole : followed (remade_pairs release takes text (pair ∷ rest)) (λ ys. Ok (done ++ ys))
+      ≡ followed (followed (remade_pairs release takes text rest) (λ xs. Ok (first ∷ xs))) (λ ys. Ok (done ++ ys)) =
+      ap (λ o. followed (followed o (λ one. followed (remade_pairs release takes text rest) (λ xs. Ok (one ∷ xs))))
       (λ ys. Ok (done ++ ys))) is in
-      rw (whole, sym (joined done first (remade_pairs takes text rest)), sym place) so_far
+      rw (whole, sym (joined done first (remade_pairs release takes text rest)), sym place) so_far
 
   put_is : (all front done rest : List (List ℕ × List ℕ)) (outs : List Remade) → all ≡ front ++ rest → length done ≡ length front
-      → AllZip (IsRemade text all) (class_places takes (length front) rest) outs
-      → Comes (put_remade outs (done ++ rest)) (followed (remade_pairs takes text rest) (λ ys. Ok (done ++ ys)))
+      → AllZip (IsRemade release text all) (class_places takes (length front) rest) outs
+      → Comes (put_remade outs (done ++ rest)) (followed (remade_pairs release takes text rest) (λ ys. Ok (done ++ ys)))
   put_is all front done [] [] is level zipped = refl
   put_is all front done [] (one ∷ outs) is level zipped = absurd zipped
   put_is all front done (pair ∷ rest) outs is level zipped = go (takes pair.0) refl outs zipped (λ first later beside. put_is all
       (front ++ pair ∷ []) (done ++ first ∷ []) rest later (is ∙ sym (append_assoc front (pair ∷ []) rest)) (length_push done first
-      ∙ ap (λ n. n + 1) level ∙ sym (length_push front pair)) (subst (λ n. AllZip (IsRemade text all) (class_places takes n rest)
+      ∙ ap (λ n. n + 1) level ∙ sym (length_push front pair)) (subst (λ n. AllZip (IsRemade release text all) (class_places takes n rest)
       later) (sym (length_push front pair)) beside))
     where
       there : slice_get all (length front) ≡ Some pair
       there = ap (λ l. slice_get l (length front)) is ∙ at_front front rest pair
 
       Onward : Type 0
-      Onward = (first : List ℕ × List ℕ) (later : List Remade) → AllZip (IsRemade text all) (class_places takes (length front + 1)
+      Onward = (first : List ℕ × List ℕ) (later : List Remade) → AllZip (IsRemade release text all) (class_places takes (length front + 1)
           rest) later → Comes (put_remade later ((done ++ first ∷ []) ++ rest))
-          (followed (remade_pairs takes text rest) (λ xs. Ok ((done ++ first ∷ []) ++ xs)))
+          (followed (remade_pairs release takes text rest) (λ xs. Ok ((done ++ first ∷ []) ++ xs)))
 
       one_class : (one : Remade) (later : List Remade) (o : Result (List ℕ) (Or ClassFault)) → takes pair.0 ≡ true
-          → RemadeAs (text pair.0) pair.1 o → AllZip (IsRemade text all) (class_places takes (length front + 1) rest) later → Onward
+          → RemadeAs release (text pair.0) pair.1 o
+          → AllZip (IsRemade release text all) (class_places takes (length front + 1) rest) later → Onward
           → Comes (put_one (length done) o (put_remade later) (done ++ pair ∷ rest))
-          (followed (remade_pairs takes text (pair ∷ rest)) (λ ys. Ok (done ++ ys)))
+          (followed (remade_pairs release takes text (pair ∷ rest)) (λ ys. Ok (done ++ ys)))
       one_class one later (Ok made) named own_text beside on =
-          let own : remade_pair takes text pair ≡ Ok (pair.0, made) = rw (named, own_text.1, own_text.2) refl in
+          let own : remade_pair release takes text pair ≡ Ok (pair.0, made) = rw (named, own_text.1, own_text.2) refl in
           rw (replaced done rest pair made) (onward done rest pair (pair.0, made) later own (on (pair.0, made) later beside))
       one_class one later (Err (Fault fault)) named own_text beside on =
-          let own : remade_pair takes text pair ≡ Err (bad_class pair.0 fault) = rw (named, own_text) refl in
+          let own : remade_pair release takes text pair ≡ Err (bad_class pair.0 fault) = rw (named, own_text) refl in
           ap (λ name. Err (bad_class name fault)) (name_there done rest pair)
-          ∙ sym (ap (λ o. followed (followed o (λ first. followed (remade_pairs takes text rest) (λ xs. Ok (first ∷ xs))))
+          ∙ sym (ap (λ o. followed (followed o (λ first. followed (remade_pairs release takes text rest) (λ xs. Ok (first ∷ xs))))
           (λ ys. Ok (done ++ ys))) own)
       one_class one later (Err Memory) named own_text beside on = tt
 
-      go : (b : Bool) → takes pair.0 ≡ b → (outs : List Remade) → AllZip (IsRemade text all) (class_places takes (length front)
+      go : (b : Bool) → takes pair.0 ≡ b → (outs : List Remade) → AllZip (IsRemade release text all) (class_places takes (length front)
           (pair ∷ rest)) outs → Onward → Comes (put_remade outs (done ++ pair ∷ rest))
-          (followed (remade_pairs takes text (pair ∷ rest)) (λ ys. Ok (done ++ ys)))
+          (followed (remade_pairs release takes text (pair ∷ rest)) (λ ys. Ok (done ++ ys)))
       go false named outs zipped on =
-          let own : remade_pair takes text pair ≡ Ok pair = rw named refl in
+          let own : remade_pair release takes text pair ≡ Ok pair = rw named refl in
           onward done rest pair pair outs own (on pair outs (rw named at zipped))
       go true named [] zipped on = let none = rw named at zipped in absurd none
       go true named (one ∷ later) zipped on =
-          let beside : AllZip (IsRemade text all) (length front ∷ class_places takes (length front + 1) rest) (one ∷ later) =
+          let beside : AllZip (IsRemade release text all) (length front ∷ class_places takes (length front + 1) rest) (one ∷ later) =
           rw named at zipped in
           let own_text = beside.0.2 pair there in
           let place : one.place ≡ length done = beside.0.0 ∙ sym level in
           rw place (one_class one later one.outcome named own_text beside.1 on)
 
   -- put at their places, they are the pairs with these texts
-  pub put_all : (pairs : List (List ℕ × List ℕ)) (outs : List Remade) → AllZip (IsRemade text pairs) (class_places takes 0 pairs)
-      outs → Comes (put_remade outs pairs) (remade_pairs takes text pairs)
-  put_all pairs outs zipped = subst (Comes (put_remade outs pairs)) (plain (remade_pairs takes text pairs))
+  pub put_all : (pairs : List (List ℕ × List ℕ)) (outs : List Remade) → AllZip (IsRemade release text pairs) (class_places takes 0 pairs)
+      outs → Comes (put_remade outs pairs) (remade_pairs release takes text pairs)
+  put_all pairs outs zipped = subst (Comes (put_remade outs pairs)) (plain (remade_pairs release takes text pairs))
       (put_is pairs [] [] pairs outs refl refl zipped)
     where
       plain : (o : Result (List (List ℕ × List ℕ)) BadClass) → followed o (λ ys. Ok ys) ≡ o
@@ -225,25 +226,25 @@ module _ (takes : List ℕ → Bool) (text : List ℕ → ClassData → List ℕ
 
 -- Classes that were read
 
-module _ (takes : List ℕ → Bool) (text : List ℕ → ClassData → List ℕ) where
+module _ (release : ℕ) (takes : List ℕ → Bool) (text : List ℕ → ClassData → List ℕ) where
   abbrev Read : List ℕ × List ℕ → Type 0
-  Read pair = takes pair.0 ≡ true → ReadsByRule pair.1
+  Read pair = takes pair.0 ≡ true → ReadsByRule release pair.1
 
   read_from : (all front rest : List (List ℕ × List ℕ)) (outs : List Remade) → all ≡ front ++ rest
-      → AllZip (IsRemade text all) (class_places takes (length front) rest) outs → TakenRead takes rest
+      → AllZip (IsRemade release text all) (class_places takes (length front) rest) outs → TakenRead release takes rest
   read_from all front [] outs is zipped = All-nil Read
   read_from all front (pair ∷ rest) outs is zipped = go (takes pair.0) refl outs zipped (λ later beside. read_from all
       (front ++ pair ∷ []) rest later (is ∙ sym (append_assoc front (pair ∷ []) rest))
-      (subst (λ n. AllZip (IsRemade text all) (class_places takes n rest) later) (sym (length_push front pair)) beside))
+      (subst (λ n. AllZip (IsRemade release text all) (class_places takes n rest) later) (sym (length_push front pair)) beside))
     where
       there : slice_get all (length front) ≡ Some pair
       there = ap (λ l. slice_get l (length front)) is ∙ at_front front rest pair
 
       go : (b : Bool) → takes pair.0 ≡ b → (outs : List Remade)
-          → AllZip (IsRemade text all) (cond b (length front ∷ class_places takes (length front + 1) rest)
+          → AllZip (IsRemade release text all) (cond b (length front ∷ class_places takes (length front + 1) rest)
           (class_places takes (length front + 1) rest)) outs
-          → ((later : List Remade) → AllZip (IsRemade text all) (class_places takes (length front + 1) rest) later
-          → TakenRead takes rest) → TakenRead takes (pair ∷ rest)
+          → ((later : List Remade) → AllZip (IsRemade release text all) (class_places takes (length front + 1) rest) later
+          → TakenRead release takes rest) → TakenRead release takes (pair ∷ rest)
       go false not_taken outs zipped on =
           All-cons Read pair rest (λ taken. absurd (false≢true (sym not_taken ∙ taken))) (on outs zipped)
       go true taken [] zipped on = absurd zipped
@@ -251,33 +252,34 @@ module _ (takes : List ℕ → Bool) (text : List ℕ → ClassData → List ℕ
           All-cons Read pair rest (λ also. zipped.0.1 pair there) (on later zipped.1)
 
   -- those that were made anew all read by the rule
-  pub taken_read : (pairs : List (List ℕ × List ℕ)) (outs : List Remade) → AllZip (IsRemade text pairs) (class_places takes 0 pairs)
-      outs → TakenRead takes pairs
+  pub taken_read : (pairs : List (List ℕ × List ℕ)) (outs : List Remade) → AllZip (IsRemade release text pairs) (class_places takes 0 pairs)
+      outs → TakenRead release takes pairs
   taken_read pairs outs zipped = read_from pairs [] pairs outs refl zipped
 
 -- Texts that are the same
 
 -- other texts that are the same of each class that is taken make the same pairs
-module _ (takes : List ℕ → Bool) (text other : List ℕ → ClassData → List ℕ) where
+module _ (release : ℕ) (takes : List ℕ → Bool) (text other : List ℕ → ClassData → List ℕ) where
   -- of one pair
   abbrev Same : List ℕ × List ℕ → Type 0
-  Same pair = takes pair.0 ≡ true → (c : ClassData) → class_of pair.1 ≡ Ok c → text pair.0 c ≡ other pair.0 c
+  Same pair = takes pair.0 ≡ true → (c : ClassData) → class_for release pair.1 ≡ Ok c → text pair.0 c ≡ other pair.0 c
 
-  same_pair : (pair : List ℕ × List ℕ) → Same pair → remade_pair takes text pair ≡ remade_pair takes other pair
-  same_pair pair same = go (takes pair.0) refl (class_of pair.1) refl
+  same_pair : (pair : List ℕ × List ℕ) → Same pair → remade_pair release takes text pair ≡ remade_pair release takes other pair
+  same_pair pair same = go (takes pair.0) refl (class_for release pair.1) refl
     where
-      go : (b : Bool) → takes pair.0 ≡ b → (r : Result ClassData ClassFault) → class_of pair.1 ≡ r
+      go : (b : Bool) → takes pair.0 ≡ b → (r : Result ClassData ClassFault) → class_for release pair.1 ≡ r
           → cond b (remade (text pair.0) pair.0 r) (Ok pair) ≡ cond b (remade (other pair.0) pair.0 r) (Ok pair)
       go false is r reads = refl
       go true is (Ok c) reads = ap (λ t. Ok (pair.0, t)) (same is c reads)
       go true is (Err fault) reads = refl
 
-  pub same_texts : (pairs : List (List ℕ × List ℕ)) → All Same pairs → remade_pairs takes text pairs ≡ remade_pairs takes other pairs
+  pub same_texts : (pairs : List (List ℕ × List ℕ)) → All Same pairs → remade_pairs release takes text pairs
+      ≡ remade_pairs release takes other pairs
   same_texts [] same = refl
   same_texts (pair ∷ pairs) same =
-      ap (λ o. followed o (λ first. followed (remade_pairs takes text pairs) (λ rest. Ok (first ∷ rest))))
+      ap (λ o. followed o (λ first. followed (remade_pairs release takes text pairs) (λ rest. Ok (first ∷ rest))))
       (same_pair pair (All-head Same pair pairs same))
-      ∙ ap (λ o. followed (remade_pair takes other pair) (λ first. followed o (λ rest. Ok (first ∷ rest))))
+      ∙ ap (λ o. followed (remade_pair release takes other pair) (λ first. followed o (λ rest. Ok (first ∷ rest))))
       (same_texts pairs (All-tail Same pair pairs same))
 
 -- One after another

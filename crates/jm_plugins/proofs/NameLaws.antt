@@ -10,7 +10,7 @@ use Rattle.std.specs.List.{filter}
 use Rattle.jm_bytes.proofs.Choice.{same_ok}
 use Rattle.jm_bytes.proofs.Pairs.{pairs_append}
 use Rattle.jm_class.specs.Classes.{ClassData}
-use Rattle.jm_class.specs.ComputedClass.{class_of}
+use Rattle.jm_class.specs.Releases.{class_for}
 use Rattle.jm_class.specs.declared.class.ClassFault.{ClassFault}
 use Rattle.jm_pattern.specs.declared.signs.Sign.{Sign}
 use Rattle.jm_pattern.specs.ComputedMatching.{matches}
@@ -39,55 +39,60 @@ names_filter test (pair ∷ pairs) = go (test pair.0) (names_filter test pairs)
     go true rest = ap (λ l. pair.0 ∷ l) rest
     go false rest = rest
 
-name_remade : (takes : List ℕ → Bool) (text : List ℕ → ClassData → List ℕ) (pair first : List ℕ × List ℕ)
-    → remade_pair takes text pair ≡ Ok first → first.0 ≡ pair.0
-name_remade takes text pair first is = go (takes pair.0) (class_of pair.1) is
+name_remade : (release : ℕ) (takes : List ℕ → Bool) (text : List ℕ → ClassData → List ℕ) (pair first : List ℕ × List ℕ)
+    → remade_pair release takes text pair ≡ Ok first → first.0 ≡ pair.0
+name_remade release takes text pair first is = go (takes pair.0) (class_for release pair.1) is
   where
     go : (b : Bool) (r : Result ClassData ClassFault) → cond b (remade (text pair.0) pair.0 r) (Ok pair) ≡ Ok first → first.0 ≡ pair.0
     go false r same = ap (λ (p : List ℕ × List ℕ). p.0) (sym (same_ok pair first same))
     go true (Ok c) same = ap (λ (p : List ℕ × List ℕ). p.0) (sym (same_ok (pair.0, text pair.0 c) first same))
     go true (Err fault) same = cc
 
-names_remade : (takes : List ℕ → Bool) (text : List ℕ → ClassData → List ℕ) (pairs left : List (List ℕ × List ℕ))
-    → remade_pairs takes text pairs ≡ Ok left → names_of left ≡ names_of pairs
-names_remade takes text [] left is = ap names_of (sym (same_ok [] left is))
-names_remade takes text (pair ∷ pairs) left is = go (remade_pair takes text pair) (remade_pairs takes text pairs) refl refl is
-    (λ rest gives. names_remade takes text pairs rest gives)
+names_remade : (release : ℕ) (takes : List ℕ → Bool) (text : List ℕ → ClassData → List ℕ) (pairs left : List (List ℕ × List ℕ))
+    → remade_pairs release takes text pairs ≡ Ok left → names_of left ≡ names_of pairs
+names_remade release takes text [] left is = ap names_of (sym (same_ok [] left is))
+names_remade release takes text (pair ∷ pairs) left is =
+    go (remade_pair release takes text pair) (remade_pairs release takes text pairs) refl refl is
+    (λ rest gives. names_remade release takes text pairs rest gives)
   where
-    go : (o : Result (List ℕ × List ℕ) BadClass) (r : Result (List (List ℕ × List ℕ)) BadClass) → remade_pair takes text pair
-        ≡ o → remade_pairs takes text pairs ≡ r → followed o (λ first. followed r (λ rest. Ok (first ∷ rest))) ≡ Ok left
-        → ((rest : List (List ℕ × List ℕ)) → remade_pairs takes text pairs ≡ Ok rest → names_of rest ≡ names_of pairs)
+    go : (o : Result (List ℕ × List ℕ) BadClass) (r : Result (List (List ℕ × List ℕ)) BadClass) → remade_pair release takes text pair
+        ≡ o → remade_pairs release takes text pairs ≡ r → followed o (λ first. followed r (λ rest. Ok (first ∷ rest))) ≡ Ok left
+        → ((rest : List (List ℕ × List ℕ)) → remade_pairs release takes text pairs ≡ Ok rest → names_of rest ≡ names_of pairs)
         → names_of left ≡ pair.0 ∷ names_of pairs
     go (Ok first) (Ok rest) one others same later =
-        ap names_of (sym (same_ok (first ∷ rest) left same)) ∙ ap (λ name. name ∷ names_of rest) (name_remade takes text pair first
+        ap names_of (sym (same_ok (first ∷ rest) left same)) ∙ ap (λ name. name ∷ names_of rest) (name_remade release takes text pair first
         one) ∙ ap (λ l. pair.0 ∷ l) (later rest others)
     go (Ok first) (Err refusal) one others same later = cc
     go (Err refusal) r one others same later = cc
 
 -- What is said of a list of names, where it stays true of fewer of them and of them in another order
 
-module _ (Says : List (List ℕ) → Type 0) (fewer : (test : List ℕ → Bool) (names : List (List ℕ)) → Says names
+module _ (release : ℕ) (Says : List (List ℕ) → Type 0) (fewer : (test : List ℕ → Bool) (names : List (List ℕ)) → Says names
     → Says (filter test names)) (turned : (patterns : List (List Sign)) (pairs : List (List ℕ × List ℕ)) → Says (names_of pairs)
     → Says (names_of (ordered patterns pairs))) where
-  acted_on : (one : Plugin) (pairs left : List (List ℕ × List ℕ)) → act one pairs ≡ Ok left → Says (names_of pairs) → Says (names_of left)
+  acted_on : (one : Plugin) (pairs left : List (List ℕ × List ℕ)) → act release one pairs ≡ Ok left → Says (names_of pairs)
+      → Says (names_of left)
   acted_on (plugin.Exclude patterns) pairs left is says =
       let test = λ (name : List ℕ). not (matches_any patterns name) in
       let names : names_of (excluded patterns pairs) ≡ filter test (names_of pairs) = names_filter test pairs in
       subst (λ l. Says (names_of l)) (same_ok (excluded patterns pairs) left is) (subst Says (sym names) (fewer test (names_of pairs) says))
   acted_on (plugin.Order patterns) pairs left is says =
       subst (λ l. Says (names_of l)) (same_ok (ordered patterns pairs) left is) (turned patterns pairs says)
-  acted_on plugin.Strip pairs left is says = subst Says (sym (names_remade is_class (λ name. stripped_text) pairs left is)) says
-  acted_on plugin.Compact pairs left is says = subst Says (sym (names_remade is_class (λ name. compact_text) pairs left is)) says
-  acted_on plugin.Packages pairs left is says = subst Says (sym (names_remade is_descriptor (listing_text (names_of pairs)) pairs
-      left is)) says
+  acted_on plugin.Strip pairs left is says =
+      subst Says (sym (names_remade release is_class (λ name. stripped_text) pairs left is)) says
+  acted_on plugin.Compact pairs left is says =
+      subst Says (sym (names_remade release is_class (λ name. compact_text) pairs left is)) says
+  acted_on plugin.Packages pairs left is says =
+      subst Says (sym (names_remade release is_descriptor (listing_text (names_of pairs)) pairs left is)) says
 
-  applied_to : (plugins : List Plugin) (before after : List (List ℕ × List ℕ)) → apply plugins before ≡ Ok after
+  applied_to : (plugins : List Plugin) (before after : List (List ℕ × List ℕ)) → apply release plugins before ≡ Ok after
       → Says (names_of before) → Says (names_of after)
   applied_to [] before after is says = subst (λ l. Says (names_of l)) (same_ok before after is) says
-  applied_to (one ∷ later) before after is says = go (act one before) refl is (λ left gives. applied_to later left after gives)
+  applied_to (one ∷ later) before after is says =
+      go (act release one before) refl is (λ left gives. applied_to later left after gives)
     where
-      go : (o : Result (List (List ℕ × List ℕ)) BadClass) → act one before ≡ o → followed o (apply later) ≡ Ok after
-          → ((left : List (List ℕ × List ℕ)) → apply later left ≡ Ok after → Says (names_of left) → Says (names_of after))
+      go : (o : Result (List (List ℕ × List ℕ)) BadClass) → act release one before ≡ o → followed o (apply release later) ≡ Ok after
+          → ((left : List (List ℕ × List ℕ)) → apply release later left ≡ Ok after → Says (names_of left) → Says (names_of after))
           → Says (names_of after)
       go (Ok left) acts rest onward = onward left rest (acted_on one before left acts says)
       go (Err refusal) acts rest onward = cc
@@ -111,9 +116,9 @@ module _ (P : List ℕ → Type 0) where
       (All-append P (names_of front) (names_of (ordered patterns behind)) first (all_turned patterns behind others))
 
   -- what holds of each name still does
-  pub names_kept : (plugins : List Plugin) (before after : List (List ℕ × List ℕ)) → apply plugins before ≡ Ok after
-      → All P (names_of before) → All P (names_of after)
-  names_kept = applied_to (All P) all_fewer all_turned
+  pub names_kept : (release : ℕ) (plugins : List Plugin) (before after : List (List ℕ × List ℕ)) → apply release plugins before
+      ≡ Ok after → All P (names_of before) → All P (names_of after)
+  names_kept release = applied_to release (All P) all_fewer all_turned
 
 -- Names that differ
 
@@ -143,6 +148,7 @@ differ_turned (pattern ∷ patterns) pairs differ =
     false≢true (sym (ap not matched) ∙ ap test same ∙ unmatched)))
 
 -- names that differ still do
-pub names_differ : (plugins : List Plugin) (before after : List (List ℕ × List ℕ)) → apply plugins before ≡ Ok after
-    → AllPairs (λ one other. one ≢ other) (names_of before) → AllPairs (λ one other. one ≢ other) (names_of after)
-names_differ = applied_to Differ (λ test names differ. AllPairs-filter (λ one other. one ≢ other) test names differ) differ_turned
+pub names_differ : (release : ℕ) (plugins : List Plugin) (before after : List (List ℕ × List ℕ)) → apply release plugins before
+    ≡ Ok after → AllPairs (λ one other. one ≢ other) (names_of before) → AllPairs (λ one other. one ≢ other) (names_of after)
+names_differ release = applied_to release Differ
+    (λ test names differ. AllPairs-filter (λ one other. one ≢ other) test names differ) differ_turned

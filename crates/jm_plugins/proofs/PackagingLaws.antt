@@ -23,10 +23,10 @@ use Rattle.jm_bytes.proofs.Members.{all_from_contains}
 use Rattle.jm_bytes.proofs.Members.{contains_filter, contains_filter_map, from_filter}
 use Rattle.jm_bytes.proofs.Members.{from_filter_map}
 use Rattle.jm_bytes.proofs.Pairs.{pairs_filter_map, pairs_head, pairs_tail}
-use Rattle.jm_class.specs.Classes.{ClassData, ReadsAs}
-use Rattle.jm_class.specs.ComputedClass.{class_of}
+use Rattle.jm_class.specs.Classes.{ClassData}
+use Rattle.jm_class.specs.Releases.{ReadsFor, class_for}
 use Rattle.jm_class.specs.declared.class.ClassFault.{ClassFault}
-use Rattle.jm_class.proofs.ComputedClassLaws.{reads-class_of}
+use Rattle.jm_class.proofs.ReleaseLaws.{reads-class_for}
 use Rattle.jm_form.specs.ModuleFiles.{named_package}
 use Rattle.jm_form.specs.Trees.{module_of}
 use Rattle.jm_form.proofs.ClassPackageLaws.{class_packages_are}
@@ -194,52 +194,55 @@ keys_rise names = strictly (class_keys names) (rising_rises (filter_map class_ke
 
 -- Descriptors that stay
 
--- where the class of each descriptor stays, all pairs do
-abbrev pub StaysListed : List ℕ × List ℕ → Type 0
-StaysListed pair = is_descriptor pair.0 ≡ true → Stays pair.1
+module _ (release : ℕ) where
+  -- where the class of each descriptor stays, all pairs do
+  abbrev pub StaysListed : List ℕ × List ℕ → Type 0
+  StaysListed pair = is_descriptor pair.0 ≡ true → Stays release pair.1
 
--- one pair more
-pub listed_next : (pairs : List (List ℕ × List ℕ)) (place : ℕ) (pair : List ℕ × List ℕ) → slice_get pairs place ≡ Some pair
-    → place < length pairs → All StaysListed (take place pairs) → StaysListed pair → All StaysListed (take (place + 1) pairs)
-listed_next pairs place pair there below before one =
-    All-more StaysListed pairs place pair below before (subst StaysListed (sym (get_or_from_slice_get pairs place pair pair there)) one)
+  -- one pair more
+  pub listed_next : (pairs : List (List ℕ × List ℕ)) (place : ℕ) (pair : List ℕ × List ℕ) → slice_get pairs place ≡ Some pair
+      → place < length pairs → All StaysListed (take place pairs) → StaysListed pair → All StaysListed (take (place + 1) pairs)
+  listed_next pairs place pair there below before one =
+      All-more StaysListed pairs place pair below before (subst StaysListed (sym (get_or_from_slice_get pairs place pair pair there)) one)
 
-pair_stays : (names : List (List ℕ)) (pair : List ℕ × List ℕ) → StaysListed pair → remade_pair is_descriptor (listing_text names)
-    pair ≡ Ok pair
-pair_stays names pair stays = go (is_descriptor pair.0) refl
-  where
-    go : (b : Bool) → is_descriptor pair.0 ≡ b → cond b (remade (listing_text names pair.0) pair.0 (class_of pair.1)) (Ok pair) ≡ Ok pair
-    go false is = refl
-    go true is =
-        let own = stays is in
-        ap (remade (listing_text names pair.0) pair.0) (reads-class_of pair.1 own.class own.reads)
-        ∙ ap (λ text. Ok (pair.0, text)) (stays_text (packages_of names (module_of pair.0)) pair.1 own)
+  pair_stays : (names : List (List ℕ)) (pair : List ℕ × List ℕ) → StaysListed pair
+      → remade_pair release is_descriptor (listing_text names) pair ≡ Ok pair
+  pair_stays names pair stays = go (is_descriptor pair.0) refl
+    where
+      go : (b : Bool) → is_descriptor pair.0 ≡ b
+          → cond b (remade (listing_text names pair.0) pair.0 (class_for release pair.1)) (Ok pair) ≡ Ok pair
+      go false is = refl
+      go true is =
+          let own = stays is in
+          ap (remade (listing_text names pair.0) pair.0) (reads-class_for release pair.1 own.class own.reads)
+          ∙ ap (λ text. Ok (pair.0, text)) (stays_text release (packages_of names (module_of pair.0)) pair.1 own)
 
-pub pairs_stay : (names : List (List ℕ)) (pairs : List (List ℕ × List ℕ)) → All StaysListed pairs
-    → remade_pairs is_descriptor (listing_text names) pairs ≡ Ok pairs
-pairs_stay names [] all = refl
-pairs_stay names (pair ∷ pairs) all =
-    ap (λ o. followed o (λ first. followed (remade_pairs is_descriptor (listing_text names) pairs) (λ rest. Ok (first ∷ rest))))
-    (pair_stays names pair (All-head StaysListed pair pairs all))
-    ∙ ap (λ o. followed o (λ rest. Ok (pair ∷ rest))) (pairs_stay names pairs (All-tail StaysListed pair pairs all))
+  pub pairs_stay : (names : List (List ℕ)) (pairs : List (List ℕ × List ℕ)) → All StaysListed pairs
+      → remade_pairs release is_descriptor (listing_text names) pairs ≡ Ok pairs
+  pairs_stay names [] all = refl
+  pairs_stay names (pair ∷ pairs) all =
+      ap (λ o. followed o (λ first. followed (remade_pairs release is_descriptor (listing_text names) pairs) (λ rest. Ok (first ∷ rest))))
+      (pair_stays names pair (All-head StaysListed pair pairs all))
+      ∙ ap (λ o. followed o (λ rest. Ok (pair ∷ rest))) (pairs_stay names pairs (All-tail StaysListed pair pairs all))
 
--- a class that stays reads by the rule
-stays_read : (bytes : List ℕ) → Stays bytes → ReadsByRule bytes
-stays_read bytes stays c is =
-    let same : stays.class ≡ c = same_ok {E = ClassFault} stays.class c (sym (reads-class_of bytes stays.class stays.reads) ∙ is) in
-    subst (ReadsAs bytes) same stays.reads
+  -- a class that stays reads by the rule
+  stays_read : (bytes : List ℕ) → Stays release bytes → ReadsByRule release bytes
+  stays_read bytes stays c is =
+      let same : stays.class ≡ c =
+      same_ok {E = ClassFault} stays.class c (sym (reads-class_for release bytes stays.class stays.reads) ∙ is) in
+      subst (ReadsFor release bytes) same stays.reads
 
-pub pairs_read : (pairs : List (List ℕ × List ℕ)) → All StaysListed pairs → TakenRead is_descriptor pairs
-pairs_read pairs all =
-    All-weaker StaysListed (λ (pair : List ℕ × List ℕ). is_descriptor pair.0 ≡ true → ReadsByRule pair.1)
-    (λ pair stays listed. stays_read pair.1 (stays listed)) pairs all
+  pub pairs_read : (pairs : List (List ℕ × List ℕ)) → All StaysListed pairs → TakenRead release is_descriptor pairs
+  pairs_read pairs all =
+      All-weaker StaysListed (λ (pair : List ℕ × List ℕ). is_descriptor pair.0 ≡ true → ReadsByRule release pair.1)
+      (λ pair stays listed. stays_read pair.1 (stays listed)) pairs all
 
--- Keys that serve
+  -- Keys that serve
 
-pub keys_serve : (pairs : List (List ℕ × List ℕ)) → Serves pairs (class_keys (names_of pairs))
-keys_serve pairs =
-    let names = names_of pairs in
-    all_from_contains
-    (λ (pair : List ℕ × List ℕ). is_descriptor pair.0 ≡ true → (c : ClassData) → class_of pair.1 ≡ Ok c
-    → packages_text (packages_by (class_keys names) (module_of pair.0)) c ≡ listing_text names pair.0 c)
-    pairs (λ pair there descriptor c reads. ap (λ (ps : List (List ℕ)). packages_text ps c) (packages_known names pair.0))
+  pub keys_serve : (pairs : List (List ℕ × List ℕ)) → Serves release pairs (class_keys (names_of pairs))
+  keys_serve pairs =
+      let names = names_of pairs in
+      all_from_contains
+      (λ (pair : List ℕ × List ℕ). is_descriptor pair.0 ≡ true → (c : ClassData) → class_for release pair.1 ≡ Ok c
+      → packages_text (packages_by (class_keys names) (module_of pair.0)) c ≡ listing_text names pair.0 c)
+      pairs (λ pair there descriptor c reads. ap (λ (ps : List (List ℕ)). packages_text ps c) (packages_known names pair.0))

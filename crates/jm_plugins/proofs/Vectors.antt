@@ -32,50 +32,50 @@ abbrev pool : List ℕ → List (List ℕ × List ℕ)
 pool bytes = (codes "/a/B.class", bytes) ∷ (codes "/a/x", with_file) ∷ (codes "/b/B.class", bytes) ∷ (codes "/b/y", []) ∷ []
 
 -- nothing to do
-none : apply [] (pool []) ≡ Ok (pool [])
+none : apply 21 [] (pool []) ≡ Ok (pool [])
 none = refl
 
-order_in_pool : apply (plugin.Order (named_b ∷ below_a ∷ []) ∷ []) (pool [])
+order_in_pool : apply 21 (plugin.Order (named_b ∷ below_a ∷ []) ∷ []) (pool [])
     ≡ Ok ((codes "/a/B.class", []) ∷ (codes "/b/B.class", []) ∷ (codes "/a/x", with_file) ∷ (codes "/b/y", []) ∷ [])
 order_in_pool = refl
 
 -- the first pattern that matches decides
-order_turned : apply (plugin.Order (below_a ∷ named_b ∷ []) ∷ []) (pool []) ≡ Ok (pool [])
+order_turned : apply 21 (plugin.Order (below_a ∷ named_b ∷ []) ∷ []) (pool []) ≡ Ok (pool [])
 order_turned = refl
 
-excluded_in_pool : apply (plugin.Exclude (named_b ∷ below_a ∷ []) ∷ []) (pool []) ≡ Ok ((codes "/b/y", []) ∷ [])
+excluded_in_pool : apply 21 (plugin.Exclude (named_b ∷ below_a ∷ []) ∷ []) (pool []) ≡ Ok ((codes "/b/y", []) ∷ [])
 excluded_in_pool = refl
 
 -- a name that isn't that of a class keeps its bytes
-stripped_in_pool : apply (plugin.Strip ∷ []) (pool with_file) ≡ Ok (pool without_file)
+stripped_in_pool : apply 21 (plugin.Strip ∷ []) (pool with_file) ≡ Ok (pool without_file)
 stripped_in_pool = refl
 
-compacted_in_pool : apply (plugin.Compact ∷ []) (pool without_file) ≡ Ok ((codes "/a/B.class", without_name)
+compacted_in_pool : apply 21 (plugin.Compact ∷ []) (pool without_file) ≡ Ok ((codes "/a/B.class", without_name)
     ∷ (codes "/a/x", with_file) ∷ (codes "/b/B.class", without_name) ∷ (codes "/b/y", []) ∷ [])
 compacted_in_pool = refl
 
 -- what is named stays
-all_named : apply (plugin.Compact ∷ []) (pool with_file) ≡ Ok (pool with_file)
+all_named : apply 21 (plugin.Compact ∷ []) (pool with_file) ≡ Ok (pool with_file)
 all_named = refl
 
 -- one plug-in after another
-in_turn : apply (plugin.Exclude (below_a ∷ []) ∷ plugin.Strip ∷ []) (pool with_file) ≡ Ok ((codes "/b/B.class", without_file)
+in_turn : apply 21 (plugin.Exclude (below_a ∷ []) ∷ plugin.Strip ∷ []) (pool with_file) ≡ Ok ((codes "/b/B.class", without_file)
     ∷ (codes "/b/y", []) ∷ [])
 in_turn = refl
 
-strip_then_compact : apply (plugin.Exclude (below_a ∷ []) ∷ plugin.Strip ∷ plugin.Compact ∷ []) (pool with_file)
+strip_then_compact : apply 21 (plugin.Exclude (below_a ∷ []) ∷ plugin.Strip ∷ plugin.Compact ∷ []) (pool with_file)
     ≡ Ok ((codes "/b/B.class", without_name) ∷ (codes "/b/y", []) ∷ [])
 strip_then_compact = refl
 
-compact_then_strip : apply (plugin.Exclude (below_a ∷ []) ∷ plugin.Compact ∷ plugin.Strip ∷ []) (pool with_file)
+compact_then_strip : apply 21 (plugin.Exclude (below_a ∷ []) ∷ plugin.Compact ∷ plugin.Strip ∷ []) (pool with_file)
     ≡ Ok ((codes "/b/B.class", without_file) ∷ (codes "/b/y", []) ∷ [])
 compact_then_strip = refl
 
-unstripped_class : apply (plugin.Order (named_b ∷ []) ∷ plugin.Strip ∷ []) (pool (codes "no"))
+unstripped_class : apply 21 (plugin.Order (named_b ∷ []) ∷ plugin.Strip ∷ []) (pool (codes "no"))
     ≡ Err (bad_class (codes "/a/B.class") (Short 0))
 unstripped_class = refl
 
-uncompacted_class : apply (plugin.Order (named_b ∷ []) ∷ plugin.Compact ∷ []) (pool (codes "no"))
+uncompacted_class : apply 21 (plugin.Order (named_b ∷ []) ∷ plugin.Compact ∷ []) (pool (codes "no"))
     ≡ Err (bad_class (codes "/a/B.class") (Short 0))
 uncompacted_class = refl
 
@@ -90,12 +90,12 @@ listing =
     ∷ 1 ∷ 0 ∷ 3 ∷ []))
 
 -- of the module's own classes and of no other files
-listed_in_pool : apply (plugin.Packages ∷ []) ((codes "/b/r/C.class", []) ∷ (codes "/a/module-info.class", descriptor)
+listed_in_pool : apply 21 (plugin.Packages ∷ []) ((codes "/b/r/C.class", []) ∷ (codes "/a/module-info.class", descriptor)
     ∷ (codes "/a/p.q/C.class", []) ∷ (codes "/a/p/q/D.class", []) ∷ (codes "/a/s/x", []) ∷ [])
     ≡ Ok ((codes "/b/r/C.class", []) ∷ (codes "/a/module-info.class", listing) ∷ (codes "/a/p.q/C.class", [])
     ∷ (codes "/a/p/q/D.class", []) ∷ (codes "/a/s/x", []) ∷ [])
 listed_in_pool = refl
 
-unlisted_descriptor : apply (plugin.Packages ∷ []) ((codes "/a/x.class", []) ∷ (codes "/b/module-info.class", codes "no") ∷ [])
+unlisted_descriptor : apply 21 (plugin.Packages ∷ []) ((codes "/a/x.class", []) ∷ (codes "/b/module-info.class", codes "no") ∷ [])
     ≡ Err (bad_class (codes "/b/module-info.class") (Short 0))
 unlisted_descriptor = refl

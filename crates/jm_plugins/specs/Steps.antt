@@ -4,8 +4,8 @@ use Rattle.std.specs.Prelude.{All, true, slice_get, slice_index_or, if◌then◌
 use Rattle.std.specs.List.{position_or_len}
 use Rattle.jm_bytes.specs.declared.faults.Or.{Or}
 use Rattle.jm_bytes.specs.declared.faults.Or.TheVariants.{Fault, Memory}
-use Rattle.jm_class.specs.Classes.{ClassData, ReadsAs}
-use Rattle.jm_class.specs.ComputedClass.{class_of}
+use Rattle.jm_class.specs.Classes.{ClassData}
+use Rattle.jm_class.specs.Releases.{ReadsFor, class_for}
 use Rattle.jm_class.specs.declared.class.ClassFault.{ClassFault}
 use Rattle.jm_pattern.specs.declared.signs.Sign.{Sign}
 use Rattle.jm_pattern.specs.ComputedMatching.{matches}
@@ -45,26 +45,31 @@ text_of remaking.Compact name class = compact_text class
 text_of (remaking.Packages keys) name class =
     packages_text (packages_by keys.now (module_of name)) class
 
--- the other text of the class that some bytes are, or their fault
-abbrev pub RemadeAs : (ClassData → List ℕ) → List ℕ → Result (List ℕ) (Or ClassFault) → Type 0
-RemadeAs text bytes (Ok made) = (c : _) × (class_of bytes ≡ Ok c) × (made ≡ text c)
-RemadeAs text bytes (Err (Fault fault)) = class_of bytes ≡ Err fault
-RemadeAs text bytes (Err Memory) = Unit {0}
+-- the other text of the class of a release that some bytes are, or their fault
+abbrev pub RemadeAs : ℕ → (ClassData → List ℕ) → List ℕ → Result (List ℕ) (Or ClassFault) → Type 0
+RemadeAs release text bytes (Ok made) =
+    (c : _) × (class_for release bytes ≡ Ok c) × (made ≡ text c)
+RemadeAs release text bytes (Err (Fault fault)) = class_for release bytes ≡ Err fault
+RemadeAs release text bytes (Err Memory) = Unit {0}
 
--- the class that is computed of some bytes is the one that they read as, by the rule
-abbrev pub ReadsByRule : List ℕ → Type 0
-ReadsByRule bytes = (c : ClassData) → class_of bytes ≡ Ok c → ReadsAs bytes c
+-- the class of a release that is computed of some bytes is the one that they read as, by the rule
+abbrev pub ReadsByRule : ℕ → List ℕ → Type 0
+ReadsByRule release bytes =
+    (c : ClassData) → class_for release bytes ≡ Ok c → ReadsFor release bytes c
 
 -- that holds of each pair whose name is taken
-abbrev pub TakenRead : (List ℕ → Bool) → List (List ℕ × List ℕ) → Type 0
-TakenRead takes pairs = All (λ pair. takes pair.0 ≡ true → ReadsByRule pair.1) pairs
+abbrev pub TakenRead : ℕ → (List ℕ → Bool) → List (List ℕ × List ℕ) → Type 0
+TakenRead release takes pairs =
+    All (λ pair. takes pair.0 ≡ true → ReadsByRule release pair.1) pairs
 
 -- what making the class at a place anew gave
-abbrev pub IsRemade : (List ℕ → ClassData → List ℕ) → List (List ℕ × List ℕ) → ℕ → Remade → Type 0
-IsRemade text pairs place one =
-    (one.place ≡ place) × ((pair : _) → slice_get pairs place ≡ Some pair → ReadsByRule pair.1)
+abbrev pub IsRemade : ℕ → (List ℕ → ClassData → List ℕ) → List (List ℕ × List ℕ) → ℕ → Remade
+    → Type 0
+IsRemade release text pairs place one =
+    (one.place ≡ place)
+    × ((pair : _) → slice_get pairs place ≡ Some pair → ReadsByRule release pair.1)
     × ((pair : _) → slice_get pairs place ≡ Some pair
-    → RemadeAs (text pair.0) pair.1 one.outcome)
+    → RemadeAs release (text pair.0) pair.1 one.outcome)
 
 -- the refusal of the class at a place by its fault
 abbrev pub refusal_at : List (List ℕ × List ℕ) → ℕ → ClassFault → BadClass
@@ -90,9 +95,9 @@ abbrev pub put_remade : List Remade → List (List ℕ × List ℕ)
 put_remade [] pairs = Ok pairs
 put_remade (one ∷ later) pairs = put_one one.place one.outcome (put_remade later) pairs
 
--- by these keys each descriptor lists the packages of its module among the pairs
-abbrev pub Serves : List (List ℕ × List ℕ) → List (List ℕ) → Type 0
-Serves pairs keys =
-    All (λ pair. is_descriptor pair.0 ≡ true → (c : ClassData) → class_of pair.1 ≡ Ok c
+-- by these keys each descriptor of a release lists the packages of its module among the pairs
+abbrev pub Serves : ℕ → List (List ℕ × List ℕ) → List (List ℕ) → Type 0
+Serves release pairs keys =
+    All (λ pair. is_descriptor pair.0 ≡ true → (c : ClassData) → class_for release pair.1 ≡ Ok c
     → packages_text (packages_by keys (module_of pair.0)) c
     ≡ listing_text (names_of pairs) pair.0 c) pairs

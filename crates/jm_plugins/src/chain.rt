@@ -8,14 +8,14 @@ use crate::order::order;
 use crate::packages::list_packages;
 use crate::workers::Workers;
 use jm_bytes::{Or, Text};
-use jm_class::ClassFault;
+use jm_class::{ClassFault, DEFAULT_RELEASE};
 use jm_halves::Gate;
 use jm_pool::Pool;
 use jm_words::Plugin;
 use std::alloc::Global;
 use std::thread::Threads;
 
-/// A class whose bytes don't read as one: plug-ins can't act on it.
+/// A class whose bytes don't read as one of the release: plug-ins can't act on it.
 #[derive(Debug, Drop)]
 pub struct BadClass {
     /// Its name in the pool.
@@ -24,38 +24,41 @@ pub struct BadClass {
     pub fault: ClassFault,
 }
 
-/// What one plug-in makes of a pool.
+/// What one plug-in makes of a pool, where classes are those of a release.
 fn act<T: Threads + Sync, G: Gate + Sync>(
     workers: &Workers<T, G>,
+    release: u32,
     pool: Pool,
     plugin: &Plugin,
 ) -> Result<Pool, Or<BadClass>>
     requires { 0 < workers.now.jobs }
-    ensures { IfAnswered (Makes plugin.now pool) result }
+    ensures { IfAnswered (Makes release plugin.now pool) result }
 {
     match plugin {
         Plugin::Exclude(patterns) => Ok(exclude(workers, pool, patterns.as_slice())?),
         Plugin::Order(patterns) => Ok(order(workers, pool, patterns.as_slice())?),
-        Plugin::Strip => remake_classes(workers, pool, Remaking::Strip),
-        Plugin::Compact => remake_classes(workers, pool, Remaking::Compact),
-        Plugin::Packages => list_packages(workers, pool),
+        Plugin::Strip => remake_classes(workers, release, pool, Remaking::Strip),
+        Plugin::Compact => remake_classes(workers, release, pool, Remaking::Compact),
+        Plugin::Packages => list_packages(workers, release, pool),
     }
 }
 
 /// Lets the plug-ins act on a pool, from the first to the last, each on all jobs. The answer
 /// depends neither on the number of jobs nor on the gate. A refusal spends the pool: `BadClass`
-/// comes of the first plug-in that meets a class that doesn't read, and of the least place of such
-/// a class in the pool that it has then; want of memory at an earlier place is answered instead.
-pub fn apply<R: Threads + Sync, G: Gate + Sync>(
+/// comes of the first plug-in that meets a class that doesn't read as one of the release, and of
+/// the least place of such a class in the pool that it has then; want of memory at an earlier place
+/// is answered instead. A class that no plug-in takes is of any release.
+pub fn apply_for<R: Threads + Sync, G: Gate + Sync>(
     rt: &R,
     alloc: Global,
     jobs: u32,
+    release: u32,
     pool: Pool,
     list: &[Plugin],
     gate: &G,
 ) -> Result<Pool, Or<BadClass>>
     requires { 0 < jobs }
-    ensures { IfAnswered (Applies list.now pool) result }
+    ensures { IfAnswered (Applies release list.now pool) result }
 {
     let workers = Workers {
         rt,
@@ -65,7 +68,22 @@ pub fn apply<R: Threads + Sync, G: Gate + Sync>(
     };
     let mut pool = pool;
     for number in 0..list.len() {
-        pool = act(&workers, pool, &list[number])?;
+        pool = act(&workers, release, pool, &list[number])?;
     }
     Ok(pool)
+}
+
+/// Lets the plug-ins act on a pool whose classes are those of release 21, as `apply_for` does.
+pub fn apply<R: Threads + Sync, G: Gate + Sync>(
+    rt: &R,
+    alloc: Global,
+    jobs: u32,
+    pool: Pool,
+    list: &[Plugin],
+    gate: &G,
+) -> Result<Pool, Or<BadClass>>
+    requires { 0 < jobs }
+    ensures { IfAnswered (Applies 21 list.now pool) result }
+{
+    apply_for(rt, alloc, jobs, DEFAULT_RELEASE, pool, list, gate)
 }

@@ -13,11 +13,11 @@ use crate::packages::{Keys, is_descriptor, module_of, packages_by};
 use crate::workers::Workers;
 use jm_bytes::{List, NoMemory, Or, Text};
 use jm_class::ClassFault;
-use jm_compact::compact;
+use jm_compact::compact_for;
 use jm_halves::{Gate, map_halves};
-use jm_packages::add_packages;
+use jm_packages::add_packages_for;
 use jm_pool::Pool;
-use jm_strip::strip;
+use jm_strip::strip_for;
 use std::alloc::Global;
 use std::thread::Threads;
 
@@ -66,38 +66,45 @@ fn class_places(alloc: Global, pool: &Pool, way: Remaking) -> Result<List<usize>
 /// The class of a module with its packages, by the keys of all classes.
 fn with_packages(
     alloc: Global,
+    release: u32,
     name: &[u8],
     bytes: &[u8],
     keys: &Keys,
 ) -> Result<Text, Or<ClassFault>>
-    ensures { RemadeAs (packages_text (packages_by keys.now (module_of name.now)))
+    ensures { RemadeAs release (packages_text (packages_by keys.now (module_of name.now)))
         bytes.now result }
 {
     let packages = packages_by(alloc, keys, module_of(name))?;
-    add_packages(alloc, bytes, packages.as_slice())
+    add_packages_for(alloc, release, bytes, packages.as_slice())
 }
 
-/// The other text of the class that the bytes of a name are.
-fn remake(alloc: Global, name: &[u8], bytes: &[u8], way: Remaking) -> Result<Text, Or<ClassFault>>
-    ensures made { RemadeAs (text_of way.entry name.now) bytes.now result }
-    ensures read { ReadsByRule bytes.now }
+/// The other text of the class of a release that the bytes of a name are.
+fn remake(
+    alloc: Global,
+    release: u32,
+    name: &[u8],
+    bytes: &[u8],
+    way: Remaking,
+) -> Result<Text, Or<ClassFault>>
+    ensures made { RemadeAs release (text_of way.entry name.now) bytes.now result }
+    ensures read { ReadsByRule release bytes.now }
 {
     match way {
-        Remaking::Strip => strip(alloc, bytes),
-        Remaking::Compact => compact(alloc, bytes),
-        Remaking::Packages(keys) => with_packages(alloc, name, bytes, keys),
+        Remaking::Strip => strip_for(alloc, release, bytes),
+        Remaking::Compact => compact_for(alloc, release, bytes),
+        Remaking::Packages(keys) => with_packages(alloc, release, name, bytes, keys),
     }
 }
 
 /// Makes the class at a place anew.
-fn remake_at(alloc: Global, pool: &Pool, place: usize, way: Remaking) -> Remade
+fn remake_at(alloc: Global, release: u32, pool: &Pool, place: usize, way: Remaking) -> Remade
     requires { place < length pool.now }
-    ensures { IsRemade (text_of way.entry) pool.now place result }
+    ensures { IsRemade release (text_of way.entry) pool.now place result }
 {
     let (name, bytes) = pool.at(place);
     Remade {
         place,
-        outcome: remake(alloc, name, bytes, way),
+        outcome: remake(alloc, release, name, bytes, way),
     }
 }
 
@@ -131,16 +138,17 @@ fn put_remade(alloc: Global, pool: Pool, remade: List<Remade>) -> Result<Pool, O
     Ok(pool)
 }
 
-/// Puts for each class of a pool that a way takes its text made anew.
+/// Puts for each class of a release in a pool that a way takes its text made anew.
 pub fn remake_classes<T: Threads + Sync, G: Gate + Sync>(
     workers: &Workers<T, G>,
+    release: u32,
     pool: Pool,
     way: Remaking,
 ) -> Result<Pool, Or<BadClass>>
     requires { 0 < workers.now.jobs }
     ensures computed { IfAnswered
-        (λ r. r ≡ remade_pairs (taken_by way.entry) (text_of way.entry) pool) result }
-    ensures read { IfAnswered (λ r. TakenRead (taken_by way.entry) pool) result }
+        (λ r. r ≡ remade_pairs release (taken_by way.entry) (text_of way.entry) pool) result }
+    ensures read { IfAnswered (λ r. TakenRead release (taken_by way.entry) pool) result }
 {
     let Workers {
         rt,
@@ -149,7 +157,7 @@ pub fn remake_classes<T: Threads + Sync, G: Gate + Sync>(
         gate,
     } = *workers;
     let places = class_places(alloc, &pool, way)?;
-    let work = |place: &usize| remake_at(alloc, &pool, *place, way);
+    let work = |place: &usize| remake_at(alloc, release, &pool, *place, way);
     let remade = map_halves(rt, alloc, jobs, places.as_slice(), &work, gate)?;
     put_remade(alloc, pool, remade)
 }

@@ -9,4 +9,4 @@ mod packages;
 mod places;
 mod workers;
 
-pub use chain::{BadClass, apply};
+pub use chain::{BadClass, apply, apply_for};

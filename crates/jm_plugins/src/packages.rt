@@ -131,26 +131,27 @@ pub fn packages_by(alloc: Global, keys: &Keys, module: &[u8]) -> Result<List<Tex
     Ok(packages)
 }
 
-/// Whether a resource stays as it is, whatever the packages are: all but descriptors do.
-fn stays_at(alloc: Global, name: &[u8], bytes: &[u8]) -> Result<bool, NoMemory>
+/// Whether a resource stays as it is, whatever the packages are: all but descriptors do, and
+/// classes of the release that take no list.
+fn stays_at(alloc: Global, release: u32, name: &[u8], bytes: &[u8]) -> Result<bool, NoMemory>
     ensures { IfOk result
-        (λ stay. stay ≡ true → is_descriptor name.now ≡ true → Stays bytes.now) }
+        (λ stay. stay ≡ true → is_descriptor name.now ≡ true → Stays release bytes.now) }
 {
     if is_descriptor(name) {
-        stays(alloc, bytes)
+        stays(alloc, release, bytes)
     } else {
         Ok(true)
     }
 }
 
 /// Whether all resources of a pool stay as they are, whatever the packages are.
-fn all_stay(alloc: Global, pool: &Pool) -> Result<bool, NoMemory>
+fn all_stay(alloc: Global, release: u32, pool: &Pool) -> Result<bool, NoMemory>
     ensures { IfOk result (λ stay. stay ≡ true
-        → All (λ pair. is_descriptor pair.0 ≡ true → Stays pair.1) pool.now) }
+        → All (λ pair. is_descriptor pair.0 ≡ true → Stays release pair.1) pool.now) }
 {
     for place in 0..pool.len() {
         let (name, bytes) = pool.at(place);
-        let stay = stays_at(alloc, name, bytes)?;
+        let stay = stays_at(alloc, release, name, bytes)?;
         if !stay {
             return Ok(false);
         }
@@ -162,16 +163,17 @@ fn all_stay(alloc: Global, pool: &Pool) -> Result<bool, NoMemory>
 /// are looked for only where a descriptor is to change.
 pub fn list_packages<T: Threads + Sync, G: Gate + Sync>(
     workers: &Workers<T, G>,
+    release: u32,
     pool: Pool,
 ) -> Result<Pool, Or<BadClass>>
     requires { 0 < workers.now.jobs }
     ensures computed { IfAnswered
-        (λ r. r ≡ remade_pairs is_descriptor (listing_text (names_of pool)) pool) result }
-    ensures read { IfAnswered (λ r. TakenRead is_descriptor pool) result }
+        (λ r. r ≡ remade_pairs release is_descriptor (listing_text (names_of pool)) pool) result }
+    ensures read { IfAnswered (λ r. TakenRead release is_descriptor pool) result }
 {
-    if all_stay(workers.alloc, &pool)? {
+    if all_stay(workers.alloc, release, &pool)? {
         return Ok(pool);
     }
     let keys = class_keys(workers.alloc, &pool)?;
-    remake_classes(workers, pool, Remaking::Packages(&keys))
+    remake_classes(workers, release, pool, Remaking::Packages(&keys))
 }

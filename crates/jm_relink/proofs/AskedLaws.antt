@@ -27,9 +27,10 @@ use Rattle.jm_relink.specs.Gathering.{AreModules}
 use Rattle.jm_relink.specs.Modules.{FindsModules, HoldsModules, IsSeenIn, IsVisibleIn, ModulesOf, SeenModule, name_of}
 
 -- what is seen of an image is what the rule says
-pub visible_in : (b : List ℕ) (seen : List SeenModule) → ModulesOf b (Ok seen) → IsVisibleIn (resources_of b) seen
+pub visible_in : (release : ℕ) (b : List ℕ) (seen : List SeenModule) → ModulesOf release b (Ok seen)
+    → IsVisibleIn release (resources_of b) seen
 unfolding ModulesOf
-visible_in b seen shows = shows
+visible_in release b seen shows = shows
 
 -- Modules that rise by name
 
@@ -55,8 +56,8 @@ rising_differ cs rises i j name (c, one, is) (e, other, also) = go (nat_lt i j) 
 
 -- Two lists of modules that were seen
 
-module _ (b : List ℕ) (modules : ImageModules) (seen : List SeenModule) (visible : IsVisibleIn (resources_of b) seen)
-    (holds : HoldsModules modules seen) where
+module _ (release : ℕ) (b : List ℕ) (modules : ImageModules) (seen : List SeenModule)
+    (visible : IsVisibleIn release (resources_of b) seen) (holds : HoldsModules modules seen) where
   abbrev found : List Candidate
   found = modules.candidates
 
@@ -66,7 +67,7 @@ module _ (b : List ℕ) (modules : ImageModules) (seen : List SeenModule) (visib
   pub image_names_differ : NamesDiffer found
   image_names_differ = rising_differ found candidates_rise
 
-  whole_name : (s : SeenModule) → IsSeenIn (resources_of b) s → list_any is_slash (name_of s) ≡ false
+  whole_name : (s : SeenModule) → IsSeenIn release (resources_of b) s → list_any is_slash (name_of s) ≡ false
   whole_name s is = is.info.whole
 
   all_whole : All (λ c. list_any is_slash c.descriptor.name ≡ false) found
@@ -101,7 +102,7 @@ module _ (b : List ℕ) (modules : ImageModules) (seen : List SeenModule) (visib
   pub image_modules : AreModules modules
   image_modules = record { long = as_long; differ = image_names_differ; whole = all_whole; apart = all_apart }
 
-pub found_are : (b : List ℕ) (answer : Result ImageModules (Or RelinkFault)) → IfAnswered (FindsModules b) answer
-    → IfOk answer AreModules
-found_are b (Ok found) (seen, shows, holds) = image_modules b found seen (visible_in b seen shows) holds
-found_are b (Err e) finds = tt
+pub found_are : (release : ℕ) (b : List ℕ) (answer : Result ImageModules (Or RelinkFault))
+    → IfAnswered (FindsModules release b) answer → IfOk answer AreModules
+found_are release b (Ok found) (seen, shows, holds) = image_modules release b found seen (visible_in release b seen shows) holds
+found_are release b (Err e) finds = tt

@@ -10,7 +10,7 @@ use Rattle.jm_bytes.proofs.Choice.{same_err, same_ok}
 use Rattle.jm_bytes.proofs.Members.{contains_cases, contains_none}
 use Rattle.jm_modinfo.specs.declared.descriptor.Descriptor.{Descriptor}
 use Rattle.jm_modinfo.specs.declared.faults.DescriptorFault.{DescriptorFault}
-use Rattle.jm_modinfo.specs.Descriptions.{info_in}
+use Rattle.jm_modinfo.specs.Descriptions.{info_for}
 use Rattle.jm_relink.specs.declared.fault.RelinkFault.{RelinkFault}
 use Rattle.jm_relink.specs.declared.fault.RelinkFault.TheVariants as fault_of
 use Rattle.jm_relink.specs.Files.{info_entry}
@@ -53,31 +53,34 @@ not_own m (Ok d) e h = go (bytes_eq d.name m) refl h
         ∙ ap (λ x. Some x) (same_err {A = Descriptor} (fault_of.Foreign (info_entry m)) e k)
 
 -- a module that isn't refused
-pub record IsJudged (g : Group) (content : List ℕ) (o : Option SeenModule) : Type 0 where
+pub record IsJudged (release : ℕ) (g : Group) (content : List ℕ) (o : Option SeenModule) : Type 0 where
   pub descriptor : Descriptor
-  pub own : IsOwn g.0 (info_in content) descriptor
+  pub own : IsOwn g.0 (info_for release content) descriptor
   pub is : o ≡ Some (seen_with g.1 descriptor)
 
-pub entry_ok : (g : Group) (content : List ℕ) (o : Option SeenModule) → entry_due g (Some content) ≡ Ok o → IsJudged g content o
-entry_ok g content o h = go (descriptor_due g.0 (info_in content)) refl h
+pub entry_ok : (release : ℕ) (g : Group) (content : List ℕ) (o : Option SeenModule) → entry_due release g (Some content) ≡ Ok o
+    → IsJudged release g content o
+entry_ok release g content o h = go (descriptor_due g.0 (info_for release content)) refl h
   where
-    go : (r : Result Descriptor RelinkFault) → descriptor_due g.0 (info_in content) ≡ r
-        → followed (followed r (λ d. Ok (seen_with g.1 d))) (λ s. Ok (Some s)) ≡ Ok o → IsJudged g content o
+    go : (r : Result Descriptor RelinkFault) → descriptor_due g.0 (info_for release content) ≡ r
+        → followed (followed r (λ d. Ok (seen_with g.1 d))) (λ s. Ok (Some s)) ≡ Ok o → IsJudged release g content o
     go (Err e) is k = cc
     go (Ok d) is k = record {
       descriptor = d;
-      own = own g.0 (info_in content) d is;
+      own = own g.0 (info_for release content) d is;
       is = sym (same_ok {E = RelinkFault} (Some (seen_with g.1 d)) o k);
     }
 
-pub entry_err : (g : Group) (content : List ℕ) (e : RelinkFault) → entry_due g (Some content) ≡ Err e
-    → info_refusal g.0 (info_in content) ≡ Some e
-entry_err g content e h = go (descriptor_due g.0 (info_in content)) refl h
+pub entry_err : (release : ℕ) (g : Group) (content : List ℕ) (e : RelinkFault) → entry_due release g (Some content) ≡ Err e
+    → info_refusal g.0 (info_for release content) ≡ Some e
+entry_err release g content e h = go (descriptor_due g.0 (info_for release content)) refl h
   where
-    go : (r : Result Descriptor RelinkFault) → descriptor_due g.0 (info_in content) ≡ r
-        → followed (followed r (λ d. Ok (seen_with g.1 d))) (λ s. Ok (Some s)) ≡ Err e → info_refusal g.0 (info_in content) ≡ Some e
+    go : (r : Result Descriptor RelinkFault) → descriptor_due g.0 (info_for release content) ≡ r
+        → followed (followed r (λ d. Ok (seen_with g.1 d))) (λ s. Ok (Some s)) ≡ Err e
+        → info_refusal g.0 (info_for release content) ≡ Some e
     go (Ok d) is k = cc
-    go (Err other) is k = not_own g.0 (info_in content) e (is ∙ ap (λ x. Err x) (same_err {A = Option SeenModule} other e k))
+    go (Err other) is k =
+        not_own g.0 (info_for release content) e (is ∙ ap (λ x. Err x) (same_err {A = Option SeenModule} other e k))
 
 -- One module after another
 
@@ -86,51 +89,55 @@ abbrev pub value : Result (Option SeenModule) RelinkFault → Option SeenModule
 value (Ok o) = o
 value (Err e) = None
 
-abbrev pub seen_of : Group → Option SeenModule
-seen_of g = value (group_due g)
+abbrev pub seen_of : ℕ → Group → Option SeenModule
+seen_of release g = value (group_due release g)
 
 -- a group isn't refused
-abbrev pub IsFree : Group → Type 0
-IsFree g = (o : Option SeenModule) × (group_due g ≡ Ok o)
+abbrev pub IsFree : ℕ → Group → Type 0
+IsFree release g = (o : Option SeenModule) × (group_due release g ≡ Ok o)
 
-pub groups_ok : (seen : List SeenModule) (gs : List Group) (r : List SeenModule) → groups_due seen gs ≡ Ok r
-    → (r ≡ seen ++ filter_map seen_of gs) × ((g : Group) → Contains gs g → IsFree g)
-groups_ok seen [] r h = (sym (same_ok {E = RelinkFault} seen r h) ∙ sym (append_none seen), λ g there. absurd (contains_none g there))
-groups_ok seen (g ∷ gs) r h = go (group_due g) refl h (λ more k. groups_ok more gs r k)
+pub groups_ok : (release : ℕ) (seen : List SeenModule) (gs : List Group) (r : List SeenModule) → groups_due release seen gs ≡ Ok r
+    → (r ≡ seen ++ filter_map (seen_of release) gs) × ((g : Group) → Contains gs g → IsFree release g)
+groups_ok release seen [] r h =
+    (sym (same_ok {E = RelinkFault} seen r h) ∙ sym (append_none seen), λ g there. absurd (contains_none g there))
+groups_ok release seen (g ∷ gs) r h = go (group_due release g) refl h (λ more k. groups_ok release more gs r k)
   where
-    go : (due : Result (Option SeenModule) RelinkFault) → group_due g ≡ due
-        → followed due (λ o. groups_due (seen ++ option_to_list o) gs) ≡ Ok r
-        → ((more : List SeenModule) → groups_due more gs ≡ Ok r → (r ≡ more ++ filter_map seen_of gs) × ((k : Group) → Contains gs k
-        → IsFree k))
-        → (r ≡ seen ++ cons_option (seen_of g) (filter_map seen_of gs)) × ((k : Group) → Contains (g ∷ gs) k → IsFree k)
+    go : (due : Result (Option SeenModule) RelinkFault) → group_due release g ≡ due
+        → followed due (λ o. groups_due release (seen ++ option_to_list o) gs) ≡ Ok r
+        → ((more : List SeenModule) → groups_due release more gs ≡ Ok r
+        → (r ≡ more ++ filter_map (seen_of release) gs) × ((k : Group) → Contains gs k → IsFree release k))
+        → (r ≡ seen ++ cons_option (seen_of release g) (filter_map (seen_of release) gs))
+        × ((k : Group) → Contains (g ∷ gs) k → IsFree release k)
     go (Err e) is k rest = cc
     go (Ok o) is k rest =
         let later = rest (seen ++ option_to_list o) k in (
-          later.0 ∙ append_assoc seen (option_to_list o) (filter_map seen_of gs)
-              ∙ ap (λ xs. seen ++ xs) (sym (put_alone o (filter_map seen_of gs)))
-              ∙ ap (λ due. seen ++ cons_option (value due) (filter_map seen_of gs)) (sym is),
+          later.0 ∙ append_assoc seen (option_to_list o) (filter_map (seen_of release) gs)
+              ∙ ap (λ xs. seen ++ xs) (sym (put_alone o (filter_map (seen_of release) gs)))
+              ∙ ap (λ due. seen ++ cons_option (value due) (filter_map (seen_of release) gs)) (sym is),
           λ x there. elim (contains_cases g gs x there) [
-            | inl same ↦ subst IsFree same (o, is)
+            | inl same ↦ subst (IsFree release) same (o, is)
             | inr behind ↦ later.1 x behind
           ],
         )
 
 -- the first group that is refused
-pub record IsFirstRefused (gs : List Group) (e : RelinkFault) : Type 0 where
+pub record IsFirstRefused (release : ℕ) (gs : List Group) (e : RelinkFault) : Type 0 where
   pub front : List Group
   pub group : Group
   pub back : List Group
   pub cut : gs ≡ front ++ group ∷ back
-  pub refused : group_due group ≡ Err e
-  pub free : (g : Group) → Contains front g → IsFree g
+  pub refused : group_due release group ≡ Err e
+  pub free : (g : Group) → Contains front g → IsFree release g
 
-pub groups_err : (seen : List SeenModule) (gs : List Group) (e : RelinkFault) → groups_due seen gs ≡ Err e → IsFirstRefused gs e
-groups_err seen [] e h = cc
-groups_err seen (g ∷ gs) e h = go (group_due g) refl h (λ more k. groups_err more gs e k)
+pub groups_err : (release : ℕ) (seen : List SeenModule) (gs : List Group) (e : RelinkFault) → groups_due release seen gs ≡ Err e
+    → IsFirstRefused release gs e
+groups_err release seen [] e h = cc
+groups_err release seen (g ∷ gs) e h = go (group_due release g) refl h (λ more k. groups_err release more gs e k)
   where
-    go : (due : Result (Option SeenModule) RelinkFault) → group_due g ≡ due
-        → followed due (λ o. groups_due (seen ++ option_to_list o) gs) ≡ Err e
-        → ((more : List SeenModule) → groups_due more gs ≡ Err e → IsFirstRefused gs e) → IsFirstRefused (g ∷ gs) e
+    go : (due : Result (Option SeenModule) RelinkFault) → group_due release g ≡ due
+        → followed due (λ o. groups_due release (seen ++ option_to_list o) gs) ≡ Err e
+        → ((more : List SeenModule) → groups_due release more gs ≡ Err e → IsFirstRefused release gs e)
+        → IsFirstRefused release (g ∷ gs) e
     go (Err other) is k rest = record {
       front = [];
       group = g;
@@ -148,7 +155,7 @@ groups_err seen (g ∷ gs) e h = go (group_due g) refl h (λ more k. groups_err 
           cut = ap (λ xs. g ∷ xs) later.cut;
           refused = later.refused;
           free = λ x there. elim (contains_cases g later.front x there) [
-            | inl same ↦ subst IsFree same (o, is)
+            | inl same ↦ subst (IsFree release) same (o, is)
             | inr behind ↦ later.free x behind
           ];
         }

@@ -22,7 +22,7 @@ use Rattle.jm_bytes.specs.ByteOrder.{is_before}
 use Rattle.jm_bytes.specs.Results.{IfAnswered}
 use Rattle.jm_bytes.specs.declared.faults.Or.{Or}
 use Rattle.jm_bytes.specs.declared.faults.Or.TheVariants.{Fault, Memory}
-use Rattle.jm_modinfo.specs.Descriptions.{info_in}
+use Rattle.jm_modinfo.specs.Descriptions.{info_for}
 use Rattle.jm_form.specs.ModuleFiles.{info_name}
 use Rattle.jm_names.specs.Names.{is_node, is_slash}
 use Rattle.jm_reader.specs.Walk.{entries_with}
@@ -167,18 +167,19 @@ info_from rs fs g content are there is =
 
 -- What is seen of a module
 
-seen_from : (rs : List Named) (fs : List Filed) (g : Group) (s : SeenModule) → AreSorted rs fs → Contains (groups fs) g
-    → group_due g ≡ Ok (Some s) → (name_of s ≡ g.0) × IsSeenIn rs s
-seen_from rs fs g s are there due = go (info_content g.1) refl due
+seen_from : (release : ℕ) (rs : List Named) (fs : List Filed) (g : Group) (s : SeenModule) → AreSorted rs fs
+    → Contains (groups fs) g → group_due release g ≡ Ok (Some s) → (name_of s ≡ g.0) × IsSeenIn release rs s
+seen_from release rs fs g s are there due = go (info_content g.1) refl due
   where
-    go : (o : Option (List ℕ)) → info_content g.1 ≡ o → entry_due g o ≡ Ok (Some s) → (name_of s ≡ g.0) × IsSeenIn rs s
+    go : (o : Option (List ℕ)) → info_content g.1 ≡ o → entry_due release g o ≡ Ok (Some s)
+        → (name_of s ≡ g.0) × IsSeenIn release rs s
     go None is k = cc
     go (Some content) is k =
-        let judged = entry_ok g content (Some s) k in
+        let judged = entry_ok release g content (Some s) k in
         let d = judged.descriptor in
         let info = info_from rs fs g content are there is in
         let files = group_files rs fs g are there info.whole in
-        let seen : IsSeenIn rs (seen_with g.1 d) = record {
+        let seen : IsSeenIn release rs (seen_with g.1 d) = record {
           content = content;
           info = subst (λ n. HasInfo rs n content) (sym judged.own.name) info;
           says = judged.own.says;
@@ -187,62 +188,64 @@ seen_from rs fs g s are there due = go (info_content g.1) refl due
         } in
         let same : seen_with g.1 d ≡ s = sym (same_some s (seen_with g.1 d) judged.is) in (
           subst (λ (x : SeenModule). name_of x ≡ g.0) same judged.own.name,
-          subst (IsSeenIn rs) same seen,
+          subst (IsSeenIn release rs) same seen,
         )
 
-value_some : (g : Group) (s : SeenModule) → IsFree g → seen_of g ≡ Some s → group_due g ≡ Ok (Some s)
-value_some g s free is =
+value_some : (release : ℕ) (g : Group) (s : SeenModule) → IsFree release g → seen_of release g ≡ Some s
+    → group_due release g ≡ Ok (Some s)
+value_some release g s free is =
     let one : free.0 ≡ Some s = sym (ap (λ (r : Result (Option SeenModule) RelinkFault). value r) free.1) ∙ is in
     free.1 ∙ ap (λ o. Ok o) one
 
 -- a module whose entry is there is judged by it
-free_of : (g : Group) (content : List ℕ) → info_content g.1 ≡ Some content → IsFree g → (d : Descriptor) × (info_in content ≡ Ok d)
-    × (d.name ≡ g.0) × (group_due g ≡ Ok (Some (seen_with g.1 d))) × (info_refusal g.0 (info_in content) ≡ None)
-free_of g content is free =
-    let due : entry_due g (Some content) ≡ Ok free.0 = ap (entry_due g) (sym is) ∙ free.1 in
-    let judged = entry_ok g content free.0 due in
+free_of : (release : ℕ) (g : Group) (content : List ℕ) → info_content g.1 ≡ Some content → IsFree release g
+    → (d : Descriptor) × (info_for release content ≡ Ok d) × (d.name ≡ g.0) × (group_due release g ≡ Ok (Some (seen_with g.1 d)))
+    × (info_refusal g.0 (info_for release content) ≡ None)
+free_of release g content is free =
+    let due : entry_due release g (Some content) ≡ Ok free.0 = ap (entry_due release g) (sym is) ∙ free.1 in
+    let judged = entry_ok release g content free.0 due in
     (judged.descriptor, judged.own.says, judged.own.name, free.1 ∙ ap (λ o. Ok o) judged.is, judged.own.free)
 
-pub visible_from : (rs : List Named) (fs : List Filed) (seen : List SeenModule) → AreSorted rs fs → groups_due [] (groups fs)
-    ≡ Ok seen → IsVisibleIn rs seen
-visible_from rs fs seen are due = subst (IsVisibleIn rs) (sym ok.0) visible
+pub visible_from : (release : ℕ) (rs : List Named) (fs : List Filed) (seen : List SeenModule) → AreSorted rs fs
+    → groups_due release [] (groups fs) ≡ Ok seen → IsVisibleIn release rs seen
+visible_from release rs fs seen are due = subst (IsVisibleIn release rs) (sym ok.0) visible
   where
-    ok : (seen ≡ filter_map seen_of (groups fs)) × ((g : Group) → Contains (groups fs) g → IsFree g)
-    ok = groups_ok [] (groups fs) seen due
+    ok : (seen ≡ filter_map (seen_of release) (groups fs)) × ((g : Group) → Contains (groups fs) g → IsFree release g)
+    ok = groups_ok release [] (groups fs) seen due
 
-    from_seen : (s : SeenModule) → Contains (filter_map seen_of (groups fs)) s → (g : Group) × Contains (groups fs) g
-        × (name_of s ≡ g.0) × IsSeenIn rs s
+    from_seen : (s : SeenModule) → Contains (filter_map (seen_of release) (groups fs)) s → (g : Group) × Contains (groups fs) g
+        × (name_of s ≡ g.0) × IsSeenIn release rs s
     from_seen s there =
-        let from = from_filter_map seen_of (groups fs) s there in
+        let from = from_filter_map (seen_of release) (groups fs) s there in
         let g = from.0 in
-        let is = seen_from rs fs g s are from.1 (value_some g s (ok.1 g from.1) from.2) in
+        let is = seen_from release rs fs g s are from.1 (value_some release g s (ok.1 g from.1) from.2) in
         (g, from.1, is.0, is.1)
 
-    up : AllPairs (λ s t. IsTrue (is_before (name_of s) (name_of t))) (filter_map seen_of (groups fs))
+    up : AllPairs (λ s t. IsTrue (is_before (name_of s) (name_of t))) (filter_map (seen_of release) (groups fs))
     up =
         pairs_filter_map (λ (g h : Group). Contains (groups fs) g × Contains (groups fs) h × (is_before g.0 h.0 ≡ true))
-        (λ (s t : SeenModule). IsTrue (is_before (name_of s) (name_of t))) seen_of
+        (λ (s t : SeenModule). IsTrue (is_before (name_of s) (name_of t))) (seen_of release)
         (λ g h has s t one other.
-        let first = seen_from rs fs g s are has.0 (value_some g s (ok.1 g has.0) one) in
-        let second = seen_from rs fs h t are has.1 (value_some h t (ok.1 h has.1) other) in
+        let first = seen_from release rs fs g s are has.0 (value_some release g s (ok.1 g has.0) one) in
+        let second = seen_from release rs fs h t are has.1 (value_some release h t (ok.1 h has.1) other) in
         rw (first.0, second.0) has.2)
         (groups fs)
         (pairs_among (λ (g h : Group). is_before g.0 h.0 ≡ true) (λ g h. Contains (groups fs) g × Contains (groups fs) h
         × (is_before g.0 h.0 ≡ true)) (groups fs)
         (λ g h there too lesser. (there, too, lesser)) (groups_rise fs are.sorted))
 
-    visible : IsVisibleIn rs (filter_map seen_of (groups fs))
+    visible : IsVisibleIn release rs (filter_map (seen_of release) (groups fs))
     visible = record {
       rising = up;
-      each = all_from_contains (IsSeenIn rs) (filter_map seen_of (groups fs)) (λ s there. (from_seen s there).3);
+      each = all_from_contains (IsSeenIn release rs) (filter_map (seen_of release) (groups fs)) (λ s there. (from_seen s there).3);
       all = λ m content info.
           let has = info_there rs fs m content are info in
           let g = has.group in
-          let free = free_of g content has.info (ok.1 g has.there) in
+          let free = free_of release g content has.info (ok.1 g has.there) in
           let s = seen_with g.1 free.0 in
-          let among = contains_filter_map seen_of (groups fs) g s has.there (ap value free.3) in
-          subst (Contains (map name_of (filter_map seen_of (groups fs)))) (free.2 ∙ has.name)
-          (contains_map name_of (filter_map seen_of (groups fs)) s among);
+          let among = contains_filter_map (seen_of release) (groups fs) g s has.there (ap value free.3) in
+          subst (Contains (map name_of (filter_map (seen_of release) (groups fs)))) (free.2 ∙ has.name)
+          (contains_map name_of (filter_map (seen_of release) (groups fs)) s among);
     }
 
 -- what stands before an element of rising groups stands in front of it
@@ -262,17 +265,19 @@ in_front_of front g back h rising there lesser =
           ]
     ]
 
-refused_at : (rs : List Named) (fs : List Filed) (e : RelinkFault) → AreSorted rs fs → IsFirstRefused (groups fs) e → IsRefusedIn rs e
-refused_at rs fs e are refused = go (info_content refused.group.1) refl refused.refused
+refused_at : (release : ℕ) (rs : List Named) (fs : List Filed) (e : RelinkFault) → AreSorted rs fs
+    → IsFirstRefused release (groups fs) e → IsRefusedIn release rs e
+refused_at release rs fs e are refused = go (info_content refused.group.1) refl refused.refused
   where
-    go : (o : Option (List ℕ)) → info_content refused.group.1 ≡ o → entry_due refused.group o ≡ Err e → IsRefusedIn rs e
+    go : (o : Option (List ℕ)) → info_content refused.group.1 ≡ o → entry_due release refused.group o ≡ Err e
+        → IsRefusedIn release rs e
     go None is k = cc
     go (Some content) is k = record {
       «module» = refused.group.0;
       content = content;
       info = info_from rs fs refused.group content are (subst (λ gs. Contains gs refused.group) (sym refused.cut)
           (Contains-append_right refused.front (refused.group ∷ refused.back) refused.group (contains_here refused.group refused.back))) is;
-      refused = entry_err refused.group content e k;
+      refused = entry_err release refused.group content e k;
       first = λ lesser other info before.
           let has = info_there rs fs lesser other are info in
           let h = has.group in
@@ -280,13 +285,13 @@ refused_at rs fs e are refused = go (info_content refused.group.1) refl refused.
           let below : is_before h.0 refused.group.0 ≡ true = rw has.name before in
           let in_front : Contains refused.front h = in_front_of refused.front refused.group refused.back h rising
           (subst (λ gs. Contains gs h) refused.cut has.there) below in
-          let free = free_of h other has.info (refused.free h in_front) in
-          subst (λ n. info_refusal n (info_in other) ≡ None) has.name free.4;
+          let free = free_of release h other has.info (refused.free h in_front) in
+          subst (λ n. info_refusal n (info_for release other) ≡ None) has.name free.4;
     }
 
-pub refused_from : (rs : List Named) (fs : List Filed) (e : RelinkFault) → AreSorted rs fs → groups_due [] (groups fs) ≡ Err e
-    → IsRefusedIn rs e
-refused_from rs fs e are due = refused_at rs fs e are (groups_err [] (groups fs) e due)
+pub refused_from : (release : ℕ) (rs : List Named) (fs : List Filed) (e : RelinkFault) → AreSorted rs fs
+    → groups_due release [] (groups fs) ≡ Err e → IsRefusedIn release rs e
+refused_from release rs fs e are due = refused_at release rs fs e are (groups_err release [] (groups fs) e due)
 
 -- What the code hands out
 
@@ -303,15 +308,16 @@ pub are_sorted : (b : List ℕ) (fs : List Filed) → IsPermutation (filter_map 
     → AreSorted (resources_of b) fs
 are_sorted b fs moved sorted = record { differ = resources_differ b; moved = moved; sorted = sorted }
 
-pub come_from : (fs : List Filed) (gs : List Group) (seen : List handed.SeenModule) (found : ImageModules) → gs ≡ groups fs
-    → groups_due [] gs ≡ Ok (map seen_as seen) → found.candidates ≡ map (λ (s : handed.SeenModule). s.candidate) seen → found.files
-    ≡ map (λ (s : handed.SeenModule). s.files) seen → ComesFrom fs (Ok found)
-come_from fs gs seen found is due candidates files =
-    (map seen_as seen, ap (groups_due []) (sym is) ∙ due, held found seen candidates files)
+pub come_from : (release : ℕ) (fs : List Filed) (gs : List Group) (seen : List handed.SeenModule) (found : ImageModules)
+    → gs ≡ groups fs → groups_due release [] gs ≡ Ok (map seen_as seen)
+    → found.candidates ≡ map (λ (s : handed.SeenModule). s.candidate) seen
+    → found.files ≡ map (λ (s : handed.SeenModule). s.files) seen → ComesFrom release fs (Ok found)
+come_from release fs gs seen found is due candidates files =
+    (map seen_as seen, ap (groups_due release []) (sym is) ∙ due, held found seen candidates files)
 
-pub found_modules : (b : List ℕ) (fs : List Filed) (answer : Result ImageModules (Or RelinkFault))
-    → AreSorted (resources_of b) fs → IfAnswered (ComesFrom fs) answer → IfAnswered (FindsModules b) answer
+pub found_modules : (release : ℕ) (b : List ℕ) (fs : List Filed) (answer : Result ImageModules (Or RelinkFault))
+    → AreSorted (resources_of b) fs → IfAnswered (ComesFrom release fs) answer → IfAnswered (FindsModules release b) answer
 unfolding ModulesOf
-found_modules b fs (Ok found) are come = (come.0, visible_from (resources_of b) fs come.0 are come.1, come.2)
-found_modules b fs (Err (Fault fault)) are come = refused_from (resources_of b) fs fault are come
-found_modules b fs (Err Memory) are come = tt
+found_modules release b fs (Ok found) are come = (come.0, visible_from release (resources_of b) fs come.0 are come.1, come.2)
+found_modules release b fs (Err (Fault fault)) are come = refused_from release (resources_of b) fs fault are come
+found_modules release b fs (Err Memory) are come = tt

@@ -1,5 +1,5 @@
 -- The modules of small images, and which refusal is the first, computed from the definitions.
-use Rattle.std.proofs.Common.{◌≡◌, ◌∷◌, ◌++◌, ℕ, List, [], map, Some, Ok, Err, refl}
+use Rattle.std.proofs.Common.{◌≡◌, ◌∷◌, ◌++◌, ℕ, List, [], drop, map, take, Some, Ok, Err, refl}
 use Rattle.std.specs.List.{filter_map}
 use Rattle.std.specs.Prelude.{codes}
 use Rattle.jm_class.specs.declared.class.ClassFault.TheVariants as class
@@ -55,7 +55,7 @@ abbrev shown : SeenModule → List (List ℕ)
 shown s = name_of s ∷ map (λ f. f.0) s.files ++ s.candidate.packages
 
 two_modules :
-    mapped (map shown) (groups_due [] (groups files))
+    mapped (map shown) (groups_due 21 [] (groups files))
     ≡ Ok
     ((codes "a" ∷ codes "module-info.class" ∷ codes "p/q/A.class" ∷ codes "p.q" ∷ [])
     ∷ (codes "b" ∷ codes "META-INF/p/B.class" ∷ codes "module-info.class" ∷ []) ∷ [])
@@ -63,18 +63,33 @@ two_modules = refl
 
 -- the least module with a refusal decides, whatever is wrong with a later one
 foreign_first :
-    groups_due []
+    groups_due 21 []
     (groups
     (info (codes "a") (codes "b") ∷ filed (codes "b") (codes "module-info.class") [] ∷ []))
     ≡ Err (fault_of.Foreign (codes "/a/module-info.class"))
 foreign_first = refl
 
 no_class :
-    groups_due []
+    groups_due 21 []
     (groups
     (filed (codes "a") (codes "module-info.class") [] ∷ info (codes "b") (codes "a") ∷ []))
     ≡ Err (fault_of.BadInfo (codes "/a/module-info.class") (fault.Class (class.Short 0)))
 no_class = refl
+
+-- a module whose class is one of release 22
+abbrev newer : List Filed
+newer =
+    filed (codes "a") (codes "module-info.class")
+    (take 7 (info_text (codes "a") []) ++ 66 ∷ drop 8 (info_text (codes "a") []))
+    ∷ []
+
+newer_refused :
+    groups_due 21 [] (groups newer)
+    ≡ Err (fault_of.BadInfo (codes "/a/module-info.class") (fault.Class (class.Version 66)))
+newer_refused = refl
+
+newer_seen : mapped (map name_of) (groups_due 22 [] (groups newer)) ≡ Ok (codes "a" ∷ [])
+newer_seen = refl
 
 -- What is gathered
 

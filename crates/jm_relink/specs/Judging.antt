@@ -1,4 +1,5 @@
--- What the steps come to that judge the modules of an image (this project's rule).
+-- What the steps come to that judge the modules of an image (this project's rule). The number in
+-- front is the release of Java SE whose classes are taken.
 use Rattle.std.specs.Prelude.{ℕ, ◌≡◌, List, [], ◌∷◌, ◌++◌, Option, Some, None}
 use Rattle.std.specs.Prelude.{option_to_list, Result, Ok, Err}
 use Rattle.std.specs.Prelude.{if◌then◌else◌}
@@ -6,7 +7,7 @@ use Rattle.std.specs.Str.{bytes_eq}
 use Rattle.jm_bytes.specs.Results.{followed}
 use Rattle.jm_modinfo.specs.declared.descriptor.Descriptor.{Descriptor}
 use Rattle.jm_modinfo.specs.declared.faults.DescriptorFault.{DescriptorFault}
-use Rattle.jm_modinfo.specs.Descriptions.{info_in}
+use Rattle.jm_modinfo.specs.Descriptions.{info_for}
 use Rattle.jm_relink.specs.declared.fault.RelinkFault.{RelinkFault}
 use Rattle.jm_relink.specs.declared.fault.RelinkFault.TheVariants as fault_of
 use Rattle.jm_relink.specs.declared.judging.SeenModule as handed
@@ -45,22 +46,24 @@ abbrev pub seen_due : Group → Result Descriptor DescriptorFault → Result See
 seen_due g said = followed (descriptor_due g.0 said) (λ d. Ok (seen_with g.1 d))
 
 -- the same by the content of its entry, none where no entry is there
-abbrev pub entry_due : Group → Option (List ℕ) → Result (Option SeenModule) RelinkFault
-entry_due g None = Ok None
-entry_due g (Some content) = followed (seen_due g (info_in content)) (λ s. Ok (Some s))
+abbrev pub entry_due : ℕ → Group → Option (List ℕ) → Result (Option SeenModule) RelinkFault
+entry_due release g None = Ok None
+entry_due release g (Some content) =
+    followed (seen_due g (info_for release content)) (λ s. Ok (Some s))
 
 -- the module of some files, none where no entry makes it one, or its refusal
-abbrev pub group_due : Group → Result (Option SeenModule) RelinkFault
-group_due g = entry_due g (info_content g.1)
+abbrev pub group_due : ℕ → Group → Result (Option SeenModule) RelinkFault
+group_due release g = entry_due release g (info_content g.1)
 
 -- the modules of some groups, once earlier ones gave some
-abbrev pub groups_due : List SeenModule → List Group → Result (List SeenModule) RelinkFault
-groups_due seen [] = Ok seen
-groups_due seen (g ∷ gs) =
-    followed (group_due g) (λ o. groups_due (seen ++ option_to_list o) gs)
+abbrev pub groups_due : ℕ → List SeenModule → List Group → Result (List SeenModule) RelinkFault
+groups_due release seen [] = Ok seen
+groups_due release seen (g ∷ gs) =
+    followed (group_due release g) (λ o. groups_due release (seen ++ option_to_list o) gs)
 
 -- by the answer: the modules of sorted files, or their first fault
-abbrev pub ComesFrom : List Filed → Result ImageModules RelinkFault → Type 0
-ComesFrom files (Ok found) =
-    (seen : List SeenModule) × (groups_due [] (groups files) ≡ Ok seen) × HoldsModules found seen
-ComesFrom files (Err fault) = groups_due [] (groups files) ≡ Err fault
+abbrev pub ComesFrom : ℕ → List Filed → Result ImageModules RelinkFault → Type 0
+ComesFrom release files (Ok found) =
+    (seen : List SeenModule) × (groups_due release [] (groups files) ≡ Ok seen)
+    × HoldsModules found seen
+ComesFrom release files (Err fault) = groups_due release [] (groups files) ≡ Err fault

@@ -1,20 +1,26 @@
 -- The modules of an image: those whose `module-info.class` stands in it (JEP 261; that the name of
--- the entry tells the module's, and which refusal comes first, is this project's rule).
+-- the entry tells the module's, and which refusal comes first, is this project's rule). The number
+-- in front is the release of Java SE whose classes are taken.
 use Rattle.std.specs.Prelude.{ℕ, ◌≡◌, ◌↔◌, false, List, map, All, AllPairs, Contains, IsTrue}
-use Rattle.std.specs.Prelude.{Option, Some, None, Result, Ok, Err, if◌then◌else◌}
+use Rattle.std.specs.Prelude.{Option, Some, None, Result, Ok, Err, IfOk, if◌then◌else◌}
 use Rattle.std.specs.List.{list_any}
 use Rattle.std.specs.Str.{bytes_eq}
+use Rattle.jm_bytes.specs.Metered.{Metered}
+use Rattle.jm_bytes.specs.Results.{IfAnswered}
+use Rattle.jm_bytes.specs.declared.faults.Or.{Or}
 use Rattle.jm_closure.specs.declared.candidate.Candidate.{Candidate}
 use Rattle.jm_form.specs.Trees.{class_packages}
-use Rattle.jm_modinfo.specs.Descriptions.{info_in}
+use Rattle.jm_modinfo.specs.Descriptions.{info_for}
 use Rattle.jm_modinfo.specs.declared.descriptor.Descriptor.{Descriptor}
 use Rattle.jm_modinfo.specs.declared.faults.DescriptorFault.{DescriptorFault}
 use Rattle.jm_bytes.specs.ByteOrder.{is_before}
 use Rattle.jm_names.specs.Names.{is_slash}
+use Rattle.jm_reader.specs.Walk.{IsLater}
 use Rattle.jm_relink.specs.declared.fault.RelinkFault.{RelinkFault}
 use Rattle.jm_relink.specs.declared.fault.RelinkFault.TheVariants as fault_of
 use Rattle.jm_relink.specs.declared.modules.ImageModules.{ImageModules}
 use Rattle.jm_relink.specs.Files.{file_name, files_as, info_entry, resources_of}
+use Rattle.jm_relink.specs.Gathering.{AreModules}
 use Rattle.jm_names.specs.ByName.{Named, RisesByName}
 
 -- a module, with its files by their paths and their contents
@@ -41,18 +47,18 @@ pub record AreFilesOf (rs : List Named) («module» : List ℕ) (files : List Na
 
 -- what is seen of a module: what its entry says, which has its name, its class packages, and its
 -- files
-pub record IsSeenIn (rs : List Named) (s : SeenModule) : Type 0 where
+pub record IsSeenIn (release : ℕ) (rs : List Named) (s : SeenModule) : Type 0 where
   pub content : List ℕ
   pub info : HasInfo rs (name_of s) content
-  pub says : info_in content ≡ Ok s.candidate.descriptor
+  pub says : info_for release content ≡ Ok s.candidate.descriptor
   pub packages : s.candidate.packages
       ≡ class_packages (map (λ f. file_name (name_of s) f.0) s.files)
   pub files : AreFilesOf rs (name_of s) s.files
 
 -- the rule: the modules of the resources, rising by name
-pub record IsVisibleIn (rs : List Named) (seen : List SeenModule) : Type 0 where
+pub record IsVisibleIn (release : ℕ) (rs : List Named) (seen : List SeenModule) : Type 0 where
   pub rising : AllPairs (λ s t. IsTrue (is_before (name_of s) (name_of t))) seen
-  pub each : All (IsSeenIn rs) seen
+  pub each : All (IsSeenIn release rs) seen
   pub all : («module» content : List ℕ) → HasInfo rs «module» content
       → Contains (map name_of seen) «module»
 
@@ -65,18 +71,18 @@ info_refusal «module» (Ok d) =
     if bytes_eq d.name «module» then None else Some (fault_of.Foreign (info_entry «module»))
 
 -- the rule: a module has this refusal, and none with a lesser name has one
-pub record IsRefusedIn (rs : List Named) (refusal : RelinkFault) : Type 0 where
+pub record IsRefusedIn (release : ℕ) (rs : List Named) (refusal : RelinkFault) : Type 0 where
   pub «module» : List ℕ
   pub content : List ℕ
   pub info : HasInfo rs «module» content
-  pub refused : info_refusal «module» (info_in content) ≡ Some refusal
+  pub refused : info_refusal «module» (info_for release content) ≡ Some refusal
   pub first : (lesser other : List ℕ) → HasInfo rs lesser other
-      → IsTrue (is_before lesser «module») → info_refusal lesser (info_in other) ≡ None
+      → IsTrue (is_before lesser «module») → info_refusal lesser (info_for release other) ≡ None
 
 -- the modules of an image, or their first refusal
-unfoldable pub ModulesOf : List ℕ → Result (List SeenModule) RelinkFault → Type 0
-ModulesOf b (Ok seen) = IsVisibleIn (resources_of b) seen
-ModulesOf b (Err refusal) = IsRefusedIn (resources_of b) refusal
+unfoldable pub ModulesOf : ℕ → List ℕ → Result (List SeenModule) RelinkFault → Type 0
+ModulesOf release b (Ok seen) = IsVisibleIn release (resources_of b) seen
+ModulesOf release b (Err refusal) = IsRefusedIn release (resources_of b) refusal
 
 -- What is handed out
 
@@ -86,7 +92,15 @@ pub record HoldsModules (found : ImageModules) (seen : List SeenModule) : Type 0
   pub files : map files_as found.files ≡ map (λ s. s.files) seen
 
 -- what looking for an image's modules comes to: these, or their first refusal
-abbrev pub FindsModules : List ℕ → Result ImageModules RelinkFault → Type 0
-FindsModules b (Ok found) =
-    (seen : List SeenModule) × ModulesOf b (Ok seen) × HoldsModules found seen
-FindsModules b (Err fault) = ModulesOf b (Err fault)
+abbrev pub FindsModules : ℕ → List ℕ → Result ImageModules RelinkFault → Type 0
+FindsModules release b (Ok found) =
+    (seen : List SeenModule) × ModulesOf release b (Ok seen) × HoldsModules found seen
+FindsModules release b (Err fault) = ModulesOf release b (Err fault)
+
+-- what the search for the modules of an image gives: these or their first refusal, modules as
+-- `gather` takes them, and a meter of the same bytes whose count didn't fall
+pub record FindsFor (release : ℕ) (b : List ℕ) (old new : Metered)
+    (result : Result ImageModules (Or RelinkFault)) : Type 0 where
+  pub modules : IfAnswered (FindsModules release b) result
+  pub are : IfOk result AreModules
+  pub reads : IsLater old new

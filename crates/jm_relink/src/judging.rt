@@ -1,7 +1,7 @@
 //! The modules among those that have files: whose `module-info.class` is there.
 ghost use Rattle.std.specs.Prelude.{◌≡◌, [], IfOk, map, option_map};
 ghost use Rattle.jm_bytes.specs.Results.{IfAnswered};
-ghost use Rattle.jm_modinfo.specs.Descriptions.{info_in};
+ghost use Rattle.jm_modinfo.specs.Descriptions.{info_for};
 ghost use Rattle.jm_relink.specs.Files.{files_as, info_entry};
 ghost use Rattle.jm_relink.specs.Groups.{group_as, info_content};
 ghost use Rattle.jm_relink.specs.Judging.{descriptor_due, group_due, groups_due, mapped, seen_as};
@@ -33,11 +33,18 @@ fn info_entry(alloc: Global, module: &[u8]) -> Result<Text, NoMemory>
     file_name(alloc, module, b"module-info.class")
 }
 
-/// The descriptor that a module's entry says, if it is one of this module.
-fn descriptor(alloc: Global, module: &[u8], bytes: &[u8]) -> Result<Descriptor, Or<RelinkFault>>
-    ensures { IfAnswered (λ r. descriptor_due «module».now (info_in bytes.now) ≡ r) result }
+/// The descriptor that a module's entry says, as a class of this release of Java SE, if it is one
+/// of this module.
+fn descriptor(
+    alloc: Global,
+    release: u32,
+    module: &[u8],
+    bytes: &[u8],
+) -> Result<Descriptor, Or<RelinkFault>>
+    ensures { IfAnswered (λ r. descriptor_due «module».now (info_for release bytes.now) ≡ r)
+        result }
 {
-    match describe_bytes(alloc, bytes) {
+    match describe_bytes(alloc, release, bytes) {
         Ok(descriptor) => {
             if descriptor.name.as_slice() == module {
                 Ok(descriptor)
@@ -66,16 +73,18 @@ fn info_content<'a>(files: &[ImageFile<'a>]) -> Option<&'a [u8]>
     None
 }
 
-/// The module of some files, from the content of its `module-info.class`.
+/// The module of some files, from the content of its `module-info.class`, as a class of this
+/// release of Java SE.
 fn seen<'a>(
     alloc: Global,
+    release: u32,
     group: ModuleFiles<'a>,
     bytes: &[u8],
 ) -> Result<SeenModule<'a>, Or<RelinkFault>>
-    ensures { IfAnswered (λ r. seen_due (group_as group.entry) (info_in bytes.now)
+    ensures { IfAnswered (λ r. seen_due (group_as group.entry) (info_for release bytes.now)
         ≡ mapped seen_as r) result }
 {
-    let descriptor = descriptor(alloc, group.module.as_slice(), bytes)?;
+    let descriptor = descriptor(alloc, release, group.module.as_slice(), bytes)?;
     let packages = class_packages(alloc, group.files.as_slice())?;
     Ok(SeenModule {
         candidate: Candidate {
@@ -86,31 +95,34 @@ fn seen<'a>(
     })
 }
 
-/// The module of some files, if its `module-info.class` is there.
+/// The module of some files, if its `module-info.class` is there, as a class of this release of
+/// Java SE.
 fn judged<'a>(
     alloc: Global,
+    release: u32,
     group: ModuleFiles<'a>,
 ) -> Result<Option<SeenModule<'a>>, Or<RelinkFault>>
-    ensures { IfAnswered (λ r. group_due (group_as group.entry) ≡ mapped (option_map seen_as) r)
-        result }
+    ensures { IfAnswered (λ r. group_due release (group_as group.entry)
+        ≡ mapped (option_map seen_as) r) result }
 {
     match info_content(group.files.as_slice()) {
-        Some(bytes) => Ok(Some(seen(alloc, group, bytes)?)),
+        Some(bytes) => Ok(Some(seen(alloc, release, group, bytes)?)),
         None => Ok(None),
     }
 }
 
-/// The modules of some files, in their order.
+/// The modules of some files, in their order, by classes of this release of Java SE.
 pub fn seen_modules<'a>(
     alloc: Global,
+    release: u32,
     groups: List<ModuleFiles<'a>>,
 ) -> Result<List<SeenModule<'a>>, Or<RelinkFault>>
-    ensures { IfAnswered (λ r. groups_due [] (map group_as groups.entry) ≡ mapped (map seen_as) r)
-        result }
+    ensures { IfAnswered (λ r. groups_due release [] (map group_as groups.entry)
+        ≡ mapped (map seen_as) r) result }
 {
     let mut modules = List::new(alloc);
     for group in groups.into_vec() {
-        if let Some(module) = judged(alloc, group)? {
+        if let Some(module) = judged(alloc, release, group)? {
             modules.push(module)?;
         }
     }

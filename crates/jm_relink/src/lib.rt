@@ -13,4 +13,4 @@ mod packages;
 
 pub use fault::{GatherFault, RelinkFault};
 pub use gathering::gather;
-pub use modules::{ImageFile, ImageModules, modules_of};
+pub use modules::{ImageFile, ImageModules, modules_for, modules_of};

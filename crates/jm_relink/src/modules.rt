@@ -1,10 +1,8 @@
 //! The modules of an image.
 ghost use Rattle.std.specs.Prelude.{◌≡◌, IfOk, map};
 ghost use Rattle.jm_bytes.specs.Results.{IfAnswered};
-ghost use Rattle.jm_reader.specs.Walk.{IsLater};
 ghost use Rattle.jm_relink.specs.Judging.{ComesFrom};
-ghost use Rattle.jm_relink.specs.Gathering.{AreModules};
-ghost use Rattle.jm_relink.specs.Modules.{FindsModules};
+ghost use Rattle.jm_relink.specs.Modules.{FindsFor};
 ghost use Rattle.jm_relink.specs.Files.{located_as};
 
 use crate::fault::RelinkFault;
@@ -12,6 +10,7 @@ use crate::groups::groups;
 use crate::judging::{SeenModule, seen_modules};
 use crate::located::{Located, located_files};
 use jm_bytes::{List, Meter, NoMemory, Or, Text};
+use jm_class::DEFAULT_RELEASE;
 use jm_closure::Candidate;
 use jm_valid::Image;
 use std::alloc::Global;
@@ -50,33 +49,46 @@ fn parted<'a>(alloc: Global, seen: List<SeenModule<'a>>) -> Result<ImageModules<
     Ok(ImageModules { candidates, files })
 }
 
-/// The modules of files that are sorted by module and by path.
+/// The modules of files that are sorted by module and by path, by classes of this release of Java
+/// SE.
 fn modules_among<'a>(
     alloc: Global,
+    release: u32,
     files: List<Located<'a>>,
 ) -> Result<ImageModules<'a>, Or<RelinkFault>>
-    ensures { IfAnswered (ComesFrom (map located_as files.entry)) result }
+    ensures { IfAnswered (ComesFrom release (map located_as files.entry)) result }
 {
     let groups = groups(alloc, files)?;
-    let seen = seen_modules(alloc, groups)?;
+    let seen = seen_modules(alloc, release, groups)?;
     Ok(parted(alloc, seen)?)
 }
 
 /// The modules of an image: those whose `module-info.class` stands in it, rising by name, and the
 /// files of each, rising by path. The contents are the image's. Time n log n in the entries.
 ///
-/// An entry of no such module is left out, and so are the nodes. Of the modules that are refused
-/// the one with the least name decides.
+/// These entries are read as classes of this release of Java SE. An entry of no such module is left
+/// out, and so are the nodes. Of the modules that are refused the one with the least name decides.
+pub fn modules_for<'a, R: Ledger>(
+    alloc: Global,
+    release: u32,
+    image: &Image<'a>,
+    reads: &mut Meter<R>,
+) -> Result<ImageModules<'a>, Or<RelinkFault>>
+    requires { reads.old.bytes ≡ image.now }
+    ensures { FindsFor release image.now reads.old reads.new result }
+{
+    let files = located_files(alloc, image, reads)?;
+    modules_among(alloc, release, files)
+}
+
+/// The modules of an image by classes of release 21 of Java SE, as `modules_for` finds them.
 pub fn modules_of<'a, R: Ledger>(
     alloc: Global,
     image: &Image<'a>,
     reads: &mut Meter<R>,
 ) -> Result<ImageModules<'a>, Or<RelinkFault>>
     requires { reads.old.bytes ≡ image.now }
-    ensures modules { IfAnswered (FindsModules image.now) result }
-    ensures are { IfOk result AreModules }
-    ensures reads { IsLater reads.old reads.new }
+    ensures { FindsFor 21 image.now reads.old reads.new result }
 {
-    let files = located_files(alloc, image, reads)?;
-    modules_among(alloc, files)
+    modules_for(alloc, DEFAULT_RELEASE, image, reads)
 }

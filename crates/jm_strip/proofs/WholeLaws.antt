@@ -1,17 +1,20 @@
 -- What a call's answer says of the class that its bytes read as.
-use Rattle.std.proofs.Common.{◌≡◌, ℕ, List, length, Result, Ok, Err, sym, ap, ◌∙◌}
-use Rattle.std.specs.Prelude.{IfOk}
-use Rattle.jm_bytes.proofs.Choice.{same_ok}
+use Rattle.std.proofs.Common.{◌≡◌, ◌≤◌, ℕ, List, length, Some, None, Result, Ok, Err, sym, ap, subst, ◌∙◌}
+use Rattle.jm_bytes.specs.Checks.{unless_fault}
+use Rattle.jm_bytes.specs.Results.{followed}
 use Rattle.jm_bytes.specs.declared.faults.Or.{Or}
+use Rattle.jm_bytes.specs.declared.faults.Or.TheVariants.{Fault, Memory}
 use Rattle.jm_class.specs.declared.class.ClassFault.{ClassFault}
 use Rattle.jm_class.specs.declared.class.ClassFault.TheVariants.{Rest}
 use Rattle.jm_class.specs.Classes.{ClassData, class_text, ReadsAs}
-use Rattle.jm_class.specs.ComputedClass.{class_fields, class_of, value_of}
+use Rattle.jm_class.specs.ComputedClass.{class_fields, class_of, fault_of, value_of}
 use Rattle.jm_class.specs.Readings.{Left}
-use Rattle.jm_class.proofs.ComputedClassLaws.{class_of-reads, reads-class_of}
+use Rattle.jm_class.specs.Releases.{newest_major, release_fault, class_for}
+use Rattle.jm_class.proofs.ComputedClassLaws.{reads_once}
+use Rattle.jm_class.proofs.ReleaseLaws.{class_for-reads}
 use Rattle.jm_class.proofs.ReadingLaws.{IsBytes}
 use Rattle.jm_class.proofs.WholeReadings.{ended-all}
-use Rattle.jm_strip.specs.Strip.{strip, StripsTo}
+use Rattle.jm_strip.specs.Strip.{strip, StripsFor}
 use Rattle.jm_strip.specs.Walks.{shown, Strips}
 use Rattle.jm_strip.proofs.Shown.{saw}
 use Rattle.jm_strip.proofs.StripLaws.{strip-class}
@@ -27,22 +30,48 @@ all_read bytes text next n e size none =
       sym got.same,
     )
 
-pub strips_to : (bytes : List ℕ) (result : Result (List ℕ) (Or ClassFault)) → IsBytes bytes → Strips bytes result
-    → IfOk result (λ text. StripsTo bytes text)
-strips_to bytes (Ok text) all (c, is, same) = record { class = c; reads = class_of-reads bytes c all is; is = same }
-strips_to bytes (Err error) all is = tt
+-- What is due for a release
 
-pub strips_only : (bytes : List ℕ) (result : Result (List ℕ) (Or ClassFault)) → Strips bytes result → IfOk result (λ text. (c : ClassData)
-    → ReadsAs bytes c → text ≡ class_text (strip c))
-strips_only bytes (Ok text) (c, is, same) = λ other reads. same ∙ ap (λ d. class_text (strip d)) (same_ok {E = ClassFault} c other
-    (sym is ∙ reads-class_of bytes other reads))
-strips_only bytes (Err error) is = tt
-
-pub strips_reads : (bytes : List ℕ) (result : Result (List ℕ) (Or ClassFault)) → Strips bytes result
-    → IfOk result (λ text. (c : ClassData) → ReadsAs bytes c → ReadsAs text (strip c))
-strips_reads bytes (Ok text) is = λ c reads. record {
-  well_formed = strip-class c reads.well_formed;
-  text =
-      sym (strips_only bytes (Ok text) is c reads);
+-- a class newer than the release is refused
+pub refused_newer : (release : ℕ) (bytes : List ℕ) (fault : ClassFault) → release_fault release bytes ≡ Some fault
+    → StripsFor release bytes (Err (Fault fault))
+refused_newer release bytes fault newer = record {
+  text = tt;
+  only = tt;
+  reads = tt;
+  no_fault = tt;
+  fault = λ other is.
+      let same : fault ≡ other = cc in
+      ap (λ f. fault_of (followed (unless_fault f bytes) class_of)) newer ∙ ap (λ f. Some f) same;
 }
-strips_reads bytes (Err error) is = tt
+
+-- of another it is what is due of a class of whatever release
+module _ (release : ℕ) (bytes : List ℕ) (none : release_fault release bytes ≡ None) where
+  same_class : class_for release bytes ≡ class_of bytes
+  same_class = ap (λ f. followed (unless_fault f bytes) class_of) none
+
+  pub strips_other : (result : Result (List ℕ) (Or ClassFault)) → IsBytes bytes → Strips bytes result → StripsFor release bytes result
+  strips_other (Ok text) all (c, is, same) =
+      let reads = class_for-reads release bytes c all (same_class ∙ is) in
+      let only : (d : ClassData) → ReadsAs bytes d → text ≡ class_text (strip d) = λ d other.
+      same ∙ ap (λ e. class_text (strip e)) (reads_once bytes c d reads.reads other) in
+      record {
+        text = record { class = c; reads = reads; is = same };
+        only = only;
+        reads = λ d other. record {
+          reads = record { well_formed = strip-class d other.well_formed; text = sym (only d other) };
+          major = subst (λ e. e.major ≤ newest_major release) (reads_once bytes c d reads.reads other) reads.major;
+        };
+        no_fault = ap fault_of (same_class ∙ is);
+        fault = λ fault e. cc;
+      }
+  strips_other (Err (Fault found)) all is = record {
+    text = tt;
+    only = tt;
+    reads = tt;
+    no_fault = tt;
+    fault = λ fault e.
+        let same : found ≡ fault = cc in
+        ap fault_of (same_class ∙ is) ∙ ap (λ f. Some f) same;
+  }
+  strips_other (Err Memory) all is = record { text = tt; only = tt; reads = tt; no_fault = tt; fault = λ fault e. cc }

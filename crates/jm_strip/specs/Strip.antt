@@ -1,10 +1,14 @@
 -- A class without its debug information (JVMS 4.7; which attributes go is this project's rule).
 use Rattle.std.specs.Prelude.{◌≡◌, ℕ, Bool, true, false, not, List, [], ◌∷◌, Option, Some, None}
-use Rattle.std.specs.Prelude.{map, filter, codes}
+use Rattle.std.specs.Prelude.{map, filter, codes, Result, Err, IfOk, OnOk}
 use Rattle.std.specs.List.{list_any}
 use Rattle.std.specs.Str.{bytes_eq}
+use Rattle.jm_bytes.specs.declared.faults.Or.{Or}
+use Rattle.jm_bytes.specs.declared.faults.Or.TheVariants.{Fault}
+use Rattle.jm_class.specs.declared.class.ClassFault.{ClassFault}
 use Rattle.jm_class.specs.Classes.{SlotData, CodeData, BodyData, Opaque, Coded, AttributeData}
 use Rattle.jm_class.specs.Classes.{MemberData, ClassData, utf8_at, class_text, ReadsAs}
+use Rattle.jm_class.specs.Releases.{ReadsFor, fault_for}
 
 -- the names of the debug attributes of a Code, and of those of the class
 abbrev pub debug_names : Bool → List (List ℕ)
@@ -45,8 +49,20 @@ strip c = record c {
   attributes = filter (λ a. stays false c.pool a.name) c.attributes;
 }
 
--- the text of the class that the bytes read as, without its debug information
-pub record StripsTo (bytes text : List ℕ) : Type 0 where
+-- the text of the class of a release that the bytes read as, without its debug information
+pub record StripsTo (release : ℕ) (bytes text : List ℕ) : Type 0 where
   pub class : ClassData
-  pub reads : ReadsAs bytes class
+  pub reads : ReadsFor release bytes class
   pub is : text ≡ class_text (strip class)
+
+-- what leaving out the debug information of the class of a release gives: the text of the one class
+-- without it, which reads as a class of that release, or the first fault
+pub record StripsFor (release : ℕ) (bytes : List ℕ) (result : Result (List ℕ) (Or ClassFault))
+    : Type 0 where
+  pub text : IfOk result (λ text. StripsTo release bytes text)
+  pub only : IfOk result (λ text. (c : ClassData) → ReadsAs bytes c → text ≡ class_text (strip c))
+  pub reads : IfOk result (λ text. (c : ClassData) → ReadsAs bytes c
+      → ReadsFor release text (strip c))
+  pub no_fault : OnOk result (fault_for release bytes ≡ None)
+  pub fault : (fault : ClassFault) → result ≡ Err (Fault fault)
+      → fault_for release bytes ≡ Some fault

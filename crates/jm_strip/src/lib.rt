@@ -11,4 +11,4 @@ mod pool;
 mod skips;
 mod stripping;
 
-pub use stripping::strip;
+pub use stripping::{strip, strip_for};

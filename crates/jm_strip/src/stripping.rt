@@ -1,13 +1,10 @@
-ghost use Rattle.std.specs.Prelude.{◌≡◌, Some, None, Err, false, filter, IfOk, OnOk};
+ghost use Rattle.std.specs.Prelude.{◌≡◌, false, filter};
 ghost use Rattle.jm_class.specs.declared.class.ClassFault.TheVariants.{Short};
-ghost use Rattle.jm_bytes.specs.declared.faults.Or.TheVariants.{Fault};
-ghost use Rattle.jm_class.specs.Classes.{ClassData, attribute_text, counted_text, class_text};
-ghost use Rattle.jm_class.specs.Classes.{ReadsAs};
+ghost use Rattle.jm_class.specs.Classes.{attribute_text, counted_text, class_text};
 ghost use Rattle.jm_class.specs.ComputedClass.{attribute_field, class_fields};
-ghost use Rattle.jm_class.specs.ComputedClass.{class_fault};
 ghost use Rattle.jm_class.specs.Readings.{list_of};
 ghost use Rattle.jm_class.specs.Views.{Gives};
-ghost use Rattle.jm_strip.specs.Strip.{stays, strip, StripsTo};
+ghost use Rattle.jm_strip.specs.Strip.{stays, strip, StripsFor};
 ghost use Rattle.jm_strip.specs.Walks.{shown, Puts, Strips};
 
 use crate::lists::keep_attributes;
@@ -16,7 +13,7 @@ use crate::pool::{Pool, read_pool};
 use crate::skips::{skip_fields, skip_interfaces};
 use jm_bytes::{Or, Text, extend};
 use jm_class::fields::{Missing, number16};
-use jm_class::{ClassFault, Cursor, magic, major};
+use jm_class::{ClassFault, Cursor, DEFAULT_RELEASE, magic, major, release_fault};
 use std::alloc::Global;
 
 /// The attributes of the class.
@@ -57,7 +54,8 @@ fn strip_class(alloc: Global, bytes: &[u8], cursor: &mut Cursor) -> Result<Vec<u
     Ok(text)
 }
 
-/// The text of a class without its debug information, and nothing behind the class.
+/// The text of a class of whatever release without its debug information, and nothing behind the
+/// class.
 fn whole(alloc: Global, bytes: &[u8]) -> Result<Text, Or<ClassFault>>
     ensures { Strips bytes.now result }
 {
@@ -69,17 +67,21 @@ fn whole(alloc: Global, bytes: &[u8]) -> Result<Text, Or<ClassFault>>
     Ok(Text::from_vec(text))
 }
 
-/// A class file without its debug information: the line numbers and local variables of each Code,
-/// and the source file and its extension of the class. A fault is the one that `read` finds. It
-/// asks for memory twice at most.
-pub fn strip(alloc: Global, bytes: &[u8]) -> Result<Text, Or<ClassFault>>
-    ensures text { IfOk result (λ text. StripsTo bytes.now text) }
-    ensures only { IfOk result (λ text. (c : ClassData) → ReadsAs bytes.now c
-        → text ≡ class_text (strip c)) }
-    ensures reads { IfOk result (λ text. (c : ClassData) → ReadsAs bytes.now c
-        → ReadsAs text (strip c)) }
-    ensures no_fault { OnOk result (class_fault bytes.now ≡ None) }
-    ensures fault { (fault : _) → result ≡ Err (Fault fault) → class_fault bytes.now ≡ Some fault }
+/// A class file of a release without its debug information: the line numbers and local variables of
+/// each Code, and the source file and its extension of the class. A fault is the one that
+/// `read_for` finds. It asks for memory twice at most.
+pub fn strip_for(alloc: Global, release: u32, bytes: &[u8]) -> Result<Text, Or<ClassFault>>
+    ensures { StripsFor release bytes.now result }
 {
-    whole(alloc, bytes)
+    match release_fault(release, bytes) {
+        Some(fault) => Err(Or::Fault(fault)),
+        None => whole(alloc, bytes),
+    }
+}
+
+/// A class file of release 21 without its debug information, as `strip_for` leaves it.
+pub fn strip(alloc: Global, bytes: &[u8]) -> Result<Text, Or<ClassFault>>
+    ensures { StripsFor 21 bytes.now result }
+{
+    strip_for(alloc, DEFAULT_RELEASE, bytes)
 }

@@ -4,6 +4,7 @@
 mod descriptors;
 mod failures;
 mod given_words;
+mod usage;
 
 use descriptors::hold_streams;
 use failures::{put, put_line, shelf_line, stream_line};
@@ -14,6 +15,7 @@ use jm_halves::NoGate;
 use jm_outside::{StdSink, StdSource};
 use std::io;
 use std::process::ExitCode;
+use usage::put_usage;
 
 fn main(rt: HostRuntime) -> ExitCode {
     if !hold_streams(&rt) {
@@ -22,7 +24,12 @@ fn main(rt: HostRuntime) -> ExitCode {
     }
     let words = match given_words(&rt) {
         Ok(words) => words,
-        Err(status) => return ExitCode::from(status.value()),
+        Err(status) => {
+            if status == Status::Words {
+                put_usage(&rt);
+            }
+            return ExitCode::from(status.value());
+        }
     };
     let alloc = rt.alloc();
     let mut shelf = FileShelf::new(&rt);
@@ -37,6 +44,7 @@ fn main(rt: HostRuntime) -> ExitCode {
         shelf.give_up();
     }
     match status {
+        Status::Words => put_usage(&rt),
         Status::Outside => {
             put_line(&rt, shelf_line(alloc, shelf.last_failure()));
             put_line(

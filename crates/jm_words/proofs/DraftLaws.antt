@@ -1,35 +1,22 @@
 -- What is given: one thing more, and a value that is taken out.
-use Rattle.std.proofs.Common.{◌≡◌, ℕ, zero, suc, ◌<◌, Bool, true, false, List, [], ◌∷◌, ◌++◌, length, get_or, drop}
-use Rattle.std.proofs.Common.{Option, Some, None, refl, sym, ap, ◌∙◌, arith, append-nil}
+use Rattle.std.proofs.Common.{◌≡◌, ℕ, zero, suc, ◌<◌, Bool, true, false, List, [], ◌∷◌, ◌++◌, length, get_or}
+use Rattle.std.proofs.Common.{Option, Some, None, refl, ap, ◌∙◌, arith, append-nil}
 use Rattle.std.specs.Prelude.{filter, is_none, slice_set}
 use Rattle.std.specs.List.{cons_option, filter_map}
 use Rattle.std.proofs.lemmas.List.Elements.{filter-append, filter_map-append}
 use denote.Enum.Bare.{same_true}
 use Rattle.jm_words.specs.contracts.tables.Field.{the_type}
 use Rattle.jm_words.specs.declared.drafts.Draft.{Draft}
-use Rattle.jm_words.specs.declared.given.Given.{Given}
 use Rattle.jm_words.specs.declared.given.Value.{Value}
 use Rattle.jm_words.specs.declared.tables.Field.{Field}
 use Rattle.jm_words.specs.declared.tasks.Plugin.{Plugin}
 use Rattle.jm_words.specs.Drafts.{LeavesOthers, draft_of, the, with_given}
-use Rattle.jm_words.specs.Givens.{plugin_in}
+use Rattle.jm_words.specs.Givens.{Given, plugin_in}
 use Rattle.jm_words.specs.Reading.{with_word}
 use Rattle.jm_words.specs.Tables.{same_field}
 
-pub same_one : (one other : Field) → same_field one other ≡ true → one ≡ other
+same_one : (one other : Field) → same_field one other ≡ true → one ≡ other
 same_one one other same = same_true the_type tt one other same
-
--- the first value of a field is that of the field
-pub value_here : (field : Field) (values : List Given) (i : ℕ) (d e : Given) → i < length values
-    → same_field (get_or values i e).field field ≡ true → the field values ≡ the field (drop i values)
-    → Some (get_or values i d).value ≡ the field values
-value_here field values i d e below same rest = sym (rest ∙ go values i below same)
-  where
-    go : (values : List Given) (i : ℕ) → i < length values → same_field (get_or values i e).field field ≡ true
-        → the field (drop i values) ≡ Some (get_or values i d).value
-    go [] i below same = absurd (omega (arith, below))
-    go (g ∷ values) zero below same = rw same refl
-    go (g ∷ values) (suc i) below same = go values i (omega (arith, below)) same
 
 -- what stands for one value leaves those of the other fields
 pub others_left : (field : Field) (v : Value) (values : List Given) (i : ℕ) (d e : Given) → i < length values

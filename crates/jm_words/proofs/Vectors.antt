@@ -1,18 +1,18 @@
 -- Worked cases of words, computed from the definitions.
-use Rattle.std.proofs.Common.{◌≡◌, false, [], ◌∷◌, Ok, None, Some, refl}
+use Rattle.std.proofs.Common.{◌≡◌, false, [], ◌∷◌, ◌++◌, Ok, None, Some, refl}
 use Rattle.std.specs.Prelude.{codes}
 use Rattle.jm_bytes.specs.declared.words.Order.TheVariants.{Little}
 use Rattle.jm_words.specs.declared.tasks.Plugin.TheVariants as plugin
 use Rattle.jm_words.specs.declared.tasks.ImageWork.TheVariants as work
+use Rattle.jm_words.specs.declared.tasks.Source.TheVariants as source
 use Rattle.jm_words.specs.declared.tasks.Task.TheVariants as task
 use Rattle.jm_words.specs.declared.errors.WordsKind.TheVariants as kind
 use Rattle.jm_words.specs.declared.tables.Field.TheVariants as field
 use Rattle.jm_words.specs.declared.tables.Form.TheVariants as form
 use Rattle.jm_words.specs.declared.tables.Verb.TheVariants as verb
-use Rattle.jm_words.specs.Reading.{fault_at}
-use Rattle.jm_words.specs.Roles.{AsArgument, Unknown, ValueFor, Waits}
-use Rattle.jm_words.specs.Rule.{kind_at, left_at, role_at}
-use Rattle.jm_words.specs.Commands.{command_in}
+use Rattle.jm_words.specs.Roles.{AsArgument, Unknown, ValueFor, Waits, fault_at}
+use Rattle.jm_words.specs.Rule.{command_in, fault_of, left_at, role_at}
+use Rattle.jm_words.specs.Help.{usage_text}
 use Rattle.jm_words.specs.Tables.{jobs, row}
 
 no_word : command_in [] ≡ fault_at 0 kind.NoCommand
@@ -57,31 +57,29 @@ link_from_folders : command_in (codes "link" ∷ codes "--module-path=x/:y" ∷ 
     ≡ Ok (record {
       jobs = 1;
       task = task.Link (record {
-        dirs = codes "x" ∷ codes "y" ∷ [];
+        source = source.Path (codes "x" ∷ codes "y" ∷ []);
         roots = codes "a" ∷ codes "b" ∷ [];
-        output =
-            codes "o";
+        output = codes "o";
         plugins = plugin.Compact ∷ [];
         order = Little;
         bind = false;
-        from_image = None;
+        release = 21;
       });
     })
 link_from_folders = refl
 
 link_with_packages : command_in (codes "link" ∷ codes "--from-image=i" ∷ codes "--module-packages" ∷ codes "--output" ∷ codes "o"
-    ∷ codes "--module-packages" ∷ codes "--add-modules=a" ∷ [])
+    ∷ codes "--release=24" ∷ codes "--module-packages" ∷ codes "--add-modules=a" ∷ [])
     ≡ Ok (record {
       jobs = 1;
       task = task.Link (record {
-        dirs = [];
+        source = source.Image (codes "i");
         roots = codes "a" ∷ [];
         output = codes "o";
-        plugins = plugin.Packages ∷ plugin.Packages
-            ∷ [];
+        plugins = plugin.Packages ∷ plugin.Packages ∷ [];
         order = Little;
         bind = false;
-        from_image = Some (codes "i");
+        release = 24;
       });
     })
 link_with_packages = refl
@@ -102,6 +100,13 @@ value_like_option = refl
 no_source : command_in (codes "link" ∷ codes "--add-modules=a" ∷ codes "--output=o" ∷ []) ≡ fault_at 3 kind.Missing
 no_source = refl
 
+describe_up_to_25 : command_in (codes "describe" ∷ codes "--release" ∷ codes "25" ∷ codes "c" ∷ [])
+    ≡ Ok (record { jobs = 1; task = task.Describe (codes "c") 25 })
+describe_up_to_25 = refl
+
+release_below : command_in (codes "describe" ∷ codes "c" ∷ codes "--release=20" ∷ []) ≡ fault_at 3 kind.BadValue
+release_below = refl
+
 -- The rule of one word
 
 waiting_option : role_at verb.Cat (codes "--jobs" ∷ codes "--zap" ∷ []) 0 ≡ Waits jobs
@@ -119,14 +124,21 @@ second_argument = refl
 left_for_second : left_at verb.Cat (codes "img" ∷ codes "--jobs=2" ∷ codes "-" ∷ []) 2 ≡ row (codes "NAME") form.Name field.Name ∷ []
 left_for_second = refl
 
-again_before_bad : kind_at verb.Cat (codes "--jobs=2" ∷ codes "--jobs=0" ∷ []) 1 ≡ Some kind.Repeated
+again_before_bad : fault_of verb.Cat (codes "--jobs=2" ∷ codes "--jobs=0" ∷ []) 1 ≡ Some (record { at = 3; kind = kind.Repeated })
 again_before_bad = refl
 
-bad_value : kind_at verb.Cat (codes "--jobs=0" ∷ codes "--zap" ∷ []) 0 ≡ Some kind.BadValue
+bad_value : fault_of verb.Cat (codes "--jobs=0" ∷ codes "--zap" ∷ []) 0 ≡ Some (record { at = 2; kind = kind.BadValue })
 bad_value = refl
 
-value_at_end : kind_at verb.Cat (codes "img" ∷ codes "--jobs" ∷ []) 1 ≡ Some kind.NoValue
+value_at_end : fault_of verb.Cat (codes "img" ∷ codes "--jobs" ∷ []) 1 ≡ Some (record { at = 3; kind = kind.NoValue })
 value_at_end = refl
 
-sound_word : kind_at verb.Cat (codes "img" ∷ codes "--jobs" ∷ codes "1" ∷ []) 1 ≡ None
+sound_word : fault_of verb.Cat (codes "img" ∷ codes "--jobs" ∷ codes "1" ∷ []) 1 ≡ None
 sound_word = refl
+
+usage_of_cat : usage_text (Some (codes "cat")) ≡ codes "  cat IMAGE NAME\n      puts the bytes of the entry of that name\n"
+    ++ codes "  --jobs N\n      works in N pieces, from 1 to 64, with each command; no answer changes\n"
+usage_of_cat = refl
+
+usage_of_no_word : usage_text None ≡ usage_text (Some (codes "zap"))
+usage_of_no_word = refl

@@ -1,15 +1,11 @@
 -- The command that words make (this project's rule).
-use Rattle.std.specs.Prelude.{ℕ, ◌+◌, List, [], ◌∷◌, length, Option, Some, None, option_map}
-use Rattle.std.specs.Prelude.{unwrap_or, Result, Ok, Err}
+use Rattle.std.specs.Prelude.{ℕ, List, Option, Some, None, option_map}
+use Rattle.std.specs.Prelude.{unwrap_or}
 use Rattle.std.specs.List.{find}
 use Rattle.std.specs.Str.{bytes_eq}
 use Rattle.jm_bytes.specs.declared.words.Order.TheVariants.{Little}
 use Rattle.jm_words.specs.declared.drafts.Draft.{Draft}
-use Rattle.jm_words.specs.declared.errors.WordsFault.{WordsFault}
-use Rattle.jm_words.specs.declared.errors.WordsKind.TheVariants as kind
-use Rattle.jm_words.specs.declared.given.Given.{Given}
-use Rattle.jm_words.specs.declared.given.Value.{Value}
-use Rattle.jm_words.specs.declared.given.Value.TheVariants as value
+use Rattle.jm_words.specs.Givens.{Given}
 use Rattle.jm_words.specs.declared.tables.Field.TheVariants as field
 use Rattle.jm_words.specs.declared.tables.Verb.{Verb}
 use Rattle.jm_words.specs.declared.tables.Verb.TheVariants as verb
@@ -21,21 +17,18 @@ use Rattle.jm_words.specs.declared.tasks.LinkTask.{LinkTask}
 use Rattle.jm_words.specs.declared.tasks.Task.{Task}
 use Rattle.jm_words.specs.declared.tasks.Task.TheVariants as task
 use Rattle.jm_pattern.specs.declared.signs.Sign.{Sign}
-use Rattle.jm_words.specs.Drafts.{has, long_in, name_in, names_in, number_in, order_in, path_in}
-use Rattle.jm_words.specs.Drafts.{patterns_in, the}
+use Rattle.jm_words.specs.Drafts.{has, name_in, names_in, number_in, order_in, path_in}
+use Rattle.jm_words.specs.Drafts.{patterns_in, source_in, the}
 use Rattle.jm_words.specs.Tables.{verbs, verb_name}
-use Rattle.jm_words.specs.Reading.{draft_or_fault, fault_at, reading_of}
 
 -- what is made of a value that must be there, if it is
 abbrev pub needing : {A B : Type 0} → Option A → (A → Option B) → Option B
 needing None make = None
 needing (Some value) make = make value
 
--- the folders of `--module-path`, or none and the image of `--from-image`, if a value is either
-abbrev pub source_in : Option Value → Option (List (List ℕ) × Option (List ℕ))
-source_in (Some (value.Paths dirs)) = Some (dirs, None)
-source_in (Some (value.Path image)) = Some ([], Some image)
-source_in _ = None
+-- the release that was given, or else 21
+abbrev pub release_of : List Given → ℕ
+release_of values = unwrap_or (number_in (the field.Release values)) 21
 
 -- the `link` of what was given, or none where an option isn't there that must be
 abbrev pub link_of : Draft → Option LinkTask
@@ -44,13 +37,13 @@ link_of draft =
     needing (names_in (the field.Roots draft.values)) (λ roots.
     needing (path_in (the field.Output draft.values)) (λ output.
     Some (record {
-      dirs = source.0;
+      source = source;
       roots = roots;
       output = output;
       plugins = draft.plugins;
       order = unwrap_or (order_in (the field.Order draft.values)) Little;
       bind = has draft.values field.Bind;
-      from_image = source.1;
+      release = release_of draft.values;
     }))))
 
 -- the `gen` of what was given, or none where something isn't there that must be
@@ -58,7 +51,7 @@ abbrev pub gen_of : List Given → Option GenTask
 gen_of values =
     needing (number_in (the field.Modules values)) (λ modules.
     needing (number_in (the field.Classes values)) (λ classes.
-    needing (long_in (the field.Seed values)) (λ seed.
+    needing (number_in (the field.Seed values)) (λ seed.
     needing (path_in (the field.Folder values)) (λ dir.
     Some (record { dir = dir; modules = modules; classes = classes; seed = seed })))))
 
@@ -89,7 +82,8 @@ task_of verb.Verify draft = on_image draft.values work.Verify
 task_of verb.Serve draft = on_image draft.values work.Serve
 task_of verb.Gen draft = needing (gen_of draft.values) (λ gen. Some (task.Gen gen))
 task_of verb.Describe draft =
-    needing (path_in (the field.File draft.values)) (λ file. Some (task.Describe file))
+    needing (path_in (the field.File draft.values)) (λ file.
+    Some (task.Describe file (release_of draft.values)))
 task_of verb.Help draft = Some task.Help
 task_of verb.Version draft = Some task.Version
 
@@ -105,24 +99,3 @@ command_of verb draft =
 -- the command of a name
 abbrev pub verb_named : List ℕ → Option Verb
 verb_named name = find (λ verb. bytes_eq (verb_name verb) name) verbs
-
--- the command that is made, or `Missing` with the number of all words
-abbrev pub command_or_missing : ℕ → Option Command → Result Command WordsFault
-command_or_missing all None = fault_at all kind.Missing
-command_or_missing all (Some command) = Ok command
-
--- the command of what the words give, or their fault
-abbrev pub command_unless_fault : Verb → ℕ → Result Draft WordsFault → Result Command WordsFault
-command_unless_fault verb all (Ok draft) = command_or_missing all (command_of verb draft)
-command_unless_fault verb all (Err fault) = Err fault
-
--- the command of a name that was looked up, with the words behind it, or their first fault
-abbrev pub command_after : Option Verb → List (List ℕ) → Result Command WordsFault
-command_after None words = fault_at 1 kind.UnknownCommand
-command_after (Some verb) words =
-    command_unless_fault verb (length words + 1) (draft_or_fault (reading_of verb words))
-
--- the command that the words make, or their first fault with its word's number
-abbrev pub command_in : List (List ℕ) → Result Command WordsFault
-command_in [] = fault_at 0 kind.NoCommand
-command_in (name ∷ words) = command_after (verb_named name) words

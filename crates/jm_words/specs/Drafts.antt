@@ -1,16 +1,17 @@
 -- What words give (this project's rule): fields with their values, and the plug-ins.
 use Rattle.std.specs.Prelude.{◌≡◌, ℕ, Bool, false, List, [], ◌∷◌, ◌++◌, filter}
-use Rattle.std.specs.Prelude.{Option, None, Some, option_map, is_none}
-use Rattle.std.specs.List.{filter_map, find, list_any}
+use Rattle.std.specs.Prelude.{Option, None, Some, option_map, is_none, is_some}
+use Rattle.std.specs.List.{filter_map, find}
 use Rattle.jm_bytes.specs.declared.words.Order.{Order}
 use Rattle.jm_pattern.specs.declared.signs.Sign.{Sign}
 use Rattle.jm_words.specs.declared.tasks.Plugin.{Plugin}
+use Rattle.jm_words.specs.declared.tasks.Source.{Source}
+use Rattle.jm_words.specs.declared.tasks.Source.TheVariants as source
 use Rattle.jm_words.specs.declared.drafts.Draft.{Draft}
-use Rattle.jm_words.specs.declared.given.Given.{Given}
 use Rattle.jm_words.specs.declared.given.Value.{Value}
 use Rattle.jm_words.specs.declared.given.Value.TheVariants as value
 use Rattle.jm_words.specs.declared.tables.Field.{Field}
-use Rattle.jm_words.specs.Givens.{plugin_in}
+use Rattle.jm_words.specs.Givens.{Given, plugin_in}
 use Rattle.jm_words.specs.Tables.{same_field}
 
 -- all that is given, the plug-ins apart, both in the order of their words
@@ -20,14 +21,14 @@ draft_of givens = record {
   plugins = filter_map plugin_in givens;
 }
 
--- a field is given
-abbrev pub has : List Given → Field → Bool
-has values field = list_any (λ given. same_field given.field field) values
-
 -- the value of a field, if it is given: a second is a fault of its word
 abbrev pub the : Field → List Given → Option Value
 the field values =
     option_map (λ given. given.value) (find (λ given. same_field given.field field) values)
+
+-- a field is given
+abbrev pub has : List Given → Field → Bool
+has values field = is_some (the field values)
 
 -- the path that a value is, if it is one
 abbrev pub path_in : Option Value → Option (List ℕ)
@@ -39,6 +40,12 @@ abbrev pub name_in : Option Value → Option (List ℕ)
 name_in (Some (value.Name name)) = Some name
 name_in _ = None
 
+-- the source that a value is: the directories of `--module-path`, or the image of `--from-image`
+abbrev pub source_in : Option Value → Option Source
+source_in (Some (value.Paths directories)) = Some (source.Path directories)
+source_in (Some (value.Path image)) = Some (source.Image image)
+source_in _ = None
+
 -- the names that a value is, if it is some
 abbrev pub names_in : Option Value → Option (List (List ℕ))
 names_in (Some (value.Names names)) = Some names
@@ -48,11 +55,6 @@ names_in _ = None
 abbrev pub number_in : Option Value → Option ℕ
 number_in (Some (value.Number number)) = Some number
 number_in _ = None
-
--- the number of 64 bits that a value is, if it is one
-abbrev pub long_in : Option Value → Option ℕ
-long_in (Some (value.Long number)) = Some number
-long_in _ = None
 
 -- the order that a value is, if it is one
 abbrev pub order_in : Option Value → Option Order

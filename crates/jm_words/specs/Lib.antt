@@ -1,10 +1,11 @@
 pub mod Commands
 pub mod Drafts
 pub mod FaultText
+pub mod Fits
 pub mod Givens
+pub mod Help
 pub mod Paths
 pub mod Reading
-pub mod ReadingSteps
 pub mod Roles
 pub mod Rows
 pub mod Rule

@@ -1,15 +1,27 @@
 -- What is known of a task that words make (this project's rule).
-use Rattle.std.specs.Prelude.{◌≤◌, IfSome, All, IsUtf8}
+use Rattle.std.specs.Prelude.{ℕ, ◌≤◌, List, [], All, IsUtf8}
 use Rattle.jm_words.specs.declared.tasks.GenTask.{GenTask}
 use Rattle.jm_words.specs.declared.tasks.ImageWork.{ImageWork}
 use Rattle.jm_words.specs.declared.tasks.ImageWork.TheVariants as work
 use Rattle.jm_words.specs.declared.tasks.LinkTask.{LinkTask}
+use Rattle.jm_words.specs.declared.tasks.Source.{Source}
+use Rattle.jm_words.specs.declared.tasks.Source.TheVariants as source
 use Rattle.jm_words.specs.declared.tasks.Task.{Task}
 use Rattle.jm_words.specs.declared.tasks.Task.TheVariants as task
 
+-- the directories of a module path; none where an image has the modules
+abbrev pub directories_of : Source → List (List ℕ)
+directories_of (source.Path directories) = directories
+directories_of (source.Image path) = []
+
+-- the paths of a source are UTF-8
+abbrev pub SourceIsText : Source → Type 0
+SourceIsText (source.Path directories) = All IsUtf8 directories
+SourceIsText (source.Image path) = IsUtf8 path
+
 -- the paths of the files and folders that a `link` names are UTF-8
 abbrev pub LinkIsText : LinkTask → Type 0
-LinkIsText link = All IsUtf8 link.dirs × IsUtf8 link.output × IfSome link.from_image IsUtf8
+LinkIsText link = SourceIsText link.source × IsUtf8 link.output
 
 -- the path of the folder that files are made in is UTF-8
 abbrev pub FolderIsText : ImageWork → Type 0
@@ -21,15 +33,21 @@ abbrev pub FilePathsAreText : Task → Type 0
 FilePathsAreText (task.Link link) = LinkIsText link
 FilePathsAreText (task.Image image work) = IsUtf8 image × FolderIsText work
 FilePathsAreText (task.Gen gen) = IsUtf8 gen.dir
-FilePathsAreText (task.Describe file) = IsUtf8 file
+FilePathsAreText (task.Describe file release) = IsUtf8 file
 FilePathsAreText task.Help = Unit {0}
 FilePathsAreText task.Version = Unit {0}
+
+-- a release up to which classes are read
+abbrev pub IsRelease : ℕ → Type 0
+IsRelease release = (21 ≤ release) × (release ≤ 25)
 
 -- the numbers of a `gen` are within its limits
 abbrev pub GenFits : GenTask → Type 0
 GenFits gen = ((1 ≤ gen.modules) × (gen.modules ≤ 256)) × ((1 ≤ gen.classes) × (gen.classes ≤ 1024))
 
--- the numbers of a generator are within its limits
+-- the numbers of a task are within their limits
 abbrev pub NumbersFit : Task → Type 0
+NumbersFit (task.Link link) = IsRelease link.release
 NumbersFit (task.Gen gen) = GenFits gen
+NumbersFit (task.Describe file release) = IsRelease release
 NumbersFit _ = Unit {0}

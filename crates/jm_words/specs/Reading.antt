@@ -1,15 +1,17 @@
--- How the words behind a command are read, from left to right (this project's rule): what
--- `SaysCommand` says, as a value. The law that ties both stands in proofs/RuleLaws.
-use Rattle.std.specs.Prelude.{ℕ, ◌+◌, ◌==◌, List, [], ◌∷◌, length, drop}
-use Rattle.std.specs.Prelude.{Option, Some, None, Result, Ok, Err}
+-- How the words behind a command are read, from left to right (this project's rule): words of the
+-- proofs.
+use Rattle.std.specs.Prelude.{ℕ, zero, suc, ◌==◌, List, [], ◌∷◌, drop}
+use Rattle.std.specs.Prelude.{Option, Some, None, Result, Ok}
+use Rattle.jm_bytes.specs.Checks.{unless_fault}
 use Rattle.jm_words.specs.declared.drafts.Draft.{Draft}
 use Rattle.jm_words.specs.declared.errors.WordsFault.{WordsFault}
-use Rattle.jm_words.specs.declared.errors.WordsKind.{WordsKind}
-use Rattle.jm_words.specs.declared.given.Given.{Given}
+use Rattle.jm_words.specs.declared.errors.WordsKind.TheVariants as kind
 use Rattle.jm_words.specs.declared.tables.Verb.{Verb}
-use Rattle.jm_words.specs.Drafts.{nothing, with_given}
-use Rattle.jm_words.specs.Roles.{Role, AsArgument, first_kind, given_by, role_of, waiting}
-use Rattle.jm_words.specs.Tables.{Row, arguments, options}
+use Rattle.jm_words.specs.Drafts.{with_given}
+use Rattle.jm_words.specs.Givens.{Given, given_of}
+use Rattle.jm_words.specs.Roles.{Role, AsArgument, fault_at, fault_in, given_by, waiting}
+use Rattle.jm_words.specs.Rule.{draft_before, left_at, role_at}
+use Rattle.jm_words.specs.Tables.{Row}
 
 -- what stands after some words: what was given, the arguments still to come, and the option whose
 -- value is the next word
@@ -18,9 +20,18 @@ pub record Standing : Type 0 where
   pub left : List Row
   pub pending : Option Row
 
--- a fault of a kind, with the number of its word
-abbrev pub fault_at : {A : Type 0} → ℕ → WordsKind → Result A WordsFault
-fault_at at kind = Err (record { at = at; kind = kind })
+-- the option that waits for the word at a place
+abbrev pub pending_at : Verb → List (List ℕ) → ℕ → Option Row
+pending_at verb words zero = None
+pending_at verb words (suc i) = waiting (role_at verb words i)
+
+-- what stands at a place
+abbrev pub standing_at : Verb → List (List ℕ) → ℕ → Standing
+standing_at verb words i = record {
+  draft = draft_before verb words i;
+  left = left_at verb words i;
+  pending = pending_at verb words i;
+}
 
 -- what was given, with what a word gives, if it gives something
 abbrev pub with_word : Draft → Option Given → Draft
@@ -40,37 +51,20 @@ after_sound standing role = record {
   pending = waiting role;
 }
 
--- what stands after a word, or its fault
-abbrev pub unless_kind : ℕ → Option WordsKind → Standing → Result Standing WordsFault
-unless_kind at None standing = Ok standing
-unless_kind at (Some kind) standing = fault_at at kind
-
 -- what stands after a word of a number in its role, or its first fault; `all` is the last's number
 abbrev pub after_role : ℕ → ℕ → Standing → Role → Result Standing WordsFault
 after_role at all standing role =
-    unless_kind at (first_kind standing.draft.values standing.left (at == all) role)
+    unless_fault (fault_in at standing.draft.values standing.left (at == all) role)
     (after_sound standing role)
 
--- what stands after some words, of which the first has a number, or the first fault
-abbrev pub after_words : List Row → ℕ → ℕ → List (List ℕ) → Result Standing WordsFault
-    → Result Standing WordsFault
-after_words rows at all [] standing = standing
-after_words rows at all (word ∷ words) (Ok standing) =
-    after_words rows (at + 1) all words
-    (after_role at all standing (role_of rows standing.pending word))
-after_words rows at all (word ∷ words) (Err fault) = Err fault
+-- what stands after a text that gives something, or `BadValue` where it gives nothing
+abbrev pub after_text : ℕ → Option Given → Standing → Result Standing WordsFault
+after_text at None standing = fault_at at kind.BadValue
+after_text at (Some given) standing =
+    Ok (record standing { draft = with_given standing.draft given; pending = None })
 
--- what stands before the first word behind a command
-abbrev pub before_words : Verb → Standing
-before_words verb =
-    record { draft = nothing; left = arguments verb; pending = None }
-
--- what stands after the words behind a command, or their first fault
-abbrev pub reading_of : Verb → List (List ℕ) → Result Standing WordsFault
-reading_of verb words =
-    after_words (options verb) 2 (length words + 1) words (Ok (before_words verb))
-
--- what the words behind a command give, or their first fault
-abbrev pub draft_or_fault : Result Standing WordsFault → Result Draft WordsFault
-draft_or_fault (Ok standing) = Ok standing.draft
-draft_or_fault (Err fault) = Err fault
+-- what stands after an argument, or its fault
+abbrev pub after_argument : ℕ → List ℕ → List Row → Standing → Result Standing WordsFault
+after_argument at word [] standing = fault_at at kind.TooManyArguments
+after_argument at word (row ∷ left) standing =
+    after_text at (given_of row word) (record standing { left = left; pending = None })

@@ -1,14 +1,15 @@
 -- The role of a word behind the command, and what is wrong with a word in its role (this project's
 -- rule).
 use Rattle.std.specs.Prelude.{ℕ, Bool, true, false, not, nat_eq, ◌==◌, ◌&&◌, List, [], ◌∷◌}
-use Rattle.std.specs.Prelude.{Option, Some, None, is_some, is_none, if◌then◌else◌, codes}
+use Rattle.std.specs.Prelude.{Option, Some, None, option_map, is_some, is_none, Result, Err}
+use Rattle.std.specs.Prelude.{if◌then◌else◌, codes}
 use Rattle.std.specs.List.{find, before_first, starts_with}
 use Rattle.std.specs.Str.{bytes_eq}
+use Rattle.jm_words.specs.declared.errors.WordsFault.{WordsFault}
 use Rattle.jm_words.specs.declared.errors.WordsKind.{WordsKind}
 use Rattle.jm_words.specs.declared.errors.WordsKind.TheVariants as kind
-use Rattle.jm_words.specs.declared.given.Given.{Given}
 use Rattle.jm_words.specs.Drafts.{has}
-use Rattle.jm_words.specs.Givens.{flag_given, given_of}
+use Rattle.jm_words.specs.Givens.{Given, flag_given, given_of}
 use Rattle.jm_words.specs.Tables.{Row, is_flag}
 use Rattle.jm_words.specs.Values.{behind_first}
 
@@ -130,6 +131,12 @@ is_faulty values left last role kind.BadValue = has_form left role && is_none (g
 is_faulty values left last role kind.TooManyArguments = is_argument role && is_none_left left
 is_faulty values left last role _ = false
 
--- the first kind of fault that holds of a word in its role
-abbrev pub first_kind : List Given → List Row → Bool → Role → Option WordsKind
-first_kind values left last role = find (is_faulty values left last role) kinds
+-- a fault of a kind, with the number of its word
+abbrev pub fault_at : {A : Type 0} → ℕ → WordsKind → Result A WordsFault
+fault_at at kind = Err (record { at = at; kind = kind })
+
+-- the first fault of a word of a number in its role: that of the first kind that holds of it
+abbrev pub fault_in : ℕ → List Given → List Row → Bool → Role → Option WordsFault
+fault_in at values left last role =
+    option_map (λ kind. record { at = at; kind = kind })
+    (find (is_faulty values left last role) kinds)

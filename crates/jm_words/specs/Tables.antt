@@ -1,23 +1,40 @@
 -- The commands, their arguments in order and their options, a row each (this project's rule).
-use Rattle.std.specs.Prelude.{ℕ, Bool, true, false, List, [], ◌∷◌, codes}
+use Rattle.std.specs.Prelude.{ℕ, ◌-◌, ◌^◌, Bool, true, false, List, [], ◌∷◌, codes}
 use denote.Enum.Bare.{sameb}
 use Rattle.jm_words.specs.contracts.tables.Field.{the_type}
+use Rattle.jm_words.specs.contracts.tables.Part.{the_type as parts}
 use Rattle.jm_words.specs.declared.tables.Field.{Field}
 use Rattle.jm_words.specs.declared.tables.Field.TheVariants as field
 use Rattle.jm_words.specs.declared.tables.Form.{Form}
 use Rattle.jm_words.specs.declared.tables.Form.TheVariants as form
+use Rattle.jm_words.specs.declared.tables.Part.{Part}
+use Rattle.jm_words.specs.declared.tables.Part.TheVariants as part
 use Rattle.jm_words.specs.declared.tables.Verb.{Verb}
 use Rattle.jm_words.specs.declared.tables.Verb.TheVariants as verb
 
--- an argument or an option: its name, the form of its text, and the field that it gives
+-- an argument or an option: its name, the form of its text, the field that it gives, and where the
+-- help has which line of it
 pub record Row : Type 0 where
   pub name : List ℕ
   pub form : Form
   pub field : Field
+  pub part : Part
+  pub line : List ℕ
 
--- a row of this name, form and field
+-- a row without a line of its own in the help
 abbrev pub row : List ℕ → Form → Field → Row
-row name form field = record { name = name; form = form; field = field }
+row name form field =
+    record { name = name; form = form; field = field; part = part.None; line = [] }
+
+-- a row with a line among the options
+abbrev pub option_row : List ℕ → Form → Field → List ℕ → Row
+option_row name form field line =
+    record { name = name; form = form; field = field; part = part.Options; line = line }
+
+-- a row with a line among the plug-ins
+abbrev pub plugin_row : List ℕ → Form → Field → List ℕ → Row
+plugin_row name form field line =
+    record { name = name; form = form; field = field; part = part.Plugins; line = line }
 
 -- the image that a command reads
 abbrev pub image : Row
@@ -25,11 +42,18 @@ image = row (codes "IMAGE") form.Path field.File
 
 -- how many pieces work at the same time
 abbrev pub jobs : Row
-jobs = row (codes "--jobs") (form.Number 1 64) field.Jobs
+jobs = option_row (codes "--jobs") form.Number field.Jobs
+    (codes "works in N pieces, from 1 to 64, with each command; no answer changes")
+
+-- up to which release classes are read
+abbrev pub release : Row
+release = option_row (codes "--release") form.Number field.Release
+    (codes "takes classes of Java SE up to release N, from 21 to 25; 21 without it")
 
 -- the patterns of what is taken
 abbrev pub include : Row
-include = row (codes "--include") form.Patterns field.Include
+include = option_row (codes "--include") form.Patterns field.Include
+    (codes "takes only the resources with a name that a pattern of the list matches")
 
 -- the name of a command
 abbrev pub verb_name : Verb → List ℕ
@@ -73,24 +97,45 @@ options verb.Link =
     ∷ row (codes "--from-image") form.Path field.Source
     ∷ row (codes "--add-modules") form.Names field.Roots
     ∷ row (codes "--output") form.Path field.Output
-    ∷ row (codes "--endian") form.Order field.Order
-    ∷ row (codes "--bind-services") form.Flag field.Bind
-    ∷ row (codes "--exclude-resources") form.Patterns field.Exclude
-    ∷ row (codes "--order-resources") form.Patterns field.Rank
-    ∷ row (codes "--strip-java-debug-attributes") form.Flag field.Strip
-    ∷ row (codes "--compact-pool") form.Flag field.Compact
-    ∷ row (codes "--module-packages") form.Flag field.Packages
+    ∷ option_row (codes "--endian") form.Order field.Order
+    (codes "the order of bytes of the image of link: little, or big")
+    ∷ option_row (codes "--bind-services") form.Flag field.Bind
+    (codes "takes in the modules that provide services which the linked ones use")
+    ∷ release
+    ∷ plugin_row (codes "--exclude-resources") form.Patterns field.Exclude
+    (codes "leaves out the resources with a name that a pattern matches")
+    ∷ plugin_row (codes "--order-resources") form.Patterns field.Rank
+    (codes "puts the resources in the order of the patterns that match their names")
+    ∷ plugin_row (codes "--strip-java-debug-attributes") form.Flag field.Strip
+    (codes "drops what a class says for debuggers")
+    ∷ plugin_row (codes "--compact-pool") form.Flag field.Compact
+    (codes "drops the constants of a class that nothing names")
+    ∷ plugin_row (codes "--module-packages") form.Flag field.Packages
+    (codes "names the packages of each module in its descriptor")
     ∷ []
 options verb.List = jobs ∷ include ∷ []
 options verb.Extract =
     jobs ∷ row (codes "--dir") form.Folder field.Folder ∷ include ∷ []
 options verb.Gen =
     jobs
-    ∷ row (codes "--modules") (form.Number 1 256) field.Modules
-    ∷ row (codes "--classes") (form.Number 1 1024) field.Classes
-    ∷ row (codes "--seed") form.Long field.Seed
+    ∷ row (codes "--modules") form.Number field.Modules
+    ∷ row (codes "--classes") form.Number field.Classes
+    ∷ row (codes "--seed") form.Number field.Seed
     ∷ []
+options verb.Describe = jobs ∷ release ∷ []
 options _ = jobs ∷ []
+
+-- the limits of the numbers of a field
+abbrev pub limits : Field → ℕ × ℕ
+limits field.Jobs = (1, 64)
+limits field.Release = (21, 25)
+limits field.Modules = (1, 256)
+limits field.Classes = (1, 1024)
+limits _ = (0, 2 ^ 64 - 1)
+
+-- two parts are one
+abbrev pub same_part : Part → Part → Bool
+same_part = sameb parts
 
 -- two fields are one
 abbrev pub same_field : Field → Field → Bool

@@ -1,8 +1,8 @@
 -- What the text of an argument, or of an option's value, means, if it is of its form (this
 -- project's rule).
-use Rattle.std.specs.Prelude.{ℕ, ◌+◌, ◌*◌, ◌-◌, Bool, false, nat_le, ◌==◌, ◌&&◌, List, [], ◌∷◌}
-use Rattle.std.specs.Prelude.{map, Option, Some, None, option_map, Result, Ok, Err}
-use Rattle.std.specs.Prelude.{if◌then◌else◌, codes}
+use Rattle.std.specs.Prelude.{ℕ, ◌+◌, ◌*◌, ◌-◌, Bool, false, nat_le, ◌==◌, ◌&&◌, List, []}
+use Rattle.std.specs.Prelude.{◌∷◌, map, Option, Some, None, option_map}
+use Rattle.std.specs.Prelude.{Result, Ok, Err, if◌then◌else◌, codes}
 use Rattle.std.specs.List.{after_first, list_all, list_any, slice_split}
 use Rattle.std.specs.Str.{bytes_eq}
 use Rattle.jm_bytes.specs.declared.words.Order.{Order}
@@ -87,13 +87,9 @@ is_numeral [] = false
 is_numeral (b ∷ text) = if b == 48 then is_empty text else list_all is_digit (b ∷ text)
 
 -- the number of a text, if it is one within the limits
-abbrev pub number_of : ℕ → ℕ → List ℕ → Option ℕ
-number_of low high text =
-    if is_numeral text && (nat_le low (decimal_from 0 text) && nat_le (decimal_from 0 text) high)
+abbrev pub number_of : ℕ × ℕ → List ℕ → Option ℕ
+number_of limits text =
+    if is_numeral text
+    && (nat_le limits.0 (decimal_from 0 text) && nat_le (decimal_from 0 text) limits.1)
     then Some (decimal_from 0 text)
     else None
-
--- the parts of what is left of a text, if anything is: a word of the proof
-abbrev pub parts_of : ℕ → Option (List ℕ) → List (List ℕ)
-parts_of byte None = []
-parts_of byte (Some text) = parts_at byte text

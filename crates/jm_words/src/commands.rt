@@ -1,31 +1,30 @@
-ghost use Rattle.std.specs.Prelude.{◌≡◌, ◌<◌, map, string_bytes, IfOk};
+ghost use Rattle.std.specs.Prelude.{◌≡◌, ◌<◌, map, string_bytes, IfOk, IfSome, IsUtf8};
 ghost use Rattle.std.specs.List.{find};
 ghost use Rattle.std.specs.Str.{bytes_eq};
 ghost use Rattle.jm_bytes.specs.Results.{IfAnswered};
-ghost use Rattle.jm_words.specs.Commands.{command_in, gen_of, link_of, on_image, source_in};
-ghost use Rattle.jm_words.specs.Commands.{task_of, verb_named};
-ghost use Rattle.jm_words.specs.Paths.{FilePathsAreText, NumbersFit};
-ghost use Rattle.jm_words.specs.Rule.{SaysCommand};
+ghost use Rattle.jm_words.specs.Commands.{gen_of, jobs_of, link_of, on_image};
+ghost use Rattle.jm_words.specs.Commands.{release_of, task_of, verb_named};
+ghost use Rattle.jm_words.specs.Paths.{FilePathsAreText, FolderIsText, GenFits, IsRelease};
+ghost use Rattle.jm_words.specs.Paths.{LinkIsText, NumbersFit};
+ghost use Rattle.jm_words.specs.Rule.{command_in};
 ghost use Rattle.jm_words.specs.Tables.{verb_name};
 
 use crate::drafts::{
-    Draft, find, has, long_in, name_in, names_in, number_in, order_in, path_in, patterns_in, take,
+    Draft, has, number, order, take_name, take_names, take_path, take_patterns, take_source,
 };
 use crate::errors::{WordsFault, WordsKind};
-use crate::given::{Given, Value};
+use crate::given::Given;
 use crate::reading::draft_of;
-use crate::tables::{Field, Verb, verb_name};
+use crate::tables::{Field, Verb, verb_name, verbs};
 use crate::tasks::{Command, GenTask, ImageWork, LinkTask, Plugin, Task};
-use jm_bytes::{List, Or, Order, Text};
+use jm_bytes::{List, Or, Order};
 use std::alloc::Global;
 
 /// Reads the words behind the program's name: the command that they make, or their first fault. A
 /// fault has the number of its word, from 1; a missing argument or option has that of all words.
-#[tactic(auto, using(crate::proofs::RuleLaws::says_read))]
 pub fn read_words(alloc: Global, words: &[String]) -> Result<Command, Or<WordsFault>>
     ensures command { IfAnswered
         (λ r. r ≡ command_in (map string_bytes words.now)) result }
-    ensures says { IfAnswered (SaysCommand (map string_bytes words.now)) result }
     ensures paths { IfOk result (λ command. FilePathsAreText command.task) }
     ensures jobs { IfOk result (λ command. 0 < command.jobs) }
     ensures numbers { IfOk result (λ command. NumbersFit command.task) }
@@ -45,8 +44,8 @@ pub fn read_words(alloc: Global, words: &[String]) -> Result<Command, Or<WordsFa
         })),
     };
     let draft = draft_of(alloc, verb, behind)?;
-    let jobs = number_in(find(draft.values.as_slice(), Field::Jobs)).unwrap_or(1);
-    match task_of(alloc, verb, draft) {
+    let jobs = jobs_of(draft.values.as_slice());
+    match task_of(verb, draft) {
         Some(task) => Ok(Command { jobs, task }),
         None => Err(Or::Fault(WordsFault {
             at: words.len(),
@@ -56,24 +55,10 @@ pub fn read_words(alloc: Global, words: &[String]) -> Result<Command, Or<WordsFa
 }
 
 /// The command of a name.
-fn verb_named(name: &[u8]) -> Option<Verb>
+pub fn verb_named(name: &[u8]) -> Option<Verb>
     ensures { result ≡ verb_named name.now }
 {
-    let verbs = [
-        Verb::Link,
-        Verb::Cat,
-        Verb::List,
-        Verb::Ls,
-        Verb::Info,
-        Verb::Extract,
-        Verb::Verify,
-        Verb::Serve,
-        Verb::Gen,
-        Verb::Describe,
-        Verb::Help,
-        Verb::Version,
-    ];
-    first_named(&verbs, name)
+    first_named(verbs(), name)
 }
 
 /// The first command of a list that has a name.
@@ -88,36 +73,55 @@ fn first_named(verbs: &[Verb], name: &[u8]) -> Option<Verb>
     None
 }
 
+/// The number of jobs that was given, or else one.
+fn jobs_of(values: &[Given]) -> u32
+    ensures jobs { result ≡ jobs_of values.now }
+    ensures some { 0 < result }
+{
+    number(values, Field::Jobs).unwrap_or(1) as u32
+}
+
+/// The release that was given, or else 21.
+fn release_of(values: &[Given]) -> u32
+    ensures release { result ≡ release_of values.now }
+    ensures within { IsRelease result }
+{
+    number(values, Field::Release).unwrap_or(21) as u32
+}
+
 /// The task of what was given, if all is there that must be.
-fn task_of(alloc: Global, verb: Verb, draft: Draft) -> Option<Task>
-    ensures { result ≡ task_of verb draft }
+fn task_of(verb: Verb, draft: Draft) -> Option<Task>
+    ensures task { result ≡ task_of verb draft }
+    ensures paths { IfSome result FilePathsAreText }
+    ensures numbers { IfSome result NumbersFit }
 {
     let mut values = draft.values.into_vec();
     let values = values.as_mut_slice();
     match verb {
-        Verb::Link => Some(Task::Link(link_of(alloc, values, draft.plugins)?)),
+        Verb::Link => Some(Task::Link(link_of(values, draft.plugins)?)),
         Verb::Gen => Some(Task::Gen(gen_of(values)?)),
         Verb::Describe => Some(Task::Describe {
-            file: path_in(take(values, Field::File))?,
+            release: release_of(values),
+            file: take_path(values, Field::File)?,
         }),
         Verb::Help => Some(Task::Help),
         Verb::Version => Some(Task::Version),
         Verb::Cat => {
-            let name = name_in(take(values, Field::Name))?;
+            let name = take_name(values, Field::Name)?;
             on_image(values, ImageWork::Cat { name })
         }
         Verb::List => {
-            let include = patterns_in(take(values, Field::Include));
+            let include = take_patterns(values, Field::Include);
             on_image(values, ImageWork::List { include })
         }
         Verb::Ls => {
-            let path = name_in(take(values, Field::Name))?;
+            let path = take_name(values, Field::Name)?;
             on_image(values, ImageWork::Ls { path })
         }
         Verb::Info => on_image(values, ImageWork::Info),
         Verb::Extract => {
-            let dir = path_in(take(values, Field::Folder))?;
-            let include = patterns_in(take(values, Field::Include));
+            let dir = take_path(values, Field::Folder)?;
+            let include = take_patterns(values, Field::Include);
             on_image(values, ImageWork::Extract { dir, include })
         }
         Verb::Verify => on_image(values, ImageWork::Verify),
@@ -127,53 +131,49 @@ fn task_of(alloc: Global, verb: Verb, draft: Draft) -> Option<Task>
 
 /// The work on an image, if the image was given.
 fn on_image(values: &mut [Given], work: ImageWork) -> Option<Task>
-    ensures { result ≡ on_image values.old work }
+    ensures task { result ≡ on_image values.old work }
+    ensures paths { FolderIsText work → IfSome result FilePathsAreText }
+    ensures numbers { IfSome result NumbersFit }
 {
     Some(Task::Image {
-        image: path_in(take(values, Field::File))?,
+        image: take_path(values, Field::File)?,
         work,
     })
 }
 
 /// The `gen` of what was given, if all is there that must be.
 fn gen_of(values: &mut [Given]) -> Option<GenTask>
-    ensures { result ≡ gen_of values.old }
+    ensures task { result ≡ gen_of values.old }
+    ensures path { IfSome result (λ gen. IsUtf8 gen.dir) }
+    ensures numbers { IfSome result GenFits }
 {
     Some(GenTask {
-        modules: number_in(find(values, Field::Modules))?,
-        classes: number_in(find(values, Field::Classes))?,
-        seed: long_in(find(values, Field::Seed))?,
-        dir: path_in(take(values, Field::Folder))?,
+        modules: number(values, Field::Modules)? as u32,
+        classes: number(values, Field::Classes)? as u32,
+        seed: number(values, Field::Seed)?,
+        dir: take_path(values, Field::Folder)?,
     })
 }
 
 /// The `link` of what was given, if all is there that must be.
-fn link_of(alloc: Global, values: &mut [Given], plugins: List<Plugin>) -> Option<LinkTask>
-    ensures { result ≡ link_of (record { values = values.old; plugins = plugins }) }
+fn link_of(values: &mut [Given], plugins: List<Plugin>) -> Option<LinkTask>
+    ensures task { result ≡ link_of (record { values = values.old; plugins = plugins }) }
+    ensures paths { IfSome result LinkIsText }
+    ensures release { IfSome result (λ link. IsRelease link.release) }
 {
-    let order = order_in(find(values, Field::Order)).unwrap_or(Order::Little);
+    let order = order(values, Field::Order).unwrap_or(Order::Little);
     let bind = has(values, Field::Bind);
-    let (dirs, from_image) = source_in(alloc, take(values, Field::Source))?;
-    let roots = names_in(take(values, Field::Roots))?;
-    let output = path_in(take(values, Field::Output))?;
+    let release = release_of(values);
+    let source = take_source(values, Field::Source)?;
+    let roots = take_names(values, Field::Roots)?;
+    let output = take_path(values, Field::Output)?;
     Some(LinkTask {
-        dirs,
+        source,
         roots,
         output,
         plugins,
         order,
         bind,
-        from_image,
+        release,
     })
-}
-
-/// The folders of a module path, or none and an image, if a value is either.
-fn source_in(alloc: Global, value: Option<Value>) -> Option<(List<Text>, Option<Text>)>
-    ensures { result ≡ source_in value }
-{
-    match value {
-        Some(Value::Paths(dirs)) => Some((dirs, None)),
-        Some(Value::Path(image)) => Some((List::new(alloc), Some(image))),
-        _ => None,
-    }
 }

@@ -1,11 +1,13 @@
-ghost use Rattle.std.specs.Prelude.{◌≡◌, option_map, OnOk};
-ghost use Rattle.jm_words.specs.Drafts.{LeavesOthers, has, long_in, name_in, names_in, nothing};
-ghost use Rattle.jm_words.specs.Drafts.{number_in, order_in, path_in, patterns_in, the};
+ghost use Rattle.std.specs.Prelude.{◌≡◌, option_map, All, IfSome, IsUtf8, OnOk};
+ghost use Rattle.jm_words.specs.Drafts.{LeavesOthers, has, name_in, names_in, nothing};
+ghost use Rattle.jm_words.specs.Drafts.{number_in, order_in, path_in, patterns_in, source_in, the};
 ghost use Rattle.jm_words.specs.Drafts.{with_given};
+ghost use Rattle.jm_words.specs.Fits.{Fits, IsWithin};
+ghost use Rattle.jm_words.specs.Paths.{SourceIsText};
 
 use crate::given::{Given, Value, plugin_or_given};
-use crate::tables::{Field, same_field};
-use crate::tasks::Plugin;
+use crate::tables::Field;
+use crate::tasks::{Plugin, Source};
 use jm_bytes::{List, NoMemory, Order, Text};
 use jm_pattern::Pattern;
 use std::alloc::Global;
@@ -44,15 +46,16 @@ impl Draft {
 pub fn has(values: &[Given], field: Field) -> bool
     ensures { result ≡ has values.now field }
 {
-    values.iter().any(|given| same_field(given.field, field))
+    find(values, field).is_some()
 }
 
 /// The value of a field, if it is given.
-pub fn find(values: &[Given], field: Field) -> Option<&Value>
-    ensures { option_map (λ value. value.now) result ≡ the field values.now }
+fn find(values: &[Given], field: Field) -> Option<&Value>
+    ensures value { option_map (λ value. value.now) result ≡ the field values.now }
+    ensures fits { IfSome result (λ value. Fits field value.now) }
 {
     for given in values {
-        if same_field(given.field, field) {
+        if given.field == field {
             return Some(&given.value);
         }
     }
@@ -60,84 +63,96 @@ pub fn find(values: &[Given], field: Field) -> Option<&Value>
 }
 
 /// The value of a field, taken out, if it is given.
-pub fn take(values: &mut [Given], field: Field) -> Option<Value>
+fn take(values: &mut [Given], field: Field) -> Option<Value>
     ensures value { result ≡ the field values.old }
+    ensures fits { IfSome result (Fits field) }
     ensures others { LeavesOthers field values.old values.new }
 {
     for place in 0..values.len() {
-        if same_field(values[place].field, field) {
-            return Some(replace(&mut values[place].value, Value::Flag));
+        let given = &values[place];
+        if given.field == field {
+            let given = &mut values[place];
+            return Some(replace(&mut given.value, Value::Flag));
         }
     }
     None
 }
 
-/// The path that a value is, if it is one.
-pub fn path_in(value: Option<Value>) -> Option<Text>
-    ensures { result ≡ path_in value }
+/// The path that a field has, taken out, if it has one.
+pub fn take_path(values: &mut [Given], field: Field) -> Option<Text>
+    ensures path { result ≡ path_in (the field values.old) }
+    ensures text { IfSome result IsUtf8 }
+    ensures others { LeavesOthers field values.old values.new }
 {
-    match value {
-        Some(Value::Path(path)) => Some(path),
+    match take(values, field)? {
+        Value::Path(path) => Some(path),
         _ => None,
     }
 }
 
-/// The name or the path in an image that a value is, if it is one.
-pub fn name_in(value: Option<Value>) -> Option<Text>
-    ensures { result ≡ name_in value }
+/// The name or the path in an image that a field has, taken out, if it has one.
+pub fn take_name(values: &mut [Given], field: Field) -> Option<Text>
+    ensures name { result ≡ name_in (the field values.old) }
+    ensures others { LeavesOthers field values.old values.new }
 {
-    match value {
-        Some(Value::Name(name)) => Some(name),
+    match take(values, field)? {
+        Value::Name(name) => Some(name),
         _ => None,
     }
 }
 
-/// The names that a value is, if it is some.
-pub fn names_in(value: Option<Value>) -> Option<List<Text>>
-    ensures { result ≡ names_in value }
+/// The names that a field has, taken out, if it has some.
+pub fn take_names(values: &mut [Given], field: Field) -> Option<List<Text>>
+    ensures names { result ≡ names_in (the field values.old) }
+    ensures others { LeavesOthers field values.old values.new }
 {
-    match value {
-        Some(Value::Names(names)) => Some(names),
+    match take(values, field)? {
+        Value::Names(names) => Some(names),
         _ => None,
     }
 }
 
-/// The patterns that a value is, if it is some.
-pub fn patterns_in(value: Option<Value>) -> Option<List<Pattern>>
-    ensures { result ≡ patterns_in value }
+/// The patterns that a field has, taken out, if it has some.
+pub fn take_patterns(values: &mut [Given], field: Field) -> Option<List<Pattern>>
+    ensures patterns { result ≡ patterns_in (the field values.old) }
+    ensures others { LeavesOthers field values.old values.new }
 {
-    match value {
-        Some(Value::Patterns(patterns)) => Some(patterns),
+    match take(values, field)? {
+        Value::Patterns(patterns) => Some(patterns),
         _ => None,
     }
 }
 
-/// The number that a value is, if it is one.
-pub fn number_in(value: Option<&Value>) -> Option<u32>
-    ensures { result ≡ number_in (option_map (λ v. v.now) value.entry) }
+/// The source that a field has, taken out, if it has one.
+pub fn take_source(values: &mut [Given], field: Field) -> Option<Source>
+    ensures source { result ≡ source_in (the field values.old) }
+    ensures text { IfSome result SourceIsText }
+    ensures others { LeavesOthers field values.old values.new }
 {
-    match value {
-        Some(Value::Number(number)) => Some(*number),
+    match take(values, field)? {
+        Value::Paths(directories) => Some(Source::Path(directories)),
+        Value::Path(image) => Some(Source::Image(image)),
         _ => None,
     }
 }
 
-/// The number of 64 bits that a value is, if it is one.
-pub fn long_in(value: Option<&Value>) -> Option<u64>
-    ensures { result ≡ long_in (option_map (λ v. v.now) value.entry) }
+/// The number that a field has, if it has one.
+pub fn number(values: &[Given], field: Field) -> Option<u64>
+    ensures number { result ≡ number_in (the field values.now) }
+    ensures within { IfSome result (IsWithin field) }
 {
-    match value {
-        Some(Value::Long(number)) => Some(*number),
+    match find(values, field)? {
+        Value::Number(number) => Some(*number),
         _ => None,
     }
 }
 
-/// The order that a value is, if it is one.
-pub fn order_in(value: Option<&Value>) -> Option<Order>
-    ensures { result ≡ order_in (option_map (λ v. v.now) value.entry) }
+/// The order that a field has, if it has one.
+pub fn order(values: &[Given], field: Field) -> Option<Order>
+    ensures order { result ≡ order_in (the field values.now) }
 {
-    match value {
-        Some(Value::Order(order)) => Some(*order),
+    match find(values, field)? {
+        Value::Order(order) => Some(*order),
         _ => None,
     }
 }

@@ -1,16 +1,18 @@
-ghost use Rattle.std.specs.Prelude.{◌≡◌, Some, None, IfOk, IfErr};
+ghost use Rattle.std.specs.Prelude.{◌≡◌, Some, None, IfErr, IfOk, IfSome};
+ghost use Rattle.jm_words.specs.Fits.{Fits};
 ghost use Rattle.jm_words.specs.Givens.{given_of, plugin_in, value_of};
 ghost use Rattle.jm_words.specs.Rows.{row_of};
 
-use crate::tables::{Field, Form, Row};
+use crate::tables::{Field, Form, Row, limits};
 use crate::tasks::Plugin;
 use crate::values::{
-    count_of, folders_of, names_of, number_of, order_of, path_of, patterns_of, without_slashes,
+    folders_of, names_of, number_of, order_of, path_of, patterns_of, without_slashes,
 };
 use jm_bytes::{List, NoMemory, Order, Text};
 use jm_names::to_modified;
 use jm_pattern::Pattern;
 use std::alloc::Global;
+use std::marker::Model;
 
 /// What the text of an argument, or of an option's value, means.
 #[derive(Drop)]
@@ -25,10 +27,8 @@ pub enum Value {
     Name(Text),
     /// The names of modules, in Modified UTF-8.
     Names(List<Text>),
-    /// A number within the limits of its form.
-    Number(u32),
-    /// A number of 64 bits.
-    Long(u64),
+    /// A number within the limits of its field.
+    Number(u64),
     /// The order of the bytes of a word.
     Order(Order),
     /// Some patterns.
@@ -42,37 +42,58 @@ pub struct Given {
     pub value: Value,
 }
 
-/// What a text of a form means, if it is of the form. No text is of that of a flag.
-fn value_of(alloc: Global, form: Form, text: &[u8]) -> Result<Option<Value>, NoMemory>
-    ensures { IfOk result (λ value. value ≡ value_of form text.now) }
+impl Model for Given {
+    ghost use Rattle.jm_words.specs.Fits.{Fits};
+    ghost use Rattle.jm_words.specs.Givens.{Given};
+
+    ghost Value = { Given };
+
+    ghost view = { λ a. record { field = a.field; value = a.value } };
+
+    ghost invariant = { λ a. Fits a.field a.value };
+}
+
+/// What a text of the form of a row means, if it is of the form. No text is of that of a flag.
+fn value_of(alloc: Global, row: Row, text: &str) -> Result<Option<Value>, NoMemory>
+    ensures value { IfOk result (λ value. value ≡ value_of row.2 row.1 text.now) }
+    ensures fits { IfOk result (λ value. IfSome value (Fits row.2)) }
 {
-    Ok(match form {
-        Form::Flag => None,
-        Form::Path => path_of(alloc, text)?.map(|path| Value::Path(path)),
-        Form::Folder => path_of(alloc, without_slashes(text))?.map(|path| Value::Path(path)),
-        Form::Folders => folders_of(alloc, text)?.map(|paths| Value::Paths(paths)),
-        Form::Name => Some(Value::Name(to_modified(alloc, text)?)),
+    match row.1 {
+        Form::Flag => Ok(None),
+        Form::Path => Ok(path_of(alloc, text)?.map(|path| Value::Path(path))),
+        Form::Folder => Ok(path_of(alloc, without_slashes(text))?.map(|path| Value::Path(path))),
+        Form::Folders => match folders_of(alloc, text)? {
+            Some(paths) => Ok(Some(Value::Paths(paths))),
+            None => Ok(None),
+        },
+        Form::Name => Ok(Some(Value::Name(to_modified(alloc, text.as_bytes())?))),
         Form::InnerPath => {
             if text.is_empty() {
-                None
+                Ok(None)
             } else {
-                Some(Value::Name(to_modified(alloc, text)?))
+                Ok(Some(Value::Name(to_modified(alloc, text.as_bytes())?)))
             }
         }
-        Form::Names => names_of(alloc, text)?.map(|names| Value::Names(names)),
-        Form::Number(low, high) => count_of(low, high, text).map(|number| Value::Number(number)),
-        Form::Long => number_of(0, u64::MAX, text).map(|number| Value::Long(number)),
-        Form::Order => order_of(text).map(|order| Value::Order(order)),
-        Form::Patterns => patterns_of(alloc, text)?.map(|patterns| Value::Patterns(patterns)),
-    })
+        Form::Names => Ok(names_of(alloc, text)?.map(|names| Value::Names(names))),
+        Form::Number => {
+            Ok(number_of(limits(row.2), text.as_bytes()).map(|number| Value::Number(number)))
+        }
+        Form::Order => Ok(order_of(text.as_bytes()).map(|order| Value::Order(order))),
+        Form::Patterns => Ok(patterns_of(alloc, text)?.map(|patterns| Value::Patterns(patterns))),
+    }
 }
 
 /// What a text gives as that of an argument or of an option's value, if it is of the row's form.
-pub fn given_of(alloc: Global, row: Row, text: &[u8]) -> Result<Option<Given>, NoMemory>
+pub fn given_of(alloc: Global, row: Row, text: &str) -> Result<Option<Given>, NoMemory>
     ensures { IfOk result (λ given. given ≡ given_of (row_of row) text.now) }
 {
-    let Row(_, form, field) = row;
-    Ok(value_of(alloc, form, text)?.map(|value| Given { field, value }))
+    match value_of(alloc, row, text)? {
+        Some(value) => Ok(Some(Given {
+            field: row.2,
+            value,
+        })),
+        None => Ok(None),
+    }
 }
 
 /// The plug-in that is given, or what is given else.

@@ -6,6 +6,7 @@ mod commands;
 mod drafts;
 mod errors;
 mod given;
+mod help;
 mod reading;
 mod tables;
 mod tasks;
@@ -13,4 +14,5 @@ mod values;
 
 pub use commands::read_words;
 pub use errors::{WordsFault, WordsKind};
-pub use tasks::{Command, GenTask, ImageWork, LinkTask, Plugin, Task};
+pub use help::{help_text, usage};
+pub use tasks::{Command, GenTask, ImageWork, LinkTask, Plugin, Source, Task};

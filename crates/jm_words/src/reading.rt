@@ -1,16 +1,16 @@
 ghost use Rattle.std.specs.Prelude.{◌≡◌, Some, Err, map, option_map, string_bytes};
 ghost use Rattle.jm_bytes.specs.Results.{IfAnswered};
 ghost use Rattle.jm_bytes.specs.declared.faults.Or.TheVariants.{Fault};
-ghost use Rattle.jm_words.specs.Reading.{after_role, draft_or_fault, reading_of};
-ghost use Rattle.jm_words.specs.ReadingSteps.{after_argument, after_text};
+ghost use Rattle.jm_words.specs.Reading.{after_argument, after_role, after_text};
 ghost use Rattle.jm_words.specs.Roles.{option_named, option_role, role_of};
 ghost use Rattle.jm_words.specs.Rows.{row_of};
+ghost use Rattle.jm_words.specs.Rule.{draft_given};
 
 use crate::drafts::{Draft, has};
 use crate::errors::{WordsFault, WordsKind};
 use crate::given::{Given, Value, given_of};
 use crate::tables::{Row, Verb, arguments, options};
-use crate::values::first_part;
+use crate::values::parted;
 use jm_bytes::Or;
 use std::alloc::Global;
 use std::marker::Model;
@@ -49,7 +49,7 @@ struct Position {
 /// What the words behind a command give, or their first fault.
 pub fn draft_of(alloc: Global, verb: Verb, words: &[String]) -> Result<Draft, Or<WordsFault>>
     ensures { IfAnswered
-        (λ r. r ≡ draft_or_fault (reading_of verb (map string_bytes words.now))) result }
+        (λ r. r ≡ draft_given verb (map string_bytes words.now)) result }
 {
     let rows = options(verb);
     let mut progress = Progress {
@@ -62,18 +62,17 @@ pub fn draft_of(alloc: Global, verb: Verb, words: &[String]) -> Result<Draft, Or
             at: i + 2,
             last: words.len() + 1,
         };
-        progress = after_word(alloc, rows, position, words[i].as_bytes(), progress)?;
+        progress = after_word(alloc, rows, position, words[i].as_str(), progress)?;
     }
     Ok(progress.draft)
 }
 
 /// One word: the value that an option waits for, or an option or an argument.
-#[tactic(auto, using(crate::proofs::ReadingLaws::argument_read))]
 fn after_word(
     alloc: Global,
     rows: &[Row],
     position: Position,
-    word: &[u8],
+    word: &str,
     progress: Progress,
 ) -> Result<Progress, Or<WordsFault>>
     ensures { IfAnswered (λ r. r
@@ -83,11 +82,11 @@ fn after_word(
     if let Some(row) = progress.pending {
         return after_text(position.at, given_of(alloc, row, word)?, progress);
     }
-    if !word.starts_with(b"--") {
+    if !word.as_bytes().starts_with(b"--") {
         return after_argument(alloc, position.at, word, progress);
     }
-    let (name, value) = first_part(b'=', word);
-    match option_named(name, rows) {
+    let (name, value) = parted(word);
+    match option_named(name.as_bytes(), rows) {
         Some(row) => after_option(alloc, position, row, value, progress),
         None => fault_at(position.at, WordsKind::UnknownOption),
     }
@@ -99,7 +98,7 @@ fn after_option(
     alloc: Global,
     position: Position,
     row: Row,
-    value: Option<&[u8]>,
+    value: Option<&str>,
     progress: Progress,
 ) -> Result<Progress, Or<WordsFault>>
     ensures { IfAnswered (λ r. r ≡ after_role position.at position.last progress
@@ -131,7 +130,7 @@ fn after_option(
 fn after_argument(
     alloc: Global,
     at: usize,
-    word: &[u8],
+    word: &str,
     progress: Progress,
 ) -> Result<Progress, Or<WordsFault>>
     ensures { IfAnswered (λ r. r ≡ after_argument at word.now progress.left progress) result }

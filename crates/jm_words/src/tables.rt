@@ -1,6 +1,7 @@
 ghost use Rattle.std.specs.Prelude.{◌≡◌, map};
 ghost use Rattle.jm_words.specs.Rows.{row_of};
-ghost use Rattle.jm_words.specs.Tables.{arguments, is_flag, options, same_field, verb_name};
+ghost use Rattle.jm_words.specs.Tables.{arguments, is_flag, limits, options};
+ghost use Rattle.jm_words.specs.Tables.{verb_name, verbs};
 
 /// The commands.
 #[derive(Clone, Copy)]
@@ -30,6 +31,7 @@ pub enum Field {
     Output,
     Order,
     Bind,
+    Release,
     Include,
     Modules,
     Classes,
@@ -59,25 +61,81 @@ pub enum Form {
     InnerPath,
     /// Names of modules between commas, in Modified UTF-8.
     Names,
-    /// A number from one to another.
-    Number(u32, u32),
-    /// A number of 64 bits.
-    Long,
+    /// A number within the limits of its field.
+    Number,
     /// `little` or `big`.
     Order,
     /// A comma list of patterns.
     Patterns,
 }
 
-/// An argument or an option: its name, the form of its text, and the field that it gives.
+/// Where the help has the line of an argument or an option.
+#[derive(Clone, Copy, PartialEq, Eq)]
+pub enum Part {
+    /// It has none of its own.
+    None,
+    /// Among the options.
+    Options,
+    /// Among the plug-ins.
+    Plugins,
+}
+
+/// An argument or an option: its name, the form of its text, the field that it gives, and where the
+/// help has which line of it.
 #[derive(Clone, Copy)]
-pub struct Row(pub &'static [u8], pub Form, pub Field);
+pub struct Row(
+    pub &'static [u8],
+    pub Form,
+    pub Field,
+    pub Part,
+    pub &'static [u8],
+);
 
-const IMAGE: Row = Row(b"IMAGE", Form::Path, Field::File);
+const IMAGE: Row = Row(b"IMAGE", Form::Path, Field::File, Part::None, b"");
 
-const JOBS: Row = Row(b"--jobs", Form::Number(1, 64), Field::Jobs);
+const JOBS: Row = Row(
+    b"--jobs",
+    Form::Number,
+    Field::Jobs,
+    Part::Options,
+    b"works in N pieces, from 1 to 64, with each command; no answer changes",
+);
 
-const INCLUDE: Row = Row(b"--include", Form::Patterns, Field::Include);
+const RELEASE: Row = Row(
+    b"--release",
+    Form::Number,
+    Field::Release,
+    Part::Options,
+    b"takes classes of Java SE up to release N, from 21 to 25; 21 without it",
+);
+
+pub const INCLUDE: Row = Row(
+    b"--include",
+    Form::Patterns,
+    Field::Include,
+    Part::Options,
+    b"takes only the resources with a name that a pattern of the list matches",
+);
+
+/// All commands.
+pub fn verbs() -> &'static [Verb]
+    ensures { result.now ≡ verbs }
+{
+    &[
+        Verb::Link,
+        Verb::Cat,
+        Verb::List,
+        Verb::Ls,
+        Verb::Info,
+        Verb::Extract,
+        Verb::Verify,
+        Verb::Serve,
+        Verb::Gen,
+        Verb::Describe,
+        Verb::Help,
+        Verb::Version,
+    ]
+}
 
 /// The name of a command.
 pub fn verb_name(verb: Verb) -> &'static [u8]
@@ -105,11 +163,17 @@ pub fn arguments(verb: Verb) -> &'static [Row]
 {
     match verb {
         Verb::Link | Verb::Help | Verb::Version => &[],
-        Verb::Cat => &[IMAGE, Row(b"NAME", Form::Name, Field::Name)],
-        Verb::Ls => &[IMAGE, Row(b"PATH", Form::InnerPath, Field::Name)],
+        Verb::Cat => &[
+            IMAGE,
+            Row(b"NAME", Form::Name, Field::Name, Part::None, b""),
+        ],
+        Verb::Ls => &[
+            IMAGE,
+            Row(b"PATH", Form::InnerPath, Field::Name, Part::None, b""),
+        ],
         Verb::List | Verb::Info | Verb::Extract | Verb::Verify | Verb::Serve => &[IMAGE],
-        Verb::Gen => &[Row(b"DIR", Form::Folder, Field::Folder)],
-        Verb::Describe => &[Row(b"FILE", Form::Path, Field::File)],
+        Verb::Gen => &[Row(b"DIR", Form::Folder, Field::Folder, Part::None, b"")],
+        Verb::Describe => &[Row(b"FILE", Form::Path, Field::File, Part::None, b"")],
     }
 }
 
@@ -120,35 +184,95 @@ pub fn options(verb: Verb) -> &'static [Row]
     match verb {
         Verb::Link => &[
             JOBS,
-            Row(b"--module-path", Form::Folders, Field::Source),
-            Row(b"--from-image", Form::Path, Field::Source),
-            Row(b"--add-modules", Form::Names, Field::Roots),
-            Row(b"--output", Form::Path, Field::Output),
-            Row(b"--endian", Form::Order, Field::Order),
-            Row(b"--bind-services", Form::Flag, Field::Bind),
-            Row(b"--exclude-resources", Form::Patterns, Field::Exclude),
-            Row(b"--order-resources", Form::Patterns, Field::Rank),
-            Row(b"--strip-java-debug-attributes", Form::Flag, Field::Strip),
-            Row(b"--compact-pool", Form::Flag, Field::Compact),
-            Row(b"--module-packages", Form::Flag, Field::Packages),
+            Row(
+                b"--module-path",
+                Form::Folders,
+                Field::Source,
+                Part::None,
+                b"",
+            ),
+            Row(b"--from-image", Form::Path, Field::Source, Part::None, b""),
+            Row(b"--add-modules", Form::Names, Field::Roots, Part::None, b""),
+            Row(b"--output", Form::Path, Field::Output, Part::None, b""),
+            Row(
+                b"--endian",
+                Form::Order,
+                Field::Order,
+                Part::Options,
+                b"the order of bytes of the image of link: little, or big",
+            ),
+            Row(
+                b"--bind-services",
+                Form::Flag,
+                Field::Bind,
+                Part::Options,
+                b"takes in the modules that provide services which the linked ones use",
+            ),
+            RELEASE,
+            Row(
+                b"--exclude-resources",
+                Form::Patterns,
+                Field::Exclude,
+                Part::Plugins,
+                b"leaves out the resources with a name that a pattern matches",
+            ),
+            Row(
+                b"--order-resources",
+                Form::Patterns,
+                Field::Rank,
+                Part::Plugins,
+                b"puts the resources in the order of the patterns that match their names",
+            ),
+            Row(
+                b"--strip-java-debug-attributes",
+                Form::Flag,
+                Field::Strip,
+                Part::Plugins,
+                b"drops what a class says for debuggers",
+            ),
+            Row(
+                b"--compact-pool",
+                Form::Flag,
+                Field::Compact,
+                Part::Plugins,
+                b"drops the constants of a class that nothing names",
+            ),
+            Row(
+                b"--module-packages",
+                Form::Flag,
+                Field::Packages,
+                Part::Plugins,
+                b"names the packages of each module in its descriptor",
+            ),
         ],
         Verb::List => &[JOBS, INCLUDE],
-        Verb::Extract => &[JOBS, Row(b"--dir", Form::Folder, Field::Folder), INCLUDE],
+        Verb::Extract => &[
+            JOBS,
+            Row(b"--dir", Form::Folder, Field::Folder, Part::None, b""),
+            INCLUDE,
+        ],
         Verb::Gen => &[
             JOBS,
-            Row(b"--modules", Form::Number(1, 256), Field::Modules),
-            Row(b"--classes", Form::Number(1, 1024), Field::Classes),
-            Row(b"--seed", Form::Long, Field::Seed),
+            Row(b"--modules", Form::Number, Field::Modules, Part::None, b""),
+            Row(b"--classes", Form::Number, Field::Classes, Part::None, b""),
+            Row(b"--seed", Form::Number, Field::Seed, Part::None, b""),
         ],
+        Verb::Describe => &[JOBS, RELEASE],
         _ => &[JOBS],
     }
 }
 
-/// Whether two fields are one.
-pub fn same_field(one: Field, other: Field) -> bool
-    ensures { result ≡ same_field one other }
+/// The limits of the numbers of a field.
+pub fn limits(field: Field) -> (u64, u64)
+    ensures { result ≡ limits field }
 {
-    one == other
+    match field {
+        Field::Jobs => (1, 64),
+        Field::Release => (21, 25),
+        Field::Modules => (1, 256),
+        Field::Classes => (1, 1024),
+        _ => (0, u64::MAX),
+    }
 }
 
 impl Form {

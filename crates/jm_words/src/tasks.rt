@@ -1,3 +1,6 @@
+ghost use Rattle.std.specs.Prelude.{◌≡◌};
+ghost use Rattle.jm_words.specs.Paths.{directories_of};
+
 use jm_bytes::{List, Order, Text};
 use jm_pattern::Pattern;
 
@@ -30,6 +33,8 @@ pub enum Task {
     Describe {
         /// The path of the class's file.
         file: Text,
+        /// The release of Java SE up to which it is read, from 21 to 25.
+        release: u32,
     },
     /// The help is put.
     Help,
@@ -40,9 +45,8 @@ pub enum Task {
 /// What a `link` is to do.
 #[derive(Debug, Drop)]
 pub struct LinkTask {
-    /// The folders of the module path, an earlier one before later ones. None stands here where
-    /// `from_image` does.
-    pub dirs: List<Text>,
+    /// Where the modules are.
+    pub source: Source,
     /// The names of the modules that are linked with all that they require.
     pub roots: List<Text>,
     /// The path of the file that gets the image.
@@ -53,8 +57,29 @@ pub struct LinkTask {
     pub order: Order,
     /// Whether modules that provide services which linked ones use are linked too.
     pub bind: bool,
-    /// The path of the image whose modules are linked in place of those of a module path.
-    pub from_image: Option<Text>,
+    /// The release of Java SE up to which classes are read, from 21 to 25.
+    pub release: u32,
+}
+
+/// Where the modules of a `link` are.
+#[derive(Debug, Drop)]
+pub enum Source {
+    /// In the directories of a module path, an earlier one before later ones.
+    Path(List<Text>),
+    /// In the image at a path.
+    Image(Text),
+}
+
+impl Source {
+    /// The directories of the module path; none where an image has the modules.
+    pub fn directories(&self) -> &[Text]
+        ensures { result.now ≡ directories_of self.now }
+    {
+        match self {
+            Source::Path(directories) => directories.as_slice(),
+            Source::Image(_) => &[],
+        }
+    }
 }
 
 /// What is done to the list of resources.

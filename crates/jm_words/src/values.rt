@@ -1,48 +1,42 @@
-ghost use Rattle.std.specs.Prelude.{◌≡◌, ◌==◌, ◌≤◌, ◌<◌, ◌^◌, ◌∷◌, length, option_map};
-ghost use Rattle.std.specs.Prelude.{IfOk, IfSome, IfNone};
+ghost use Rattle.std.specs.Prelude.{◌≡◌, ◌≤◌, ◌^◌, option_map};
+ghost use Rattle.std.specs.Prelude.{All, IfNone, IfOk, IfSome, IsUtf8};
 ghost use Rattle.std.specs.List.{before_first, list_all, list_any};
 ghost use Rattle.jm_names.specs.Names.{is_empty};
-ghost use Rattle.jm_words.specs.Values.{behind_first, decimal_from, folders_of};
+ghost use Rattle.jm_words.specs.Roles.{is_equals, value_behind};
+ghost use Rattle.jm_words.specs.Values.{decimal_from, folders_of};
 ghost use Rattle.jm_words.specs.Values.{is_digit, is_numeral, names_of, number_of, order_of};
-ghost use Rattle.jm_words.specs.Values.{parts_at, parts_of, path_of, patterns_of, unless_empty};
+ghost use Rattle.jm_words.specs.Values.{path_of, patterns_of, unless_empty};
 ghost use Rattle.jm_words.specs.Values.{without_slashes};
 
 use jm_bytes::{List, NoMemory, Or, Order, Text};
-use jm_names::{cut_at_first, to_modified};
+use jm_names::to_modified;
 use jm_pattern::{Pattern, read_list};
 use std::alloc::Global;
 
 /// A text, if it has a byte.
-pub fn path_of(alloc: Global, text: &[u8]) -> Result<Option<Text>, NoMemory>
-    ensures { IfOk result (λ path. path ≡ path_of text.now) }
+pub fn path_of(alloc: Global, text: &str) -> Result<Option<Text>, NoMemory>
+    ensures path { IfOk result (λ path. path ≡ path_of text.now) }
+    ensures text { IfOk result (λ path. IfSome path IsUtf8) }
 {
     if text.is_empty() {
         Ok(None)
     } else {
-        Ok(Some(Text::copy_of(alloc, text)?))
+        Ok(Some(Text::copy_of(alloc, text.as_bytes())?))
     }
 }
 
 /// A text without the slashes at its end.
-#[tactic(auto, using(crate::proofs::ValueLaws::slash_goes, crate::proofs::ValueLaws::other_stays))]
-pub fn without_slashes(text: &[u8]) -> &[u8]
+pub fn without_slashes(text: &str) -> &str
     ensures { result.now ≡ without_slashes text.now }
 {
-    let mut rest = text;
-    while let Some((last, front)) = rest.split_last() {
-        if *last != b'/' {
-            return rest;
-        }
-        rest = front;
-    }
-    rest
+    text.trim_end_matches('/')
 }
 
 /// The patterns of a comma list, if it is one.
-pub fn patterns_of(alloc: Global, text: &[u8]) -> Result<Option<List<Pattern>>, NoMemory>
+pub fn patterns_of(alloc: Global, text: &str) -> Result<Option<List<Pattern>>, NoMemory>
     ensures { IfOk result (λ patterns. patterns ≡ patterns_of text.now) }
 {
-    let name = to_modified(alloc, text)?;
+    let name = to_modified(alloc, text.as_bytes())?;
     match read_list(alloc, name.as_slice()) {
         Ok(patterns) => Ok(Some(patterns)),
         Err(Or::Fault(_)) => Ok(None),
@@ -51,36 +45,38 @@ pub fn patterns_of(alloc: Global, text: &[u8]) -> Result<Option<List<Pattern>>, 
 }
 
 /// The folders between colons, without the slashes at their ends, if something is left of each.
-pub fn folders_of(alloc: Global, text: &[u8]) -> Result<Option<List<Text>>, NoMemory>
-    ensures { IfOk result (λ folders. folders ≡ folders_of text.now) }
+pub fn folders_of(alloc: Global, text: &str) -> Result<Option<List<Text>>, NoMemory>
+    ensures folders { IfOk result (λ folders. folders ≡ folders_of text.now) }
+    ensures text { IfOk result (λ folders. IfSome folders (All IsUtf8)) }
 {
     let mut folders = List::new(alloc);
-    let mut left = Some(text);
-    while let Some(text) = left {
-        let (part, behind) = first_part(b':', text);
-        folders.push(Text::copy_of(alloc, without_slashes(part))?)?;
-        left = behind;
+    let mut rest = text;
+    while let Some((part, behind)) = rest.split_once(':') {
+        folders.push(Text::copy_of(alloc, without_slashes(part).as_bytes())?)?;
+        rest = behind;
     }
+    folders.push(Text::copy_of(alloc, without_slashes(rest).as_bytes())?)?;
     Ok(unless_empty(folders))
 }
 
 /// The names between commas, in Modified UTF-8, if each has a byte.
-pub fn names_of(alloc: Global, text: &[u8]) -> Result<Option<List<Text>>, NoMemory>
+pub fn names_of(alloc: Global, text: &str) -> Result<Option<List<Text>>, NoMemory>
     ensures { IfOk result (λ names. names ≡ names_of text.now) }
 {
     let mut names = List::new(alloc);
-    let mut left = Some(text);
-    while let Some(text) = left {
-        let (part, behind) = first_part(b',', text);
-        names.push(to_modified(alloc, part)?)?;
-        left = behind;
+    let mut rest = text;
+    while let Some((part, behind)) = rest.split_once(',') {
+        names.push(to_modified(alloc, part.as_bytes())?)?;
+        rest = behind;
     }
+    names.push(to_modified(alloc, rest.as_bytes())?)?;
     Ok(unless_empty(names))
 }
 
 /// Some texts, if each of them has a byte.
 fn unless_empty(texts: List<Text>) -> Option<List<Text>>
-    ensures { result ≡ unless_empty texts }
+    ensures texts { result ≡ unless_empty texts }
+    ensures same { IfSome result (λ some. some ≡ texts) }
 {
     if are_some_empty(texts.as_slice()) {
         None
@@ -96,18 +92,14 @@ fn are_some_empty(texts: &[Text]) -> bool
     texts.iter().any(|text| text.as_slice().is_empty())
 }
 
-/// The first of the parts that a byte cuts, and what follows the byte where it stands.
-#[tactic(auto, using(crate::proofs::ValueLaws::parts_first, crate::proofs::ValueLaws::parts_none, crate::proofs::ReadingLaws::all_before))]
-pub fn first_part(byte: u8, text: &[u8]) -> (&[u8], Option<&[u8]>)
-    ensures part { result.0.now ≡ before_first (λ b. b == byte) text.now }
-    ensures rest { option_map (λ rest. rest.now) result.1 ≡ behind_first byte text.now }
-    ensures parts { parts_at byte text.now
-        ≡ result.0.now ∷ parts_of byte (option_map (λ rest. rest.now) result.1) }
-    ensures shorter { IfSome result.1 (λ rest. length rest.now < length text.now) }
+/// What stands before the first `=` of a word, and what stands behind it, if it has one.
+pub fn parted(word: &str) -> (&str, Option<&str>)
+    ensures name { result.0.now ≡ before_first is_equals word.now }
+    ensures value { option_map (λ value. value.now) result.1 ≡ value_behind word.now }
 {
-    match cut_at_first(byte, text) {
-        Some((part, rest)) => (part, Some(rest)),
-        None => (text, None),
+    match word.split_once('=') {
+        Some((name, value)) => (name, Some(value)),
+        None => (word, None),
     }
 }
 
@@ -124,26 +116,16 @@ pub fn order_of(text: &[u8]) -> Option<Order>
     }
 }
 
-/// The number of a text, if it is one within these limits of 32 bits.
-pub fn count_of(low: u32, high: u32, text: &[u8]) -> Option<u32>
-    ensures { result ≡ number_of low high text.now }
-{
-    match number_of(u64::from(low), u64::from(high), text) {
-        Some(number) => Some(number as u32),
-        None => None,
-    }
-}
-
 /// The number of a text, if it is one within the limits.
-pub fn number_of(low: u64, high: u64, text: &[u8]) -> Option<u64>
-    ensures number { result ≡ number_of low high text.now }
-    ensures within { IfSome result (λ number. number ≤ high) }
+pub fn number_of(limits: (u64, u64), text: &[u8]) -> Option<u64>
+    ensures number { result ≡ number_of limits text.now }
+    ensures within { IfSome result (λ number. (limits.0 ≤ number) × (number ≤ limits.1)) }
 {
     if !is_numeral(text) {
         return None;
     }
     let number = decimal(text)?;
-    if low <= number && number <= high {
+    if limits.0 <= number && number <= limits.1 {
         Some(number)
     } else {
         None

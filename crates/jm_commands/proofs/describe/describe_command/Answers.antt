@@ -12,11 +12,11 @@ returns-in-Ok g c source =
     let path = c.args.path.now in
     let b = c.in-Ok.bytes in
     let put = rw (c.as_slice.ensures, c.as_slice-in-Ok.ensures) at c.put_described.ensures in
-    file_read (λ bytes due. due ≡ describe_outcome path bytes) path b (shelf_at g.S.Shelf c.args.shelf.now)
+    file_read (λ bytes due. due ≡ describe_outcome c.args.release path bytes) path b (shelf_at g.S.Shelf c.args.shelf.now)
     (world (shelf_at g.S.Shelf c.file_bytes.new.shelf) source (sink_at g.O.Sink c.args.out.now))
     _ _ read.reads read.files (read.faults.kept refl)
-    (put_comes (λ due. due ≡ describe_outcome path b) reading (describe_outcome path b) _ _ _ refl put refl refl
-    (describe_session path b) (λ ok. (refl, refl)))
+    (put_comes (λ due. due ≡ describe_outcome c.args.release path b) reading (describe_outcome c.args.release path b) _ _ _ refl put refl refl
+    (describe_session c.args.release path b) (λ ok. (refl, refl)))
 
 pub returns-in-Err : goal.returns-in-Err
 returns-in-Err g c source =

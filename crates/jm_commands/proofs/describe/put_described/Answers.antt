@@ -1,7 +1,7 @@
 use Rattle.std.proofs.Common.{◌≡◌, ℕ, List, Err, ap, refl, subst, sym}
 use Rattle.jm_bytes.specs.Results.{IfAnswered}
 use Rattle.jm_bytes.specs.declared.faults.Or.{Or}
-use Rattle.jm_modinfo.specs.Descriptions.{info_in}
+use Rattle.jm_modinfo.specs.Descriptions.{info_for}
 use Rattle.jm_modinfo.specs.declared.descriptor.Descriptor.{Descriptor}
 use Rattle.jm_modinfo.specs.declared.faults.DescriptorFault.{DescriptorFault}
 use Rattle.jm_commands.specs.declared.complaint.Complaint.TheVariants as complaint
@@ -32,10 +32,10 @@ pub returns-in_ok-path-in-Err-Fault : goal.returns-in_ok-path-in-Err-Fault
 returns-in_ok-path-in-Err-Fault g c =
     let path = c.args.path.now in
     let fault = c.in-Err-Fault.fault in
-    let info = subst (λ (e : Or DescriptorFault). IfAnswered {A = Descriptor} (λ r. r ≡ info_in c.args.bytes.now) (Err e))
+    let info = subst (λ (e : Or DescriptorFault). IfAnswered {A = Descriptor} (λ r. r ≡ info_for c.args.release c.args.bytes.now) (Err e))
     c.in-Err-Fault.field-0-is c.in-Err-Fault.ensures.info in
     let due = ap (descriptor_outcome path) (sym info) in
     let now = sink_at g.O.Sink c.args.out.now in
-    subst (λ (text : List ℕ). PutDoes (describe_outcome path c.args.bytes.now)
+    subst (λ (text : List ℕ). PutDoes (describe_outcome c.args.release path c.args.bytes.now)
     (Err (stop.Complaint (complaint.Refused (refusal.BadInfo text fault)))) now now) (sym c.in_ok-path-in-Err-Fault.ensures)
     (complained _ (complaint.Refused (refusal.BadInfo path fault)) now now due refl)

@@ -4,6 +4,7 @@ use Rattle.jm_bytes.proofs.ResultLaws.{passed_on}
 use Rattle.jm_bytes.specs.Results.{IfAnswered}
 use Rattle.jm_plugins.specs.Plugins.{Applies}
 use Rattle.jm_words.specs.declared.tasks.Plugin.{Plugin}
+use Rattle.jm_words.specs.Paths.{directories_of}
 use Rattle.jm_closure.specs.declared.candidate.Candidate.{Candidate}
 use Rattle.jm_modpath.specs.Modules.{candidates}
 use Rattle.jm_outside.specs.Outcome.{Shows}
@@ -24,22 +25,22 @@ closed-requires g c = rw c.candidates.ensures c.in_ok-visible.ensures.are.differ
 
 pub returns-in_err-places : goal.returns-in_err-places
 returns-in_err-places g c =
-    let shows = rw c.as_slice.ensures at c.in_ok-visible.ensures.modules in
+    let shows = rw c.directories-directories.ensures at c.in_ok-visible.ensures.modules in
     let asked : Request = request_of c.args.task.now in
     let told = g.S.Shelf.files c.args.shelf.now in
     let stop = c.in_err-places.field-0.0 in
     let closes = subst (λ (cs : List Candidate). ClosesAmong cs asked.roots asked.bind (Err stop)) c.candidates.ensures
     c.in_err-places.ensures in
     rw (passed_on c.from_residual-in_err-places.result _ c.from_residual-in_err-places.ensures.1)
-    (ended (ComesTo told c.args.task.now.dirs asked) (TellsNothing told) c.args.task.now.output
+    (ended (ComesTo told (directories_of c.args.task.now.source) asked) (TellsNothing told) c.args.task.now.output
     (shelf_at g.S.Shelf c.args.shelf.now) (shelf_at g.S.Shelf c.visible_modules.new.shelf) c.visible_modules.ensures.files _ stop closes
-    (unclosed told c.args.task.now.dirs asked c.in_ok-visible.visible shows))
+    (unclosed told (directories_of c.args.task.now.source) asked c.in_ok-visible.visible shows))
 
 pub link_files-requires-clause-places : goal.link_files-requires-clause-places
 link_files-requires-clause-places g c =
     let visible = c.in_ok-visible.visible in
     let closes = rw c.candidates.ensures at c.in_ok-places.ensures in
-    rw c.as_slice-2.ensures
+    rw c.as_slice.ensures
     (all_from_contains (λ i. i < length visible) c.in_ok-places.places
     (λ i has. subst (λ n. i < n) (candidates_length visible) (chosen_within (candidates visible) c.args.task.now.roots
     c.args.task.now.bind c.in_ok-places.places closes.1 i has)))
@@ -47,62 +48,63 @@ link_files-requires-clause-places g c =
 pub link_files-requires-clause-once : goal.link_files-requires-clause-once
 link_files-requires-clause-once g c =
     let closes = rw c.candidates.ensures at c.in_ok-places.ensures in
-    rw c.as_slice-2.ensures (chosen_differ (candidates c.in_ok-visible.visible) c.args.task.now.roots c.args.task.now.bind
+    rw c.as_slice.ensures (chosen_differ (candidates c.in_ok-visible.visible) c.args.task.now.roots c.args.task.now.bind
     c.in_ok-places.places closes.1)
 
 pub returns-in_err-files : goal.returns-in_err-files
 returns-in_err-files g c =
-    let shows = rw c.as_slice.ensures at c.in_ok-visible.ensures.modules in
+    let shows = rw c.directories-directories.ensures at c.in_ok-visible.ensures.modules in
     let asked : Request = request_of c.args.task.now in
     let told = g.S.Shelf.files c.args.shelf.now in
     let visible = c.in_ok-visible.visible in
     let stop = c.in_err-files.field-0.0 in
     let closes = rw c.candidates.ensures at c.in_ok-places.ensures in
-    let named = subst (λ (places : List ℕ). NamesAll (link_files visible places) (Err stop)) c.as_slice-2.ensures
+    let named = subst (λ (places : List ℕ). NamesAll (link_files visible places) (Err stop)) c.as_slice.ensures
     c.in_err-files.ensures.files in
     rw (passed_on c.from_residual-in_err-files.result _ c.from_residual-in_err-files.ensures.1)
-    (ended (ComesTo told c.args.task.now.dirs asked) (TellsNothing told) c.args.task.now.output
+    (ended (ComesTo told (directories_of c.args.task.now.source) asked) (TellsNothing told) c.args.task.now.output
     (shelf_at g.S.Shelf c.args.shelf.now) (shelf_at g.S.Shelf c.visible_modules.new.shelf) c.visible_modules.ensures.files _ stop named
-    (unfit told c.args.task.now.dirs asked visible shows c.in_ok-places.places closes))
+    (unfit told (directories_of c.args.task.now.source) asked visible shows c.in_ok-places.places closes))
 
 pub read_resources-requires-clause-told : goal.read_resources-requires-clause-told
 read_resources-requires-clause-told g c =
-    let shows = rw c.as_slice.ensures at c.in_ok-visible.ensures.modules in
+    let shows = rw c.directories-directories.ensures at c.in_ok-visible.ensures.modules in
     rw c.visible_modules.ensures.files
-    (taken_told _ c.args.task.now.dirs c.in_ok-visible.visible c.in_ok-files.files shows c.in_ok-files.ensures.taken)
+    (taken_told c.args.task.now.release _ (directories_of c.args.task.now.source) c.in_ok-visible.visible c.in_ok-files.files
+    shows c.in_ok-files.ensures.taken)
 
 pub returns-in_err-left : goal.returns-in_err-left
 returns-in_err-left g c =
-    let shows = rw c.as_slice.ensures at c.in_ok-visible.ensures.modules in
+    let shows = rw c.directories-directories.ensures at c.in_ok-visible.ensures.modules in
     let asked : Request = request_of c.args.task.now in
     let told = g.S.Shelf.files c.args.shelf.now in
     let visible = c.in_ok-visible.visible in
     let error = c.in_err-left.field-0.0 in
-    let acted = subst (λ (list : List Plugin). IfAnswered (Applies list c.in_ok-read.read) (Err error)) c.as_slice-3.ensures
+    let acted = subst (λ (list : List Plugin). IfAnswered (Applies asked.release list c.in_ok-read.read) (Err error)) c.as_slice-plugins.ensures
     c.in_err-left.ensures in
     let closes = rw c.candidates.ensures at c.in_ok-places.ensures in
-    let named = rw c.as_slice-2.ensures at c.in_ok-files.ensures.files in
+    let named = rw c.as_slice.ensures at c.in_ok-files.ensures.files in
     let read = subst (λ t. Shows t (λ files. c.in_ok-read.read ≡ resources_of files (map pair_of c.in_ok-files.files)))
     c.visible_modules.ensures.files c.in_ok-read.ensures.pool in
-    let to = read_to told c.args.task.now.dirs asked visible shows c.in_ok-places.places closes named.0 c.in_ok-read.read
+    let to = read_to told (directories_of c.args.task.now.source) asked visible shows c.in_ok-places.places closes named.0 c.in_ok-read.read
     (subst (λ names. Shows told (λ files. c.in_ok-read.read ≡ resources_of files names)) named.1 read) in
     rw (passed_on c.from_residual-in_err-left.result _ c.from_residual-in_err-left.ensures.1)
-    (refused (ComesTo told c.args.task.now.dirs asked) (TellsNothing told) c.args.task.now.output
+    (refused (ComesTo told (directories_of c.args.task.now.source) asked) (TellsNothing told) c.args.task.now.output
     (shelf_at g.S.Shelf c.args.shelf.now) (shelf_at g.S.Shelf c.read_resources.new.shelf) (c.read_resources.ensures.files
     ∙ c.visible_modules.ensures.files) plugging_refusal
-    (Applies c.args.task.now.plugins c.in_ok-read.read) error acted
+    (Applies asked.release asked.plugins c.in_ok-read.read) error acted
     (λ fault applies. to (Err (plugging_refusal fault)) (unplugged asked (length c.in_ok-places.places) c.in_ok-read.read fault applies)))
 
 pub write_image-requires-clause-fit : goal.write_image-requires-clause-fit
 write_image-requires-clause-fit g c =
-    let acted = rw c.as_slice-3.ensures at c.in_ok-left.ensures in
-    fit_left c.args.task.now.plugins c.in_ok-read.read c.in_ok-left.left acted (subst AreFit (sym c.in_ok-read.ensures.names)
-    c.in_ok-files.ensures.fit)
+    let acted = rw c.as_slice-plugins.ensures at c.in_ok-left.ensures in
+    fit_left c.args.task.now.release c.args.task.now.plugins c.in_ok-read.read c.in_ok-left.left acted
+    (subst AreFit (sym c.in_ok-read.ensures.names) c.in_ok-files.ensures.fit)
 
 pub returns : goal.returns
 returns g c =
-    let acted = rw c.as_slice-3.ensures at c.in_ok-left.ensures in
-    let shows = rw c.as_slice.ensures at c.in_ok-visible.ensures.modules in
+    let acted = rw c.as_slice-plugins.ensures at c.in_ok-left.ensures in
+    let shows = rw c.directories-directories.ensures at c.in_ok-visible.ensures.modules in
     let asked : Request = request_of c.args.task.now in
     let path = c.args.task.now.output in
     let told = g.S.Shelf.files c.args.shelf.now in
@@ -113,17 +115,17 @@ returns g c =
     let modules = length c.in_ok-places.places in
     let resources = c.in_ok-read.read in
     let closes = rw c.candidates.ensures at c.in_ok-places.ensures in
-    let named = rw c.as_slice-2.ensures at c.in_ok-files.ensures.files in
+    let named = rw c.as_slice.ensures at c.in_ok-files.ensures.files in
     let read = subst (λ t. Shows t (λ files. resources ≡ resources_of files (map pair_of c.in_ok-files.files)))
     c.visible_modules.ensures.files c.in_ok-read.ensures.pool in
-    let to = read_to told c.args.task.now.dirs asked visible shows c.in_ok-places.places closes named.0 resources
+    let to = read_to told (directories_of c.args.task.now.source) asked visible shows c.in_ok-places.places closes named.0 resources
     (subst (λ names. Shows told (λ files. resources ≡ resources_of files names)) named.1 read) in
-    let fit = fit_left asked.plugins resources c.in_ok-left.left acted (subst AreFit (sym c.in_ok-read.ensures.names)
+    let fit = fit_left asked.release asked.plugins resources c.in_ok-left.left acted (subst AreFit (sym c.in_ok-read.ensures.names)
     c.in_ok-files.ensures.fit) in
     let did = image_written asked modules resources c.in_ok-left.left acted fit path c.write_image.result old new
     (rw c.len.ensures at c.write_image.ensures) in
-    links_sooner (ComesTo told c.args.task.now.dirs asked) (TellsNothing told) path first old new
+    links_sooner (ComesTo told (directories_of c.args.task.now.source) asked) (TellsNothing told) path first old new
     (c.read_resources.ensures.files ∙ c.visible_modules.ensures.files)
     (c.in_ok-read.ensures.faults.kept refl ∙ c.in_ok-visible.ensures.faults.kept refl) c.write_image.result
-    (links_as (PoolComesTo asked modules resources) (ComesTo told c.args.task.now.dirs asked) ⊥ (TellsNothing told) path
+    (links_as (PoolComesTo asked modules resources) (ComesTo told (directories_of c.args.task.now.source) asked) ⊥ (TellsNothing told) path
     c.write_image.result old new to (none_absent told) did)

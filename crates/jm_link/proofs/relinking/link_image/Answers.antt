@@ -27,13 +27,13 @@ returns-in_err-modules g c =
     let links : ImageLinks c.args.image.now asked path c.from_residual.result old old =
     rw (passed_on c.from_residual.result _ c.from_residual.ensures.1)
     (refused (ImageComesTo c.args.image.now asked) ⊥ path old old refl image_refusal
-    (FindsModules c.args.image.now) error c.in_err-modules.ensures.modules
+    (FindsModules asked.release c.args.image.now) error c.in_err-modules.ensures.modules
     (unseen c.args.image.now asked)) in
     record {
       links = links;
       gives_back = given_back c.args.image.now asked path c.from_residual.result old old links;
       reads =
-          c.modules_of.ensures.reads;
+          c.modules_for.ensures.reads;
     }
 
 pub closed-requires : goal.closed-requires
@@ -55,15 +55,16 @@ returns-in_err-places g c =
     record {
       links = links;
       gives_back = given_back c.args.image.now asked path c.from_residual-in_err-places.result old old links;
-      reads = c.modules_of.ensures.reads;
+      reads = c.modules_for.ensures.reads;
     }
 
 pub gather-requires-clause-places : goal.gather-requires-clause-places
 gather-requires-clause-places g c =
     let shown = c.in_ok-modules.ensures.modules in
     let closes = rw c.as_slice.ensures at c.in_ok-places.ensures in
-    rw c.as_slice-2.ensures (image_places c.args.image.now c.in_ok-modules.modules shown.0 (visible_in c.args.image.now shown.0
-    shown.1) shown.2 c.args.task.now.roots c.args.task.now.bind c.in_ok-places.places closes.1)
+    rw c.as_slice-2.ensures (image_places c.args.task.now.release c.args.image.now c.in_ok-modules.modules shown.0
+    (visible_in c.args.task.now.release c.args.image.now shown.0 shown.1) shown.2 c.args.task.now.roots c.args.task.now.bind
+    c.in_ok-places.places closes.1)
 
 pub returns-in_err-read : goal.returns-in_err-read
 returns-in_err-read g c =
@@ -83,7 +84,7 @@ returns-in_err-read g c =
     record {
       links = links;
       gives_back = given_back c.args.image.now asked path c.from_residual-in_err-read.result old old links;
-      reads = c.modules_of.ensures.reads;
+      reads = c.modules_for.ensures.reads;
     }
 
 pub returns-in_err-left : goal.returns-in_err-left
@@ -93,7 +94,7 @@ returns-in_err-left g c =
     let path = c.args.task.now.output in
     let old : ShelfSeen = shelf_at g.S.Shelf c.args.shelf.now in
     let error = c.in_err-left.field-0.0 in
-    let acted = subst (λ (list : List Plugin). IfAnswered (Applies list c.in_ok-read.read) (Err error)) c.as_slice-3.ensures
+    let acted = subst (λ (list : List Plugin). IfAnswered (Applies asked.release list c.in_ok-read.read) (Err error)) c.as_slice-plugins.ensures
     c.in_err-left.ensures in
     let closes = rw c.as_slice.ensures at c.in_ok-places.ensures in
     let gathers = rw c.as_slice-2.ensures at c.in_ok-read.ensures in
@@ -102,29 +103,29 @@ returns-in_err-left g c =
     let links : ImageLinks c.args.image.now asked path c.from_residual-in_err-left.result old old =
     rw (passed_on c.from_residual-in_err-left.result _ c.from_residual-in_err-left.ensures.1)
     (refused (ImageComesTo c.args.image.now asked) ⊥ path old old refl plugging_refusal
-    (Applies c.args.task.now.plugins c.in_ok-read.read) error acted
+    (Applies asked.release asked.plugins c.in_ok-read.read) error acted
     (λ fault applies. to (Err (plugging_refusal fault)) (unplugged asked (length c.in_ok-places.places)
     c.in_ok-read.read fault applies))) in
     record {
       links = links;
       gives_back = given_back c.args.image.now asked path c.from_residual-in_err-left.result old old links;
-      reads = c.modules_of.ensures.reads;
+      reads = c.modules_for.ensures.reads;
     }
 
 pub write_image-requires-clause-fit : goal.write_image-requires-clause-fit
 write_image-requires-clause-fit g c =
-    let acted = rw c.as_slice-3.ensures at c.in_ok-left.ensures in
+    let acted = rw c.as_slice-plugins.ensures at c.in_ok-left.ensures in
     let shown = c.in_ok-modules.ensures.modules in
     let asked : Request = request_of c.args.task.now in
     let closes = rw c.as_slice.ensures at c.in_ok-places.ensures in
     let gathers = rw c.as_slice-2.ensures at c.in_ok-read.ensures in
-    fit_left asked.plugins c.in_ok-read.read c.in_ok-left.left acted
+    fit_left asked.release asked.plugins c.in_ok-read.read c.in_ok-left.left acted
     (gathered_fit c.args.image.now asked c.in_ok-modules.modules shown.0 shown.1 shown.2 c.in_ok-places.places closes
     c.in_ok-read.read gathers)
 
 pub returns : goal.returns
 returns g c =
-    let acted = rw c.as_slice-3.ensures at c.in_ok-left.ensures in
+    let acted = rw c.as_slice-plugins.ensures at c.in_ok-left.ensures in
     let shown = c.in_ok-modules.ensures.modules in
     let asked : Request = request_of c.args.task.now in
     let path = c.args.task.now.output in
@@ -134,7 +135,7 @@ returns g c =
     let gathers = rw c.as_slice-2.ensures at c.in_ok-read.ensures in
     let modules = length c.in_ok-places.places in
     let read = c.in_ok-read.read in
-    let fit = fit_left asked.plugins read c.in_ok-left.left acted (gathered_fit c.args.image.now asked c.in_ok-modules.modules
+    let fit = fit_left asked.release asked.plugins read c.in_ok-left.left acted (gathered_fit c.args.image.now asked c.in_ok-modules.modules
     shown.0 shown.1 shown.2 c.in_ok-places.places closes read gathers) in
     let did = image_written asked modules read c.in_ok-left.left acted fit path c.write_image.result old new
     (rw c.len.ensures at c.write_image.ensures) in
@@ -146,5 +147,5 @@ returns g c =
       links = links;
       gives_back = given_back c.args.image.now asked path c.write_image.result old new links;
       reads =
-          c.modules_of.ensures.reads;
+          c.modules_for.ensures.reads;
     }

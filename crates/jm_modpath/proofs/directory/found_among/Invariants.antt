@@ -7,6 +7,7 @@ abbrev pub invariant-loop-folder : goal.invariant-loop-folder
 invariant-loop-folder g l = record {
   files : g.S.Shelf.files l.shelf ≡ g.S.Shelf.files l.fn.shelf;
   faults : g.S.Shelf.faults l.shelf ≡ g.S.Shelf.faults l.fn.shelf;
-  told : Shows (g.S.Shelf.files l.fn.shelf) (λ files. folders_due files l.listing.directory.now l.found (drop l.folder-index l.folder-items)
-      ≡ folders_due files l.listing.directory.now [] l.folder-items);
+  told : Shows (g.S.Shelf.files l.fn.shelf)
+      (λ files. folders_due l.listing.release files l.listing.directory.now l.found (drop l.folder-index l.folder-items)
+      ≡ folders_due l.listing.release files l.listing.directory.now [] l.folder-items);
 }

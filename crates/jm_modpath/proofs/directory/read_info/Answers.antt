@@ -10,8 +10,8 @@ read-requires g c = record {
 
 pub returns-in-Ok-Some-clause-told : goal.returns-in-Ok-Some-clause-told
 returns-in-Ok-Some-clause-told g c =
-    read_told _ c.args.folder.now _ c.in-Ok-Some.bytes _ c.in_ok-path.ensures (rw (c.as_slice.ensures, c.in-Ok-Some.field-0-is) at
-    c.in-Ok-Some.ensures.told) c.info_at.ensures.due
+    read_told c.args.release _ c.args.folder.now _ c.in-Ok-Some.bytes _ c.in_ok-path.ensures
+    (rw (c.as_slice.ensures, c.in-Ok-Some.field-0-is) at c.in-Ok-Some.ensures.told) c.info_at.ensures.due
 
 pub returns-in-Ok-None-clause-told : goal.returns-in-Ok-None-clause-told
 returns-in-Ok-None-clause-told g c =

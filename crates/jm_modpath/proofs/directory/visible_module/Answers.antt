@@ -19,15 +19,16 @@ names_within-requires-clause-folder g c =
 pub returns-in_err-info-clause-told : goal.returns-in_err-info-clause-told
 returns-in_err-info-clause-told g c =
     rw (passed_on c.from_residual-in_err-info.result _ c.from_residual-in_err-info.ensures.1)
-    (folder_ended _ c.args.listing.directory.now c.args.folder.now c.as_slice.result.now c.args.listing.names.now c.args.earlier.now _
-    (c.as_slice.ensures ∙ c.in_ok-path.ensures) c.requires.listed c.requires.told c.in_err-info.ensures.told)
+    (folder_ended c.args.listing.release _ c.args.listing.directory.now c.args.folder.now c.as_slice.result.now
+    c.args.listing.names.now c.args.earlier.now _ (c.as_slice.ensures ∙ c.in_ok-path.ensures) c.requires.listed c.requires.told
+    c.in_err-info.ensures.told)
 
 pub returns-then-has-clause-told : goal.returns-then-has-clause-told
 returns-then-has-clause-told g c =
     let directory = c.args.listing.directory.now in
     let names = c.args.listing.names.now in
     let again : is_named c.args.earlier.now c.in_ok-info.info.descriptor.name ≡ true = search rules in
-    folder_shown _ directory c.args.folder.now c.in_ok-path.path names c.args.earlier.now c.in_ok-info.info
+    folder_shown c.args.listing.release _ directory c.args.folder.now c.in_ok-path.path names c.args.earlier.now c.in_ok-info.info
     (Err c.two_modules.result) c.in_ok-path.ensures c.requires.told (rw c.as_slice.ensures at c.in_ok-info.ensures.told)
     (shown_twice directory c.args.earlier.now c.in_ok-path.path c.in_ok-info.info (names_within c.args.folder.now names)
     (Err c.two_modules.result) again c.two_modules.ensures.due)
@@ -35,14 +36,14 @@ returns-then-has-clause-told g c =
 pub returns-in_err-files-clause-told : goal.returns-in_err-files-clause-told
 returns-in_err-files-clause-told g c =
     rw (passed_on c.from_residual-in_err-files.result _ c.from_residual-in_err-files.ensures.1) (out_of_memory _ (λ files.
-    folder_due files c.args.listing.directory.now c.args.earlier.now c.args.folder.now))
+    folder_due c.args.listing.release files c.args.listing.directory.now c.args.earlier.now c.args.folder.now))
 
 pub returns-clause-told : goal.returns-clause-told
 returns-clause-told g c =
     let directory = c.args.listing.directory.now in
     let names = c.args.listing.names.now in
     let new : is_named c.args.earlier.now c.in_ok-info.info.descriptor.name ≡ false = search rules in
-    folder_shown _ directory c.args.folder.now c.in_ok-path.path names c.args.earlier.now c.in_ok-info.info
+    folder_shown c.args.listing.release _ directory c.args.folder.now c.in_ok-path.path names c.args.earlier.now c.in_ok-info.info
     (Ok c.in_ok-module_with.field-0) c.in_ok-path.ensures c.requires.told (rw c.as_slice.ensures at c.in_ok-info.ensures.told)
     (shown_new directory c.args.earlier.now c.in_ok-path.path c.in_ok-info.info (names_within c.args.folder.now names)
     c.in_ok-module_with.field-0 new

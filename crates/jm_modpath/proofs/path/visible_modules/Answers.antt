@@ -10,12 +10,12 @@ with_directory-requires g c =
 pub returns-in_err-found-clause-modules : goal.returns-in_err-found-clause-modules
 returns-in_err-found-clause-modules g c =
     rw (passed_on c.from_residual.result _ c.from_residual.ensures.1)
-    (path_ended _ _ c.args.directories.now c.loop-directory.directory-index c.directory-item.result c.as_slice.result.now
-    c.loop-directory.found _ c.loop-directory.invariant.files c.as_slice.ensures c.loop-directory-test.true c.directory-item.is
+    (path_ended c.args.release _ _ c.args.directories.now c.loop-directory.directory-index c.directory-item.result
+    c.as_slice.result.now c.loop-directory.found _ c.loop-directory.invariant.files c.as_slice.ensures c.loop-directory-test.true c.directory-item.is
     c.loop-directory.invariant.told c.in_err-found.ensures.told)
 
 pub returns-clause-modules : goal.returns-clause-modules
 returns-clause-modules g c =
     rw (c.in_ok-of.ensures, c.into_list.ensures.list)
-    (path_done _ c.args.directories.now c.loop-directory.directory-index c.loop-directory.found c.loop-directory-test.false
-    c.loop-directory.invariant.told)
+    (path_done c.args.release _ c.args.directories.now c.loop-directory.directory-index c.loop-directory.found
+    c.loop-directory-test.false c.loop-directory.invariant.told)

@@ -7,6 +7,6 @@ abbrev pub invariant-loop-directory : goal.invariant-loop-directory
 invariant-loop-directory g l = record {
   files : g.S.Shelf.files l.shelf ≡ g.S.Shelf.files l.fn.shelf;
   faults : g.S.Shelf.faults l.shelf ≡ g.S.Shelf.faults l.fn.shelf;
-  told : Shows (g.S.Shelf.files l.fn.shelf) (λ files. directories_due files l.found (drop l.directory-index l.directories)
-      ≡ directories_due files [] l.directories);
+  told : Shows (g.S.Shelf.files l.fn.shelf) (λ files. directories_due l.release files l.found (drop l.directory-index l.directories)
+      ≡ directories_due l.release files [] l.directories);
 }

@@ -11,5 +11,5 @@ returns c =
     let bytes = c.args.bytes.now in
     let same : c.as_slice.result.now ≡ packages_by c.args.keys.now (module_of c.args.name.now) = c.as_slice.ensures
     ∙ c.in_ok-packages.ensures ∙ ap (packages_by c.args.keys.now) c.module_of.ensures in
-    subst (λ packages. RemadeAs (packages_text packages) bytes c.add_packages.result) same
-    (packages_as c.as_slice.result.now bytes c.add_packages.result c.add_packages.ensures.text c.add_packages.ensures.fault)
+    subst (λ packages. RemadeAs c.args.release (packages_text packages) bytes c.add_packages_for.result) same
+    (packages_as c.args.release bytes c.as_slice.result.now c.add_packages_for.result c.add_packages_for.ensures)

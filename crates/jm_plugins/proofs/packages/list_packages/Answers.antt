@@ -11,13 +11,13 @@ pub returns-clause-computed : goal.returns-clause-computed
 returns-clause-computed g c =
     let pool = c.args.pool in
     subst (Comes c.remake_classes.result)
-    (same_texts is_descriptor (λ name class. packages_text (packages_by c.in_ok-keys.keys (module_of name)) class)
-    (listing_text (names_of pool)) pool (rw c.in_ok-keys.ensures (keys_serve pool)))
+    (same_texts c.args.release is_descriptor (λ name class. packages_text (packages_by c.in_ok-keys.keys (module_of name)) class)
+    (listing_text (names_of pool)) pool (rw c.in_ok-keys.ensures (keys_serve c.args.release pool)))
     c.remake_classes.ensures.computed
 
 pub returns-then-branch-clause-computed : goal.returns-then-branch-clause-computed
 returns-then-branch-clause-computed g c =
-    sym (pairs_stay (names_of c.args.pool) c.args.pool (c.in_ok-all_stay.ensures c.if-branch.true))
+    sym (pairs_stay c.args.release (names_of c.args.pool) c.args.pool (c.in_ok-all_stay.ensures c.if-branch.true))
 
 pub returns-then-branch-clause-read : goal.returns-then-branch-clause-read
-returns-then-branch-clause-read g c = pairs_read c.args.pool (c.in_ok-all_stay.ensures c.if-branch.true)
+returns-then-branch-clause-read g c = pairs_read c.args.release c.args.pool (c.in_ok-all_stay.ensures c.if-branch.true)

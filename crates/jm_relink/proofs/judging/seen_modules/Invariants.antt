@@ -7,5 +7,6 @@ abbrev pub invariant-loop-group : goal.invariant-loop-group
 invariant-loop-group l = record {
   can : (goal.iterator-loop-group).can_next l.group-iterator;
   ends : (goal.iterator-loop-group).is_finite l.group-iterator;
-  so_far : groups_due (map seen_as l.modules) (map group_as l.group-iterator.rest.items) ≡ groups_due [] (map group_as l.fn.groups);
+  so_far : groups_due l.release (map seen_as l.modules) (map group_as l.group-iterator.rest.items)
+      ≡ groups_due l.release [] (map group_as l.fn.groups);
 }

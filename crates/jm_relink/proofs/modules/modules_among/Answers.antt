@@ -6,5 +6,5 @@ use Rattle.jm_relink.proofs.modules.modules_among.Goals as goal
 
 pub returns : goal.returns
 returns c =
-    come_from (map located_as c.args.files) (map group_as c.in_ok-groups.groups) c.in_ok-seen.seen c.in_ok-parted.field-0
-    c.in_ok-groups.ensures c.in_ok-seen.ensures c.in_ok-parted.ensures.candidates c.in_ok-parted.ensures.files
+    come_from c.args.release (map located_as c.args.files) (map group_as c.in_ok-groups.groups) c.in_ok-seen.seen
+    c.in_ok-parted.field-0 c.in_ok-groups.ensures c.in_ok-seen.ensures c.in_ok-parted.ensures.candidates c.in_ok-parted.ensures.files

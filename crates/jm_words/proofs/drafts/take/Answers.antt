@@ -1,20 +1,17 @@
-use Rattle.std.proofs.Common.{Some, ap, sym, ◌∙◌}
-use Rattle.jm_words.specs.declared.given.Value.{Value}
+use Rattle.std.proofs.Common.{ap, sym, ◌∙◌}
+use Rattle.std.specs.Prelude.{slice_set}
 use Rattle.jm_words.specs.Drafts.{the}
-use Rattle.jm_words.proofs.DraftLaws.{others_left, value_here}
+use Rattle.jm_words.specs.Givens.{Given}
+use Rattle.jm_words.specs.Tables.{same_field}
+use Rattle.jm_words.proofs.DraftLaws.{others_left}
 use Rattle.jm_words.proofs.drafts.take.Goals as goal
 
-pub returns-then-same_field-clause-value : goal.returns-then-same_field-clause-value
-returns-then-same_field-clause-value c =
+pub returns-then-eq-clause-others : goal.returns-then-eq-clause-others
+returns-then-eq-clause-others c other differs =
     let i = c.loop-place.invariant in
-    ap (λ (v : Value). Some v) c.replace.ensures.value
-    ∙ value_here c.args.field c.loop-place.values c.loop-place.place c.index-values-place-then-same_field.result
-    c.index-values-place.result (rw i.1 c.loop-place-test.true) (sym c.same_field.ensures ∙ c.if-same_field.true) i.0
-    ∙ ap (the c.args.field) i.1
-
-pub returns-then-same_field-clause-others : goal.returns-then-same_field-clause-others
-returns-then-same_field-clause-others c other differs =
-    let i = c.loop-place.invariant in
-    others_left c.args.field c.replace.new.dest c.loop-place.values c.loop-place.place c.index-values-place-then-same_field.result
-    c.index-values-place.result (rw i.1 c.loop-place-test.true) (sym c.same_field.ensures ∙ c.if-same_field.true) other differs
+    let here = ap (λ (g : Given). same_field g.field c.args.field) (sym c.given.view_is) ∙ sym c.if-eq.ensures in
+    ap (λ (g : Given). the other (slice_set c.loop-place.values c.loop-place.place (record g { value = c.replace.new.dest })))
+    c.given-then-eq.view_is
+    ∙ others_left c.args.field c.replace.new.dest c.loop-place.values c.loop-place.place c.index-values-place-then-eq.result
+    c.index-values-place.result (rw i.1 c.loop-place-test.true) here other differs
     ∙ ap (the other) i.1
