@@ -1,5 +1,5 @@
-"""Rows for the verbs `read`, `strip`, `describe` and `packages=..` of crates/jm_class_cases: classes as bytes, and the answers
-that are wanted, as the Java Virtual Machine Specification, chapter 4, and the rules of this project give them.
+"""Rows for the verbs of crates/jm_class_cases: classes as bytes, and the answers that are wanted, as the Java Virtual
+Machine Specification, chapter 4, and the rules of this project give them.
 """
 
 # No constant, member or attribute.
@@ -171,6 +171,10 @@ MODULES = [
     ("a class cut to 23 bytes", SMALLEST[:23], "Class Short 22"),
 ]
 
+# A class `a`, and the same class with a Long that nothing names.
+WITHOUT_DEAD = bytes.fromhex("CAFEBABE000000340003010001610700010000000200000000000000000000")
+WITH_DEAD = changed(WITHOUT_DEAD, (17, 17, LONG[10:19]), (9, 10, b"\5"))
+
 # How many bytes stand behind the tag of a constant, but for a Utf8.
 BODIES = {3: 4, 4: 4, 5: 8, 6: 8, 7: 2, 8: 2, 9: 4, 10: 4, 11: 4, 12: 4, 15: 3, 16: 2, 17: 4, 18: 4, 19: 2, 20: 2}
 
@@ -236,6 +240,47 @@ def packages_rows():
     for name, text, packages, takes in PACKAGES:
         made = packaged(text, packages).hex().upper() if takes is True else "same" if takes is False else takes
         rows.append(("packages=" + ",".join(packages), name, text, made))
+    return rows
+
+
+def with_major(text, major):
+    return changed(text, (6, 8, major.to_bytes(2, "big")))
+
+
+# For each verb a class, and what comes of it where it is of the release, with its major version.
+OF_A_RELEASE = [
+    ("compact", WITH_DEAD, lambda major: with_major(WITHOUT_DEAD, major).hex().upper()),
+    ("read", SMALLEST, lambda major: "written as it was, 24 bytes: "
+     "constants 0, interfaces 0, fields 0, methods 0, attributes 0"),
+    ("strip", WITH_SOURCE, lambda major: with_major(WITHOUT_SOURCE, major).hex().upper()),
+    ("describe", ALONE, lambda major: "a" if major >= 53 else f"Info OldVersion {major}"),
+    ("packages=p", ALONE, lambda major: with_major(packaged(ALONE, ["p"]), major).hex().upper()),
+]
+# The major versions around the least one and the greatest ones of releases 21 and 25.
+MAJORS = (44, 45, 65, 66, 69, 70)
+# A stretch of a class with a fault besides its version, whether that stands in front, and the fault.
+OTHER_FAULTS = [
+    ("seven bytes", (7, 24, []), True, "Short 6"),
+    ("another first byte", (0, 1, [0]), True, "Magic"),
+    ("a constant of the tag 0", (9, 10, [2]), False, "Tag 10"),
+    ("a count of constants of 0", (9, 10, [0]), False, "Index 8"),
+    ("a byte behind the class", (24, 24, [0]), False, "Rest 24"),
+]
+
+
+def release_rows():
+    """Release, verb, name, class and answer."""
+    rows = []
+    for verb, text, answer in OF_A_RELEASE:
+        fault_of = (lambda fault: f"Class {fault}") if verb == "describe" else (lambda fault: fault)
+        for release in (21, 25):
+            for major in MAJORS:
+                told = answer(major) if 45 <= major <= 44 + release else fault_of(f"Version {major}")
+                rows.append((release, verb, f"major {major}", with_major(text, major), told))
+            for name, stretch, in_front, fault in OTHER_FAULTS:
+                told = fault if in_front or release == 25 else "Version 66"
+                bad = changed(with_major(SMALLEST, 66), stretch)
+                rows.append((release, verb, f"major 66, {name}", bad, fault_of(told)))
     return rows
 
 

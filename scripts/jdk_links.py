@@ -10,6 +10,8 @@ import time
 from preamble import BUILT, is_built, jdk, judge, say, skip
 
 STRIP, COMPACT = "--strip-java-debug-attributes", "--compact-pool"
+# The words with which a link takes the classes of the JDK, once its folders are made.
+release = []
 
 
 def run(*words):
@@ -33,7 +35,7 @@ def run(*words):
 
 def link(source, modules, output, *words):
     """What a link says, which must end well, and what it used."""
-    status, out, err, *used = run(BUILT, "link", *source, "--add-modules", modules, "--output", output, *words)
+    status, out, err, *used = run(BUILT, "link", *source, "--add-modules", modules, "--output", output, *release, *words)
     judge((status, err) == (0, ""), f"link of {output.name} ends with {status}: {err[:300].rstrip()}")
     return out, used
 
@@ -51,6 +53,11 @@ def folders(home, room):
     """The folder of all modules of a JDK, and their names as a word of a link."""
     mods = room / "mods"
     subprocess.run([home / "bin/jimage", "extract", "--dir", mods, home / "lib/modules"], check=True)
+    # Bytes 6 and 7 of a class are its major version, that of its release of Java SE plus 44.
+    major = int.from_bytes((mods / "java.base/module-info.class").read_bytes()[6:8], "big")
+    if major > 69:
+        skip(f"the classes of {home} are of version {major}")
+    release[:] = ["--release", major - 44] if major > 65 else []
     return mods, ",".join(sorted(path.name for path in mods.iterdir()))
 
 

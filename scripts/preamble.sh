@@ -47,6 +47,17 @@ find_jdk() {
   jimage=$home/bin/jimage
 }
 
+# Leaves in release the words with which a command takes the classes of a JDK, by a class of its own: none up
+# to JDK 21, whose major version is 65, as a release of Java SE has its number plus 44. Bytes 6 and 7 of a
+# class are its major version. Newer ones than JDK 25's aren't read.
+find_release() {
+  local major
+  major=$(od -An -j 6 -N 2 -t u1 "$1" | awk '{ print $1 * 256 + $2 }')
+  [ "$major" -le 69 ] || skip "the classes of $home are of version $major"
+  release=()
+  [ "$major" -le 65 ] || release=(--release $((major - 44)))
+}
+
 # Counts a test: $1 is the status that it ended with, and $2 the line to put where that isn't 0.
 judge() {
   if [ "$1" = 0 ]; then passed=$((passed + 1)); else failed=$((failed + 1)); echo "$script: $2"; fi

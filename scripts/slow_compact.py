@@ -2,8 +2,8 @@
 
 `compact(bytes)` gives the class without the constants that nothing names, or raises `Fault` where the
 bytes are no class. `sites(bytes)` gives the places where numbers of constants stand, or raises `NoSites`
-with the reason. It follows the tables of the Java Virtual Machine Specification, chapters 4
-and 6, and shares nothing with the program.
+with the reason. Both take the release behind the bytes, which is 21 without it. It follows the tables of
+the Java Virtual Machine Specification, chapters 4 and 6, and shares nothing with the program.
 """
 
 
@@ -132,14 +132,14 @@ def read_code(body, pool, length_at):
     return code, count, handlers, attributes
 
 
-def read(data):
+def read(data, release):
     """The pool, where it ends, the sites outside of attributes, and the attributes by their place."""
     r = Reader(data, 0, len(data), lambda place: Fault(f"Short {place}"))
     if r.take(4) != b"\xca\xfe\xba\xbe":
         raise Fault("Magic")
     r.take(2)
     major = r.number(2)
-    if not 45 <= major <= 65:
+    if not 45 <= major <= 44 + release:
         raise Fault(f"Version {major}")
     pool = read_pool(r)
     pool_end = r.at
@@ -249,9 +249,9 @@ def is_constant(pool, number):
     return number < len(pool) and pool[number] is not None
 
 
-def sites(data):
+def sites(data, release=21):
     """The sites, rising: place, size, whether 0 means none."""
-    pool, _, plain, held = read(data)
+    pool, _, plain, held = read(data, release)
     found = list(plain)
     for where, attribute in held:
         walk_attribute(where, attribute, found)
@@ -286,11 +286,11 @@ def renumbered(data, found, new):
     return bytes(text)
 
 
-def compact(data):
+def compact(data, release=21):
     """The class without the constants that nothing names, the others numbered anew in their order."""
-    pool, pool_end, _, _ = read(data)
+    pool, pool_end, _, _ = read(data, release)
     try:
-        found = sites(data)
+        found = sites(data, release)
     except NoSites:
         return data
     kept = live(data, pool, found)
