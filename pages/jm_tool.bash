@@ -19,7 +19,7 @@ _jm_tool() {
   [ "$before" != = ] || before=${COMP_WORDS[at - 2]}
   case $before in
     --module-path) _jm_tool_paths -d; return ;;
-    --add-modules | --classes | --exclude-resources | --include | --jobs | --modules | --order-resources | --seed) :; return ;;
+    --add-modules | --classes | --exclude-resources | --include | --jobs | --modules | --order-resources | --release | --seed) :; return ;;
     --from-image | --output) _jm_tool_paths -f; return ;;
     --endian) _jm_tool_words "little big"; return ;;
     --dir) _jm_tool_paths -d; return ;;
@@ -27,13 +27,13 @@ _jm_tool() {
   # The words that are neither options nor their values, before this one.
   for ((i = 2; i < at; i++)); do
     case ${COMP_WORDS[i]} in
-      --add-modules | --classes | --dir | --endian | --exclude-resources | --from-image | --include | --jobs | --module-path | --modules | --order-resources | --output | --seed) i=$((i + 1)) ;;
+      --add-modules | --classes | --dir | --endian | --exclude-resources | --from-image | --include | --jobs | --module-path | --modules | --order-resources | --output | --release | --seed) i=$((i + 1)) ;;
       -*) ;;
       *) arguments=$((arguments + 1)) ;;
     esac
   done
   case ${COMP_WORDS[1]} in
-    link) options='--module-path --add-modules --output --endian --bind-services --exclude-resources --order-resources --strip-java-debug-attributes --compact-pool --module-packages --from-image --jobs' place=() ;;
+    link) options='--module-path --add-modules --output --endian --bind-services --release --exclude-resources --order-resources --strip-java-debug-attributes --compact-pool --module-packages --from-image --jobs' place=() ;;
     cat) options='--jobs' place=(file -) ;;
     list) options='--include --jobs' place=(file) ;;
     ls) options='--jobs' place=(file -) ;;
@@ -42,7 +42,7 @@ _jm_tool() {
     verify) options='--jobs' place=(file) ;;
     serve) options='--jobs' place=(file) ;;
     gen) options='--modules --classes --seed --jobs' place=(folder) ;;
-    describe) options='--jobs' place=(file) ;;
+    describe) options='--release --jobs' place=(file) ;;
     *) return ;;
   esac
   case $word in

@@ -17,6 +17,7 @@ complete -c jm_tool -n '__fish_seen_subcommand_from link' -l add-modules -x
 complete -c jm_tool -n '__fish_seen_subcommand_from link' -l output -r -F
 complete -c jm_tool -n '__fish_seen_subcommand_from link' -l endian -x -a 'little big' -d 'the order of bytes of the image of link: little, or big'
 complete -c jm_tool -n '__fish_seen_subcommand_from link' -l bind-services -d 'takes in the modules that provide services which the linked ones use'
+complete -c jm_tool -n '__fish_seen_subcommand_from link' -l release -x -d 'takes classes of Java SE up to release N, from 21 to 25; 21 without it'
 complete -c jm_tool -n '__fish_seen_subcommand_from link' -l exclude-resources -x -d 'leaves out the resources with a name that a pattern matches'
 complete -c jm_tool -n '__fish_seen_subcommand_from link' -l order-resources -x -d 'puts the resources in the order of the patterns that match their names'
 complete -c jm_tool -n '__fish_seen_subcommand_from link' -l strip-java-debug-attributes -d 'drops what a class says for debuggers'
@@ -47,4 +48,5 @@ complete -c jm_tool -n '__fish_seen_subcommand_from gen' -l classes -x
 complete -c jm_tool -n '__fish_seen_subcommand_from gen' -l seed -x
 complete -c jm_tool -n '__fish_seen_subcommand_from gen' -l jobs -x -d 'works in N pieces, from 1 to 64, with each command; no answer changes'
 complete -c jm_tool -n '__fish_seen_subcommand_from describe' -F
+complete -c jm_tool -n '__fish_seen_subcommand_from describe' -l release -x -d 'takes classes of Java SE up to release N, from 21 to 25; 21 without it'
 complete -c jm_tool -n '__fish_seen_subcommand_from describe' -l jobs -x -d 'works in N pieces, from 1 to 64, with each command; no answer changes'
