@@ -101,8 +101,8 @@ fn release_of(head: &str) -> (u32, &str) {
     }
 }
 
-/// What a line `VERB NAME: HEX` comes to, with or without a release in front; any other line is told
-/// as it stands.
+/// What a line `VERB NAME: HEX` comes to, with or without a release in front; any other line is
+/// told as it stands.
 pub fn told_of(alloc: Global, line: &str) -> Result<String, AllocError> {
     let (head, digits) = line.split_once(": ").unwrap_or((line, ""));
     let (release, named) = release_of(head);
