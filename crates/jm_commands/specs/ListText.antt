@@ -1,15 +1,15 @@
 -- The text of `list` (this project's rule).
 use Rattle.std.specs.Prelude.{ℕ, List, [], ◌∷◌, ◌++◌, length, map, flat_map, Option}
 use Rattle.std.specs.Fmt.{decimal}
-use Rattle.jm_names.specs.UtfForms.{utf}
+use Rattle.jm_names.specs.Shown.{shown}
 use Rattle.jm_pattern.specs.declared.signs.Sign.{Sign}
 use Rattle.jm_names.specs.ByName.{Named}
 use Rattle.jm_extract.specs.Taken.{taken}
 use Rattle.jm_extract.specs.declared.taking.TakenEntry.{TakenEntry}
 
--- a line: a size in bytes, a space, a name in UTF-8 and a newline
+-- a line: a size in bytes, a space, a name as it is shown and a newline
 abbrev pub sized_line : ℕ × List ℕ → List ℕ
-sized_line e = decimal e.0 ++ 32 ∷ utf e.1 ++ 10 ∷ []
+sized_line e = decimal e.0 ++ 32 ∷ shown e.1 ++ 10 ∷ []
 
 -- the size and the name of an entry
 abbrev pub sized : Named → ℕ × List ℕ

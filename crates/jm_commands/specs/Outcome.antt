@@ -16,6 +16,7 @@ use Rattle.jm_jrt.specs.Lines.{lines_of, replies}
 use Rattle.jm_jrt.specs.Reply.{held_lines}
 use Rattle.jm_jrt.specs.Sessions.{answered_in}
 use Rattle.jm_jrt.specs.Stat.{held, stat}
+use Rattle.jm_names.specs.Shown.{shown_text}
 use Rattle.jm_names.specs.UtfForms.{utf}
 use Rattle.jm_outside.specs.Made.{Writes}
 use Rattle.jm_words.specs.declared.errors.WordsFault.{WordsFault}
@@ -96,9 +97,9 @@ faulty fault = refused status.Words (codes "words: " ++ fault_text fault)
 abbrev pub damaged : Damage → Outcome
 damaged damage = refused status.Damaged (codes "damaged: " ++ damage_text damage)
 
--- what a missing path or name comes to
+-- what a missing path comes to, or a missing name in UTF-8
 abbrev pub not_there : List ℕ → Outcome
-not_there text = refused status.NotThere (codes "not there: " ++ text)
+not_there text = refused status.NotThere (codes "not there: " ++ shown_text text)
 
 -- what a refusal comes to
 abbrev pub refusing : Refusal → Outcome

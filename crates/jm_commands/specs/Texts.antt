@@ -2,6 +2,7 @@
 use Rattle.std.specs.Prelude.{ℕ, List, [], ◌∷◌, ◌++◌, codes}
 use Rattle.std.specs.Fmt.{decimal}
 use Rattle.jm_form.specs.DamageText.{damage_text}
+use Rattle.jm_names.specs.Shown.{shown_text}
 use Rattle.jm_words.specs.FaultText.{fault_text}
 use Rattle.jm_texts.specs.RefusalText.{refusal_text}
 use Rattle.jm_commands.specs.declared.complaint.Complaint.{Complaint}
@@ -11,7 +12,7 @@ use Rattle.jm_commands.specs.declared.complaint.Complaint.TheVariants as complai
 abbrev pub complaint_text : Complaint → List ℕ
 complaint_text (complaint.Words fault) = codes "words: " ++ fault_text fault
 complaint_text (complaint.Damaged damage) = codes "damaged: " ++ damage_text damage
-complaint_text (complaint.NotThere text) = codes "not there: " ++ text
+complaint_text (complaint.NotThere text) = codes "not there: " ++ shown_text text
 complaint_text (complaint.Refused refusal) = codes "refused: " ++ refusal_text refusal
 complaint_text (complaint.BadNode at) = codes "damaged: BadNode " ++ decimal at
 complaint_text complaint.NotFolder = codes "refused: NotFolder"

@@ -1,10 +1,12 @@
-ghost use Rattle.std.specs.Prelude.{◌≡◌, ◌∷◌, ◌++◌, [], IfOk, IsOk, string_bytes};
+ghost use Rattle.std.specs.Prelude.{◌≡◌, ◌∷◌, ◌++◌, [], codes, IfOk, IsOk, string_bytes};
+ghost use Rattle.jm_names.specs.Shown.{shown_text};
 ghost use Rattle.jm_commands.specs.Run.{status_of};
 ghost use Rattle.jm_commands.specs.Texts.{line_of};
 
 use crate::status::Status;
-use jm_bytes::{NoMemory, Text, extend};
+use jm_bytes::{NoMemory, Text, copy_of, extend};
 use jm_form::Damage;
+use jm_names::extend_shown_text;
 use jm_texts::Refusal;
 use jm_words::WordsFault;
 use std::alloc::{AllocError, Global};
@@ -51,7 +53,7 @@ impl Complaint {
         match self {
             Complaint::Words(fault) => bytes_of(format!(in alloc; "words: {fault}\n")),
             Complaint::Damaged(damage) => bytes_of(format!(in alloc; "damaged: {damage}\n")),
-            Complaint::NotThere(text) => line_with(alloc, b"not there: ", text.as_slice()),
+            Complaint::NotThere(text) => not_there_line(alloc, text.as_slice()),
             Complaint::Refused(refusal) => {
                 let text = refusal.text(alloc)?;
                 line_with(alloc, b"refused: ", text.as_slice())
@@ -75,6 +77,17 @@ fn bytes_of(text: Result<String, AllocError>) -> Result<Vec<u8>, NoMemory>
         Ok(text) => Ok(text.into_bytes()),
         Err(_) => Err(NoMemory),
     }
+}
+
+/// The line on a path, or on a name in UTF-8, that isn't there.
+fn not_there_line(alloc: Global, text: &[u8]) -> Result<Vec<u8>, NoMemory>
+    ensures { IfOk result (λ line. line.items
+        ≡ codes "not there: " ++ shown_text text.now ++ 10 ∷ []) }
+{
+    let mut line = copy_of(alloc, b"not there: ")?;
+    extend_shown_text(&mut line, text)?;
+    extend(&mut line, b"\n")?;
+    Ok(line)
 }
 
 /// A line of a word and a text.

@@ -13,14 +13,14 @@ use crate::stop::Stop;
 use itoa::Buffer;
 use jm_bytes::{List, Meter, NoMemory, extend};
 use jm_extract::{TakenEntry, taken};
-use jm_names::extend_utf8;
+use jm_names::extend_shown;
 use jm_outside::{Sink, SinkError};
 use jm_pattern::Pattern;
 use std::alloc::Global;
 use std::marker::Brand;
 use std::sync::ledger::{Blank, Ledger};
 
-/// Adds the line of an entry at the end: its size in bytes, a space, its name in UTF-8.
+/// Adds the line of an entry at the end: its size in bytes, a space, its name as it is shown.
 fn extend_line(alloc: Global, text: &mut Vec<u8>, entry: &TakenEntry) -> Result<(), NoMemory>
     ensures { OnOk result (text.new.items ≡ text.old.items ++ sized_line (sized_as entry.now)) }
 {
@@ -28,7 +28,7 @@ fn extend_line(alloc: Global, text: &mut Vec<u8>, entry: &TakenEntry) -> Result<
     let mut size = Buffer::new();
     extend(text, size.format(entry.row.size).as_bytes())?;
     extend(text, b" ")?;
-    extend_utf8(alloc, text, name.as_slice())?;
+    extend_shown(alloc, text, name.as_slice())?;
     extend(text, b"\n")
 }
 

@@ -7,7 +7,8 @@ use Rattle.std.specs.List.{after_first, before_first, list_any}
 use Rattle.std.specs.Str.{bytes_eq}
 use Rattle.jm_bytes.specs.Metered.{CostsAtMost, Metered}
 use Rattle.jm_names.specs.Names.{is_node}
-use Rattle.jm_names.specs.UtfForms.{modified, utf}
+use Rattle.jm_names.specs.Shown.{shown}
+use Rattle.jm_names.specs.UtfForms.{modified}
 use Rattle.jm_form.specs.declared.rows.Row.{Row}
 use Rattle.jm_form.specs.declared.trees.Holds.{Holds}
 use Rattle.jm_form.specs.declared.trees.Holds.TheVariants.{Children, Owners}
@@ -30,9 +31,9 @@ line text = text ++ 10 ∷ []
 abbrev pub numbered : List ℕ → ℕ → List ℕ
 numbered word n = line (word ++ decimal n)
 
--- a word with its space, or a path, and a name in UTF-8
+-- a word with its space, or a path, and a name as it is shown
 abbrev pub named : List ℕ → List ℕ → List ℕ
-named word name = line (word ++ utf name)
+named word name = line (word ++ shown name)
 
 -- the reply of an error
 abbrev pub error_reply : JrtError → List ℕ
@@ -76,14 +77,14 @@ entry_line name = named (if is_node name then [] else codes "/modules") name
 abbrev pub empty_mark : Bool → List ℕ
 empty_mark empty = if empty then codes " empty" else []
 
--- the line of an owner in the package at a path in UTF-8
+-- the line of an owner in the package at a path, which is given as it is shown
 abbrev pub owner_line : List ℕ → Owner → List ℕ
-owner_line path owner = line (path ++ 47 ∷ utf owner.module ++ empty_mark owner.empty)
+owner_line path owner = line (path ++ 47 ∷ shown owner.module ++ empty_mark owner.empty)
 
 -- the lines of what a folder at a path holds
 abbrev pub held_lines : List ℕ → Holds → List ℕ
 held_lines path (Children names) = flat_map entry_line names
-held_lines path (Owners owners) = flat_map (owner_line (utf path)) owners
+held_lines path (Owners owners) = flat_map (owner_line (shown path)) owners
 
 -- the reply of `ls`: the number of what a folder holds, and a line for each
 abbrev pub ls_reply : List ℕ → Result Holds JrtError → List ℕ

@@ -1,5 +1,6 @@
 //! The texts of replies.
 ghost use Rattle.std.specs.Prelude.{◌≡◌, ◌≤◌, ◌++◌, true, false, length, Ok, IfOk, OnOk};
+ghost use Rattle.jm_names.specs.Shown.{shown};
 ghost use Rattle.jm_reader.specs.Walk.{IsLater};
 ghost use Rattle.jm_jrt.specs.Reply as reply;
 ghost use Rattle.jm_jrt.specs.Lists.{child_line};
@@ -9,7 +10,7 @@ use crate::child_list::{Child, ChildList};
 use crate::jrt_error::JrtError;
 use itoa::Buffer;
 use jm_bytes::{Meter, NoMemory, extend};
-use jm_names::{extend_utf8, to_utf8};
+use jm_names::extend_shown;
 use std::alloc::Global;
 use std::sync::ledger::Ledger;
 
@@ -35,13 +36,22 @@ pub fn numbered(alloc: Global, word: &[u8], number: usize) -> Result<Vec<u8>, No
     Ok(text)
 }
 
-/// Puts a word with its space, or a path, and a name in UTF-8, and a newline at the end.
+/// Puts a word with its space, or a path, and a name as it is shown, and a newline at the end.
 fn extend_named(alloc: Global, text: &mut Vec<u8>, word: &[u8], name: &[u8]) -> Result<(), NoMemory>
     ensures { OnOk result (text.new.items ≡ text.old.items ++ reply.named word.now name.now) }
 {
     extend(text, word)?;
-    extend_utf8(alloc, text, name)?;
+    extend_shown(alloc, text, name)?;
     extend(text, b"\n")
+}
+
+/// A name as it is shown.
+fn shown(alloc: Global, name: &[u8]) -> Result<Vec<u8>, NoMemory>
+    ensures { IfOk result (λ text. text.items ≡ shown name.now) }
+{
+    let mut text = Vec::new(alloc);
+    extend_shown(alloc, &mut text, name)?;
+    Ok(text)
 }
 
 /// The reply of a refusal.
@@ -55,7 +65,7 @@ pub fn error_reply(alloc: Global, error: JrtError) -> Result<Vec<u8>, NoMemory>
     }
 }
 
-/// The line of a name in UTF-8 behind a word.
+/// The line of a name as it is shown behind a word.
 pub fn named(alloc: Global, word: &[u8], name: &[u8]) -> Result<Vec<u8>, NoMemory>
     ensures { IfOk result (λ text. text.items ≡ reply.named word.now name.now) }
 {
@@ -64,7 +74,7 @@ pub fn named(alloc: Global, word: &[u8], name: &[u8]) -> Result<Vec<u8>, NoMemor
     Ok(text)
 }
 
-/// Puts the line of a child of the folder at a path, which is given in UTF-8, at the end.
+/// Puts the line of a child of the folder at a path, which is given as it is shown, at the end.
 fn extend_child(
     alloc: Global,
     text: &mut Vec<u8>,
@@ -82,7 +92,7 @@ fn extend_child(
         Child::Owner { empty, module } => {
             extend(text, path)?;
             extend(text, b"/")?;
-            extend_utf8(alloc, text, module)?;
+            extend_shown(alloc, text, module)?;
             if *empty {
                 extend(text, b" empty")?;
             }
@@ -109,7 +119,7 @@ pub fn extend_children<R: Ledger>(
         ≡ text.old.items ++ reply.held_lines path.now list.old.rest) }
     ensures reads { IsLater reads.old reads.new }
 {
-    let path = to_utf8(alloc, path)?;
+    let path = shown(alloc, path)?;
     while let Some(child) = list.step(reads) {
         extend_child(alloc, text, path.as_slice(), &child)?;
     }
@@ -135,7 +145,7 @@ pub fn extend_next_children<R: Ledger>(
     ensures bytes { list.new.bytes ≡ list.old.bytes }
     ensures reads { IsLater reads.old reads.new }
 {
-    let path = to_utf8(alloc, path)?;
+    let path = shown(alloc, path)?;
     while text.len() < limit {
         match list.step(reads) {
             Some(child) => extend_child(alloc, text, path.as_slice(), &child)?,

@@ -7,6 +7,7 @@ pub mod JoinLaws
 pub mod KeyLaws
 pub mod NameOrder
 mod OrderVectors
+pub mod ShownLaws
 pub mod UtfLaws
 pub mod UtfPlain
 pub mod UtfSteps

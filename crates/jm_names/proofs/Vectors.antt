@@ -1,10 +1,11 @@
 -- Worked cases of names and hashes, computed from the definitions.
-use Rattle.std.proofs.Common.{Some, None, ◌≡◌, ℕ, true, false, List, [], ◌∷◌, refl}
+use Rattle.std.proofs.Common.{Some, None, ◌≡◌, ℕ, true, false, List, [], ◌∷◌, ◌++◌, refl}
 use Rattle.std.specs.Prelude.{codes}
 use Rattle.jm_names.specs.Hash.{hash}
 use Rattle.jm_names.specs.ComputedFault.{name_fault}
 use Rattle.jm_names.specs.declared.check.NameFault.TheVariants.{Empty, EmptyPart, Dots, Zero, NotText}
 use Rattle.jm_names.specs.Names.{Cut, split, is_node}
+use Rattle.jm_names.specs.Shown.{shown}
 use Rattle.jm_names.specs.UtfForms.{modified, utf}
 
 -- a cut by its four texts
@@ -177,3 +178,15 @@ utf_behind_high = refl
 
 utf_low_first : utf (0xED ∷ 0xB8 ∷ 0x80 ∷ 0xED ∷ 0xA0 ∷ 0xBD ∷ []) ≡ 0xED ∷ 0xB8 ∷ 0x80 ∷ 0xED ∷ 0xA0 ∷ 0xBD ∷ []
 utf_low_first = refl
+
+shown_controls : shown (0x41 ∷ 0x0A ∷ 0x00 ∷ 0x1F ∷ 0x20 ∷ 0x7E ∷ 0x7F ∷ 0xC2 ∷ 0x80 ∷ []) ≡ codes "A\\x0A\\x00\\x1F ~\\x7F" ++ 0xC2 ∷ 0x80 ∷ []
+shown_controls = refl
+
+shown_zero_of_two : shown (0xC0 ∷ 0x80 ∷ []) ≡ 0xC0 ∷ 0x80 ∷ []
+shown_zero_of_two = refl
+
+shown_written_out : shown (codes "A\\x0A") ≡ codes "A\\x0A"
+shown_written_out = refl
+
+shown_pair : shown (0x0D ∷ 0xED ∷ 0xA0 ∷ 0xBD ∷ 0xED ∷ 0xB8 ∷ 0x80 ∷ []) ≡ codes "\\x0D" ++ 0xF0 ∷ 0x9F ∷ 0x98 ∷ 0x80 ∷ []
+shown_pair = refl

@@ -6,4 +6,5 @@ pub mod Hash
 pub mod NameFaults
 pub mod Names
 pub mod Pieces
+pub mod Shown
 pub mod UtfForms

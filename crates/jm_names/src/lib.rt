@@ -18,4 +18,4 @@ pub use named::{HasName, sorted_by_name};
 pub use nodes::is_node;
 pub use packages::dotted;
 pub use pieces::{Pieces, cut_at_first, cut_at_last, split};
-pub use printed::extend_utf8;
+pub use printed::{extend_shown, extend_shown_text};

@@ -1,11 +1,11 @@
 -- What a command refuses in print: the kind, and the carried values, each behind a space (this
--- project's rule). Names of modules, packages, entries and resources are put in UTF-8, paths of
--- files as their bytes.
+-- project's rule). Names of modules, packages, entries and resources, and paths of files, are put as
+-- they are shown.
 use Rattle.std.specs.Prelude.{ℕ, List, ◌∷◌, ◌++◌, codes}
 use Rattle.std.specs.Fmt.{decimal}
 use Rattle.jm_class.specs.FaultText.{class_fault_text}
 use Rattle.jm_modinfo.specs.FaultText.{descriptor_fault_text}
-use Rattle.jm_names.specs.UtfForms.{utf}
+use Rattle.jm_names.specs.Shown.{shown, shown_text}
 use Rattle.jm_names.specs.declared.check.NameFault.{NameFault}
 use Rattle.jm_names.specs.declared.check.NameFault.TheVariants as fault_of
 use Rattle.jm_texts.specs.declared.refusal.Refusal.{Refusal}
@@ -20,18 +20,18 @@ name_fault_text fault_of.Zero = codes "Zero"
 name_fault_text fault_of.TooLong = codes "TooLong"
 name_fault_text (fault_of.NotText at) = codes "NotText " ++ decimal at
 
--- a name in UTF-8 behind a space
+-- a name as it is shown behind a space
 abbrev pub spaced : List ℕ → List ℕ
-spaced name = 32 ∷ utf name
+spaced name = 32 ∷ shown name
 
 -- a refusal in print: its kind, and each of its names and numbers behind a space
 abbrev pub refusal_text : Refusal → List ℕ
 refusal_text (refusal.BadInfo path fault) =
-    codes "BadInfo " ++ path ++ 32 ∷ descriptor_fault_text fault
+    codes "BadInfo " ++ shown_text path ++ 32 ∷ descriptor_fault_text fault
 refusal_text (refusal.BadEntry name fault) =
     codes "BadInfo" ++ spaced name ++ 32 ∷ descriptor_fault_text fault
 refusal_text (refusal.Foreign name) = codes "Foreign" ++ spaced name
-refusal_text (refusal.TwoModules dir name) = codes "TwoModules " ++ dir ++ spaced name
+refusal_text (refusal.TwoModules dir name) = codes "TwoModules " ++ shown_text dir ++ spaced name
 refusal_text (refusal.ReservedModule name) = codes "ReservedModule" ++ spaced name
 refusal_text (refusal.NoRoot name) = codes "NoRoot" ++ spaced name
 refusal_text (refusal.Missing name by) = codes "Missing" ++ spaced name ++ spaced by

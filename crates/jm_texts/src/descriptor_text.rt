@@ -1,23 +1,14 @@
 //! The text of a module's descriptor.
 ghost use Rattle.std.specs.Prelude.{◌≡◌, ◌++◌, OnOk, IfOk};
 ghost use Rattle.std.specs.List.{flat_map};
-ghost use Rattle.jm_names.specs.UtfForms.{utf};
 ghost use Rattle.jm_texts.specs.DescribeText.{describe_text, is_marked, listed_behind};
 ghost use Rattle.jm_texts.specs.DescribeText.{main_line, module_line, need_line};
 ghost use Rattle.jm_texts.specs.DescribeText.{opened_line, provides_line, uses_line, word_if};
 
 use jm_bytes::{NoMemory, Text, extend};
 use jm_modinfo::{Descriptor, Need, Opened, Provides};
-use jm_names::to_utf8;
+use jm_names::extend_shown;
 use std::alloc::Global;
-
-/// Puts a stored text at the end, in UTF-8.
-fn extend_utf(alloc: Global, text: &mut Vec<u8>, stored: &[u8]) -> Result<(), NoMemory>
-    ensures { OnOk result (text.new.items ≡ text.old.items ++ utf stored.now) }
-{
-    let bytes = to_utf8(alloc, stored)?;
-    extend(text, bytes.as_slice())
-}
 
 /// Puts a word at the end, if it is due.
 fn extend_if(text: &mut Vec<u8>, due: bool, word: &[u8]) -> Result<(), NoMemory>
@@ -47,10 +38,10 @@ fn extend_listed_behind(
         return Ok(());
     };
     extend(text, word)?;
-    extend_utf(alloc, text, first.as_slice())?;
+    extend_shown(alloc, text, first.as_slice())?;
     for other in others {
         extend(text, b",")?;
-        extend_utf(alloc, text, other.as_slice())?;
+        extend_shown(alloc, text, other.as_slice())?;
     }
     Ok(())
 }
@@ -61,10 +52,10 @@ fn extend_module(alloc: Global, text: &mut Vec<u8>, d: &Descriptor) -> Result<()
 {
     extend_if(text, is_marked(d.flags), b"open ")?;
     extend(text, b"module ")?;
-    extend_utf(alloc, text, d.name.as_slice())?;
+    extend_shown(alloc, text, d.name.as_slice())?;
     if let Some(version) = &d.version {
         extend(text, b"@")?;
-        extend_utf(alloc, text, version.as_slice())?;
+        extend_shown(alloc, text, version.as_slice())?;
     }
     extend(text, b"\n")
 }
@@ -77,7 +68,7 @@ fn extend_needs(alloc: Global, text: &mut Vec<u8>, needs: &[Need]) -> Result<(),
         extend(text, b"requires ")?;
         extend_if(text, is_marked(need.flags), b"transitive ")?;
         extend_if(text, need.is_static(), b"static ")?;
-        extend_utf(alloc, text, need.name.as_slice())?;
+        extend_shown(alloc, text, need.name.as_slice())?;
         extend(text, b"\n")?;
     }
     Ok(())
@@ -95,7 +86,7 @@ fn extend_packages(
 {
     for opened in packages {
         extend(text, word)?;
-        extend_utf(alloc, text, opened.package.as_slice())?;
+        extend_shown(alloc, text, opened.package.as_slice())?;
         extend_listed_behind(alloc, text, b" to ", opened.to.as_slice())?;
         extend(text, b"\n")?;
     }
@@ -108,7 +99,7 @@ fn extend_uses(alloc: Global, text: &mut Vec<u8>, services: &[Text]) -> Result<(
 {
     for service in services {
         extend(text, b"uses ")?;
-        extend_utf(alloc, text, service.as_slice())?;
+        extend_shown(alloc, text, service.as_slice())?;
         extend(text, b"\n")?;
     }
     Ok(())
@@ -121,7 +112,7 @@ fn extend_provides(alloc: Global, text: &mut Vec<u8>, provides: &[Provides]) -> 
 {
     for one in provides {
         extend(text, b"provides ")?;
-        extend_utf(alloc, text, one.service.as_slice())?;
+        extend_shown(alloc, text, one.service.as_slice())?;
         extend(text, b" with")?;
         extend_listed_behind(alloc, text, b" ", one.classes.as_slice())?;
         extend(text, b"\n")?;
@@ -137,7 +128,7 @@ fn extend_main(alloc: Global, text: &mut Vec<u8>, main: &Option<Text>) -> Result
         return Ok(());
     };
     extend(text, b"main ")?;
-    extend_utf(alloc, text, class.as_slice())?;
+    extend_shown(alloc, text, class.as_slice())?;
     extend(text, b"\n")
 }
 

@@ -3,6 +3,7 @@ ghost use Rattle.std.specs.Prelude.{◌≡◌, ◌∷◌, ◌++◌, codes, IfOk,
 ghost use Rattle.std.specs.Fmt.{decimal};
 ghost use Rattle.jm_class.specs.FaultText.{class_fault_text};
 ghost use Rattle.jm_modinfo.specs.FaultText.{descriptor_fault_text};
+ghost use Rattle.jm_names.specs.Shown.{shown_text};
 ghost use Rattle.jm_texts.specs.RefusalText.{name_fault_text, refusal_text, spaced};
 
 use crate::refusal::Refusal;
@@ -10,16 +11,15 @@ use itoa::Buffer;
 use jm_bytes::{NoMemory, Text, copy_of, extend};
 use jm_class::ClassFault;
 use jm_modinfo::DescriptorFault;
-use jm_names::{NameFault, to_utf8};
+use jm_names::{NameFault, extend_shown, extend_shown_text};
 use std::alloc::Global;
 
-/// Puts a name behind a space at the end, in UTF-8.
+/// Puts a name behind a space at the end, as it is shown.
 fn extend_name(alloc: Global, text: &mut Vec<u8>, name: &Text) -> Result<(), NoMemory>
     ensures { OnOk result (text.new.items ≡ text.old.items ++ spaced name.now) }
 {
-    let name = to_utf8(alloc, name.as_slice())?;
     extend(text, b" ")?;
-    extend(text, name.as_slice())
+    extend_shown(alloc, text, name.as_slice())
 }
 
 /// A kind and a name.
@@ -44,11 +44,11 @@ fn numbered(alloc: Global, kind: &[u8], number: u64) -> Result<Vec<u8>, NoMemory
 /// The kind `BadInfo`, a path and the fault of the file there.
 fn bad_info(alloc: Global, path: &Text, fault: DescriptorFault) -> Result<Vec<u8>, NoMemory>
     ensures { IfOk result (λ text. text.items
-        ≡ codes "BadInfo " ++ path.now ++ 32 ∷ descriptor_fault_text fault) }
+        ≡ codes "BadInfo " ++ shown_text path.now ++ 32 ∷ descriptor_fault_text fault) }
 {
     let fault = format!(in alloc; " {fault}")?;
     let mut text = copy_of(alloc, b"BadInfo ")?;
-    extend(&mut text, path.as_slice())?;
+    extend_shown_text(&mut text, path.as_slice())?;
     extend(&mut text, fault.as_bytes())?;
     Ok(text)
 }
@@ -111,7 +111,8 @@ fn two_named(alloc: Global, kind: &[u8], name: &Text, other: &Text) -> Result<Ve
 }
 
 impl Refusal {
-    /// Its kind and the carried values, each behind a space. Names are put in UTF-8.
+    /// Its kind and the carried values, each behind a space. Names and paths are put as they are
+    /// shown.
     pub fn text(&self, alloc: Global) -> Result<Vec<u8>, NoMemory>
         ensures { IfOk result (λ text. text.items ≡ refusal_text self.now) }
     {
@@ -121,7 +122,7 @@ impl Refusal {
             Refusal::Foreign(name) => named(alloc, b"Foreign", name),
             Refusal::TwoModules { dir, name } => {
                 let mut text = copy_of(alloc, b"TwoModules ")?;
-                extend(&mut text, dir.as_slice())?;
+                extend_shown_text(&mut text, dir.as_slice())?;
                 extend_name(alloc, &mut text, name)?;
                 Ok(text)
             }
