@@ -1,4 +1,5 @@
 ghost use Rattle.std.specs.Prelude.{◌≡◌, ◌∷◌, ◌++◌, [], codes, IfOk, IsOk, string_bytes};
+ghost use Rattle.jm_jrt.specs.Framed.{AreLines};
 ghost use Rattle.jm_names.specs.Shown.{shown_text};
 ghost use Rattle.jm_commands.specs.Run.{status_of};
 ghost use Rattle.jm_commands.specs.Texts.{line_of};
@@ -46,9 +47,10 @@ impl Complaint {
         }
     }
 
-    /// Its line, with the newline that ends it.
+    /// Its line, with the newline that ends it and no other one.
     pub fn line(&self, alloc: Global) -> Result<Vec<u8>, NoMemory>
-        ensures { IfOk result (λ line. line.items ≡ line_of self.now) }
+        ensures line { IfOk result (λ line. line.items ≡ line_of self.now) }
+        ensures one { IfOk result (λ line. AreLines 1 line.items) }
     {
         match self {
             Complaint::Words(fault) => bytes_of(format!(in alloc; "words: {fault}\n")),
