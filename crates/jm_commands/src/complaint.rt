@@ -1,5 +1,4 @@
 ghost use Rattle.std.specs.Prelude.{◌≡◌, ◌∷◌, ◌++◌, [], codes, IfOk, IsOk, string_bytes};
-ghost use Rattle.jm_jrt.specs.Framed.{AreLines};
 ghost use Rattle.jm_names.specs.Shown.{shown_text};
 ghost use Rattle.jm_commands.specs.Run.{status_of};
 ghost use Rattle.jm_commands.specs.Texts.{line_of};
@@ -47,10 +46,9 @@ impl Complaint {
         }
     }
 
-    /// Its line, with the newline that ends it and no other one.
+    /// Its line, with the newline that ends it.
     pub fn line(&self, alloc: Global) -> Result<Vec<u8>, NoMemory>
-        ensures line { IfOk result (λ line. line.items ≡ line_of self.now) }
-        ensures one { IfOk result (λ line. AreLines 1 line.items) }
+        ensures { IfOk result (λ line. line.items ≡ line_of self.now) }
     {
         match self {
             Complaint::Words(fault) => bytes_of(format!(in alloc; "words: {fault}\n")),
