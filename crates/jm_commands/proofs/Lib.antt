@@ -9,6 +9,7 @@ mod ListingVectors
 pub mod Made
 pub mod OutcomeLaws
 pub mod PieceLaws
+pub mod PlainLaws
 pub mod RelinkedRun
 pub mod RunLaws
 pub mod ServedLaws

@@ -7,6 +7,7 @@ mod SessionVectors
 pub mod StandingLaws
 mod StatVectors
 pub mod Vectors
+pub mod FramedLaws
 pub mod FreeLaws
 pub mod LineLaws
 pub mod ListLaws

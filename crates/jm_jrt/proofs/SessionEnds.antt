@@ -12,6 +12,7 @@ use Rattle.jm_jrt.specs.Lines.{answered, ended_lines, last_line, lines_bytes, li
 use Rattle.jm_jrt.specs.Reply.{IsWithin, line_bytes, reply}
 use Rattle.jm_jrt.specs.Sessions.{Bounded, Breaks, Ended, IsFree, IsLine, IsOpen, IsTooLong, IsTooMany}
 use Rattle.jm_jrt.specs.Sessions.{Moment, Passes, Put, PutBehind, PutFails, Serves, answered_in, joined}
+use Rattle.jm_jrt.proofs.FramedLaws.{all_framed}
 use Rattle.jm_jrt.proofs.LineLaws.{Begins, answered_all, answered_long, answered_nothing, ended_joined}
 use Rattle.jm_jrt.proofs.LineLaws.{line_begins, lines_joined, lines_next, lines_part, some_lines}
 use Rattle.jm_jrt.proofs.SessionSteps.{breaks_at_once, breaks_more, put_then, replies_append}
@@ -136,6 +137,7 @@ serves_given b rest new_rest given part old new reads new_reads told passes furt
           ),
         ),
       );
+      framed = all_framed b (answered_in (given ++ left_of new_rest));
       reads = tt;
     }
 
@@ -260,6 +262,7 @@ serves_broken error b rest new_rest given old new_put reads new_reads none told 
       bounded = bounded_so b (given ++ left) old none new_put error longer given most;
       ended = ends_so b (given ++ left) old none new_put error longer left;
       put = puts_so b (given ++ left) old none new_put error longer left;
+      framed = all_framed b (answered_in (given ++ left));
       reads = tt;
     }
 
@@ -296,6 +299,7 @@ serves_whole b rest new_rest given lines n put new_put reads new_reads told ends
       bounded = tt;
       ended = record { count = count ∙ ap length (sym are); answered = all ∙ sym are; nothing = refl };
       put = (replies b lines, is, ap (replies b) (sym all));
+      framed = all_framed b (answered_in given);
       reads = subst (λ (l : List (List ℕ)). IsWithin (lines_bytes b l) reads new_reads) (sym are) cost;
     }
 
@@ -354,6 +358,7 @@ serves_not_last error b rest new_rest given part old new last_put reads new_read
       bounded = bounded error fails;
       ended = ended error fails;
       put = puts error fails;
+      framed = all_framed b (answered_in given);
       reads = tt;
     }
   where

@@ -4,7 +4,7 @@ use Rattle.std.specs.Prelude.{codes}
 use Rattle.std.specs.Fmt.{digits}
 use Rattle.jm_jrt.specs.Lines.{answered, ended_lines, lines_of}
 use Rattle.jm_jrt.specs.Reply.{reply}
-use Rattle.jm_jrt.proofs.Vectors.{bad_node, one}
+use Rattle.jm_jrt.proofs.Vectors.{bad_node, one, with_byte}
 
 found : reply one (codes "find /a/p/A") ≡ codes "found 2\nhi\n"
 unfolding digits
@@ -38,6 +38,11 @@ the_packages = refl
 the_resources : reply one (codes "ls /modules/a/p") ≡ codes "folder 1\n/modules/a/p/A\n"
 unfolding digits
 the_resources = refl
+
+-- one with a newline in its name is one line
+shown_newline : reply (with_byte 138 10 one) (codes "ls /modules/a/p") ≡ codes "folder 1\n/modules/a/p/\\x0A\n"
+unfolding digits
+shown_newline = refl
 
 no_folder : reply one (codes "ls /packages/p/a") ≡ codes "error NotFolder\n"
 no_folder = refl

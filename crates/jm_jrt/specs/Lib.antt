@@ -1,3 +1,4 @@
+pub mod Framed
 pub mod Lines
 pub mod Listed
 pub mod Lists

@@ -109,6 +109,10 @@ owner_reply (Ok full) = full_reply full
 abbrev pub is_space : ℕ → Bool
 is_space b = b == 32
 
+-- a line has a space, and this verb stands in front of the first one
+abbrev pub has_verb : List ℕ → List ℕ → Bool
+has_verb verb line = list_any is_space line && bytes_eq (before_first is_space line) verb
+
 -- the reply by verb and argument; the argument is a name or a path as an image stores it
 abbrev pub request_reply : List ℕ → List ℕ → List ℕ → List ℕ
 request_reply b verb argument =
@@ -138,14 +142,12 @@ found_length (Some found) = length found.1
 abbrev pub find_bytes : List ℕ → List ℕ → ℕ
 find_bytes b name = length name + 76 + found_length (look b name)
 
--- the line has a space, and its verb is `find`
-abbrev pub is_find : List ℕ → Bool
-is_find line = list_any is_space line && bytes_eq (before_first is_space line) (codes "find")
-
 -- the bytes that the reply to a line reads at most, where the line is a `find`
 abbrev pub line_bytes : List ℕ → List ℕ → Option ℕ
 line_bytes b line =
-    if is_find line then Some (find_bytes b (modified (after_first is_space line))) else None
+    if has_verb (codes "find") line
+    then Some (find_bytes b (modified (after_first is_space line)))
+    else None
 
 -- at most so many bytes more were read, or without a bound not fewer
 abbrev pub IsWithin : Option ℕ → Metered → Metered → Type 0

@@ -8,6 +8,7 @@ use Rattle.jm_jrt.specs.declared.serve_error.ServeError.{ServeError}
 use Rattle.jm_jrt.specs.declared.serve_error.ServeError.TheVariants.{ReadFault, WriteFault}
 use Rattle.jm_jrt.specs.declared.serve_error.ServeError.TheVariants.{LongLine, TooManyLines}
 use Rattle.jm_jrt.specs.declared.serve_error.ServeError.TheVariants.{Memory}
+use Rattle.jm_jrt.specs.Framed.{IsFramed}
 use Rattle.jm_jrt.specs.Lines.{answered, ended_lines, is_newline, lines_bytes, lines_of, replies}
 use Rattle.jm_jrt.specs.Reply.{IsWithin, line, reply}
 
@@ -92,7 +93,7 @@ Bounded (Err WriteFault) text given = Unit {0}
 Bounded (Err Memory) text given = Unit {0}
 
 -- a session over the image's bytes: some text was served; it is what the source had, where that
--- tells its rest
+-- tells its rest; and each reply tells a program where it ends
 pub record Serves (b : List ℕ) (answer : Result ℕ ServeError)
     (rest new_rest out new_out : Option (List ℕ)) (old new : Metered) : Type 0 where
   pub text : List ℕ
@@ -103,6 +104,7 @@ pub record Serves (b : List ℕ) (answer : Result ℕ ServeError)
   pub bounded : Bounded answer text given
   pub ended : Ended answer text left
   pub put : PutBehind b answer text left out new_out
+  pub framed : All (λ request. IsFramed request (reply b request)) (answered_in text)
   pub reads : OnOk answer (IsWithin (lines_bytes b (lines_of text)) old new)
 
 -- Its steps

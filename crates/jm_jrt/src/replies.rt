@@ -119,9 +119,9 @@ pub fn extend_children<R: Ledger>(
         ≡ text.old.items ++ reply.held_lines path.now list.old.rest) }
     ensures reads { IsLater reads.old reads.new }
 {
-    let path = shown(alloc, path)?;
+    let shown_path = shown(alloc, path)?;
     while let Some(child) = list.step(reads) {
-        extend_child(alloc, text, path.as_slice(), &child)?;
+        extend_child(alloc, text, shown_path.as_slice(), &child)?;
     }
     Ok(())
 }
@@ -145,10 +145,10 @@ pub fn extend_next_children<R: Ledger>(
     ensures bytes { list.new.bytes ≡ list.old.bytes }
     ensures reads { IsLater reads.old reads.new }
 {
-    let path = shown(alloc, path)?;
+    let shown_path = shown(alloc, path)?;
     while text.len() < limit {
         match list.step(reads) {
-            Some(child) => extend_child(alloc, text, path.as_slice(), &child)?,
+            Some(child) => extend_child(alloc, text, shown_path.as_slice(), &child)?,
             None => return Ok(false),
         }
     }

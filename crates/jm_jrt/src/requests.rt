@@ -3,6 +3,7 @@ ghost use Rattle.std.specs.Prelude.{◌≡◌, ◌++◌, codes, IfOk};
 ghost use Rattle.jm_bytes.specs.Metered.{CostsAtMost, RisesAtMost};
 ghost use Rattle.jm_form.specs.Validity.{look};
 ghost use Rattle.jm_reader.specs.Walk.{IsLater};
+ghost use Rattle.jm_jrt.specs.Framed.{IsFramed};
 ghost use Rattle.jm_jrt.specs.Reply as reply;
 ghost use Rattle.jm_jrt.specs.Stat as answers;
 
@@ -110,11 +111,8 @@ fn answer_owner<H: Ledger, R: Ledger>(
     }
 }
 
-/// The reply to a line of a session, which is given without its newline (this project's rule).
-///
-/// It costs at most four hashes. To `find NAME` it costs at most two hashes, and at most the bytes
-/// of the name as an image stores it, 76 more and those of the content.
-pub fn answer<H: Ledger, R: Ledger>(
+/// The reply to a line of a session.
+fn reply_to<H: Ledger, R: Ledger>(
     alloc: Global,
     image: &Image,
     line: &[u8],
@@ -148,4 +146,28 @@ pub fn answer<H: Ledger, R: Ledger>(
         return Ok(Text::from_vec(text));
     }
     Ok(Text::from_vec(replies::line(alloc, b"error Request")?))
+}
+
+/// The reply to a line of a session, which is given without its newline (this project's rule). It
+/// tells a program where it ends: it is one line, behind which stand to `find` the bytes and to `ls`
+/// the lines of which it says the number.
+///
+/// It costs at most four hashes. To `find NAME` it costs at most two hashes, and at most the bytes
+/// of the name as an image stores it, 76 more and those of the content.
+#[tactic(auto, using(crate::proofs::FramedLaws::framed_by))]
+pub fn answer<H: Ledger, R: Ledger>(
+    alloc: Global,
+    image: &Image,
+    line: &[u8],
+    hashes: &mut Steps<H>,
+    reads: &mut Meter<R>,
+) -> Result<Text, NoMemory>
+    requires { reads.old.bytes ≡ image.now }
+    ensures reply { IfOk result (λ text. text ≡ reply.reply image.now line.now) }
+    ensures framed { IfOk result (λ text. IsFramed line.now text) }
+    ensures hashes { RisesAtMost hashes.old hashes.new 4 }
+    ensures reads { reply.IsWithin (reply.line_bytes image.now line.now) reads.old reads.new }
+{
+    let text = reply_to(alloc, image, line, hashes, reads)?;
+    Ok(text)
 }

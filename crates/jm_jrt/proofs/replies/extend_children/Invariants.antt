@@ -8,7 +8,7 @@ abbrev pub invariant-loop-child : goal.invariant-loop-child
 invariant-loop-child g l = record {
   bytes : l.reads.bytes ≡ l.list.bytes;
   reads : IsLater l.fn.reads l.reads;
-  lines : l.text.items ++ held_lines l.path l.list.rest ≡ l.fn.text.items ++ held_lines l.path l.fn.list.rest;
+  lines : l.text.items ++ held_lines l.fn.path l.list.rest ≡ l.fn.text.items ++ held_lines l.fn.path l.fn.list.rest;
 }
 
 abbrev pub decreases-loop-child : goal.decreases-loop-child

@@ -9,7 +9,7 @@ invariant-loop-alloc g l = record {
   bytes : l.list.bytes ≡ l.fn.list.bytes;
   metered : l.reads.bytes ≡ l.list.bytes;
   reads : IsLater l.fn.reads l.reads;
-  lines : l.text.items ++ held_lines l.path l.list.rest ≡ l.fn.text.items ++ held_lines l.path l.fn.list.rest;
+  lines : l.text.items ++ held_lines l.fn.path l.list.rest ≡ l.fn.text.items ++ held_lines l.fn.path l.fn.list.rest;
 }
 
 abbrev pub decreases-loop-alloc : goal.decreases-loop-alloc
