@@ -44,6 +44,7 @@ fn put_plugin(line: &mut String, plugin: &Plugin) -> Result<(), AllocError> {
         Plugin::Strip => line.push_str(" strip"),
         Plugin::Compact => line.push_str(" compact"),
         Plugin::Packages => line.push_str(" packages"),
+        Plugin::DropSystemModules => line.push_str(" drop-system-modules"),
     }
 }
 

@@ -23,6 +23,7 @@ fn plug_in(alloc: Global, word: &str) -> Result<Option<Plugin>, Or<PatternFault>
         "strip" => Some(Plugin::Strip),
         "compact" => Some(Plugin::Compact),
         "packages" => Some(Plugin::Packages),
+        "drop-system-modules" => Some(Plugin::DropSystemModules),
         _ => None,
     })
 }

@@ -29,7 +29,7 @@ use Rattle.jm_plugins.proofs.Beside.{at_front}
 
 -- Pairs with other bytes at a place
 
-replaced : (done rest : List (List ℕ × List ℕ)) (pair : List ℕ × List ℕ) (text : List ℕ) → with_bytes_at (done ++ pair ∷ rest)
+pub replaced : (done rest : List (List ℕ × List ℕ)) (pair : List ℕ × List ℕ) (text : List ℕ) → with_bytes_at (done ++ pair ∷ rest)
     (length done) text ≡ done ++ (pair.0, text) ∷ rest
 replaced [] rest pair text = ap (λ l. (pair.0, text) ∷ l) (zipped rest)
 replaced (p ∷ done) rest pair text = ap (λ l. p ∷ l) (replaced done rest pair text)

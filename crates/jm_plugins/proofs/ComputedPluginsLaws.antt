@@ -143,6 +143,7 @@ TakenBy release (plugin.Order patterns) pairs = Unit {0}
 TakenBy release plugin.Strip pairs = TakenRead release is_class pairs
 TakenBy release plugin.Compact pairs = TakenRead release is_class pairs
 TakenBy release plugin.Packages pairs = TakenRead release is_descriptor pairs
+TakenBy release plugin.DropSystemModules pairs = Unit {0}
 
 pub makes_computed : (release : ℕ) (one : Plugin) (pairs : Pairs) → TakenBy release one pairs
     → Makes release one pairs (act release one pairs)
@@ -155,6 +156,7 @@ makes_computed release plugin.Compact pairs read =
 makes_computed release plugin.Packages pairs read =
     made_anew release is_descriptor (λ name c text. text ≡ listing_text (names_of pairs) name c) (listing_text (names_of pairs))
     (λ name c fits. refl) pairs read
+makes_computed release plugin.DropSystemModules pairs read = refl
 
 pub makes_only : (release : ℕ) (one : Plugin) (pairs : Pairs) (result : Result Pairs BadClass) → Makes release one pairs result
     → result ≡ act release one pairs
@@ -168,6 +170,7 @@ makes_only release plugin.Compact pairs result are =
 makes_only release plugin.Packages pairs result are =
     anew_only release is_descriptor (λ name c text. text ≡ listing_text (names_of pairs) name c) (listing_text (names_of pairs))
     (λ name c own fits is. is) pairs result are
+makes_only release plugin.DropSystemModules pairs result is = is
 
 -- what is computed is by the rule
 pub makes_due : (release : ℕ) (one : Plugin) (pairs : Pairs) (result : Result Pairs (Or BadClass))

@@ -4,5 +4,6 @@ pub mod ComputedPluginsLaws
 pub mod NameLaws
 pub mod PackagingLaws
 pub mod OrderLaws
+pub mod SystemModulesLaws
 pub mod TurnLaws
 pub mod Vectors

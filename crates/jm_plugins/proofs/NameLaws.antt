@@ -1,12 +1,13 @@
 -- Plug-ins give no resource a new name: what holds of each name still does, and names that differ
 -- still differ.
 use Rattle.std.proofs.Common.{◌≡◌, ◌≢◌, ℕ, List, [], ◌∷◌, Bool, true, false, cond, not, All, AllPairs, Result}
-use Rattle.std.proofs.Common.{Ok, Err, refl, sym, ap, subst, ◌∙◌}
+use Rattle.std.proofs.Common.{map, Ok, Err, refl, sym, ap, subst, ◌∙◌}
 use Rattle.std.proofs.lemmas.Bool.{false≢true}
 use Rattle.std.proofs.lemmas.List.{map-append}
 use Rattle.std.proofs.lemmas.List.Elements.{All-append, All-contains, All-filter, filter_passes}
 use Rattle.std.proofs.lemmas.List.Kept.{AllPairs-filter}
 use Rattle.std.specs.List.{filter}
+use Rattle.std.specs.Str.{bytes_eq}
 use Rattle.jm_bytes.proofs.Choice.{same_ok}
 use Rattle.jm_bytes.proofs.Pairs.{pairs_append}
 use Rattle.jm_class.specs.Classes.{ClassData}
@@ -25,6 +26,8 @@ use Rattle.jm_bytes.specs.Results.{followed}
 use Rattle.jm_plugins.specs.Packaging.{is_descriptor, listing_text}
 use Rattle.jm_plugins.specs.ComputedPlugins.{act, apply, remade, remade_pair, remade_pairs, stripped_text}
 use Rattle.jm_plugins.specs.Plugins.{is_class}
+use Rattle.jm_plugins.specs.SystemModules.{is_system_modules, map_name, plain_map_text}
+use Rattle.jm_plugins.specs.SystemModules.{with_plain_map, without_system_modules}
 
 -- Names of what a plug-in leaves
 
@@ -38,6 +41,15 @@ names_filter test (pair ∷ pairs) = go (test pair.0) (names_filter test pairs)
         ≡ cond b (pair.0 ∷ filter test (names_of pairs)) (filter test (names_of pairs))
     go true rest = ap (λ l. pair.0 ∷ l) rest
     go false rest = rest
+
+names_plain : (pairs : List (List ℕ × List ℕ)) → names_of (map with_plain_map pairs) ≡ names_of pairs
+names_plain [] = refl
+names_plain (pair ∷ pairs) = go (bytes_eq pair.0 map_name) (names_plain pairs)
+  where
+    go : (b : Bool) → names_of (map with_plain_map pairs) ≡ names_of pairs
+        → names_of (cond b (pair.0, plain_map_text) pair ∷ map with_plain_map pairs) ≡ pair.0 ∷ names_of pairs
+    go true rest = ap (λ l. pair.0 ∷ l) rest
+    go false rest = ap (λ l. pair.0 ∷ l) rest
 
 name_remade : (release : ℕ) (takes : List ℕ → Bool) (text : List ℕ → ClassData → List ℕ) (pair first : List ℕ × List ℕ)
     → remade_pair release takes text pair ≡ Ok first → first.0 ≡ pair.0
@@ -84,6 +96,12 @@ module _ (release : ℕ) (Says : List (List ℕ) → Type 0) (fewer : (test : Li
       subst Says (sym (names_remade release is_class (λ name. compact_text) pairs left is)) says
   acted_on plugin.Packages pairs left is says =
       subst Says (sym (names_remade release is_descriptor (listing_text (names_of pairs)) pairs left is)) says
+  acted_on plugin.DropSystemModules pairs left is says =
+      let test = λ (name : List ℕ). not (is_system_modules name) in
+      let names : names_of (without_system_modules pairs) ≡ filter test (names_of pairs) =
+      names_plain (filter (λ pair. test pair.0) pairs) ∙ names_filter test pairs in
+      subst (λ l. Says (names_of l)) (same_ok (without_system_modules pairs) left is) (subst Says (sym names) (fewer test
+      (names_of pairs) says))
 
   applied_to : (plugins : List Plugin) (before after : List (List ℕ × List ℕ)) → apply release plugins before ≡ Ok after
       → Says (names_of before) → Says (names_of after)

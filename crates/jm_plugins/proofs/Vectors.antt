@@ -1,11 +1,13 @@
 -- Plug-ins, evaluated on small pools.
-use Rattle.std.proofs.Common.{◌≡◌, ℕ, List, [], ◌∷◌, ◌++◌, Ok, Err, refl}
+use Rattle.std.proofs.Common.{◌≡◌, ℕ, List, [], ◌∷◌, ◌++◌, length, Ok, Err, refl}
 use Rattle.std.specs.Prelude.{codes}
+use Rattle.jm_class.specs.ComputedClass.{class_of}
 use Rattle.jm_class.specs.declared.class.ClassFault.TheVariants.{Short}
 use Rattle.jm_pattern.specs.declared.signs.Sign.{Sign}
 use Rattle.jm_pattern.specs.declared.signs.Sign.TheVariants.{AnyRun, Byte}
 use Rattle.jm_words.specs.declared.tasks.Plugin.TheVariants as plugin
 use Rattle.jm_plugins.specs.ComputedPlugins.{apply, bad_class}
+use Rattle.jm_plugins.specs.SystemModules.{plain_map, plain_map_text}
 
 -- `**/B.class` and `/a/**`; 47 is `/`, 66 is `B` and 97 is `a`
 abbrev named_b : List Sign
@@ -99,3 +101,28 @@ listed_in_pool = refl
 unlisted_descriptor : apply 21 (plugin.Packages ∷ []) ((codes "/a/x.class", []) ∷ (codes "/b/module-info.class", codes "no") ∷ [])
     ≡ Err (bad_class (codes "/b/module-info.class") (Short 0))
 unlisted_descriptor = refl
+
+-- classes that name all modules go, but for those of another folder, module or end; the map gives way to the plain one
+dropped_in_pool : apply 21 (plugin.DropSystemModules ∷ []) ((codes "/java.base/jdk/internal/module/SystemModules$all.class", codes "1")
+    ∷ (codes "/java.base/jdk/internal/module/SystemModulesMap.class", codes "2") ∷ (
+      codes "/java.base/jdk/internal/module/SystemModules$.class",
+      codes "3",
+    ) ∷ (codes "/java.base/jdk/internal/module/SystemModules$a/b.class", codes "4") ∷ (
+      codes "/a/jdk/internal/module/SystemModules$b.class",
+      codes "5",
+    ) ∷ (codes "/java.base/jdk/internal/module/SystemModules.class", codes "6") ∷ [])
+    ≡ Ok ((codes "/java.base/jdk/internal/module/SystemModulesMap.class", plain_map_text)
+    ∷ (codes "/java.base/jdk/internal/module/SystemModules$a/b.class", codes "4") ∷ (
+      codes "/a/jdk/internal/module/SystemModules$b.class",
+      codes "5",
+    ) ∷ (codes "/java.base/jdk/internal/module/SystemModules.class", codes "6") ∷ [])
+dropped_in_pool = refl
+
+plain_map_long : length plain_map_text ≡ 424
+unfolding plain_map_text
+plain_map_long = refl
+
+-- without a fault
+plain_map_reads : class_of plain_map_text ≡ Ok plain_map
+unfolding plain_map_text
+plain_map_reads = refl

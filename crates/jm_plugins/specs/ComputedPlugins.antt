@@ -14,6 +14,7 @@ use Rattle.jm_plugins.specs.declared.chain.BadClass.{BadClass}
 use Rattle.jm_plugins.specs.Matching.{excluded, ordered}
 use Rattle.jm_plugins.specs.Packaging.{is_descriptor, listing_text}
 use Rattle.jm_plugins.specs.Plugins.{Pairs, is_class}
+use Rattle.jm_plugins.specs.SystemModules.{without_system_modules}
 
 -- the refusal of the class of a name by its fault
 abbrev pub bad_class : List ℕ → ClassFault → BadClass
@@ -53,6 +54,7 @@ act release plugin.Strip pairs = remade_pairs release is_class (λ name. strippe
 act release plugin.Compact pairs = remade_pairs release is_class (λ name. compact_text) pairs
 act release plugin.Packages pairs =
     remade_pairs release is_descriptor (listing_text (names_of pairs)) pairs
+act release plugin.DropSystemModules pairs = Ok (without_system_modules pairs)
 
 -- `Applies` as a value: what plug-ins make of the pairs, from the first to the last, or the first
 -- refusal

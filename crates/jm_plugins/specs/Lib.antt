@@ -3,4 +3,5 @@ pub mod Matching
 pub mod Packaging
 pub mod Plugins
 pub mod Steps
+pub mod SystemModules
 pub mod Turns

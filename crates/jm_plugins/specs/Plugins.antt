@@ -14,6 +14,7 @@ use Rattle.jm_words.specs.declared.tasks.Plugin.TheVariants as plugin
 use Rattle.jm_plugins.specs.declared.chain.BadClass.{BadClass}
 use Rattle.jm_plugins.specs.Matching.{excluded, ordered}
 use Rattle.jm_plugins.specs.Packaging.{is_descriptor, listing_text}
+use Rattle.jm_plugins.specs.SystemModules.{without_system_modules}
 
 -- names with their bytes
 abbrev pub Pairs : Type 0
@@ -63,6 +64,7 @@ Makes release plugin.Compact pairs result =
 Makes release plugin.Packages pairs result =
     AreMadeAnew release is_descriptor
     (λ name c text. text ≡ listing_text (names_of pairs) name c) pairs result
+Makes release plugin.DropSystemModules pairs result = result ≡ Ok (without_system_modules pairs)
 
 -- what is made goes on to the later plug-ins; a refusal is the result
 abbrev pub GoesOn : (Pairs → Result Pairs BadClass → Type 0) → Result Pairs BadClass

@@ -8,7 +8,7 @@ use Rattle.jm_class.specs.Classes.{ClassData}
 use Rattle.jm_class.specs.Releases.{ReadsFor, class_for}
 use Rattle.jm_class.specs.declared.class.ClassFault.{ClassFault}
 use Rattle.jm_pattern.specs.declared.signs.Sign.{Sign}
-use Rattle.jm_pattern.specs.ComputedMatching.{matches}
+use Rattle.jm_pattern.specs.ComputedMatching.{matches, matches_any}
 use Rattle.jm_compact.specs.Compact.{compact_text}
 use Rattle.jm_form.specs.Trees.{module_of}
 use Rattle.jm_packages.specs.Packages.{packages_text}
@@ -17,9 +17,12 @@ use Rattle.jm_plugins.specs.declared.chain.BadClass.{BadClass}
 use Rattle.jm_plugins.specs.declared.classes.Remade.{Remade}
 use Rattle.jm_plugins.specs.declared.classes.Remaking.{Remaking}
 use Rattle.jm_plugins.specs.declared.classes.Remaking.TheVariants as remaking
+use Rattle.jm_plugins.specs.declared.exclusion.Dropping.{Dropping}
+use Rattle.jm_plugins.specs.declared.exclusion.Dropping.TheVariants as dropping
 use Rattle.jm_plugins.specs.Packaging.{is_descriptor, listing_text, packages_by}
 use Rattle.jm_plugins.specs.ComputedPlugins.{bad_class, stripped_text}
 use Rattle.jm_plugins.specs.Plugins.{is_class}
+use Rattle.jm_plugins.specs.SystemModules.{is_system_modules}
 
 -- the number of the first pattern that matches the name, or how many patterns there are
 abbrev pub rank : List (List Sign) → List ℕ → ℕ
@@ -31,6 +34,11 @@ class_places takes at [] = []
 class_places takes at (pair ∷ pairs) =
     if takes pair.0 then at ∷ class_places takes (at + 1) pairs
     else class_places takes (at + 1) pairs
+
+-- a name is dropped by one of the ways
+abbrev pub is_dropped : Dropping → List ℕ → Bool
+is_dropped (dropping.Matched patterns) name = matches_any patterns.now name
+is_dropped dropping.SystemModules name = is_system_modules name
 
 -- which names one of the ways takes
 abbrev pub taken_by : Remaking → List ℕ → Bool

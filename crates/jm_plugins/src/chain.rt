@@ -3,9 +3,10 @@ ghost use Rattle.jm_bytes.specs.Results.{IfAnswered};
 ghost use Rattle.jm_plugins.specs.Plugins.{Applies, Makes};
 
 use crate::classes::{Remaking, remake_classes};
-use crate::exclusion::exclude;
+use crate::exclusion::{Dropping, drop_named};
 use crate::order::order;
 use crate::packages::list_packages;
+use crate::system_modules::drop_system_modules;
 use crate::workers::Workers;
 use jm_bytes::{Or, Text};
 use jm_class::{ClassFault, DEFAULT_RELEASE};
@@ -35,11 +36,14 @@ fn act<T: Threads + Sync, G: Gate + Sync>(
     ensures { IfAnswered (Makes release plugin.now pool) result }
 {
     match plugin {
-        Plugin::Exclude(patterns) => Ok(exclude(workers, pool, patterns.as_slice())?),
+        Plugin::Exclude(patterns) => {
+            Ok(drop_named(workers, pool, Dropping::Matched(patterns.as_slice()))?)
+        }
         Plugin::Order(patterns) => Ok(order(workers, pool, patterns.as_slice())?),
         Plugin::Strip => remake_classes(workers, release, pool, Remaking::Strip),
         Plugin::Compact => remake_classes(workers, release, pool, Remaking::Compact),
         Plugin::Packages => list_packages(workers, release, pool),
+        Plugin::DropSystemModules => Ok(drop_system_modules(workers, pool)?),
     }
 }
 

@@ -1,8 +1,8 @@
-ghost use Rattle.std.specs.Prelude.{◌≡◌, ◌<◌, Some, not, length, slice_get, IfOk};
-ghost use Rattle.jm_pattern.specs.ComputedMatching.{matches_any};
-ghost use Rattle.jm_plugins.specs.Matching.{excluded};
+ghost use Rattle.std.specs.Prelude.{◌≡◌, ◌<◌, Some, filter, not, length, slice_get, IfOk};
+ghost use Rattle.jm_plugins.specs.Steps.{is_dropped};
 
 use crate::places::places_below;
+use crate::system_modules::is_system_modules;
 use crate::workers::Workers;
 use jm_bytes::NoMemory;
 use jm_halves::{Gate, map_halves};
@@ -11,24 +11,44 @@ use jm_pool::Pool;
 use std::alloc::Global;
 use std::thread::Threads;
 
-/// Whether no pattern matches the name at a place.
-fn stays(pool: &Pool, patterns: &[Pattern], place: usize) -> bool
-    requires { place < length pool.now }
-    ensures { (pair : _) → slice_get pool.now place ≡ Some pair
-        → result ≡ not (matches_any patterns.now pair.0) }
-{
-    let (name, _) = pool.at(place);
-    !matches_any(patterns, name)
+/// Which names are dropped.
+#[derive(Clone, Copy)]
+pub enum Dropping<'a> {
+    /// Those that one of the patterns matches.
+    Matched(&'a [Pattern]),
+    /// Those of the classes that name all modules of an image.
+    SystemModules,
 }
 
-/// Drops the pairs whose name one of the patterns matches.
-pub fn exclude<T: Threads + Sync, G: Gate + Sync>(
+/// Whether a name is dropped.
+fn is_dropped(way: Dropping, name: &[u8]) -> bool
+    ensures { result ≡ is_dropped way.entry name.now }
+{
+    match way {
+        Dropping::Matched(patterns) => matches_any(patterns, name),
+        Dropping::SystemModules => is_system_modules(name),
+    }
+}
+
+/// Whether the pair at a place stays.
+fn stays(pool: &Pool, way: Dropping, place: usize) -> bool
+    requires { place < length pool.now }
+    ensures { (pair : _) → slice_get pool.now place ≡ Some pair
+        → result ≡ not (is_dropped way.entry pair.0) }
+{
+    let (name, _) = pool.at(place);
+    !is_dropped(way, name)
+}
+
+/// Drops the pairs whose name is dropped.
+pub fn drop_named<T: Threads + Sync, G: Gate + Sync>(
     workers: &Workers<T, G>,
     pool: Pool,
-    patterns: &[Pattern],
+    way: Dropping,
 ) -> Result<Pool, NoMemory>
     requires { 0 < workers.now.jobs }
-    ensures { IfOk result (λ left. left ≡ excluded patterns.now pool) }
+    ensures { IfOk result
+        (λ left. left ≡ filter (λ pair. not (is_dropped way.entry pair.0)) pool) }
 {
     let Workers {
         rt,
@@ -37,7 +57,7 @@ pub fn exclude<T: Threads + Sync, G: Gate + Sync>(
         gate,
     } = *workers;
     let places = places_below(alloc, pool.len())?;
-    let look = |place: &usize| stays(&pool, patterns, *place);
+    let look = |place: &usize| stays(&pool, way, *place);
     let keep = map_halves(rt, alloc, jobs, places.as_slice(), &look, gate)?;
     let mut pool = pool;
     pool.retain_flags(keep.as_slice());

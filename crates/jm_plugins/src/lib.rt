@@ -7,6 +7,7 @@ mod exclusion;
 mod order;
 mod packages;
 mod places;
+mod system_modules;
 mod workers;
 
 pub use chain::{BadClass, apply, apply_for};

@@ -84,6 +84,22 @@ link_with_packages : command_in (codes "link" ∷ codes "--from-image=i" ∷ cod
     })
 link_with_packages = refl
 
+link_of_all_modules : command_in (codes "link" ∷ codes "--from-image=i" ∷ codes "--drop-system-modules" ∷ codes "--output" ∷ codes "o"
+    ∷ codes "--drop-system-modules" ∷ codes "--add-modules=ALL-MODULE-PATH,a" ∷ [])
+    ≡ Ok (record {
+      jobs = 1;
+      task = task.Link (record {
+        source = source.Image (codes "i");
+        roots = codes "ALL-MODULE-PATH" ∷ codes "a" ∷ [];
+        output = codes "o";
+        plugins = plugin.DropSystemModules ∷ plugin.DropSystemModules ∷ [];
+        order = Little;
+        bind = false;
+        release = 21;
+      });
+    })
+link_of_all_modules = refl
+
 option_again_without_value : command_in (codes "cat" ∷ codes "--jobs=2" ∷ codes "--jobs" ∷ []) ≡ fault_at 3 kind.Repeated
 option_again_without_value = refl
 

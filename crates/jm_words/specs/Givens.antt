@@ -49,6 +49,7 @@ plugin_of field.Rank (value.Patterns names) = Some (plugin.Order names)
 plugin_of field.Strip value.Flag = Some plugin.Strip
 plugin_of field.Compact value.Flag = Some plugin.Compact
 plugin_of field.Packages value.Flag = Some plugin.Packages
+plugin_of field.DropSystemModules value.Flag = Some plugin.DropSystemModules
 plugin_of _ _ = None
 
 -- the plug-in that is given, if it is one

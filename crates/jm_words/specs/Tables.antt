@@ -95,7 +95,8 @@ options verb.Link =
     jobs
     ∷ row (codes "--module-path") form.Folders field.Source
     ∷ row (codes "--from-image") form.Path field.Source
-    ∷ row (codes "--add-modules") form.Names field.Roots
+    ∷ option_row (codes "--add-modules") form.Names field.Roots
+    (codes "the modules that link takes; ALL-MODULE-PATH among them stands for all modules")
     ∷ row (codes "--output") form.Path field.Output
     ∷ option_row (codes "--endian") form.Order field.Order
     (codes "the order of bytes of the image of link: little, or big")
@@ -112,6 +113,8 @@ options verb.Link =
     (codes "drops the constants of a class that nothing names")
     ∷ plugin_row (codes "--module-packages") form.Flag field.Packages
     (codes "names the packages of each module in its descriptor")
+    ∷ plugin_row (codes "--drop-system-modules") form.Flag field.DropSystemModules
+    (codes "drops the classes of java.base that name all modules of another image")
     ∷ []
 options verb.List = jobs ∷ include ∷ []
 options verb.Extract =

@@ -108,6 +108,7 @@ pub fn plugin_or_given(given: Given) -> Result<Plugin, Given>
         (Field::Strip, Value::Flag) => Ok(Plugin::Strip),
         (Field::Compact, Value::Flag) => Ok(Plugin::Compact),
         (Field::Packages, Value::Flag) => Ok(Plugin::Packages),
+        (Field::DropSystemModules, Value::Flag) => Ok(Plugin::DropSystemModules),
         (field, value) => Err(Given { field, value }),
     }
 }

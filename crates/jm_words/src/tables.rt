@@ -42,6 +42,7 @@ pub enum Field {
     Strip,
     Compact,
     Packages,
+    DropSystemModules,
 }
 
 /// What the text of an argument, or of an option's value, must be.
@@ -192,7 +193,13 @@ pub fn options(verb: Verb) -> &'static [Row]
                 b"",
             ),
             Row(b"--from-image", Form::Path, Field::Source, Part::None, b""),
-            Row(b"--add-modules", Form::Names, Field::Roots, Part::None, b""),
+            Row(
+                b"--add-modules",
+                Form::Names,
+                Field::Roots,
+                Part::Options,
+                b"the modules that link takes; ALL-MODULE-PATH among them stands for all modules",
+            ),
             Row(b"--output", Form::Path, Field::Output, Part::None, b""),
             Row(
                 b"--endian",
@@ -243,6 +250,13 @@ pub fn options(verb: Verb) -> &'static [Row]
                 Field::Packages,
                 Part::Plugins,
                 b"names the packages of each module in its descriptor",
+            ),
+            Row(
+                b"--drop-system-modules",
+                Form::Flag,
+                Field::DropSystemModules,
+                Part::Plugins,
+                b"drops the classes of java.base that name all modules of another image",
             ),
         ],
         Verb::List => &[JOBS, INCLUDE],

@@ -95,6 +95,8 @@ pub enum Plugin {
     Compact,
     /// Each module's descriptor names its packages.
     Packages,
+    /// The classes of java.base that name all modules of an image are left out.
+    DropSystemModules,
 }
 
 /// What is done with an image.
