@@ -12,7 +12,7 @@ use Rattle.jm_bytes.proofs.SameOrder.{from_flat_map}
 use Rattle.jm_form.specs.ModuleFiles.{info_name}
 use Rattle.jm_modinfo.specs.declared.descriptor.Descriptor.{Descriptor}
 use Rattle.jm_modinfo.specs.declared.faults.DescriptorFault.{DescriptorFault}
-use Rattle.jm_outside.specs.Files.{Files, file, names_below}
+use Rattle.jm_outside.specs.Files.{Files, names_below}
 use Rattle.jm_modpath.specs.declared.visible.VisibleModule.{VisibleModule}
 use Rattle.jm_modpath.specs.Modules.{bytes_at, folder_info, folders_in, info_path, inside, module_in, module_of}
 use Rattle.jm_modpath.specs.Modules.{modules_in, visible}
