@@ -224,7 +224,9 @@ PACKAGES = [
     ("a module that requires two", TWO, ["a/b/c", "b"], True),
     ("a module with a main class", changed(ALONE, (79, 79, b"\0\1\0\0\0\2\0\2"), TWO_ATTRIBUTES, MAIN), ["p"], True),
     ("a module with a Long", changed(ALONE, (43, 43, LONG[10:19]), (9, 10, b"\x08")), ["p"], True),
-    ("the flag of a module and no attribute", changed(SMALLEST, (10, 11, b"\x80")), ["p"], True),
+    ("the flag of a module and no attribute", changed(SMALLEST, (6, 8, b"\0\x35"), (10, 11, b"\x80")), ["p"], True),
+    ("the same of major 52", changed(SMALLEST, (10, 11, b"\x80")), ["p"], False),
+    ("a module of major 52", changed(ALONE, (6, 8, b"\0\x34")), ["p"], False),
     ("a list that is there", packaged(ALONE, ["q"]), ["p"], False),
     ("an empty list that is there", packaged(ALONE, []), ["p"], False),
     ("two lists that are there", packaged(packaged(ALONE, ["q"]), ["r"]), [], False),
@@ -254,7 +256,8 @@ OF_A_RELEASE = [
      "constants 0, interfaces 0, fields 0, methods 0, attributes 0"),
     ("strip", WITH_SOURCE, lambda major: with_major(WITHOUT_SOURCE, major).hex().upper()),
     ("describe", ALONE, lambda major: "a" if major >= 53 else f"Info OldVersion {major}"),
-    ("packages=p", ALONE, lambda major: with_major(packaged(ALONE, ["p"]), major).hex().upper()),
+    ("packages=p", ALONE, lambda major: with_major(packaged(ALONE, ["p"]), major).hex().upper()
+     if major >= 53 else "same"),
 ]
 # The major versions around the least one and the greatest ones of releases 21 and 25.
 MAJORS = (44, 45, 65, 66, 69, 70)

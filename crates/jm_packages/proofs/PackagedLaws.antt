@@ -3,7 +3,7 @@
 use Rattle.std.proofs.Common.{◌≡◌, ℕ, zero, suc, ◌+◌, ◌-◌, ◌*◌, ◌<◌, ◌≤◌, inl, inr, Bool, true, false, not}
 use Rattle.std.proofs.Common.{cond, ◌&&◌, ◌||◌, List, [], ◌∷◌, ◌++◌, length, Some, None, Ok, codes, refl, ap}
 use Rattle.std.proofs.Common.{◌∙◌, arith, length-append}
-use Rattle.std.proofs.lemmas.Bool.{and_parts, ltb-true, leb-true, false≢true, ne_eqb}
+use Rattle.std.proofs.lemmas.Bool.{and_parts, ltb-true, leb-true, ne_eqb}
 use Rattle.std.proofs.lemmas.List.{append-nil}
 use Rattle.std.proofs.lemmas.List.Elements.{All-append, All-cons, All-head, All-nil, All-tail, All-weaker, filter_map-append}
 use Rattle.std.proofs.lemmas.List.Folds.{list_any-append}
@@ -32,7 +32,7 @@ pub record Room (packages : List (List ℕ)) (c : ClassData) : Type 0 where
 
 pub room : (packages : List (List ℕ)) (c : ClassData) → takes_packages packages c ≡ true → Room packages c
 room packages c takes =
-    let parts = and_parts (is_module c.access && not (has_packages c)) (has_room packages c) takes in
+    let parts = and_parts (not (takes_none c)) (has_room packages c) takes in
     let fits = and_parts (nat_le (length c.pool + 1 + 2 * length packages) 65534 && nat_lt (length c.attributes) 65535)
     (list_all (λ p. nat_le (length p) 65535) packages) parts.1 in
     let rest = and_parts (nat_le (length c.pool + 1 + 2 * length packages) 65534) (nat_lt (length c.attributes) 65535) fits.0 in
@@ -133,8 +133,8 @@ packaged-major packages c = packaged_cases (λ k. k.major ≡ c.major) packages 
 
 -- Once
 
-pub listed : (packages : List (List ℕ)) (c : ClassData) → has_packages (with_packages packages c) ≡ true
-listed packages c =
+pub has_listed : (packages : List (List ℕ)) (c : ClassData) → has_packages (with_packages packages c) ≡ true
+has_listed packages c =
     let all = c.pool ++ added_slots (length c.pool + 1) packages in
     let own = packages_attribute (length c.pool + 1) packages in
     let test = λ (a : AttributeData). is_named attribute_name (utf8_at all a.name) in
@@ -146,33 +146,28 @@ listed packages c =
     or_true true = refl
     or_true false = refl
 
--- a class that has a list takes no other one
-pub listed_stays : (packages : List (List ℕ)) (c : ClassData) → has_packages c ≡ true → packaged packages c ≡ c
-listed_stays packages c has = ap (λ b. cond b (with_packages packages c) c) (none (is_module c.access) (has_packages c)
-    (has_room packages c) has)
-  where
-    none : (flagged named fits : Bool) → named ≡ true → ((flagged && not named) && fits) ≡ false
-    none true true fits there = refl
-    none false true fits there = refl
-    none true false fits there = absurd (false≢true there)
-    none false false fits there = absurd (false≢true there)
-
--- one that is no module's takes none either
+-- a class that takes no list stays
 pub none_stays : (packages : List (List ℕ)) (c : ClassData) → takes_none c ≡ true → packaged packages c ≡ c
-none_stays packages c none = ap (λ b. cond b (with_packages packages c) c) (go (is_module c.access) (has_packages c)
-    (has_room packages c) none)
+none_stays packages c none = ap (λ b. cond (not b && has_room packages c) (with_packages packages c) c) none
+
+-- one that has a list takes no other one
+listed_none : (c : ClassData) → has_packages c ≡ true → takes_none c ≡ true
+listed_none c has = go (is_module c.access) (nat_lt c.major 53) (has_packages c) has
   where
-    go : (flagged named fits : Bool) → (not flagged || named) ≡ true → ((flagged && not named) && fits) ≡ false
-    go true true fits none = refl
-    go false named fits none = refl
-    go true false fits none = absurd (false≢true none)
+    go : (flagged low named : Bool) → named ≡ true → (not flagged || low || named) ≡ true
+    go false low named there = refl
+    go true true named there = refl
+    go true false named there = there
 
 -- a second time nothing changes
-pub packaged_once : (packages : List (List ℕ)) (c : ClassData) → packaged packages (packaged packages c) ≡ packaged packages c
-packaged_once packages c =
-    packaged_cases (λ k. packaged packages k ≡ k) packages c
-    (λ takes. listed_stays packages (with_packages packages c) (listed packages c))
-    (λ stays. ap (λ b. cond b (with_packages packages c) c) stays)
+pub packaged_again : (packages_of : ClassData → List (List ℕ)) (c : ClassData)
+    → packaged (packages_of (packaged (packages_of c) c)) (packaged (packages_of c) c) ≡ packaged (packages_of c) c
+packaged_again packages_of c =
+    let packages = packages_of c in
+    let more = with_packages packages c in
+    packaged_cases (λ k. packaged (packages_of k) k ≡ k) packages c
+    (λ takes. none_stays (packages_of more) more (listed_none more (has_listed packages c)))
+    (λ stays. ap (λ b. cond b more c) stays)
 
 -- The same descriptor
 

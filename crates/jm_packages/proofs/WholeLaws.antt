@@ -10,55 +10,61 @@ use Rattle.jm_class.proofs.ComputedClassLaws.{reads_once}
 use Rattle.jm_class.proofs.ReleaseLaws.{reads-class_for}
 use Rattle.jm_modinfo.specs.declared.descriptor.Descriptor.{Descriptor}
 use Rattle.jm_modinfo.specs.ComputedInfo.{info_of}
-use Rattle.jm_packages.specs.Packages.{packaged, packages_text, takes_none, PackagesFor, Stays}
-use Rattle.jm_packages.proofs.PackagedLaws.{none_stays, packaged-class, packaged-info, packaged-major, packaged_once}
+use Rattle.jm_packages.specs.Packages.{packaged, packages_text, takes_none, ListsFor, Stays}
+use Rattle.jm_packages.proofs.PackagedLaws.{none_stays, packaged-class, packaged-info, packaged-major, packaged_again}
 
-module _ (release : ℕ) (packages : List (List ℕ)) (bytes text : List ℕ) (class : ClassData) (of_release : ReadsFor release bytes class)
-    (is : text ≡ packages_text packages class) where
+module _ (release : ℕ) (packages_of : ClassData → List (List ℕ)) (bytes text : List ℕ) (class : ClassData)
+    (of_release : ReadsFor release bytes class) (is : text ≡ packages_text (packages_of class) class) where
   abbrev reads : ReadsAs bytes class
   reads = of_release.reads
 
-  packages_only : (c : ClassData) → ReadsAs bytes c → text ≡ packages_text packages c
-  packages_only c other = is ∙ ap (packages_text packages) (reads_once bytes class c reads other)
+  abbrev made_of : ClassData → ClassData
+  made_of c = packaged (packages_of c) c
 
-  packages_read : (c : ClassData) → ReadsAs bytes c → ReadsAs text (packaged packages c)
-  packages_read c other = record { well_formed = packaged-class packages c other.well_formed; text = sym (packages_only c other) }
+  packages_only : (c : ClassData) → ReadsAs bytes c → text ≡ packages_text (packages_of c) c
+  packages_only c other = is ∙ ap (λ k. class_text (made_of k)) (reads_once bytes class c reads other)
 
-  made_is : (c made : ClassData) → ReadsAs bytes c → ReadsAs text made → packaged packages c ≡ made
-  made_is c made other back = reads_once text (packaged packages c) made (packages_read c other) back
+  packages_read : (c : ClassData) → ReadsAs bytes c → ReadsAs text (made_of c)
+  packages_read c other = record {
+    well_formed = packaged-class (packages_of c) c other.well_formed;
+    text = sym (packages_only c other);
+  }
 
-  packages_major : (c : ClassData) → ReadsAs bytes c → (packaged packages c).major ≤ newest_major release
+  made_is : (c made : ClassData) → ReadsAs bytes c → ReadsAs text made → made_of c ≡ made
+  made_is c made other back = reads_once text (made_of c) made (packages_read c other) back
+
+  packages_major : (c : ClassData) → ReadsAs bytes c → (made_of c).major ≤ newest_major release
   packages_major c other =
-      let major = packaged-major packages c ∙ ap (λ (d : ClassData). d.major) (reads_once bytes c class other reads) in
+      let major = packaged-major (packages_of c) c ∙ ap (λ (d : ClassData). d.major) (reads_once bytes c class other reads) in
       omega (arith, major, of_release.major)
 
   packages_say : (c made : ClassData) (d : Descriptor) → ReadsAs bytes c → ReadsAs text made → info_of c ≡ Ok d → info_of made ≡ Ok d
-  packages_say c made d other back says = subst (λ k. info_of k ≡ Ok d) (made_is c made other back) (packaged-info packages c d
-      other.well_formed says)
+  packages_say c made d other back says =
+      subst (λ k. info_of k ≡ Ok d) (made_is c made other back) (packaged-info (packages_of c) c d other.well_formed says)
 
-  packages_again : (made : ClassData) → ReadsAs text made → packages_text packages made ≡ text
-  packages_again made back =
-      ap (packages_text packages) (sym (made_is class made reads back))
-      ∙ ap class_text (packaged_once packages class) ∙ sym is
+  listed_again : (made : ClassData) → ReadsAs text made → packages_text (packages_of made) made ≡ text
+  listed_again made back =
+      ap (λ k. class_text (made_of k)) (sym (made_is class made reads back))
+      ∙ ap class_text (packaged_again packages_of class) ∙ sym is
 
-  pub packages_for : PackagesFor release packages bytes (Ok text)
-  packages_for = record {
+  pub lists_for : ListsFor release packages_of bytes (Ok text)
+  lists_for = record {
     text = record { class = class; reads = of_release; is = is };
     only = packages_only;
     reads = λ c other. record { reads = packages_read c other; major = packages_major c other };
     info = packages_say;
-    again = packages_again;
+    again = listed_again;
     no_fault = ap fault_of (reads-class_for release bytes class of_release);
     fault = λ fault e. cc;
   }
 
 -- Bytes that are no class, or where memory is wanted
 
-pub packages_not : (release : ℕ) (packages : List (List ℕ)) (bytes : List ℕ) (error : Or ClassFault)
+pub lists_not : (release : ℕ) (packages_of : ClassData → List (List ℕ)) (bytes : List ℕ) (error : Or ClassFault)
     (result : Result (List ℕ) (Or ClassFault)) → IsReadFor release bytes (Err error) → IsErrAnd result (λ is. is ≡ error)
-    → PackagesFor release packages bytes result
-packages_not release packages bytes error (Ok text) read is = absurd is
-packages_not release packages bytes error (Err found) read is = record {
+    → ListsFor release packages_of bytes result
+lists_not release packages_of bytes error (Ok text) read is = absurd is
+lists_not release packages_of bytes error (Err found) read is = record {
   text = tt;
   only = tt;
   reads = tt;

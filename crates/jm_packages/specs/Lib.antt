@@ -1,1 +1,2 @@
+pub mod PackageNames
 pub mod Packages

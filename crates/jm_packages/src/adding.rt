@@ -3,9 +3,10 @@ ghost use Rattle.jm_class.specs.Classes.{ReadsAs, IsClass};
 ghost use Rattle.jm_class.specs.Views.{plain};
 ghost use Rattle.jm_modinfo.specs.Written.{numbers_text};
 ghost use Rattle.jm_packages.specs.Packages.{packages_body, with_packages, takes_packages};
-ghost use Rattle.jm_packages.specs.Packages.{packages_text, PackagesFor, Stays};
+ghost use Rattle.jm_packages.specs.Packages.{listed, packages_text, ListsFor, PackagesFor, Stays};
 
 use crate::constants::{packages_body, push_packages, put_numbers};
+use crate::listed::listed;
 use crate::room::{takes_none, takes_packages};
 use jm_bytes::{NoMemory, Or, Text};
 use jm_class::{Attribute, Body, Class, ClassFault, DEFAULT_RELEASE, Slot, read_for};
@@ -66,8 +67,9 @@ fn text_of(alloc: Global, bytes: &[u8], class: Class, packages: &[Text]) -> Resu
 }
 
 /// The class of a module, of a release, with the attribute ModulePackages, which lists these
-/// packages, as the last of its own (JVMS 4.7.26). A class that is no module's, that has such an
-/// attribute, or that has no room for it, stays as it is. A fault is the one that `read_for` finds.
+/// packages, as the last of its own (JVMS 4.7.26). A class that is no module's, that is of a major
+/// version below 53, that has such an attribute, or that has no room for it, stays as it is. A fault
+/// is the one that `read_for` finds.
 pub fn add_packages_for(
     alloc: Global,
     release: u32,
@@ -88,8 +90,37 @@ pub fn add_packages(alloc: Global, bytes: &[u8], packages: &[Text]) -> Result<Te
     add_packages_for(alloc, DEFAULT_RELEASE, bytes, packages)
 }
 
+/// The text of a class with the list of these packages and those that it names, or as it is.
+fn listing_of(alloc: Global, bytes: &[u8], class: Class, folders: &[Text]) -> Result<Text, NoMemory>
+    requires { ReadsAs bytes.now (plain class) }
+    ensures { IfOk result
+        (λ text. text ≡ packages_text (listed folders.now (plain class.entry)) (plain class.entry)) }
+{
+    if takes_none(&class) {
+        return Text::copy_of(alloc, bytes);
+    }
+    let packages = listed(alloc, folders, &class)?;
+    text_of(alloc, bytes, class, packages.as_slice())
+}
+
+/// The class of a module, of a release, with the packages in which its module has files and those
+/// that it names itself: those that it exports or opens, those of the classes that it provides with,
+/// and that of its main class. Each stands once, rising, as `add_packages_for` puts them.
+pub fn list_packages_for(
+    alloc: Global,
+    release: u32,
+    bytes: &[u8],
+    folders: &[Text],
+) -> Result<Text, Or<ClassFault>>
+    ensures { ListsFor release (listed folders.now) bytes.now result }
+{
+    let class = read_for(alloc, release, bytes)?;
+    let text = listing_of(alloc, bytes, class, folders)?;
+    Ok(text)
+}
+
 /// Whether some bytes are a class of a release that stays as it is, whatever the packages are: one
-/// that is no module's or has a list.
+/// that is no module's, that is of a major version below 53 or that has a list.
 pub fn stays(alloc: Global, release: u32, bytes: &[u8]) -> Result<bool, NoMemory>
     ensures { IfOk result (λ stays. (stays ≡ true) ↔ Stays release bytes.now) }
 {

@@ -3,6 +3,9 @@
 
 mod adding;
 mod constants;
+mod listed;
+mod names;
 mod room;
 
-pub use adding::{add_packages, add_packages_for, stays};
+pub use adding::{add_packages, add_packages_for, list_packages_for, stays};
+pub use names::is_package_name;

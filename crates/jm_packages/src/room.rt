@@ -42,7 +42,7 @@ fn has_packages(class: &Class) -> bool
 pub fn takes_none(class: &Class) -> bool
     ensures { result ≡ takes_none (plain class.now) }
 {
-    class.access & 0x8000 == 0 || has_packages(class)
+    class.access & 0x8000 == 0 || class.major < 53 || has_packages(class)
 }
 
 /// Whether each text fits in a Utf8.
@@ -68,5 +68,5 @@ pub fn takes_packages(class: &Class, packages: &[Text]) -> bool
     requires { IsClass (plain class.now) }
     ensures { result ≡ takes_packages packages.now (plain class.now) }
 {
-    class.access & 0x8000 != 0 && !has_packages(class) && has_room(class, packages)
+    !takes_none(class) && has_room(class, packages)
 }

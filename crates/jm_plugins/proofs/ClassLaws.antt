@@ -14,7 +14,7 @@ use Rattle.jm_class.specs.Releases.{class_for, fault_for}
 use Rattle.jm_class.specs.declared.class.ClassFault.{ClassFault}
 use Rattle.jm_class.proofs.ReleaseLaws.{reads-class_for}
 use Rattle.jm_compact.specs.Compact.{compact_for, compact_text, with_text}
-use Rattle.jm_packages.specs.Packages.{packages_text, PackagesFor}
+use Rattle.jm_packages.specs.Packages.{packages_text, ListsFor}
 use Rattle.jm_pool.specs.Pairs.{names_of, with_bytes_at}
 use Rattle.jm_strip.specs.Strip.{StripsFor}
 use Rattle.jm_plugins.specs.declared.chain.BadClass.{BadClass}
@@ -120,12 +120,12 @@ module _ (release : ℕ) (bytes : List ℕ) where
   strips_as (Err (Fault fault)) given = fault_computed release bytes fault (given.fault fault refl)
   strips_as (Err Memory) given = tt
 
-  pub packages_as : (packages : List (List ℕ)) (result : Result (List ℕ) (Or ClassFault)) → PackagesFor release packages bytes result
-      → RemadeAs release (packages_text packages) bytes result
-  packages_as packages (Ok text) given =
+  pub packages_as : (packages_of : ClassData → List (List ℕ)) (result : Result (List ℕ) (Or ClassFault))
+      → ListsFor release packages_of bytes result → RemadeAs release (λ c. packages_text (packages_of c) c) bytes result
+  packages_as packages_of (Ok text) given =
       (given.text.class, reads-class_for release bytes given.text.class given.text.reads, given.text.is)
-  packages_as packages (Err (Fault fault)) given = fault_computed release bytes fault (given.fault fault refl)
-  packages_as packages (Err Memory) given = tt
+  packages_as packages_of (Err (Fault fault)) given = fault_computed release bytes fault (given.fault fault refl)
+  packages_as packages_of (Err Memory) given = tt
 
   pub compacts_as : (result : Result (List ℕ) (Or ClassFault)) → IfAnswered (λ r. compact_for release bytes ≡ r) result
       → RemadeAs release compact_text bytes result

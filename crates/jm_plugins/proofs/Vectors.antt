@@ -81,22 +81,30 @@ uncompacted_class : apply 21 (plugin.Order (named_b ∷ []) ∷ plugin.Compact �
     ≡ Err (bad_class (codes "/a/B.class") (Short 0))
 uncompacted_class = refl
 
--- a module's class with no constant, and the same with one package; the attribute's name is constant 1
-abbrev descriptor : List ℕ
-descriptor = 202 ∷ 254 ∷ 186 ∷ 190 ∷ 0 ∷ 0 ∷ 0 ∷ 53 ∷ 0 ∷ 1 ∷ 128 ∷ 0 ∷ 0 ∷ 0 ∷ 0 ∷ 0 ∷ 0 ∷ 0 ∷ 0 ∷ 0 ∷ 0 ∷ 0 ∷ 0 ∷ 0 ∷ []
+-- a module's class of a major version with no constant, and the same with two packages; the attribute's name is constant 1
+abbrev descriptor : ℕ → List ℕ
+descriptor major = 202 ∷ 254 ∷ 186 ∷ 190 ∷ 0 ∷ 0 ∷ 0 ∷ major ∷ 0 ∷ 1 ∷ 128 ∷ 0 ∷ 0 ∷ 0 ∷ 0 ∷ 0 ∷ 0 ∷ 0 ∷ 0 ∷ 0 ∷ 0 ∷ 0 ∷ 0 ∷ 0 ∷ []
 
 abbrev listing : List ℕ
 listing =
-    202 ∷ 254 ∷ 186 ∷ 190 ∷ 0 ∷ 0 ∷ 0 ∷ 53 ∷ 0 ∷ 4 ∷ 1 ∷ 0 ∷ 14 ∷ codes "ModulePackages"
-    ++ (1 ∷ 0 ∷ 3 ∷ codes "p/q" ++ (20 ∷ 0 ∷ 2 ∷ 128 ∷ 0 ∷ 0 ∷ 0 ∷ 0 ∷ 0 ∷ 0 ∷ 0 ∷ 0 ∷ 0 ∷ 0 ∷ 0 ∷ 0 ∷ 1 ∷ 0 ∷ 1 ∷ 0 ∷ 0 ∷ 0 ∷ 4 ∷ 0
-    ∷ 1 ∷ 0 ∷ 3 ∷ []))
+    202 ∷ 254 ∷ 186 ∷ 190 ∷ 0 ∷ 0 ∷ 0 ∷ 53 ∷ 0 ∷ 6 ∷ 1 ∷ 0 ∷ 14 ∷ codes "ModulePackages"
+    ++ (1 ∷ 0 ∷ 3 ∷ codes "p/q" ++ (20 ∷ 0 ∷ 2 ∷ 1 ∷ 0 ∷ 1 ∷ codes "s" ++ (20 ∷ 0 ∷ 4 ∷ 128 ∷ 0 ∷ 0 ∷ 0 ∷ 0 ∷ 0 ∷ 0 ∷ 0 ∷ 0 ∷ 0 ∷ 0
+    ∷ 0 ∷ 0 ∷ 1 ∷ 0 ∷ 1 ∷ 0 ∷ 0 ∷ 0 ∷ 6 ∷ 0 ∷ 2 ∷ 0 ∷ 3 ∷ 0 ∷ 5 ∷ [])))
 
--- of the module's own classes and of no other files
-listed_in_pool : apply 21 (plugin.Packages ∷ []) ((codes "/b/r/C.class", []) ∷ (codes "/a/module-info.class", descriptor)
-    ∷ (codes "/a/p.q/C.class", []) ∷ (codes "/a/p/q/D.class", []) ∷ (codes "/a/s/x", []) ∷ [])
-    ≡ Ok ((codes "/b/r/C.class", []) ∷ (codes "/a/module-info.class", listing) ∷ (codes "/a/p.q/C.class", [])
-    ∷ (codes "/a/p/q/D.class", []) ∷ (codes "/a/s/x", []) ∷ [])
+-- folders of the module's own files, where they are packages
+abbrev files_of_a : List (List ℕ × List ℕ)
+files_of_a =
+    (codes "/a/p.q/C.class", []) ∷ (codes "/a/p/q/D.class", []) ∷ (codes "/a/s/x", []) ∷ (codes "/a/META-INF/s/x", [])
+    ∷ (codes "/a/int/x", []) ∷ (codes "/a/x", []) ∷ (codes "xa/t/x", []) ∷ []
+
+listed_in_pool : apply 21 (plugin.Packages ∷ []) ((codes "/b/r/C.class", []) ∷ (codes "/a/module-info.class", descriptor 53)
+    ∷ files_of_a) ≡ Ok ((codes "/b/r/C.class", []) ∷ (codes "/a/module-info.class", listing) ∷ files_of_a)
 listed_in_pool = refl
+
+-- a class of major 52 stays
+old_in_pool : apply 21 (plugin.Packages ∷ []) ((codes "/a/module-info.class", descriptor 52) ∷ files_of_a)
+    ≡ Ok ((codes "/a/module-info.class", descriptor 52) ∷ files_of_a)
+old_in_pool = refl
 
 unlisted_descriptor : apply 21 (plugin.Packages ∷ []) ((codes "/a/x.class", []) ∷ (codes "/b/module-info.class", codes "no") ∷ [])
     ≡ Err (bad_class (codes "/b/module-info.class") (Short 0))

@@ -51,7 +51,7 @@ abbrev pub text_of : Remaking → List ℕ → ClassData → List ℕ
 text_of remaking.Strip name class = stripped_text class
 text_of remaking.Compact name class = compact_text class
 text_of (remaking.Packages keys) name class =
-    packages_text (packages_by keys.now (module_of name)) class
+    packages_text (packages_by keys.now (module_of name) class) class
 
 -- the other text of the class of a release that some bytes are, or their fault
 abbrev pub RemadeAs : ℕ → (ClassData → List ℕ) → List ℕ → Result (List ℕ) (Or ClassFault) → Type 0
@@ -107,5 +107,5 @@ put_remade (one ∷ later) pairs = put_one one.place one.outcome (put_remade lat
 abbrev pub Serves : ℕ → List (List ℕ × List ℕ) → List (List ℕ) → Type 0
 Serves release pairs keys =
     All (λ pair. is_descriptor pair.0 ≡ true → (c : ClassData) → class_for release pair.1 ≡ Ok c
-    → packages_text (packages_by keys (module_of pair.0)) c
+    → packages_text (packages_by keys (module_of pair.0) c) c
     ≡ listing_text (names_of pairs) pair.0 c) pairs

@@ -9,13 +9,13 @@ ghost use Rattle.jm_plugins.specs.Steps.{class_places, put_remade, taken_by, tex
 ghost use Rattle.jm_plugins.specs.Steps.{ReadsByRule, Refuses, RemadeAs, TakenRead};
 
 use crate::chain::BadClass;
-use crate::packages::{Keys, is_descriptor, module_of, packages_by};
+use crate::packages::{Keys, folders_by, is_descriptor, module_of};
 use crate::workers::Workers;
 use jm_bytes::{List, NoMemory, Or, Text};
 use jm_class::ClassFault;
 use jm_compact::compact_for;
 use jm_halves::{Gate, map_halves};
-use jm_packages::add_packages_for;
+use jm_packages::list_packages_for;
 use jm_pool::Pool;
 use jm_strip::strip_for;
 use std::alloc::Global;
@@ -28,7 +28,7 @@ pub enum Remaking<'a> {
     Strip,
     /// Without the constants that nothing names.
     Compact,
-    /// Those of modules with their packages, by the keys of all classes.
+    /// Those of modules with their packages, by the keys of all folders.
     Packages(&'a Keys),
 }
 
@@ -63,7 +63,7 @@ fn class_places(alloc: Global, pool: &Pool, way: Remaking) -> Result<List<usize>
     Ok(places)
 }
 
-/// The class of a module with its packages, by the keys of all classes.
+/// The class of a module with its packages, by the keys of all folders.
 fn with_packages(
     alloc: Global,
     release: u32,
@@ -71,11 +71,11 @@ fn with_packages(
     bytes: &[u8],
     keys: &Keys,
 ) -> Result<Text, Or<ClassFault>>
-    ensures { RemadeAs release (packages_text (packages_by keys.now (module_of name.now)))
-        bytes.now result }
+    ensures { RemadeAs release
+        (λ c. packages_text (packages_by keys.now (module_of name.now) c) c) bytes.now result }
 {
-    let packages = packages_by(alloc, keys, module_of(name))?;
-    add_packages_for(alloc, release, bytes, packages.as_slice())
+    let folders = folders_by(alloc, keys, module_of(name))?;
+    list_packages_for(alloc, release, bytes, folders.as_slice())
 }
 
 /// The other text of the class of a release that the bytes of a name are.

@@ -1,15 +1,16 @@
 //! The packages of modules, from the names of a pool.
 ghost use Rattle.std.specs.Prelude.{◌≡◌, ◌<◌, ◌∷◌, ◌++◌, [], true, All, IfOk};
-ghost use Rattle.std.specs.Prelude.{OnOk, map};
+ghost use Rattle.std.specs.Prelude.{filter, option_map, OnOk};
 ghost use Rattle.std.specs.List.{filter_map};
 ghost use Rattle.jm_bytes.specs.Results.{IfAnswered};
 ghost use Rattle.jm_form.specs.Trees.{module_of};
 ghost use Rattle.jm_names.specs.Names.{dotted};
 ghost use Rattle.jm_outside.specs.Files.{after_front};
+ghost use Rattle.jm_packages.specs.PackageNames.{is_package_name};
 ghost use Rattle.jm_packages.specs.Packages.{Stays};
 ghost use Rattle.jm_pool.specs.Pairs.{names_of};
-ghost use Rattle.jm_plugins.specs.Packaging.{class_keys, is_descriptor};
-ghost use Rattle.jm_plugins.specs.Packaging.{listing_text, packages_by, slashed};
+ghost use Rattle.jm_plugins.specs.Packaging.{folder_keys, folder_of, folders_by, is_descriptor};
+ghost use Rattle.jm_plugins.specs.Packaging.{listing_text};
 ghost use Rattle.jm_plugins.specs.ComputedPlugins.{remade_pairs};
 ghost use Rattle.jm_plugins.specs.Steps.{TakenRead};
 
@@ -17,11 +18,11 @@ use crate::chain::BadClass;
 use crate::classes::{Remaking, remake_classes};
 use crate::workers::Workers;
 use jm_bytes::{List, NoMemory, Or, Text, copy_of, extend};
-use jm_form::{class_folder, path_of, rising};
+use jm_form::{path_of, rising};
 use jm_halves::Gate;
 use jm_modpath::names_of_folder;
-use jm_names::{cut_at_first, dotted};
-use jm_packages::stays;
+use jm_names::{cut_at_first, cut_at_last, dotted};
+use jm_packages::{is_package_name, stays};
 use jm_pool::Pool;
 use std::alloc::Global;
 use std::marker::Model;
@@ -47,7 +48,18 @@ pub fn is_descriptor(name: &[u8]) -> bool
     name.starts_with(b"/") && path_of(name) == b"module-info.class".as_slice()
 }
 
-/// The key of a class in a package: its module, a slash and its package.
+/// The folder of a resource within its module, if it has one.
+fn folder_of(name: &[u8]) -> Option<&[u8]>
+    ensures { option_map (λ folder. folder.now) result ≡ folder_of name.now }
+{
+    if !name.starts_with(b"/") {
+        return None;
+    }
+    let (folder, _) = cut_at_last(b'/', path_of(name))?;
+    Some(folder)
+}
+
+/// The key of a folder: its module, a slash and the folder with dots.
 fn key(alloc: Global, module: &[u8], folder: &[u8]) -> Result<Vec<u8>, NoMemory>
     ensures { IfOk result (λ key. key.items ≡ «module».now ++ 47 ∷ dotted folder.now) }
 {
@@ -58,7 +70,7 @@ fn key(alloc: Global, module: &[u8], folder: &[u8]) -> Result<Vec<u8>, NoMemory>
     Ok(key)
 }
 
-/// Keys of classes, which rise.
+/// Keys of folders, which rise.
 #[derive(Drop)]
 pub struct Keys {
     list: List<Text>,
@@ -75,14 +87,14 @@ impl Model for Keys {
     ghost invariant = { λ a. Rising a.list };
 }
 
-/// The keys of all classes of a pool. Time n log n.
-fn class_keys(alloc: Global, pool: &Pool) -> Result<Keys, NoMemory>
-    ensures { IfOk result (λ keys. keys ≡ class_keys (names_of pool.now)) }
+/// The keys of the folders of all resources of a pool. Time n log n.
+fn folder_keys(alloc: Global, pool: &Pool) -> Result<Keys, NoMemory>
+    ensures { IfOk result (λ keys. keys ≡ folder_keys (names_of pool.now)) }
 {
     let mut keys = Vec::new(alloc);
     for place in 0..pool.len() {
         let (name, _) = pool.at(place);
-        if let Some(folder) = class_folder(path_of(name)) {
+        if let Some(folder) = folder_of(name) {
             keys.push(key(alloc, module_of(name), folder)?)?;
         }
     }
@@ -90,45 +102,36 @@ fn class_keys(alloc: Global, pool: &Pool) -> Result<Keys, NoMemory>
     Ok(Keys { list })
 }
 
-/// A package with a slash for each dot.
-fn slashed(alloc: Global, package_name: &[u8]) -> Result<Text, NoMemory>
-    ensures { IfOk result (λ text. text ≡ slashed package_name.now) }
-{
-    let mut text = Text::new(alloc);
-    for byte in package_name {
-        text.push(if *byte == b'.' { b'/' } else { *byte })?;
-    }
-    Ok(text)
-}
-
-/// Puts the package of a key at the end, if it begins as those of a module do.
-fn put_package(
+/// Puts the folder of a key at the end, if it begins as those of a module do and is a package.
+fn put_folder(
     alloc: Global,
-    packages: &mut List<Text>,
+    folders: &mut List<Text>,
     front: &[u8],
     key: &[u8],
 ) -> Result<(), NoMemory>
-    ensures { OnOk result (packages.new
-        ≡ packages.old ++ map slashed (filter_map (after_front front.now) (key.now ∷ []))) }
+    ensures { OnOk result (folders.new ≡ folders.old
+        ++ filter is_package_name (filter_map (after_front front.now) (key.now ∷ []))) }
 {
-    if let Some(package_name) = key.strip_prefix(front) {
-        packages.push(slashed(alloc, package_name)?)?;
+    if let Some(folder) = key.strip_prefix(front) {
+        if is_package_name(folder) {
+            folders.push(Text::copy_of(alloc, folder)?)?;
+        }
     }
     Ok(())
 }
 
-/// The packages of a module, by the keys of all classes. It looks at no other module's keys, but
-/// for the logarithm of their number.
-pub fn packages_by(alloc: Global, keys: &Keys, module: &[u8]) -> Result<List<Text>, NoMemory>
-    ensures { IfOk result (λ packages. packages ≡ packages_by keys.now «module».now) }
+/// The folders of a module that are packages, by the keys of all folders. It looks at no other
+/// module's keys, but for the logarithm of their number.
+pub fn folders_by(alloc: Global, keys: &Keys, module: &[u8]) -> Result<List<Text>, NoMemory>
+    ensures { IfOk result (λ folders. folders ≡ folders_by keys.now «module».now) }
 {
     let mut front = Text::copy_of(alloc, module)?;
     front.push(b'/')?;
-    let mut packages = List::new(alloc);
+    let mut folders = List::new(alloc);
     for key in names_of_folder(alloc, keys.list.as_slice(), module)? {
-        put_package(alloc, &mut packages, front.as_slice(), key.as_slice())?;
+        put_folder(alloc, &mut folders, front.as_slice(), key.as_slice())?;
     }
-    Ok(packages)
+    Ok(folders)
 }
 
 /// Whether a resource stays as it is, whatever the packages are: all but descriptors do, and
@@ -159,7 +162,7 @@ fn all_stay(alloc: Global, release: u32, pool: &Pool) -> Result<bool, NoMemory>
     Ok(true)
 }
 
-/// Puts for the descriptor of each module its class with the module's packages. The keys of classes
+/// Puts for the descriptor of each module its class with the module's packages. The keys of folders
 /// are looked for only where a descriptor is to change.
 pub fn list_packages<T: Threads + Sync, G: Gate + Sync>(
     workers: &Workers<T, G>,
@@ -174,6 +177,6 @@ pub fn list_packages<T: Threads + Sync, G: Gate + Sync>(
     if all_stay(workers.alloc, release, &pool)? {
         return Ok(pool);
     }
-    let keys = class_keys(workers.alloc, &pool)?;
+    let keys = folder_keys(workers.alloc, &pool)?;
     remake_classes(workers, release, pool, Remaking::Packages(&keys))
 }

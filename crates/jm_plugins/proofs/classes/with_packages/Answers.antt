@@ -1,7 +1,7 @@
 use Rattle.std.proofs.Common.{◌≡◌, ap, subst, ◌∙◌}
 use Rattle.jm_form.specs.Trees.{module_of}
-use Rattle.jm_packages.specs.Packages.{packages_text}
-use Rattle.jm_plugins.specs.Packaging.{packages_by}
+use Rattle.jm_packages.specs.Packages.{listed, packages_text}
+use Rattle.jm_plugins.specs.Packaging.{folders_by}
 use Rattle.jm_plugins.specs.Steps.{RemadeAs}
 use Rattle.jm_plugins.proofs.ClassLaws.{packages_as}
 use Rattle.jm_plugins.proofs.classes.with_packages.Goals as goal
@@ -9,7 +9,7 @@ use Rattle.jm_plugins.proofs.classes.with_packages.Goals as goal
 pub returns : goal.returns
 returns c =
     let bytes = c.args.bytes.now in
-    let same : c.as_slice.result.now ≡ packages_by c.args.keys.now (module_of c.args.name.now) = c.as_slice.ensures
-    ∙ c.in_ok-packages.ensures ∙ ap (packages_by c.args.keys.now) c.module_of.ensures in
-    subst (λ packages. RemadeAs c.args.release (packages_text packages) bytes c.add_packages_for.result) same
-    (packages_as c.args.release bytes c.as_slice.result.now c.add_packages_for.result c.add_packages_for.ensures)
+    let same : c.as_slice.result.now ≡ folders_by c.args.keys.now (module_of c.args.name.now) = c.as_slice.ensures
+    ∙ c.in_ok-folders.ensures ∙ ap (folders_by c.args.keys.now) c.module_of.ensures in
+    subst (λ folders. RemadeAs c.args.release (λ class. packages_text (listed folders class) class) bytes c.list_packages_for.result) same
+    (packages_as c.args.release bytes (listed c.as_slice.result.now) c.list_packages_for.result c.list_packages_for.ensures)

@@ -11,7 +11,7 @@ pub returns-clause-computed : goal.returns-clause-computed
 returns-clause-computed g c =
     let pool = c.args.pool in
     subst (Comes c.remake_classes.result)
-    (same_texts c.args.release is_descriptor (λ name class. packages_text (packages_by c.in_ok-keys.keys (module_of name)) class)
+    (same_texts c.args.release is_descriptor (λ name class. packages_text (packages_by c.in_ok-keys.keys (module_of name) class) class)
     (listing_text (names_of pool)) pool (rw c.in_ok-keys.ensures (keys_serve c.args.release pool)))
     c.remake_classes.ensures.computed
 

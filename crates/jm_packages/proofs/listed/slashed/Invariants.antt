@@ -1,6 +1,6 @@
 use Rattle.std.proofs.Common.{◌≡◌, take}
-use Rattle.jm_plugins.specs.Packaging.{slashed}
-use Rattle.jm_plugins.proofs.packages.slashed.Given as goal
+use Rattle.jm_packages.specs.Packages.{slashed}
+use Rattle.jm_packages.proofs.listed.slashed.Given as goal
 
 -- what was read so far stands there with its slashes
 abbrev pub invariant-loop-byte : goal.invariant-loop-byte

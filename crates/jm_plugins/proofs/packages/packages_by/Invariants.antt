@@ -1,6 +1,0 @@
-use Rattle.std.proofs.Common.{◌≡◌, take}
-use Rattle.jm_plugins.specs.Packaging.{packages_by}
-use Rattle.jm_plugins.proofs.packages.packages_by.Given as goal
-
-abbrev pub invariant-loop-key : goal.invariant-loop-key
-invariant-loop-key l = l.packages ≡ packages_by (take l.key-index l.key-items) l.«module»
