@@ -33,7 +33,7 @@ _jm_tool() {
     esac
   done
   case ${COMP_WORDS[1]} in
-    link) options='--module-path --add-modules --output --endian --bind-services --release --exclude-resources --order-resources --strip-java-debug-attributes --compact-pool --module-packages --from-image --jobs' place=() ;;
+    link) options='--module-path --add-modules --output --endian --bind-services --release --exclude-resources --order-resources --strip-java-debug-attributes --compact-pool --module-packages --drop-system-modules --from-image --jobs' place=() ;;
     cat) options='--jobs' place=(file -) ;;
     list) options='--include --jobs' place=(file) ;;
     ls) options='--jobs' place=(file -) ;;

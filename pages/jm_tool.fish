@@ -13,7 +13,7 @@ complete -c jm_tool -n __fish_use_subcommand -a 'describe' -d 'puts what a modul
 complete -c jm_tool -n __fish_use_subcommand -a '--help' -d 'puts this text'
 complete -c jm_tool -n __fish_use_subcommand -a '--version' -d 'puts the version of the program'
 complete -c jm_tool -n '__fish_seen_subcommand_from link' -l module-path -x -a '(__fish_complete_directories)'
-complete -c jm_tool -n '__fish_seen_subcommand_from link' -l add-modules -x
+complete -c jm_tool -n '__fish_seen_subcommand_from link' -l add-modules -x -d 'the modules that link takes; ALL-MODULE-PATH among them stands for all modules'
 complete -c jm_tool -n '__fish_seen_subcommand_from link' -l output -r -F
 complete -c jm_tool -n '__fish_seen_subcommand_from link' -l endian -x -a 'little big' -d 'the order of bytes of the image of link: little, or big'
 complete -c jm_tool -n '__fish_seen_subcommand_from link' -l bind-services -d 'takes in the modules that provide services which the linked ones use'
@@ -23,6 +23,7 @@ complete -c jm_tool -n '__fish_seen_subcommand_from link' -l order-resources -x 
 complete -c jm_tool -n '__fish_seen_subcommand_from link' -l strip-java-debug-attributes -d 'drops what a class says for debuggers'
 complete -c jm_tool -n '__fish_seen_subcommand_from link' -l compact-pool -d 'drops the constants of a class that nothing names'
 complete -c jm_tool -n '__fish_seen_subcommand_from link' -l module-packages -d 'names the packages of each module in its descriptor'
+complete -c jm_tool -n '__fish_seen_subcommand_from link' -l drop-system-modules -d 'drops the classes of java.base that name all modules of another image'
 complete -c jm_tool -n '__fish_seen_subcommand_from link' -l from-image -r -F
 complete -c jm_tool -n '__fish_seen_subcommand_from link' -l jobs -x -d 'works in N pieces, from 1 to 64, with each command; no answer changes'
 complete -c jm_tool -n '__fish_seen_subcommand_from cat' -F

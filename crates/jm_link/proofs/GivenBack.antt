@@ -14,7 +14,7 @@ use Rattle.jm_link.specs.declared.linking.LinkStop.{LinkStop}
 use Rattle.jm_link.specs.declared.linking.LinkStop.TheVariants as stop
 use Rattle.jm_link.specs.declared.linking.Summary.{Summary}
 use Rattle.jm_texts.specs.declared.refusal.Refusal.{Refusal}
-use Rattle.jm_link.specs.Chosen.{Chosen}
+use Rattle.jm_link.specs.Chosen.{Chosen, roots_among}
 use Rattle.jm_link.specs.ImageLinked.{ImageLinks, ImageLinksTo, IsImageTo, resources_seen, seen_candidates}
 use Rattle.jm_link.specs.Linked.{LinkedImage, Request}
 use Rattle.jm_link.specs.Links.{IsLaid}
@@ -66,7 +66,8 @@ module _ (b : List ℕ) (asked : Request) (relinks : Relinks b asked) where
     taken_by name (others, shown, i, has, (c, is, named)) =
         let same = from.once others shown in
         let here : slice_get found i ≡ Some c = subst (λ fs. slice_get fs i ≡ Some c) same is in
-        let chosen : Chosen first.bind found first.roots i = subst (λ fs. Chosen first.bind fs first.roots i) same has in
+        let chosen : Chosen first.bind found (roots_among found first.roots) i =
+        subst (λ fs. Chosen first.bind fs (roots_among fs first.roots) i) same has in
         (c, contains_filter_map (slice_get found) made.places i c ((made.closes.4.exactly i).1 chosen) here, named)
 
     left_is : relinks.image.resources ≡ made.left
@@ -86,8 +87,8 @@ module _ (b : List ℕ) (asked : Request) (relinks : Relinks b asked) where
     comes =
         links_to b first asked found from.gathered image made relinks.unordered (taken_within first from.found from.gathered image
         made) from.of stands infos
-        (λ c there. (relinks.roots (closure.name_of c)).1 (takes c there))
-        (λ name has. taken_by name ((relinks.roots name).0 has))
+        (λ shown shows c there. (relinks.roots shown shows (closure.name_of c)).1 (takes c there))
+        (λ shown shows name has. taken_by name ((relinks.roots shown shows name).0 has))
         relinks.release relinks.order relinks.plugins
 
   -- the link comes to the same image

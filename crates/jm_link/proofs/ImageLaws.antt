@@ -34,7 +34,7 @@ use Rattle.jm_relink.specs.Modules.{FindsModules, HoldsModules, IsSeenIn, IsVisi
 use Rattle.jm_relink.proofs.AskedLaws.{before_at, candidates_rise, image_names_differ, visible_in}
 use Rattle.jm_relink.proofs.NameLaws.{names_tell}
 use Rattle.jm_texts.specs.declared.refusal.Refusal.{Refusal}
-use Rattle.jm_link.specs.Chosen.{reserved}
+use Rattle.jm_link.specs.Chosen.{reserved, roots_among}
 use Rattle.jm_link.specs.Closing.{ClosesAmong, ClosesWith, IsRefusedAmong}
 use Rattle.jm_link.specs.ImageLinked.{ImageComesTo, image_refusal, resources_seen, seen_candidates, seen_resources}
 use Rattle.jm_link.specs.Linked.{LinkedImage, Request}
@@ -274,9 +274,9 @@ module _ (b : List ℕ) (asked : Request) (modules : ImageModules) (seen : List 
     -- they have fit names
     pub gathered_fit : (pool : List Written) → GathersAll (gathered modules places) (Ok pool) → AreFit (names_of pool)
     gathered_fit pool (none, same) = rw same (record {
-      differ = image_apart asked.release b modules seen (visible_in asked.release b seen shows) holds asked.roots asked.bind
-          places closed.1;
+      differ = image_apart asked.release b modules seen (visible_in asked.release b seen shows) holds
+          (roots_among modules.candidates asked.roots) asked.bind places closed.1;
       sound = fit_names (gathered modules places) none;
-      plain = image_free asked.release b modules seen (visible_in asked.release b seen shows) holds asked.roots asked.bind
-          places closed.1;
+      plain = image_free asked.release b modules seen (visible_in asked.release b seen shows) holds
+          (roots_among modules.candidates asked.roots) asked.bind places closed.1;
     })

@@ -1,8 +1,10 @@
 -- What plug-ins leave that have no order: resources that were there, in their order, and what each
 -- descriptor says.
 use Rattle.std.proofs.Common.{◌≡◌, ℕ, inl, inr, Bool, true, List, [], ◌∷◌, All, AllPairs, Contains, filter}
-use Rattle.std.proofs.Common.{Result, Ok, Err, refl, sym, ap, subst, ◌∙◌, not, suc, arith}
+use Rattle.std.proofs.Common.{cond, false, map, Result, Ok, Err, refl, sym, ap, subst, ◌∙◌, not, suc, arith}
 use Rattle.std.proofs.lemmas.Bool.{false≢true}
+use Rattle.std.proofs.lemmas.Slice.Eq.{bytes_eq-Decides}
+use Rattle.std.specs.Str.{bytes_eq}
 use Rattle.std.proofs.lemmas.List.Kept.{AllPairs-cons, AllPairs-filter}
 use Rattle.jm_bytes.proofs.Choice.{chosen, same_ok}
 use Rattle.jm_bytes.proofs.Members.{all_from_contains, contains_cases, contains_here, contains_later, from_filter}
@@ -14,7 +16,8 @@ use Rattle.jm_class.specs.declared.class.ClassFault.{ClassFault}
 use Rattle.jm_class.proofs.ReleaseLaws.{reads-class_for}
 use Rattle.jm_compact.specs.Compact.{compact_text}
 use Rattle.jm_form.specs.Layout.{Written}
-use Rattle.jm_form.specs.Trees.{module_of}
+use Rattle.jm_form.specs.ModuleFiles.{info_name}
+use Rattle.jm_form.specs.Trees.{module_of, path_of}
 use Rattle.jm_modinfo.specs.declared.descriptor.Descriptor.{Descriptor}
 use Rattle.jm_modinfo.specs.ComputedInfo.{info_of}
 use Rattle.jm_words.specs.declared.tasks.Plugin.{Plugin}
@@ -25,17 +28,18 @@ use Rattle.jm_bytes.specs.Results.{followed}
 use Rattle.jm_plugins.specs.Packaging.{is_descriptor, listing_text, packages_of}
 use Rattle.jm_plugins.specs.ComputedPlugins.{act, apply, remade, remade_pair, remade_pairs, stripped_text}
 use Rattle.jm_plugins.specs.Plugins.{is_class}
+use Rattle.jm_plugins.specs.SystemModules.{is_system_modules, map_name, plain_map_text, with_plain_map}
 use Rattle.jm_pool.specs.Pairs.{names_of}
 use Rattle.jm_link.specs.Relinked.{leaves_order}
 use Rattle.jm_link.proofs.SaidLaws.{Says, compacted_says, packaged_says, stripped_says}
 
--- a resource that has the name of one that was there, and says as a descriptor of a release what that
--- one said
+-- a resource that has the name of one that was there, and if that is a descriptor's, says as a class
+-- of a release what that one said
 pub record IsKept (release : ℕ) (old : List Written) (r : Written) : Type 0 where
   pub was : Written
   pub there : Contains old was
   pub name : was.0 ≡ r.0
-  pub says : (d : Descriptor) → Says release was.1 d → Says release r.1 d
+  pub says : path_of was.0 ≡ info_name → (d : Descriptor) → Says release was.1 d → Says release r.1 d
 
 followed_ok : {A B : Type 0} (r : Result A BadClass) (next : A → Result B BadClass) (b : B) → followed r next ≡ Ok b → (a : A)
     × (r ≡ Ok a) × (next a ≡ Ok b)
@@ -66,7 +70,7 @@ module _ (release : ℕ) (R : List ℕ → List ℕ → Type 0) where
 
   same_kept : (rs : List Written) → AreKept rs rs
   same_kept rs = record {
-    each = λ r there. record { was = r; there = there; name = refl; says = λ d says. says };
+    each = λ r there. record { was = r; there = there; name = refl; says = λ named d says. says };
     order =
         λ ordered. ordered;
   }
@@ -81,20 +85,20 @@ module _ (release : ℕ) (R : List ℕ → List ℕ → Type 0) where
           there = before.there;
           name = before.name ∙ after.name;
           says =
-              λ d says. after.says d (before.says d says);
+              λ named d says. after.says (ap path_of (sym before.name) ∙ named) d (before.says named d says);
         };
     order = λ ordered. second.order (first.order ordered);
   }
 
   filtered : (p : Written → Bool) (rs : List Written) → AreKept rs (filter p rs)
   filtered p rs = record {
-    each = λ r there. record { was = r; there = (from_filter p rs r there).0; name = refl; says = λ d says. says };
+    each = λ r there. record { was = r; there = (from_filter p rs r there).0; name = refl; says = λ named d says. says };
     order = λ ordered. AllPairs-filter (λ (e f : Written). R e.0 f.0) p rs ordered;
   }
 
   -- one more in front
-  more_kept : (p q : Written) (old new : List Written) → p.0 ≡ q.0 → ((d : Descriptor) → Says release p.1 d → Says release q.1 d)
-      → AreKept old new → AreKept (p ∷ old) (q ∷ new)
+  more_kept : (p q : Written) (old new : List Written) → p.0 ≡ q.0 → (path_of p.0 ≡ info_name → (d : Descriptor)
+      → Says release p.1 d → Says release q.1 d) → AreKept old new → AreKept (p ∷ old) (q ∷ new)
   more_kept p q old new name says kept = record {
     each = λ r there.
         elim (contains_cases q new r there) [
@@ -103,7 +107,7 @@ module _ (release : ℕ) (R : List ℕ → List ℕ → Type 0) where
             there = contains_here p old;
             name = name ∙ ap (λ (x : Written). x.0) same;
             says =
-                λ d was. subst (λ (x : Written). Says release x.1 d) same (says d was);
+                λ named d was. subst (λ (x : Written). Says release x.1 d) same (says named d was);
           }
           | inr later ↦
               let one = kept.each r later in
@@ -146,8 +150,27 @@ module _ (release : ℕ) (R : List ℕ → List ℕ → Type 0) where
         (λ behind. Ok (first ∷ behind))) new is in
         let rest = followed_ok (remade_pairs release takes text old) (λ behind. Ok (one.0 ∷ behind)) new one.2 in
         let same = remade_one p one.0 one.1 in
-        subst (AreKept (p ∷ old)) (same_ok {E = BadClass} (one.0 ∷ rest.0) new rest.2) (more_kept p one.0 old rest.0 same.0 same.1
-        (remade_all old rest.0 rest.1))
+        subst (AreKept (p ∷ old)) (same_ok {E = BadClass} (one.0 ∷ rest.0) new rest.2) (more_kept p one.0 old rest.0 same.0
+        (λ named. same.1) (remade_all old rest.0 rest.1))
+
+  -- the plain map, which is no descriptor
+
+  plain_one : (p : Written) → (p.0 ≡ (with_plain_map p).0) × (path_of p.0 ≡ info_name → (d : Descriptor) → Says release p.1 d
+      → Says release (with_plain_map p).1 d)
+  plain_one p = go (bytes_eq p.0 map_name) refl
+    where
+      other_path : path_of p.0 ≡ info_name → p.0 ≡ map_name → ⊥
+      other_path named same = false≢true ((bytes_eq-Decides (path_of map_name) info_name).1 (ap path_of (sym same) ∙ named))
+
+      go : (b : Bool) → bytes_eq p.0 map_name ≡ b → (p.0 ≡ (cond b (p.0, plain_map_text) p).0) × (path_of p.0 ≡ info_name
+          → (d : Descriptor) → Says release p.1 d → Says release (cond b (p.0, plain_map_text) p).1 d)
+      go true is = (refl, λ named d says. absurd (other_path named ((bytes_eq-Decides p.0 map_name).0 is)))
+      go false is = (refl, λ named d says. says)
+
+  with_plain : (rs : List Written) → AreKept rs (map with_plain_map rs)
+  with_plain [] = same_kept []
+  with_plain (p ∷ rs) =
+      let one = plain_one p in more_kept p (with_plain_map p) rs (map with_plain_map rs) one.0 one.1 (with_plain rs)
 
   acted : (one : Plugin) (old new : List Written) → leaves_order one ≡ true → act release one old ≡ Ok new → AreKept old new
   acted (plugin.Exclude patterns) old new leaves is =
@@ -157,6 +180,10 @@ module _ (release : ℕ) (R : List ℕ → List ℕ → Type 0) where
   acted plugin.Compact old new leaves is = remade_all is_class (λ name. compact_text) (λ name. compacted_says release) old new is
   acted plugin.Packages old new leaves is = remade_all is_descriptor (listing_text (names_of old))
       (λ name. packaged_says release (packages_of (names_of old) (module_of name))) old new is
+  acted plugin.DropSystemModules old new leaves is =
+      let left = filter (λ (r : Written). not (is_system_modules r.0)) old in
+      subst (AreKept old) (same_ok {E = BadClass} _ new is) (further old left (map with_plain_map left)
+      (filtered (λ r. not (is_system_modules r.0)) old) (with_plain left))
 
   pub applied : (plugins : List Plugin) (old new : List Written) → All (λ one. leaves_order one ≡ true) plugins
       → apply release plugins old ≡ Ok new → AreKept old new

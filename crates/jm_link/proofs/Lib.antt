@@ -1,5 +1,6 @@
 pub mod ChosenLaws
 pub mod ClosedAgain
+pub mod ClosingLaws
 pub mod FileLaws
 pub mod FileOrder
 pub mod GivenBack

@@ -12,7 +12,7 @@ use Rattle.jm_outside.specs.Files.{Files}
 use Rattle.jm_texts.specs.declared.refusal.Refusal.TheVariants as refusal
 use Rattle.jm_names.specs.ByName.{Named}
 use Rattle.jm_link.specs.Linked.{layout_refusal}
-use Rattle.jm_link.specs.Chosen.{reserved}
+use Rattle.jm_link.specs.Chosen.{reserved, roots_among}
 use Rattle.jm_link.specs.Resources.{link_files, resources_of}
 use Rattle.jm_texts.specs.NameRefusals.{first_bad_name}
 
@@ -57,6 +57,27 @@ resources :
     resources_of told (link_files found (2 ∷ 1 ∷ []))
     ≡ (codes "/a/r", codes "R") ∷ (codes "/c/q", codes "Q") ∷ []
 resources = refl
+
+-- Roots
+
+-- all modules in the place of the word, which may stand more than once
+all_found :
+    roots_among (candidates found) (codes "ALL-MODULE-PATH" ∷ codes "x" ∷ codes "ALL-MODULE-PATH" ∷ codes "a" ∷ [])
+    ≡ codes "x" ∷ codes "a" ∷ codes "b" ∷ codes "c" ∷ codes "a" ∷ []
+all_found = refl
+
+-- where there is no module, it is a name like others
+none_found : roots_among [] (codes "x" ∷ codes "ALL-MODULE-PATH" ∷ []) ≡ codes "x" ∷ codes "ALL-MODULE-PATH" ∷ []
+none_found = refl
+
+no_word : roots_among (candidates found) (codes "all-module-path" ∷ codes "a" ∷ []) ≡ codes "all-module-path" ∷ codes "a" ∷ []
+no_word = refl
+
+-- a module that is called so is one of all
+called_so :
+    roots_among (candidates (plain_module (codes "d") (codes "ALL-MODULE-PATH") [] ∷ [])) (codes "ALL-MODULE-PATH" ∷ [])
+    ≡ codes "ALL-MODULE-PATH" ∷ []
+called_so = refl
 
 -- Refusals
 

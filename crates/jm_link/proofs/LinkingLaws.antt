@@ -36,7 +36,7 @@ use Rattle.jm_link.specs.declared.linking.LinkStop.{LinkStop}
 use Rattle.jm_link.specs.declared.linking.LinkStop.TheVariants as stop
 use Rattle.jm_link.specs.declared.linking.Summary.{Summary}
 use Rattle.jm_link.specs.declared.resources.ResourceFile.{ResourceFile}
-use Rattle.jm_link.specs.Chosen.{Chosen, reserved}
+use Rattle.jm_link.specs.Chosen.{Chosen, reserved, roots_among}
 use Rattle.jm_link.specs.Closing.{ClosesAmong, ClosesWith, IsRefusedAmong}
 use Rattle.jm_link.specs.Linked.{IsGatheredTo, LinkedImage, LinksAmong, PlugsTo, Request, image_with}
 use Rattle.jm_link.specs.Linked.{laid_out, layout_refusal, path_refusal_as, plugging_refusal}
@@ -174,8 +174,11 @@ module _ (asked : Request) (modules : ℕ) (before : List Written) where
 -- The closure
 
 module _ (asked : Request) (found : List Candidate) (resources : List ℕ → List Written) where
-  chosen_as : (bind : Bool) (closed : Result (List ℕ) CloseFault) → ClosesWith bind found asked.roots closed
-      → Closes found asked.roots (Chosen bind found asked.roots) closed
+  abbrev roots : List (List ℕ)
+  roots = roots_among found asked.roots
+
+  chosen_as : (bind : Bool) (closed : Result (List ℕ) CloseFault) → ClosesWith bind found roots closed
+      → Closes found roots (Chosen bind found roots) closed
   chosen_as true closed closes = closes
   chosen_as false closed closes = closes
 

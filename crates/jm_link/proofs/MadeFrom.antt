@@ -21,7 +21,7 @@ use Rattle.jm_relink.proofs.AskedLaws.{visible_in}
 use Rattle.jm_relink.proofs.OnceLaws.{modules_once}
 use Rattle.jm_texts.specs.NameRefusals.{first_bad_name}
 use Rattle.jm_texts.proofs.NameRefusalLaws.{all_sound}
-use Rattle.jm_link.specs.Chosen.{Chosen}
+use Rattle.jm_link.specs.Chosen.{Chosen, roots_among}
 use Rattle.jm_link.specs.ImageLinked.{IsImageTo, resources_seen, seen_candidates}
 use Rattle.jm_link.specs.Linked.{IsPathTo, LinkedImage, LinksAmong, Request}
 use Rattle.jm_link.specs.Links.{IsLaid}
@@ -41,11 +41,11 @@ use Rattle.jm_link.proofs.ShownResources.{image_resources, path_resources}
 module _ (asked : Request) (found : List Candidate) (gathered : List ℕ → List Written) (image : LinkedImage)
     (made : IsMade asked found gathered image) where
   pub taken_within : (i : ℕ) → Contains made.places i → i < length found
-  taken_within i there = chosen_below asked.bind found asked.roots i ((made.closes.4.exactly i).0 there)
+  taken_within i there = chosen_below asked.bind found (roots_among found asked.roots) i ((made.closes.4.exactly i).0 there)
 
   -- the modules that were taken
   abbrev pub modules_taken : List Candidate
-  modules_taken = taken found (Chosen asked.bind found asked.roots) made.places made.closes.4 taken_within
+  modules_taken = taken found (Chosen asked.bind found (roots_among found asked.roots)) made.places made.closes.4 taken_within
 
 -- the modules that the source shows, and the parts of the link of them
 pub record IsMadeFrom (source : Source) (asked : Request) (image : LinkedImage) : Type 0 where
@@ -84,7 +84,7 @@ from_seen b asked image holds ss shows links =
       once = seen_once asked.release b ss shows;
       gathered = resources_seen ss;
       made = made;
-      of = image_resources asked.release b holds ss (visible_in asked.release b ss shows) (Chosen asked.bind found asked.roots)
+      of = image_resources asked.release b holds ss (visible_in asked.release b ss shows) (Chosen asked.bind found (roots_among found asked.roots))
           made.places made.closes.4 (taken_within asked found (resources_seen ss) image made);
     }
 
@@ -101,7 +101,7 @@ made_from (ModulePath files directories) asked image holds linked =
       once = λ others shown. shown;
       gathered = gathered;
       made = made;
-      of = path_resources asked.release files directories holds (Chosen asked.bind found asked.roots) made.places made.closes.4
+      of = path_resources asked.release files directories holds (Chosen asked.bind found (roots_among found asked.roots)) made.places made.closes.4
           (taken_within asked found gathered image made);
     }
 made_from (Image b) asked image holds linked =

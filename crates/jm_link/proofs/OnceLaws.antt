@@ -12,7 +12,7 @@ use Rattle.jm_plugins.specs.declared.chain.BadClass.{BadClass}
 use Rattle.jm_plugins.specs.ComputedPlugins.{apply}
 use Rattle.jm_plugins.proofs.ComputedPluginsLaws.{applies_only}
 use Rattle.jm_texts.specs.declared.refusal.Refusal.{Refusal}
-use Rattle.jm_link.specs.Chosen.{Chosen, reserved}
+use Rattle.jm_link.specs.Chosen.{Chosen, reserved, roots_among}
 use Rattle.jm_link.specs.Linked.{IsClosedTo, IsFoundTo, IsGatheredTo, IsLinkedOf, IsPathTo, IsPluggedTo}
 use Rattle.jm_link.specs.Linked.{LinkedImage, LinksAmong, LinksTo, PlugsTo, Request}
 use Rattle.jm_link.specs.Resources.{resources_in}
@@ -49,8 +49,9 @@ closed_once asked resources (Err fault) a b one other = one ∙ sym other
 linked_once : (asked : Request) (found : List Candidate) (resources : List ℕ → List Written) (a b : Answer)
     → IsLinkedOf asked found resources a → IsLinkedOf asked found resources b → a ≡ b
 linked_once asked found resources a b (closed, closes, is) (closed', closes', is') =
-    let same = closes_once found (Chosen asked.bind found asked.roots) (chosen_below asked.bind found asked.roots) asked.roots
-    closed closed' closes closes' in
+    let roots = roots_among found asked.roots in
+    let same = closes_once found (Chosen asked.bind found roots) (chosen_below asked.bind found roots) roots closed closed' closes
+    closes' in
     closed_once asked resources closed' a b (subst (λ c. IsClosedTo asked resources c a) same is) is'
 
 found_once : (asked : Request) (found : List Candidate) (resources : List ℕ → List Written) (taken : Option Refusal) (a b : Answer)

@@ -34,11 +34,12 @@ use Rattle.jm_relink.proofs.ModuleLaws.{resources_differ}
 use Rattle.jm_names.proofs.KeyLaws.{differ_moved}
 use Rattle.jm_texts.specs.declared.refusal.Refusal.{Refusal}
 use Rattle.jm_texts.specs.declared.refusal.Refusal.TheVariants as refusal
-use Rattle.jm_link.specs.Chosen.{Chosen, is_called, reserved}
+use Rattle.jm_link.specs.Chosen.{Chosen, is_called, reserved, roots_among}
 use Rattle.jm_link.specs.ImageLinked.{ImageLinksTo, resources_seen, seen_candidates, seen_resources}
 use Rattle.jm_link.specs.Linked.{IsClosedTo, IsFoundTo, IsGatheredTo, IsLinkedOf, IsPluggedTo, LinkedImage}
 use Rattle.jm_link.specs.Linked.{LinksAmong, PlugsTo, Request, image_with, laid_out, layout_refusal}
-use Rattle.jm_link.specs.Relinked.{leaves_order}
+use Rattle.jm_link.specs.Relinked.{Shows, leaves_order}
+use Rattle.jm_link.specs.Relinked.Source.{Image}
 use Rattle.jm_texts.specs.NameRefusals.{first_bad_name, name_refusal}
 use Rattle.jm_link.proofs.ClosedAgain.{chosen_further, closes_again, found_again, taken}
 use Rattle.jm_link.proofs.FileLaws.{free_names, got}
@@ -53,7 +54,7 @@ use Rattle.jm_bytes.proofs.Members.{element_at}
 pub record IsMade (asked : Request) (found : List Candidate) (gathered : List ℕ → List Written) (image : LinkedImage) : Type 0 where
   pub free : reserved found ≡ None
   pub places : List ℕ
-  pub closes : Closes found asked.roots (Chosen asked.bind found asked.roots) (Ok places)
+  pub closes : Closes found (roots_among found asked.roots) (Chosen asked.bind found (roots_among found asked.roots)) (Ok places)
   pub sound : first_bad_name (gathered places) ≡ None
   pub left : List Written
   pub plugged : apply asked.release asked.plugins (gathered places) ≡ Ok left
@@ -99,7 +100,8 @@ made_parts asked found gathered image is =
     record {
       free = first.0;
       places = closed.0;
-      closes = subst (Closes found asked.roots (Chosen asked.bind found asked.roots)) closed.1 first.1.1;
+      closes = subst (Closes found (roots_among found asked.roots) (Chosen asked.bind found (roots_among found asked.roots))) closed.1
+          first.1.1;
       sound = sound.0;
       left = plugged.0;
       plugged = plugged.1;
@@ -192,15 +194,17 @@ module _ (b : List ℕ) (first asked : Request) (found : List Candidate) (gather
     (made : IsMade first found gathered image) (unordered : All (λ one. leaves_order one ≡ true) first.plugins) (within : (i : ℕ)
     → Contains made.places i → i < length found) where
   abbrev Taken : ℕ → Type 0
-  Taken = Chosen first.bind found first.roots
+  Taken = Chosen first.bind found (roots_among found first.roots)
 
   abbrev cs : List Candidate
   cs = taken found Taken made.places made.closes.4 within
 
   module _ (of : AreOf first.release cs (gathered made.places)) (stands : Stands b made.left) (infos : (c : Candidate) → Contains cs c
-      → (content : List ℕ) × Contains made.left (info_entry (closure.name_of c), content)) (rooted : (c : Candidate) → Contains cs c
-      → Contains asked.roots (closure.name_of c)) (only : (name : List ℕ) → Contains asked.roots name → (c : Candidate)
-      × Contains cs c × (closure.name_of c ≡ name)) (rises : first.release ≤ asked.release)
+      → (content : List ℕ) × Contains made.left (info_entry (closure.name_of c), content)) (rooted : (shown : List Candidate)
+      → Shows asked.release (Image b) shown → (c : Candidate) → Contains cs c → Contains (roots_among shown asked.roots)
+      (closure.name_of c)) (only : (shown : List Candidate) → Shows asked.release (Image b) shown → (name : List ℕ)
+      → Contains (roots_among shown asked.roots) name → (c : Candidate) × Contains cs c × (closure.name_of c ≡ name))
+      (rises : first.release ≤ asked.release)
       (order : asked.order ≡ first.order) (plugins : asked.plugins ≡ []) where
     kept : AreKept first.release IsFirstOrOne (gathered made.places) made.left
     kept = applied first.release IsFirstOrOne first.plugins (gathered made.places) made.left unordered made.plugged
@@ -226,11 +230,24 @@ module _ (b : List ℕ) (first asked : Request) (found : List Candidate) (gather
     abbrev all : List ℕ
     all = range_with_len 0 (length others)
 
-    closes : Closes others asked.roots (Chosen asked.bind others asked.roots) (Ok all)
+    infos_held : IsVisibleIn asked.release (resources_of b) ss
+    infos_held = seen_visible first.release cs made.left are apart asked.release rises infos (resources_of b) (held b made.left stands)
+
+    modules_held : ModulesOf asked.release b (Ok ss)
+    unfolding ModulesOf
+    modules_held = infos_held
+
+    shown : Shows asked.release (Image b) others
+    shown = (ss, modules_held, sym same_found)
+
+    abbrev roots : List (List ℕ)
+    roots = roots_among others asked.roots
+
+    closes : Closes others roots (Chosen asked.bind others roots) (Ok all)
     closes =
         closes_again found Taken made.places made.closes.4 within again (λ c. refl) (only_packages first.release cs made.left are apart)
-        asked.roots rooted only asked.bind
-        made.closes.1 made.closes.2 made.closes.3 (λ i j has requires. chosen_further first.bind found first.roots i j has requires)
+        roots (rooted others shown) (only others shown) asked.bind made.closes.1 made.closes.2 made.closes.3
+        (λ i j has requires. chosen_further first.bind found (roots_among found first.roots) i j has requires)
 
     free : reserved others ≡ None
     free = free_again found others
@@ -271,9 +288,5 @@ module _ (b : List ℕ) (first asked : Request) (found : List Candidate) (gather
         subst (λ fs. LinksAmong asked fs (resources_seen ss) (Ok image)) (sym same_found)
         (subst (λ o. IsFoundTo asked others (resources_seen ss) o (Ok image)) (sym free) (Ok all, closes, gathered_to))
 
-    infos_held : IsVisibleIn asked.release (resources_of b) ss
-    infos_held = seen_visible first.release cs made.left are apart asked.release rises infos (resources_of b) (held b made.left stands)
-
     pub links_to : ImageLinksTo b asked (Ok image)
-    unfolding ModulesOf
-    links_to = (Ok ss, infos_held, links_again)
+    links_to = (Ok ss, modules_held, links_again)

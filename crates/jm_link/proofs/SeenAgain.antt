@@ -67,7 +67,9 @@ kept_of release cs old new kept are = record {
         among = of.among;
         name = sym one.name ∙ of.name;
         has_package = λ shared is. of.has_package shared (ap named_package one.name ∙ is);
-        says = λ is. one.says of.candidate.descriptor (of.says is);
+        says = λ is.
+            let placed = ap path_of of.name ∙ path_again (closure.name_of of.candidate) of.path (are.whole of.candidate of.among) in
+            one.says (placed ∙ is) of.candidate.descriptor (of.says is);
       };
   order = kept.order are.order;
 }

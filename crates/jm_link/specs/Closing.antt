@@ -7,7 +7,7 @@ use Rattle.jm_closure.specs.Modules.{Reached}
 use Rattle.jm_closure.specs.Refusals.{Closes}
 use Rattle.jm_texts.specs.declared.refusal.Refusal.{Refusal}
 use Rattle.jm_link.specs.declared.linking.LinkStop.{LinkStop}
-use Rattle.jm_link.specs.Chosen.{reserved}
+use Rattle.jm_link.specs.Chosen.{reserved, roots_among}
 use Rattle.jm_link.specs.Linked.{closing_refusal}
 use Rattle.jm_link.specs.Steps.{StepGives}
 
@@ -16,17 +16,29 @@ abbrev pub ClosesWith : Bool → List Candidate → List (List ℕ) → Result (
 ClosesWith true found roots result = Closes found roots (Bound found roots) result
 ClosesWith false found roots result = Closes found roots (Reached found roots) result
 
--- the closure is refused
-pub record IsRefusedAmong (found : List Candidate) (roots : List (List ℕ)) (bind : Bool)
+-- the closure of these roots is refused so
+abbrev pub IsUnclosed : List Candidate → List (List ℕ) → Bool → Refusal → Type 0
+IsUnclosed found roots bind given =
+    (fault : CloseFault) × ClosesWith bind found roots (Err fault)
+    × (given ≡ closing_refusal fault)
+
+-- by the answer: the places of the closure of these roots, or its refusal; no memory
+abbrev pub ClosesFrom : List Candidate → List (List ℕ) → Bool → Result (List ℕ) LinkStop → Type 0
+ClosesFrom found roots bind =
+    StepGives (λ places. ClosesWith bind found roots (Ok places)) (IsUnclosed found roots bind) ⊥ ⊥
+
+-- the closure of the roots that are asked for is refused
+pub record IsRefusedAmong (found : List Candidate) (asked : List (List ℕ)) (bind : Bool)
     (given : Refusal) : Type 0 where
   pub fault : CloseFault
   pub free : reserved found ≡ None
-  pub closes : ClosesWith bind found roots (Err fault)
+  pub closes : ClosesWith bind found (roots_among found asked) (Err fault)
   pub refusal : given ≡ closing_refusal fault
 
 -- by the answer: the places of the closure; a reserved name, or the refusal of the closure; no
 -- memory
 abbrev pub ClosesAmong : List Candidate → List (List ℕ) → Bool → Result (List ℕ) LinkStop → Type 0
-ClosesAmong found roots bind =
-    StepGives (λ places. (reserved found ≡ None) × ClosesWith bind found roots (Ok places))
-    (λ given. (reserved found ≡ Some given) ⊎ IsRefusedAmong found roots bind given) ⊥ ⊥
+ClosesAmong found asked bind =
+    StepGives (λ places. (reserved found ≡ None)
+    × ClosesWith bind found (roots_among found asked) (Ok places))
+    (λ given. (reserved found ≡ Some given) ⊎ IsRefusedAmong found asked bind given) ⊥ ⊥

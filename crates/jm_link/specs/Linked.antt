@@ -22,12 +22,12 @@ use Rattle.jm_plugins.specs.Plugins.{Applies}
 use Rattle.jm_writer.specs.Drafts.{entry_limit, image_limit, large_number}
 use Rattle.jm_texts.specs.declared.refusal.Refusal.{Refusal}
 use Rattle.jm_texts.specs.declared.refusal.Refusal.TheVariants as refusal
-use Rattle.jm_link.specs.Chosen.{Chosen, reserved}
+use Rattle.jm_link.specs.Chosen.{Chosen, reserved, roots_among}
 use Rattle.jm_link.specs.Resources.{resources_in}
 use Rattle.jm_texts.specs.NameRefusals.{first_bad_name}
 
 -- what is asked for, whatever shows the modules: the release of Java SE up to which classes are
--- read, the roots, whether providers of services are linked too, the plug-ins in their order, and
+-- read, the names of the roots, whether providers of services are linked too, the plug-ins in their order, and
 -- the byte order
 pub record Request : Type 0 where
   pub release : ℕ
@@ -128,7 +128,8 @@ abbrev pub IsLinkedOf : Request → List Candidate → (List ℕ → List Writte
     → Result LinkedImage Refusal → Type 0
 IsLinkedOf asked found resources result =
     (closed : Result (List ℕ) CloseFault)
-    × Closes found asked.roots (Chosen asked.bind found asked.roots) closed
+    × Closes found (roots_among found asked.roots)
+    (Chosen asked.bind found (roots_among found asked.roots)) closed
     × IsClosedTo asked resources closed result
 
 -- the given refusal is the result if there is one, else what the closure comes to

@@ -16,7 +16,7 @@ use Rattle.jm_link.specs.declared.linking.LinkStop.{LinkStop}
 use Rattle.jm_link.specs.declared.linking.LinkStop.TheVariants as stop
 use Rattle.jm_link.specs.declared.linking.Summary.{Summary}
 use Rattle.jm_texts.specs.declared.refusal.Refusal.{Refusal}
-use Rattle.jm_link.specs.Chosen.{Chosen}
+use Rattle.jm_link.specs.Chosen.{Chosen, roots_among}
 use Rattle.jm_link.specs.ImageLinked.{ImageLinksTo, seen_candidates}
 use Rattle.jm_link.specs.Linked.{LinkedImage, LinksTo, Request}
 
@@ -51,7 +51,7 @@ HoldsBytes (Image b) = All (λ byte. byte < 256) b
 abbrev pub Takes : Source → Request → List ℕ → Type 0
 Takes source asked name =
     (found : List Candidate) × Shows asked.release source found
-    × (i : ℕ) × Chosen asked.bind found asked.roots i × HasName found i name
+    × (i : ℕ) × Chosen asked.bind found (roots_among found asked.roots) i × HasName found i name
 
 -- Relinking
 
@@ -62,10 +62,12 @@ leaves_order (plugin.Exclude patterns) = true
 leaves_order plugin.Strip = true
 leaves_order plugin.Compact = true
 leaves_order plugin.Packages = true
+leaves_order plugin.DropSystemModules = true
 
 -- a link made these bytes, without an order of resources, and the descriptor of each module that it
--- took stands in them; what is asked for is these modules, in the same byte order and no plug-in,
--- with that link's release or a later one
+-- took stands in them; what is asked for is these modules, by their names or by the word for all
+-- that the bytes show, in the same byte order and no plug-in, with that link's release or a later
+-- one
 pub record Relinks (b : List ℕ) (asked : Request) : Type 0 where
   pub source : Source
   pub holds : HoldsBytes source
@@ -76,7 +78,8 @@ pub record Relinks (b : List ℕ) (asked : Request) : Type 0 where
   pub unordered : All (λ one. leaves_order one ≡ true) first.plugins
   pub infos : (name : List ℕ) → Takes source first name
       → Contains (names_of image.resources) (info_entry name)
-  pub roots : (name : List ℕ) → Contains asked.roots name ↔ Takes source first name
+  pub roots : (found : List Candidate) → Shows asked.release (Image b) found
+      → (name : List ℕ) → Contains (roots_among found asked.roots) name ↔ Takes source first name
   pub release : first.release ≤ asked.release
   pub order : asked.order ≡ first.order
   pub plugins : asked.plugins ≡ []

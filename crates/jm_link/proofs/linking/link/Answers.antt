@@ -9,6 +9,7 @@ use Rattle.jm_closure.specs.declared.candidate.Candidate.{Candidate}
 use Rattle.jm_modpath.specs.Modules.{candidates}
 use Rattle.jm_outside.specs.Outcome.{Shows}
 use Rattle.jm_outside.specs.Shelves.{shelf_at}
+use Rattle.jm_link.specs.Chosen.{roots_among}
 use Rattle.jm_link.specs.Closing.{ClosesAmong}
 use Rattle.jm_link.specs.Linked.{Request, plugging_refusal}
 use Rattle.jm_link.specs.Links.{ComesTo, PoolComesTo, TellsNothing, request_of}
@@ -42,13 +43,14 @@ link_files-requires-clause-places g c =
     let closes = rw c.candidates.ensures at c.in_ok-places.ensures in
     rw c.as_slice.ensures
     (all_from_contains (λ i. i < length visible) c.in_ok-places.places
-    (λ i has. subst (λ n. i < n) (candidates_length visible) (chosen_within (candidates visible) c.args.task.now.roots
-    c.args.task.now.bind c.in_ok-places.places closes.1 i has)))
+    (λ i has. subst (λ n. i < n) (candidates_length visible) (chosen_within (candidates visible)
+    (roots_among (candidates visible) c.args.task.now.roots) c.args.task.now.bind c.in_ok-places.places closes.1 i has)))
 
 pub link_files-requires-clause-once : goal.link_files-requires-clause-once
 link_files-requires-clause-once g c =
     let closes = rw c.candidates.ensures at c.in_ok-places.ensures in
-    rw c.as_slice.ensures (chosen_differ (candidates c.in_ok-visible.visible) c.args.task.now.roots c.args.task.now.bind
+    let found = candidates c.in_ok-visible.visible in
+    rw c.as_slice.ensures (chosen_differ found (roots_among found c.args.task.now.roots) c.args.task.now.bind
     c.in_ok-places.places closes.1)
 
 pub returns-in_err-files : goal.returns-in_err-files

@@ -8,6 +8,7 @@ use Rattle.jm_relink.specs.Gathering.{GathersAll, gathered}
 use Rattle.jm_relink.specs.Modules.{FindsModules}
 use Rattle.jm_relink.proofs.AskedLaws.{visible_in}
 use Rattle.jm_outside.specs.Shelves.{ShelfSeen, shelf_at}
+use Rattle.jm_link.specs.Chosen.{roots_among}
 use Rattle.jm_link.specs.Closing.{ClosesAmong}
 use Rattle.jm_link.specs.ImageLinked.{ImageComesTo, ImageLinks, image_refusal}
 use Rattle.jm_link.specs.Linked.{Request, plugging_refusal}
@@ -63,8 +64,8 @@ gather-requires-clause-places g c =
     let shown = c.in_ok-modules.ensures.modules in
     let closes = rw c.as_slice.ensures at c.in_ok-places.ensures in
     rw c.as_slice-2.ensures (image_places c.args.task.now.release c.args.image.now c.in_ok-modules.modules shown.0
-    (visible_in c.args.task.now.release c.args.image.now shown.0 shown.1) shown.2 c.args.task.now.roots c.args.task.now.bind
-    c.in_ok-places.places closes.1)
+    (visible_in c.args.task.now.release c.args.image.now shown.0 shown.1) shown.2
+    (roots_among c.in_ok-modules.modules.candidates c.args.task.now.roots) c.args.task.now.bind c.in_ok-places.places closes.1)
 
 pub returns-in_err-read : goal.returns-in_err-read
 returns-in_err-read g c =
