@@ -112,9 +112,10 @@ stripped_says release bytes c d of_release is = record {
 
 -- With a list of packages
 
-pub packaged_says : (release : ℕ) (packages : List (List ℕ)) (bytes : List ℕ) (c : ClassData) (d : Descriptor)
-    → ReadsFor release bytes c → info_of c ≡ Ok d → Says release (packages_text packages c) d
-packaged_says release packages bytes c d of_release is =
+pub packaged_says : (release : ℕ) (packages_of : ClassData → List (List ℕ)) (bytes : List ℕ) (c : ClassData) (d : Descriptor)
+    → ReadsFor release bytes c → info_of c ≡ Ok d → Says release (packages_text (packages_of c) c) d
+packaged_says release packages_of bytes c d of_release is =
+    let packages = packages_of c in
     let fits = of_release.reads.well_formed in
     record {
       class = packaged packages c;
