@@ -27,8 +27,8 @@ use Rattle.jm_link.specs.Resources.{resources_in}
 use Rattle.jm_texts.specs.NameRefusals.{first_bad_name}
 
 -- what is asked for, whatever shows the modules: the release of Java SE up to which classes are
--- read, the names of the roots, whether providers of services are linked too, the plug-ins in their order, and
--- the byte order
+-- read, the names of the roots, whether providers of services are linked too, the plug-ins in their
+-- order, and the byte order
 pub record Request : Type 0 where
   pub release : ℕ
   pub roots : List (List ℕ)
