@@ -1,5 +1,5 @@
--- Names of packages: identifiers with dots between them (JLS 3.8, 6.5). An identifier begins with no
--- digit, is made of Java letters and digits, and is no word that Java keeps (JLS 3.9, 3.10.3 and
+-- Names of packages: identifiers with dots between them (JLS 3.8, 6.5). An identifier begins with
+-- no digit, is made of Java letters and digits, and is no word that Java keeps (JLS 3.9, 3.10.3 and
 -- 3.10.8, and `_`). That each byte from 0x80 on is one of a letter is this project's rule.
 use Rattle.std.specs.Prelude.{ℕ, nat_le, ◌==◌, Bool, false, not, ◌&&◌, ◌||◌, List, [], ◌∷◌, ◌++◌}
 use Rattle.std.specs.Prelude.{codes}

@@ -68,8 +68,8 @@ fn text_of(alloc: Global, bytes: &[u8], class: Class, packages: &[Text]) -> Resu
 
 /// The class of a module, of a release, with the attribute ModulePackages, which lists these
 /// packages, as the last of its own (JVMS 4.7.26). A class that is no module's, that is of a major
-/// version below 53, that has such an attribute, or that has no room for it, stays as it is. A fault
-/// is the one that `read_for` finds.
+/// version below 53, that has such an attribute, or that has no room for it, stays as it is. A
+/// fault is the one that `read_for` finds.
 pub fn add_packages_for(
     alloc: Global,
     release: u32,
@@ -93,8 +93,8 @@ pub fn add_packages(alloc: Global, bytes: &[u8], packages: &[Text]) -> Result<Te
 /// The text of a class with the list of these packages and those that it names, or as it is.
 fn listing_of(alloc: Global, bytes: &[u8], class: Class, folders: &[Text]) -> Result<Text, NoMemory>
     requires { ReadsAs bytes.now (plain class) }
-    ensures { IfOk result
-        (λ text. text ≡ packages_text (listed folders.now (plain class.entry)) (plain class.entry)) }
+    ensures { IfOk result (λ text. text
+        ≡ packages_text (listed folders.now (plain class.entry)) (plain class.entry)) }
 {
     if takes_none(&class) {
         return Text::copy_of(alloc, bytes);
@@ -104,8 +104,8 @@ fn listing_of(alloc: Global, bytes: &[u8], class: Class, folders: &[Text]) -> Re
 }
 
 /// The class of a module, of a release, with the packages in which its module has files and those
-/// that it names itself: those that it exports or opens, those of the classes that it provides with,
-/// and that of its main class. Each stands once, rising, as `add_packages_for` puts them.
+/// that it names itself: those that it exports or opens, those of the classes that it provides
+/// with, and that of its main class. Each stands once, rising, as `add_packages_for` puts them.
 pub fn list_packages_for(
     alloc: Global,
     release: u32,

@@ -46,8 +46,8 @@ is_descriptor name =
 abbrev pub listing_text : List (List ℕ) → List ℕ → ClassData → List ℕ
 listing_text names name class = packages_text (packages_of names (module_of name) class) class
 
--- The same, computed: the module and the folder of each resource, rising, of which those of a module
--- lie side by side
+-- The same, computed: the module and the folder of each resource, rising, of which those of a
+-- module lie side by side
 
 -- the module of a resource, a slash and its folder with dots, if it has one
 abbrev pub folder_key : List ℕ → Option (List ℕ)
