@@ -29,8 +29,8 @@ SaysLines reply =
     ⊎ ((n : ℕ) × (text : List ℕ) × AreLines n text
     × (reply ≡ numbered (codes "folder ") n ++ text))
 
--- the reply to a line: to `find` one that says how many bytes follow, to `ls` one that says how many
--- lines follow, and to any other line one line
+-- the reply to a line: to `find` one that says how many bytes follow, to `ls` one that says how
+-- many lines follow, and to any other line one line
 pub record IsFramed (line reply : List ℕ) : Type 0 where
   pub find : has_verb (codes "find") line ≡ true → SaysBytes reply
   pub ls : has_verb (codes "ls") line ≡ true → SaysLines reply

@@ -149,8 +149,8 @@ fn reply_to<H: Ledger, R: Ledger>(
 }
 
 /// The reply to a line of a session, which is given without its newline (this project's rule). It
-/// tells a program where it ends: it is one line, behind which stand to `find` the bytes and to `ls`
-/// the lines of which it says the number.
+/// tells a program where it ends: it is one line, after which come, for `find`, that many bytes as
+/// it says, and for `ls` that many lines.
 ///
 /// It costs at most four hashes. To `find NAME` it costs at most two hashes, and at most the bytes
 /// of the name as an image stores it, 76 more and those of the content.

@@ -1,6 +1,6 @@
 -- What a command refuses in print: the kind, and the carried values, each behind a space (this
--- project's rule). Names of modules, packages, entries and resources, and paths of files, are put as
--- they are shown.
+-- project's rule). Names of modules, packages, entries and resources, and paths of files, are put
+-- as they are shown.
 use Rattle.std.specs.Prelude.{ℕ, List, ◌∷◌, ◌++◌, codes}
 use Rattle.std.specs.Fmt.{decimal}
 use Rattle.jm_class.specs.FaultText.{class_fault_text}
