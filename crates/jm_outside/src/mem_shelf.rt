@@ -18,8 +18,8 @@ use std::alloc::Global;
 /// A shelf in memory, which tells its files. A file is just a path.
 ///
 /// It numbers the calls of the trait from 0, those of `read_part` by themselves, and fails those
-/// that `fail_on` and `fail_parts_on` list, with one fault each. The numbers stand still at the last
-/// of 64 bits.
+/// that `fail_on` and `fail_parts_on` list, with one fault each. The numbers stand still at the
+/// last of 64 bits.
 #[derive(Debug, Drop)]
 pub struct MemShelf {
     files: FileMap,
