@@ -1,9 +1,16 @@
 -- Files that are made one after another.
-use Rattle.std.proofs.Common.{◌≡◌, inl, inr, ℕ, List, [], ◌∷◌, ◌++◌, Option, Some, None, option_map, refl, sym, ap, ◌∙◌, subst}
+use Rattle.std.proofs.Common.{◌≡◌, ◌≢◌, inl, inr, ℕ, List, [], ◌∷◌, ◌++◌, Option, Some, None, option_map, refl, sym, ap, ◌∙◌, subst}
+use Rattle.std.proofs.Common.{cond}
+use Rattle.std.specs.Str.{bytes_eq}
+use Rattle.std.proofs.lemmas.Bool.{false_from_ne_true}
+use Rattle.std.proofs.lemmas.List.Elements.{All-head, All-tail}
+use Rattle.std.proofs.lemmas.Slice.Eq.{bytes_eq-Decides}
 use Rattle.jm_bytes.proofs.Choice.{same_some}
-use Rattle.jm_outside.specs.Files.{Files, put}
+use Rattle.jm_outside.specs.Files.{Files, file, put}
 use Rattle.jm_outside.specs.Holds.{Holds, HoldsPart}
-use Rattle.jm_outside.specs.Made.{BrokenOff, MadeAll, MadePart, Writes, written}
+use Rattle.jm_outside.specs.Made.{BrokenOff, Elsewhere, MadeAll, MadePart, Writes, written}
+use Rattle.jm_outside.specs.Outcome.{Shows, Told}
+use Rattle.jm_outside.proofs.Laws.{file-put}
 
 -- One file
 
@@ -77,3 +84,35 @@ pub part_longer : (xs ys : Writes) (old new : Option Files) → MadePart xs old 
 part_longer xs ys None new part = tt
 part_longer xs ys (Some files) None part = part
 part_longer xs ys (Some files) (Some all) part = broken_longer files all xs ys part
+
+-- At other paths
+
+file_put-elsewhere : (files : Files) (other bytes path : List ℕ) → other ≢ path → file (put files other bytes) path ≡ file files path
+file_put-elsewhere files other bytes path differ =
+    file-put files other bytes path
+    ∙ ap (λ b. cond b (Some bytes) (file files path))
+    (false_from_ne_true (bytes_eq path other) (λ same. differ (sym ((bytes_eq-Decides path other).0 same))))
+
+-- files that are made at other paths leave a file
+pub file-written : (files : Files) (writes : Writes) (path : List ℕ) → Elsewhere writes path → file (written files writes) path
+    ≡ file files path
+file-written files [] path elsewhere = refl
+file-written files (write ∷ writes) path elsewhere =
+    file-written (put files write.0 write.1) writes path (All-tail (λ (w : List ℕ × List ℕ). w.0 ≢ path) write writes elsewhere)
+    ∙ file_put-elsewhere files write.0 write.1 path (All-head (λ (w : List ℕ × List ℕ). w.0 ≢ path) write writes elsewhere)
+
+-- the same where the files are told
+pub file-made : (writes : Writes) (old new : Option Files) (path : List ℕ) → Elsewhere writes path → MadeAll writes old new
+    → Told old new (λ (before after : Files). file after path ≡ file before path)
+file-made writes None new path elsewhere made = tt
+file-made writes (Some old) None path elsewhere made = cc
+file-made writes (Some old) (Some new) path elsewhere made =
+    ap (λ (files : Files). file files path) (same_some new (written old writes) made) ∙ file-written old writes path elsewhere
+
+-- what is shown of a file then was so before
+pub shown_before : (P : Option (List ℕ) → Type 0) (writes : Writes) (old new : Option Files) (path : List ℕ) → Elsewhere writes path
+    → MadeAll writes old new → Shows new (λ (files : Files). P (file files path)) → Shows old (λ (files : Files). P (file files path))
+shown_before P writes None new path elsewhere made shown = tt
+shown_before P writes (Some old) None path elsewhere made shown = cc
+shown_before P writes (Some old) (Some new) path elsewhere made shown =
+    subst P (file-made writes (Some old) (Some new) path elsewhere made) shown

@@ -1,19 +1,21 @@
--- Files that rise by their paths, each of which is text, stay so; and so do the names below a folder.
-use Rattle.std.proofs.Common.{◌≡◌, ℕ, List, [], ◌∷◌, ◌++◌, Option, Some, None, refl, sym, ◌∙◌, ap, All}
+-- Files that rise by their paths, each of which is text, and that have bytes alone stay so; and so do the
+-- names below a folder.
+use Rattle.std.proofs.Common.{◌≡◌, ◌<◌, ℕ, List, [], ◌∷◌, ◌++◌, Option, Some, None, refl, sym, ◌∙◌, ap, All}
 use Rattle.std.proofs.Common.{IsUtf8, lit<, drop, length, length-append, arith, rules, Result, Ok, Err, OnOk}
-use Rattle.std.proofs.Common.{OnErr}
+use Rattle.std.proofs.Common.{OnErr, Bool, true, false, cond, get_or, unwrap_or, Fits, w8}
 use Rattle.std.specs.Ordering.{nat_cmp, match_ordering, ordering_reverse}
 use Rattle.std.specs.declared.cmp.Ordering.{Ordering}
 use Rattle.std.specs.declared.cmp.Ordering.TheVariants.{Less, Equal, Greater}
 use Rattle.std.specs.Cmp.Lexicographic.{slice_cmp, nat_list_cmp_total}
 use Rattle.std.specs.List.{AllByRecursion, filter_map, cons_option}
 use Rattle.std.specs.List.Sorted.{IsStrictlySortedBy}
-use Rattle.std.proofs.lemmas.List.Elements.{All-nil, All-cons, All-head, All-tail}
+use Rattle.std.proofs.lemmas.List.Elements.{All-nil, All-cons, All-head, All-tail, All-append, All-from_get_or}
+use Rattle.std.specs.Str.{bytes_eq}
 use Rattle.std.proofs.lemmas.Str.{IsUtf8-drop, IsUtf8-append, IsUtf8-encode, IsUtf8-had, encode_ascii, IsCharBoundary-from_take}
 use Rattle.std.specs.Str.{IsCharBoundary}
 use Rattle.std.proofs.lemmas.List.{take_at, drop_at}
 use Rattle.std.proofs.lemmas.Bool.Decides.{nat_tests}
-use Rattle.jm_outside.specs.Files.{Files, Rising, paths, put, after_front, names_below}
+use Rattle.jm_outside.specs.Files.{Files, Rising, AreBytes, HaveBytes, paths, file, put, after_front, names_below}
 use Rattle.jm_outside.proofs.Names.{front_of}
 
 -- a text below another is below all that rise above that
@@ -61,24 +63,66 @@ all_put P (f ∷ files) path bytes this all = go (slice_cmp nat_cmp path f.0) (a
     go Equal later = all
     go Greater later = All-cons P f.0 (paths (put files path bytes)) (All-head P f.0 (paths files) all) later
 
+-- what holds of the bytes of each file holds so where others that have it come in
+pub contents_put : (P : List ℕ → Type 0) (files : Files) (path bytes : List ℕ) → P bytes → All (λ (f : List ℕ × List ℕ). P f.1) files
+    → All (λ (f : List ℕ × List ℕ). P f.1) (put files path bytes)
+contents_put P [] path bytes this all = All-cons (λ (f : List ℕ × List ℕ). P f.1) (path, bytes) [] this
+    (All-nil (λ (f : List ℕ × List ℕ). P f.1))
+contents_put P (f ∷ files) path bytes this all = go (slice_cmp nat_cmp path f.0) (contents_put P files path bytes this rest)
+  where
+    rest : All (λ (f : List ℕ × List ℕ). P f.1) files
+    rest = All-tail (λ (f : List ℕ × List ℕ). P f.1) f files all
+
+    go : (o : Ordering) → All (λ (f : List ℕ × List ℕ). P f.1) (put files path bytes)
+        → All (λ (f : List ℕ × List ℕ). P f.1) (match_ordering o ((path, bytes) ∷ f ∷ files) ((f.0, bytes) ∷ files)
+        (f ∷ put files path bytes))
+    go Less later = All-cons (λ (f : List ℕ × List ℕ). P f.1) (path, bytes) (f ∷ files) this all
+    go Equal later = All-cons (λ (f : List ℕ × List ℕ). P f.1) (f.0, bytes) files this rest
+    go Greater later = All-cons (λ (f : List ℕ × List ℕ). P f.1) f (put files path bytes)
+        (All-head (λ (f : List ℕ × List ℕ). P f.1) f files all) later
+
+-- what a list of `u8` holds
+pub bytes_of_type : (numbers : List ℕ) → ((k : ℕ) → Fits w8 (get_or numbers k 0)) → AreBytes numbers
+bytes_of_type numbers fits = All-from_get_or (λ byte. byte < 256) numbers 0 (λ k _. (fits k).fits)
+
+file_bytes : (files : Files) (path : List ℕ) → HaveBytes files → AreBytes (unwrap_or (file files path) [])
+file_bytes [] path all = All-nil (λ byte. byte < 256)
+file_bytes (f ∷ files) path all = go (bytes_eq path f.0) (file_bytes files path (All-tail (λ (f : List ℕ × List ℕ). AreBytes f.1) f files all))
+  where
+    go : (b : Bool) → AreBytes (unwrap_or (file files path) []) → AreBytes (unwrap_or (cond b (Some f.1) (file files path)) [])
+    go true later = All-head (λ (f : List ℕ × List ℕ). AreBytes f.1) f files all
+    go false later = later
+
+-- the bytes of a file with more at their end
+pub bytes_added : (files : Files) (path bytes : List ℕ) → HaveBytes files → AreBytes bytes
+    → AreBytes (unwrap_or (file files path) [] ++ bytes)
+bytes_added files path bytes all more =
+    All-append (λ byte. byte < 256) (unwrap_or (file files path) []) bytes (file_bytes files path all) more
+
 -- what the fields of a shelf in memory say of its files
 pub record Keeps (files : Files) : Type 0 where
   pub rising : Rising (paths files)
   pub texts : All (λ p. ∥ IsUtf8 p ∥₁) (paths files)
+  pub bytes : HaveBytes files
 
 pub none_kept : (files : Files) → files ≡ [] → Keeps files
 unfolding IsStrictlySortedBy
-none_kept files none = rw none (record { rising = tt; texts = All-nil (λ p. ∥ IsUtf8 p ∥₁) })
+none_kept files none = rw none (record {
+  rising = tt;
+  texts = All-nil (λ p. ∥ IsUtf8 p ∥₁);
+  bytes = All-nil (λ (f : List ℕ × List ℕ). AreBytes f.1);
+})
 
 -- the same after a change that may find no memory
-pub kept_after : {T E : Type 0} (r : Result T E) (old new : Files) (path bytes : List ℕ) → IsUtf8 path
+pub kept_after : {T E : Type 0} (r : Result T E) (old new : Files) (path bytes : List ℕ) → IsUtf8 path → AreBytes bytes
     → OnOk r (new ≡ put old path bytes) → OnErr r (new ≡ old) → Keeps old → Keeps new
-kept_after (Ok x) old new path bytes text ok err kept = rw ok (record {
+kept_after (Ok x) old new path bytes text numbers ok err kept = rw ok (record {
   rising = rising_put old path bytes kept.rising;
   texts =
       all_put (λ p. ∥ IsUtf8 p ∥₁) old path bytes ∣ text ∣₁ kept.texts;
+  bytes = contents_put AreBytes old path bytes numbers kept.bytes;
 })
-kept_after (Err e) old new path bytes text ok err kept = rw err kept
+kept_after (Err e) old new path bytes text numbers ok err kept = rw err kept
 
 -- a common front leaves the order as it is
 same_front : (front a b : List ℕ) → slice_cmp nat_cmp (front ++ a) (front ++ b) ≡ slice_cmp nat_cmp a b

@@ -18,6 +18,11 @@ handed_out (Ok (Some bytes)) = length bytes
 handed_out (Ok None) = 0
 handed_out (Err _) = 0
 
+-- how many bytes of a file a shelf's answer hands out that was asked for exactly this many
+abbrev pub handed_exactly : {T E : Type 0} → Result T E → ℕ → ℕ
+handed_exactly (Ok _) count = count
+handed_exactly (Err _) count = 0
+
 -- a sink's answer is `Failed`
 abbrev pub sink_failed : {T : Type 0} → Result T SinkError → Bool
 sink_failed (Ok _) = false

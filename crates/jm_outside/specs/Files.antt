@@ -1,7 +1,8 @@
 -- The files that a shelf tells: a finite map from path to bytes, as a list of pairs (this project's
 -- rule).
-use Rattle.std.specs.Prelude.{ℕ, List, [], ◌∷◌, ◌++◌, Option, Some, None, map, unwrap_or, All}
-use Rattle.std.specs.Prelude.{IsUtf8, if◌then◌else◌, ◌==◌, length, take, drop, option_map}
+use Rattle.std.specs.Prelude.{ℕ, ◌≡◌, ◌<◌, List, [], ◌∷◌, ◌++◌, Option, Some, None, map}
+use Rattle.std.specs.Prelude.{unwrap_or, option_map, All, IsUtf8, if◌then◌else◌, ◌==◌, length}
+use Rattle.std.specs.Prelude.{take, drop}
 use Rattle.std.specs.List.{filter_map}
 use Rattle.std.specs.List.Sorted.{IsStrictlySortedBy}
 use Rattle.std.specs.Str.{bytes_eq}
@@ -20,10 +21,19 @@ paths files = map (λ f. f.0) files
 abbrev pub Rising : List (List ℕ) → Type 0
 Rising texts = IsStrictlySortedBy (slice_cmp nat_cmp) texts
 
--- files rise by their paths, and each path is text
+-- the numbers of a list are bytes
+abbrev pub AreBytes : List ℕ → Type 0
+AreBytes numbers = All (λ byte. byte < 256) numbers
+
+-- each file has bytes alone
+abbrev pub HaveBytes : Files → Type 0
+HaveBytes files = All (λ f. AreBytes f.1) files
+
+-- files rise by their paths, each path is text, and each file has bytes alone
 pub record IsSound (files : Files) : Type 0 where
   pub rising : Rising (paths files)
   pub texts : All IsUtf8 (paths files)
+  pub bytes : HaveBytes files
 
 -- the bytes of the file at a path
 abbrev pub file : Files → List ℕ → Option (List ℕ)
@@ -41,6 +51,11 @@ part bytes at count = take count (drop at bytes)
 -- a part of the bytes of the file at a path
 abbrev pub file_part : Files → List ℕ → ℕ → ℕ → Option (List ℕ)
 file_part files path at count = option_map (λ bytes. part bytes at count) (file files path)
+
+-- the file at a path is there and has that many bytes from a place on
+abbrev pub HasPart : Files → List ℕ → ℕ → ℕ → Type 0
+HasPart files path at count =
+    option_map (λ bytes. length bytes) (file_part files path at count) ≡ Some count
 
 -- the files with these bytes at a path, in place of what it had: in front of the first path above
 abbrev pub put : Files → List ℕ → List ℕ → Files

@@ -1,5 +1,6 @@
 -- Files that are made one after another (this project's rule).
-use Rattle.std.specs.Prelude.{ℕ, ◌≡◌, ◌≤◌, ◌⊎◌, List, [], ◌∷◌, length, take, Option, option_map}
+use Rattle.std.specs.Prelude.{ℕ, ◌≡◌, ◌≢◌, ◌≤◌, ◌⊎◌, List, [], ◌∷◌, length, take, All, Option}
+use Rattle.std.specs.Prelude.{option_map}
 use Rattle.jm_outside.specs.Files.{Files, put}
 use Rattle.jm_outside.specs.Outcome.{Told}
 
@@ -11,6 +12,10 @@ Writes = List (List ℕ × List ℕ)
 abbrev pub written : Files → Writes → Files
 written files [] = files
 written files (write ∷ writes) = written (put files write.0 write.1) writes
+
+-- each of them is made at another path than this
+abbrev pub Elsewhere : Writes → List ℕ → Type 0
+Elsewhere writes path = All (λ write. write.0 ≢ path) writes
 
 -- a front of the bytes stands at the path; the other files are as before
 abbrev pub StandsInPart : Files → List ℕ × List ℕ → Files → Type 0

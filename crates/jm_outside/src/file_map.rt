@@ -1,5 +1,7 @@
-ghost use Rattle.std.specs.Prelude.{◌≡◌, ◌++◌, ◌∷◌, [], IfOk, OnOk, OnErr, option_map};
-ghost use Rattle.jm_outside.specs.Files.{file, part, put, add, after_front, names_below};
+ghost use Rattle.std.specs.Prelude.{◌≡◌, ◌++◌, ◌∷◌, [], Some, IfOk, OnOk, OnErr, IfSome, IfNone};
+ghost use Rattle.std.specs.Prelude.{length, option_map};
+ghost use Rattle.jm_outside.specs.Files.{HasPart, file, file_part, part, put, add, after_front};
+ghost use Rattle.jm_outside.specs.Files.{names_below};
 
 use jm_bytes::{List, NoMemory, Text, copy_of, extend};
 use std::alloc::Global;
@@ -37,6 +39,17 @@ impl FileMap {
             Some(bytes) => Some(bytes.as_slice()),
             None => None,
         }
+    }
+
+    /// Exactly `count` bytes of a file, from the byte `at` on. None where it hasn't as many there.
+    pub fn exact_part(&self, path: &[u8], at: u64, count: usize) -> Option<&[u8]>
+        ensures part { IfSome result
+            (λ part. file_part self.now path.now at count ≡ Some part.now) }
+        ensures exact { IfSome result (λ part. length part.now ≡ count) }
+        ensures none { IfNone result (¬ HasPart self.now path.now at count) }
+    {
+        let part = part_of(self.file(path)?, at, count);
+        if part.len() < count { None } else { Some(part) }
     }
 
     /// The names of the files below a folder.

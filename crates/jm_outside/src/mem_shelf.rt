@@ -1,9 +1,9 @@
-ghost use Rattle.std.specs.Prelude.{◌≡◌, ◌≤◌, ◌+◌, ◌/◌, ◌↔◌, [], Some, true, false, All, IsUtf8};
-ghost use Rattle.std.specs.Prelude.{IsOk, IfOk, OnOk, OnErr, IsErrOf, length, option_map};
+ghost use Rattle.std.specs.Prelude.{◌≡◌, ◌≤◌, ◌+◌, ◌/◌, ◌↔◌, ◌⊎◌, [], Some, true, false, All};
+ghost use Rattle.std.specs.Prelude.{IsUtf8, IsOk, IfOk, OnOk, OnErr, IsErrOf, length, option_map};
 ghost use Rattle.std.specs.List.Sorted.{IsStrictlySortedBy-prop};
 ghost use Rattle.std.proofs.lemmas.Str.{IsUtf8-had};
-ghost use Rattle.jm_outside.specs.Files.{Rising, paths, file, file_length, file_part, put, add};
-ghost use Rattle.jm_outside.specs.Files.{names_below};
+ghost use Rattle.jm_outside.specs.Files.{Rising, AreBytes, HaveBytes, HasPart, paths, file};
+ghost use Rattle.jm_outside.specs.Files.{file_length, file_part, put, add, names_below};
 ghost use Rattle.jm_outside.specs.Outcome.{CountsFaults};
 ghost use Rattle.jm_outside.specs.ComputedCalls.{no_calls, IsListed, after_call, with_fault};
 ghost use Rattle.jm_outside.specs.ComputedCuts.{first_half};
@@ -12,23 +12,26 @@ use crate::calls::Calls;
 use crate::file_map::{FileMap, part_of};
 use crate::handed::Handed;
 use crate::shelf::{Shelf, ShelfError};
-use jm_bytes::{List, NoMemory, Text, copy_of};
+use jm_bytes::{List, NoMemory, Text, copy_of, extend};
 use std::alloc::Global;
+use std::mem::replace;
 
 /// A shelf in memory, which tells its files. A file is just a path.
 ///
-/// It numbers the calls of the trait from 0, those of `read_part` by themselves, and fails those
-/// that `fail_on` and `fail_parts_on` list, with one fault each. The numbers stand still at the
-/// last of 64 bits.
+/// It numbers the calls of the trait from 0, and those of `read_part` and `read_exact` by
+/// themselves, in one line. It fails those that `fail_on` and `fail_parts_on` list, with one fault
+/// each. The numbers stand still at the last of 64 bits.
 #[derive(Debug, Drop)]
 pub struct MemShelf {
     files: FileMap,
     calls: Calls,
-    /// The calls of `read_part`. Their faults are counted with those of the others.
+    /// The calls of `read_part` and `read_exact`. Their faults are counted with those of the
+    /// others.
     parts: Calls,
     handed: Handed,
     ghost rising: { Rising (paths files) } by { IsStrictlySortedBy-prop _ (paths files) },
     ghost texts: { All (λ path. ∥ IsUtf8 path ∥₁) (paths files) },
+    ghost bytes: { HaveBytes files },
 }
 
 /// A copy of bytes of a file, which counts as handed out.
@@ -40,6 +43,23 @@ fn handed_copy(alloc: Global, handed: &mut Handed, bytes: &[u8]) -> Result<Text,
     let text = Text::copy_of(alloc, bytes)?;
     handed.add(bytes.len())?;
     Ok(text)
+}
+
+/// The numbers of a slice are bytes, which its type says: a clause knows them as numbers alone.
+fn known_bytes(bytes: &[u8])
+    ensures { AreBytes bytes.now }
+{}
+
+/// Puts bytes into a text, in the place of what it holds.
+fn refill(into: &mut Text, bytes: &[u8]) -> Result<(), NoMemory>
+    ensures { OnOk result (into.new ≡ bytes.now) }
+{
+    let empty = Text::new(into.allocator());
+    let mut room = replace(into, empty).into_vec();
+    room.clear();
+    extend(&mut room, bytes)?;
+    *into = Text::from_vec(room);
+    Ok(())
 }
 
 impl MemShelf {
@@ -60,7 +80,8 @@ impl MemShelf {
         }
     }
 
-    /// Makes the calls with these numbers fail, and no others. Those of `read_part` have none.
+    /// Makes the calls with these numbers fail, and no others. Those of `read_part` and
+    /// `read_exact` have none of them.
     pub fn fail_on(&mut self, calls: List<u64>)
         ensures files { files_on self.new ≡ files_on self.old }
         ensures calls { calls_of self.new ≡ record (calls_of self.old) { failing = calls } }
@@ -70,7 +91,8 @@ impl MemShelf {
         self.calls.fail_on(calls);
     }
 
-    /// Makes the calls of `read_part` with these numbers, from 0, fail, and none of its others.
+    /// Makes the calls of `read_part` and `read_exact` with these numbers, from 0, fail, and no
+    /// others of them.
     pub fn fail_parts_on(&mut self, calls: List<u64>)
         ensures files { files_on self.new ≡ files_on self.old }
         ensures calls { calls_of self.new ≡ calls_of self.old }
@@ -89,6 +111,7 @@ impl MemShelf {
         ensures parts { parts_of self.new ≡ parts_of self.old }
         ensures handed { handed_by self.new ≡ handed_by self.old }
     {
+        known_bytes(bytes.as_slice());
         self.files.put(path.into_vec(), bytes.into_vec())
     }
 
@@ -102,7 +125,7 @@ impl MemShelf {
 
 impl Shelf for MemShelf {
     ghost use Rattle.jm_outside.specs.Views.{files_on, calls_of, parts_of, handed_by};
-    ghost use Rattle.jm_outside.specs.Answers.{shelf_failed, handed_out};
+    ghost use Rattle.jm_outside.specs.Answers.{shelf_failed, handed_out, handed_exactly};
 
     ghost files = { λ shelf. Some (files_on shelf) };
 
@@ -211,6 +234,44 @@ impl Shelf for MemShelf {
         }
     }
 
+    /// A listed call answers `Failed`, and so does one for more bytes than the file has there.
+    fn read_exact(
+        &mut self,
+        _alloc: Global,
+        path: &[u8],
+        at: u64,
+        count: usize,
+        into: &mut Text,
+    ) -> Result<(), ShelfError>
+        requires text { IsUtf8 path.now }
+        ensures files { files_on self.new ≡ files_on self.old }
+        ensures found { OnOk result
+            (file_part (files_on self.old) path.now at count ≡ Some into.new) }
+        ensures exact { OnOk result (length into.new ≡ count) }
+        ensures failed { IsErrOf result ShelfError.Failed ↔ (IsListed (parts_of self.old)
+            ⊎ (¬ HasPart (files_on self.old) path.now at count)) }
+        ensures handed { handed_by self.new ≡ handed_by self.old + handed_exactly result count }
+        ensures calls { calls_of self.new ≡ with_fault (calls_of self.old) (shelf_failed result) }
+        ensures parts { parts_of self.new ≡ after_call (parts_of self.old) false }
+
+        // Follows from `calls`.
+        ensures faults { CountsFaults (calls_of self.old).faults (calls_of self.new).faults
+            (IsOk result) (IsErrOf result ShelfError.Failed) }
+    {
+        let found = if self.parts.number() {
+            None
+        } else {
+            self.files.exact_part(path, at, count)
+        };
+        let Some(part) = found else {
+            self.calls.fault();
+            return Err(ShelfError::Failed);
+        };
+        refill(into, part)?;
+        self.handed.add(count)?;
+        Ok(())
+    }
+
     /// A listed call answers `Failed` and leaves all as before.
     fn create(&mut self, alloc: Global, path: &[u8]) -> Result<(), ShelfError>
         requires text { IsUtf8 path.now }
@@ -278,5 +339,6 @@ impl Shelf for MemShelf {
     ghost sound = { λ shelf. record {
       rising = shelf.rising;
       texts = λ k d h. IsUtf8-had _ (shelf.texts k d h);
+      bytes = shelf.bytes;
     } };
 }

@@ -1,8 +1,8 @@
-ghost use Rattle.std.specs.Prelude.{◌≡◌, ◌≤◌, ◌+◌, ℕ, [], Bool, Option, All, IsUtf8, IsOk};
-ghost use Rattle.std.specs.Prelude.{IsTrue, IfOk, OnOk, OnErr, IsErrOf, option_map};
+ghost use Rattle.std.specs.Prelude.{◌≡◌, ◌≤◌, ◌+◌, ℕ, [], Bool, Option, Some, All, IsUtf8, IsOk};
+ghost use Rattle.std.specs.Prelude.{IsTrue, IfOk, OnOk, OnErr, IsErrOf, length, option_map};
 ghost use Rattle.jm_outside.specs.Files.{Files, IsSound, Rising, file, file_length, file_part};
 ghost use Rattle.jm_outside.specs.Files.{put, add, names_below};
-ghost use Rattle.jm_outside.specs.Answers.{handed_out};
+ghost use Rattle.jm_outside.specs.Answers.{handed_out, handed_exactly};
 ghost use Rattle.jm_outside.specs.Outcome.{Shows, Told, AsBeforeOrEmpty, AddsFront, CountsFaults};
 
 use crate::streams::Failed;
@@ -92,6 +92,10 @@ pub trait Shelf {
 
         ensures told { IfOk result (λ names. Shows (files self.old)
             (λ files. names ≡ names_below dir.now files)) }
+
+        // A file that was made takes its name first.
+        ensures whole { OnOk result (IsTrue (whole self.new)) }
+
         ensures handed { handed self.new ≡ handed self.old }
         ensures faults { CountsFaults (faults self.old) (faults self.new) (IsOk result)
             (IsErrOf result ShelfError.Failed) };
@@ -137,6 +141,31 @@ pub trait Shelf {
         ensures faults { CountsFaults (faults self.old) (faults self.new) (IsOk result)
             (IsErrOf result ShelfError.Failed) };
 
+    /// Puts exactly `count` bytes of the file at a path, from the byte `at` on, into a text, in the
+    /// place of what it holds. A file that isn't there is a fault, and so is one that has fewer
+    /// bytes: who asks knows the file's length.
+    ///
+    /// What the text holds after a refusal is not said.
+    fn read_exact(
+        &mut self,
+        alloc: Global,
+        path: &[u8],
+        at: u64,
+        count: usize,
+        into: &mut Text,
+    ) -> Result<(), ShelfError>
+        requires text { IsUtf8 path.now }
+        ensures files { files self.new ≡ files self.old }
+        ensures told { OnOk result (Shows (files self.old)
+            (λ files. file_part files path.now at count ≡ Some into.new)) }
+
+        // Told or not.
+        ensures exact { OnOk result (length into.new ≡ count) }
+
+        ensures handed { handed self.new ≡ handed self.old + handed_exactly result count }
+        ensures faults { CountsFaults (faults self.old) (faults self.new) (IsOk result)
+            (IsErrOf result ShelfError.Failed) };
+
     /// Makes an empty file at a path, or empties the one that is there. Other files stay.
     fn create(&mut self, alloc: Global, path: &[u8]) -> Result<(), ShelfError>
         requires text { IsUtf8 path.now }
@@ -170,6 +199,6 @@ pub trait Shelf {
         ensures faults { CountsFaults (faults self.old) (faults self.new) (IsOk result)
             (IsErrOf result ShelfError.Failed) };
 
-    // Told files rise by path, and each path is UTF-8.
+    // Told files rise by path, each path is UTF-8, and each file has bytes alone.
     ghost sound: { (shelf : Self) → Shows (files shelf) IsSound };
 }
