@@ -67,6 +67,8 @@ impl<T: Drop> From<AllocFailed<T>> for ShelfError {
 ///
 /// Every path and folder that a call takes is UTF-8. A folder has no slash at its end: the file `r`
 /// of the folder `dir` has the path `dir/r`.
+///
+/// A file that was made takes its name before a call looks at files, and when making them ends.
 pub trait Shelf {
     // Each path with its bytes, or None where the shelf tells nothing.
     ghost files: { Self → Option Files };
@@ -92,10 +94,7 @@ pub trait Shelf {
 
         ensures told { IfOk result (λ names. Shows (files self.old)
             (λ files. names ≡ names_below dir.now files)) }
-
-        // A file that was made takes its name first.
         ensures whole { OnOk result (IsTrue (whole self.new)) }
-
         ensures handed { handed self.new ≡ handed self.old }
         ensures faults { CountsFaults (faults self.old) (faults self.new) (IsOk result)
             (IsErrOf result ShelfError.Failed) };
@@ -106,6 +105,7 @@ pub trait Shelf {
         ensures files { files self.new ≡ files self.old }
         ensures told { IfOk result (λ found. Shows (files self.old)
             (λ files. found ≡ file files path.now)) }
+        ensures whole { OnOk result (IsTrue (whole self.new)) }
         ensures handed { handed self.new ≡ handed self.old + handed_out result }
         ensures faults { CountsFaults (faults self.old) (faults self.new) (IsOk result)
             (IsErrOf result ShelfError.Failed) };
@@ -116,6 +116,7 @@ pub trait Shelf {
         ensures files { files self.new ≡ files self.old }
         ensures told { IfOk result (λ found. Shows (files self.old)
             (λ files. found ≡ file_length files path.now)) }
+        ensures whole { OnOk result (IsTrue (whole self.new)) }
         ensures handed { handed self.new ≡ handed self.old }
         ensures faults { CountsFaults (faults self.old) (faults self.new) (IsOk result)
             (IsErrOf result ShelfError.Failed) };
@@ -137,6 +138,7 @@ pub trait Shelf {
         // Told or not.
         ensures within { handed_out result ≤ length }
 
+        ensures whole { OnOk result (IsTrue (whole self.new)) }
         ensures handed { handed self.new ≡ handed self.old + handed_out result }
         ensures faults { CountsFaults (faults self.old) (faults self.new) (IsOk result)
             (IsErrOf result ShelfError.Failed) };
@@ -162,6 +164,7 @@ pub trait Shelf {
         // Told or not.
         ensures exact { OnOk result (length into.new ≡ count) }
 
+        ensures whole { OnOk result (IsTrue (whole self.new)) }
         ensures handed { handed self.new ≡ handed self.old + handed_exactly result count }
         ensures faults { CountsFaults (faults self.old) (faults self.new) (IsOk result)
             (IsErrOf result ShelfError.Failed) };
