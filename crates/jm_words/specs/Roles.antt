@@ -5,6 +5,7 @@ use Rattle.std.specs.Prelude.{Option, Some, None, option_map, is_some, is_none, 
 use Rattle.std.specs.Prelude.{if◌then◌else◌, codes}
 use Rattle.std.specs.List.{find, before_first, starts_with}
 use Rattle.std.specs.Str.{bytes_eq}
+use Rattle.jm_bytes.specs.Checks.{fault_if, first_fault}
 use Rattle.jm_words.specs.declared.errors.WordsFault.{WordsFault}
 use Rattle.jm_words.specs.declared.errors.WordsKind.{WordsKind}
 use Rattle.jm_words.specs.declared.errors.WordsKind.TheVariants as kind
@@ -115,28 +116,23 @@ abbrev pub stands_again : List Given → Option Row → Bool
 stands_again values None = false
 stands_again values (Some row) = has values row.field
 
--- the kinds of faults, in the order in which they are judged at one word
-abbrev pub kinds : List WordsKind
-kinds =
-    kind.NoCommand ∷ kind.UnknownCommand ∷ kind.UnknownOption ∷ kind.Repeated ∷ kind.NoValue
-    ∷ kind.BadValue ∷ kind.TooManyArguments ∷ kind.Missing ∷ []
-
--- a kind of fault holds of a word in its role, where these values are given and these arguments
--- are left, and it is the last word or not
-abbrev pub is_faulty : List Given → List Row → Bool → Role → WordsKind → Bool
-is_faulty values left last role kind.UnknownOption = is_unknown role
-is_faulty values left last role kind.Repeated = stands_again values (named_by role)
-is_faulty values left last role kind.NoValue = is_some (waiting role) && last
-is_faulty values left last role kind.BadValue = has_form left role && is_none (given_by left role)
-is_faulty values left last role kind.TooManyArguments = is_argument role && is_none_left left
-is_faulty values left last role _ = false
+-- what can be wrong with a word in its role, in the order in which it is judged, where these values
+-- are given and these arguments are left, and it is the last word or not
+abbrev pub word_checks : List Given → List Row → Bool → Role → List (Option WordsKind)
+word_checks values left last role =
+    fault_if (is_unknown role) kind.UnknownOption
+    ∷ fault_if (stands_again values (named_by role)) kind.Repeated
+    ∷ fault_if (is_some (waiting role) && last) kind.NoValue
+    ∷ fault_if (has_form left role && is_none (given_by left role)) kind.BadValue
+    ∷ fault_if (is_argument role && is_none_left left) kind.TooManyArguments
+    ∷ []
 
 -- a fault of a kind, with the number of its word
 abbrev pub fault_at : {A : Type 0} → ℕ → WordsKind → Result A WordsFault
 fault_at at kind = Err (record { at = at; kind = kind })
 
--- the first fault of a word of a number in its role: that of the first kind that holds of it
+-- the first fault of a word of a number in its role
 abbrev pub fault_in : ℕ → List Given → List Row → Bool → Role → Option WordsFault
 fault_in at values left last role =
     option_map (λ kind. record { at = at; kind = kind })
-    (find (is_faulty values left last role) kinds)
+    (first_fault (word_checks values left last role))

@@ -48,7 +48,7 @@ givens_before verb words i = filter_map (given_at verb words) (range_with_len 0 
 abbrev pub draft_before : Verb → List (List ℕ) → ℕ → Draft
 draft_before verb words i = draft_of (givens_before verb words i)
 
--- the first fault, in the order of `kinds`, that the word at a place has in its role
+-- the first fault, in the order of `word_checks`, that the word at a place has in its role
 abbrev pub fault_of : Verb → List (List ℕ) → ℕ → Option WordsFault
 fault_of verb words i =
     fault_in (i + 2) (draft_before verb words i).values (left_at verb words i)
