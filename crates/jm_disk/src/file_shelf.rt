@@ -9,8 +9,9 @@ use crate::reading::read_at;
 use jm_bytes::{List, Text};
 use jm_outside::{Handed, Shelf, ShelfError};
 use std::alloc::Global;
+use std::io::ErrorKind;
 use std::rt::Files;
-use std::str;
+use std::{io, str};
 
 /// The shelf of the file system, which tells no files. A path is the system's: one that begins with
 /// no slash goes from the folder in which the program runs.
@@ -24,7 +25,8 @@ use std::str;
 /// only `finish` waits until they are on the disk.
 ///
 /// The file of which the length or a part was asked last is open until another file's is, or until
-/// files are made: what comes of it is of one file, whatever stands at its path by then.
+/// one is made or added to at its path, spelled the same: what comes of it is of one file, whatever
+/// stands at its path by then. It stays open while other files are made.
 ///
 /// Each error of the system counts as one fault.
 #[derive(Drop)]
@@ -114,6 +116,17 @@ impl<'a, R: Files + AllocGlobal> FileShelf<'a, R> {
         let answer = open_for(self.rt, kept, path);
         self.parted = self.judge(alloc, path, answer)?;
         Ok(())
+    }
+
+    /// Closes the file that is open to be read in parts, if it is for this path.
+    fn forget(&mut self, path: &[u8])
+        ensures made { self.new.made_last ≡ self.old.made_last }
+        ensures handed { self.new.handed ≡ self.old.handed }
+        ensures faults { self.new.faults ≡ self.old.faults }
+    {
+        if self.parted.as_ref().is_some_and(|file| file.is_for(path)) {
+            self.parted = None;
+        }
     }
 
     /// Hands on what a call answered. Where it failed, it counts a fault and keeps what failed.
@@ -210,12 +223,33 @@ impl<'a, R: Files + AllocGlobal> Shelf for FileShelf<'a, R> {
         Ok(Some(text))
     }
 
+    /// A fault as `length`, and where that answers None. More than 4,294,967,296 bytes are a fault,
+    /// and so are more than the file has there now. Where the text has room for them they take no
+    /// memory; after a refusal it may have lost that room.
+    fn read_exact(
+        &mut self,
+        alloc: Global,
+        path: &[u8],
+        at: u64,
+        count: usize,
+        into: &mut Text,
+    ) -> Result<(), ShelfError> {
+        self.open(alloc, path)?;
+        let answer = match &mut self.parted {
+            Some(file) => file.exact_part(at, count, into),
+            None => Err(FileError::from(io::Error::from(ErrorKind::NotFound))),
+        };
+        self.judge(alloc, path, answer)?;
+        self.handed.add(count)?;
+        Ok(())
+    }
+
     /// Makes the file beside its place, and the folders of the path that are missing. Where a file
     /// is at the path, or a link to one, it stays until the new one takes its name, which has its
     /// permissions; where anything else is there, that is a fault, and so is a path that ends in no
     /// name. The file that was made before takes its name first.
     fn create(&mut self, alloc: Global, path: &[u8]) -> Result<(), ShelfError> {
-        self.parted = None;
+        self.forget(path);
         self.settle(alloc)?;
         let answer = make(self.rt, path);
         self.made_last = Some(self.judge(alloc, path, answer)?);
@@ -226,7 +260,7 @@ impl<'a, R: Files + AllocGlobal> Shelf for FileShelf<'a, R> {
     /// is, that is a fault. Where bytes can't be added to the file that was made last, it is
     /// removed.
     fn append(&mut self, alloc: Global, path: &[u8], bytes: &[u8]) -> Result<(), ShelfError> {
-        self.parted = None;
+        self.forget(path);
         let answer = match &mut self.made_last {
             Some(file) if file.is_for(path) => file.append(bytes),
             _ => {
@@ -243,7 +277,6 @@ impl<'a, R: Files + AllocGlobal> Shelf for FileShelf<'a, R> {
     /// Has the bytes of the file that was made last on the disk, and then has it take its name.
     /// Where they can't be had there, it is removed: the system tells of lost bytes only once.
     fn finish(&mut self, alloc: Global) -> Result<(), ShelfError> {
-        self.parted = None;
         let answer = match &self.made_last {
             Some(file) => file.flush(alloc),
             None => Ok(()),

@@ -1,23 +1,25 @@
 //! A file of the system that is read in parts.
-ghost use Rattle.std.specs.Prelude.{◌≤◌, IfOk, length};
+ghost use Rattle.std.specs.Prelude.{◌≡◌, ◌≤◌, IfOk, OnOk, length};
 
 use crate::file_error::{FileError, Reason};
 use crate::paths::{is_absence, is_file_at, text_of};
-use crate::reading::{MOST_BYTES, read_up_to};
+use crate::reading::{MOST_BYTES, make_length, read_up_to, read_whole};
 use jm_bytes::Text;
 use std::alloc::Global;
 use std::fs;
 use std::fs::OpenFile;
-use std::io::{Read, Seek, SeekFrom};
+use std::io::{ErrorKind, Read, Seek, SeekFrom};
+use std::mem::replace;
 use std::rt::Files;
 
-/// A file that is open to be read in parts, the path at which it stood when it was opened, and the
-/// length that was told of it last.
+/// A file that is open to be read in parts, the path at which it stood when it was opened, the
+/// length that was told of it last, and the place from which the next read is, if that is known.
 #[derive(Drop)]
 pub struct PartedFile<F: Read + Seek + OpenFile + Drop> {
     path: String,
     file: F,
     told_length: u64,
+    place: Option<u64>,
 }
 
 /// The file of a path: the one that was kept, if it is for this path, and else the one that stands
@@ -28,7 +30,7 @@ pub fn open_for<R: Files + AllocGlobal>(
     path: &[u8],
 ) -> Result<Option<PartedFile<R::File>>, FileError> {
     match kept {
-        Some(file) if file.path.as_bytes() == path => Ok(Some(file)),
+        Some(file) if file.is_for(path) => Ok(Some(file)),
         Some(_) | None => {
             let path = text_of(path)?;
             if !is_file_at(rt, path)? {
@@ -48,12 +50,18 @@ pub fn open_for<R: Files + AllocGlobal>(
                 path,
                 file,
                 told_length: 0,
+                place: Some(0),
             }))
         }
     }
 }
 
 impl<F: Read + Seek + OpenFile + Drop> PartedFile<F> {
+    /// Whether the file was opened for this path.
+    pub fn is_for(&self, path: &[u8]) -> bool {
+        self.path.as_bytes() == path
+    }
+
     /// How many bytes the file has now, which is told.
     pub fn length(&mut self) -> Result<u64, FileError> {
         self.told_length = self.file.metadata()?.len();
@@ -71,15 +79,50 @@ impl<F: Read + Seek + OpenFile + Drop> PartedFile<F> {
             return Err(FileError::from(Reason::TooLarge));
         }
         let mut bytes = Vec::new(alloc);
-        // The system takes no place that is far behind the end.
         if rest > 0 {
-            self.file.seek(SeekFrom::Start(at))?;
+            self.go_to(at)?;
             read_up_to(&mut self.file, count.min(rest), &mut bytes)?;
+            self.place = at.checked_add(bytes.len() as u64);
         }
         let told = self.told_length.saturating_sub(at) as usize;
         if bytes.len() < count.min(told) {
             return Err(FileError::from(Reason::Changed));
         }
         Ok(Text::from_vec(bytes))
+    }
+
+    /// Puts exactly so many bytes from a place on into a text, in the place of what it holds, and
+    /// in its memory where that has room. Fewer bytes there are a fault, and so is a part of more
+    /// than a file may have that is read.
+    pub fn exact_part(&mut self, at: u64, count: usize, into: &mut Text) -> Result<(), FileError>
+        ensures { OnOk result (length into.new ≡ count) }
+    {
+        if count as u64 > MOST_BYTES {
+            return Err(FileError::from(Reason::TooLarge));
+        }
+        let empty = Text::new(into.allocator());
+        let mut bytes = replace(into, empty).into_vec();
+        make_length(&mut bytes, count)?;
+        if count > 0 {
+            self.go_to(at)?;
+            read_whole(&mut self.file, bytes.as_mut_slice())?;
+            self.place = at.checked_add(count as u64);
+        }
+        *into = Text::from_vec(bytes);
+        Ok(())
+    }
+
+    /// Has the next read be from a place, by a call of the system only where it isn't already. From
+    /// then on the place is unknown until it is told anew: a read that fails may have moved on.
+    fn go_to(&mut self, at: u64) -> Result<(), FileError> {
+        if self.place.take() == Some(at) {
+            return Ok(());
+        }
+        match self.file.seek(SeekFrom::Start(at)) {
+            Ok(_) => Ok(()),
+            // The system takes no place that is far after the end.
+            Err(e) if e.kind() == ErrorKind::InvalidInput => Err(FileError::from(Reason::Changed)),
+            Err(e) => Err(FileError::from(e)),
+        }
     }
 }
