@@ -1,4 +1,5 @@
 pub mod ExtractLaws
+pub mod FiledLaws
 pub mod FrontLaws
 pub mod FrontNames
 pub mod PathLaws

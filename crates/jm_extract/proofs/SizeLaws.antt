@@ -1,6 +1,9 @@
 -- How many bytes the content of a taken entry has, by the row that the index says of it.
 use Rattle.std.proofs.Common.{◌≡◌, ◌≤◌, ◌+◌, ℕ, true, List, length, take, drop, Option, Some, None, unwrap_or, refl, sym, ap}
-use Rattle.std.proofs.Common.{◌∙◌, subst, arith, length-take, length-drop}
+use Rattle.std.proofs.Common.{◌∙◌, subst, arith, length-take, length-drop, All, [], ◌∷◌, map}
+use Rattle.std.specs.List.{sum_by}
+use Rattle.std.proofs.lemmas.List.Elements.{All-head, All-tail}
+use Rattle.std.proofs.lemmas.List.Sums.{sum_by-cons}
 use Rattle.std.proofs.lemmas.Bool.{ltb-true}
 use Rattle.jm_bytes.specs.Checks.{first_fault, unless_fault}
 use Rattle.jm_bytes.specs.declared.words.Order.{Order}
@@ -16,6 +19,10 @@ use Rattle.jm_form.proofs.LocalityLaws.{word_in_front}
 use Rattle.jm_form.proofs.TextLaws.{ended_length-le, text_ends-below}
 use Rattle.jm_valid.specs.Opened.{Front}
 use Rattle.jm_reader.specs.Look.{SoundIn, head, head_with}
+use Rattle.jm_names.specs.ByName.{Named}
+use Rattle.jm_extract.specs.declared.taking.TakenEntry.{TakenEntry}
+use Rattle.jm_extract.specs.Filed.{sizes}
+use Rattle.jm_extract.specs.Taken.{taken_as}
 
 -- The header
 
@@ -72,3 +79,14 @@ content_size front b row file sound =
     let behind = length-drop row.offset (contents b (head b)) in
     let all = length-drop (index_length (head b)) b in
     omega arith
+
+-- those of the taken entries have as many together
+pub sizes_taken : (front : Front) (b : List ℕ) (ts : List TakenEntry) → IsFileOf front.bytes front.length b
+    → All (λ t. SoundIn front t.row) ts → sum_by (λ (e : Named). length e.1) (map (taken_as b) ts) ≡ sizes ts
+sizes_taken front b [] file sound = refl
+sizes_taken front b (t ∷ ts) file sound =
+    sum_by-cons (λ (e : Named). length e.1) (taken_as b t) (map (taken_as b) ts)
+    ∙ ap (λ n. n + sum_by (λ (e : Named). length e.1) (map (taken_as b) ts)) (content_size front b t.row file (All-head (λ (t : TakenEntry).
+    SoundIn front t.row) t ts sound))
+    ∙ ap (λ n. t.row.size + n) (sizes_taken front b ts file (All-tail (λ (t : TakenEntry). SoundIn front t.row) t ts sound))
+    ∙ sym (sum_by-cons (λ (t : TakenEntry). t.row.size) t ts)

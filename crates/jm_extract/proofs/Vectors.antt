@@ -6,7 +6,7 @@ use Rattle.jm_names.specs.declared.check.NameFault.TheVariants.{Dots, EmptyPart}
 use Rattle.jm_pattern.specs.declared.signs.Sign.TheVariants.{AnyRun, Byte}
 use Rattle.jm_outside.specs.Made.{written}
 use Rattle.jm_texts.specs.declared.refusal.Refusal.TheVariants as refusal
-use Rattle.jm_extract.specs.Extracted.{extracted, refusal_of, write_of, writes_of}
+use Rattle.jm_extract.specs.Extracted.{due_size, extracted, refusal_of, taken_size, unless_refused, write_of, writes_of}
 
 -- Images
 
@@ -27,7 +27,20 @@ nodes_left_out : extracted empty None ≡ Ok []
 unfolding refusal_of
 nodes_left_out = refl
 
+-- the sizes of the contents that are taken
+two_bytes : taken_size tiny None ≡ 2
+unfolding refusal_of
+two_bytes = refl
+
+none_of_an_empty : taken_size side_by_side (Some ((AnyRun ∷ Byte 98 ∷ []) ∷ [])) ≡ 0
+unfolding refusal_of
+none_of_an_empty = refl
+
 -- Refusals
+
+none_where_refused : due_size (unless_refused ((codes "/m/a", codes "hi") ∷ (codes "/m/a/b", []) ∷ [])) ≡ 0
+unfolding refusal_of
+none_where_refused = refl
 
 -- `-` stands before `/`
 clash_behind_another : refusal_of ((codes "/m/a", []) ∷ (codes "/m/a-b", []) ∷ (codes "/m/a/b", []) ∷ [])

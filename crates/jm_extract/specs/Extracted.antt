@@ -1,7 +1,7 @@
 -- The files that are made of the taken entries of an image, or why none is (this project's rule).
 use Rattle.std.specs.Prelude.{ℕ, ◌≡◌, nat_eq, Bool, List, [], ◌∷◌, ◌++◌, length, map, Option}
 use Rattle.std.specs.Prelude.{Result, Ok, Err}
-use Rattle.std.specs.List.{list_any, starts_with}
+use Rattle.std.specs.List.{list_any, starts_with, sum_by}
 use Rattle.jm_bytes.specs.Checks.{fault_if, first_fault, unless_fault}
 use Rattle.jm_names.specs.UtfForms.{utf}
 use Rattle.jm_outside.specs.Files.{Files}
@@ -45,9 +45,13 @@ extracted b include = unless_refused (taken b include)
 
 -- Files
 
--- the file of an entry: the directory and the name in UTF-8, and the content
+-- the path of the file of an entry of this name: the directory, and the name in UTF-8
+abbrev pub path_of : List ℕ → List ℕ → List ℕ
+path_of dir name = dir ++ utf name
+
+-- the file of an entry: its path, and the content
 abbrev pub write_of : List ℕ → Named → List ℕ × List ℕ
-write_of dir e = (dir ++ utf e.0, e.1)
+write_of dir e = (path_of dir e.0, e.1)
 
 -- the files of some entries below a directory, in their order
 abbrev pub writes_of : List ℕ → List Named → Writes
@@ -68,3 +72,19 @@ Extracts due dir (Ok count) old new =
 Extracts due dir (Err (stop.Refused refusal)) old new = (due ≡ Err refusal) × (new ≡ old)
 Extracts due dir (Err stop.Outside) old new = BreaksOff due dir old new
 Extracts due dir (Err stop.Memory) old new = BreaksOff due dir old new
+
+-- all of these files were made; some of them, where a call of the shelf gave up
+abbrev pub Makes : {A E : Type 0} → Result A E → Writes → (old new : Option Files) → Type 0
+Makes (Ok _) writes old new = MadeAll writes old new
+Makes (Err _) writes old new = MadePart writes old new
+
+-- Bytes
+
+-- how many bytes the contents have together of the entries that are due; none, where a refusal is
+abbrev pub due_size : Result (List Named) Refusal → ℕ
+due_size (Ok entries) = sum_by (λ e. length e.1) entries
+due_size (Err refusal) = 0
+
+-- how many bytes the contents of an image have together that are extracted
+abbrev pub taken_size : List ℕ → Option (List (List Sign)) → ℕ
+taken_size b include = due_size (extracted b include)

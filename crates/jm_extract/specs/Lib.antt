@@ -1,4 +1,5 @@
 pub mod Extracted
+pub mod Filed
 pub mod Fronts
 pub mod Stops
 pub mod Taken

@@ -17,9 +17,13 @@ use Rattle.jm_extract.specs.declared.taking.TakenEntry.{TakenEntry}
 abbrev pub named : Entry → Named
 named e = (e.name, e.content)
 
--- the name of what the code hands out, and the content that its row says in a file
+-- the content that the row of what the code hands out says in a file
+abbrev pub content_in : List ℕ → TakenEntry → List ℕ
+content_in b t = content_of (contents b (head b)) t.row
+
+-- its name, and that content
 abbrev pub taken_as : List ℕ → TakenEntry → Named
-taken_as b t = (t.name, content_of (contents b (head b)) t.row)
+taken_as b t = (t.name, content_in b t)
 
 -- the name alone, with no content
 abbrev pub name_alone : TakenEntry → Named

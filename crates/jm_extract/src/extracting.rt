@@ -1,24 +1,26 @@
 //! The taken entries as files below a directory.
-ghost use Rattle.std.specs.Prelude.{◌≡◌, ◌∷◌, ◌++◌, [], IsUtf8, IsOk, IsTrue};
-ghost use Rattle.std.specs.Prelude.{IfOk, OnOk, OnErr, IsErrOf};
+ghost use Rattle.std.specs.Prelude.{◌≡◌, ◌≤◌, ◌+◌, ◌∷◌, [], ℕ, List, All, IsUtf8, IsOk, IsTrue};
+ghost use Rattle.std.specs.Prelude.{OnOk, OnErr, IsErrOf, map, option_map};
+ghost use Rattle.jm_form.specs.Head.{IsFileOf};
 ghost use Rattle.jm_names.specs.NameFaults.{IsSound};
-ghost use Rattle.jm_names.specs.UtfForms.{utf};
-ghost use Rattle.jm_outside.specs.Outcome.{CountsFaults};
 ghost use Rattle.jm_outside.specs.Made.{MadeAll, MadePart};
+ghost use Rattle.jm_outside.specs.Outcome.{CountsFaults};
+ghost use Rattle.jm_reader.specs.Look.{SoundIn};
 ghost use Rattle.jm_reader.specs.Walk.{IsLater};
-ghost use Rattle.jm_extract.specs.Extracted.{Extracts, extracted, write_of};
+ghost use Rattle.jm_extract.specs.Extracted.{Extracts, Makes, extracted, taken_size, write_of};
+ghost use Rattle.jm_extract.specs.Extracted.{writes_of};
+ghost use Rattle.jm_extract.specs.Filed.{HasContent, IsFiled, sizes, unkept_size};
 ghost use Rattle.jm_extract.specs.Stops.{stop_of};
+ghost use Rattle.jm_extract.specs.Taken.{content_in, taken_as};
 
+use crate::contents::{FiledImage, kept_contents, read_content};
+use crate::file_paths::path_of;
 use crate::refusals::refusal_of;
-use crate::taken_name::TakenName;
-use crate::taking::taken;
-use jm_bytes::{List, Meter, NoMemory, Text, extend};
-use jm_names::to_utf8;
-use jm_outside::{Shelf, ShelfError, make_file};
+use crate::taking::{TakenEntry, taken};
+use jm_bytes::{List, Meter, NoMemory, Text};
+use jm_outside::{Shelf, ShelfError};
 use jm_pattern::Pattern;
-use jm_reader::content;
 use jm_texts::Refusal;
-use jm_valid::Image;
 use std::alloc::Global;
 use std::sync::ledger::Ledger;
 
@@ -54,72 +56,148 @@ impl From<ShelfError> for ExtractStop {
     }
 }
 
-/// The path of an entry's file: the directory, and the name in UTF-8, which begins with a slash.
-fn path_of(alloc: Global, dir: &[u8], name: &[u8]) -> Result<Text, NoMemory>
-    ensures { IfOk result (λ path. path ≡ dir.now ++ utf name.now) }
-{
-    let name = to_utf8(alloc, name)?;
-    let mut path = Vec::new(alloc);
-    extend(&mut path, dir)?;
-    extend(&mut path, name.as_slice())?;
-    Ok(Text::from_vec(path))
+/// What is taken out of an image, and the directory for it.
+#[derive(Clone, Copy)]
+pub struct Extraction<'w> {
+    /// Where files are made, in UTF-8.
+    pub dir: &'w [u8],
+    /// Patterns, of which one must match a name; None takes all resources.
+    pub include: &'w Option<List<Pattern>>,
 }
 
-/// Makes the file of an entry with this content.
-fn make_entry<S: Shelf>(
+/// Makes the file of a path with these bytes, as `make_file` of jm_outside does: one `create` and
+/// one `append`, which take no byte of a file from the shelf.
+fn make_file<S: Shelf>(
     alloc: Global,
     shelf: &mut S,
-    dir: &[u8],
-    name: &TakenName,
-    content: &[u8],
+    path: &[u8],
+    bytes: &[u8],
 ) -> Result<(), ShelfError>
-    requires text { IsUtf8 dir.now }
-    requires sound { IsSound name.now }
-    ensures ok { OnOk result (MadeAll (write_of dir.now (name.now, content.now) ∷ [])
-        (S.files shelf.old) (S.files shelf.new)) }
-    ensures err { OnErr result (MadePart (write_of dir.now (name.now, content.now) ∷ [])
-        (S.files shelf.old) (S.files shelf.new)) }
+    requires text { IsUtf8 path.now }
+    ensures ok { OnOk result
+        (MadeAll ((path.now, bytes.now) ∷ []) (S.files shelf.old) (S.files shelf.new)) }
+    ensures err { OnErr result
+        (MadePart ((path.now, bytes.now) ∷ []) (S.files shelf.old) (S.files shelf.new)) }
+    ensures handed { S.handed shelf.new ≡ S.handed shelf.old }
     ensures faults { CountsFaults (S.faults shelf.old) (S.faults shelf.new) (IsOk result)
         (IsErrOf result ShelfError.Failed) }
 {
-    let name = name.view().to_text(alloc)?;
-    let path = path_of(alloc, dir, name.as_slice())?;
-    make_file(alloc, shelf, path.as_slice(), content)
+    shelf.create(alloc, path)?;
+    shelf.append(alloc, path, bytes)
+}
+
+/// Where the files of an image's entries are made.
+#[derive(Clone, Copy)]
+struct Making<'m, 'i, 'a> {
+    alloc: Global,
+    image: FiledImage<'i, 'a>,
+    dir: &'m [u8],
+}
+
+/// Makes the file of an entry: of the content that is kept of it, or else of the one that is read
+/// from the image's file, into a text that is used again.
+fn make_entry<S: Shelf>(
+    making: Making,
+    entry: &TakenEntry,
+    kept: Option<&Text>,
+    text: &mut Text,
+    shelf: &mut S,
+) -> Result<(), ShelfError>
+    requires path { IsUtf8 making.image.path.now }
+    requires text { IsUtf8 making.dir.now }
+    requires name { IsSound entry.now.name }
+    requires row { SoundIn making.image.index.now entry.now.row }
+    ensures makes { (b : List ℕ)
+        → IsFileOf making.entry.image.index.now.bytes making.entry.image.index.now.length b
+        → HasContent (S.files shelf.old) making.entry.image.path.now b (content_in b entry.now)
+        (option_map (λ t. t.now) kept.entry)
+        → Makes result (write_of making.entry.dir.now (taken_as b entry.now) ∷ [])
+        (S.files shelf.old) (S.files shelf.new) }
+    ensures handed { S.handed shelf.new ≤ S.handed shelf.old + unkept_size entry.now kept.entry }
+    ensures faults { CountsFaults (S.faults shelf.old) (S.faults shelf.new) (IsOk result)
+        (IsErrOf result ShelfError.Failed) }
+{
+    let Making { alloc, image, dir } = making;
+    let path = path_of(alloc, dir, &entry.name)?;
+    match kept {
+        Some(content) => make_file(alloc, shelf, path.as_slice(), content.as_slice()),
+        None => {
+            read_content(alloc, image, &entry.row, text, shelf)?;
+            make_file(alloc, shelf, path.as_slice(), text.as_slice())
+        }
+    }
+}
+
+/// Makes the files of the entries and ends the making of files. A content is read when its file is
+/// made, but all before the first where one of the files takes the place of the image's own.
+fn make_files<S: Shelf>(
+    alloc: Global,
+    image: FiledImage,
+    dir: &[u8],
+    entries: &[TakenEntry],
+    shelf: &mut S,
+) -> Result<(), ShelfError>
+    requires path { IsUtf8 image.path.now }
+    requires text { IsUtf8 dir.now }
+    requires names { All (λ t. IsSound t.name) entries.now }
+    requires rows { All (λ t. SoundIn image.index.now t.row) entries.now }
+    ensures makes { (b : List ℕ)
+        → IsFiled image.entry.index.now (S.files shelf.old) image.entry.path.now b
+        → Makes result (writes_of dir.now (map (taken_as b) entries.now))
+        (S.files shelf.old) (S.files shelf.new) }
+    ensures whole { OnOk result (IsTrue (S.whole shelf.new)) }
+    ensures handed { S.handed shelf.new ≤ S.handed shelf.old + sizes entries.now }
+    ensures faults { CountsFaults (S.faults shelf.old) (S.faults shelf.new) (IsOk result)
+        (IsErrOf result ShelfError.Failed) }
+{
+    let contents = kept_contents(alloc, image, dir, entries, shelf)?;
+    let kept = contents.as_slice();
+    let making = Making { alloc, image, dir };
+    let mut text = Text::new(alloc);
+    for (place, entry) in entries.iter().enumerate() {
+        make_entry(making, entry, kept.get(place), &mut text, shelf)?;
+    }
+    shelf.finish(alloc)
 }
 
 /// Makes, below the directory, a file of each entry that is taken, by rising name, ends the making
-/// of files, and gives how many they are. A file's path is the directory and the name in UTF-8.
+/// of files, and gives how many they are. A file's path is the directory and the name in UTF-8. Of
+/// the image's file it takes the contents of these entries, each when its file is made; all of them
+/// before the first, where one of the files takes its place.
 ///
 /// It refuses a name that may not stand in an image, so none leads out of the directory, and then
-/// a name that is another one's folder, before the first file is made. After a failure of the shelf
+/// a name that is another one's folder, before a content is taken. After a failure of the shelf
 /// or want of memory some of the files stand, the last one whole or a front of it; other files are
 /// as before.
 pub fn extract<S: Shelf, R: Ledger>(
     alloc: Global,
-    image: &Image,
-    include: &Option<List<Pattern>>,
-    dir: &[u8],
+    image: FiledImage,
+    work: Extraction,
     shelf: &mut S,
     reads: &mut Meter<R>,
 ) -> Result<usize, ExtractStop>
-    requires metered { reads.old.bytes ≡ image.now }
-    requires text { IsUtf8 dir.now }
-    ensures extracts { Extracts (extracted image.now include.now) dir.now result
+    requires metered { reads.old.bytes ≡ image.index.now.bytes }
+    requires path { IsUtf8 image.path.now }
+    requires text { IsUtf8 work.dir.now }
+    ensures extracts { (b : List ℕ)
+        → IsFiled image.entry.index.now (S.files shelf.old) image.entry.path.now b
+        → Extracts (extracted b work.entry.include.now) work.entry.dir.now result
         (S.files shelf.old) (S.files shelf.new) }
+    ensures takes { (b : List ℕ)
+        → IsFileOf image.entry.index.now.bytes image.entry.index.now.length b
+        → S.handed shelf.new ≤ S.handed shelf.old + taken_size b work.entry.include.now }
     ensures whole { OnOk result (IsTrue (S.whole shelf.new)) }
     ensures faults { CountsFaults (S.faults shelf.old) (S.faults shelf.new) (IsOk result)
         (IsErrOf result ExtractStop.Outside) }
     ensures reads { IsLater reads.old reads.new }
 {
-    let taken = taken(alloc, &image.index(), include, reads)?;
+    let _length = image.index.length();
+    let Extraction { dir, include } = work;
+    let taken = taken(alloc, image.index, include, reads)?;
     let entries = taken.as_slice();
     if let Some(refusal) = refusal_of(alloc, entries)? {
         return Err(ExtractStop::Refused(refusal));
     }
-    for entry in entries {
-        let content = content(image, &entry.row, reads);
-        make_entry(alloc, shelf, dir, &entry.name, content)?;
-    }
-    shelf.finish(alloc)?;
+    make_files(alloc, image, dir, entries, shelf)?;
     Ok(entries.len())
 }
