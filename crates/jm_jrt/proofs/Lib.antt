@@ -15,6 +15,7 @@ pub mod OwnerLaws
 pub mod WithinLaws
 pub mod SessionEnds
 pub mod SessionSteps
+pub mod TakenLaws
 pub mod ServeErrors
 pub mod ToldLaws
 mod TreeCases

@@ -10,12 +10,13 @@ use Rattle.jm_jrt.specs.declared.serve_error.ServeError.{ServeError}
 use Rattle.jm_jrt.specs.declared.serve_error.ServeError.TheVariants.{ReadFault, WriteFault, LongLine, TooManyLines, Memory}
 use Rattle.jm_jrt.specs.Lines.{answered, ended_lines, last_line, lines_bytes, lines_of, replies}
 use Rattle.jm_jrt.specs.Reply.{IsWithin, line_bytes, reply}
-use Rattle.jm_jrt.specs.Sessions.{Bounded, Breaks, Ended, IsFree, IsLine, IsOpen, IsTooLong, IsTooMany}
+use Rattle.jm_jrt.specs.Sessions.{Breaks, Ended, IsFree, IsLine, IsOpen, IsTooLong, IsTooMany, piece_of}
 use Rattle.jm_jrt.specs.Sessions.{Moment, Passes, Put, PutBehind, PutFails, Serves, answered_in, joined}
 use Rattle.jm_jrt.proofs.FramedLaws.{all_framed}
 use Rattle.jm_jrt.proofs.LineLaws.{Begins, answered_all, answered_long, answered_nothing, ended_joined}
 use Rattle.jm_jrt.proofs.LineLaws.{line_begins, lines_joined, lines_next, lines_part, some_lines}
 use Rattle.jm_jrt.proofs.SessionSteps.{breaks_at_once, breaks_more, put_then, replies_append}
+use Rattle.jm_jrt.proofs.TakenLaws.{Cut, HasGot, got_all, got_front, no_line}
 use Rattle.jm_jrt.proofs.WithinLaws.{within_append, within_one}
 
 -- What is told of the source
@@ -80,6 +81,13 @@ answered_joined : (text : List ℕ) (done : List (List ℕ)) (more : List (List 
     → length done ≤ 1000000 → answered_in text ≡ done ++ answered (1000000 - length done) more
 answered_joined text done more lines good within = ap (answered 1000000) lines ∙ answered_all 1000000 done more good within
 
+-- and they are the first that are answered
+front_answered : (text : List ℕ) (done more : List (List ℕ)) → lines_of text ≡ done ++ more → All IsLine done → length done ≤ 1000000
+    → done ≡ take (length done) (answered_in text)
+front_answered text done more lines good within =
+    sym (ap (take (length done)) (answered_joined text done more lines good within)
+    ∙ take-append_seam done (answered (1000000 - length done) more))
+
 -- a front of the replies, where one more line was due
 front_put : (b : List ℕ) (done : List (List ℕ)) (first : List ℕ) (more : List (List ℕ)) (n : ℕ) → n ≤ length (reply b first)
     → replies b done ++ take n (reply b first) ≡ take (length (replies b done) + n) (replies b (done ++ first ∷ more))
@@ -100,14 +108,11 @@ due_answered text done first later lines good line within =
 -- After a fault of the source
 
 -- the lines that ended in what came are among those that are answered
-given_answered : (given left part : List ℕ) (done : List (List ℕ)) → given ≡ joined done ++ part → All IsLine done → IsFree part
-    → length done ≤ 1000000 → ended_lines given ≡ take (length done) (answered_in (given ++ left))
-given_answered given left part done is good free within =
-    let lines : lines_of (given ++ left) ≡ done ++ lines_of (part ++ left) = ap lines_of (ap (λ (t : List ℕ). t ++ left) is
-    ∙ append_assoc (joined done) part left) ∙ lines_joined done (part ++ left) good in
-    let all = answered_joined (given ++ left) done (lines_of (part ++ left)) lines good within in
-    ap ended_lines is ∙ ended_joined done part good free
-    ∙ sym (ap (take (length done)) all ∙ take-append_seam done (answered (1000000 - length done) (lines_of (part ++ left))))
+given_answered : (given left part : List ℕ) (done : List (List ℕ)) → given ≡ joined done ++ part → All IsLine done
+    → length done ≤ 1000000 → done ≡ take (length done) (answered_in (given ++ left))
+given_answered given left part done is good within =
+    front_answered (given ++ left) done (lines_of (part ++ left)) (ap lines_of (ap (λ (t : List ℕ). t ++ left) is
+    ∙ append_assoc (joined done) part left) ∙ lines_joined done (part ++ left) good) good within
 
 pub serves_given : (b : List ℕ) (rest new_rest : Option (List ℕ)) (given part : List ℕ) (old new : Moment)
     (reads new_reads : Metered) → Told rest new_rest (λ o n. o ≡ given ++ n) → Passes b given old part new → IsOpen new.lines part
@@ -115,27 +120,32 @@ pub serves_given : (b : List ℕ) (rest new_rest : Option (List ℕ)) (given par
 serves_given b rest new_rest given part old new reads new_reads told passes further_on =
     let most = further_on.within in
     let count = passes.lines in
+    let ended : ended_lines given ≡ passes.done = ap ended_lines passes.is
+    ∙ ended_joined passes.done part passes.good further_on.free in
+    let first : passes.done ≡ take (length passes.done) (answered_in (given ++ left_of new_rest)) =
+    given_answered given (left_of new_rest) part passes.done passes.is passes.good (omega arith) in
     record {
       text = given ++ left_of new_rest;
       given = given;
       left = left_of new_rest;
       told = told_left rest new_rest given told;
       parted = refl;
-      bounded = tt;
+      bounded = record {
+        count = length passes.done;
+        lines = passes.done;
+        first = first;
+        put = got_all (replies b passes.done) old.put new.put passes.put;
+        begun = part;
+        rest = [];
+        is = passes.is ∙ ap (λ (t : List ℕ). joined passes.done ++ t) (sym (append-nil part));
+        line = record { free = further_on.free; short = further_on.short };
+        within = omega arith;
+      };
       ended = tt;
       put = (
         replies b passes.done,
         passes.put,
-        (
-          given,
-          refl,
-          ap (replies b) (sym (ap ended_lines passes.is ∙ ended_joined passes.done part passes.good further_on.free)),
-          (
-            length passes.done,
-            given_answered given (left_of new_rest) part passes.done passes.is passes.good further_on.free
-                (omega arith),
-          ),
-        ),
+        (given, refl, ap (replies b) (sym ended), (length passes.done, ended ∙ first)),
       );
       framed = all_framed b (answered_in (given ++ left_of new_rest));
       reads = tt;
@@ -198,15 +208,26 @@ module _ (b text : List ℕ) (old : Moment) (none : old.lines ≡ 0) (new_put : 
   ends_so (LongLine k) breaks left = (long_line k breaks).0
   ends_so TooManyLines breaks left = (many_lines breaks).0
 
-  bounded_so : (error : ServeError) (breaks : Breaks error b text old new_put) (given : List ℕ)
-      → length given ≤ length (joined breaks.done) + (8192 + 65536) → Bounded (Err error) text given
-  bounded_so ReadFault breaks given within = tt
-  bounded_so WriteFault breaks given within = tt
-  bounded_so Memory breaks given within = tt
-  bounded_so (LongLine k) breaks given within = subst (λ (done : List (List ℕ)). length given ≤ length (joined done)
-      + (8192 + 65536)) (sym (long_line k breaks).1) within
-  bounded_so TooManyLines breaks given within = subst (λ (done : List (List ℕ)). length given ≤ length (joined done)
-      + (8192 + 65536)) (sym (many_lines breaks).1) within
+  -- the sink has got the replies to all lines that were answered
+  got_so : (error : ServeError) (breaks : Breaks error b text old new_put) → HasGot (replies b breaks.done) old.put new_put
+  got_so ReadFault breaks = absurd breaks.fails
+  got_so WriteFault breaks = got_front (replies b breaks.done) (reply b breaks.fails.0) old.put new_put breaks.fails.3
+  got_so Memory breaks = got_all (replies b breaks.done) old.put new_put breaks.fails
+  got_so (LongLine k) breaks = got_all (replies b breaks.done) old.put new_put breaks.fails.3
+  got_so TooManyLines breaks = got_all (replies b breaks.done) old.put new_put breaks.fails.2
+
+  -- and no more was taken than a piece
+  piece_so : (error : ServeError) → Breaks error b text old new_put → (n : ℕ) → n ≤ 65536 → n ≤ piece_of error
+  piece_so ReadFault breaks n within = absurd breaks.fails
+  piece_so WriteFault breaks n within = within
+  piece_so Memory breaks n within = within
+  piece_so (LongLine k) breaks n within = within
+  piece_so TooManyLines breaks n within = within
+
+  first_so : (error : ServeError) (breaks : Breaks error b text old new_put) → breaks.done ≡ take (length breaks.done) (answered_in text)
+  first_so error breaks =
+      let most = breaks.most in
+      front_answered text breaks.done (lines_of breaks.behind) (lines_behind error breaks) breaks.good (omega arith)
 
   puts_so : (error : ServeError) → Breaks error b text old new_put → (left : List ℕ) → PutBehind b (Err error) text left old.put new_put
   puts_so ReadFault breaks left = absurd breaks.fails
@@ -228,16 +249,7 @@ module _ (b text : List ℕ) (old : Moment) (none : old.lines ≡ 0) (new_put : 
             ∙ ap (λ (l : List (List ℕ)). take (length (replies b breaks.done) + n) (replies b l)) (sym all),
       ))
   puts_so Memory breaks left =
-      let most = breaks.most in
-      let all = answered_joined text breaks.done (lines_of breaks.behind) (lines_behind Memory breaks) breaks.good (omega arith) in (
-        replies b breaks.done,
-        breaks.fails,
-        (
-          length breaks.done,
-          ap (replies b) (sym (ap (take (length breaks.done)) all
-              ∙ take-append_seam breaks.done (answered (1000000 - length breaks.done) (lines_of breaks.behind)))),
-        ),
-      )
+      (replies b breaks.done, breaks.fails, (length breaks.done, ap (replies b) (first_so Memory breaks)))
   puts_so (LongLine k) breaks left =
       (replies b breaks.done, breaks.fails.3, ap (replies b) (sym (long_line k breaks).1))
   puts_so TooManyLines breaks left =
@@ -245,24 +257,32 @@ module _ (b text : List ℕ) (old : Moment) (none : old.lines ≡ 0) (new_put : 
 
 pub serves_broken : (error : ServeError) (b : List ℕ) (rest new_rest : Option (List ℕ)) (given : List ℕ) (old : Moment)
     (new_put : Option (List ℕ)) (reads new_reads : Metered) → old.lines ≡ 0 → Told rest new_rest (λ o n. o ≡ given ++ n)
-    → (breaks : Breaks error b given old new_put) → length breaks.behind ≤ 8192 + 65536 → Serves b (Err error) rest new_rest old.put
+    → (breaks : Breaks error b given old new_put) → Cut breaks.behind → Serves b (Err error) rest new_rest old.put
     new_put reads new_reads
-serves_broken error b rest new_rest given old new_put reads new_reads none told breaks short =
+serves_broken error b rest new_rest given old new_put reads new_reads none told breaks cut =
     let left = left_of new_rest in
+    let text : List ℕ = given ++ left in
     let longer = breaks_more error b given old new_put left breaks in
-    let parts : length given ≡ length (joined breaks.done ++ breaks.behind) = ap length breaks.is in
-    let sum = length-append (joined breaks.done) breaks.behind in
-    let most : length given ≤ length (joined breaks.done) + (8192 + 65536) = omega arith in
     record {
-      text = given ++ left;
+      text = text;
       given = given;
       left = left;
       told = told_left rest new_rest given told;
       parted = refl;
-      bounded = bounded_so b (given ++ left) old none new_put error longer given most;
-      ended = ends_so b (given ++ left) old none new_put error longer left;
-      put = puts_so b (given ++ left) old none new_put error longer left;
-      framed = all_framed b (answered_in (given ++ left));
+      bounded = record {
+        count = length breaks.done;
+        lines = breaks.done;
+        first = first_so b text old none new_put error longer;
+        put = got_so b text old none new_put error longer;
+        begun = cut.begun;
+        rest = cut.rest;
+        is = breaks.is ∙ ap (λ (t : List ℕ). joined breaks.done ++ t) cut.is;
+        line = cut.line;
+        within = piece_so b text old none new_put error longer (length cut.rest) cut.within;
+      };
+      ended = ends_so b text old none new_put error longer left;
+      put = puts_so b text old none new_put error longer left;
+      framed = all_framed b (answered_in text);
       reads = tt;
     }
 
@@ -274,9 +294,8 @@ told_start (Some rest) = refl
 pub serves_nothing : (b : List ℕ) (rest : Option (List ℕ)) (old : Moment) (reads new_reads : Metered) → old.lines ≡ 0
     → Serves b (Err Memory) rest rest old.put old.put reads new_reads
 serves_nothing b rest old reads new_reads none =
-    let most : length {A = ℕ} [] ≤ 8192 + 65536 = omega arith in
     serves_broken Memory b rest rest [] old old.put reads new_reads none (told_start rest) (breaks_at_once Memory b [] old old.put
-    (omega arith) refl) most
+    (omega arith) refl) (record { begun = []; rest = []; is = refl; line = no_line; within = omega arith })
 
 -- After the last line
 
@@ -355,19 +374,30 @@ serves_not_last error b rest new_rest given part old new last_put reads new_read
       left = [];
       told = told_end rest new_rest given told ends;
       parted = sym (append-nil given);
-      bounded = bounded error fails;
+      bounded = record {
+        count = length passes.done;
+        lines = passes.done;
+        first = first;
+        put = got error fails;
+        begun = part;
+        rest = [];
+        is = passes.is ∙ ap (λ (t : List ℕ). joined passes.done ++ t) (sym (append-nil part));
+        line = record { free = further_on.free; short = further_on.short };
+        within = omega arith;
+      };
       ended = ended error fails;
       put = puts error fails;
       framed = all_framed b (answered_in given);
       reads = tt;
     }
   where
-    bounded : (error : ServeError) → PutFails error (reply b part) new.put last_put → Bounded (Err error) given given
-    bounded ReadFault fails = tt
-    bounded WriteFault fails = tt
-    bounded Memory fails = tt
-    bounded (LongLine k) fails = absurd fails
-    bounded TooManyLines fails = absurd fails
+    got : (error : ServeError) → PutFails error (reply b part) new.put last_put → HasGot (replies b passes.done) old.put last_put
+    got ReadFault fails = absurd fails
+    got (LongLine k) fails = absurd fails
+    got TooManyLines fails = absurd fails
+    got WriteFault fails = got_front (replies b passes.done) (reply b part) old.put last_put
+        (subst (λ (put : Option (List ℕ)). Told put last_put (λ o n. PutsFront o n (reply b part))) passes.put fails)
+    got Memory fails = got_all (replies b passes.done) old.put last_put (fails ∙ passes.put)
 
     ended : (error : ServeError) → PutFails error (reply b part) new.put last_put → Ended (Err error) given []
     ended ReadFault fails = tt
@@ -383,6 +413,10 @@ serves_not_last error b rest new_rest given part old new last_put reads new_read
         due_answered given passes.done part [] (last_lines b given part old new passes further_on.free some) passes.good
         (record { free = further_on.free; short = further_on.short }) (omega arith)
 
+    first : passes.done ≡ take (length passes.done) (answered_in given)
+    first = sym (ap (take (length passes.done)) all
+        ∙ take-append_seam passes.done (part ∷ answered (1000000 - length (passes.done ++ part ∷ [])) []))
+
     puts : (error : ServeError) → PutFails error (reply b part) new.put last_put → PutBehind b (Err error) given [] old.put last_put
     puts ReadFault fails = absurd fails
     puts (LongLine k) fails = absurd fails
@@ -396,15 +430,7 @@ serves_not_last error b rest new_rest given part old new last_put reads new_read
               (answered (1000000 - length (passes.done ++ part ∷ [])) []) n within
               ∙ ap (λ (l : List (List ℕ)). take (length (replies b passes.done) + n) (replies b l)) (sym all),
         ))
-    puts Memory fails = (
-      replies b passes.done,
-      fails ∙ passes.put,
-      (
-        length passes.done,
-        ap (replies b) (sym (ap (take (length passes.done)) all
-            ∙ take-append_seam passes.done (part ∷ answered (1000000 - length (passes.done ++ part ∷ [])) []))),
-      ),
-    )
+    puts Memory fails = (replies b passes.done, fails ∙ passes.put, (length passes.done, ap (replies b) first))
 
 -- Each piece brings a session further
 

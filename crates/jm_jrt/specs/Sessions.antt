@@ -78,19 +78,44 @@ PutBehind b answer text left out new_out =
 abbrev pub IsParted : List ℕ → List ℕ → List ℕ → Type 0
 IsParted text given left = text ≡ given ++ left
 
--- the source gave no more than the lines that are answered, and behind them the longest line and
--- one piece of 65,536 bytes
-abbrev pub GivesAtMost : List ℕ → List ℕ → Type 0
-GivesAtMost text given = length given ≤ length (joined (answered_in text)) + (8192 + 65536)
+-- no byte of the text ends a line
+abbrev pub IsFree : List ℕ → Type 0
+IsFree text = All (λ b. is_newline b ≡ false) text
 
--- what the source gave is bounded where the session ended by one of its limits
-abbrev pub Bounded : Result ℕ ServeError → List ℕ → List ℕ → Type 0
-Bounded (Ok n) text given = Unit {0}
-Bounded (Err (LongLine k)) text given = GivesAtMost text given
-Bounded (Err TooManyLines) text given = GivesAtMost text given
-Bounded (Err ReadFault) text given = Unit {0}
-Bounded (Err WriteFault) text given = Unit {0}
-Bounded (Err Memory) text given = Unit {0}
+-- a line that is answered: without a newline, and of at most 8,192 bytes
+pub record IsLine (text : List ℕ) : Type 0 where
+  pub free : IsFree text
+  pub short : length text ≤ 8192
+
+-- the source gave the first lines that are answered, to which the sink has all replies, then the
+-- beginning of one more, and after that no more than this many bytes
+pub record GivesAtMost (most : ℕ) (b text given : List ℕ) (out new_out : Option (List ℕ))
+    : Type 0 where
+  pub count : ℕ
+  pub lines : List (List ℕ)
+  pub first : lines ≡ take count (answered_in text)
+  pub put : Told out new_out
+      (λ old new. (more : List ℕ) × (new ≡ old ++ (replies b lines ++ more)))
+  pub begun : List ℕ
+  pub rest : List ℕ
+  pub is : given ≡ joined lines ++ (begun ++ rest)
+  pub line : IsLine begun
+  pub within : length rest ≤ most
+
+-- how many bytes it gave at most after what was kept: none where it failed, and else one piece
+abbrev pub piece_of : ServeError → ℕ
+piece_of ReadFault = 0
+piece_of WriteFault = 65536
+piece_of Memory = 65536
+piece_of (LongLine k) = 65536
+piece_of TooManyLines = 65536
+
+-- what the source gave is bounded, unless all lines were answered
+abbrev pub Bounded : List ℕ → Result ℕ ServeError → List ℕ → List ℕ → Option (List ℕ)
+    → Option (List ℕ) → Type 0
+Bounded b (Ok n) text given out new_out = Unit {0}
+Bounded b (Err error) text given out new_out =
+    GivesAtMost (piece_of error) b text given out new_out
 
 -- a session over the image's bytes: some text was served; it is what the source had, where that
 -- tells its rest; and each reply tells a program where it ends
@@ -101,22 +126,13 @@ pub record Serves (b : List ℕ) (answer : Result ℕ ServeError)
   pub left : List ℕ
   pub told : Told rest new_rest (λ old new. (old ≡ text) × (new ≡ left))
   pub parted : IsParted text given left
-  pub bounded : Bounded answer text given
+  pub bounded : Bounded b answer text given out new_out
   pub ended : Ended answer text left
   pub put : PutBehind b answer text left out new_out
   pub framed : All (λ request. IsFramed request (reply b request)) (answered_in text)
   pub reads : OnOk answer (IsWithin (lines_bytes b (lines_of text)) old new)
 
 -- Its steps
-
--- no byte of the text ends a line
-abbrev pub IsFree : List ℕ → Type 0
-IsFree text = All (λ b. is_newline b ≡ false) text
-
--- a line that is answered: without a newline, and of at most 8,192 bytes
-pub record IsLine (text : List ℕ) : Type 0 where
-  pub free : IsFree text
-  pub short : length text ≤ 8192
 
 -- what the sink tells, how many lines were answered, and the counters
 pub record Moment : Type 0 where

@@ -1,6 +1,6 @@
 //! The names of all entries, and the sizes of their contents.
-ghost use Rattle.std.specs.Prelude.{◌≡◌, ◌∷◌, ◌++◌, [], map, IfOk, IfSome, OnOk};
-ghost use Rattle.jm_form.specs.Layout.{holds_size, sized, sized_node};
+ghost use Rattle.std.specs.Prelude.{◌≡◌, ◌<◌, ◌^◌, ◌++◌, List, length, map, sum, All, IfOk, OnOk};
+ghost use Rattle.jm_form.specs.Layout.{Sized, holds_size, sized, sized_node};
 ghost use Rattle.jm_writer.specs.Parts.{IsOfEntries};
 
 use jm_bytes::{List, NoMemory, Text};
@@ -17,53 +17,66 @@ pub struct Entries {
     pub sizes: List<u64>,
 }
 
-/// Puts an entry at the end.
-fn add(alloc: Global, entries: &mut Entries, name: &[u8], size: u64) -> Result<(), NoMemory>
-    ensures names { OnOk result (entries.new.names ≡ entries.old.names ++ name.now ∷ []) }
-    ensures sizes { OnOk result (entries.new.sizes ≡ entries.old.sizes ++ size ∷ []) }
+/// The entries of the resources. They are fewer than 2^63, since the names stand in a vector.
+pub fn resources_of(alloc: Global, pool: &Pool) -> Result<Entries, NoMemory>
+    ensures entries { IfOk result (IsOfEntries (map sized pool.now)) }
+    ensures few { OnOk result (length pool.now < 2 ^ 63) }
 {
-    entries.names.push(Text::copy_of(alloc, name)?)?;
-    entries.sizes.push(size)
-}
-
-/// The entries of the resources.
-fn resources_of(alloc: Global, pool: &Pool, count: usize) -> Result<Entries, NoMemory>
-    ensures { IfOk result (IsOfEntries (map sized pool.now)) }
-{
-    let mut entries = Entries {
-        names: List::with_capacity(alloc, count)?,
-        sizes: List::with_capacity(alloc, count)?,
-    };
+    let mut names = Vec::with_capacity(alloc, pool.len())?;
+    let mut sizes = Vec::with_capacity(alloc, pool.len())?;
     for place in 0..pool.len() {
         let (name, bytes) = pool.at(place);
-        add(alloc, &mut entries, name, bytes.len() as u64)?;
+        names.push(Text::copy_of(alloc, name)?)?;
+        sizes.push(bytes.len() as u64)?;
     }
-    Ok(entries)
+    Ok(Entries {
+        names: List::from_vec(names),
+        sizes: List::from_vec(sizes),
+    })
 }
 
-/// The size of a node's content in bytes, where it has 64 bits.
-fn holds_size(holds: &Holds) -> Option<u64>
-    ensures { IfSome result (λ size. size ≡ holds_size holds.now) }
+/// The size of a node's content in bytes.
+fn holds_size(holds: &Holds) -> u64
+    requires { holds_size holds.now < 2 ^ 64 }
+    ensures { result ≡ holds_size holds.now }
 {
     match holds {
-        Holds::Children(names) => (names.len() as u64).checked_mul(4),
-        Holds::Owners(owners) => (owners.len() as u64).checked_mul(8),
+        Holds::Children(names) => 4 * names.len() as u64,
+        Holds::Owners(owners) => 8 * owners.len() as u64,
     }
 }
 
-/// The entries of the resources and then of the nodes, which are so many together.
-pub fn entries_of(
-    alloc: Global,
-    pool: &Pool,
-    nodes: &[TreeNode],
-    count: usize,
-) -> Result<Entries, NoMemory>
-    ensures { IfOk result (IsOfEntries (map sized pool.now ++ map sized_node nodes.now)) }
+/// Puts the entries of the nodes at the end.
+pub fn add_nodes(alloc: Global, entries: &mut Entries, nodes: &[TreeNode]) -> Result<(), NoMemory>
+    requires { All (λ node. holds_size node.holds < 2 ^ 64) nodes.now }
+    ensures { (front : List Sized) → IsOfEntries front entries.old
+        → OnOk result (IsOfEntries (front ++ map sized_node nodes.now) entries.new) }
 {
-    let mut entries = resources_of(alloc, pool, count)?;
     for node in nodes {
-        let size = holds_size(&node.holds).ok_or(NoMemory)?;
-        add(alloc, &mut entries, node.name.as_slice(), size)?;
+        entries
+            .names
+            .push(Text::copy_of(alloc, node.name.as_slice())?)?;
+        entries.sizes.push(holds_size(&node.holds))?;
     }
-    Ok(entries)
+    Ok(())
+}
+
+/// No memory has that many bytes.
+const MEMORY_LIMIT: u64 = 1 << 63;
+
+/// How many bytes contents of these sizes have. Those of a pool are in memory at one time, and so
+/// have fewer than 2^63. The types say so of each content alone, so it is asked here, where more
+/// would be want of memory; no sum after this one has to be asked.
+pub fn contents_length(sizes: &[u64]) -> Result<u64, NoMemory>
+    ensures length { IfOk result (λ n. n ≡ sum sizes.now) }
+    ensures few { IfOk result (λ n. n < 2 ^ 63) }
+{
+    let mut length = 0;
+    for size in sizes {
+        if *size >= MEMORY_LIMIT - length {
+            return Err(NoMemory);
+        }
+        length += *size;
+    }
+    Ok(length)
 }

@@ -1,5 +1,5 @@
 //! What is known of an image before its bytes: its table, strings, locations and length.
-ghost use Rattle.std.specs.Prelude.{◌≡◌, ◌+◌, ◌*◌, ◌<◌, ◌≤◌, length, sum, All, IfOk};
+ghost use Rattle.std.specs.Prelude.{◌≡◌, ◌+◌, ◌*◌, ◌<◌, ◌≤◌, ◌^◌, length, sum, All, IfOk};
 ghost use Rattle.jm_bytes.specs.Results.{IfAnswered};
 ghost use Rattle.jm_form.specs.Strings.{IsZeroFree};
 ghost use Rattle.jm_writer.specs.Laying.{AreFit, Interns, IsTable, Lays, Tables};
@@ -7,7 +7,7 @@ ghost use Rattle.jm_writer.specs.Laying.{slot_rows};
 ghost use Rattle.jm_writer.specs.Parts.{places_of};
 
 use crate::draft::PlanFault;
-use crate::entries::Entries;
+use crate::entries::{Entries, contents_length};
 use crate::interning::{Interned, TextPlaces, strings_of};
 use crate::locations::{Locations, locate};
 use crate::rows::{EntryRow, rows_in_slots};
@@ -57,19 +57,19 @@ fn strings_within(alloc: Global, names: &[Text]) -> Result<Interned, Or<PlanFaul
     }
 }
 
-/// The rows of the entries by slot, and how many bytes all contents have.
+/// The rows of the entries by slot.
 fn rows_by_slot(
     alloc: Global,
     places: &[TextPlaces],
     entries: &Entries,
     table: &Table,
-) -> Result<(Vec<Option<EntryRow>>, u64), NoMemory>
+) -> Result<Vec<Option<EntryRow>>, NoMemory>
     requires entries { AreFit entries.now }
     requires table { IsTable entries.now.names table.now }
     requires places { places.now ≡ places_of entries.now.names }
-    ensures rows { IfOk result (λ r. r.0.items ≡ slot_rows entries.now table.now) }
-    ensures few { IfOk result (λ r. length r.0.items ≤ 33554432) }
-    ensures contents { IfOk result (λ r. r.1 ≡ sum entries.now.sizes) }
+    requires contents { sum entries.now.sizes < 2 ^ 64 }
+    ensures rows { IfOk result (λ r. r.items ≡ slot_rows entries.now table.now) }
+    ensures few { IfOk result (λ r. length r.items ≤ 33554432) }
 {
     rows_in_slots(
         alloc,
@@ -87,11 +87,12 @@ pub fn lay_out(alloc: Global, entries: &Entries, table: &Table) -> Result<Laid, 
     ensures { IfAnswered (Lays entries.now table.now) result }
 {
     let Interned { strings, places } = strings_within(alloc, entries.names.as_slice())?;
-    let (rows, contents) = rows_by_slot(alloc, places.as_slice(), entries, table)?;
+    let contents = contents_length(entries.sizes.as_slice())?;
+    let rows = rows_by_slot(alloc, places.as_slice(), entries, table)?;
     let locations = locate(alloc, &rows)?;
     let slots = u64::from(table.length);
     let index = 28 + 8 * slots + locations.text.len() as u64 + strings.bytes().len() as u64;
-    let length = index.checked_add(contents).ok_or(NoMemory)?;
+    let length = index + contents;
     if length > IMAGE_LIMIT {
         return Err(Or::Fault(PlanFault::TooLarge(length)));
     }

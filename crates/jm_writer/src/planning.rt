@@ -1,5 +1,5 @@
 //! The plan of an image.
-ghost use Rattle.std.specs.Prelude.{◌≡◌, ◌<◌, ◌≤◌, ℕ, List, length, false, Some, None, All};
+ghost use Rattle.std.specs.Prelude.{◌≡◌, ◌<◌, ◌≤◌, ◌^◌, ℕ, List, length, false, Some, None, All};
 ghost use Rattle.jm_bytes.specs.Results.{IfAnswered};
 ghost use Rattle.jm_names.specs.Names.{is_node};
 ghost use Rattle.jm_names.specs.NameFaults.{IsSound};
@@ -9,11 +9,11 @@ ghost use Rattle.jm_writer.specs.Drafts.{NoClash, Plans, image_limit};
 ghost use Rattle.jm_writer.specs.Laid.{IsLaidOut};
 
 use crate::draft::{Draft, PlanFault};
-use crate::entries::entries_of;
+use crate::entries::{add_nodes, resources_of};
 use crate::index::index_bytes;
 use crate::laying::{lay_out, table_of};
 use crate::tail::tail_bytes;
-use jm_bytes::{NoMemory, Or, Order};
+use jm_bytes::{Or, Order};
 use jm_form::TreeNode;
 use jm_nodes::{Clash, nodes};
 use jm_pool::Pool;
@@ -33,13 +33,15 @@ fn plan_with(
     requires resources { All (λ name. is_node name ≡ false) (names_of pool.now) }
     requires apart { first_clash (names_of pool.now) ≡ None }
     requires nodes { nodes.now ≡ tree_nodes (names_of pool.now) }
+    requires few { length nodes.now < 2 ^ 63 }
     ensures { IfAnswered (Plans order pool.now) result }
 {
-    let count = pool.len().checked_add(nodes.len()).ok_or(NoMemory)?;
+    let mut entries = resources_of(alloc, pool)?;
+    let count = pool.len() + nodes.len();
     if count > ENTRY_LIMIT {
         return Err(Or::Fault(PlanFault::TooMany(count as u64)));
     }
-    let entries = entries_of(alloc, pool, nodes, count)?;
+    add_nodes(alloc, &mut entries, nodes)?;
     let table = table_of(alloc, entries.names.as_slice())?;
     let laid = lay_out(alloc, &entries, &table)?;
     let tail = tail_bytes(alloc, order, &table, &laid, nodes)?;
@@ -67,7 +69,7 @@ pub fn plan(alloc: Global, order: Order, pool: &Pool) -> Result<Draft, Or<PlanFa
 {
     let _names_differ = pool.len();
     match nodes(alloc, pool) {
-        Ok(nodes) => plan_with(alloc, order, pool, nodes.as_slice()),
+        Ok(nodes) => plan_with(alloc, order, pool, nodes.into_vec().as_slice()),
         Err(Or::Fault(Clash(name))) => Err(Or::Fault(PlanFault::Clash(name))),
         Err(Or::Memory) => Err(Or::Memory),
     }

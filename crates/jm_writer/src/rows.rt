@@ -1,6 +1,5 @@
 //! The rows of all entries by slot.
-ghost use Rattle.std.specs.Prelude.{◌≡◌, ◌≢◌, ◌<◌, None, length, sum, All, AllPairs};
-ghost use Rattle.std.specs.Prelude.{IfOk};
+ghost use Rattle.std.specs.Prelude.{◌≡◌, ◌≢◌, ◌<◌, ◌^◌, None, length, sum, All, AllPairs, IfOk};
 ghost use Rattle.jm_writer.specs.Parts.{rows_at, rows_in_slots};
 
 use crate::interning::TextPlaces;
@@ -55,23 +54,23 @@ impl EntryRow {
     }
 }
 
-/// The rows by slot, for so many slots, of entries with these slots, with these places of their
-/// names' pieces and with contents of these sizes in bytes, which stand one behind another; and how
-/// many bytes all contents have. A spare slot has no row.
+/// The rows by slot, for that many slots, of entries with these slots, with these places of their
+/// names' pieces and with contents of these sizes in bytes, which stand one after another. A spare
+/// slot has no row.
 pub fn rows_in_slots(
     alloc: Global,
     slots: &[u32],
     places: &[TextPlaces],
     sizes: &[u64],
     count: u32,
-) -> Result<(Vec<Option<EntryRow>>, u64), NoMemory>
+) -> Result<Vec<Option<EntryRow>>, NoMemory>
     requires slots { length slots.now ≡ length sizes.now }
     requires places { length places.now ≡ length sizes.now }
     requires below { All (λ slot. slot < count) slots.now }
     requires differ { AllPairs (λ one other. one ≢ other) slots.now }
-    ensures rows { IfOk result
-        (λ r. r.0.items ≡ rows_in_slots slots.now (rows_at 0 places.now sizes.now) count) }
-    ensures contents { IfOk result (λ r. r.1 ≡ sum sizes.now) }
+    requires contents { sum sizes.now < 2 ^ 64 }
+    ensures { IfOk result
+        (λ r. r.items ≡ rows_in_slots slots.now (rows_at 0 places.now sizes.now) count) }
 {
     let mut rows: Vec<Option<EntryRow>> = vec![in alloc; None; count as usize]?;
     let mut offset: u64 = 0;
@@ -81,7 +80,7 @@ pub fn rows_in_slots(
             offset,
             size: *size,
         });
-        offset = offset.checked_add(*size).ok_or(NoMemory)?;
+        offset += *size;
     }
-    Ok((rows, offset))
+    Ok(rows)
 }

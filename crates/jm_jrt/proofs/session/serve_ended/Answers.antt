@@ -1,14 +1,15 @@
-use Rattle.std.proofs.Common.{◌≡◌, ◌≢◌, ◌+◌, ◌≤◌, ◌++◌, ℕ, List, [], length, take, refl, sym, ap, ◌∙◌, subst, arith, Err, false}
-use Rattle.std.proofs.lemmas.List.{length-append, length-take}
+use Rattle.std.proofs.Common.{◌≡◌, ◌≢◌, ◌++◌, ℕ, List, [], length, take, refl, sym, ap, ◌∙◌, subst, arith, Err, false}
+use Rattle.std.proofs.lemmas.List.{length-take}
 use Rattle.std.proofs.lemmas.List.Elements.{All-nil}
 use Rattle.jm_outside.specs.Outcome.{Told}
 use Rattle.jm_jrt.specs.declared.serve_error.ServeError.TheVariants.{Memory}
 use Rattle.jm_jrt.specs.Lines.{is_newline}
-use Rattle.jm_jrt.specs.Sessions.{IsFree, Moment, Passes, Serves, joined, moment}
+use Rattle.jm_jrt.specs.Sessions.{IsFree, Moment, Passes, Serves, moment}
 use Rattle.jm_jrt.proofs.ServeErrors.{err_with}
 use Rattle.jm_jrt.proofs.SessionEnds.{comes_further, serves_broken, serves_given, serves_nothing, told_none}
 use Rattle.jm_jrt.proofs.SessionEnds.{told_same, told_start, told_then, written, written_length}
 use Rattle.jm_jrt.proofs.SessionSteps.{breaks_then, passes_more, passes_nothing, passes_then}
+use Rattle.jm_jrt.proofs.TakenLaws.{cut_behind}
 use Rattle.jm_jrt.proofs.WithinLaws.{later_then}
 use Rattle.jm_jrt.proofs.session.serve_ended.Goals as goal
 
@@ -182,11 +183,7 @@ returns-in_err-take_piece-clause-err g c =
     before.arrives.told moved in
     let error = c.in_err-take_piece.field-0.0 in
     let breaks = c.in_err-take_piece.ensures.err in
-    let parts : length (part ++ bytes) ≡ length (joined breaks.done ++ breaks.behind) = ap length breaks.is in
-    let sum = length-append (joined breaks.done) breaks.behind in
-    let both = length-append part bytes in
     let open_part = before.arrives.goes_on in
-    let short_part = open_part.short in
     let room = before.piece in
     let within = c.in_ok-count.ensures.within in
     let into : length c.take.new.into ≡ 65536 = c.take.ensures.length ∙ ap length c.as_mut_slice.ensures.value ∙ before.piece in
@@ -194,11 +191,12 @@ returns-in_err-take_piece-clause-err g c =
     ∙ ap (take c.in_ok-count.count) (written c.as_slice.result.now c.take.new.into _ c.loop-progress.piece.len
     (c.take.ensures.length ∙ c.as_mut_slice.ensures.len) c.as_slice.ensures.value)) in
     let len = length-take c.in_ok-count.count c.take.new.into in
-    let most : length breaks.behind ≤ 8192 + 65536 = omega arith in
+    let cut = cut_behind breaks.done breaks.behind part bytes breaks.is (record { free = open_part.free; short = open_part.short })
+    (omega arith) in
     err_with (λ e. Serves b (Err e) (rest c.args.input.now) (rest c.take.new.input) (content c.args.answering.now.out.now) put
     c.args.answering.now.reads.now
     c.take_piece.new.answering.reads.now) c.from_residual-in_err-take_piece.result error c.from_residual-in_err-take_piece.ensures.1
     (serves_broken error b (rest c.args.input.now) (rest c.take.new.input) (given ++ bytes) old put c.args.answering.now.reads.now
     c.take_piece.new.answering.reads.now refl told
     (breaks_then error b (given ++ bytes) old (part ++ bytes) now put (passes_more b given old part now bytes before.arrives.passes)
-    breaks) most)
+    breaks) cut)

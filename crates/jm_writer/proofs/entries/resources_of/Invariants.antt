@@ -4,6 +4,6 @@ use Rattle.jm_writer.proofs.entries.resources_of.Given as goal
 
 abbrev pub invariant-loop-place : goal.invariant-loop-place
 invariant-loop-place l = record {
-  names : l.entries.names ++ map (λ e. e.name) (map sized (drop l.place l.pool)) ≡ map (λ e. e.name) (map sized l.pool);
-  sizes : l.entries.sizes ++ map (λ e. e.size) (map sized (drop l.place l.pool)) ≡ map (λ e. e.size) (map sized l.pool);
+  names : l.names.items ++ map (λ e. e.name) (map sized (drop l.place l.pool)) ≡ map (λ e. e.name) (map sized l.pool);
+  sizes : l.sizes.items ++ map (λ e. e.size) (map sized (drop l.place l.pool)) ≡ map (λ e. e.size) (map sized l.pool);
 }

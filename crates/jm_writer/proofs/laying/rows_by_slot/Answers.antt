@@ -16,7 +16,7 @@ returns-clause-rows c =
     let same : rows_in_slots c.as_slice.result.now (rows_at 0 c.args.places.now c.as_slice-2.result.now) t.length ≡ slot_rows e t =
     ap (λ r. rows_in_slots c.as_slice.result.now r t.length) rows
     ∙ ap (λ s. rows_in_slots s (rows_from (texts_of e.names) 0 (sized_as e.names e.sizes)) t.length) c.as_slice.ensures in
-    IfOk-weaker c.rows_in_slots.result _ _ (λ r is. is ∙ same) c.rows_in_slots.ensures.rows
+    IfOk-weaker c.rows_in_slots.result _ _ (λ r is. is ∙ same) c.rows_in_slots.ensures
 
 pub returns-clause-few : goal.returns-clause-few
 returns-clause-few c =
@@ -25,4 +25,4 @@ returns-clause-few c =
     let size = c.requires.table.size in
     IfOk-weaker c.rows_in_slots.result _ _
     (λ r is. let long = ap length is ∙ length-map-range_with_len _ 0 c.args.table.now.length in omega (arith, few, names, size, long))
-    c.rows_in_slots.ensures.rows
+    c.rows_in_slots.ensures

@@ -1,28 +1,30 @@
-use Rattle.std.proofs.Common.{rules, ℕ, ◌≡◌, ◌∙◌, ap, ◌++◌, map, ◌+◌, ◌≤◌, Err, length, sym, subst, refl, arith}
+use Rattle.std.proofs.Common.{rules, ℕ, ◌≡◌, ◌∙◌, ap, ◌++◌, map, ◌+◌, ◌<◌, ◌≤◌, ◌^◌, All, Err, length, sym, subst, refl, arith}
 use Rattle.std.proofs.lemmas.List.{length-map}
 use Rattle.jm_bytes.specs.Results.{IfAnswered}
 use Rattle.jm_form.specs.Greedy.{word_of}
 use Rattle.jm_form.specs.Strings.{section_of}
-use Rattle.jm_form.specs.Layout.{all_sized, sized, sized_node}
+use Rattle.jm_form.specs.Layout.{all_sized, holds_size, names_of, sized, sized_node}
 use Rattle.jm_writer.specs.Drafts.{Plans}
 use Rattle.jm_writer.specs.Laid.{CanLay}
 use Rattle.jm_writer.specs.declared.draft.Draft.{Draft}
 use Rattle.jm_writer.specs.Laying.{IsDrawn, IsTable}
 use Rattle.jm_writer.specs.Parts.{IsOfEntries, index_bytes}
+use Rattle.jm_writer.proofs.LaidSizes.{nodes_fit}
 use Rattle.jm_writer.proofs.PlanLaws.{count_sized, entries_fit, plan_drafted, plan_large}
 use Rattle.jm_writer.proofs.planning.plan_with.Goals as goal
 
 pub returns-in_err-laid : goal.returns-in_err-laid
 returns-in_err-laid c =
     let pool = c.args.pool.now in
-    let e = c.in_ok-entries.entries in
+    let e = c.add_nodes.new.entries in
     let nodes = c.requires.nodes in
-    let of_entries = subst (λ ns. IsOfEntries (map sized pool ++ map sized_node ns) e) nodes c.in_ok-entries.ensures in
+    let of_entries = subst (λ ns. IsOfEntries (map sized pool ++ map sized_node ns) e) nodes (c.in_ok-add_nodes.ensures (map sized pool)
+    c.in_ok-entries.ensures.entries) in
     let tabled = subst (λ ns. IsTable ns c.in_ok-table.table) c.as_slice.ensures c.in_ok-table.ensures in
     let is : c.from_residual-in_err-laid.result ≡ Err c.in_err-laid.field-0.0 = search rules in
     let all = count_sized pool c.args.nodes.now nodes in
-    let sum : length pool + length c.args.nodes.now ≡ c.in_ok-count.count = search rules in
-    let few : length (all_sized pool) ≤ 1048576 = omega (arith, all, sum, c.if-count-gt-ENTRY_LIMIT.false) in
+    let size = c.len.ensures.len in
+    let few : length (all_sized pool) ≤ 1048576 = omega (arith, all, size, c.if-count-gt-ENTRY_LIMIT.false) in
     subst (IfAnswered (Plans c.args.order pool)) (sym is)
     (plan_large c.args.order pool e c.in_ok-table.table c.in_err-laid.field-0.0 of_entries tabled c.in_err-laid.ensures
     c.requires.apart few)
@@ -30,18 +32,19 @@ returns-in_err-laid c =
 pub returns : goal.returns
 returns c =
     let pool = c.args.pool.now in
-    let e = c.in_ok-entries.entries in
+    let e = c.add_nodes.new.entries in
     let table = c.in_ok-table.table in
     let laid = c.in_ok-laid.laid in
     let order = c.args.order in
     let nodes = c.requires.nodes in
-    let of_entries = subst (λ ns. IsOfEntries (map sized pool ++ map sized_node ns) e) nodes c.in_ok-entries.ensures in
+    let of_entries = subst (λ ns. IsOfEntries (map sized pool ++ map sized_node ns) e) nodes (c.in_ok-add_nodes.ensures (map sized pool)
+    c.in_ok-entries.ensures.entries) in
     let tabled = subst (λ ns. IsTable ns table) c.as_slice.ensures c.in_ok-table.ensures in
     let all = count_sized pool c.args.nodes.now nodes in
-    let sum : length pool + length c.args.nodes.now ≡ c.in_ok-count.count = search rules in
-    let few : length (all_sized pool) ≤ 1048576 = omega (arith, all, sum, c.if-count-gt-ENTRY_LIMIT.false) in
+    let size = c.len.ensures.len in
+    let few : length (all_sized pool) ≤ 1048576 = omega (arith, all, size, c.if-count-gt-ENTRY_LIMIT.false) in
     let names = ap length of_entries.names ∙ length-map (all_sized pool) (λ e. e.name) in
-    let long : c.in_ok-count.count ≡ length e.names = omega (arith, names, all, sum) in
+    let long : c.len.result + length c.args.nodes.now ≡ length e.names = omega (arith, names, all, size) in
     let can : CanLay pool = record {
       differ = c.len.ensures.differ;
       plain = record {
@@ -72,30 +75,42 @@ returns c =
 pub lay_out-requires-clause-entries : goal.lay_out-requires-clause-entries
 lay_out-requires-clause-entries c =
     let pool = c.args.pool.now in
-    let e = c.in_ok-entries.entries in
+    let e = c.add_nodes.new.entries in
     let nodes = c.requires.nodes in
-    let of_entries = subst (λ ns. IsOfEntries (map sized pool ++ map sized_node ns) e) nodes c.in_ok-entries.ensures in
+    let of_entries = subst (λ ns. IsOfEntries (map sized pool ++ map sized_node ns) e) nodes (c.in_ok-add_nodes.ensures (map sized pool)
+    c.in_ok-entries.ensures.entries) in
     let all = count_sized pool c.args.nodes.now nodes in
-    let sum : length pool + length c.args.nodes.now ≡ c.in_ok-count.count = search rules in
-    let few : length (all_sized pool) ≤ 1048576 = omega (arith, all, sum, c.if-count-gt-ENTRY_LIMIT.false) in
+    let size = c.len.ensures.len in
+    let few : length (all_sized pool) ≤ 1048576 = omega (arith, all, size, c.if-count-gt-ENTRY_LIMIT.false) in
     entries_fit pool e of_entries few (record {
       differ = c.len.ensures.differ;
       plain =
           record { sound = c.requires.sound; resources = c.requires.resources; apart = c.requires.apart };
     })
 
+pub add_nodes-requires : goal.add_nodes-requires
+add_nodes-requires c =
+    let pool = c.args.pool.now in
+    let nodes = c.requires.nodes in
+    let count = ap length nodes in
+    let names = length-map pool (λ p. p.0) in
+    let size = c.len.ensures.len in
+    subst (All (λ node. holds_size node.holds < 2 ^ 64)) (sym nodes)
+    (nodes_fit (names_of pool) (omega (arith, count, names, size, c.if-count-gt-ENTRY_LIMIT.false)))
+
 pub index_bytes-requires-clause-slots : goal.index_bytes-requires-clause-slots
 index_bytes-requires-clause-slots c =
     let pool = c.args.pool.now in
-    let e = c.in_ok-entries.entries in
+    let e = c.add_nodes.new.entries in
     let nodes = c.requires.nodes in
-    let of_entries = subst (λ ns. IsOfEntries (map sized pool ++ map sized_node ns) e) nodes c.in_ok-entries.ensures in
+    let of_entries = subst (λ ns. IsOfEntries (map sized pool ++ map sized_node ns) e) nodes (c.in_ok-add_nodes.ensures (map sized pool)
+    c.in_ok-entries.ensures.entries) in
     let tabled = subst (λ ns. IsTable ns c.in_ok-table.table) c.as_slice.ensures c.in_ok-table.ensures in
     let all = count_sized pool c.args.nodes.now nodes in
-    let sum : length pool + length c.args.nodes.now ≡ c.in_ok-count.count = search rules in
+    let size = c.len.ensures.len in
     let names = ap length of_entries.names ∙ length-map (all_sized pool) (λ e. e.name) in
     let same = ap length tabled.redirects in
-    omega (arith, same, tabled.whole, tabled.few, names, all, sum, c.if-count-gt-ENTRY_LIMIT.false)
+    omega (arith, same, tabled.whole, tabled.few, names, all, size, c.if-count-gt-ENTRY_LIMIT.false)
 
 pub index_bytes-requires-clause-locations : goal.index_bytes-requires-clause-locations
 index_bytes-requires-clause-locations c =

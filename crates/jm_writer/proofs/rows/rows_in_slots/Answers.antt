@@ -1,4 +1,4 @@
-use Rattle.std.proofs.Common.{rules, replicate, None, ◌≡◌, ◌+◌, ◌<◌, length, drop, get_or, set, Some, arith, refl, subst, sym, ap, ◌∙◌}
+use Rattle.std.proofs.Common.{rules, replicate, None, ◌≡◌, ◌+◌, ◌<◌, length, drop, get_or, set, Some, arith, refl, subst, sym, ◌∙◌}
 use Rattle.std.specs.Prelude.{sum}
 use Rattle.jm_form.specs.declared.rows.Row.{Row}
 use Rattle.jm_writer.specs.declared.interning.TextPlaces.{TextPlaces}
@@ -33,20 +33,18 @@ loop-entry-preserved c =
     let inside : entry < length sizes = c.loop-entry-test.true in
     let row : row_at (get_or places entry p) offset (get_or sizes entry 0) ≡ get_or rows entry d = row_there offset places sizes
     rows entry p d c.requires.places long inside at.left in
-    let next : c.in_ok-offset.offset ≡ offset + get_or sizes entry 0 = search rules in
     let more : sum (drop entry sizes) ≡ get_or sizes entry 0 + sum (drop (entry + 1) sizes) = sum_by-drop_more (λ n. n) sizes entry
     0 inside in
     record {
       placed = subst (λ r. Placed slots rows c.args.count (entry + 1) (set c.loop-entry.rows.items (get_or slots entry 0) (Some r)))
           (sym row) (placed_next slots rows c.args.count entry c.loop-entry.rows.items d (given ∙ sym long) (omega arith)
           (c.requires.below entry 0 (omega arith)) c.requires.differ at.placed);
-      left = ap (λ n. rows_at n (drop (entry + 1) places) (drop (entry + 1) sizes)) next ∙ rows_behind offset places sizes rows
-          entry p d c.requires.places long inside at.left;
-      contents = omega (arith, next, more, at.contents);
+      left = rows_behind offset places sizes rows entry p d c.requires.places long inside at.left;
+      contents = omega (arith, more, at.contents);
     }
 
-pub returns-clause-rows : goal.returns-clause-rows
-returns-clause-rows c =
+pub returns : goal.returns
+returns c =
     let all : c.loop-entry.entry ≡ length c.args.slots.now = omega (arith, c.requires.slots) in
     placed_all c.args.slots.now (rows_at 0 c.args.places.now c.args.sizes.now) c.args.count c.loop-entry.rows.items
     (subst (λ n. Placed c.args.slots.now (rows_at 0 c.args.places.now c.args.sizes.now) c.args.count n c.loop-entry.rows.items) all
