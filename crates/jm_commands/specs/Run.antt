@@ -85,12 +85,13 @@ ShowsLinked (Ok image) = ShowsTrees image.bytes image.resources
 ShowsLinked (Err refusal) = Unit {0}
 
 -- a link from the directories of a module path comes to what their files do, where the shelf tells
--- them; a shelf that tells nothing may say of a file that it listed that it isn't there
+-- them; a shelf that tells nothing may say of a file that it listed that it isn't there. Told or
+-- not, an image is laid out and shows its trees
 abbrev pub PathLinkComesTo
     : (Summary → List ℕ) → Option Files → LinkTask → List (List ℕ) → Outcome → Type 0
 PathLinkComesTo text told link directories due =
     ((result : Result LinkedImage Refusal) × ComesTo told directories (request_of link) result
-    × Shows told (λ files. ShowsLinked result) × (due ≡ link_outcome text link result))
+    × ShowsLinked result × (due ≡ link_outcome text link result))
     ⊎ ((listed : List ℕ) × Shows told (λ files. ⊥) × (due ≡ not_there listed))
 
 -- a link of the modules of an image without a damage

@@ -38,8 +38,8 @@ use Rattle.jm_link.specs.declared.linking.Summary.{Summary}
 use Rattle.jm_link.specs.declared.resources.ResourceFile.{ResourceFile}
 use Rattle.jm_link.specs.Chosen.{Chosen, reserved, roots_among}
 use Rattle.jm_link.specs.Closing.{ClosesAmong, ClosesWith, IsRefusedAmong}
-use Rattle.jm_link.specs.Linked.{IsGatheredTo, LinkedImage, LinksAmong, PlugsTo, Request, image_with}
-use Rattle.jm_link.specs.Linked.{laid_out, layout_refusal, path_refusal_as, plugging_refusal}
+use Rattle.jm_link.specs.Linked.{IsGatheredTo, LinkedImage, LinksAmong, LinksTo, PlugsTo, Request}
+use Rattle.jm_link.specs.Linked.{image_with, laid_out, layout_refusal, path_refusal_as, plugging_refusal}
 use Rattle.jm_link.specs.Links.{BreaksOff, ComesTo, IsLaid, LinksBy, PoolComesTo, TellsNothing}
 use Rattle.jm_link.specs.ResourceFiles.{IsTakenFrom, IsToldIn, file_names, pair_of}
 use Rattle.jm_link.specs.Resources.{AreFit, link_files, resources_in, resources_of}
@@ -212,12 +212,12 @@ candidates_length (m ∷ ms) = ap suc (candidates_length ms)
 pub unseen : (directories : List (List ℕ)) (asked : Request) (given : PathStop) (path : List ℕ) (old new : ShelfSeen) → new.told
     ≡ old.told → Shows old.told (λ files. ShowsModules asked.release files directories (Err given)) → (given ≡ path_stop.Outside
     → ShelfFailed old new) → LinksBy (ComesTo old.told directories asked) (TellsNothing old.told) path (Err (stop_of_path given)) old new
-unseen directories asked (path_stop.Refused r) path old new same shows failed = (go old.told shows, same)
+unseen directories asked (path_stop.Refused r) path old new same shows failed = ((go old.told shows, tt), same)
   where
     go : (t : Option Files) → Shows t (λ files. ShowsModules asked.release files directories (Err (path_stop.Refused r)))
-        → ComesTo t directories asked (Err (path_refusal_as r))
+        → Shows t (λ files. LinksTo files directories asked (Err (path_refusal_as r)))
     go None shows = tt
-    go (Some files) shows = rw shows (refl, tt)
+    go (Some files) shows = rw shows refl
 unseen directories asked (path_stop.NotThere listed) path old new same shows failed = (shows, same)
 unseen directories asked path_stop.Outside path old new same shows failed = (inl same, failed refl)
 unseen directories asked path_stop.Memory path old new same shows failed = inl same
@@ -225,20 +225,20 @@ unseen directories asked path_stop.Memory path old new same shows failed = inl s
 module _ (told : Option Files) (directories : List (List ℕ)) (asked : Request) where
   module _ (found : List VisibleModule) (shows : Shows told (λ files. ShowsModules asked.release files directories
       (Ok found))) where
-    found_to : (r : Result LinkedImage Refusal) → ((files : Files) → told ≡ Some files → LinksAmong asked (candidates found)
-        (resources_in files found) r × IsLaid asked.order r) → ComesTo told directories asked r
-    found_to r comes = go told shows comes
+    found_to : (r : Result LinkedImage Refusal) → IsLaid asked.order r → ((files : Files) → told ≡ Some files → LinksAmong asked
+        (candidates found) (resources_in files found) r) → ComesTo told directories asked r
+    found_to r laid comes = (go told shows comes, laid)
       where
         go : (t : Option Files) → Shows t (λ files. ShowsModules asked.release files directories (Ok found)) → ((files : Files)
-            → t ≡ Some files → LinksAmong asked (candidates found) (resources_in files found) r × IsLaid asked.order r)
-            → ComesTo t directories asked r
+            → t ≡ Some files → LinksAmong asked (candidates found) (resources_in files found) r)
+            → Shows t (λ files. LinksTo files directories asked r)
         go None shows comes = tt
-        go (Some files) (free, is) comes = let both = comes files refl in (rw (free, sym is) both.0, both.1)
+        go (Some files) (free, is) comes = rw (free, sym is) (comes files refl)
 
     -- no closure was had
     pub unclosed : (r : Refusal) → (reserved (candidates found) ≡ Some r) ⊎ IsRefusedAmong (candidates found) asked.roots asked.bind
         r → ComesTo told directories asked (Err r)
-    unclosed r why = found_to (Err r) (λ files is. (refused_among asked (candidates found) (resources_in files found) r why, tt))
+    unclosed r why = found_to (Err r) tt (λ files is. refused_among asked (candidates found) (resources_in files found) r why)
 
     module _ (places : List ℕ) (closes : ClosesAmong (candidates found) asked.roots asked.bind (Ok places)) where
       abbrev names : List Named
@@ -246,22 +246,17 @@ module _ (told : Option Files) (directories : List (List ℕ)) (asked : Request)
 
       -- a name is unfit
       pub unfit : (r : Refusal) → first_bad_name names ≡ Some r → ComesTo told directories asked (Err r)
-      unfit r is = found_to (Err r) (λ files shown. (
-        among_to asked (candidates found) (resources_in files found) places closes
-            (Err r) (rw (bad_name files names, is) refl),
-        tt,
-      ))
+      unfit r is = found_to (Err r) tt (λ files shown.
+          among_to asked (candidates found) (resources_in files found) places closes (Err r) (rw (bad_name files names, is) refl))
 
       -- the files were read
       pub read_to : first_bad_name names ≡ None → (read : List Written) → Shows told (λ files. read ≡ resources_of files names)
           → (r : Result LinkedImage Refusal) → PoolComesTo asked (length places) read r → ComesTo told directories asked r
       read_to fit read is r (comes, laid) =
-          found_to r (λ files shown.
-          let same = subst (λ t. Shows t (λ files. read ≡ resources_of files names)) shown is in (
-            among_to asked (candidates found) (resources_in files found) places closes r (rw (bad_name files names, fit, sym same)
-                comes),
-            laid,
-          ))
+          found_to r laid (λ files shown.
+          let same = subst (λ t. Shows t (λ files. read ≡ resources_of files names)) shown is in
+          among_to asked (candidates found) (resources_in files found) places closes r (rw (bad_name files names, fit, sym same)
+          comes))
 
 -- reading ended the work
 pub unread : (Comes : Result LinkedImage Refusal → Type 0) (path : List ℕ) (given : LinkStop) (old new : ShelfSeen) → new.told
