@@ -136,6 +136,13 @@ abbrev pub WordsComeTo
 WordsComeTo told rest (Ok command) due = TaskComesTo told rest command.task due
 WordsComeTo told rest (Err fault) due = due ≡ faulty fault
 
+-- words ask for the same: one task, by any numbers of jobs, or the same fault is theirs
+abbrev pub AskTheSame : (asked same : Result Command WordsFault) → Type 0
+AskTheSame (Ok command) (Ok other) = command.task ≡ other.task
+AskTheSame (Err fault) (Err other) = fault ≡ other
+AskTheSame (Ok command) (Err fault) = ⊥
+AskTheSame (Err fault) (Ok command) = ⊥
+
 -- What is read of a file
 
 -- what reading a file comes to: its bytes; the complaint that it isn't there; a failure, or no
