@@ -19,7 +19,7 @@ use Rattle.jm_commands.specs.Run.{Answers, FilesFirst, FilesMade, GenComesTo, Li
 use Rattle.jm_commands.specs.Stops.{stop_of_link, stop_of_shelf}
 use Rattle.jm_commands.specs.World.{World}
 use Rattle.jm_commands.proofs.LinkLaws.{link_put, link_stopped}
-use Rattle.jm_commands.proofs.StepLaws.{early_sooner, none_sooner, source_behind, work_sooner}
+use Rattle.jm_commands.proofs.StepLaws.{files_sooner, none_sooner, source_behind, work_sooner}
 
 -- the answer is that of what is due with files made before
 answers_behind : (made : Writes) (due : Outcome) (answer : Result (Unit {0}) Stop) → Answers due answer → Answers (behind made due) answer
@@ -76,7 +76,7 @@ module _ (made : Writes) (shelf : ShelfSeen) (now new : World) (first : MadeAll 
         now.shelf.told new.shelf.told first fails.files);
     source = fails.source;
     output = fails.output;
-    outside = λ failed. early_sooner shelf now new kept reading (fails.outside failed);
+    outside = λ failed. files_sooner shelf now new kept reading (making made) refl (fails.outside failed);
   })
   step_after Due answer ends (inr (due, is, step)) = inr (
     behind made due,
@@ -87,7 +87,7 @@ module _ (made : Writes) (shelf : ShelfSeen) (now new : World) (first : MadeAll 
       files = files_behind made due.writes answer shelf now new first ends step.files;
       files_first = first_behind_made made due.writes answer shelf now new first ends step.files_first;
       source = source_behind shelf now new due.session _ step.source;
-      outside = λ failed. work_sooner shelf now new kept due.session due.status (step.outside failed);
+      outside = λ failed. work_sooner shelf now new kept reading (making made) refl due.session due.status (step.outside failed);
       none_rose = λ ok. none_sooner shelf now new kept (step.none_rose ok);
     },
   )

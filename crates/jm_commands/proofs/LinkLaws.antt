@@ -66,7 +66,7 @@ module _ (text : Summary → List ℕ) (link : LinkTask) (Comes : Result LinkedI
     linked text link image,
     as_due (Ok image) comes,
     made_in_part (linked text link image) given old new fails refl
-        (part_alone old.shelf.told new.shelf.told link.output image.bytes part) source unput (λ failed. inl (rose failed)),
+        (part_alone old.shelf.told new.shelf.told link.output image.bytes part) source unput (λ failed. inl (refl, rose failed)),
   )
 
   -- it stopped before anything was put
