@@ -35,7 +35,7 @@ module _ (link : LinkTask) (b : List ℕ) where
   -- an outcome that makes these bytes ends so
   ends_so : (early : Early) (due : Outcome) (is : Status) (old new : World) (err new_err : Seen (List ℕ)) → due.status ≡ status.Done → due.writes
       ≡ (link.output, b) ∷ [] → EndsWith early due is old new err new_err → IsRelinked link.output b is old.shelf.told new.shelf.told
-  ends_so early due status.Done old new err new_err done writes ends = subst (λ ws. MadeAll ws old.shelf.told new.shelf.told) writes ends.1.files
+  ends_so early due status.Done old new err new_err done writes ends = subst (λ ws. MadeAll ws old.shelf.told new.shelf.told) writes ends.1.files.made
   ends_so early due status.Outside old new err new_err done writes ends = tt
   ends_so early due status.Memory old new err new_err done writes ends = tt
   ends_so early due status.Words old new err new_err done writes ends =

@@ -127,11 +127,10 @@ module _ (early : Early) (due : Outcome) (old new : World) where
       record {
         output = step.output;
         line = subst (λ (text : List ℕ). Gets text err err) (sym step.answers.1) (gets_nothing err err refl);
-        files = step.files.made;
+        files = step.files;
       },
     );
     source = source_map due.session (StopsAs (Ok tt)) (EndsAs status.Done err err) old new (ends_done err) step.source;
-    stand = λ done. step.files;
     none_rose = λ done. (step.none_rose refl, refl);
   }
 
@@ -149,7 +148,6 @@ module _ (early : Early) (due : Outcome) (old new : World) where
       inl (step.outside refl),
     );
     source = source_map due.session (StopsAs (Err stop.Outside)) (EndsAs status.Outside err err) old new (ends_outside err) step.source;
-    stand = λ done. cc;
     none_rose = λ done. cc;
   }
 
@@ -164,7 +162,6 @@ module _ (early : Early) (due : Outcome) (old new : World) where
           step.files_first;
     };
     source = source_map due.session (StopsAs (Err stop.Memory)) (EndsAs status.Memory err err) old new (ends_memory err) step.source;
-    stand = λ done. cc;
     none_rose = λ done. cc;
   }
 
@@ -175,7 +172,6 @@ module _ (early : Early) (due : Outcome) (old new : World) where
     ends = go is report;
     source = source_map due.session (StopsAs (Err (stop.Complaint given))) (EndsAs is err new_err) old new
         (ends_complaint given err new_err is report) step.source;
-    stand = λ done. absurd (reported_undone given is err new_err report done);
     none_rose = λ done. absurd (reported_undone given is err new_err report done);
   }
     where
@@ -190,7 +186,7 @@ module _ (early : Early) (due : Outcome) (old new : World) where
       front put = record {
         output = front_of_all due.output old.out new.out step.output;
         line = subst (λ (text : List ℕ). GetsFront text err new_err) (sym step.answers.1) put;
-        files = part_of_all due.writes old.shelf.told new.shelf.told step.files;
+        files = part_of_all due.writes old.shelf.told new.shelf.told step.files.made;
         files_first = step.files_first;
       }
 

@@ -149,7 +149,7 @@ module _ (b text : List ℕ) (old new : World) (shelf : new.shelf ≡ old.shelf)
   step_broken given breaks held gets = record {
     answers = (breaks, refl);
     output = gets;
-    files = unmade;
+    files = stand;
     files_first = inl stand;
     source = held;
     outside = λ failed. cc;

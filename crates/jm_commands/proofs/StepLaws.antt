@@ -161,7 +161,7 @@ module _ (due : Outcome) (old new : World) (files : new.shelf.told ≡ old.shelf
   put_step (Err (stop.Complaint given)) put quiet = record {
     answers = (ap (λ o. o.status) put.answers, ap (λ o. o.line) put.answers);
     output = put.output;
-    files = unmade (ap (λ o. o.writes) put.answers);
+    files = stand (ap (λ o. o.writes) put.answers);
     files_first = inl (stand (ap (λ o. o.writes) put.answers));
     source = unread _;
     outside = λ failed. cc;
@@ -358,7 +358,7 @@ module _ (shelf : ShelfSeen) (now new : World) where
   made_behind : (writes : Writes) (answer : Result (Unit {0}) Stop) → now.shelf.told ≡ shelf.told
       → FilesMade answer writes now.shelf new.shelf → FilesMade answer writes shelf new.shelf
   made_behind writes (Ok _) same made = stand_behind writes same made
-  made_behind writes (Err (stop.Complaint given)) same made = subst (λ (told : Option Files). MadeAll writes told new.shelf.told) same made
+  made_behind writes (Err (stop.Complaint given)) same made = stand_behind writes same made
   made_behind writes (Err stop.Outside) same made = subst (λ (told : Option Files). MadePart writes told new.shelf.told) same made
   made_behind writes (Err stop.Memory) same made = subst (λ (told : Option Files). MadePart writes told new.shelf.told) same made
 

@@ -196,11 +196,11 @@ pub record StandAll (writes : Writes) (old new : ShelfSeen) : Type 0 where
   pub made : MadeAll writes old.told new.told
   pub whole : writes ≢ [] → IsTrue new.whole
 
--- the files are made, and stand behind a step that is done; but some of them are made where the
--- outside failed or no memory was found
+-- the files are made and stand; but some of them are made where the outside failed or no memory was
+-- found
 abbrev pub FilesMade : Result (Unit {0}) Stop → Writes → (old new : ShelfSeen) → Type 0
 FilesMade (Ok _) writes old new = StandAll writes old new
-FilesMade (Err (stop.Complaint complaint)) writes old new = MadeAll writes old.told new.told
+FilesMade (Err (stop.Complaint complaint)) writes old new = StandAll writes old new
 FilesMade (Err stop.Outside) writes old new = MadePart writes old.told new.told
 FilesMade (Err stop.Memory) writes old new = MadePart writes old.told new.told
 
@@ -289,11 +289,11 @@ EndsStep (Err (stop.Complaint complaint)) is err new_err = ReportDoes complaint 
 EndsStep (Err stop.Outside) is err new_err = (is ≡ status.Outside) × (new_err ≡ err)
 EndsStep (Err stop.Memory) is err new_err = (is ≡ status.Memory) × (new_err ≡ err)
 
--- all was done: the sinks got their texts, and the files were made
+-- all was done: the sinks got their texts, and the files were made and stand
 pub record DoesAll (due : Outcome) (old new : World) (err new_err : Seen (List ℕ)) : Type 0 where
   pub output : Gets due.output old.out new.out
   pub line : Gets due.line err new_err
-  pub files : MadeAll due.writes old.shelf.told new.shelf.told
+  pub files : StandAll due.writes old.shelf new.shelf
 
 -- a front of all was done: some files, or all of them and a front of the output
 pub record DoesFront (due : Outcome) (old new : World) (err new_err : Seen (List ℕ)) : Type 0 where
@@ -316,13 +316,11 @@ EndsWith early due is old new err new_err =
 abbrev pub IsFailed : Status → Type 0
 IsFailed is = (is ≡ status.Outside) ⊎ (is ≡ status.Memory)
 
--- what a whole run does, where this is what the words come to; with `Done` the files stand whole
--- under their own names, and no call failed
+-- what a whole run does, where this is what the words come to; with `Done` no call failed
 pub record RunDoes (early : Early) (due : Outcome) (is : Status) (old new : World)
     (err new_err : Seen (List ℕ)) : Type 0 where
   pub ends : EndsWith early due is old new err new_err
   pub source : SourceRead due.session (EndsAs is err new_err) old new
-  pub stand : is ≡ status.Done → StandAll due.writes old.shelf new.shelf
   pub none_rose : is ≡ status.Done → NoneRose old new × (new_err.faults ≡ err.faults)
 
 -- a run failed before it was known what the words come to: with nothing put and nothing read from
