@@ -12,7 +12,7 @@ use Rattle.jm_commands.specs.declared.complaint.Complaint.TheVariants as complai
 use Rattle.jm_commands.specs.declared.stop.Stop.{Stop}
 use Rattle.jm_commands.specs.declared.stop.Stop.TheVariants as stop
 use Rattle.jm_commands.specs.ExtractText.{extract_text}
-use Rattle.jm_commands.specs.Outcome.{done, extract_outcome, refusing}
+use Rattle.jm_commands.specs.Outcome.{done, extract_outcome, reading, refusing}
 use Rattle.jm_commands.specs.FailedBefore.{WorkFailed}
 use Rattle.jm_commands.specs.Run.{PutDoes, StepDoes}
 use Rattle.jm_commands.specs.Sinks.{Seen}
@@ -34,13 +34,13 @@ broken_part dir (Err refusal) old new same = stays_part [] old new same
 
 -- the shelf may fail before either
 shelf_failed : (dir : List ℕ) (due : Result (List Named) Refusal) (old new : World) → ShelfFailed old.shelf new.shelf
-    → WorkFailed (extract_outcome dir due).session (extract_outcome dir due).status old new
-shelf_failed dir (Ok entries) old new failed = inl failed
-shelf_failed dir (Err refusal) old new failed = failed
+    → WorkFailed reading (extract_outcome dir due).session (extract_outcome dir due).status old new
+shelf_failed dir (Ok entries) old new failed = inl (refl, failed)
+shelf_failed dir (Err refusal) old new failed = (refl, failed)
 
 module _ (dir : List ℕ) (due : Result (List Named) Refusal) (old new : World) (input : new.input ≡ old.input) where
   abbrev Does : Result (Unit {0}) Stop → Type 0
-  Does answer = StepDoes (extract_outcome dir due) answer old new
+  Does answer = StepDoes reading (extract_outcome dir due) answer old new
 
   source : new.input.told ≡ old.input.told
   source = ap (λ (s : Seen (List ℕ)). s.told) input
@@ -50,7 +50,7 @@ module _ (dir : List ℕ) (due : Result (List Named) Refusal) (old new : World) 
       → IsTrue new.shelf.whole → new.shelf.faults ≡ old.shelf.faults → PutDoes (done (extract_text count)) answer old.out new.out
       → Does answer
   extract_put count answer (entries, is, counted, made) whole kept put =
-      subst (λ (d : Result (List Named) Refusal). StepDoes (extract_outcome dir d) answer old new) (sym is)
+      subst (λ (d : Result (List Named) Refusal). StepDoes reading (extract_outcome dir d) answer old new) (sym is)
       (made_put (writes_of dir entries) (extract_text (length entries)) answer old new (record { made = made; whole = λ some. whole })
       kept input (subst (λ (n : ℕ). PutDoes (done (extract_text n)) answer old.out new.out) counted put))
 
@@ -58,7 +58,7 @@ module _ (dir : List ℕ) (due : Result (List Named) Refusal) (old new : World) 
   pub extract_stopped : (given : ExtractStop) → Extracts due dir (Err given) old.shelf.told new.shelf.told
       → (given ≡ extract_stop.Outside → ShelfFailed old.shelf new.shelf) → new.out.told ≡ old.out.told → Does (Err (stop_of_extract given))
   extract_stopped (extract_stop.Refused refusal) (is, files) rose unput =
-      subst (λ (d : Result (List Named) Refusal). StepDoes (extract_outcome dir d) answer old new) (sym is)
+      subst (λ (d : Result (List Named) Refusal). StepDoes reading (extract_outcome dir d) answer old new) (sym is)
       (put_step (refusing refusal) old new files source refl answer (complained (refusing refusal) (complaint.Refused refusal)
       old.out new.out refl unput) (λ ok. cc))
     where

@@ -1,5 +1,5 @@
 -- What `gen` does, from what its calls answered.
-use Rattle.std.proofs.Common.{◌≡◌, ◌⊎◌, inl, inr, IsTrue, IsOk, ℕ, List, [], ◌++◌, ◌∷◌, Option, Result, Ok, Err, refl, subst, append-nil}
+use Rattle.std.proofs.Common.{◌≡◌, ◌⊎◌, inl, inr, IsTrue, ℕ, List, [], ◌++◌, ◌∷◌, Option, Result, Ok, Err, refl, subst, append-nil}
 use Rattle.jm_outside.specs.Files.{Files}
 use Rattle.jm_outside.specs.Shelves.{ShelfFailed, ShelfSeen}
 use Rattle.jm_outside.specs.declared.shelf.ShelfError.{ShelfError}
@@ -7,19 +7,22 @@ use Rattle.jm_outside.specs.declared.shelf.ShelfError.TheVariants as shelf_error
 use Rattle.jm_outside.specs.Made.{MadeAll, MadePart, Writes}
 use Rattle.jm_outside.proofs.MadeLaws.{made_append, part_append}
 use Rattle.jm_link.specs.declared.linking.LinkStop.{LinkStop}
+use Rattle.jm_link.specs.declared.linking.LinkStop.TheVariants as link_stop
 use Rattle.jm_link.specs.declared.linking.Summary.{Summary}
 use Rattle.jm_link.specs.Links.{Links, request_of}
+use Rattle.jm_link.specs.Steps.{AfterStep}
 use Rattle.jm_words.specs.declared.tasks.GenTask.{GenTask}
 use Rattle.jm_commands.specs.declared.stop.Stop.{Stop}
 use Rattle.jm_commands.specs.declared.stop.Stop.TheVariants as stop
 use Rattle.jm_commands.specs.Gen.{gen_link, image_path, made_first, modules_path}
 use Rattle.jm_commands.specs.LinkText.{gen_text}
 use Rattle.jm_commands.specs.Outcome.{Outcome, behind, done, making, reading}
-use Rattle.jm_commands.specs.Run.{Answers, FilesFirst, FilesMade, GenComesTo, LinkComesTo, PutDoes, StandAll, StepComesTo}
+use Rattle.jm_commands.specs.Run.{Answers, FilesFirst, FilesMade, GenComesTo, IsFailure, LinkComesTo, PutDoes}
+use Rattle.jm_commands.specs.Run.{StandAll, StepComesTo}
 use Rattle.jm_commands.specs.Stops.{stop_of_link, stop_of_shelf}
 use Rattle.jm_commands.specs.World.{World}
 use Rattle.jm_commands.proofs.LinkLaws.{link_put, link_stopped}
-use Rattle.jm_commands.proofs.StepLaws.{early_sooner, none_sooner, source_behind, work_sooner}
+use Rattle.jm_commands.proofs.StepLaws.{files_sooner, none_sooner, source_behind, work_sooner}
 
 -- the answer is that of what is due with files made before
 answers_behind : (made : Writes) (due : Outcome) (answer : Result (Unit {0}) Stop) → Answers due answer → Answers (behind made due) answer
@@ -36,17 +39,18 @@ all_behind made writes shelf now new first whole more = record {
   whole = λ some. whole;
 }
 
--- the making of files was ended, or the step isn't done and nothing was put
+-- what was made stands, or the step failed and nothing was put
 abbrev pub EndsFiles : Result (Unit {0}) Stop → World → World → Type 0
-EndsFiles answer now new = IsTrue new.shelf.whole ⊎ ((IsOk answer → ⊥) × (new.out.told ≡ now.out.told))
+EndsFiles answer now new = IsTrue new.shelf.whole ⊎ (IsFailure answer × (new.out.told ≡ now.out.told))
 
 files_behind : (made writes : Writes) (answer : Result (Unit {0}) Stop) (shelf : ShelfSeen) (now new : World)
     → MadeAll made shelf.told now.shelf.told → EndsFiles answer now new → FilesMade answer writes now.shelf new.shelf
     → FilesMade answer (made ++ writes) shelf new.shelf
 files_behind made writes (Ok _) shelf now new first (inl whole) more = all_behind made writes shelf now.shelf new.shelf first whole more
-files_behind made writes (Ok _) shelf now new first (inr (undone, unput)) more = absurd (undone refl)
-files_behind made writes (Err (stop.Complaint given)) shelf now new first ends more = made_append made writes shelf.told
-    now.shelf.told new.shelf.told first more
+files_behind made writes (Ok _) shelf now new first (inr (failed, unput)) more = absurd failed
+files_behind made writes (Err (stop.Complaint given)) shelf now new first (inl whole) more =
+    all_behind made writes shelf now.shelf new.shelf first whole more
+files_behind made writes (Err (stop.Complaint given)) shelf now new first (inr (failed, unput)) more = absurd failed
 files_behind made writes (Err stop.Outside) shelf now new first ends more = part_append made writes shelf.told now.shelf.told
     new.shelf.told first more
 files_behind made writes (Err stop.Memory) shelf now new first ends more = part_append made writes shelf.told now.shelf.told
@@ -59,7 +63,7 @@ first_behind_made : (made writes : Writes) (answer : Result (Unit {0}) Stop) (sh
 first_behind_made made writes answer shelf now new first (inl whole) (inl more) =
     inl (all_behind made writes shelf now.shelf new.shelf first whole more)
 first_behind_made made writes answer shelf now new first (inl whole) (inr unput) = inr unput
-first_behind_made made writes answer shelf now new first (inr (undone, unput)) files = inr unput
+first_behind_made made writes answer shelf now new first (inr (failed, unput)) files = inr unput
 
 module _ (made : Writes) (shelf : ShelfSeen) (now new : World) (first : MadeAll made shelf.told now.shelf.told)
     (kept : now.shelf.faults ≡ shelf.faults) where
@@ -76,7 +80,7 @@ module _ (made : Writes) (shelf : ShelfSeen) (now new : World) (first : MadeAll 
         now.shelf.told new.shelf.told first fails.files);
     source = fails.source;
     output = fails.output;
-    outside = λ failed. early_sooner shelf now new kept reading (fails.outside failed);
+    outside = λ failed. files_sooner shelf now new kept reading (making made) refl (fails.outside failed);
   })
   step_after Due answer ends (inr (due, is, step)) = inr (
     behind made due,
@@ -87,10 +91,18 @@ module _ (made : Writes) (shelf : ShelfSeen) (now new : World) (first : MadeAll 
       files = files_behind made due.writes answer shelf now new first ends step.files;
       files_first = first_behind_made made due.writes answer shelf now new first ends step.files_first;
       source = source_behind shelf now new due.session _ step.source;
-      outside = λ failed. work_sooner shelf now new kept due.session due.status (step.outside failed);
+      outside = λ failed. work_sooner shelf now new kept reading (making made) refl due.session due.status (step.outside failed);
       none_rose = λ ok. none_sooner shelf now new kept (step.none_rose ok);
     },
   )
+
+-- behind a link that stopped
+stopped_files : (given : LinkStop) (now new : World) → AfterStep {A = Summary} (IsTrue new.shelf.whole) (Err given) → new.out.told
+    ≡ now.out.told → EndsFiles (Err (stop_of_link given)) now new
+stopped_files (link_stop.Refused refusal) now new whole unput = inl whole
+stopped_files (link_stop.NotThere listed) now new whole unput = inl whole
+stopped_files link_stop.Outside now new whole unput = inr (tt, unput)
+stopped_files link_stop.Memory now new whole unput = inr (tt, unput)
 
 -- the link of a `gen`, by the folder that its modules were made in
 pub links_as : (gen : GenTask) (mods : List ℕ) (answer : Result Summary LinkStop) (old new : ShelfSeen) → mods ≡ modules_path gen
@@ -126,9 +138,10 @@ module _ (gen : GenTask) (shelf : ShelfSeen) (now new : World) where
   -- all was made, and the link stopped
   pub gen_stopped : (given : LinkStop) → MadeAll (made_first gen) shelf.told now.shelf.told → now.shelf.faults ≡ shelf.faults
       → new.input ≡ now.input → Links (modules_path gen ∷ []) (request_of (gen_link gen)) (image_path gen) (Err given) now.shelf
-      new.shelf → new.out.told ≡ now.out.told → Does (Err (stop_of_link given))
-  gen_stopped given made kept input links unput =
-      linked_after (Err (stop_of_link given)) made kept (inr ((λ ok. cc), unput)) (link_stopped gen_text (gen_link gen)
+      new.shelf → AfterStep {A = Summary} (IsTrue new.shelf.whole) (Err given) → new.out.told ≡ now.out.told
+      → Does (Err (stop_of_link given))
+  gen_stopped given made kept input links whole unput =
+      linked_after (Err (stop_of_link given)) made kept (stopped_files given now new whole unput) (link_stopped gen_text (gen_link gen)
       (modules_path gen ∷ []) now new input given links unput)
 
 -- the making was broken off

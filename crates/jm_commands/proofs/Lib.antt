@@ -7,6 +7,7 @@ pub mod LinkLaws
 pub mod ListingLaws
 mod ListingVectors
 pub mod Made
+pub mod OnceLaws
 pub mod OutcomeLaws
 pub mod PieceLaws
 pub mod PlainLaws

@@ -1,10 +1,9 @@
 -- What `link` does, from what its call answered.
-use Rattle.std.proofs.Common.{◌≡◌, ◌∷◌, inl, inr, ℕ, List, [], Option, Some, None, Result, Ok, Err, refl, sym, ap, subst, arith, All, IsUtf8}
+use Rattle.std.proofs.Common.{◌≡◌, ◌∷◌, inl, inr, ℕ, List, [], Option, Result, Ok, Err, refl, sym, ap, subst, arith, All, IsUtf8}
 use Rattle.std.proofs.lemmas.List.Elements.{All-nil}
 use Rattle.jm_bytes.proofs.Choice.{same_err}
 use Rattle.jm_bytes.specs.declared.words.Order.{Order}
 use Rattle.jm_outside.specs.Files.{Files, put}
-use Rattle.jm_outside.specs.Outcome.{Shows}
 use Rattle.jm_outside.specs.Shelves.{ShelfFailed, ShelfSeen}
 use Rattle.jm_outside.proofs.MadeLaws.{part_alone}
 use Rattle.jm_link.specs.declared.linking.LinkStop.{LinkStop}
@@ -12,7 +11,7 @@ use Rattle.jm_link.specs.declared.linking.LinkStop.TheVariants as link_stop
 use Rattle.jm_link.specs.declared.linking.Summary.{Summary}
 use Rattle.jm_texts.specs.declared.refusal.Refusal.{Refusal}
 use Rattle.jm_jrt.proofs.TreeLaws.{trees_shown_short}
-use Rattle.jm_link.specs.Linked.{LinkedImage, Request}
+use Rattle.jm_link.specs.Linked.{LinkedImage}
 use Rattle.jm_link.specs.ImageLinked.{ImageComesTo, ImageLinks}
 use Rattle.jm_link.specs.Links.{BreaksOff, ComesTo, IsLaid, Links, LinksBy, TellsNothing, request_of, summary_of}
 use Rattle.jm_words.specs.declared.tasks.LinkTask.{LinkTask}
@@ -35,11 +34,6 @@ linked_shown : (order : Order) (result : Result LinkedImage Refusal) → IsLaid 
 linked_shown order (Err refusal) laid = tt
 linked_shown order (Ok image) laid =
     trees_shown_short image.bytes image.resources (omega (arith, laid.within)) laid.nodes laid.stands
-
-comes_shown : (told : Option Files) (directories : List (List ℕ)) (asked : Request) (result : Result LinkedImage Refusal)
-    → ComesTo told directories asked result → Shows told (λ files. ShowsLinked result)
-comes_shown None directories asked result comes = tt
-comes_shown (Some files) directories asked result comes = linked_shown asked.order result comes.1
 
 -- of a link that comes to one of these results, or finds a listed file missing, from what is due then
 module _ (text : Summary → List ℕ) (link : LinkTask) (Comes : Result LinkedImage Refusal → Type 0) (Absent : Type 0) (Due : Outcome
@@ -72,7 +66,7 @@ module _ (text : Summary → List ℕ) (link : LinkTask) (Comes : Result LinkedI
     linked text link image,
     as_due (Ok image) comes,
     made_in_part (linked text link image) given old new fails refl
-        (part_alone old.shelf.told new.shelf.told link.output image.bytes part) source unput (λ failed. inl (rose failed)),
+        (part_alone old.shelf.told new.shelf.told link.output image.bytes part) source unput (λ failed. inl (refl, rose failed)),
   )
 
   -- it stopped before anything was put
@@ -92,7 +86,7 @@ module _ (text : Summary → List ℕ) (link : LinkTask) (Comes : Result LinkedI
 module _ (text : Summary → List ℕ) (link : LinkTask) (directories : List (List ℕ)) (old new : World) (input : new.input ≡ old.input) where
   path_due : (result : Result LinkedImage Refusal) → ComesTo old.shelf.told directories (request_of link) result
       → PathLinkComesTo text old.shelf.told link directories (link_outcome text link result)
-  path_due result comes = inl (result, comes, comes_shown old.shelf.told directories (request_of link) result comes, refl)
+  path_due result comes = inl (result, comes, linked_shown link.order result comes.1, refl)
 
   path_absent : (listed : List ℕ) → TellsNothing old.shelf.told → PathLinkComesTo text old.shelf.told link directories (not_there listed)
   path_absent listed none = inr (listed, none, refl)

@@ -33,20 +33,20 @@ failed_free output b is old new (inr same) = subst (λ s. IsRelinked output b s 
 
 module _ (link : LinkTask) (b : List ℕ) where
   -- an outcome that makes these bytes ends so
-  ends_so : (due : Outcome) (is : Status) (old new : World) (err new_err : Seen (List ℕ)) → due.status ≡ status.Done → due.writes
-      ≡ (link.output, b) ∷ [] → EndsWith due is old new err new_err → IsRelinked link.output b is old.shelf.told new.shelf.told
-  ends_so due status.Done old new err new_err done writes ends = subst (λ ws. MadeAll ws old.shelf.told new.shelf.told) writes ends.1.files
-  ends_so due status.Outside old new err new_err done writes ends = tt
-  ends_so due status.Memory old new err new_err done writes ends = tt
-  ends_so due status.Words old new err new_err done writes ends =
+  ends_so : (early : Early) (due : Outcome) (is : Status) (old new : World) (err new_err : Seen (List ℕ)) → due.status ≡ status.Done → due.writes
+      ≡ (link.output, b) ∷ [] → EndsWith early due is old new err new_err → IsRelinked link.output b is old.shelf.told new.shelf.told
+  ends_so early due status.Done old new err new_err done writes ends = subst (λ ws. MadeAll ws old.shelf.told new.shelf.told) writes ends.1.files.made
+  ends_so early due status.Outside old new err new_err done writes ends = tt
+  ends_so early due status.Memory old new err new_err done writes ends = tt
+  ends_so early due status.Words old new err new_err done writes ends =
       let never : ◌≡◌ {A = Status} status.Words status.Done = ends.0 ∙ done in cc
-  ends_so due status.Refused old new err new_err done writes ends =
+  ends_so early due status.Refused old new err new_err done writes ends =
       let never : ◌≡◌ {A = Status} status.Refused status.Done = ends.0 ∙ done in cc
-  ends_so due status.Damaged old new err new_err done writes ends =
+  ends_so early due status.Damaged old new err new_err done writes ends =
       let never : ◌≡◌ {A = Status} status.Damaged status.Done = ends.0 ∙ done in cc
-  ends_so due status.NotThere old new err new_err done writes ends =
+  ends_so early due status.NotThere old new err new_err done writes ends =
       let never : ◌≡◌ {A = Status} status.NotThere status.Done = ends.0 ∙ done in cc
-  ends_so due status.Session old new err new_err done writes ends =
+  ends_so early due status.Session old new err new_err done writes ends =
       let never : ◌≡◌ {A = Status} status.Session status.Done = ends.0 ∙ done in cc
 
   module _ (told : Option Files) (file : RelinksFile link told b) (due : Outcome) where
@@ -83,11 +83,12 @@ module _ (link : LinkTask) (b : List ℕ) where
     by_link : LinkComesTo link_text told link due → (due.status ≡ status.Done) × (due.writes ≡ (link.output, b) ∷ [])
     by_link comes = by_image (subst (λ o. LinkComesFrom link_text told link o due) file.image comes)
 
-module _ (due : Outcome) (is : Status) (old new : World) (err new_err : Seen (List ℕ)) (does : RunDoes due is old new err new_err) where
+module _ (early : Early) (due : Outcome) (is : Status) (old new : World) (err new_err : Seen (List ℕ))
+    (does : RunDoes early due is old new err new_err) where
   by_task : (task : Task) → TaskComesTo old.shelf.told old.input.told task due → RelinksTask task is old.shelf.told new.shelf.told
   by_task (task.Link link) comes = λ b file.
       let makes = by_link link b old.shelf.told file due comes in
-      ends_so link b due is old new err new_err makes.0 makes.1 does.ends
+      ends_so link b early due is old new err new_err makes.0 makes.1 does.ends
   by_task _ comes = tt
 
   by_words : (asked : Result Command WordsFault) → WordsComeTo old.shelf.told old.input.told asked due
@@ -107,4 +108,4 @@ run_relinks asked early is old new err new_err (inl stops) = go asked
     go : (given : Result Command WordsFault) → RelinksRun given is old.shelf.told new.shelf.told
     go (Ok command) = by_task command.task
     go (Err fault) = tt
-run_relinks asked early is old new err new_err (inr (due, comes, does)) = by_words due is old new err new_err does asked comes
+run_relinks asked early is old new err new_err (inr (due, comes, does)) = by_words early due is old new err new_err does asked comes

@@ -118,25 +118,24 @@ module _ (given : Complaint) (err new_err : Seen (List ℕ)) where
 
 -- The whole run
 
-module _ (due : Outcome) (old new : World) where
+module _ (early : Early) (due : Outcome) (old new : World) where
   -- the step did its work
-  pub ran_done : (err : Seen (List ℕ)) → StepDoes due (Ok tt) old new → RunDoes due status.Done old new err err
+  pub ran_done : (err : Seen (List ℕ)) → StepDoes early due (Ok tt) old new → RunDoes early due status.Done old new err err
   ran_done err step = record {
     ends = (
       sym step.answers.0,
       record {
         output = step.output;
         line = subst (λ (text : List ℕ). Gets text err err) (sym step.answers.1) (gets_nothing err err refl);
-        files = step.files.made;
+        files = step.files;
       },
     );
     source = source_map due.session (StopsAs (Ok tt)) (EndsAs status.Done err err) old new (ends_done err) step.source;
-    stand = λ done. step.files;
     none_rose = λ done. (step.none_rose refl, refl);
   }
 
   -- the outside failed
-  pub ran_outside : (err : Seen (List ℕ)) → StepDoes due (Err stop.Outside) old new → RunDoes due status.Outside old new err err
+  pub ran_outside : (err : Seen (List ℕ)) → StepDoes early due (Err stop.Outside) old new → RunDoes early due status.Outside old new err err
   ran_outside err step = record {
     ends = (
       record {
@@ -149,12 +148,11 @@ module _ (due : Outcome) (old new : World) where
       inl (step.outside refl),
     );
     source = source_map due.session (StopsAs (Err stop.Outside)) (EndsAs status.Outside err err) old new (ends_outside err) step.source;
-    stand = λ done. cc;
     none_rose = λ done. cc;
   }
 
   -- no memory was found
-  pub ran_memory : (err : Seen (List ℕ)) → StepDoes due (Err stop.Memory) old new → RunDoes due status.Memory old new err err
+  pub ran_memory : (err : Seen (List ℕ)) → StepDoes early due (Err stop.Memory) old new → RunDoes early due status.Memory old new err err
   ran_memory err step = record {
     ends = record {
       output = step.output;
@@ -164,18 +162,16 @@ module _ (due : Outcome) (old new : World) where
           step.files_first;
     };
     source = source_map due.session (StopsAs (Err stop.Memory)) (EndsAs status.Memory err err) old new (ends_memory err) step.source;
-    stand = λ done. cc;
     none_rose = λ done. cc;
   }
 
   -- a complaint was reported
-  pub ran_complaint : (given : Complaint) (is : Status) (err new_err : Seen (List ℕ)) → StepDoes due (Err (stop.Complaint given))
-      old new → ReportDoes given is err new_err → RunDoes due is old new err new_err
+  pub ran_complaint : (given : Complaint) (is : Status) (err new_err : Seen (List ℕ)) → StepDoes early due (Err (stop.Complaint given))
+      old new → ReportDoes given is err new_err → RunDoes early due is old new err new_err
   ran_complaint given is err new_err step report = record {
     ends = go is report;
     source = source_map due.session (StopsAs (Err (stop.Complaint given))) (EndsAs is err new_err) old new
         (ends_complaint given err new_err is report) step.source;
-    stand = λ done. absurd (reported_undone given is err new_err report done);
     none_rose = λ done. absurd (reported_undone given is err new_err report done);
   }
     where
@@ -190,11 +186,11 @@ module _ (due : Outcome) (old new : World) where
       front put = record {
         output = front_of_all due.output old.out new.out step.output;
         line = subst (λ (text : List ℕ). GetsFront text err new_err) (sym step.answers.1) put;
-        files = part_of_all due.writes old.shelf.told new.shelf.told step.files;
+        files = part_of_all due.writes old.shelf.told new.shelf.told step.files.made;
         files_first = step.files_first;
       }
 
-      go : (s : Status) → ReportDoes given s err new_err → EndsWith due s old new err new_err
+      go : (s : Status) → ReportDoes given s err new_err → EndsWith early due s old new err new_err
       go status.Outside report = (
         front report.0,
         inr (subst (λ (s : Status). LineFailed s err new_err) (sym step.answers.0)
@@ -212,7 +208,7 @@ module _ (due : Outcome) (old new : World) where
 module _ (Due : Outcome → Type 0) (early : Early) (old new : World) where
   comes_done : (err : Seen (List ℕ)) → StepComesTo Due early (Ok tt) old new → RunComesTo Due early status.Done old new err err
   comes_done err (inl fails) = absurd fails.failed
-  comes_done err (inr (due, is, step)) = inr (due, is, ran_done due old new err step)
+  comes_done err (inr (due, is, step)) = inr (due, is, ran_done early due old new err step)
 
   comes_outside : (err : Seen (List ℕ)) → StepComesTo Due early (Err stop.Outside) old new → RunComesTo Due early status.Outside old
       new err err
@@ -224,7 +220,7 @@ module _ (Due : Outcome → Type 0) (early : Early) (old new : World) where
     line = refl;
     outside = λ failed. fails.outside refl;
   })
-  comes_outside err (inr (due, is, step)) = inr (due, is, ran_outside due old new err step)
+  comes_outside err (inr (due, is, step)) = inr (due, is, ran_outside early due old new err step)
 
   comes_memory : (err : Seen (List ℕ)) → StepComesTo Due early (Err stop.Memory) old new → RunComesTo Due early status.Memory old
       new err err
@@ -237,7 +233,7 @@ module _ (Due : Outcome → Type 0) (early : Early) (old new : World) where
     line = refl;
     outside = λ failed. cc;
   })
-  comes_memory err (inr (due, is, step)) = inr (due, is, ran_memory due old new err step)
+  comes_memory err (inr (due, is, step)) = inr (due, is, ran_memory early due old new err step)
 
   comes_complaint : (given : Complaint) (is : Status) (err new_err : Seen (List ℕ))
       → StepComesTo Due early (Err (stop.Complaint given)) old new → ReportDoes given is err new_err
@@ -246,7 +242,7 @@ module _ (Due : Outcome → Type 0) (early : Early) (old new : World) where
   comes_complaint given is err new_err (inr (due, comes, step)) report = inr (
     due,
     comes,
-    ran_complaint due old new given is err
+    ran_complaint early due old new given is err
         new_err step report,
   )
 

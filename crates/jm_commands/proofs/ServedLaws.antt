@@ -105,14 +105,14 @@ unput_front None new told = tt
 unput_front (Some old) None told = told
 unput_front (Some old) (Some new) (n, within, is) = is ∙ ap (λ (t : List ℕ). old ++ t) (none_in_front n) ∙ append-nil old
 
-module _ (due : Outcome) (old new : World) (err new_err : Seen (List ℕ)) (nothing : due.output ≡ []) where
+module _ (early : Early) (due : Outcome) (old new : World) (err new_err : Seen (List ℕ)) (nothing : due.output ≡ []) where
   gets_none : Gets due.output old.out new.out → Told old.out.told new.out.told (λ before after. after ≡ before)
   gets_none gets = unput old.out.told new.out.told (subst (λ (t : List ℕ). Gets t old.out new.out) nothing gets)
 
   front_none : GetsFront due.output old.out new.out → Told old.out.told new.out.told (λ before after. after ≡ before)
   front_none gets = unput_front old.out.told new.out.told (subst (λ (t : List ℕ). GetsFront t old.out new.out) nothing gets)
 
-  ends_unput : (is : Status) → EndsWith due is old new err new_err → Told old.out.told new.out.told (λ before after. after ≡ before)
+  ends_unput : (is : Status) → EndsWith early due is old new err new_err → Told old.out.told new.out.told (λ before after. after ≡ before)
   ends_unput status.Outside ends = front_none ends.0.output
   ends_unput status.Memory ends = front_none ends.output
   ends_unput status.Done ends = gets_none ends.1.output
@@ -132,12 +132,13 @@ session_is : (b output : List ℕ) (fault : Option Complaint) → (session_with 
 session_is b output None = refl
 session_is b output (Some given) = refl
 
-module _ (due : Outcome) (is : Status) (old new : World) (err new_err : Seen (List ℕ)) (does : RunDoes due is old new err new_err) where
+module _ (early : Early) (due : Outcome) (is : Status) (old new : World) (err new_err : Seen (List ℕ))
+    (does : RunDoes early due is old new err new_err) where
   unread : due.session ≡ None → new.input.told ≡ old.input.told
   unread none = subst (λ (o : Option (List ℕ)). SourceRead o (EndsAs is err new_err) old new) none does.source
 
   unbegun : due.session ≡ None → due.output ≡ [] → NotBegun old new
-  unbegun none nothing = record { source = unread none; output = ends_unput due old new err new_err nothing is does.ends }
+  unbegun none nothing = record { source = unread none; output = ends_unput early due old new err new_err nothing is does.ends }
 
   by_damage : (image b : List ℕ) → HasFile old.shelf.told image (Some b) → (damage : Option Damage) → first_damage b ≡ damage
       → OpenedComesTo (TextComesTo old.input.told (session_outcome b)) damage due → ServesRun (Some image) is old new err new_err
@@ -175,4 +176,4 @@ run_serves asked early is old new err new_err (inl stops) = go (served_in asked)
     go : (session : Option (List ℕ)) → ServesRun session is old new err new_err
     go None = stops.source
     go (Some image) = inl (not_begun old new stops.source stops.output)
-run_serves asked early is old new err new_err (inr (due, comes, does)) = by_words due is old new err new_err does asked comes
+run_serves asked early is old new err new_err (inr (due, comes, does)) = by_words early due is old new err new_err does asked comes

@@ -20,7 +20,7 @@ use Rattle.jm_commands.specs.declared.status.Status.TheVariants as status
 use Rattle.jm_commands.specs.declared.complaint.Complaint.TheVariants as complaint
 use Rattle.jm_commands.specs.declared.stop.Stop.{Stop}
 use Rattle.jm_commands.specs.declared.stop.Stop.TheVariants as stop
-use Rattle.jm_commands.specs.Outcome.{session_fault, session_outcome, session_with}
+use Rattle.jm_commands.specs.Outcome.{reading, session_fault, session_outcome, session_with}
 use Rattle.jm_commands.specs.Run.{StandAll, StepDoes, StepOnText, status_of}
 use Rattle.jm_commands.specs.SessionHeld.{EndedBy, Held, StopsAs}
 use Rattle.jm_commands.specs.Sinks.{Failed, Gets, GetsFront}
@@ -133,7 +133,7 @@ module _ (b text : List ℕ) (old new : World) (shelf : new.shelf ≡ old.shelf)
   stand = record { made = unmade; whole = λ some. absurd (some refl) }
 
   step_ended : HeldAs (Ok tt) → Gets output old.out new.out → new.input.faults ≡ old.input.faults → new.out.faults ≡ old.out.faults
-      → StepDoes (session_with b output None) (Ok tt) old new
+      → StepDoes reading (session_with b output None) (Ok tt) old new
   step_ended held gets input out = record {
     answers = (refl, refl);
     output = gets;
@@ -145,11 +145,11 @@ module _ (b text : List ℕ) (old new : World) (shelf : new.shelf ≡ old.shelf)
   }
 
   step_broken : (given : Complaint) → status.Session ≡ status_of given → HeldAs (Err (stop.Complaint given)) → Gets output old.out new.out
-      → StepDoes (session_with b output (Some given)) (Err (stop.Complaint given)) old new
+      → StepDoes reading (session_with b output (Some given)) (Err (stop.Complaint given)) old new
   step_broken given breaks held gets = record {
     answers = (breaks, refl);
     output = gets;
-    files = unmade;
+    files = stand;
     files_first = inl stand;
     source = held;
     outside = λ failed. cc;
@@ -157,7 +157,7 @@ module _ (b text : List ℕ) (old new : World) (shelf : new.shelf ≡ old.shelf)
   }
 
   step_outside : (fault : Option Complaint) → HeldAs (Err stop.Outside) → GetsFront output old.out new.out
-      → Failed old.input new.input ⊎ Failed old.out new.out → StepDoes (session_with b output fault) (Err stop.Outside) old new
+      → Failed old.input new.input ⊎ Failed old.out new.out → StepDoes reading (session_with b output fault) (Err stop.Outside) old new
   step_outside None held gets failed = record {
     answers = tt;
     output = gets;
@@ -180,7 +180,7 @@ module _ (b text : List ℕ) (old new : World) (shelf : new.shelf ≡ old.shelf)
   }
 
   step_memory : (fault : Option Complaint) → HeldAs (Err stop.Memory) → GetsFront output old.out new.out
-      → StepDoes (session_with b output fault) (Err stop.Memory) old new
+      → StepDoes reading (session_with b output fault) (Err stop.Memory) old new
   step_memory None held gets = record {
     answers = tt;
     output = gets;
@@ -202,15 +202,15 @@ module _ (b text : List ℕ) (old new : World) (shelf : new.shelf ≡ old.shelf)
   }
 
   by_fault : (fault : Option Complaint) (answer : Result (Unit {0}) Stop) → session_fault (length (lines_of text))
-      (length (answered_in text)) ≡ fault → StepDoes (session_with b output fault) answer old new
-      → StepDoes (session_outcome b text) answer old new
-  by_fault fault answer is = subst (λ (o : Option Complaint). StepDoes (session_with b output o) answer old new) (sym is)
+      (length (answered_in text)) ≡ fault → StepDoes reading (session_with b output fault) answer old new
+      → StepDoes reading (session_outcome b text) answer old new
+  by_fault fault answer is = subst (λ (o : Option Complaint). StepDoes reading (session_with b output o) answer old new) (sym is)
 
   by_answer : (answered : Result ℕ ServeError) (left : List ℕ) → Ended answered text left
       → PutBehind b answered text left old.out.told new.out.told → HeldAs (stop_of_session answered)
       → CountsFaults old.input.faults new.input.faults (IsOk answered) (answered ≡ Err serve_error.ReadFault)
       → CountsFaults old.out.faults new.out.faults (IsOk answered) (answered ≡ Err serve_error.WriteFault)
-      → StepDoes (session_outcome b text) (stop_of_session answered) old new
+      → StepDoes reading (session_outcome b text) (stop_of_session answered) old new
   by_answer (Ok n) left ended (more, is, all) held input out =
       by_fault None (Ok tt) (fault_of_whole (lines_of text) (answered_in text) ended.answered) (step_ended held (got more is all)
       (input.kept refl) (out.kept refl))

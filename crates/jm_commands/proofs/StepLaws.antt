@@ -21,7 +21,7 @@ use Rattle.jm_commands.specs.declared.status.Status.{Status}
 use Rattle.jm_commands.specs.declared.status.Status.TheVariants as status
 use Rattle.jm_commands.specs.declared.stop.Stop.{Stop}
 use Rattle.jm_commands.specs.declared.stop.Stop.TheVariants as stop
-use Rattle.jm_commands.specs.FailedBefore.{FailedEarly, WorkFailed}
+use Rattle.jm_commands.specs.FailedBefore.{FilesFailed, WorkFailed}
 use Rattle.jm_commands.specs.Outcome.{Early, Outcome, damaged, done, early_in, early_of, faulty}
 use Rattle.jm_commands.specs.Outcome.{image_outcome, made_and_put, not_there, reading, without_files}
 use Rattle.jm_commands.specs.Run.{FileComesTo, FilesFirst, FilesMade, IsFailure, OpenedComesTo, Opens}
@@ -105,7 +105,7 @@ not_begun old new source output = record {
 
 -- whatever was due
 pub fails_at_once : (Due : Outcome → Type 0) (early : Early) (answer : Result (Unit {0}) Stop) (old new : World) → IsFailure answer
-    → Unmoved old new → (answer ≡ Err stop.Outside → FailedEarly early old new) → StepComesTo Due early answer old new
+    → Unmoved old new → (answer ≡ Err stop.Outside → FilesFailed early old new) → StepComesTo Due early answer old new
 fails_at_once Due early answer old new fails unmoved failed = inl (record {
   failed = fails;
   files = stays_part early.writes old.shelf.told new.shelf.told unmoved.files;
@@ -126,9 +126,9 @@ out_of_memory Due early now = fails_at_once Due early (Err stop.Memory) now now 
 -- A put
 
 -- where a put failed, an output was due
-output_failed : (due : Outcome) (old new : World) → due ≡ done due.output → Failed old.out new.out
-    → WorkFailed due.session due.status old new
-output_failed due old new is failed = subst (λ (o : Outcome). WorkFailed o.session o.status old new) (sym is) (inr failed)
+output_failed : (early : Early) (due : Outcome) (old new : World) → due ≡ done due.output → Failed old.out new.out
+    → WorkFailed early due.session due.status old new
+output_failed early due old new is failed = subst (λ (o : Outcome). WorkFailed early o.session o.status old new) (sym is) (inr failed)
 
 -- where the step is done, the calls of the shelf and of the source didn't fail
 abbrev pub Quiet : Result (Unit {0}) Stop → World → World → Type 0
@@ -147,7 +147,8 @@ module _ (due : Outcome) (old new : World) (files : new.shelf.told ≡ old.shelf
   unread : (Ends : Result ℕ ServeError → Type 0) → SourceRead due.session Ends old new
   unread Ends = subst (λ (session : Option (List ℕ)). SourceRead session Ends old new) (sym alone) source
 
-  pub put_step : (answer : Result (Unit {0}) Stop) → PutDoes due answer old.out new.out → Quiet answer old new → StepDoes due answer old new
+  pub put_step : {early : Early} (answer : Result (Unit {0}) Stop) → PutDoes due answer old.out new.out → Quiet answer old new
+      → StepDoes early due answer old new
   put_step (Ok _) put quiet = record {
     answers = (ap (λ o. o.status) put.answers, ap (λ o. o.line) put.answers);
     output = put.output;
@@ -160,19 +161,19 @@ module _ (due : Outcome) (old new : World) (files : new.shelf.told ≡ old.shelf
   put_step (Err (stop.Complaint given)) put quiet = record {
     answers = (ap (λ o. o.status) put.answers, ap (λ o. o.line) put.answers);
     output = put.output;
-    files = unmade (ap (λ o. o.writes) put.answers);
+    files = stand (ap (λ o. o.writes) put.answers);
     files_first = inl (stand (ap (λ o. o.writes) put.answers));
     source = unread _;
     outside = λ failed. cc;
     none_rose = λ ok. cc;
   }
-  put_step (Err stop.Outside) put quiet = record {
+  put_step {early} (Err stop.Outside) put quiet = record {
     answers = tt;
     output = put.output;
     files = stays_part due.writes old.shelf.told new.shelf.told files;
     files_first = inl (stand (ap (λ o. o.writes) put.answers));
     source = unread _;
-    outside = λ failed. output_failed due old new put.answers (put.outside failed);
+    outside = λ failed. output_failed early due old new put.answers (put.outside failed);
     none_rose = λ ok. cc;
   }
   put_step (Err stop.Memory) put quiet = record {
@@ -190,10 +191,10 @@ never_done : (given : Complaint) (text : List ℕ) → done text ≡ outcome_of 
 never_done given text is = complains_undone given (ap (λ o. o.status) is)
 
 -- all files were made, and then the text was put
-pub made_put : (writes : Writes) (text : List ℕ) (answer : Result (Unit {0}) Stop) (old new : World)
+pub made_put : {early : Early} (writes : Writes) (text : List ℕ) (answer : Result (Unit {0}) Stop) (old new : World)
     → StandAll writes old.shelf new.shelf → new.shelf.faults ≡ old.shelf.faults → new.input ≡ old.input
-    → PutDoes (done text) answer old.out new.out → StepDoes (made_and_put writes text) answer old new
-made_put writes text answer old new all kept input put = go answer put
+    → PutDoes (done text) answer old.out new.out → StepDoes early (made_and_put writes text) answer old new
+made_put {early} writes text answer old new all kept input put = go answer put
   where
     part : MadePart writes old.shelf.told new.shelf.told
     part = part_of_all writes old.shelf.told new.shelf.told all.made
@@ -201,7 +202,8 @@ made_put writes text answer old new all kept input put = go answer put
     source : new.input.told ≡ old.input.told
     source = ap (λ (s : Seen (List ℕ)). s.told) input
 
-    go : (answer : Result (Unit {0}) Stop) → PutDoes (done text) answer old.out new.out → StepDoes (made_and_put writes text) answer old new
+    go : (answer : Result (Unit {0}) Stop) → PutDoes (done text) answer old.out new.out
+        → StepDoes early (made_and_put writes text) answer old new
     go (Ok _) put = record {
       answers = (refl, refl);
       output = put.output;
@@ -232,9 +234,9 @@ made_put writes text answer old new all kept input put = go answer put
     }
 
 -- some of the files were made, and nothing was put
-pub made_in_part : (due : Outcome) (given : Stop) (old new : World) → IsFailure (Err given) → due.session ≡ None
+pub made_in_part : {early : Early} (due : Outcome) (given : Stop) (old new : World) → IsFailure (Err given) → due.session ≡ None
     → MadePart due.writes old.shelf.told new.shelf.told → new.input.told ≡ old.input.told → new.out.told ≡ old.out.told
-    → (given ≡ stop.Outside → WorkFailed due.session due.status old new) → StepDoes due (Err given) old new
+    → (given ≡ stop.Outside → WorkFailed early due.session due.status old new) → StepDoes early due (Err given) old new
 made_in_part due (stop.Complaint given) old new fails alone part source unput failed = absurd fails
 made_in_part due stop.Outside old new fails alone part source unput failed = record {
   answers = tt;
@@ -276,7 +278,7 @@ complains Due early due given same old new comes is as_given unmoved =
 
 -- what is due is the same for each text
 pub on_any_text : (of_text : List ℕ → Outcome) (same : Outcome) (answer : Result (Unit {0}) Stop) (old new : World)
-    → ((text : List ℕ) → of_text text ≡ same) → StepDoes same answer old new → StepOnText of_text answer old new
+    → ((text : List ℕ) → of_text text ≡ same) → StepDoes reading same answer old new → StepOnText of_text answer old new
 on_any_text of_text same answer old new is does =
     let text = told_text old.input.told in
     inr (same, (text, has_told_text old.input.told, sym (is text)), does)
@@ -331,20 +333,21 @@ module _ (shelf : ShelfSeen) (now new : World) where
     pub none_sooner : NoneRose now new → NoneRose old new
     none_sooner none = record { shelf = none.shelf ∙ kept; input = none.input; out = none.out }
 
-    pub early_sooner : (early : Early) → FailedEarly early now new → FailedEarly early old new
-    early_sooner early (reads, failed) = (reads, sooner failed)
+    pub files_sooner : (early before : Early) → before.reads ≡ early.reads → FilesFailed early now new → FilesFailed before old new
+    files_sooner early before same (reads, failed) = (same ∙ reads, sooner failed)
 
-    pub work_sooner : (session : Option (List ℕ)) (is : Status) → WorkFailed session is now new → WorkFailed session is old new
-    work_sooner (Some b) is failed = failed
-    work_sooner None status.Done (inl failed) = inl (sooner failed)
-    work_sooner None status.Done (inr failed) = inr failed
-    work_sooner None status.Refused failed = sooner failed
-    work_sooner None status.Damaged failed = sooner failed
-    work_sooner None status.NotThere failed = sooner failed
-    work_sooner None status.Words failed = absurd failed
-    work_sooner None status.Session failed = absurd failed
-    work_sooner None status.Outside failed = absurd failed
-    work_sooner None status.Memory failed = absurd failed
+    pub work_sooner : (early before : Early) → before.reads ≡ early.reads → (session : Option (List ℕ)) (is : Status)
+        → WorkFailed early session is now new → WorkFailed before session is old new
+    work_sooner early before same (Some b) is failed = failed
+    work_sooner early before same None status.Done (inl failed) = inl (files_sooner early before same failed)
+    work_sooner early before same None status.Done (inr failed) = inr failed
+    work_sooner early before same None status.Refused failed = files_sooner early before same failed
+    work_sooner early before same None status.Damaged failed = files_sooner early before same failed
+    work_sooner early before same None status.NotThere failed = files_sooner early before same failed
+    work_sooner early before same None status.Words failed = absurd failed
+    work_sooner early before same None status.Session failed = absurd failed
+    work_sooner early before same None status.Outside failed = absurd failed
+    work_sooner early before same None status.Memory failed = absurd failed
 
   pub stand_behind : (writes : Writes) → now.shelf.told ≡ shelf.told → StandAll writes now.shelf new.shelf → StandAll writes shelf new.shelf
   stand_behind writes same all = record {
@@ -355,7 +358,7 @@ module _ (shelf : ShelfSeen) (now new : World) where
   made_behind : (writes : Writes) (answer : Result (Unit {0}) Stop) → now.shelf.told ≡ shelf.told
       → FilesMade answer writes now.shelf new.shelf → FilesMade answer writes shelf new.shelf
   made_behind writes (Ok _) same made = stand_behind writes same made
-  made_behind writes (Err (stop.Complaint given)) same made = subst (λ (told : Option Files). MadeAll writes told new.shelf.told) same made
+  made_behind writes (Err (stop.Complaint given)) same made = stand_behind writes same made
   made_behind writes (Err stop.Outside) same made = subst (λ (told : Option Files). MadePart writes told new.shelf.told) same made
   made_behind writes (Err stop.Memory) same made = subst (λ (told : Option Files). MadePart writes told new.shelf.told) same made
 
@@ -363,15 +366,15 @@ module _ (shelf : ShelfSeen) (now new : World) where
   first_behind writes same (inl all) = inl (stand_behind writes same all)
   first_behind writes same (inr unput) = inr unput
 
-  pub step_behind : (due : Outcome) (answer : Result (Unit {0}) Stop) → now.shelf.told ≡ shelf.told → now.shelf.faults
-      ≡ shelf.faults → StepDoes due answer now new → StepDoes due answer old new
-  step_behind due answer same kept step = record {
+  pub step_behind : (early : Early) (due : Outcome) (answer : Result (Unit {0}) Stop) → now.shelf.told ≡ shelf.told → now.shelf.faults
+      ≡ shelf.faults → StepDoes early due answer now new → StepDoes early due answer old new
+  step_behind early due answer same kept step = record {
     answers = step.answers;
     output = step.output;
     files = made_behind due.writes answer same step.files;
     files_first = first_behind due.writes same step.files_first;
     source = source_behind due.session _ step.source;
-    outside = λ failed. work_sooner kept due.session due.status (step.outside failed);
+    outside = λ failed. work_sooner kept early early refl due.session due.status (step.outside failed);
     none_rose = λ ok. none_sooner kept (step.none_rose ok);
   }
 
@@ -387,10 +390,10 @@ file_read Bytes path b shelf now new answer has same kept (inl fails) = inl (rec
   files = subst (λ (told : Option Files). MadePart [] told new.shelf.told) same fails.files;
   source = fails.source;
   output = fails.output;
-  outside = λ failed. early_sooner shelf now new kept reading (fails.outside failed);
+  outside = λ failed. files_sooner shelf now new kept reading reading refl (fails.outside failed);
 })
 file_read Bytes path b shelf now new answer has same kept (inr (due, is, step)) =
-    inr (due, (Some b, has, is), step_behind shelf now new due answer same kept step)
+    inr (due, (Some b, has, is), step_behind shelf now new reading due answer same kept step)
 
 -- the file isn't there, or its read failed
 pub file_unread : (Bytes : List ℕ → Outcome → Type 0) (path : List ℕ) (given : Stop) (old new : World)

@@ -10,10 +10,11 @@ use Rattle.jm_words.specs.declared.tasks.ImageWork.TheVariants as work
 use Rattle.jm_words.specs.declared.tasks.Task.TheVariants as task
 use Rattle.jm_commands.specs.declared.complaint.Complaint.TheVariants as complaint
 use Rattle.jm_commands.specs.declared.status.Status.TheVariants as status
-use Rattle.jm_commands.specs.FailedBefore.{FailedBefore, FailedEarly}
+use Rattle.jm_commands.specs.FailedBefore.{FailedBefore, FilesFailed}
 use Rattle.jm_commands.specs.Gen.{gen_link}
-use Rattle.jm_commands.specs.HelpText.{version_text}
-use Rattle.jm_commands.specs.Outcome.{done, early_in, early_of, image_outcome, refused, session_with}
+use Rattle.jm_commands.specs.HelpText.{help_text, version_text}
+use Rattle.jm_commands.specs.Outcome.{done, early_in, early_of, image_outcome, reading, refused, session_with}
+use Rattle.jm_commands.specs.Outcome.{without_files}
 use Rattle.jm_commands.specs.Run.{TaskComesTo}
 use Rattle.jm_commands.specs.SessionHeld.{EndedBy, EndsAs, EndsBroken, Held}
 use Rattle.jm_commands.specs.Sinks.{Failed, Seen}
@@ -116,28 +117,36 @@ all_roots = refl
 -- What failed in place of what was due
 
 module _ (old new : World) (err new_err : Seen (List ℕ)) where
-  for_words : FailedBefore (refused status.Words (codes "words: NoCommand at 0")) old new err new_err → Failed err new_err
+  for_words : FailedBefore without_files (refused status.Words (codes "words: NoCommand at 0")) old new err new_err → Failed err new_err
   for_words (inl never) = absurd never
   for_words (inr line) = line
 
-  for_damage : FailedBefore (refused status.Damaged (codes "damaged: BadNode 0")) old new err new_err
+  for_damage : FailedBefore reading (refused status.Damaged (codes "damaged: BadNode 0")) old new err new_err
       → ShelfFailed old.shelf new.shelf ⊎ Failed err new_err
-  for_damage failed = failed
+  for_damage (inl (reads, failed)) = inl failed
+  for_damage (inr line) = inr line
 
-  for_output : FailedBefore (done (codes "hi")) old new err new_err → ShelfFailed old.shelf new.shelf ⊎ Failed old.out new.out
-  for_output (inl work) = work
+  for_output : FailedBefore reading (done (codes "hi")) old new err new_err → ShelfFailed old.shelf new.shelf ⊎ Failed old.out new.out
+  for_output (inl (inl (reads, failed))) = inl failed
+  for_output (inl (inr output)) = inr output
   for_output (inr never) = absurd never
 
-  for_session : (b output : List ℕ) → FailedBefore (session_with b output None) old new err new_err → Failed old.input new.input
+  -- a failed shelf is no cause where no file is read
+  for_help : FailedBefore (early_of task.Help) (done help_text) old new err new_err → Failed old.out new.out
+  for_help (inl (inl (reads, failed))) = cc
+  for_help (inl (inr output)) = output
+  for_help (inr never) = absurd never
+
+  for_session : (b output : List ℕ) → FailedBefore reading (session_with b output None) old new err new_err → Failed old.input new.input
       ⊎ Failed old.out new.out
   for_session b output (inl work) = work
   for_session b output (inr never) = absurd never
 
-  for_broken_session : (b output : List ℕ) → FailedBefore (session_with b output (Some complaint.TooManyLines)) old new err new_err
+  for_broken_session : (b output : List ℕ) → FailedBefore reading (session_with b output (Some complaint.TooManyLines)) old new err new_err
       → (Failed old.input new.input ⊎ Failed old.out new.out) ⊎ Failed err new_err
   for_broken_session b output failed = failed
 
-  no_file_read : FailedEarly (early_in (Ok (record { jobs = 1; task = task.Help }))) old new → ⊥
+  no_file_read : FilesFailed (early_in (Ok (record { jobs = 1; task = task.Help }))) old new → ⊥
   no_file_read (reads, failed) = cc
 
   -- a session that a run ends with 6 ended by the object whose count rose

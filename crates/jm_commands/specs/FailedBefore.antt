@@ -7,19 +7,23 @@ use Rattle.jm_outside.specs.Shelves.{ShelfFailed}
 use Rattle.jm_commands.specs.Sinks.{Failed, Seen}
 use Rattle.jm_commands.specs.World.{World}
 
+-- the shelf failed, in work that reads files: no other work calls it
+abbrev pub FilesFailed : Early → World → World → Type 0
+FilesFailed early old new = (early.reads ≡ true) × ShelfFailed old.shelf new.shelf
+
 -- one of these failed, which the work reaches no later than the status that is due: of a session
--- the source or the output; without one, of `Done` the shelf or the output, of `Refused`, `Damaged`
--- and `NotThere` the shelf, and of all others none
-abbrev pub WorkFailed : Option (List ℕ) → Status → World → World → Type 0
-WorkFailed (Some b) is old new = Failed old.input new.input ⊎ Failed old.out new.out
-WorkFailed None status.Done old new = ShelfFailed old.shelf new.shelf ⊎ Failed old.out new.out
-WorkFailed None status.Refused old new = ShelfFailed old.shelf new.shelf
-WorkFailed None status.Damaged old new = ShelfFailed old.shelf new.shelf
-WorkFailed None status.NotThere old new = ShelfFailed old.shelf new.shelf
-WorkFailed None status.Words old new = ⊥
-WorkFailed None status.Session old new = ⊥
-WorkFailed None status.Outside old new = ⊥
-WorkFailed None status.Memory old new = ⊥
+-- the source or the output; without one, of `Done` the files or the output, of `Refused`, `Damaged`
+-- and `NotThere` the files, and of all others none
+abbrev pub WorkFailed : Early → Option (List ℕ) → Status → World → World → Type 0
+WorkFailed early (Some b) is old new = Failed old.input new.input ⊎ Failed old.out new.out
+WorkFailed early None status.Done old new = FilesFailed early old new ⊎ Failed old.out new.out
+WorkFailed early None status.Refused old new = FilesFailed early old new
+WorkFailed early None status.Damaged old new = FilesFailed early old new
+WorkFailed early None status.NotThere old new = FilesFailed early old new
+WorkFailed early None status.Words old new = ⊥
+WorkFailed early None status.Session old new = ⊥
+WorkFailed early None status.Outside old new = ⊥
+WorkFailed early None status.Memory old new = ⊥
 
 -- the error sink failed, and with the status that is due it gets a line
 abbrev pub LineFailed : Status → Seen (List ℕ) → Seen (List ℕ) → Type 0
@@ -33,10 +37,7 @@ LineFailed status.Outside err new_err = ⊥
 LineFailed status.Memory err new_err = ⊥
 
 -- an object failed that the work reaches no later than this outcome
-abbrev pub FailedBefore : Outcome → World → World → Seen (List ℕ) → Seen (List ℕ) → Type 0
-FailedBefore due old new err new_err =
-    WorkFailed due.session due.status old new ⊎ LineFailed due.status err new_err
-
--- the shelf failed before it was known what is due, in work that reads files
-abbrev pub FailedEarly : Early → World → World → Type 0
-FailedEarly early old new = (early.reads ≡ true) × ShelfFailed old.shelf new.shelf
+abbrev pub FailedBefore
+    : Early → Outcome → World → World → Seen (List ℕ) → Seen (List ℕ) → Type 0
+FailedBefore early due old new err new_err =
+    WorkFailed early due.session due.status old new ⊎ LineFailed due.status err new_err

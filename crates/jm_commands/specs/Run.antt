@@ -29,7 +29,7 @@ use Rattle.jm_commands.specs.declared.status.Status.{Status}
 use Rattle.jm_commands.specs.declared.status.Status.TheVariants as status
 use Rattle.jm_commands.specs.declared.stop.Stop.{Stop}
 use Rattle.jm_commands.specs.declared.stop.Stop.TheVariants as stop
-use Rattle.jm_commands.specs.FailedBefore.{FailedBefore, FailedEarly, WorkFailed}
+use Rattle.jm_commands.specs.FailedBefore.{FailedBefore, FilesFailed, WorkFailed}
 use Rattle.jm_commands.specs.Gen.{gen_link, made_first}
 use Rattle.jm_commands.specs.HelpText.{help_text, version_text}
 use Rattle.jm_commands.specs.LinkText.{gen_text, link_text}
@@ -85,12 +85,13 @@ ShowsLinked (Ok image) = ShowsTrees image.bytes image.resources
 ShowsLinked (Err refusal) = Unit {0}
 
 -- a link from the directories of a module path comes to what their files do, where the shelf tells
--- them; a shelf that tells nothing may say of a file that it listed that it isn't there
+-- them; a shelf that tells nothing may say of a file that it listed that it isn't there. Told or
+-- not, an image is laid out and shows its trees
 abbrev pub PathLinkComesTo
     : (Summary → List ℕ) → Option Files → LinkTask → List (List ℕ) → Outcome → Type 0
 PathLinkComesTo text told link directories due =
     ((result : Result LinkedImage Refusal) × ComesTo told directories (request_of link) result
-    × Shows told (λ files. ShowsLinked result) × (due ≡ link_outcome text link result))
+    × ShowsLinked result × (due ≡ link_outcome text link result))
     ⊎ ((listed : List ℕ) × Shows told (λ files. ⊥) × (due ≡ not_there listed))
 
 -- a link of the modules of an image without a damage
@@ -134,6 +135,13 @@ abbrev pub WordsComeTo
     : Option Files → Option (List ℕ) → Result Command WordsFault → Outcome → Type 0
 WordsComeTo told rest (Ok command) due = TaskComesTo told rest command.task due
 WordsComeTo told rest (Err fault) due = due ≡ faulty fault
+
+-- words ask for the same: one task, by any numbers of jobs, or the same fault is theirs
+abbrev pub AskTheSame : (asked same : Result Command WordsFault) → Type 0
+AskTheSame (Ok command) (Ok other) = command.task ≡ other.task
+AskTheSame (Err fault) (Err other) = fault ≡ other
+AskTheSame (Ok command) (Err fault) = ⊥
+AskTheSame (Err fault) (Ok command) = ⊥
 
 -- What is read of a file
 
@@ -188,11 +196,11 @@ pub record StandAll (writes : Writes) (old new : ShelfSeen) : Type 0 where
   pub made : MadeAll writes old.told new.told
   pub whole : writes ≢ [] → IsTrue new.whole
 
--- the files are made, and stand behind a step that is done; but some of them are made where the
--- outside failed or no memory was found
+-- the files are made and stand; but some of them are made where the outside failed or no memory was
+-- found
 abbrev pub FilesMade : Result (Unit {0}) Stop → Writes → (old new : ShelfSeen) → Type 0
 FilesMade (Ok _) writes old new = StandAll writes old new
-FilesMade (Err (stop.Complaint complaint)) writes old new = MadeAll writes old.told new.told
+FilesMade (Err (stop.Complaint complaint)) writes old new = StandAll writes old new
 FilesMade (Err stop.Outside) writes old new = MadePart writes old.told new.told
 FilesMade (Err stop.Memory) writes old new = MadePart writes old.told new.told
 
@@ -209,14 +217,14 @@ FilesFirst writes old new =
     StandAll writes old.shelf new.shelf ⊎ (new.out.told ≡ old.out.told)
 
 -- what any step does, where this is what the command comes to
-pub record StepDoes (due : Outcome) (answer : Result (Unit {0}) Stop) (old new : World)
-    : Type 0 where
+pub record StepDoes (early : Early) (due : Outcome) (answer : Result (Unit {0}) Stop)
+    (old new : World) : Type 0 where
   pub answers : Answers due answer
   pub output : Outputs answer due.output old.out new.out
   pub files : FilesMade answer due.writes old.shelf new.shelf
   pub files_first : FilesFirst due.writes old new
   pub source : SourceRead due.session (StopsAs answer) old new
-  pub outside : answer ≡ Err stop.Outside → WorkFailed due.session due.status old new
+  pub outside : answer ≡ Err stop.Outside → WorkFailed early due.session due.status old new
   pub none_rose : IsOk answer → NoneRose old new
 
 -- a step failed before it was known what the command comes to: with nothing put and nothing read
@@ -227,13 +235,14 @@ pub record FailsAtOnce (early : Early) (answer : Result (Unit {0}) Stop) (old ne
   pub files : MadePart early.writes old.shelf.told new.shelf.told
   pub source : new.input.told ≡ old.input.told
   pub output : new.out.told ≡ old.out.told
-  pub outside : answer ≡ Err stop.Outside → FailedEarly early old new
+  pub outside : answer ≡ Err stop.Outside → FilesFailed early old new
 
 -- a step does what is due, or fails at once, whatever would have been due
 abbrev pub StepComesTo : (Outcome → Type 0) → Early → Result (Unit {0}) Stop → World → World
     → Type 0
 StepComesTo Due early answer old new =
-    FailsAtOnce early answer old new ⊎ ((due : Outcome) × Due due × StepDoes due answer old new)
+    FailsAtOnce early answer old new
+    ⊎ ((due : Outcome) × Due due × StepDoes early due answer old new)
 
 -- a step does what is due for the text of the source
 abbrev pub StepOnText : (List ℕ → Outcome) → Result (Unit {0}) Stop → World → World → Type 0
@@ -280,11 +289,11 @@ EndsStep (Err (stop.Complaint complaint)) is err new_err = ReportDoes complaint 
 EndsStep (Err stop.Outside) is err new_err = (is ≡ status.Outside) × (new_err ≡ err)
 EndsStep (Err stop.Memory) is err new_err = (is ≡ status.Memory) × (new_err ≡ err)
 
--- all was done: the sinks got their texts, and the files were made
+-- all was done: the sinks got their texts, and the files were made and stand
 pub record DoesAll (due : Outcome) (old new : World) (err new_err : Seen (List ℕ)) : Type 0 where
   pub output : Gets due.output old.out new.out
   pub line : Gets due.line err new_err
-  pub files : MadeAll due.writes old.shelf.told new.shelf.told
+  pub files : StandAll due.writes old.shelf new.shelf
 
 -- a front of all was done: some files, or all of them and a front of the output
 pub record DoesFront (due : Outcome) (old new : World) (err new_err : Seen (List ℕ)) : Type 0 where
@@ -295,23 +304,23 @@ pub record DoesFront (due : Outcome) (old new : World) (err new_err : Seen (List
 
 -- with the outcome's status all was done; else a front was done, and the status is `Outside`, where
 -- an object failed that the work reaches no later, or `Memory`
-abbrev pub EndsWith : Outcome → Status → World → World → Seen (List ℕ) → Seen (List ℕ) → Type 0
-EndsWith due status.Outside old new err new_err =
-    DoesFront due old new err new_err × FailedBefore due old new err new_err
-EndsWith due status.Memory old new err new_err = DoesFront due old new err new_err
-EndsWith due is old new err new_err = (is ≡ due.status) × DoesAll due old new err new_err
+abbrev pub EndsWith : Early → Outcome → Status → World → World → Seen (List ℕ) → Seen (List ℕ)
+    → Type 0
+EndsWith early due status.Outside old new err new_err =
+    DoesFront due old new err new_err × FailedBefore early due old new err new_err
+EndsWith early due status.Memory old new err new_err = DoesFront due old new err new_err
+EndsWith early due is old new err new_err =
+    (is ≡ due.status) × DoesAll due old new err new_err
 
 -- the status of a failure
 abbrev pub IsFailed : Status → Type 0
 IsFailed is = (is ≡ status.Outside) ⊎ (is ≡ status.Memory)
 
--- what a whole run does, where this is what the words come to; with `Done` the files stand whole
--- under their own names, and no call failed
-pub record RunDoes (due : Outcome) (is : Status) (old new : World) (err new_err : Seen (List ℕ))
-    : Type 0 where
-  pub ends : EndsWith due is old new err new_err
+-- what a whole run does, where this is what the words come to; with `Done` no call failed
+pub record RunDoes (early : Early) (due : Outcome) (is : Status) (old new : World)
+    (err new_err : Seen (List ℕ)) : Type 0 where
+  pub ends : EndsWith early due is old new err new_err
   pub source : SourceRead due.session (EndsAs is err new_err) old new
-  pub stand : is ≡ status.Done → StandAll due.writes old.shelf new.shelf
   pub none_rose : is ≡ status.Done → NoneRose old new × (new_err.faults ≡ err.faults)
 
 -- a run failed before it was known what the words come to: with nothing put and nothing read from
@@ -323,11 +332,11 @@ pub record RunStops (early : Early) (is : Status) (old new : World) (err new_err
   pub source : new.input.told ≡ old.input.told
   pub output : new.out.told ≡ old.out.told
   pub line : new_err.told ≡ err.told
-  pub outside : is ≡ status.Outside → FailedEarly early old new
+  pub outside : is ≡ status.Outside → FilesFailed early old new
 
 -- a run does what is due, or fails at once, whatever would have been due
 abbrev pub RunComesTo : (Outcome → Type 0) → Early → Status → World → World
     → Seen (List ℕ) → Seen (List ℕ) → Type 0
 RunComesTo Due early is old new err new_err =
     RunStops early is old new err new_err
-    ⊎ ((due : Outcome) × Due due × RunDoes due is old new err new_err)
+    ⊎ ((due : Outcome) × Due due × RunDoes early due is old new err new_err)

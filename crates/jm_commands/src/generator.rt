@@ -1,7 +1,8 @@
 //! The command `gen`.
-ghost use Rattle.std.specs.Prelude.{◌≡◌, ◌<◌, ◌∷◌, ◌++◌, [], IfOk, IsUtf8};
+ghost use Rattle.std.specs.Prelude.{◌≡◌, ◌<◌, ◌∷◌, ◌++◌, [], IfOk, IsTrue, IsUtf8};
 ghost use Rattle.std.specs.Prelude.{List, ℕ};
 ghost use Rattle.jm_link.specs.Links.{Links, request_of};
+ghost use Rattle.jm_link.specs.Steps.{AfterStep};
 ghost use Rattle.jm_words.specs.Paths.{GenFits};
 ghost use Rattle.jm_outside.specs.Shelves.{shelf_at};
 ghost use Rattle.jm_commands.specs.Gen.{gen_link, image_path, made_first};
@@ -46,8 +47,9 @@ fn link_generated<T: Threads + Sync, S: Shelf, G: Gate + Sync>(
     requires jobs { 0 < workers.now.jobs }
     requires dir { IsUtf8 task.now.dir }
     requires mods { IsUtf8 mods }
-    ensures { Links (mods ∷ []) (request_of (gen_link task.now)) (image_path task.now) result
+    ensures links { Links (mods ∷ []) (request_of (gen_link task.now)) (image_path task.now) result
         (shelf_at S.Shelf shelf.old) (shelf_at S.Shelf shelf.new) }
+    ensures whole { AfterStep (IsTrue (S.whole shelf.new)) result }
 {
     let mut dirs = List::new(workers.alloc);
     dirs.push(mods)?;
@@ -91,7 +93,8 @@ fn put_generated<O: Sink>(alloc: Global, summary: &Summary, out: &mut O) -> Resu
 
 /// `gen`: makes the files of modules below a folder, links all of them to an image there, and puts
 /// what it has. Files that stand among the modules already take part. After a refusal of the link
-/// the files that were made stay. The source of the run isn't lent to it.
+/// the files that were made stay, each whole under its own name. The source of the run isn't lent
+/// to it.
 pub fn gen_command<T: Threads + Sync, S: Shelf, O: Sink, G: Gate + Sync>(
     workers: &Workers<T, G>,
     task: &GenTask,

@@ -45,7 +45,7 @@ module _ (b : List ℕ) (asked : Request) (relinks : Relinks b asked) where
 
   -- the image that was linked is what the layout of its resources is
   pub laid : IsLaid relinks.first.order (Ok relinks.image)
-  laid = linked_laid relinks.source first image relinks.holds relinks.linked
+  laid = linked_laid relinks.source first image relinks.stands relinks.linked
 
   module _ (from : IsMadeFrom relinks.source first image) where
     abbrev found : List Candidate
@@ -93,7 +93,7 @@ module _ (b : List ℕ) (asked : Request) (relinks : Relinks b asked) where
 
   -- the link comes to the same image
   pub comes_again : ImageLinksTo b asked (Ok relinks.image)
-  comes_again = comes (made_from relinks.source first image relinks.holds relinks.linked)
+  comes_again = comes (made_from relinks.source first image relinks.stands relinks.linked)
 
   pub same_bytes : (image : LinkedImage) → ImageLinksTo b asked (Ok image) → image.bytes ≡ b
   same_bytes image links =

@@ -28,7 +28,7 @@ use Rattle.jm_plugins.proofs.NameLaws.{names_differ, names_kept}
 use Rattle.jm_modpath.specs.declared.refusal.PathStop.{PathStop}
 use Rattle.jm_modpath.specs.declared.refusal.PathStop.TheVariants as path_stop
 use Rattle.jm_modpath.specs.declared.visible.VisibleModule.{VisibleModule}
-use Rattle.jm_modpath.specs.Finding.{AreVisible, ShowsModules}
+use Rattle.jm_modpath.specs.Finding.{AfterStop, AreVisible, ShowsModules}
 use Rattle.jm_modpath.specs.Modules.{candidates, visible}
 use Rattle.jm_texts.specs.declared.refusal.Refusal.{Refusal}
 use Rattle.jm_texts.specs.NameRefusals.{first_bad_name, name_refusal}
@@ -38,12 +38,12 @@ use Rattle.jm_link.specs.declared.linking.Summary.{Summary}
 use Rattle.jm_link.specs.declared.resources.ResourceFile.{ResourceFile}
 use Rattle.jm_link.specs.Chosen.{Chosen, reserved, roots_among}
 use Rattle.jm_link.specs.Closing.{ClosesAmong, ClosesWith, IsRefusedAmong}
-use Rattle.jm_link.specs.Linked.{IsGatheredTo, LinkedImage, LinksAmong, PlugsTo, Request, image_with}
-use Rattle.jm_link.specs.Linked.{laid_out, layout_refusal, path_refusal_as, plugging_refusal}
+use Rattle.jm_link.specs.Linked.{IsGatheredTo, LinkedImage, LinksAmong, LinksTo, PlugsTo, Request}
+use Rattle.jm_link.specs.Linked.{image_with, laid_out, layout_refusal, path_refusal_as, plugging_refusal}
 use Rattle.jm_link.specs.Links.{BreaksOff, ComesTo, IsLaid, LinksBy, PoolComesTo, TellsNothing}
 use Rattle.jm_link.specs.ResourceFiles.{IsTakenFrom, IsToldIn, file_names, pair_of}
 use Rattle.jm_link.specs.Resources.{AreFit, link_files, resources_in, resources_of}
-use Rattle.jm_link.specs.Steps.{StepStops, stop_of_fault, stop_of_path}
+use Rattle.jm_link.specs.Steps.{AfterStep, StepStops, stop_of_fault, stop_of_path}
 use Rattle.jm_link.specs.Written.{WritesImage, WritesPart}
 use Rattle.jm_link.proofs.FileLaws.{files_free}
 use Rattle.jm_link.proofs.LaidLaws.{laid_free}
@@ -118,6 +118,23 @@ module _ (Comes : Result LinkedImage Refusal → Type 0) (Absent : Type 0) (path
       → LinksBy Comes Absent path (Err (stop_of_fault refusal_of given)) old new
   refused refusal_of Due (or.Fault fault) due comes = (comes fault due, same)
   refused refusal_of Due or.Memory due comes = inl same
+
+-- Behind a step
+
+-- what holds in any case
+pub holds_after : {A : Type 0} (Fact : Type 0) (answer : Result A LinkStop) → Fact → AfterStep Fact answer
+holds_after Fact (Ok given) fact = fact
+holds_after Fact (Err (stop.Refused r)) fact = fact
+holds_after Fact (Err (stop.NotThere listed)) fact = fact
+holds_after Fact (Err stop.Outside) fact = tt
+holds_after Fact (Err stop.Memory) fact = tt
+
+-- what holds behind the search for modules
+pub unseen_after : {A : Type 0} (Fact : Type 0) (given : PathStop) → AfterStop Fact given → AfterStep {A = A} Fact (Err (stop_of_path given))
+unseen_after Fact (path_stop.Refused r) after = after
+unseen_after Fact (path_stop.NotThere listed) after = after
+unseen_after Fact path_stop.Outside after = tt
+unseen_after Fact path_stop.Memory after = tt
 
 -- The image of resources
 
@@ -212,12 +229,12 @@ candidates_length (m ∷ ms) = ap suc (candidates_length ms)
 pub unseen : (directories : List (List ℕ)) (asked : Request) (given : PathStop) (path : List ℕ) (old new : ShelfSeen) → new.told
     ≡ old.told → Shows old.told (λ files. ShowsModules asked.release files directories (Err given)) → (given ≡ path_stop.Outside
     → ShelfFailed old new) → LinksBy (ComesTo old.told directories asked) (TellsNothing old.told) path (Err (stop_of_path given)) old new
-unseen directories asked (path_stop.Refused r) path old new same shows failed = (go old.told shows, same)
+unseen directories asked (path_stop.Refused r) path old new same shows failed = ((go old.told shows, tt), same)
   where
     go : (t : Option Files) → Shows t (λ files. ShowsModules asked.release files directories (Err (path_stop.Refused r)))
-        → ComesTo t directories asked (Err (path_refusal_as r))
+        → Shows t (λ files. LinksTo files directories asked (Err (path_refusal_as r)))
     go None shows = tt
-    go (Some files) shows = rw shows (refl, tt)
+    go (Some files) shows = rw shows refl
 unseen directories asked (path_stop.NotThere listed) path old new same shows failed = (shows, same)
 unseen directories asked path_stop.Outside path old new same shows failed = (inl same, failed refl)
 unseen directories asked path_stop.Memory path old new same shows failed = inl same
@@ -225,20 +242,20 @@ unseen directories asked path_stop.Memory path old new same shows failed = inl s
 module _ (told : Option Files) (directories : List (List ℕ)) (asked : Request) where
   module _ (found : List VisibleModule) (shows : Shows told (λ files. ShowsModules asked.release files directories
       (Ok found))) where
-    found_to : (r : Result LinkedImage Refusal) → ((files : Files) → told ≡ Some files → LinksAmong asked (candidates found)
-        (resources_in files found) r × IsLaid asked.order r) → ComesTo told directories asked r
-    found_to r comes = go told shows comes
+    found_to : (r : Result LinkedImage Refusal) → IsLaid asked.order r → ((files : Files) → told ≡ Some files → LinksAmong asked
+        (candidates found) (resources_in files found) r) → ComesTo told directories asked r
+    found_to r laid comes = (go told shows comes, laid)
       where
         go : (t : Option Files) → Shows t (λ files. ShowsModules asked.release files directories (Ok found)) → ((files : Files)
-            → t ≡ Some files → LinksAmong asked (candidates found) (resources_in files found) r × IsLaid asked.order r)
-            → ComesTo t directories asked r
+            → t ≡ Some files → LinksAmong asked (candidates found) (resources_in files found) r)
+            → Shows t (λ files. LinksTo files directories asked r)
         go None shows comes = tt
-        go (Some files) (free, is) comes = let both = comes files refl in (rw (free, sym is) both.0, both.1)
+        go (Some files) (free, is) comes = rw (free, sym is) (comes files refl)
 
     -- no closure was had
     pub unclosed : (r : Refusal) → (reserved (candidates found) ≡ Some r) ⊎ IsRefusedAmong (candidates found) asked.roots asked.bind
         r → ComesTo told directories asked (Err r)
-    unclosed r why = found_to (Err r) (λ files is. (refused_among asked (candidates found) (resources_in files found) r why, tt))
+    unclosed r why = found_to (Err r) tt (λ files is. refused_among asked (candidates found) (resources_in files found) r why)
 
     module _ (places : List ℕ) (closes : ClosesAmong (candidates found) asked.roots asked.bind (Ok places)) where
       abbrev names : List Named
@@ -246,22 +263,17 @@ module _ (told : Option Files) (directories : List (List ℕ)) (asked : Request)
 
       -- a name is unfit
       pub unfit : (r : Refusal) → first_bad_name names ≡ Some r → ComesTo told directories asked (Err r)
-      unfit r is = found_to (Err r) (λ files shown. (
-        among_to asked (candidates found) (resources_in files found) places closes
-            (Err r) (rw (bad_name files names, is) refl),
-        tt,
-      ))
+      unfit r is = found_to (Err r) tt (λ files shown.
+          among_to asked (candidates found) (resources_in files found) places closes (Err r) (rw (bad_name files names, is) refl))
 
       -- the files were read
       pub read_to : first_bad_name names ≡ None → (read : List Written) → Shows told (λ files. read ≡ resources_of files names)
           → (r : Result LinkedImage Refusal) → PoolComesTo asked (length places) read r → ComesTo told directories asked r
       read_to fit read is r (comes, laid) =
-          found_to r (λ files shown.
-          let same = subst (λ t. Shows t (λ files. read ≡ resources_of files names)) shown is in (
-            among_to asked (candidates found) (resources_in files found) places closes r (rw (bad_name files names, fit, sym same)
-                comes),
-            laid,
-          ))
+          found_to r laid (λ files shown.
+          let same = subst (λ t. Shows t (λ files. read ≡ resources_of files names)) shown is in
+          among_to asked (candidates found) (resources_in files found) places closes r (rw (bad_name files names, fit, sym same)
+          comes))
 
 -- reading ended the work
 pub unread : (Comes : Result LinkedImage Refusal → Type 0) (path : List ℕ) (given : LinkStop) (old new : ShelfSeen) → new.told

@@ -1,9 +1,9 @@
 -- A link that made an image, wherever it took its modules from: what it was made of, and that the
 -- image is what the layout of its resources is.
-use Rattle.std.proofs.Common.{◌≡◌, ◌<◌, ℕ, false, List, All, Contains, slice_get, length, Option, Some}
-use Rattle.std.proofs.Common.{None, Result, Ok, Err, refl, sym, ap, subst, ◌∙◌, codes}
+use Rattle.std.proofs.Common.{◌≡◌, ◌<◌, ℕ, false, List, [], All, Contains, slice_get, length, Option, Some}
+use Rattle.std.proofs.Common.{None, append-nil, unwrap_or, Result, Ok, Err, refl, sym, ap, subst, ◌∙◌, codes}
 use Rattle.std.proofs.lemmas.List.{map-id}
-use Rattle.std.proofs.lemmas.List.Elements.{All-map}
+use Rattle.std.proofs.lemmas.List.Elements.{All-map, All-nil}
 use Rattle.jm_bytes.proofs.Choice.{same_ok}
 use Rattle.jm_bytes.proofs.Members.{all_from_contains, from_filter_map}
 use Rattle.jm_closure.specs.declared.candidate.Candidate.{Candidate}
@@ -12,8 +12,9 @@ use Rattle.jm_form.specs.Layout.{Written, names_of}
 use Rattle.jm_names.specs.NameFaults.{IsSound}
 use Rattle.jm_names.specs.Names.{is_node}
 use Rattle.jm_modpath.specs.declared.refusal.PathRefusal.{PathRefusal}
-use Rattle.jm_modpath.specs.Modules.{candidates, path_refusal, visible}
-use Rattle.jm_outside.specs.Files.{Files}
+use Rattle.jm_modpath.specs.Modules.{bytes_at, candidates, path_refusal, visible}
+use Rattle.jm_outside.specs.Files.{AreBytes, Files, IsSound}
+use Rattle.jm_outside.proofs.Sound.{bytes_added}
 use Rattle.jm_plugins.proofs.NameLaws.{names_kept}
 use Rattle.jm_relink.specs.declared.fault.RelinkFault.{RelinkFault}
 use Rattle.jm_relink.specs.Modules.{ModulesOf, SeenModule}
@@ -25,7 +26,7 @@ use Rattle.jm_link.specs.Chosen.{Chosen, roots_among}
 use Rattle.jm_link.specs.ImageLinked.{IsImageTo, resources_seen, seen_candidates}
 use Rattle.jm_link.specs.Linked.{IsPathTo, LinkedImage, LinksAmong, Request}
 use Rattle.jm_link.specs.Links.{IsLaid}
-use Rattle.jm_link.specs.Relinked.{HoldsBytes, LinksFrom, Shows, Source}
+use Rattle.jm_link.specs.Relinked.{IsOnShelf, LinksFrom, Shows, Source}
 use Rattle.jm_link.specs.Relinked.Source.{ModulePath, Image}
 use Rattle.jm_link.specs.Resources.{resources_in}
 use Rattle.jm_link.proofs.ChosenLaws.{chosen_below}
@@ -35,6 +36,11 @@ use Rattle.jm_link.proofs.LaidLaws.{laid_free}
 use Rattle.jm_link.proofs.RelinkedLaws.{IsMade, made_parts}
 use Rattle.jm_link.proofs.SeenAgain.{AreOf}
 use Rattle.jm_link.proofs.ShownResources.{image_resources, path_resources}
+
+-- a file that a shelf tells has bytes alone
+told_bytes : (files : Files) (path : List ℕ) → IsSound files → AreBytes (bytes_at files path)
+told_bytes files path sound =
+    subst AreBytes (append-nil (bytes_at files path)) (bytes_added files path [] sound.bytes (All-nil (λ byte. byte < 256)))
 
 -- What it was made of
 
@@ -72,10 +78,10 @@ seen_once : (release : ℕ) (b : List ℕ) (ss : List SeenModule) → ModulesOf 
 seen_once release b ss shows others (ss', shows', is) =
     is ∙ ap seen_candidates (same_ok {E = RelinkFault} ss' ss (modules_once release b (Ok ss') (Ok ss) shows' shows))
 
-from_seen : (b : List ℕ) (asked : Request) (image : LinkedImage) → HoldsBytes (Image b) → (ss : List SeenModule)
+from_seen : (b : List ℕ) (asked : Request) (image : LinkedImage) → AreBytes b → (ss : List SeenModule)
     → ModulesOf asked.release b (Ok ss) → LinksAmong asked (seen_candidates ss) (resources_seen ss) (Ok image)
     → IsMadeFrom (Image b) asked image
-from_seen b asked image holds ss shows links =
+from_seen b asked image bytes ss shows links =
     let found = seen_candidates ss in
     let made = made_parts asked found (resources_seen ss) image links in
     record {
@@ -84,13 +90,13 @@ from_seen b asked image holds ss shows links =
       once = seen_once asked.release b ss shows;
       gathered = resources_seen ss;
       made = made;
-      of = image_resources asked.release b holds ss (visible_in asked.release b ss shows) (Chosen asked.bind found (roots_among found asked.roots))
+      of = image_resources asked.release b bytes ss (visible_in asked.release b ss shows) (Chosen asked.bind found (roots_among found asked.roots))
           made.places made.closes.4 (taken_within asked found (resources_seen ss) image made);
     }
 
-pub made_from : (source : Source) (asked : Request) (image : LinkedImage) → HoldsBytes source → LinksFrom source asked (Ok image)
+pub made_from : (source : Source) (asked : Request) (image : LinkedImage) → IsOnShelf source → LinksFrom source asked (Ok image)
     → IsMadeFrom source asked image
-made_from (ModulePath files directories) asked image holds linked =
+made_from (ModulePath files directories) asked image sound linked =
     let found = candidates (visible asked.release files directories) in
     let gathered = resources_in files (visible asked.release files directories) in
     let made = made_parts asked found gathered image (path_links files directories asked (path_refusal asked.release files
@@ -101,12 +107,13 @@ made_from (ModulePath files directories) asked image holds linked =
       once = λ others shown. shown;
       gathered = gathered;
       made = made;
-      of = path_resources asked.release files directories holds (Chosen asked.bind found (roots_among found asked.roots)) made.places made.closes.4
+      of = path_resources asked.release files directories (λ path. told_bytes files path sound) (Chosen asked.bind found (roots_among found asked.roots)) made.places made.closes.4
           (taken_within asked found gathered image made);
     }
-made_from (Image b) asked image holds linked =
+made_from (Image b) asked image (files, sound, path, is) linked =
     let links = image_links asked linked.0 image linked.2 in
-    from_seen b asked image holds links.0 (subst (ModulesOf asked.release b) links.1 linked.1) links.2
+    let bytes = subst (λ o. AreBytes (unwrap_or o [])) is (told_bytes files path sound) in
+    from_seen b asked image bytes links.0 (subst (ModulesOf asked.release b) links.1 linked.1) links.2
 
 -- Its layout
 
@@ -143,6 +150,6 @@ module _ (source : Source) (asked : Request) (image : LinkedImage) (from : IsMad
       (names_kept (λ name. is_node name ≡ false) asked.release asked.plugins before made.left made.plugged plain))
 
 -- an image that was linked is what the layout of its resources is
-pub linked_laid : (source : Source) (asked : Request) (image : LinkedImage) → HoldsBytes source → LinksFrom source asked (Ok image)
+pub linked_laid : (source : Source) (asked : Request) (image : LinkedImage) → IsOnShelf source → LinksFrom source asked (Ok image)
     → IsLaid asked.order (Ok image)
-linked_laid source asked image holds linked = made_laid source asked image (made_from source asked image holds linked)
+linked_laid source asked image stands linked = made_laid source asked image (made_from source asked image stands linked)

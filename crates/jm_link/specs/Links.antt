@@ -38,11 +38,11 @@ abbrev pub IsLaid : Order → Result LinkedImage Refusal → Type 0
 IsLaid order (Ok image) = IsLaidOut order image.resources image.bytes
 IsLaid order (Err refusal) = Unit {0}
 
--- this is what the link comes to, where the shelf tells its files: an image is valid, hands out
--- exactly its resources, and tells exactly their trees
+-- this is what the link comes to, where the shelf tells its files; told or not, an image is valid,
+-- hands out exactly its resources, and tells exactly their trees
 abbrev pub ComesTo : Option Files → List (List ℕ) → Request → Result LinkedImage Refusal → Type 0
 ComesTo told directories asked result =
-    Shows told (λ files. LinksTo files directories asked result × IsLaid asked.order result)
+    Shows told (λ files. LinksTo files directories asked result) × IsLaid asked.order result
 
 -- what a link did, where its result is one of these
 

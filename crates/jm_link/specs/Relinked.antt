@@ -1,13 +1,13 @@
 -- Relinking: what is linked of the image that a link made, of all its modules and without plug-ins,
 -- is that image (this project's rule).
-use Rattle.std.specs.Prelude.{ℕ, ◌≡◌, ◌<◌, ◌≤◌, ◌↔◌, Bool, true, false, List, [], All, Contains}
-use Rattle.std.specs.Prelude.{Option, Result, Ok, Err}
+use Rattle.std.specs.Prelude.{ℕ, ◌≡◌, ◌≤◌, ◌↔◌, Bool, true, false, List, [], All, Contains}
+use Rattle.std.specs.Prelude.{Option, Some, Result, Ok, Err}
 use Rattle.jm_closure.specs.declared.candidate.Candidate.{Candidate}
 use Rattle.jm_closure.specs.Modules.{HasName}
 use Rattle.jm_outside.specs.Holds.{Holds}
 use Rattle.jm_form.specs.Layout.{names_of}
-use Rattle.jm_modpath.specs.Modules.{bytes_at, candidates, visible}
-use Rattle.jm_outside.specs.Files.{Files}
+use Rattle.jm_modpath.specs.Modules.{candidates, visible}
+use Rattle.jm_outside.specs.Files.{Files, IsSound, file}
 use Rattle.jm_words.specs.declared.tasks.Plugin.{Plugin}
 use Rattle.jm_words.specs.declared.tasks.Plugin.TheVariants as plugin
 use Rattle.jm_relink.specs.Files.{info_entry}
@@ -41,11 +41,12 @@ Shows release (ModulePath files directories) found =
 Shows release (Image b) found =
     (seen : List SeenModule) × ModulesOf release b (Ok seen) × (found ≡ seen_candidates seen)
 
--- all that a source holds are bytes: numbers below 256
-abbrev pub HoldsBytes : Source → Type 0
-HoldsBytes (ModulePath files directories) =
-    (path : List ℕ) → All (λ byte. byte < 256) (bytes_at files path)
-HoldsBytes (Image b) = All (λ byte. byte < 256) b
+-- a source stands on a shelf: the files of its module path, or some with its image among them, are
+-- as every shelf tells its files
+abbrev pub IsOnShelf : Source → Type 0
+IsOnShelf (ModulePath files directories) = IsSound files
+IsOnShelf (Image b) =
+    (files : Files) × IsSound files × (path : List ℕ) × (file files path ≡ Some b)
 
 -- a module of this name is linked
 abbrev pub Takes : Source → Request → List ℕ → Type 0
@@ -64,13 +65,13 @@ leaves_order plugin.Compact = true
 leaves_order plugin.Packages = true
 leaves_order plugin.DropSystemModules = true
 
--- a link made these bytes, without an order of resources, and the descriptor of each module that it
--- took stands in them; what is asked for is these modules, by their names or by the word for all
--- that the bytes show, in the same byte order and no plug-in, with that link's release or a later
--- one
+-- a link made these bytes of what stands on a shelf, without an order of resources, and the
+-- descriptor of each module that it took stands in them; what is asked for is these modules, by
+-- their names or by the word for all that the bytes show, in the same byte order and no plug-in,
+-- with that link's release or a later one
 pub record Relinks (b : List ℕ) (asked : Request) : Type 0 where
   pub source : Source
-  pub holds : HoldsBytes source
+  pub stands : IsOnShelf source
   pub first : Request
   pub image : LinkedImage
   pub linked : LinksFrom source first (Ok image)

@@ -7,6 +7,7 @@ ghost use Rattle.jm_outside.specs.Shelves.{shelf_at};
 ghost use Rattle.jm_pool.specs.Pairs.{names_of};
 ghost use Rattle.jm_writer.specs.Drafts.{IsDraft};
 ghost use Rattle.jm_link.specs.Resources.{AreFit};
+ghost use Rattle.jm_link.specs.Steps.{AfterStep};
 ghost use Rattle.jm_link.specs.Written.{WritesImage};
 
 use crate::linking::{LinkStop, Summary};
@@ -56,8 +57,9 @@ fn write_planned<S: Shelf>(
 ) -> Result<Summary, LinkStop>
     requires draft { IsDraft planned.now.draft.order pool.now planned.now.draft }
     requires path { IsUtf8 path.now }
-    ensures { WritesImage planned.now.draft.order planned.now.modules pool.now path.now result
-        (shelf_at S.Shelf shelf.old) (shelf_at S.Shelf shelf.new) }
+    ensures writes { WritesImage planned.now.draft.order planned.now.modules pool.now path.now
+        result (shelf_at S.Shelf shelf.old) (shelf_at S.Shelf shelf.new) }
+    ensures whole { AfterStep (IsTrue (S.whole shelf.new)) result }
 {
     write_whole(alloc, &planned.draft, pool, shelf, path)?;
     Ok(Summary {
@@ -79,8 +81,9 @@ pub fn write_image<S: Shelf>(
 ) -> Result<Summary, LinkStop>
     requires fit { AreFit (names_of pool.now) }
     requires output { IsUtf8 task.now.output }
-    ensures { WritesImage task.now.order modules pool.now task.now.output result
+    ensures writes { WritesImage task.now.order modules pool.now task.now.output result
         (shelf_at S.Shelf shelf.old) (shelf_at S.Shelf shelf.new) }
+    ensures whole { IsTrue (S.whole shelf.old) → AfterStep (IsTrue (S.whole shelf.new)) result }
 {
     let draft = plan(alloc, task.order, pool)?;
     let planned = Planned { draft, modules };

@@ -1,6 +1,7 @@
 //! A whole `link` from a module path.
-ghost use Rattle.std.specs.Prelude.{◌<◌, All, IsUtf8};
+ghost use Rattle.std.specs.Prelude.{◌≢◌, ◌<◌, [], All, IsTrue, IsUtf8};
 ghost use Rattle.jm_link.specs.Links.{Links, request_of};
+ghost use Rattle.jm_link.specs.Steps.{AfterStep};
 ghost use Rattle.jm_outside.specs.Shelves.{shelf_at};
 ghost use Rattle.jm_words.specs.Paths.{directories_of};
 
@@ -59,8 +60,12 @@ pub fn link<T: Threads + Sync, S: Shelf, G: Gate + Sync>(
     requires jobs { 0 < jobs }
     requires directories { All IsUtf8 (directories_of task.now.source) }
     requires output { IsUtf8 task.now.output }
-    ensures { Links (directories_of task.now.source) (request_of task.now) task.now.output result
-        (shelf_at S.Shelf shelf.old) (shelf_at S.Shelf shelf.new) }
+    ensures links { Links (directories_of task.now.source) (request_of task.now) task.now.output
+        result (shelf_at S.Shelf shelf.old) (shelf_at S.Shelf shelf.new) }
+
+    // Files that were made before stand whole then, also behind a refusal.
+    ensures whole { directories_of task.now.source ≢ []
+        → AfterStep (IsTrue (S.whole shelf.new)) result }
 {
     let directories = task.source.directories();
     let visible = visible_modules(alloc, task.release, directories, shelf)?;

@@ -1,6 +1,6 @@
 //! The files of the modules that are linked, and the resources that they are.
 ghost use Rattle.std.specs.Prelude.{◌≡◌, ◌≢◌, ◌<◌, ◌++◌, All, AllPairs, IsUtf8, IfOk};
-ghost use Rattle.std.specs.Prelude.{OnOk, IsOk, IsErrOf, None, length, map};
+ghost use Rattle.std.specs.Prelude.{OnOk, IsOk, IsTrue, IsErrOf, None, length, map};
 ghost use Rattle.jm_outside.specs.Outcome.{CountsFaults, Shows};
 ghost use Rattle.jm_pool.specs.Pairs.{bytes_of, names_of};
 ghost use Rattle.jm_modpath.specs.Finding.{AreVisible, HasTexts};
@@ -11,6 +11,7 @@ ghost use Rattle.jm_link.specs.ResourceFiles.{HoldsDescribed, IsTakenFrom, IsTak
 ghost use Rattle.jm_link.specs.ResourceFiles.{NamesAll, OnlyFails, PutsRead, described_of};
 ghost use Rattle.jm_link.specs.ResourceFiles.{file_names, pair_of, resource_file};
 ghost use Rattle.jm_link.specs.Resources.{AreFit, link_files, module_files, resources_of};
+ghost use Rattle.jm_link.specs.Steps.{AfterStep};
 
 use crate::linking::LinkStop;
 use jm_bytes::{List, NoMemory, Text};
@@ -167,6 +168,7 @@ fn read_resource<S: Shelf>(
     ensures files { S.files shelf.new ≡ S.files shelf.old }
     ensures put { OnOk result (PutsRead (S.files shelf.old) resource pool.old pool.new) }
     ensures stops { OnlyFails (S.files shelf.old) result }
+    ensures whole { AfterStep (IsTrue (S.whole shelf.new)) result }
     ensures faults { CountsFaults (S.faults shelf.old) (S.faults shelf.new) (IsOk result)
         (IsErrOf result LinkStop.Outside) }
 {
@@ -198,6 +200,7 @@ pub fn read_resources<S: Shelf>(
     ensures names { IfOk result (λ pool. names_of pool ≡ file_names files) }
     ensures described { IfOk result (λ pool. All (HoldsDescribed pool) files) }
     ensures stops { OnlyFails (S.files shelf.old) result }
+    ensures whole { IsTrue (S.whole shelf.old) → AfterStep (IsTrue (S.whole shelf.new)) result }
     ensures faults { CountsFaults (S.faults shelf.old) (S.faults shelf.new) (IsOk result)
         (IsErrOf result LinkStop.Outside) }
 {

@@ -1,11 +1,12 @@
 //! The modules that the folders of a directory show.
-ghost use Rattle.std.specs.Prelude.{◌≡◌, ◌≢◌, [], All, Contains, IsUtf8, IfOk, IsOk, IsErrOf};
+ghost use Rattle.std.specs.Prelude.{◌≡◌, ◌≢◌, [], All, Contains, IsTrue, IsUtf8, IfOk, IsOk};
+ghost use Rattle.std.specs.Prelude.{IsErrOf};
 ghost use Rattle.std.specs.Prelude.{None, Ok, Err, true, false};
 ghost use Rattle.jm_modinfo.specs.Constants.{is_legal};
 ghost use Rattle.jm_modinfo.specs.Descriptions.{info_for, info_in};
 ghost use Rattle.jm_outside.specs.Files.{Rising, file, names_below};
 ghost use Rattle.jm_outside.specs.Outcome.{CountsFaults, Shows};
-ghost use Rattle.jm_modpath.specs.Finding.{Comes, HasTexts, directory_due, folder_due};
+ghost use Rattle.jm_modpath.specs.Finding.{AfterStep, Comes, HasTexts, directory_due, folder_due};
 ghost use Rattle.jm_modpath.specs.Finding.{folders_among, folders_due, info_due, refused_at};
 ghost use Rattle.jm_modpath.specs.declared.refusal.PathRefusal.TheVariants.{TwoModules};
 ghost use Rattle.jm_modpath.specs.Modules.{bytes_at, info_path, inside};
@@ -58,6 +59,7 @@ fn read_info<S: Shelf>(
         (info_due release folder.now (bytes_at files (info_path folder.now))) result) }
     ensures legal { IfOk result (λ info. is_legal info.descriptor.name ≡ true) }
     ensures said { IfOk result (λ info. info_in info.bytes ≡ Ok info.descriptor) }
+    ensures whole { AfterStep (IsTrue (S.whole shelf.new)) result }
     ensures faults { CountsFaults (S.faults shelf.old) (S.faults shelf.new) (IsOk result)
         (IsErrOf result PathStop.Outside) }
 {
@@ -134,6 +136,7 @@ fn visible_module<S: Shelf>(
         folder.now) result) }
     ensures new { IfOk result (λ m. is_named earlier.now (name_of m) ≡ false) }
     ensures texts { IfOk result HasTexts }
+    ensures whole { AfterStep (IsTrue (S.whole shelf.new)) result }
     ensures faults { CountsFaults (S.faults shelf.old) (S.faults shelf.new) (IsOk result)
         (IsErrOf result PathStop.Outside) }
 {
@@ -161,6 +164,7 @@ fn found_among<S: Shelf>(
     ensures told { Shows (S.files shelf.old) (λ files.
         Comes ⊥ (folders_due listing.entry.release files listing.entry.directory.now []
         (folders_among listing.entry.names.now)) result) }
+    ensures whole { IsTrue (S.whole shelf.old) → AfterStep (IsTrue (S.whole shelf.new)) result }
     ensures faults { CountsFaults (S.faults shelf.old) (S.faults shelf.new) (IsOk result)
         (IsErrOf result PathStop.Outside) }
 {
@@ -184,6 +188,7 @@ pub fn found_in<S: Shelf>(
     ensures files { S.files shelf.new ≡ S.files shelf.old }
     ensures told { Shows (S.files shelf.old) (λ files.
         Comes ⊥ (directory_due release files directory.now) result) }
+    ensures whole { AfterStep (IsTrue (S.whole shelf.new)) result }
     ensures faults { CountsFaults (S.faults shelf.old) (S.faults shelf.new) (IsOk result)
         (IsErrOf result PathStop.Outside) }
 {

@@ -1,7 +1,8 @@
 //! The modules that a module path shows.
-ghost use Rattle.std.specs.Prelude.{◌≡◌, ◌∷◌, ◌++◌, [], All, IsUtf8, IfOk, IsOk, IsErrOf};
+ghost use Rattle.std.specs.Prelude.{◌≡◌, ◌≢◌, ◌∷◌, ◌++◌, [], All, IsTrue, IsUtf8, IfOk, IsOk};
+ghost use Rattle.std.specs.Prelude.{IsErrOf};
 ghost use Rattle.jm_outside.specs.Outcome.{CountsFaults, Shows};
-ghost use Rattle.jm_modpath.specs.Finding.{AreVisible, Comes, HasTexts, ShowsModules};
+ghost use Rattle.jm_modpath.specs.Finding.{AfterStep, AreVisible, Comes, HasTexts, ShowsModules};
 ghost use Rattle.jm_modpath.specs.Finding.{shown_more};
 ghost use Rattle.jm_modpath.specs.Finding.{with_unhidden};
 ghost use Rattle.jm_modpath.specs.Modules.{unhidden};
@@ -60,6 +61,7 @@ fn with_directory<S: Shelf>(
     ensures files { S.files shelf.new ≡ S.files shelf.old }
     ensures told { Shows (S.files shelf.old) (λ files.
         Comes ⊥ (shown_more release files found directory.now) result) }
+    ensures whole { AfterStep (IsTrue (S.whole shelf.new)) result }
     ensures faults { CountsFaults (S.faults shelf.old) (S.faults shelf.new) (IsOk result)
         (IsErrOf result PathStop.Outside) }
 {
@@ -82,6 +84,7 @@ pub fn visible_modules<S: Shelf>(
     ensures modules { Shows (S.files shelf.old) (λ files.
         ShowsModules release files directories.now result) }
     ensures are { IfOk result AreVisible }
+    ensures whole { directories.now ≢ [] → AfterStep (IsTrue (S.whole shelf.new)) result }
     ensures faults { CountsFaults (S.faults shelf.old) (S.faults shelf.new) (IsOk result)
         (IsErrOf result PathStop.Outside) }
 {

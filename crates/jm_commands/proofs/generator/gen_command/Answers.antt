@@ -15,7 +15,7 @@ returns g c source =
     let made = subst (λ (dir : List ℕ). MadeAll (generated dir gen.modules gen.classes gen.seed) (g.S.Shelf.files c.args.shelf.now)
     (g.S.Shelf.files c.generate.new.shelf)) (c.as_slice-2.ensures ∙ path) c.in_ok-generate.ensures.ok in
     let links = links_as gen _ (Ok c.in_ok-summary.summary) (shelf_at g.S.Shelf c.generate.new.shelf)
-    (shelf_at g.S.Shelf c.link_generated.new.shelf) path c.in_ok-summary.ensures in
+    (shelf_at g.S.Shelf c.link_generated.new.shelf) path c.in_ok-summary.ensures.links in
     gen_put gen (shelf_at g.S.Shelf c.args.shelf.now) (world (shelf_at g.S.Shelf c.generate.new.shelf) source
     (sink_at g.O.Sink c.args.out.now))
     _ _ _ made (c.in_ok-generate.ensures.faults.kept refl) refl links c.put_generated.ensures
@@ -27,9 +27,9 @@ returns-in_err-summary g c source =
     let made = subst (λ (dir : List ℕ). MadeAll (generated dir gen.modules gen.classes gen.seed) (g.S.Shelf.files c.args.shelf.now)
     (g.S.Shelf.files c.generate.new.shelf)) (c.as_slice-2.ensures ∙ path) c.in_ok-generate.ensures.ok in
     let links = links_as gen _ (Err c.in_err-summary.field-0.0) (shelf_at g.S.Shelf c.generate.new.shelf)
-    (shelf_at g.S.Shelf c.link_generated.new.shelf) path c.in_err-summary.ensures in
+    (shelf_at g.S.Shelf c.link_generated.new.shelf) path c.in_err-summary.ensures.links in
     let is = from_stop c.from_residual-in_err-summary.result _ c.from_residual-in_err-summary.ensures.1 in
     rw is
     (gen_stopped gen (shelf_at g.S.Shelf c.args.shelf.now) (world (shelf_at g.S.Shelf c.generate.new.shelf) source
     (sink_at g.O.Sink c.args.out.now))
-    _ _ made (c.in_ok-generate.ensures.faults.kept refl) refl links refl)
+    _ _ made (c.in_ok-generate.ensures.faults.kept refl) refl links c.in_err-summary.ensures.whole refl)

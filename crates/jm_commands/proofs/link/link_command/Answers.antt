@@ -15,8 +15,8 @@ returns-in-Image g c source =
 pub returns-in_err-summary-in-Path : goal.returns-in_err-summary-in-Path
 returns-in_err-summary-in-Path g c source =
     let is = from_stop c.from_residual.result _ c.from_residual.ensures.1 in
-    rw is (path_stopped link_text c.args.task.now _ _ _ refl c.in-Path.is _ c.in_err-summary-in-Path.ensures refl)
+    rw is (path_stopped link_text c.args.task.now _ _ _ refl c.in-Path.is _ c.in_err-summary-in-Path.ensures.links refl)
 
 pub returns-in_ok-summary-in-Path : goal.returns-in_ok-summary-in-Path
 returns-in_ok-summary-in-Path g c source =
-    path_put link_text c.args.task.now _ _ _ refl c.in-Path.is _ _ c.in_ok-summary-in-Path.ensures c.put_summary.ensures
+    path_put link_text c.args.task.now _ _ _ refl c.in-Path.is _ _ c.in_ok-summary-in-Path.ensures.links c.put_summary.ensures

@@ -24,8 +24,8 @@ use Rattle.jm_link.proofs.linking.link.Goals as goal
 pub closed-requires : goal.closed-requires
 closed-requires g c = rw c.candidates.ensures c.in_ok-visible.ensures.are.differ
 
-pub returns-in_err-places : goal.returns-in_err-places
-returns-in_err-places g c =
+pub returns-in_err-places-clause-links : goal.returns-in_err-places-clause-links
+returns-in_err-places-clause-links g c =
     let shows = rw c.directories-directories.ensures at c.in_ok-visible.ensures.modules in
     let asked : Request = request_of c.args.task.now in
     let told = g.S.Shelf.files c.args.shelf.now in
@@ -53,8 +53,8 @@ link_files-requires-clause-once g c =
     rw c.as_slice.ensures (chosen_differ found (roots_among found c.args.task.now.roots) c.args.task.now.bind
     c.in_ok-places.places closes.1)
 
-pub returns-in_err-files : goal.returns-in_err-files
-returns-in_err-files g c =
+pub returns-in_err-files-clause-links : goal.returns-in_err-files-clause-links
+returns-in_err-files-clause-links g c =
     let shows = rw c.directories-directories.ensures at c.in_ok-visible.ensures.modules in
     let asked : Request = request_of c.args.task.now in
     let told = g.S.Shelf.files c.args.shelf.now in
@@ -75,8 +75,8 @@ read_resources-requires-clause-told g c =
     (taken_told c.args.task.now.release _ (directories_of c.args.task.now.source) c.in_ok-visible.visible c.in_ok-files.files
     shows c.in_ok-files.ensures.taken)
 
-pub returns-in_err-left : goal.returns-in_err-left
-returns-in_err-left g c =
+pub returns-in_err-left-clause-links : goal.returns-in_err-left-clause-links
+returns-in_err-left-clause-links g c =
     let shows = rw c.directories-directories.ensures at c.in_ok-visible.ensures.modules in
     let asked : Request = request_of c.args.task.now in
     let told = g.S.Shelf.files c.args.shelf.now in
@@ -103,8 +103,8 @@ write_image-requires-clause-fit g c =
     fit_left c.args.task.now.release c.args.task.now.plugins c.in_ok-read.read c.in_ok-left.left acted
     (subst AreFit (sym c.in_ok-read.ensures.names) c.in_ok-files.ensures.fit)
 
-pub returns : goal.returns
-returns g c =
+pub returns-clause-links : goal.returns-clause-links
+returns-clause-links g c =
     let acted = rw c.as_slice-plugins.ensures at c.in_ok-left.ensures in
     let shows = rw c.directories-directories.ensures at c.in_ok-visible.ensures.modules in
     let asked : Request = request_of c.args.task.now in
@@ -125,7 +125,7 @@ returns g c =
     let fit = fit_left asked.release asked.plugins resources c.in_ok-left.left acted (subst AreFit (sym c.in_ok-read.ensures.names)
     c.in_ok-files.ensures.fit) in
     let did = image_written asked modules resources c.in_ok-left.left acted fit path c.write_image.result old new
-    (rw c.len.ensures at c.write_image.ensures) in
+    (rw c.len.ensures at c.write_image.ensures.writes) in
     links_sooner (ComesTo told (directories_of c.args.task.now.source) asked) (TellsNothing told) path first old new
     (c.read_resources.ensures.files ∙ c.visible_modules.ensures.files)
     (c.in_ok-read.ensures.faults.kept refl ∙ c.in_ok-visible.ensures.faults.kept refl) c.write_image.result

@@ -139,7 +139,7 @@ returns g c =
     let fit = fit_left asked.release asked.plugins read c.in_ok-left.left acted (gathered_fit c.args.image.now asked c.in_ok-modules.modules
     shown.0 shown.1 shown.2 c.in_ok-places.places closes read gathers) in
     let did = image_written asked modules read c.in_ok-left.left acted fit path c.write_image.result old new
-    (rw c.len.ensures at c.write_image.ensures) in
+    (rw c.len.ensures at c.write_image.ensures.writes) in
     let links : ImageLinks c.args.image.now asked path c.write_image.result old new =
     links_as (PoolComesTo asked modules read) (ImageComesTo c.args.image.now asked) ⊥ ⊥ path c.write_image.result old new
     (gathered_to c.args.image.now asked c.in_ok-modules.modules shown.0 shown.1 shown.2 c.in_ok-places.places closes read

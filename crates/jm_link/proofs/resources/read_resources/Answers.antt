@@ -25,6 +25,7 @@ loop-file-preserved g c =
           (sym c.in-Some.ensures.steps.0) ∙ before.all;
       files = did.files ∙ before.files;
       faults = did.faults.kept refl ∙ before.faults;
+      whole = λ whole. did.whole;
       pool = read_more _ c.loop-file.yielded file c.loop-file.pool c.read_resource.new.pool did.put
           (g.S.Shelf.files c.args.shelf.now) before.files before.pool;
       names = names_more _ c.loop-file.yielded file c.loop-file.pool c.read_resource.new.pool did.put before.names;

@@ -1,4 +1,4 @@
-use Rattle.std.proofs.Common.{◌≡◌, ◌++◌, All, map}
+use Rattle.std.proofs.Common.{◌≡◌, ◌++◌, All, IsTrue, map}
 use Rattle.jm_outside.specs.Outcome.{Shows}
 use Rattle.jm_pool.specs.Pairs.{names_of}
 use Rattle.jm_link.specs.ResourceFiles.{HoldsDescribed, file_names, pair_of}
@@ -12,6 +12,7 @@ invariant-loop-file g l = record {
   all : l.yielded ++ l.file-iterator.rest.items ≡ l.fn.files;
   files : g.S.Shelf.files l.shelf ≡ g.S.Shelf.files l.fn.shelf;
   faults : g.S.Shelf.faults l.shelf ≡ g.S.Shelf.faults l.fn.shelf;
+  whole : IsTrue (g.S.Shelf.whole l.fn.shelf) → IsTrue (g.S.Shelf.whole l.shelf);
   pool : Shows (g.S.Shelf.files l.fn.shelf) (λ told. l.pool ≡ resources_of told (map pair_of l.yielded));
   names : names_of l.pool ≡ file_names l.yielded;
   described : All (HoldsDescribed l.pool) l.yielded;

@@ -1,0 +1,100 @@
+-- Words come to one outcome, where the files and the rest of the input are told.
+use Rattle.std.proofs.Common.{◌≡◌, inl, inr, ℕ, List, Option, Some, None, Result, Ok, Err, sym, ap, subst, ◌∙◌}
+use Rattle.jm_form.specs.Damages.{first_damage}
+use Rattle.jm_form.specs.declared.damage.Damage.{Damage}
+use Rattle.jm_link.specs.declared.linking.Summary.{Summary}
+use Rattle.jm_link.specs.Links.{request_of}
+use Rattle.jm_link.proofs.GivenBack.{image_once}
+use Rattle.jm_link.proofs.OnceLaws.{links_once}
+use Rattle.jm_outside.specs.Files.{Files}
+use Rattle.jm_outside.specs.Made.{written}
+use Rattle.jm_words.specs.declared.errors.WordsFault.{WordsFault}
+use Rattle.jm_words.specs.declared.tasks.Command.{Command}
+use Rattle.jm_words.specs.declared.tasks.GenTask.{GenTask}
+use Rattle.jm_words.specs.declared.tasks.LinkTask.{LinkTask}
+use Rattle.jm_words.specs.declared.tasks.Source.{Source}
+use Rattle.jm_words.specs.declared.tasks.Source.TheVariants as source
+use Rattle.jm_words.specs.declared.tasks.Task.{Task}
+use Rattle.jm_words.specs.declared.tasks.Task.TheVariants as task
+use Rattle.jm_commands.specs.Gen.{gen_link, made_first}
+use Rattle.jm_commands.specs.LinkText.{gen_text, link_text}
+use Rattle.jm_commands.specs.Outcome.{Outcome, behind, describe_outcome, faulty, image_outcome, link_outcome}
+use Rattle.jm_commands.specs.Run.{AskTheSame, FileComesTo, FoundComesTo, GenComesTo, ImageComes, ImageLinkComesTo}
+use Rattle.jm_commands.specs.Run.{LinkComesFrom, OpenedComesTo, PathLinkComesTo, TaskComesTo, TextComesTo, WordsComeTo}
+
+-- what comes of a file or of a text
+
+module _ (one other : Outcome) where
+  found_once : (Bytes : List ℕ → Outcome → Type 0) (path : List ℕ) (found : Option (List ℕ))
+      → ((b : List ℕ) → Bytes b one → Bytes b other → one ≡ other) → FoundComesTo Bytes path found one
+      → FoundComesTo Bytes path found other → one ≡ other
+  found_once Bytes path None each is same = is ∙ sym same
+  found_once Bytes path (Some b) each is same = each b is same
+
+  file_once : (files : Files) (path : List ℕ) (Bytes : List ℕ → Outcome → Type 0)
+      → ((b : List ℕ) → Bytes b one → Bytes b other → one ≡ other) → FileComesTo (Some files) path Bytes one
+      → FileComesTo (Some files) path Bytes other → one ≡ other
+  file_once files path Bytes each (found, has, is) (found', has', is') =
+      found_once Bytes path found' each (subst (λ o. FoundComesTo Bytes path o one) (has ∙ sym has') is) is'
+
+  opened_once : (Sound : Outcome → Type 0) (damage : Option Damage) → (Sound one → Sound other → one ≡ other)
+      → OpenedComesTo Sound damage one → OpenedComesTo Sound damage other → one ≡ other
+  opened_once Sound None sound is same = sound is same
+  opened_once Sound (Some damage) sound is same = is ∙ sym same
+
+  image_comes_once : (files : Files) (path : List ℕ) (Sound : List ℕ → Outcome → Type 0)
+      → ((b : List ℕ) → Sound b one → Sound b other → one ≡ other) → ImageComes (Some files) path Sound one
+      → ImageComes (Some files) path Sound other → one ≡ other
+  image_comes_once files path Sound sound is same =
+      file_once files path (λ b. OpenedComesTo (Sound b) (first_damage b))
+      (λ b opened opened'. opened_once (Sound b) (first_damage b) (sound b) opened opened') is same
+
+  text_once : (text : List ℕ) (of_text : List ℕ → Outcome) → TextComesTo (Some text) of_text one → TextComesTo (Some text) of_text other
+      → one ≡ other
+  text_once text of_text (given, is, due) (given', is', due') = due ∙ ap of_text (is ∙ sym is') ∙ sym due'
+
+  -- what comes of a link
+
+  module _ (text : Summary → List ℕ) (files : Files) (link : LinkTask) where
+    path_once : (directories : List (List ℕ)) → PathLinkComesTo text (Some files) link directories one
+        → PathLinkComesTo text (Some files) link directories other → one ≡ other
+    path_once directories (inl (result, comes, shows, is)) (inl (same, comes', shows', is')) =
+        is ∙ ap (link_outcome text link) (links_once files directories (request_of link) result same comes.0 comes'.0) ∙ sym is'
+    path_once directories (inr (listed, never, is)) later = absurd never
+    path_once directories first (inr (listed, never, is)) = absurd never
+
+    image_link_once : (b : List ℕ) → ImageLinkComesTo text link b one → ImageLinkComesTo text link b other → one ≡ other
+    image_link_once b (result, comes, shows, is) (same, comes', shows', is') =
+        is ∙ ap (link_outcome text link) (image_once b (request_of link) result same comes.0 comes'.0) ∙ sym is'
+
+    from_once : (given : Source) → LinkComesFrom text (Some files) link given one → LinkComesFrom text (Some files) link given other
+        → one ≡ other
+    from_once (source.Path directories) is same = path_once directories is same
+    from_once (source.Image path) is same = image_comes_once files path (ImageLinkComesTo text link) image_link_once is same
+
+gen_once : (files : Files) (gen : GenTask) (one other : Outcome) → GenComesTo (Some files) gen one → GenComesTo (Some files) gen other
+    → one ≡ other
+gen_once files gen one other (linked, comes, is) (linked', comes', is') =
+    is ∙ ap (behind (made_first gen)) (from_once linked linked' gen_text (written files (made_first gen)) (gen_link gen)
+    (gen_link gen).source comes comes') ∙ sym is'
+
+task_once : (files : Files) (text : List ℕ) (given : Task) (one other : Outcome) → TaskComesTo (Some files) (Some text) given one
+    → TaskComesTo (Some files) (Some text) given other → one ≡ other
+task_once files text (task.Link link) one other is same = from_once one other link_text files link link.source is same
+task_once files text (task.Image image work) one other is same =
+    image_comes_once one other files image (λ b. TextComesTo (Some text) (image_outcome work b))
+    (λ b due due'. text_once one other text (image_outcome work b) due due') is same
+task_once files text (task.Gen gen) one other is same = gen_once files gen one other is same
+task_once files text (task.Describe file release) one other is same =
+    file_once one other files file (λ b due. due ≡ describe_outcome release file b) (λ b due due'. due ∙ sym due') is same
+task_once files text task.Help one other is same = is ∙ sym same
+task_once files text task.Version one other is same = is ∙ sym same
+
+-- what is asked for, but for the number of jobs, the files and the rest of the input decide the outcome
+pub comes_once : (files : Files) (text : List ℕ) (asked same : Result Command WordsFault) (one other : Outcome) → AskTheSame asked same
+    → WordsComeTo (Some files) (Some text) asked one → WordsComeTo (Some files) (Some text) same other → one ≡ other
+comes_once files text (Ok command) (Ok second) one other same comes comes' =
+    task_once files text second.task one other (subst (λ (t : Task). TaskComesTo (Some files) (Some text) t one) same comes) comes'
+comes_once files text (Err fault) (Err second) one other same comes comes' = comes ∙ ap faulty same ∙ sym comes'
+comes_once files text (Ok command) (Err fault) one other same comes comes' = absurd same
+comes_once files text (Err fault) (Ok command) one other same comes comes' = absurd same
