@@ -107,6 +107,7 @@ impl<'a, R: Files + AllocGlobal> FileShelf<'a, R> {
     /// Opens the file of a path to be read in parts, unless it is open already. None is open then
     /// where no file is there.
     fn open(&mut self, alloc: Global, path: &[u8]) -> Result<(), ShelfError>
+        ensures whole { IsTrue (is_none self.new.made_last) }
         ensures handed { self.new.handed ≡ self.old.handed }
         ensures faults { CountsFaults self.old.faults self.new.faults (IsOk result)
             (IsErrOf result ShelfError.Failed) }

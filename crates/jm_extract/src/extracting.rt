@@ -1,9 +1,8 @@
 //! The taken entries as files below a directory.
 ghost use Rattle.std.specs.Prelude.{◌≡◌, ◌≤◌, ◌+◌, ◌∷◌, [], ℕ, List, All, IsUtf8, IsOk, IsTrue};
-ghost use Rattle.std.specs.Prelude.{OnOk, OnErr, IsErrOf, map, option_map};
+ghost use Rattle.std.specs.Prelude.{OnOk, IsErrOf, map, option_map};
 ghost use Rattle.jm_form.specs.Head.{IsFileOf};
 ghost use Rattle.jm_names.specs.NameFaults.{IsSound};
-ghost use Rattle.jm_outside.specs.Made.{MadeAll, MadePart};
 ghost use Rattle.jm_outside.specs.Outcome.{CountsFaults};
 ghost use Rattle.jm_reader.specs.Look.{SoundIn};
 ghost use Rattle.jm_reader.specs.Walk.{IsLater};
@@ -18,7 +17,7 @@ use crate::file_paths::path_of;
 use crate::refusals::refusal_of;
 use crate::taking::{TakenEntry, taken};
 use jm_bytes::{List, Meter, NoMemory, Text};
-use jm_outside::{Shelf, ShelfError};
+use jm_outside::{Shelf, ShelfError, make_file};
 use jm_pattern::Pattern;
 use jm_texts::Refusal;
 use std::alloc::Global;
@@ -63,27 +62,6 @@ pub struct Extraction<'w> {
     pub dir: &'w [u8],
     /// Patterns, of which one must match a name; None takes all resources.
     pub include: &'w Option<List<Pattern>>,
-}
-
-/// Makes the file of a path with these bytes, as `make_file` of jm_outside does: one `create` and
-/// one `append`, which take no byte of a file from the shelf.
-fn make_file<S: Shelf>(
-    alloc: Global,
-    shelf: &mut S,
-    path: &[u8],
-    bytes: &[u8],
-) -> Result<(), ShelfError>
-    requires text { IsUtf8 path.now }
-    ensures ok { OnOk result
-        (MadeAll ((path.now, bytes.now) ∷ []) (S.files shelf.old) (S.files shelf.new)) }
-    ensures err { OnErr result
-        (MadePart ((path.now, bytes.now) ∷ []) (S.files shelf.old) (S.files shelf.new)) }
-    ensures handed { S.handed shelf.new ≡ S.handed shelf.old }
-    ensures faults { CountsFaults (S.faults shelf.old) (S.faults shelf.new) (IsOk result)
-        (IsErrOf result ShelfError.Failed) }
-{
-    shelf.create(alloc, path)?;
-    shelf.append(alloc, path, bytes)
 }
 
 /// Where the files of an image's entries are made.

@@ -1,4 +1,4 @@
-ghost use Rattle.std.specs.Prelude.{◌∷◌, [], IsUtf8, IsOk, OnOk, OnErr, IsErrOf};
+ghost use Rattle.std.specs.Prelude.{◌≡◌, ◌∷◌, [], IsUtf8, IsOk, OnOk, OnErr, IsErrOf};
 ghost use Rattle.jm_outside.specs.Outcome.{CountsFaults};
 ghost use Rattle.jm_outside.specs.Made.{MadeAll, MadePart};
 
@@ -6,7 +6,7 @@ use crate::shelf::{Shelf, ShelfError};
 use std::alloc::Global;
 
 /// Makes the file of a path with these bytes, in place of what it had: one `create` and one
-/// `append`. Other files stay.
+/// `append`. Other files stay, and no byte of a file is handed out.
 ///
 /// After a refusal the file is as before, or it holds a front of the bytes.
 pub fn make_file<S: Shelf>(
@@ -20,6 +20,7 @@ pub fn make_file<S: Shelf>(
         (MadeAll ((path.now, bytes.now) ∷ []) (S.files shelf.old) (S.files shelf.new)) }
     ensures err { OnErr result
         (MadePart ((path.now, bytes.now) ∷ []) (S.files shelf.old) (S.files shelf.new)) }
+    ensures handed { S.handed shelf.new ≡ S.handed shelf.old }
     ensures faults { CountsFaults (S.faults shelf.old) (S.faults shelf.new) (IsOk result)
         (IsErrOf result ShelfError.Failed) }
 {
