@@ -1,6 +1,6 @@
 -- What a file says as the class of a module, from what the calls answered that read it.
-use Rattle.std.proofs.Common.{◌≡◌, ◌≤◌, ℕ, true, List, Some, Result, Ok, Err, refl, sym, ap, ◌∙◌}
-use Rattle.jm_bytes.proofs.Choice.{same_ok}
+use Rattle.std.proofs.Common.{◌≡◌, ◌≤◌, ℕ, Bool, true, false, cond, List, Option, Some, None, Result, Ok, Err, refl, sym, ap, ◌∙◌, subst}
+use Rattle.jm_bytes.proofs.Choice.{same_ok, same_some}
 use Rattle.jm_class.specs.declared.class.ClassFault.{ClassFault}
 use Rattle.jm_class.specs.Classes.{ClassData}
 use Rattle.jm_class.specs.ComputedClass.{fault_of}
@@ -11,11 +11,13 @@ use Rattle.jm_modinfo.specs.declared.faults.DescriptorFault.{DescriptorFault}
 use Rattle.jm_modinfo.specs.declared.faults.DescriptorFault.TheVariants as kind
 use Rattle.jm_modinfo.specs.declared.faults.InfoFault.{InfoFault}
 use Rattle.jm_modinfo.specs.ComputedInfo.{info_of}
-use Rattle.jm_modinfo.specs.Constants.{is_legal}
+use Rattle.jm_modinfo.specs.Constants.{named_at, is_legal}
 use Rattle.jm_modinfo.specs.Descriptions.{info_for, info_in, info_with}
-use Rattle.jm_modinfo.specs.Descriptors.{InfoOf, IsModuleBody}
+use Rattle.jm_modinfo.specs.Descriptors.{InfoOf}
+use Rattle.jm_modinfo.specs.declared.constants.Kind.TheVariants.{Module}
 use Rattle.jm_modinfo.specs.Faults.{info_fault}
 use Rattle.jm_modinfo.specs.Faults as info
+use Rattle.jm_modinfo.specs.ModuleLayout.{allowed}
 use Rattle.jm_modinfo.proofs.InfoLaws.{info-computed, info_fault-of}
 
 class_faulty : (r : Result ClassData ClassFault) (fault : ClassFault) → fault_of r ≡ Some fault → r ≡ Err fault
@@ -67,7 +69,13 @@ info_for-later release later rises bytes d is =
 
 -- the name of a module is legal
 pub legal_name : (c : ClassData) (d : Descriptor) → InfoOf c d → is_legal d.name ≡ true
-legal_name c d says = first says.says
+legal_name c d says = subst (λ name. is_legal name ≡ true) (sym (ap (λ (d : Descriptor). d.name) says.says.5.5.5.5.5.5.5.5.0))
+    (legal says.says.0 (named_at c.pool Module says.says.4.0) says.says.4.1)
   where
-    first : IsModuleBody c.pool d says.body → is_legal d.name ≡ true
-    first (front, rest, is, named, others) = named.0
+    legal : (name : List ℕ) (text : Option (List ℕ)) → allowed Module text ≡ Some name → is_legal name ≡ true
+    legal name None is = cc
+    legal name (Some text) is = go (is_legal text) refl is
+      where
+        go : (b : Bool) → is_legal text ≡ b → cond b (Some text) None ≡ Some name → is_legal name ≡ true
+        go true holds is = subst (λ t. is_legal t ≡ true) (same_some text name is) holds
+        go false fails is = cc
