@@ -143,28 +143,38 @@ module _ {Row : Type 0} {Held : Row → Type 0} {F : Type 0} (rows : Rows Row He
     abbrev start : Left
     start = record { place = 0; bytes = text }
 
-    pub whole-says : (a : A) → IsBytes text → whole rows layout text ≡ Ok a → Says rows layout a text
-    whole-says a bytes e = go (reading rows layout start) refl e
+    -- a whole text is read to its end
+    pub whole-read : (a : A) → whole rows layout text ≡ Ok a → (next : Left) × (reading rows layout start ≡ Ok (a, next))
+        × (next.bytes ≡ [])
+    whole-read a e = go (reading rows layout start) refl e
       where
-        last : (b : A) (next : Left) → Took layout start b next → (none : Bool) → nat_eq (length next.bytes) 0 ≡ none
-            → value_of {F = F} (cond none (Ok (b, next)) (Err (rows.rest next.place))) ≡ Ok a → Says rows layout a text
-        last b next took true none e =
+        last : (b : A) (next : Left) → reading rows layout start ≡ Ok (b, next) → (none : Bool) → nat_eq (length next.bytes) 0 ≡ none
+            → value_of {F = F} (cond none (Ok (b, next)) (Err (rows.rest next.place))) ≡ Ok a
+            → (next : Left) × (reading rows layout start ≡ Ok (a, next)) × (next.bytes ≡ [])
+        last b next is true none e =
             let same = same_ok {E = F} b a e in
-            let empty : next.bytes ≡ [] = nil_from_length next.bytes (eqb-true (length next.bytes) 0 none) in
-            let all : text ≡ took.front = took.bytes ∙ rw empty (append-nil took.front) in
-            subst (λ t. Says rows layout a t) (sym all) (subst (λ x. Says rows layout x took.front) same took.says)
-        last b next took false some e = cc
+            (next, is ∙ ap (λ b. Ok (b, next)) same, nil_from_length next.bytes (eqb-true (length next.bytes) 0 none))
+        last b next is false some e = cc
 
         go : (outcome : Outcome F A) → reading rows layout start ≡ outcome
             → value_of (continued outcome (λ a next. cond (nat_eq (length next.bytes) 0) (Ok (a, next)) (Err (rows.rest next.place)))) ≡ Ok a
-            → Says rows layout a text
-        go (Ok r) is e = last r.0 r.1 (reading-says layout start r.1 r.0 bytes is) (nat_eq (length r.1.bytes) 0) refl e
+            → (next : Left) × (reading rows layout start ≡ Ok (a, next)) × (next.bytes ≡ [])
+        go (Ok r) is e = last r.0 r.1 is (nat_eq (length r.1.bytes) 0) refl e
         go (Err fault) is e = cc
+
+    pub read-whole : (a : A) (next : Left) → reading rows layout start ≡ Ok (a, next) → next.bytes ≡ [] → whole rows layout text ≡ Ok a
+    read-whole a next is none = rw (is, none) refl
+
+    pub whole-says : (a : A) → IsBytes text → whole rows layout text ≡ Ok a → Says rows layout a text
+    whole-says a bytes e =
+        let read = whole-read a e in
+        let took = reading-says layout start read.0 a bytes read.1 in
+        subst (Says rows layout a) (sym (took.bytes ∙ ap (λ t. took.front ++ t) read.2 ∙ append-nil took.front)) took.says
 
     pub says-whole : (a : A) → Says rows layout a text → whole rows layout text ≡ Ok a
     says-whole a says =
         let read = says-reading layout 0 a text [] says in
-        rw (rw (append-nil text) at read.1) refl
+        read-whole a (record { place = read.0; bytes = [] }) (rw (append-nil text) at read.1) refl
 
     whole-agrees : Agrees (faults rows) (ended rows.rest (reading rows layout) start) (whole_fields rows layout text) (λ a after. [])
     whole-agrees = ended_agrees (faults rows) (reading rows layout) rows.rest None (whole_fields rows layout text) start (λ at bytes. refl)
@@ -193,3 +203,66 @@ module _ {Row : Type 0} {Held : Row → Type 0} {F : Type 0} (rows : Rows Row He
             → value_of outcome ≡ Ok a → HasNoFault rows layout text
         go (Ok r) agrees is = passed_good (faults rows) (whole_fields rows layout text) agrees
         go (Err found) agrees is = cc
+
+-- Other rows
+
+-- what is read by some rows is read by others that find as much
+module _ {Row : Type 0} {Held : Row → Type 0} {F : Type 0} (old new : Rows Row Held F) (same : new.short ≡ old.short)
+    (stays : (row : Row) (n : ℕ) (a : Held row) → old.found row n ≡ Some a → new.found row n ≡ Some a) where
+  pub reading-stays : {A : Type 0} (layout : Layout Held A) (left next : Left) (a : A) → reading old layout left ≡ Ok (a, next)
+      → reading new layout left ≡ Ok (a, next)
+  reading-stays (Value b) left next a e = e
+  reading-stays (Field row) left next a e =
+      let got = passed (number old.short w16 left) (λ n. found_or (old.refused row left.place n) (old.found row n)) a next e in
+      let is = got.is in
+      rw (same, is) (go got.first got.middle (old.found row got.first) refl got.rest)
+    where
+      go : (n : ℕ) (middle : Left) (found : Option (Held row)) → old.found row n ≡ found
+          → found_or (old.refused row left.place n) found middle ≡ Ok (a, next)
+          → found_or (new.refused row left.place n) (new.found row n) middle ≡ Ok (a, next)
+      go n middle (Some b) there e = let also = stays row n b there in rw also e
+      go n middle None there e = cc
+  reading-stays (Then first more) left next b e =
+      let got = passed (reading old first left) (λ a. reading old (more a)) b next e in
+      let one = reading-stays first left got.middle got.first got.is in
+      rw one (reading-stays (more got.first) got.middle next b got.rest)
+
+  pub whole-stays : {A : Type 0} (layout : Layout Held A) (text : List ℕ) (a : A) → whole old layout text ≡ Ok a
+      → whole new layout text ≡ Ok a
+  whole-stays layout text a e =
+      let read = whole-read old layout text a e in
+      read-whole new layout text a read.0 (reading-stays layout _ read.0 a read.1) read.2
+
+-- What each value has that is read
+
+module _ {Row : Type 0} {Held : Row → Type 0} {F : Type 0} (rows : Rows Row Held F) where
+  -- each value that a layout can give has this
+  abbrev pub Gives : {A : Type 0} → (A → Type 0) → Layout Held A → Type 0
+  Gives P (Value a) = P a
+  Gives P (Field row) = (n : ℕ) (a : Held row) → rows.found row n ≡ Some a → P a
+  Gives P (Then first next) = Gives (λ a. Gives P (next a)) first
+
+  pub gives_any : {A : Type 0} (P : A → Type 0) → ((a : A) → P a) → (layout : Layout Held A) → Gives P layout
+  gives_any P all (Value a) = all a
+  gives_any P all (Field row) = λ n a is. all a
+  gives_any P all (Then first next) = gives_any _ (λ a. gives_any P all (next a)) first
+
+  pub reading-gives : {A : Type 0} (P : A → Type 0) (layout : Layout Held A) (left next : Left) (a : A) → Gives P layout
+      → reading rows layout left ≡ Ok (a, next) → P a
+  reading-gives P (Value b) left next a gives e = subst P (same_value {F = F} b a left next e) gives
+  reading-gives P (Field row) left next a gives e =
+      let got = passed (number rows.short w16 left) (λ n. found_or (rows.refused row left.place n) (rows.found row n)) a next e in
+      go got.first got.middle (rows.found row got.first) refl got.rest
+    where
+      go : (n : ℕ) (middle : Left) (found : Option (Held row)) → rows.found row n ≡ found
+          → found_or (rows.refused row left.place n) found middle ≡ Ok (a, next) → P a
+      go n middle (Some b) there e = subst P (same_value {F = F} b a middle next e) (gives n b there)
+      go n middle None there e = cc
+  reading-gives P (Then first more) left next b gives e =
+      let got = passed (reading rows first left) (λ a. reading rows (more a)) b next e in
+      reading-gives P (more got.first) got.middle next b
+      (reading-gives (λ a. Gives P (more a)) first left got.middle got.first gives got.is) got.rest
+
+  pub whole-gives : {A : Type 0} (P : A → Type 0) (layout : Layout Held A) (text : List ℕ) (a : A) → Gives P layout
+      → whole rows layout text ≡ Ok a → P a
+  whole-gives P layout text a gives e = let read = whole-read rows layout text a e in reading-gives P layout _ read.0 a gives read.1
