@@ -1,4 +1,5 @@
--- The descriptor of a class, or its first fault (this project's rule): the computed form of `InfoOf`.
+-- The descriptor of a class, or its first fault (this project's rule): the computed form of
+-- `InfoOf`.
 use Rattle.std.specs.Prelude.{ℕ, nat_lt, List, [], ◌∷◌, Option, Some, None, option_and_then, Result}
 use Rattle.std.specs.Prelude.{Ok, Err, if◌then◌else◌, not}
 use Rattle.jm_class.specs.Classes.{SlotData, ClassData}

@@ -59,57 +59,70 @@ abbrev pub followed : {Row A : Type 0} → Option A → (A → Format Row) → F
 followed (Some a) next = next a
 followed None next = Done
 
-module _ {Row : Type 0} {Held : Row → Type 0} {F : Type 0} (rows : Rows Row Held F) where
-  -- the rule: the bytes are laid out so, and say this
-  abbrev pub Says : {A : Type 0} → Layout Held A → A → List ℕ → Type 0
-  Says (Value a) b bytes = (b ≡ a) × (bytes ≡ [])
-  Says (Field row) a bytes =
-      (n : ℕ) × (rows.found row n ≡ Some a) × (n < 2 ^ 16) × (bytes ≡ u2 n)
-  Says (Then {A} first next) b bytes =
-      (a : A) × (front : List ℕ) × (behind : List ℕ) × (bytes ≡ front ++ behind)
-      × Says first a front × Says (next a) b behind
+-- What follows from a layout
 
-  -- the reading of a layout
-  abbrev pub reading : {A : Type 0} → Layout Held A → Reading F A
-  reading (Value a) left = value a left
-  reading (Field row) left =
-      continued (number rows.short w16 left)
-      (λ n. found_or (rows.refused row left.place n) (rows.found row n))
-  reading (Then first next) left = and_then (reading first) (λ a. reading (next a)) left
+-- the rule: the bytes are laid out so, and say this
+abbrev pub Says : {Row : Type 0} {Held : Row → Type 0} {F A : Type 0} → Rows Row Held F
+    → Layout Held A → A → List ℕ → Type 0
+Says rows (Value a) b bytes = (b ≡ a) × (bytes ≡ [])
+Says rows (Field row) a bytes =
+    (n : ℕ) × (rows.found row n ≡ Some a) × (n < 2 ^ 16) × (bytes ≡ u2 n)
+Says rows (Then {A} first next) b bytes =
+    (a : A) × (front : List ℕ) × (behind : List ℕ) × (bytes ≡ front ++ behind)
+    × Says rows first a front × Says rows (next a) b behind
 
-  -- what a whole text says by a layout, or its first fault
-  abbrev pub whole : {A : Type 0} → Layout Held A → List ℕ → Result A F
-  whole layout bytes =
-      value_of (ended rows.rest (reading layout) (record { place = 0; bytes = bytes }))
+-- the reading of a layout
+abbrev pub reading : {Row : Type 0} {Held : Row → Type 0} {F A : Type 0} → Rows Row Held F
+    → Layout Held A → Reading F A
+reading rows (Value a) left = value a left
+reading rows (Field row) left =
+    continued (number rows.short w16 left)
+    (λ n. found_or (rows.refused row left.place n) (rows.found row n))
+reading rows (Then first next) left =
+    and_then (reading rows first) (λ a. reading rows (next a)) left
 
-  -- the fields of a layout, and what follows by its value; the end of a text has no row
-  abbrev pub fields_then : {A : Type 0} → Layout Held A → (A → Format (Option Row))
-      → Format (Option Row)
-  fields_then (Value a) next = next a
-  fields_then (Field row) next =
-      format.Field (Some row) 2
-      (λ at bytes. followed (rows.found row (from_be_bytes w16 bytes)) next)
-  fields_then (Then first more) next = fields_then first (λ a. fields_then (more a) next)
+-- what a whole text says by a layout, or its first fault
+abbrev pub whole : {Row : Type 0} {Held : Row → Type 0} {F A : Type 0} → Rows Row Held F
+    → Layout Held A → List ℕ → Result A F
+whole rows layout bytes =
+    value_of (ended rows.rest (reading rows layout) (record { place = 0; bytes = bytes }))
 
-  -- the fault of a field that fits, by its bytes, or none
-  abbrev pub refused_field : Option Row → ℕ → List ℕ → Option F
-  refused_field (Some row) at bytes =
-      unless_found (rows.found row (from_be_bytes w16 bytes))
-      (rows.refused row at (from_be_bytes w16 bytes))
-  refused_field None at bytes = fault_if (not (length bytes == 0)) (rows.rest at)
+-- the fields of a layout, and what follows by its value; the end of a text has no row
+abbrev pub fields_then : {Row : Type 0} {Held : Row → Type 0} {F A : Type 0} → Rows Row Held F
+    → Layout Held A → (A → Format (Option Row)) → Format (Option Row)
+fields_then rows (Value a) next = next a
+fields_then rows (Field row) next =
+    format.Field (Some row) 2
+    (λ at bytes. followed (rows.found row (from_be_bytes w16 bytes)) next)
+fields_then rows (Then first more) next =
+    fields_then rows first (λ a. fields_then rows (more a) next)
 
-  -- the rows as a table of faults
-  abbrev pub faults : Table (Option Row) F
-  faults = record { missing = λ row at. rows.short at; refused = refused_field }
+-- the fields of a whole text from left to right
+abbrev pub whole_fields : {Row : Type 0} {Held : Row → Type 0} {F A : Type 0} → Rows Row Held F
+    → Layout Held A → List ℕ → List (FieldSeen (Option Row))
+whole_fields rows layout bytes =
+    fields_of (fields_then rows layout (λ a. Remaining None)) 0 bytes
 
-  -- the fields of a whole text from left to right
-  abbrev pub whole_fields : {A : Type 0} → Layout Held A → List ℕ → List (FieldSeen (Option Row))
-  whole_fields layout bytes = fields_of (fields_then layout (λ a. Remaining None)) 0 bytes
+-- the fault of a field at a place that fits, by its bytes, or none
+abbrev pub refused_field : {Row : Type 0} {Held : Row → Type 0} {F : Type 0} → Rows Row Held F
+    → Option Row → ℕ → List ℕ → Option F
+refused_field rows (Some row) at bytes =
+    unless_found (rows.found row (from_be_bytes w16 bytes))
+    (rows.refused row at (from_be_bytes w16 bytes))
+refused_field rows None at bytes = fault_if (not (length bytes == 0)) (rows.rest at)
 
-  -- the rule: the first field of a whole text that doesn't fit or isn't allowed has this fault
-  abbrev pub HasFault : {A : Type 0} → Layout Held A → List ℕ → F → Type 0
-  HasFault layout bytes fault = HasFirstFault faults (whole_fields layout bytes) fault
+-- the rows as a table of the faults of fields
+abbrev pub faults : {Row : Type 0} {Held : Row → Type 0} {F : Type 0} → Rows Row Held F
+    → Table (Option Row) F
+faults rows = record { missing = λ row at. rows.short at; refused = refused_field rows }
 
-  -- no fault: each field of a whole text fits and is allowed
-  abbrev pub HasNoFault : {A : Type 0} → Layout Held A → List ℕ → Type 0
-  HasNoFault layout bytes = AreGood faults (whole_fields layout bytes)
+-- the rule: the first field of a whole text that doesn't fit or isn't allowed has this fault
+abbrev pub HasFault : {Row : Type 0} {Held : Row → Type 0} {F A : Type 0} → Rows Row Held F
+    → Layout Held A → List ℕ → F → Type 0
+HasFault rows layout bytes fault =
+    HasFirstFault (faults rows) (whole_fields rows layout bytes) fault
+
+-- no fault: each field of a whole text fits and is allowed
+abbrev pub HasNoFault : {Row : Type 0} {Held : Row → Type 0} {F A : Type 0} → Rows Row Held F
+    → Layout Held A → List ℕ → Type 0
+HasNoFault rows layout bytes = AreGood (faults rows) (whole_fields rows layout bytes)

@@ -1,4 +1,4 @@
--- The body of the Module attribute (JVMS 4.7.25), field by field, with the table of its faults (this
+-- The body of the Module attribute (JVMS 4.7.25), field by field, with the faults of its rows (this
 -- project's rule). Places are in bytes from the front of the body.
 use Rattle.std.specs.Prelude.{ℕ, List, Option, Some, None, is_some, if◌then◌else◌}
 use Rattle.jm_class.specs.Classes.{SlotData}
@@ -47,7 +47,12 @@ refused pool _ at n = Index at
 -- the rows by a pool
 abbrev pub info_rows : List SlotData → Rows InfoRow Held InfoFault
 info_rows pool =
-    record { found = found pool; short = λ at. Short at; refused = refused pool; rest = λ at. Rest at }
+    record {
+      found = found pool;
+      short = λ at. Short at;
+      refused = refused pool;
+      rest = λ at. Rest at;
+    }
 
 -- the reading of a layout by a pool
 abbrev pub read_by : {A : Type 0} → List SlotData → Layout Held A → Reading InfoFault A
