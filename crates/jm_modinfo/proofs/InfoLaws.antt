@@ -1,14 +1,14 @@
 -- The descriptor that `info_of` computes is the one that `InfoOf` rules, and its fault is the first
 -- one of the checks.
 use Rattle.std.proofs.Common.{◌≡◌, ◌≢◌, ℕ, ◌^◌, ◌<◌, ◌≤◌, Bool, true, false, List, [], ◌∷◌, Option, Some}
-use Rattle.std.proofs.Common.{None, Result, Ok, Err, refl, sym, ap, ◌∙◌}
+use Rattle.std.proofs.Common.{None, Result, Ok, Err, refl, sym, ap, ◌∙◌, subst}
 use Rattle.std.proofs.lemmas.Bool.{ne_eqb, le-ltb}
 use Rattle.std.proofs.lemmas.Nat.{from_be_bytes-to_be_bytes_2}
 use Rattle.std.specs.Prelude.{not, is_some, bit_and, nat_lt, option_and_then, if◌then◌else◌, IfOk, OnOk, IfNone}
 use Rattle.jm_bytes.proofs.Choice.{same_ok}
 use Rattle.jm_bytes.specs.Checks.{fault_if, first_fault}
 use Rattle.jm_class.specs.Classes.{SlotData, ClassData, u2}
-use Rattle.jm_modinfo.proofs.FieldTells.{said-body}
+use Rattle.jm_modinfo.proofs.LayoutLaws.{says-whole}
 use Rattle.jm_modinfo.specs.ComputedInfo.{body_info, only_body, main_named, main_of, with_body, info_of}
 use Rattle.jm_modinfo.specs.Constants.{number_in, named_at}
 use Rattle.jm_modinfo.specs.declared.constants.Kind.TheVariants.{Class}
@@ -20,6 +20,8 @@ use Rattle.jm_bytes.specs.declared.faults.Or.TheVariants.{Fault, Memory}
 use Rattle.jm_modinfo.specs.Descriptors.{IsIndex, IsModuleBody, IsMain, module_bodies, main_bodies, InfoOf}
 use Rattle.jm_modinfo.specs.Faults.{fault_of, body_fault, info_fault}
 use Rattle.jm_modinfo.specs.Flags.{is_module}
+use Rattle.jm_modinfo.specs.Layouts.{Says}
+use Rattle.jm_modinfo.specs.ModuleLayout.{info_rows, module_layout}
 use Rattle.jm_modinfo.specs.Views.{Answers}
 
 -- The first fault
@@ -45,6 +47,13 @@ pub info_fault-of : (c : ClassData) → info_fault c ≡ fault_of (info_of c)
 info_fault-of c = checks-of c.pool (is_module c.access) (nat_lt c.major 53) c.major (module_bodies c) (main_of c.pool (main_bodies c))
 
 -- From the parts to the rule
+
+-- the body says no main class
+pub without_main : (pool : List SlotData) (body : List ℕ) (d : Descriptor) → Says (info_rows pool) module_layout d body
+    → IsModuleBody pool d body
+without_main pool body d says =
+    let none : d.main ≡ None = ap (λ (d : Descriptor). d.main) says.5.5.5.5.5.5.5.5.0 in
+    subst (λ m. Says (info_rows pool) module_layout (record d { main = m }) body) none says
 
 pub flagged : (access : ℕ) → bit_and access 0x8000 ≢ 0 → is_module access ≡ true
 flagged access some = ap not (ne_eqb (bit_and access 0x8000) 0 some)
@@ -103,7 +112,7 @@ with_parts c d body access major only info main = rw (access, major, only, info,
 pub info-computed : (c : ClassData) (d : Descriptor) → InfoOf c d → info_of c ≡ Ok d
 info-computed c d info =
     with_parts c d info.body info.access (le-ltb c.major 53 info.major) info.only
-    (said-body c.pool info.body (record d { main = None }) refl info.says)
+    (says-whole (info_rows c.pool) module_layout info.body (record d { main = None }) info.says)
     (said-main c.pool (main_bodies c) d.main info.main)
 
 -- What the code answered
