@@ -26,7 +26,8 @@ use Rattle.jm_modinfo.specs.Constants.{is_legal}
 use Rattle.jm_modinfo.specs.Descriptors.{bodies, bytes_named, is_named, main_bodies, module_bodies, plain_bytes}
 use Rattle.jm_modinfo.specs.Flags.{is_module}
 use Rattle.jm_modinfo.specs.Descriptions.{info_for, info_with}
-use Rattle.jm_modinfo.proofs.DescriptionLaws.{body_legal, class_from}
+use Rattle.jm_modinfo.proofs.DescriptionLaws.{class_from}
+use Rattle.jm_modinfo.proofs.InfoLaws.{body_gives}
 use Rattle.jm_packages.specs.Packages.{packaged, packages_text}
 use Rattle.jm_packages.proofs.PackagedLaws.{packaged-class, packaged-info, packaged-major}
 use Rattle.jm_plugins.specs.ComputedPlugins.{stripped_text}
@@ -270,4 +271,4 @@ said_legal release bytes d says =
     let only = body_of c.pool (module_bodies c) main d (said_body c d says.info) in
     let whole : with_info (body_info c.pool only.0) main ≡ Ok d = ap (λ bs. with_body c.pool (only_body bs) main) (sym only.1)
     ∙ said_body c d says.info in
-    name_from (body_info c.pool only.0) main d whole (λ e is. body_legal c.pool only.0 e is)
+    name_from (body_info c.pool only.0) main d whole (λ e is. (body_gives c.pool only.0 e is).1)

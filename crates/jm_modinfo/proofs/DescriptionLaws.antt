@@ -1,8 +1,8 @@
 -- What a file says as the class of a module, from what the calls answered that read it.
-use Rattle.std.proofs.Common.{◌≡◌, ◌≤◌, ℕ, Bool, true, false, cond, List, Option, Some, None, Result, Ok, Err, refl, sym, ap, ◌∙◌, subst}
-use Rattle.jm_bytes.proofs.Choice.{same_ok, same_some}
+use Rattle.std.proofs.Common.{◌≡◌, ◌≤◌, ℕ, true, List, Some, None, Result, Ok, Err, refl, sym, ap, ◌∙◌}
+use Rattle.jm_bytes.proofs.Choice.{same_ok}
 use Rattle.jm_class.specs.declared.class.ClassFault.{ClassFault}
-use Rattle.jm_class.specs.Classes.{SlotData, ClassData}
+use Rattle.jm_class.specs.Classes.{ClassData}
 use Rattle.jm_class.specs.ComputedClass.{fault_of}
 use Rattle.jm_class.specs.Releases.{ReadsFor, class_for, fault_for}
 use Rattle.jm_class.proofs.ReleaseLaws.{reads-class_for, class_for-class_of, class_for-later}
@@ -10,18 +10,15 @@ use Rattle.jm_modinfo.specs.declared.descriptor.Descriptor.{Descriptor}
 use Rattle.jm_modinfo.specs.declared.faults.DescriptorFault.{DescriptorFault}
 use Rattle.jm_modinfo.specs.declared.faults.DescriptorFault.TheVariants as kind
 use Rattle.jm_modinfo.specs.declared.faults.InfoFault.{InfoFault}
-use Rattle.jm_modinfo.specs.ComputedInfo.{body_info, info_of}
-use Rattle.jm_modinfo.specs.Constants.{named_at, is_legal}
+use Rattle.jm_modinfo.specs.ComputedInfo.{info_of}
+use Rattle.jm_modinfo.specs.Constants.{is_legal}
 use Rattle.jm_modinfo.specs.Descriptions.{info_for, info_in, info_with}
 use Rattle.jm_modinfo.specs.Descriptors.{InfoOf}
-use Rattle.jm_modinfo.specs.declared.constants.Kind.TheVariants.{Class, Module}
 use Rattle.jm_modinfo.specs.Faults.{info_fault}
 use Rattle.jm_modinfo.specs.Faults as info
-use Rattle.jm_modinfo.specs.Layouts.{Layout, Rows, listed}
-use Rattle.jm_modinfo.specs.ModuleLayout as layout
-use Rattle.jm_modinfo.specs.ModuleLayout.{allowed}
-use Rattle.jm_modinfo.proofs.LayoutLaws.{Gives, gives_any, says-whole, whole-gives}
-use Rattle.jm_modinfo.proofs.InfoLaws.{info-computed, info_fault-of}
+use Rattle.jm_modinfo.specs.ModuleLayout.{info_rows, module_layout}
+use Rattle.jm_modinfo.proofs.LayoutLaws.{says-whole}
+use Rattle.jm_modinfo.proofs.InfoLaws.{body_gives, info-computed, info_fault-of}
 
 class_faulty : (r : Result ClassData ClassFault) (fault : ClassFault) → fault_of r ≡ Some fault → r ≡ Err fault
 class_faulty (Ok c) fault is = cc
@@ -70,30 +67,7 @@ info_for-later release later rises bytes d is =
     let one = class_from (class_for release bytes) d is in
     ap info_with (class_for-later release later rises bytes one.0 one.1) ∙ ap of_class one.2
 
--- The name of a module is legal
-
-found_legal : (name : List ℕ) (text : Option (List ℕ)) → allowed Module text ≡ Some name → is_legal name ≡ true
-found_legal name None is = cc
-found_legal name (Some text) is = go (is_legal text) refl is
-  where
-    go : (b : Bool) → is_legal text ≡ b → cond b (Some text) None ≡ Some name → is_legal name ≡ true
-    go true holds is = subst (λ t. is_legal t ≡ true) (same_some text name is) holds
-    go false fails is = cc
-
-pub body_legal : (pool : List SlotData) (body : List ℕ) (d : Descriptor) → body_info pool body ≡ Ok d → is_legal d.name ≡ true
-body_legal pool body d is =
-    whole-gives rows (λ d. is_legal d.name ≡ true) layout.module_layout body d (λ n name found.
-    any layout.number (λ flags. any layout.version (λ version. any (listed layout.number layout.need) (λ needs.
-    any (listed layout.number layout.opened) (λ exports. any (listed layout.number layout.opened) (λ opens.
-    any (layout.names Class) (λ uses. any (listed layout.number layout.provides) (λ provides.
-    found_legal name (named_at pool Module n) found)))))))) is
-  where
-    rows : Rows layout.InfoRow layout.Held InfoFault
-    rows = layout.info_rows pool
-
-    any : {A : Type 0} {P : A → Type 0} (field : Layout layout.Held A) → ((a : A) → P a) → Gives rows P field
-    any {A} {P} field all = gives_any rows P all field
-
+-- the name of a module is legal
 pub legal_name : (c : ClassData) (d : Descriptor) → InfoOf c d → is_legal d.name ≡ true
-legal_name c d info = body_legal c.pool info.body (record d { main = None })
-    (says-whole (layout.info_rows c.pool) layout.module_layout info.body (record d { main = None }) info.says)
+legal_name c d info = (body_gives c.pool info.body (record d { main = None })
+    (says-whole (info_rows c.pool) module_layout info.body (record d { main = None }) info.says)).1

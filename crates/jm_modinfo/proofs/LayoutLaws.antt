@@ -16,7 +16,7 @@ use Rattle.jm_class.proofs.ReadingLaws.{IsBytes, bytes_behind, passed, ReadBack,
 use Rattle.jm_class.specs.Classes.{u2}
 use Rattle.jm_class.specs.Formats.{Format, Remaining, seen, IsGood}
 use Rattle.jm_class.specs.Readings.{Left, behind, Outcome, value, continued, number, counted, ended}
-use Rattle.jm_modinfo.specs.Layouts.{Layout, Value, Field, Then, times, listed, Rows, found_or, value_of, followed, Says, reading, whole}
+use Rattle.jm_modinfo.specs.Layouts.{Layout, Value, Field, Then, times, listed, Rows, found_or, value_of, if_found, Says, reading, whole}
 use Rattle.jm_modinfo.specs.Layouts.{fields_then, faults, whole_fields, HasFault, HasNoFault}
 
 module _ {Row : Type 0} {Held : Row → Type 0} {F : Type 0} (rows : Rows Row Held F) where
@@ -100,7 +100,7 @@ module _ {Row : Type 0} {Held : Row → Type 0} {F : Type 0} (rows : Rows Row He
 
       go : 2 ≤ length left.bytes → (found : Option (Held row)) → rows.found row n ≡ found
           → Agrees (faults rows) (found_or fault found (behind 2 left))
-          (seen (Some row) 2 left.place left.bytes ∷ told (followed found next) (behind 2 left)) (λ a after. told (next a) after)
+          (seen (Some row) 2 left.place left.bytes ∷ told (if_found found next) (behind 2 left)) (λ a after. told (next a) after)
       go fits (Some a) is = record {
         taken = seen (Some row) 2 left.place left.bytes ∷ [];
         good = All-cons (IsGood (faults rows)) (seen (Some row) 2 left.place left.bytes) [] ((omega (arith, fits)), rw is refl)

@@ -55,9 +55,9 @@ unless_found (Some a) fault = None
 unless_found None fault = Some fault
 
 -- what follows by what was found; nothing where nothing was
-abbrev pub followed : {Row A : Type 0} → Option A → (A → Format Row) → Format Row
-followed (Some a) next = next a
-followed None next = Done
+abbrev pub if_found : {Row A : Type 0} → Option A → (A → Format Row) → Format Row
+if_found (Some a) next = next a
+if_found None next = Done
 
 -- What follows from a layout
 
@@ -93,7 +93,7 @@ abbrev pub fields_then : {Row : Type 0} {Held : Row → Type 0} {F A : Type 0} �
 fields_then rows (Value a) next = next a
 fields_then rows (Field row) next =
     format.Field (Some row) 2
-    (λ at bytes. followed (rows.found row (from_be_bytes w16 bytes)) next)
+    (λ at bytes. if_found (rows.found row (from_be_bytes w16 bytes)) next)
 fields_then rows (Then first more) next =
     fields_then rows first (λ a. fields_then rows (more a) next)
 

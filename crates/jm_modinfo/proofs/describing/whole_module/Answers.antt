@@ -35,6 +35,6 @@ returns-clause-info c =
 
 pub returns-clause-says : goal.returns-clause-says
 returns-clause-says c =
-    without_main (pool_of c.args.class.now.pool) c.args.body.now c.in_ok-descriptor.descriptor
+    without_main (pool_of c.args.class.now.pool) c.args.body.now c.in_ok-descriptor.descriptor (returns-clause-info c)
     (whole-says (info_rows (pool_of c.args.class.now.pool)) module_layout c.args.body.now c.in_ok-descriptor.descriptor
     (bytes_all c.args.body.now (λ i. (c.type_inv.body i).fits)) (returns-clause-info c))
