@@ -34,7 +34,8 @@ enum {
 };
 struct jm_verdict { uint32_t kind, first, second; };
 
-/* Promises: JM_VALID only for a valid image; a damage only where it is the first one.
+/* Promises: JM_VALID only for a valid image; a damage only where it is the first one; each of first
+ * and second that the kind above doesn't name is 0.
  * Asks: malloc, realloc and free of one allocator, aligned to 16; not to be called in a signal
  * handler, nor in the forked child of a process with threads. */
 struct jm_verdict jm_image_check(const uint8_t *bytes, size_t length);
@@ -43,9 +44,10 @@ struct jm_verdict jm_image_check(const uint8_t *bytes, size_t length);
 struct jm_content { uint64_t place, size; bool found; };
 
 /* Promises: found exactly where an entry has the name, such as /java.base/java/lang/Object.class,
- * and then its content are the size bytes from place on; else place and size are 0. The look-up
- * behind it takes at most 2 hashes and reads at most as many bytes as the name has and 76 more.
- * Asks: VALID. */
+ * and then its content are the size bytes from place on; else place and size are 0.
+ * Asks: VALID.
+ * What the call costs is no promise of its own. It makes one call of find_row (jm_reader), which is
+ * proved to take at most 2 hashes and to read at most as many bytes as the name has and 76 more. */
 struct jm_content jm_image_find(const uint8_t *bytes, size_t length,
                                 const uint8_t *name, size_t name_length);
 

@@ -1,6 +1,6 @@
 -- The numbers in which the exports tell what the libraries below them answer.
-use Rattle.std.specs.Prelude.{ℕ, ◌+◌, nat_lt, List, [], ◌∷◌, ◌++◌, length, take, drop}
-use Rattle.std.specs.Prelude.{Option, Some, None}
+use Rattle.std.specs.Prelude.{ℕ, ◌+◌, ◌==◌, ◌≡◌, nat_lt, List, [], ◌∷◌, ◌++◌, length, take, drop}
+use Rattle.std.specs.Prelude.{Bool, ◌&&◌, ◌||◌, Option, Some, None}
 use Rattle.std.specs.Prelude.{Result, Ok, Err, if◌then◌else◌, true, false}
 use Rattle.jm_form.specs.declared.container.Header.{Header}
 use Rattle.jm_form.specs.declared.container.HeaderFault.{HeaderFault}
@@ -45,6 +45,19 @@ damage_verdict (damage.Text slot kind) = verdict_of 8 slot kind
 damage_verdict (damage.Range slot) = verdict_of 9 slot 0
 damage_verdict (damage.Count stated found) = verdict_of 10 stated found
 damage_verdict (damage.Overlap first second) = verdict_of 11 first second
+
+-- a verdict of this kind has a first number: a version, a slot or a count
+abbrev pub has_first : ℕ → Bool
+has_first kind = kind == 3 || (nat_lt 4 kind && nat_lt kind 12)
+
+-- a verdict of this kind has a second number: a text of a slot, a count or a slot
+abbrev pub has_second : ℕ → Bool
+has_second kind = kind == 8 || (kind == 10 || kind == 11)
+
+-- the numbers that its kind doesn't have are 0
+pub record HasOnlyItsNumbers (verdict : Verdict) : Type 0 where
+  pub first : has_first verdict.kind ≡ false → verdict.first ≡ 0
+  pub second : has_second verdict.kind ≡ false → verdict.second ≡ 0
 
 -- Contents
 

@@ -11,8 +11,9 @@ ghost use Rattle.jm_form.specs.Damages.{first_damage};
 ghost use Rattle.jm_form.specs.Validity.{look, Valid};
 ghost use Rattle.jm_reader.specs.Walk.{entries_of};
 ghost use Rattle.jm_jrt.specs.Stat as trees;
-ghost use Rattle.jm_image_c.specs.Told.{content_told, damage_verdict, entry_told, owner_name};
-ghost use Rattle.jm_image_c.specs.Told.{owner_told, put_front, slots_of, standing_told};
+ghost use Rattle.jm_image_c.specs.Told.{HasOnlyItsNumbers, content_told, damage_verdict};
+ghost use Rattle.jm_image_c.specs.Told.{entry_told, owner_name, owner_told, put_front, slots_of};
+ghost use Rattle.jm_image_c.specs.Told.{standing_told};
 
 mod content;
 mod entry;
@@ -37,6 +38,7 @@ pub extern "C" fn jm_image_check(alloc: Global, bytes: &[u8]) -> Verdict
     ensures valid { result.kind ≡ 0 → Valid bytes.now }
     ensures damaged { result.kind ≢ 0 → result.kind ≢ 12
         → option_map damage_verdict (first_damage bytes.now) ≡ Some result }
+    ensures numbers { HasOnlyItsNumbers result }
 {
     match open_alone(alloc, bytes) {
         Ok(_) => verdict(0, 0, 0),
@@ -46,7 +48,7 @@ pub extern "C" fn jm_image_check(alloc: Global, bytes: &[u8]) -> Verdict
 }
 
 /// Where the content of the entry of a name stands; nowhere exactly where no entry has the name.
-/// What the look-up costs is said by the clauses of `content_named`.
+/// It makes its counters itself, so what it costs is said by the clauses of `content_named`.
 #[unsafe(no_mangle)]
 pub extern "C" fn jm_image_find(bytes: &[u8], name: &[u8]) -> Content
     requires { Valid bytes.now }

@@ -2,8 +2,8 @@
 -- of its packages is added, and such a class isn't compacted. So what plug-ins make of a class of a
 -- release is one of that release, and of each later one.
 use Rattle.std.proofs.Common.{◌≡◌, ◌≤◌, ℕ, inl, inr, Bool, true, false, cond, List, [], ◌∷◌, Contains, Option}
-use Rattle.std.proofs.Common.{Some, None, Result, Ok, Err, refl, sym, ap, subst, ◌∙◌, filter, codes, length}
-use Rattle.std.proofs.Common.{map, nat_eq, not}
+use Rattle.std.proofs.Common.{Some, None, Result, Ok, Err, refl, sym, ap, subst, ◌∙◌, filter, codes}
+use Rattle.std.proofs.Common.{map, not}
 use Rattle.std.proofs.lemmas.Bool.{false≢true}
 use Rattle.std.proofs.lemmas.Slice.Eq.{bytes_eq-Decides}
 use Rattle.std.specs.List.{cons_option, filter_map}
@@ -20,17 +20,14 @@ use Rattle.jm_modinfo.specs.declared.descriptor.Descriptor.{Descriptor}
 use Rattle.jm_modinfo.specs.declared.faults.DescriptorFault.{DescriptorFault}
 use Rattle.jm_modinfo.specs.declared.faults.DescriptorFault.TheVariants as kind
 use Rattle.jm_modinfo.specs.declared.faults.InfoFault.{InfoFault}
-use Rattle.jm_modinfo.specs.declared.faults.InfoFault.TheVariants.{Name, NotModule, OldVersion, Rest, Short}
-use Rattle.jm_modinfo.specs.ComputedInfo.{body_info, index_field, info_of, main_of, module_field, named_field}
-use Rattle.jm_modinfo.specs.ComputedInfo.{names_field, need_field, only_body, opened_field, provides_field}
-use Rattle.jm_modinfo.specs.ComputedInfo.{short_number, value_of, version_field, with_body, with_info}
-use Rattle.jm_modinfo.specs.Constants.{is_legal, named_at}
-use Rattle.jm_modinfo.specs.declared.constants.Kind.TheVariants as kind_of
-use Rattle.jm_class.specs.Readings.{Left, Outcome, Reading, and_then, continued, ended, list_of, value}
+use Rattle.jm_modinfo.specs.declared.faults.InfoFault.TheVariants.{NotModule, OldVersion}
+use Rattle.jm_modinfo.specs.ComputedInfo.{body_info, info_of, main_of, only_body, with_body, with_info}
+use Rattle.jm_modinfo.specs.Constants.{is_legal}
 use Rattle.jm_modinfo.specs.Descriptors.{bodies, bytes_named, is_named, main_bodies, module_bodies, plain_bytes}
 use Rattle.jm_modinfo.specs.Flags.{is_module}
 use Rattle.jm_modinfo.specs.Descriptions.{info_for, info_with}
 use Rattle.jm_modinfo.proofs.DescriptionLaws.{class_from}
+use Rattle.jm_modinfo.proofs.InfoLaws.{body_gives}
 use Rattle.jm_packages.specs.Packages.{packaged, packages_text}
 use Rattle.jm_packages.proofs.PackagedLaws.{packaged-class, packaged-info, packaged-major}
 use Rattle.jm_plugins.specs.ComputedPlugins.{stripped_text}
@@ -258,71 +255,8 @@ says_info release content d says = ap info_with (reads-class_for release content
 
 -- The name that is said is legal
 
-continued_ok : {F A B : Type 0} (o : Outcome F A) (next : A → Reading F B) (r : B × Left) → continued o next ≡ Ok r → (a : A × Left)
-    × (o ≡ Ok a) × (next a.0 a.1 ≡ Ok r)
-continued_ok (Ok a) next r is = (a, refl, is)
-continued_ok (Err fault) next r is = cc
-
--- what a reading gives has a property
-record Gives {F A : Type 0} (P : A → Type 0) (reading : Reading F A) : Type 0 where
-  gives : (left : Left) (r : A × Left) → reading left ≡ Ok r → P r.0
-
-gives_then : {F A B : Type 0} (Q : A → Type 0) (P : B → Type 0) (first : Reading F A) (next : A → Reading F B) → Gives Q first
-    → ((a : A) → Q a → Gives P (next a)) → Gives P (and_then first next)
-gives_then Q P first next one two = record {
-  gives = λ left r is.
-      let read = continued_ok (first left) next r is in
-      (two read.0.0 (one.gives left read.0 read.1)).gives read.0.1 r read.2;
-}
-
-gives_any : {F A : Type 0} (reading : Reading F A) → Gives (λ a. Unit {0}) reading
-gives_any reading = record { gives = λ left r is. tt }
-
-gives_value : {F A : Type 0} (P : A → Type 0) (a : A) → P a → Gives {F = F} P (value a)
-gives_value {F} P a holds = record { gives = λ left r is. subst (λ (x : _ × Left). P x.0) (same_ok {E = F} (a, left) r is) holds }
-
-gives_named : (pool : List SlotData) → Gives (λ name. is_legal name ≡ true) (named_field pool kind_of.Module)
-gives_named pool = record {
-  gives = λ left r is.
-      let read = continued_ok (index_field (named_at pool kind_of.Module) left) (λ a next. cond (is_legal a) (Ok (a, next))
-      (Err (Name left.place))) r is in
-      elim (chosen (is_legal read.0.0) (Ok (read.0.0, read.0.1)) (Err (Name left.place)) (Ok r) read.2) [
-        | inl passes ↦ subst (λ (x : List ℕ × Left). is_legal x.0 ≡ true) (same_ok {E = InfoFault} (read.0.0, read.0.1) r passes.1) passes.0
-        | inr fails ↦ cc
-      ];
-}
-
 abbrev IsLegal : Descriptor → Type 0
 IsLegal d = is_legal d.name ≡ true
-
-gives_legal : (pool : List SlotData) → Gives IsLegal (module_field pool)
-gives_legal pool =
-    gives_then (λ name. is_legal name ≡ true) IsLegal _ _ (gives_named pool) (λ name legal.
-    gives_then (λ a. Unit {0}) IsLegal _ _ (gives_any short_number) (λ flags t1.
-    gives_then (λ a. Unit {0}) IsLegal _ _ (gives_any (version_field pool)) (λ version t2.
-    gives_then (λ a. Unit {0}) IsLegal _ _ (gives_any (list_of Short (need_field pool))) (λ needs t3.
-    gives_then (λ a. Unit {0}) IsLegal _ _ (gives_any (list_of Short (opened_field pool))) (λ exports t4.
-    gives_then (λ a. Unit {0}) IsLegal _ _ (gives_any (list_of Short (opened_field pool))) (λ opens t5.
-    gives_then (λ a. Unit {0}) IsLegal _ _ (gives_any (names_field pool kind_of.Class)) (λ uses t6.
-    gives_then (λ a. Unit {0}) IsLegal _ _ (gives_any (list_of Short (provides_field pool))) (λ provides t7.
-    gives_value IsLegal _ legal))))))))
-
-value_ok : (o : Outcome InfoFault Descriptor) (d : Descriptor) → value_of o ≡ Ok d → (r : Descriptor × Left) × (o ≡ Ok r) × (r.0 ≡ d)
-value_ok (Ok r) d is = (r, refl, same_ok {E = InfoFault} r.0 d is)
-value_ok (Err fault) d is = cc
-
-body_legal : (pool : List SlotData) (body : List ℕ) (d : Descriptor) → body_info pool body ≡ Ok d → IsLegal d
-body_legal pool body d is =
-    let left : Left = record { place = 0; bytes = body } in
-    let end = value_ok (ended Rest (module_field pool) left) d is in
-    let read = continued_ok (module_field pool left) (λ a next. cond (nat_eq (length next.bytes) 0) (Ok (a, next))
-    (Err (Rest next.place))) end.0 end.1 in
-    let legal = (gives_legal pool).gives left read.0 read.1 in
-    elim (chosen (nat_eq (length read.0.1.bytes) 0) (Ok (read.0.0, read.0.1)) (Err (Rest read.0.1.place)) (Ok end.0) read.2) [
-      | inl passes ↦ subst IsLegal (ap (λ (x : Descriptor × Left). x.0) (same_ok {E = InfoFault} (read.0.0, read.0.1) end.0
-          passes.1) ∙ end.2) legal
-      | inr fails ↦ cc
-    ]
 
 name_from : (info : Result Descriptor InfoFault) (main : Result (Option (List ℕ)) InfoFault) (d : Descriptor) → with_info info main
     ≡ Ok d → ((e : Descriptor) → info ≡ Ok e → IsLegal e) → IsLegal d
@@ -337,4 +271,4 @@ said_legal release bytes d says =
     let only = body_of c.pool (module_bodies c) main d (said_body c d says.info) in
     let whole : with_info (body_info c.pool only.0) main ≡ Ok d = ap (λ bs. with_body c.pool (only_body bs) main) (sym only.1)
     ∙ said_body c d says.info in
-    name_from (body_info c.pool only.0) main d whole (λ e is. body_legal c.pool only.0 e is)
+    name_from (body_info c.pool only.0) main d whole (λ e is. (body_gives c.pool only.0 e is).1)

@@ -1,5 +1,5 @@
 -- What a file says as the class of a module, from what the calls answered that read it.
-use Rattle.std.proofs.Common.{◌≡◌, ◌≤◌, ℕ, true, List, Some, Result, Ok, Err, refl, sym, ap, ◌∙◌}
+use Rattle.std.proofs.Common.{◌≡◌, ◌≤◌, ℕ, true, List, Some, None, Result, Ok, Err, refl, sym, ap, ◌∙◌}
 use Rattle.jm_bytes.proofs.Choice.{same_ok}
 use Rattle.jm_class.specs.declared.class.ClassFault.{ClassFault}
 use Rattle.jm_class.specs.Classes.{ClassData}
@@ -13,10 +13,12 @@ use Rattle.jm_modinfo.specs.declared.faults.InfoFault.{InfoFault}
 use Rattle.jm_modinfo.specs.ComputedInfo.{info_of}
 use Rattle.jm_modinfo.specs.Constants.{is_legal}
 use Rattle.jm_modinfo.specs.Descriptions.{info_for, info_in, info_with}
-use Rattle.jm_modinfo.specs.Descriptors.{InfoOf, IsModuleBody}
+use Rattle.jm_modinfo.specs.Descriptors.{InfoOf}
 use Rattle.jm_modinfo.specs.Faults.{info_fault}
 use Rattle.jm_modinfo.specs.Faults as info
-use Rattle.jm_modinfo.proofs.InfoLaws.{info-computed, info_fault-of}
+use Rattle.jm_modinfo.specs.ModuleLayout.{info_rows, module_layout}
+use Rattle.jm_modinfo.proofs.LayoutLaws.{says-whole}
+use Rattle.jm_modinfo.proofs.InfoLaws.{body_gives, info-computed, info_fault-of}
 
 class_faulty : (r : Result ClassData ClassFault) (fault : ClassFault) → fault_of r ≡ Some fault → r ≡ Err fault
 class_faulty (Ok c) fault is = cc
@@ -67,7 +69,5 @@ info_for-later release later rises bytes d is =
 
 -- the name of a module is legal
 pub legal_name : (c : ClassData) (d : Descriptor) → InfoOf c d → is_legal d.name ≡ true
-legal_name c d says = first says.says
-  where
-    first : IsModuleBody c.pool d says.body → is_legal d.name ≡ true
-    first (front, rest, is, named, others) = named.0
+legal_name c d info = (body_gives c.pool info.body (record d { main = None })
+    (says-whole (info_rows c.pool) module_layout info.body (record d { main = None }) info.says)).1

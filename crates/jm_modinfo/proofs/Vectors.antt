@@ -16,7 +16,8 @@ use Rattle.jm_modinfo.specs.declared.faults.InfoFault.{InfoFault}
 use Rattle.jm_modinfo.specs.declared.faults.InfoFault.TheVariants.{NotModule, OldVersion, NoModule, TwoModule, Index, Short, Rest, Name}
 use Rattle.jm_modinfo.specs.declared.faults.InfoFault.TheVariants.{Main}
 use Rattle.jm_modinfo.specs.Faults.{info_fault}
-use Rattle.jm_modinfo.specs.InfoFaults.{info_table, body_fields}
+use Rattle.jm_modinfo.specs.Layouts.{faults, whole_fields}
+use Rattle.jm_modinfo.specs.ModuleLayout.{info_rows, module_layout}
 use Rattle.jm_modinfo.specs.FaultText.{descriptor_fault_text}
 use Rattle.jm_modinfo.specs.Written.{utf8, info_pool, info_class, info_text, plain_descriptor}
 
@@ -171,10 +172,10 @@ info_printed = refl
 -- The rule of a body, evaluated: its fields from left to right, and the fault of the first that has one
 
 abbrev rule_fault : List ℕ → Option InfoFault
-rule_fault words = first_fault (map (λ f. field_fault info_table f) (body_fields all_pool (flat_map u2 words)))
+rule_fault words = first_fault (map (field_fault (faults (info_rows all_pool))) (whole_fields (info_rows all_pool) module_layout (flat_map u2 words)))
 
 abbrev places : List ℕ → List (ℕ × ℕ)
-places words = map (λ f. (f.place, f.size)) (body_fields all_pool (flat_map u2 words))
+places words = map (λ f. (f.place, f.size)) (whole_fields (info_rows all_pool) module_layout (flat_map u2 words))
 
 -- name, flags, version, one module that is required, four counts; the end
 body_places : places (5 ∷ 0 ∷ 0 ∷ 1 ∷ 11 ∷ 64 ∷ 12 ∷ 0 ∷ 0 ∷ 0 ∷ 0 ∷ [])

@@ -1,7 +1,7 @@
 -- The class of a module that only requires others is well formed, and its descriptor has its name
 -- and its needs.
 use Rattle.std.proofs.Common.{◌≡◌, ℕ, suc, ◌+◌, ◌-◌, ◌*◌, ◌^◌, ◌<◌, ◌≤◌, inl, inr, true, false, List, [], ◌∷◌}
-use Rattle.std.proofs.Common.{◌++◌, length, Some, Result, Ok, Err, OnOk, IfOk, refl, sym, ap, ◌∙◌, subst}
+use Rattle.std.proofs.Common.{◌++◌, length, Some, None, Result, Ok, Err, OnOk, IfOk, refl, sym, ap, ◌∙◌}
 use Rattle.std.proofs.Common.{arith, append_assoc, length-append}
 use Rattle.std.proofs.lemmas.Bool.{ne_eqb}
 use Rattle.std.proofs.lemmas.List.{append-nil}
@@ -9,10 +9,13 @@ use Rattle.std.proofs.lemmas.List.Elements.{All-nil, All-cons, All-head, All-tai
 use Rattle.std.proofs.lemmas.Nat.{from_be_bytes-to_be_bytes_2}
 use Rattle.std.specs.Prelude.{All, nat_eq, slice_get, option_and_then}
 use Rattle.jm_class.specs.Classes.{SlotData, Constant, Opaque, u2, slot_at, utf8_at, IsPoolFrom, IsAttribute, IsMember, IsClass, ReadsAs}
-use Rattle.jm_modinfo.specs.Constants.{named_by, named_at}
-use Rattle.jm_modinfo.specs.declared.constants.Kind.TheVariants.{Module}
+use Rattle.jm_modinfo.specs.Constants.{named_by, named_at, is_legal}
+use Rattle.jm_modinfo.specs.declared.constants.Kind.TheVariants.{Class, Module}
 use Rattle.jm_modinfo.specs.declared.descriptor.Need.{Need}
-use Rattle.jm_modinfo.specs.Descriptors.{Each, IsNeed, InfoOf}
+use Rattle.jm_modinfo.specs.Descriptors.{InfoOf}
+use Rattle.jm_modinfo.specs.Layouts.{Layout, times, listed, Says}
+use Rattle.jm_modinfo.specs.ModuleLayout as layout
+use Rattle.jm_modinfo.specs.ModuleLayout.{allowed, info_rows}
 use Rattle.jm_modinfo.specs.Written.{utf8, IsName, IsWritable, need_slots, info_pool, needs_text, info_body}
 use Rattle.jm_modinfo.specs.Written.{info_class, info_text, plain_descriptor}
 
@@ -110,111 +113,116 @@ module_there pool index number text below is named =
     ap (option_and_then (named_by pool Module)) is
     ∙ ap (λ (n : ℕ). utf8_at pool n) (from_be_bytes-to_be_bytes_2 number below) ∙ named
 
--- The fields of the needs
+-- The body
 
-needs-said : (pool : List SlotData) (number : ℕ) (needs : List Need) → All IsWritable needs → All (λ n. n.flags < 2 ^ 16) needs
-    → Placed pool number needs → number + 1 + 2 * length needs < 2 ^ 16 → Each (IsNeed pool) needs (needs_text (number + 1) needs)
-needs-said pool number [] all flags there below = refl
-needs-said pool number (n ∷ needs) all flags (name, constant, rest) below =
-    let first = All-head IsWritable n needs all in
-    let small : number < 2 ^ 16 = omega (arith, below) in
-    let index : number + 1 < 2 ^ 16 = omega (arith, below) in
-    let next : number + 1 + 2 ≡ number + 2 + 1 = omega arith in
-    let none = append-nil (needs_text (number + 1 + 2) needs) in
-    let more = needs-said pool (number + 2) needs (All-tail IsWritable n needs all) (All-tail (λ n. n.flags < 2 ^ 16) n needs flags)
-    rest (omega (arith, below)) in (
-      u2 (number + 1) ++ (u2 n.flags ++ u2 0),
-      needs_text (number + 1 + 2) needs ++ [],
-      refl,
-      (
-        u2 (number + 1),
-        u2 n.flags ++ u2 0,
+module _ (pool : List SlotData) where
+  zero-said : Says (info_rows pool) layout.number 0 (u2 0)
+  zero-said = (0, refl, omega arith, refl)
+
+  none-said : {A : Type 0} (item : Layout layout.Held A) → Says (info_rows pool) (listed layout.number item) [] (u2 0)
+  none-said item = (0, u2 0, [], refl, zero-said, (refl, refl))
+
+  need-said : (number : ℕ) (n : Need) → IsWritable n → number < 2 ^ 16 → n.flags < 2 ^ 16
+      → named_at pool Module number ≡ Some n.name
+      → Says (info_rows pool) layout.need n (u2 number ++ (u2 n.flags ++ u2 0))
+  need-said number n fits below flags named =
+      let version : Some None ≡ Some n.version = ap (λ v. Some v) (sym fits.version) in
+      let name : allowed Module (named_at pool Module number) ≡ Some n.name = rw (named, fits.name.0) refl in (
+        n.name,
+        u2 number,
+        _,
         refl,
+        (number, name, below, refl),
         (
-          first.name.0,
-          (
-            number + 1,
-            module_there pool (number + 1) number n.name small constant (utf8_there pool number n.name
-                name),
-            (index, refl),
-          ),
-        ),
-        (
+          n.flags,
           u2 n.flags,
-          u2 0,
+          _,
           refl,
-          (All-head (λ n. n.flags < 2 ^ 16) n needs flags, refl),
+          (n.flags, refl, flags, refl),
+          (n.version, u2 0, [], refl, (0, version, omega arith, refl), (refl, refl)),
+        ),
+      )
+
+  needs-said : (number : ℕ) (needs : List Need) → All IsWritable needs → All (λ n. n.flags < 2 ^ 16) needs
+      → Placed pool number needs → number + 1 + 2 * length needs < 2 ^ 16
+      → Says (info_rows pool) (times (length needs) layout.need) needs (needs_text (number + 1) needs)
+  needs-said number [] all flags there below = (refl, refl)
+  needs-said number (n ∷ needs) all flags (name, constant, rest) below =
+      let first = All-head IsWritable n needs all in
+      let small : number < 2 ^ 16 = omega (arith, below) in
+      let found = module_there pool (number + 1) number n.name small constant (utf8_there pool number n.name name) in
+      let one = need-said (number + 1) n first (omega (arith, below)) (All-head (λ n. n.flags < 2 ^ 16) n needs flags) found in
+      let more = needs-said (number + 2) needs (All-tail IsWritable n needs all) (All-tail (λ n. n.flags < 2 ^ 16) n needs flags)
+      rest (omega (arith, below)) in
+      let next : number + 2 + 1 ≡ number + 1 + 2 = omega arith in (
+        n,
+        _,
+        needs_text (number + 1 + 2) needs ++ [],
+        refl,
+        one,
+        (needs, needs_text (number + 1 + 2) needs, [], refl, (rw next at more), (refl, refl)),
+      )
+
+  body-said : (name : List ℕ) (needs : List Need) → is_legal name ≡ true → named_at pool Module 5 ≡ Some name
+      → length needs < 2 ^ 16 → Says (info_rows pool) (times (length needs) layout.need) needs (needs_text 7 needs)
+      → Says (info_rows pool) layout.module_layout (plain_descriptor name needs) (info_body needs)
+  body-said name needs legal named count said =
+      let found : allowed Module (named_at pool Module 5) ≡ Some name = rw (named, legal) refl in
+      let size : Says (info_rows pool) layout.number (length needs) (u2 (length needs)) = (length needs, refl, count, refl) in (
+        name,
+        u2 5,
+        _,
+        refl,
+        (5, found, omega arith, refl),
+        (
+          0,
+          u2 0,
+          _,
+          refl,
+          zero-said,
           (
-            0,
-            ap (λ v. Some v) (sym first.version),
-            (omega arith, refl),
+            None,
+            u2 0,
+            _,
+            refl,
+            (0, refl, omega arith, refl),
+            (
+              needs,
+              u2 (length needs) ++ needs_text 7 needs,
+              _,
+              refl,
+              (length needs, u2 (length needs), needs_text 7 needs, refl, size, said),
+              (
+                [],
+                u2 0,
+                _,
+                refl,
+                none-said layout.opened,
+                (
+                  [],
+                  u2 0,
+                  _,
+                  refl,
+                  none-said layout.opened,
+                  ([], u2 0, _, refl, none-said (layout.named Class), ([], u2 0, _, refl, none-said layout.provides, (refl, refl))),
+                ),
+              ),
+            ),
           ),
         ),
-      ),
-      subst (Each (IsNeed pool) needs) (sym (none ∙ ap (λ m. needs_text m needs) next)) more,
-    )
+      )
 
 pub info_class-info : (name : List ℕ) (needs : List Need) → IsName name → All IsWritable needs → All (λ n. n.flags < 2 ^ 16) needs
     → length needs ≤ 1000 → InfoOf (info_class name needs) (plain_descriptor name needs)
 info_class-info name needs named all flags count =
     let pool = info_pool name needs in
     let there = placed pool (utf8 _ ∷ Constant 7 _ ∷ utf8 _ ∷ utf8 name ∷ Constant 19 (u2 4) ∷ []) 6 needs refl refl in
-    let zero_number : (0 < 2 ^ 16) × (u2 0 ≡ u2 0) = (omega arith, refl) in
     record {
       access = refl;
       major = omega arith;
       body = info_body needs;
       only = refl;
-      says = (
-        u2 5,
-        _,
-        refl,
-        (named.0, (5, refl, (omega arith, refl))),
-        (
-          u2 0,
-          _,
-          refl,
-          zero_number,
-          (
-            u2 0,
-            _,
-            refl,
-            (0, refl, zero_number),
-            (
-              u2 (length needs) ++ needs_text 7 needs,
-              _,
-              refl,
-              (
-                u2 (length needs),
-                needs_text 7 needs,
-                refl,
-                (omega (arith, count), refl),
-                needs-said pool 6 needs all flags there
-                    (omega (arith, count)),
-              ),
-              (
-                u2 0,
-                _,
-                refl,
-                (u2 0, [], refl, zero_number, refl),
-                (
-                  u2 0,
-                  _,
-                  refl,
-                  (u2 0, [], refl, zero_number, refl),
-                  (
-                    u2 0,
-                    _,
-                    refl,
-                    (u2 0, [], refl, zero_number, refl),
-                    (u2 0, [], refl, zero_number, refl),
-                  ),
-                ),
-              ),
-            ),
-          ),
-        ),
-      );
+      says = body-said pool name needs named.0 refl (omega (arith, count)) (needs-said pool 6 needs all flags there (omega (arith, count)));
       main = refl;
     }
 

@@ -1,26 +1,17 @@
 -- What the class of a module says: the Module attribute, field by field, and the main class (JVMS
 -- 4.7.25, 4.7.27).
-use Rattle.std.specs.Prelude.{◌≡◌, ℕ, ◌^◌, ◌<◌, ◌≤◌, Bool, true, false, List, [], ◌∷◌, ◌++◌, length}
+use Rattle.std.specs.Prelude.{◌≡◌, ℕ, ◌^◌, ◌<◌, ◌≤◌, Bool, true, false, List, [], ◌∷◌}
 use Rattle.std.specs.Prelude.{Option, Some, None, if◌then◌else◌, codes}
 use Rattle.std.specs.List.{filter_map}
 use Rattle.std.specs.Str.{bytes_eq}
 use Rattle.jm_class.specs.Classes.{SlotData, BodyData, Opaque, Coded, AttributeData, ClassData, u2}
 use Rattle.jm_class.specs.Classes.{utf8_at}
-use Rattle.jm_modinfo.specs.Constants.{named_at, version_at, is_allowed}
-use Rattle.jm_modinfo.specs.declared.constants.Kind.{Kind}
-use Rattle.jm_modinfo.specs.declared.constants.Kind.TheVariants.{Class, Module, Package}
+use Rattle.jm_modinfo.specs.Constants.{named_at}
+use Rattle.jm_modinfo.specs.declared.constants.Kind.TheVariants.{Class}
 use Rattle.jm_modinfo.specs.declared.descriptor.Descriptor.{Descriptor}
-use Rattle.jm_modinfo.specs.declared.descriptor.Need.{Need}
-use Rattle.jm_modinfo.specs.declared.descriptor.Opened.{Opened}
-use Rattle.jm_modinfo.specs.declared.descriptor.Provides.{Provides}
 use Rattle.jm_modinfo.specs.Flags.{is_module}
-
--- Bytes as fields
-
--- the bytes are in two parts, one behind the other
-abbrev pub Then : (List ℕ → Type 0) → (List ℕ → Type 0) → List ℕ → Type 0
-Then First Second bytes =
-    (front : List ℕ) × (rest : List ℕ) × (bytes ≡ front ++ rest) × First front × Second rest
+use Rattle.jm_modinfo.specs.Layouts.{Says}
+use Rattle.jm_modinfo.specs.ModuleLayout.{info_rows, module_layout}
 
 -- the bytes are a number in two bytes
 abbrev pub IsNumber : ℕ → List ℕ → Type 0
@@ -30,53 +21,9 @@ IsNumber n bytes = (n < 2 ^ 16) × (bytes ≡ u2 n)
 abbrev pub IsIndex : {A : Type 0} → (ℕ → Option A) → A → List ℕ → Type 0
 IsIndex found value bytes = (index : ℕ) × (found index ≡ Some value) × IsNumber index bytes
 
--- the bytes are items one behind another
-abbrev pub Each : {A : Type 0} → (A → List ℕ → Type 0) → List A → List ℕ → Type 0
-Each IsItem [] bytes = bytes ≡ []
-Each IsItem (item ∷ items) bytes = Then (IsItem item) (Each IsItem items) bytes
-
--- the bytes are a count in two bytes, and so many items
-abbrev pub Counted : {A : Type 0} → (A → List ℕ → Type 0) → List A → List ℕ → Type 0
-Counted IsItem items = Then (IsNumber (length items)) (Each IsItem items)
-
--- the index of a constant of a kind, which stands for this text; a module's name is legal
-abbrev pub IsNamed : List SlotData → Kind → List ℕ → List ℕ → Type 0
-IsNamed pool kind text bytes =
-    (is_allowed kind text ≡ true) × IsIndex (named_at pool kind) text bytes
-
--- the bytes are the index of a version, or 0 where there is none
-abbrev pub IsVersion : List SlotData → Option (List ℕ) → List ℕ → Type 0
-IsVersion pool = IsIndex (version_at pool)
-
--- The Module attribute
-
--- the bytes are a module that is required: its name, its flags, its version
-abbrev pub IsNeed : List SlotData → Need → List ℕ → Type 0
-IsNeed pool n =
-    Then (IsNamed pool Module n.name) (Then (IsNumber n.flags) (IsVersion pool n.version))
-
--- the bytes are a package that is exported or opened
-abbrev pub IsOpened : List SlotData → Opened → List ℕ → Type 0
-IsOpened pool p =
-    Then (IsNamed pool Package p.package)
-    (Then (IsNumber p.flags) (Counted (IsNamed pool Module) p.to))
-
--- the bytes are a service that is provided: its name, and the classes that provide it
-abbrev pub IsProvides : List SlotData → Provides → List ℕ → Type 0
-IsProvides pool p =
-    Then (IsNamed pool Class p.service) (Counted (IsNamed pool Class) p.classes)
-
--- the bytes are the whole body of the Module attribute
+-- the bytes are the whole body of the Module attribute, and say this but for the main class
 abbrev pub IsModuleBody : List SlotData → Descriptor → List ℕ → Type 0
-IsModuleBody pool d =
-    Then (IsNamed pool Module d.name)
-    (Then (IsNumber d.flags)
-    (Then (IsVersion pool d.version)
-    (Then (Counted (IsNeed pool) d.needs)
-    (Then (Counted (IsOpened pool) d.exports)
-    (Then (Counted (IsOpened pool) d.opens)
-    (Then (Counted (IsNamed pool Class) d.uses)
-    (Counted (IsProvides pool) d.provides)))))))
+IsModuleBody pool d bytes = Says (info_rows pool) module_layout (record d { main = None }) bytes
 
 -- The attributes of the class itself
 

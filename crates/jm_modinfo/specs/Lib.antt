@@ -6,5 +6,7 @@ pub mod Faults
 pub mod FaultText
 pub mod Flags
 pub mod InfoFaults
+pub mod Layouts
+pub mod ModuleLayout
 pub mod Views
 pub mod Written

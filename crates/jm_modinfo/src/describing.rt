@@ -24,7 +24,6 @@ use std::alloc::Global;
 fn whole_module(alloc: Global, class: &Class, body: &[u8]) -> Result<Descriptor, Or<InfoFault>>
     ensures info { Answers (λ d. d) (body_info (plain class.now).pool body.now) result }
     ensures says { IfOk result (λ d. IsModuleBody (plain class.now).pool d body.now) }
-    ensures main { IfOk result (λ d. d.main ≡ None) }
 {
     let mut cursor = Cursor::new(body);
     let descriptor = module(alloc, &mut cursor, class)?;

@@ -1,8 +1,9 @@
-ghost use Rattle.jm_class.specs.Readings.{list_of};
+ghost use Rattle.std.specs.Int.{w16};
+ghost use Rattle.jm_class.specs.Readings.{number};
 ghost use Rattle.jm_class.specs.Views.{Gives, plain};
-ghost use Rattle.jm_modinfo.specs.ComputedInfo.{short_number, named_field, names_field};
-ghost use Rattle.jm_modinfo.specs.ComputedInfo.{version_field, need_field, opened_field};
-ghost use Rattle.jm_modinfo.specs.ComputedInfo.{provides_field, module_field};
+ghost use Rattle.jm_modinfo.specs.Layouts.{listed};
+ghost use Rattle.jm_modinfo.specs.ModuleLayout as layout;
+ghost use Rattle.jm_modinfo.specs.ModuleLayout.{read_by};
 ghost use Rattle.jm_modinfo.specs.declared.faults.InfoFault.TheVariants.{Short};
 
 use crate::constants::{Kind, is_allowed, named};
@@ -14,7 +15,7 @@ use std::alloc::Global;
 
 /// A number of two bytes.
 fn number(cursor: &mut Cursor) -> Result<u16, Or<InfoFault>>
-    ensures { Gives (λ n. n) (short_number cursor.old) result cursor.new }
+    ensures { Gives (λ n. n) (number Short w16 cursor.old) result cursor.new }
 {
     let at = cursor.place();
     cursor.u16().ok_or(Or::Fault(InfoFault::Short(at)))
@@ -27,7 +28,7 @@ fn name(
     class: &Class,
     kind: Kind,
 ) -> Result<Text, Or<InfoFault>>
-    ensures { Gives (λ text. text) (named_field (plain class.now).pool kind cursor.old)
+    ensures { Gives (λ text. text) (read_by (plain class.now).pool (layout.named kind) cursor.old)
         result cursor.new }
 {
     let at = cursor.place();
@@ -45,7 +46,7 @@ fn name(
 
 /// The index of a version, or 0 for none.
 fn version(alloc: Global, cursor: &mut Cursor, class: &Class) -> Result<Option<Text>, Or<InfoFault>>
-    ensures { Gives (λ version. version) (version_field (plain class.now).pool cursor.old)
+    ensures { Gives (λ version. version) (read_by (plain class.now).pool layout.version cursor.old)
         result cursor.new }
 {
     let at = cursor.place();
@@ -66,7 +67,7 @@ fn names(
     class: &Class,
     kind: Kind,
 ) -> Result<List<Text>, Or<InfoFault>>
-    ensures { Gives (λ names. names) (names_field (plain class.now).pool kind cursor.old)
+    ensures { Gives (λ names. names) (read_by (plain class.now).pool (layout.names kind) cursor.old)
         result cursor.new }
 {
     let count = number(cursor)?;
@@ -81,7 +82,8 @@ fn names(
 /// The modules that are required.
 fn needs(alloc: Global, cursor: &mut Cursor, class: &Class) -> Result<List<Need>, Or<InfoFault>>
     ensures { Gives (λ needs. needs)
-        (list_of Short (need_field (plain class.now).pool) cursor.old) result cursor.new }
+        (read_by (plain class.now).pool (listed layout.number layout.need) cursor.old)
+        result cursor.new }
 {
     let count = number(cursor)?;
     let mut needs = List::new(alloc);
@@ -105,7 +107,8 @@ fn all_opened(
     class: &Class,
 ) -> Result<List<Opened>, Or<InfoFault>>
     ensures { Gives (λ all. all)
-        (list_of Short (opened_field (plain class.now).pool) cursor.old) result cursor.new }
+        (read_by (plain class.now).pool (listed layout.number layout.opened) cursor.old)
+        result cursor.new }
 {
     let count = number(cursor)?;
     let mut all = List::new(alloc);
@@ -125,7 +128,8 @@ fn all_provides(
     class: &Class,
 ) -> Result<List<Provides>, Or<InfoFault>>
     ensures { Gives (λ all. all)
-        (list_of Short (provides_field (plain class.now).pool) cursor.old) result cursor.new }
+        (read_by (plain class.now).pool (listed layout.number layout.provides) cursor.old)
+        result cursor.new }
 {
     let count = number(cursor)?;
     let mut all = List::new(alloc);
@@ -143,7 +147,8 @@ pub fn module(
     cursor: &mut Cursor,
     class: &Class,
 ) -> Result<Descriptor, Or<InfoFault>>
-    ensures { Gives (λ d. d) (module_field (plain class.now).pool cursor.old) result cursor.new }
+    ensures { Gives (λ d. d) (read_by (plain class.now).pool layout.module_layout cursor.old)
+        result cursor.new }
 {
     let name = name(alloc, cursor, class, Kind::Module)?;
     let flags = number(cursor)?;

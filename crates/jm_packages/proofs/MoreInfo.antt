@@ -1,78 +1,19 @@
 -- What a class says as a descriptor, it says with more constants behind its own.
-use Rattle.std.proofs.Common.{◌≡◌, ℕ, zero, suc, Bool, true, false, not, cond, List, [], ◌∷◌, ◌++◌, length}
+use Rattle.std.proofs.Common.{◌≡◌, ℕ, Bool, true, false, not, cond, List, [], ◌∷◌, ◌++◌}
 use Rattle.std.proofs.Common.{Option, Some, None, Result, Ok, Err, refl, ap, ◌∙◌}
 use Rattle.std.specs.Prelude.{nat_eq, nat_lt, option_map, option_and_then, if◌then◌else◌}
 use Rattle.jm_class.specs.Classes.{SlotData, Constant, Hole, ClassData, slot_at, utf8_at}
-use Rattle.jm_class.specs.Readings.{Left, Outcome, Reading, continued, and_then, counted, list_of, checked, ended}
-use Rattle.jm_modinfo.specs.ComputedInfo.{found_or, resolved, named_field, version_field, names_field}
-use Rattle.jm_modinfo.specs.ComputedInfo.{need_field, opened_field, provides_field, module_field, value_of}
+use Rattle.jm_modinfo.proofs.LayoutLaws.{whole-stays}
 use Rattle.jm_modinfo.specs.ComputedInfo.{body_info, only_body, main_named, main_of, with_info, with_body}
-use Rattle.jm_modinfo.specs.ComputedInfo.{short_number}
-use Rattle.jm_modinfo.specs.Constants.{tag_of, number_in, named_by, named_at, version_at, is_allowed}
+use Rattle.jm_modinfo.specs.Constants.{tag_of, number_in, named_by, named_at, version_at}
+use Rattle.jm_modinfo.specs.ModuleLayout.{InfoRow, Number, Named, Version, Held, allowed, found, info_rows, module_layout}
 use Rattle.jm_modinfo.specs.declared.constants.Kind.{Kind}
-use Rattle.jm_modinfo.specs.declared.constants.Kind.TheVariants.{Class, Module, Package}
+use Rattle.jm_modinfo.specs.declared.constants.Kind.TheVariants.{Class}
 use Rattle.jm_modinfo.specs.declared.descriptor.Descriptor.{Descriptor}
 use Rattle.jm_modinfo.specs.declared.faults.InfoFault.{InfoFault}
-use Rattle.jm_modinfo.specs.declared.faults.InfoFault.TheVariants.{NotModule, OldVersion, Rest, Short, Index, Name}
+use Rattle.jm_modinfo.specs.declared.faults.InfoFault.TheVariants.{NotModule, OldVersion}
 use Rattle.jm_modinfo.specs.Flags.{is_module}
 use Rattle.jm_packages.proofs.MorePool.{slot_stays, utf8_stays}
-
--- Forms of readings
-
--- what one reading gives, the other one gives too
-record Stays {F A : Type 0} (old new : Reading F A) : Type 0 where
-  stays : (left : Left) (r : A × Left) → old left ≡ Ok r → new left ≡ Ok r
-
-same_stays : {F A : Type 0} (reading : Reading F A) → Stays reading reading
-same_stays reading = record { stays = λ left r is. is }
-
-continued_stays : {F A B : Type 0} (old new : Outcome F A) (one two : A → Reading F B) (r : B × Left) → ((a : A × Left) → old ≡ Ok a
-    → new ≡ Ok a) → ((a : A × Left) → one a.0 a.1 ≡ Ok r → two a.0 a.1 ≡ Ok r) → continued old one ≡ Ok r → continued new two ≡ Ok r
-continued_stays (Ok a) new one two r first next is = ap (λ o. continued o two) (first a refl) ∙ next a is
-continued_stays (Err fault) new one two r first next is = cc
-
-then_stays : {F A B : Type 0} (old new : Reading F A) (one two : A → Reading F B) → Stays old new
-    → ((a : A) → Stays (one a) (two a)) → Stays (and_then old one) (and_then new two)
-then_stays old new one two first next = record {
-  stays = λ left r is. continued_stays (old left) (new left) one two r (first.stays left) (λ a given. (next a.0).stays a.1 r given) is;
-}
-
-counted_stays : {F A : Type 0} (old new : Reading F A) (n : ℕ) → Stays old new → Stays (counted n old) (counted n new)
-counted_stays old new zero first = same_stays _
-counted_stays old new (suc n) first =
-    then_stays old new _ _ first (λ item. then_stays (counted n old) (counted n new) _ _ (counted_stays old new n first)
-    (λ items. same_stays _))
-
-list_stays : {F A : Type 0} (short : ℕ → F) (old new : Reading F A) → Stays old new → Stays (list_of short old) (list_of short new)
-list_stays short old new first = then_stays _ _ _ _ (same_stays _) (λ count. counted_stays old new count first)
-
-checked_stays : {F A : Type 0} (test : A → Bool) (fault : ℕ → A → F) (old new : Reading F A) → Stays old new
-    → Stays (checked test fault old) (checked test fault new)
-checked_stays test fault old new first = record {
-  stays = λ left r is. continued_stays (old left) (new left) (λ a next. cond (test a) (Ok (a, next)) (Err (fault left.place a)))
-      (λ a next. cond (test a) (Ok (a, next)) (Err (fault left.place a))) r (first.stays left) (λ a given. given) is;
-}
-
-ended_stays : {F A : Type 0} (rest : ℕ → F) (old new : Reading F A) → Stays old new → Stays (ended rest old) (ended rest new)
-ended_stays rest old new first = record {
-  stays = λ left r is. continued_stays (old left) (new left) (λ a next. cond (nat_eq (length next.bytes) 0) (Ok (a, next))
-      (Err (rest next.place))) (λ a next. cond (nat_eq (length next.bytes) 0) (Ok (a, next)) (Err (rest next.place))) r
-      (first.stays left) (λ a given. given) is;
-}
-
-found_stays : {F B : Type 0} (fault : F) (old new : Option B) (left : Left) (r : B × Left) → ((b : B) → old ≡ Some b → new ≡ Some b)
-    → found_or fault old left ≡ Ok r → found_or fault new left ≡ Ok r
-found_stays fault (Some b) new left r same is = ap (λ o. found_or fault o left) (same b refl) ∙ is
-found_stays fault None new left r same is = cc
-
-resolved_stays : {F A B : Type 0} (old new : A → Option B) (fault : ℕ → F) (reading : Reading F A)
-    → ((a : A) (b : B) → old a ≡ Some b → new a ≡ Some b) → Stays (resolved old fault reading) (resolved new fault reading)
-resolved_stays old new fault reading same = record {
-  stays = λ left r is.
-      continued_stays (reading left) (reading left) (λ a. found_or (fault left.place) (old a)) (λ a. found_or (fault left.place)
-      (new a)) r (λ a given. given)
-      (λ a given. found_stays (fault left.place) (old a.0) (new a.0) a.1 r (same a.0) given) is;
-}
 
 -- Fields
 
@@ -108,60 +49,19 @@ module _ (pool more : List SlotData) where
       go false None found same = cc
       go false (Some text) found same = ap (option_map (λ text. Some text)) (utf8_stays pool more index text found) ∙ same
 
-  named : (kind : Kind) → Stays (named_field pool kind) (named_field longer kind)
-  named kind = checked_stays (is_allowed kind) (λ at text. Name at) _ _ (resolved_stays (named_at pool kind) (named_at longer kind)
-      Index short_number (named_stays kind))
-
-  version : Stays (version_field pool) (version_field longer)
-  version = resolved_stays (version_at pool) (version_at longer) Index short_number version_stays
-
-  names : (kind : Kind) → Stays (names_field pool kind) (names_field longer kind)
-  names kind = list_stays Short _ _ (named kind)
-
-  need : Stays (need_field pool) (need_field longer)
-  need =
-      then_stays _ _ _ _ (named Module) (λ name.
-      then_stays _ _ _ _ (same_stays short_number) (λ flags.
-      then_stays _ _ _ _ version (λ version.
-      same_stays _)))
-
-  opened : Stays (opened_field pool) (opened_field longer)
-  opened =
-      then_stays _ _ _ _ (named Package) (λ name.
-      then_stays _ _ _ _ (same_stays short_number) (λ flags.
-      then_stays _ _ _ _ (names Module) (λ to.
-      same_stays _)))
-
-  provides : Stays (provides_field pool) (provides_field longer)
-  provides =
-      then_stays _ _ _ _ (named Class) (λ service.
-      then_stays _ _ _ _ (names Class) (λ classes.
-      same_stays _))
-
-  body : Stays (module_field pool) (module_field longer)
-  body =
-      then_stays _ _ _ _ (named Module) (λ name.
-      then_stays _ _ _ _ (same_stays short_number) (λ flags.
-      then_stays _ _ _ _ version (λ version.
-      then_stays _ _ _ _ (list_stays Short _ _ need) (λ needs.
-      then_stays _ _ _ _ (list_stays Short _ _ opened) (λ exports.
-      then_stays _ _ _ _ (list_stays Short _ _ opened) (λ opens.
-      then_stays _ _ _ _ (names Class) (λ uses.
-      then_stays _ _ _ _ (list_stays Short _ _ provides) (λ provides.
-      same_stays _))))))))
+  found_stays : (row : InfoRow) (n : ℕ) (a : Held row) → found pool row n ≡ Some a → found longer row n ≡ Some a
+  found_stays Number n a is = is
+  found_stays Version n a is = version_stays n a is
+  found_stays (Named kind) n a is = go (named_at pool kind n) refl is
+    where
+      go : (o : Option (List ℕ)) → named_at pool kind n ≡ o → allowed kind o ≡ Some a → allowed kind (named_at longer kind n) ≡ Some a
+      go None there none = cc
+      go (Some text) there some = ap (allowed kind) (named_stays kind n text there) ∙ some
 
   -- What a class says
 
-  value_stays : (old new : Outcome InfoFault Descriptor) (d : Descriptor) → ((r : Descriptor × Left) → old ≡ Ok r → new ≡ Ok r)
-      → value_of old ≡ Ok d → value_of new ≡ Ok d
-  value_stays (Ok r) new d same is = ap value_of (same r refl) ∙ is
-  value_stays (Err fault) new d same is = cc
-
   body_stays : (bytes : List ℕ) (d : Descriptor) → body_info pool bytes ≡ Ok d → body_info longer bytes ≡ Ok d
-  body_stays bytes d is =
-      let left : Left = record { place = 0; bytes = bytes } in
-      value_stays (ended Rest (module_field pool) left) (ended Rest (module_field longer) left) d
-      ((ended_stays Rest (module_field pool) (module_field longer) body).stays left) is
+  body_stays bytes d is = whole-stays (info_rows pool) (info_rows longer) refl found_stays module_layout bytes d is
 
   main_stays : (bodies : List (List ℕ)) (main : Option (List ℕ)) → main_of pool bodies ≡ Ok main → main_of longer bodies ≡ Ok main
   main_stays [] main is = is

@@ -84,6 +84,18 @@ impl Shelf for Changing {
         self.shelf.read_part(alloc, path, at, length)
     }
 
+    fn read_exact(
+        &mut self,
+        alloc: Global,
+        path: &[u8],
+        at: u64,
+        count: usize,
+        into: &mut Text,
+    ) -> Result<(), ShelfError> {
+        self.change(alloc, path)?;
+        self.shelf.read_exact(alloc, path, at, count, into)
+    }
+
     fn create(&mut self, alloc: Global, path: &[u8]) -> Result<(), ShelfError> {
         self.shelf.create(alloc, path)
     }

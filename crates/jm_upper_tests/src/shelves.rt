@@ -4,7 +4,8 @@
 //! each of them, and the answer. The answer of `names` has a comma behind each name, that of `read`
 //! is the bytes, or `-` where there is no file, that of a write is empty, and a failure is `!`.
 //! `length` answers a number or `-`. For `part` the place and the number of bytes that are asked
-//! for, with a space between, stand where a write has its bytes; it answers as `read`.
+//! for, with a space between, stand where a write has its bytes; it answers as `read`. `exact` is
+//! asked as `part` and answers the bytes.
 
 use crate::calls::{call_numbers, shelf_of};
 use jm_bytes::{NoMemory, Text, extend};
@@ -62,6 +63,12 @@ fn tell_answer<S: Shelf>(
         "part" => {
             let (at, count) = part_asked(bytes);
             tell_found(out, shelf.read_part(alloc, path.as_bytes(), at, count)?)?;
+        }
+        "exact" => {
+            let (at, count) = part_asked(bytes);
+            let mut text = Text::copy_of(alloc, b"before")?;
+            shelf.read_exact(alloc, path.as_bytes(), at, count, &mut text)?;
+            extend(out, text.as_slice())?;
         }
         "create" => shelf.create(alloc, path.as_bytes())?,
         "finish" => shelf.finish(alloc)?,
@@ -153,6 +160,10 @@ pub const PARTS: &[&str] = &[
     "no byte is asked for|part|p/six|2 0|",
     "as many as there are|part|p/six|3 all|def",
     "all of it|part|p/six|0 all|abcdef",
+    "exactly so many in the middle|exact|p/six|1 2|bc",
+    "and those behind them|exact|p/six|3 3|def",
+    "exactly all|exact|p/six|0 6|abcdef",
+    "exactly none|exact|p/six|3 0|",
     "a file of no byte has the length 0|length|p/none||0",
     "and the empty part|part|p/none|0 3|",
     "also behind its end|part|p/none|1 3|",
@@ -173,7 +184,8 @@ pub const PARTS: &[&str] = &[
 ];
 
 /// The first six calls fail, the fourth of them with half its bytes added, and the first one for a
-/// part, which has a number of its own.
+/// part, which has a number of its own. So do those for exactly so many bytes, of which not all are
+/// there.
 const FAILING: &[&str] = &[
     "a list fails|names|d||!",
     "a part fails|part|d/a|0 2|!",
@@ -188,6 +200,9 @@ const FAILING: &[&str] = &[
     "the same read|read|d/a||one12",
     "a length|length|d/a||5",
     "a part|part|d/a|0 2|on",
+    "as many as there are|exact|d/a|1 4|ne12",
+    "one more than there are|exact|d/a|1 5|!",
+    "no file has any|exact|d/b|0 0|!",
     "a create|create|d/a||",
     "an append|append|d/a|12345|",
     "a finish|finish|||",

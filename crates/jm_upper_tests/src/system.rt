@@ -141,6 +141,24 @@ const SCRIPTS: &[(&str, &[&str], Option<&str>)] = &[
         Some("device/x: neither a file nor a link to one"),
     ),
     (
+        "a file that ends before so many bytes",
+        &[
+            "as many as there are|exact|p/six|0 1|z",
+            "one more|exact|p/six|0 2|!",
+        ],
+        Some("p/six: changed while it was read"),
+    ),
+    (
+        "a file that ends far before a byte",
+        &["the last place of all|exact|p/six|end 1|!"],
+        Some("p/six: changed while it was read"),
+    ),
+    (
+        "a file that isn't there has no bytes",
+        &["there is none|exact|p/no|0 0|!"],
+        Some("p/no: entity not found"),
+    ),
+    (
         "a file that gives more than its length",
         &["the system tells 0|read|/proc/version||!"],
         Some("/proc/version: changed while it was read"),
@@ -183,7 +201,8 @@ fn open_now<R: Files + AllocGlobal>(
 }
 
 /// What that file has; then, when it got shorter, whether a part fails that its length promised,
-/// and what it has by its new length; and when another file has its name.
+/// and what it has by its new length; when another file has its name, and a third one was made; and
+/// when the third one's length was asked.
 fn kept_open<R: Files + AllocGlobal>(rt: &R) -> Result<String, Fail> {
     let alloc = rt.alloc();
     let mut shelf = FileShelf::new(rt);
@@ -194,8 +213,11 @@ fn kept_open<R: Files + AllocGlobal>(rt: &R) -> Result<String, Fail> {
     let shorter = open_now(alloc, &mut shelf)?;
     fs::write(rt, "other", "123456")?;
     fs::rename(rt, "other", "open")?;
-    let same = open_now(alloc, &mut shelf)?;
+    shelf.create(alloc, b"third")?;
+    shelf.append(alloc, b"third", b"3")?;
     shelf.finish(alloc)?;
+    let same = open_now(alloc, &mut shelf)?;
+    shelf.length(alloc, b"third")?;
     let other = open_now(alloc, &mut shelf)?;
     Ok(format!(in alloc; "{whole}, {is_lost}, {shorter}, {same}, {other}")?)
 }

@@ -17,13 +17,14 @@ pub struct Entries {
     pub sizes: List<u64>,
 }
 
-/// The entries of the resources. They are fewer than 2^63, since the names stand in a vector.
-pub fn resources_of(alloc: Global, pool: &Pool) -> Result<Entries, NoMemory>
+/// The entries of the resources, with room for that many entries. They are fewer than 2^63, since
+/// the names stand in a vector.
+pub fn resources_of(alloc: Global, pool: &Pool, room: usize) -> Result<Entries, NoMemory>
     ensures entries { IfOk result (IsOfEntries (map sized pool.now)) }
     ensures few { OnOk result (length pool.now < 2 ^ 63) }
 {
-    let mut names = Vec::with_capacity(alloc, pool.len())?;
-    let mut sizes = Vec::with_capacity(alloc, pool.len())?;
+    let mut names = Vec::with_capacity(alloc, room)?;
+    let mut sizes = Vec::with_capacity(alloc, room)?;
     for place in 0..pool.len() {
         let (name, bytes) = pool.at(place);
         names.push(Text::copy_of(alloc, name)?)?;

@@ -36,7 +36,8 @@ fn plan_with(
     requires few { length nodes.now < 2 ^ 63 }
     ensures { IfAnswered (Plans order pool.now) result }
 {
-    let mut entries = resources_of(alloc, pool)?;
+    let room = pool.len().min(ENTRY_LIMIT) + nodes.len().min(ENTRY_LIMIT);
+    let mut entries = resources_of(alloc, pool, room)?;
     let count = pool.len() + nodes.len();
     if count > ENTRY_LIMIT {
         return Err(Or::Fault(PlanFault::TooMany(count as u64)));

@@ -2,9 +2,11 @@ use Rattle.std.proofs.Common.{ap}
 use Rattle.jm_class.proofs.ReadingLaws.{bytes_all}
 use Rattle.jm_class.proofs.WholeReadings.{ended-all, ended-rest, ended-stop}
 use Rattle.jm_class.specs.Views.{pool_of}
-use Rattle.jm_modinfo.proofs.FieldTells.{body-said}
+use Rattle.jm_modinfo.proofs.InfoLaws.{without_main}
+use Rattle.jm_modinfo.proofs.LayoutLaws.{whole-says}
 use Rattle.jm_modinfo.proofs.Stops.{answers_stop}
-use Rattle.jm_modinfo.specs.ComputedInfo.{module_field, value_of}
+use Rattle.jm_modinfo.specs.Layouts.{value_of}
+use Rattle.jm_modinfo.specs.ModuleLayout.{info_rows, module_layout, read_by}
 use Rattle.jm_modinfo.specs.declared.faults.InfoFault.TheVariants.{Rest}
 use Rattle.jm_modinfo.proofs.describing.whole_module.Goals as goal
 
@@ -12,7 +14,7 @@ pub returns-in_err-descriptor-clause-info : goal.returns-in_err-descriptor-claus
 returns-in_err-descriptor-clause-info c =
     answers_stop (λ d. d) (λ d. d) _ _ c.in_err-descriptor.field-0.0 c.from_residual.result c.module.new.cursor
     c.from_residual.ensures.1 c.in_err-descriptor.ensures
-    (λ fault stops. ap value_of (ended-stop Rest (module_field (pool_of c.args.class.now.pool)) (record {
+    (λ fault stops. ap value_of (ended-stop Rest (read_by (pool_of c.args.class.now.pool) module_layout) (record {
       place = 0;
       bytes =
           c.args.body.now;
@@ -21,17 +23,18 @@ returns-in_err-descriptor-clause-info c =
 pub returns-then-len-ne0-clause-info : goal.returns-then-len-ne0-clause-info
 returns-then-len-ne0-clause-info c =
     rw c.place.ensures
-    (ap value_of (ended-rest Rest (module_field (pool_of c.args.class.now.pool)) (record { place = 0; bytes = c.args.body.now })
+    (ap value_of (ended-rest Rest (read_by (pool_of c.args.class.now.pool) module_layout) (record { place = 0; bytes = c.args.body.now })
     c.module.new.cursor c.in_ok-descriptor.descriptor c.len.result (rw c.new-cursor.ensures at c.in_ok-descriptor.ensures)
     c.len.ensures c.if-len-ne0.true))
 
 pub returns-clause-info : goal.returns-clause-info
 returns-clause-info c =
-    ap value_of (ended-all Rest (module_field (pool_of c.args.class.now.pool)) (record { place = 0; bytes = c.args.body.now })
+    ap value_of (ended-all Rest (read_by (pool_of c.args.class.now.pool) module_layout) (record { place = 0; bytes = c.args.body.now })
     c.module.new.cursor c.in_ok-descriptor.descriptor c.len.result (rw c.new-cursor.ensures at c.in_ok-descriptor.ensures)
     c.len.ensures c.if-len-ne0.false)
 
 pub returns-clause-says : goal.returns-clause-says
 returns-clause-says c =
-    (body-said (pool_of c.args.class.now.pool) c.args.body.now c.in_ok-descriptor.descriptor (bytes_all c.args.body.now
-    (λ i. (c.type_inv.body i).fits)) (returns-clause-info c)).1
+    without_main (pool_of c.args.class.now.pool) c.args.body.now c.in_ok-descriptor.descriptor (returns-clause-info c)
+    (whole-says (info_rows (pool_of c.args.class.now.pool)) module_layout c.args.body.now c.in_ok-descriptor.descriptor
+    (bytes_all c.args.body.now (λ i. (c.type_inv.body i).fits)) (returns-clause-info c))

@@ -1,12 +1,12 @@
 use Rattle.std.proofs.Common.{◌≡◌, ◌-◌}
 use Rattle.jm_class.proofs.ListReadings.{prefixed}
-use Rattle.jm_class.specs.Readings.{counted, list_of}
+use Rattle.jm_class.specs.Readings.{counted}
 use Rattle.jm_class.specs.Views.{pool_of}
-use Rattle.jm_modinfo.specs.ComputedInfo.{named_field}
-use Rattle.jm_modinfo.specs.declared.faults.InfoFault.TheVariants.{Short}
+use Rattle.jm_modinfo.specs.Layouts.{listed}
+use Rattle.jm_modinfo.specs.ModuleLayout.{number, named, read_by}
 use Rattle.jm_modinfo.proofs.fields.names.Given as goal
 
 abbrev pub invariant-loop-k : goal.invariant-loop-k
 invariant-loop-k l =
-    list_of Short (named_field (pool_of l.class.pool) l.kind) l.fn.cursor
-    ≡ prefixed l.names (counted (l.count - l._k) (named_field (pool_of l.class.pool) l.kind) l.cursor)
+    read_by (pool_of l.class.pool) (listed number (named l.kind)) l.fn.cursor
+    ≡ prefixed l.names (counted (l.count - l._k) (read_by (pool_of l.class.pool) (named l.kind)) l.cursor)

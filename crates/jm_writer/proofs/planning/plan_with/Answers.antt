@@ -23,7 +23,7 @@ returns-in_err-laid c =
     let tabled = subst (λ ns. IsTable ns c.in_ok-table.table) c.as_slice.ensures c.in_ok-table.ensures in
     let is : c.from_residual-in_err-laid.result ≡ Err c.in_err-laid.field-0.0 = search rules in
     let all = count_sized pool c.args.nodes.now nodes in
-    let size = c.len.ensures.len in
+    let size = c.len-2.ensures.len in
     let few : length (all_sized pool) ≤ 1048576 = omega (arith, all, size, c.if-count-gt-ENTRY_LIMIT.false) in
     subst (IfAnswered (Plans c.args.order pool)) (sym is)
     (plan_large c.args.order pool e c.in_ok-table.table c.in_err-laid.field-0.0 of_entries tabled c.in_err-laid.ensures
@@ -41,10 +41,10 @@ returns c =
     c.in_ok-entries.ensures.entries) in
     let tabled = subst (λ ns. IsTable ns table) c.as_slice.ensures c.in_ok-table.ensures in
     let all = count_sized pool c.args.nodes.now nodes in
-    let size = c.len.ensures.len in
+    let size = c.len-2.ensures.len in
     let few : length (all_sized pool) ≤ 1048576 = omega (arith, all, size, c.if-count-gt-ENTRY_LIMIT.false) in
     let names = ap length of_entries.names ∙ length-map (all_sized pool) (λ e. e.name) in
-    let long : c.len.result + length c.args.nodes.now ≡ length e.names = omega (arith, names, all, size) in
+    let long : c.len-2.result + length c.args.nodes.now ≡ length e.names = omega (arith, names, all, size) in
     let can : CanLay pool = record {
       differ = c.len.ensures.differ;
       plain = record {
@@ -80,7 +80,7 @@ lay_out-requires-clause-entries c =
     let of_entries = subst (λ ns. IsOfEntries (map sized pool ++ map sized_node ns) e) nodes (c.in_ok-add_nodes.ensures (map sized pool)
     c.in_ok-entries.ensures.entries) in
     let all = count_sized pool c.args.nodes.now nodes in
-    let size = c.len.ensures.len in
+    let size = c.len-2.ensures.len in
     let few : length (all_sized pool) ≤ 1048576 = omega (arith, all, size, c.if-count-gt-ENTRY_LIMIT.false) in
     entries_fit pool e of_entries few (record {
       differ = c.len.ensures.differ;
@@ -94,7 +94,7 @@ add_nodes-requires c =
     let nodes = c.requires.nodes in
     let count = ap length nodes in
     let names = length-map pool (λ p. p.0) in
-    let size = c.len.ensures.len in
+    let size = c.len-2.ensures.len in
     subst (All (λ node. holds_size node.holds < 2 ^ 64)) (sym nodes)
     (nodes_fit (names_of pool) (omega (arith, count, names, size, c.if-count-gt-ENTRY_LIMIT.false)))
 
@@ -107,7 +107,7 @@ index_bytes-requires-clause-slots c =
     c.in_ok-entries.ensures.entries) in
     let tabled = subst (λ ns. IsTable ns c.in_ok-table.table) c.as_slice.ensures c.in_ok-table.ensures in
     let all = count_sized pool c.args.nodes.now nodes in
-    let size = c.len.ensures.len in
+    let size = c.len-2.ensures.len in
     let names = ap length of_entries.names ∙ length-map (all_sized pool) (λ e. e.name) in
     let same = ap length tabled.redirects in
     omega (arith, same, tabled.whole, tabled.few, names, all, size, c.if-count-gt-ENTRY_LIMIT.false)
