@@ -13,7 +13,7 @@ use Rattle.jm_names.specs.NameFaults.{IsSound}
 use Rattle.jm_names.specs.Names.{is_node}
 use Rattle.jm_modpath.specs.declared.refusal.PathRefusal.{PathRefusal}
 use Rattle.jm_modpath.specs.Modules.{bytes_at, candidates, path_refusal, visible}
-use Rattle.jm_outside.specs.Files.{AreBytes, Files, IsSound}
+use Rattle.jm_outside.specs.Files.{AreBytes, Files, IsSound as IsSoundShelf}
 use Rattle.jm_outside.proofs.Sound.{bytes_added}
 use Rattle.jm_plugins.proofs.NameLaws.{names_kept}
 use Rattle.jm_relink.specs.declared.fault.RelinkFault.{RelinkFault}
@@ -38,7 +38,7 @@ use Rattle.jm_link.proofs.SeenAgain.{AreOf}
 use Rattle.jm_link.proofs.ShownResources.{image_resources, path_resources}
 
 -- a file that a shelf tells has bytes alone
-told_bytes : (files : Files) (path : List ℕ) → IsSound files → AreBytes (bytes_at files path)
+told_bytes : (files : Files) (path : List ℕ) → IsSoundShelf files → AreBytes (bytes_at files path)
 told_bytes files path sound =
     subst AreBytes (append-nil (bytes_at files path)) (bytes_added files path [] sound.bytes (All-nil (λ byte. byte < 256)))
 
