@@ -28,7 +28,7 @@ use Rattle.jm_plugins.proofs.NameLaws.{names_differ, names_kept}
 use Rattle.jm_modpath.specs.declared.refusal.PathStop.{PathStop}
 use Rattle.jm_modpath.specs.declared.refusal.PathStop.TheVariants as path_stop
 use Rattle.jm_modpath.specs.declared.visible.VisibleModule.{VisibleModule}
-use Rattle.jm_modpath.specs.Finding.{AfterStop, AreVisible, ShowsModules}
+use Rattle.jm_modpath.specs.Finding.{AreVisible, ShowsModules}
 use Rattle.jm_modpath.specs.Modules.{candidates, visible}
 use Rattle.jm_texts.specs.declared.refusal.Refusal.{Refusal}
 use Rattle.jm_texts.specs.NameRefusals.{first_bad_name, name_refusal}
@@ -43,7 +43,7 @@ use Rattle.jm_link.specs.Linked.{image_with, laid_out, layout_refusal, path_refu
 use Rattle.jm_link.specs.Links.{BreaksOff, ComesTo, IsLaid, LinksBy, PoolComesTo, TellsNothing}
 use Rattle.jm_link.specs.ResourceFiles.{IsTakenFrom, IsToldIn, file_names, pair_of}
 use Rattle.jm_link.specs.Resources.{AreFit, link_files, resources_in, resources_of}
-use Rattle.jm_link.specs.Steps.{AfterStep, StepStops, stop_of_fault, stop_of_path}
+use Rattle.jm_link.specs.Steps.{StepStops, stop_of_fault, stop_of_path}
 use Rattle.jm_link.specs.Written.{WritesImage, WritesPart}
 use Rattle.jm_link.proofs.FileLaws.{files_free}
 use Rattle.jm_link.proofs.LaidLaws.{laid_free}
@@ -118,23 +118,6 @@ module _ (Comes : Result LinkedImage Refusal → Type 0) (Absent : Type 0) (path
       → LinksBy Comes Absent path (Err (stop_of_fault refusal_of given)) old new
   refused refusal_of Due (or.Fault fault) due comes = (comes fault due, same)
   refused refusal_of Due or.Memory due comes = inl same
-
--- Behind a step
-
--- what holds in any case
-pub holds_after : {A : Type 0} (Fact : Type 0) (answer : Result A LinkStop) → Fact → AfterStep Fact answer
-holds_after Fact (Ok given) fact = fact
-holds_after Fact (Err (stop.Refused r)) fact = fact
-holds_after Fact (Err (stop.NotThere listed)) fact = fact
-holds_after Fact (Err stop.Outside) fact = tt
-holds_after Fact (Err stop.Memory) fact = tt
-
--- what holds behind the search for modules
-pub unseen_after : {A : Type 0} (Fact : Type 0) (given : PathStop) → AfterStop Fact given → AfterStep {A = A} Fact (Err (stop_of_path given))
-unseen_after Fact (path_stop.Refused r) after = after
-unseen_after Fact (path_stop.NotThere listed) after = after
-unseen_after Fact path_stop.Outside after = tt
-unseen_after Fact path_stop.Memory after = tt
 
 -- The image of resources
 
