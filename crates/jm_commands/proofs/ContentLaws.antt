@@ -13,7 +13,7 @@ use Rattle.jm_names.specs.UtfForms.{utf}
 use Rattle.jm_form.specs.Validity.{look}
 use Rattle.jm_form.proofs.LocalityLaws.{header_of_front, header_same}
 use Rattle.jm_form.proofs.Validity.{sound_valid}
-use Rattle.jm_outside.specs.Files.{Files, file}
+use Rattle.jm_outside.specs.Files.{Files}
 use Rattle.jm_outside.specs.Outcome.{Rose}
 use Rattle.jm_outside.specs.Shelves.{ShelfFailed, ShelfSeen}
 use Rattle.jm_reader.specs.Look.{SoundIn, head}
@@ -30,8 +30,8 @@ use Rattle.jm_commands.specs.Run.{HasFile, PutDoes, ReadsFile, StepComesTo, Work
 use Rattle.jm_commands.specs.Sinks.{Seen}
 use Rattle.jm_commands.specs.World.{world}
 use Rattle.jm_commands.specs.Sought.{BeginsAt, IsContent, LookUp, ReadsContent, Seeks, row_size}
-use Rattle.jm_commands.specs.Taken.{TakesFrom, TakesOf, front_size, sought_size}
-use Rattle.jm_commands.proofs.FrontLaws.{file_put, file_unseen, front_there, never_lacks, no_length, part_of, size_of}
+use Rattle.jm_commands.specs.Taken.{TakesFrom, front_size, sought_size}
+use Rattle.jm_commands.proofs.FrontLaws.{file_put, file_unseen, front_there, never_lacks, part_of, takes_opened}
 
 -- A file of an index, with a content
 
@@ -228,20 +228,10 @@ found_long mid path front size sought (Some row) result seeks (place, begins, re
 -- behind the front the content of what the look-up finds
 pub takes_sought : (told mid : Option Files) (path front : List ℕ) (size : ℕ) (sought : LookUp) (row : Option Row)
     (result : Result (Option (List ℕ)) Stop) (old now new : ℕ) → IsFrontOf told path front size
-    → TakesFrom told path front_size old now → new ≤ now + row_size row
+    → ((b : List ℕ) → IsFileOf front size b → now ≤ old + front_size b) → AllSound front size → new ≤ now + row_size row
     → Seeks sought (record { bytes = front; length = size }) row
     → ReadsContent mid path (record { bytes = front; length = size }) row result
     → TakesFrom told path (sought_size sought) old new
-takes_sought None mid path front size sought row result old now new is takes more seeks reads = tt
-takes_sought (Some files) mid path front size sought row result old now new is takes more seeks reads =
-    go (file files path) refl takes
-  where
-    go : (f : Option (List ℕ)) → file files path ≡ f → TakesOf front_size f old now → TakesOf (sought_size sought) (file files path) old new
-    go None none takes = absurd (no_length files path size none is.size_is)
-    go (Some b) some takes =
-        let whole : IsFileOf front size b = record {
-          begins = sym (part_of files path b some 0 (length front) front is.begins);
-          length_is = size_of files path b some size is.size_is;
-        } in
-        let long = found_long mid path front size sought row result seeks reads b whole in
-        subst (λ (f : Option (List ℕ)). TakesOf (sought_size sought) f old new) (sym some) (omega (arith, takes, more, long))
+takes_sought told mid path front size sought row result old now new is taken sound more seeks reads =
+    takes_opened told path front size (λ b. length (content_found (sought b))) old now new is taken sound
+    (λ b whole. let long = found_long mid path front size sought row result seeks reads b whole in omega (arith, more, long))

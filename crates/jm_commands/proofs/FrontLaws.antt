@@ -8,6 +8,7 @@ use Rattle.jm_bytes.proofs.Choice.{same_ok, same_some}
 use Rattle.jm_form.specs.declared.container.Header.{Header}
 use Rattle.jm_form.specs.declared.container.HeaderFault.{HeaderFault}
 use Rattle.jm_form.specs.Head.{HoldsHead, IsFileOf, header_of, header_with, index_length}
+use Rattle.jm_form.specs.declared.damage.Damage.{Damage}
 use Rattle.jm_form.specs.Damages.{first_damage}
 use Rattle.jm_form.specs.Validity.{ValidAs, look}
 use Rattle.jm_form.proofs.HeadLaws.{head_read}
@@ -33,7 +34,7 @@ use Rattle.jm_commands.specs.World.{world}
 use Rattle.jm_commands.proofs.StepLaws.{file_read, file_unread, image_unopened, put_on_text}
 use Rattle.jm_commands.specs.FileParts.{Comes, ReadsFront, ReadsMore, Adds, HasFront, HasLength, HasPart, IsFrontOf, IsHeadOf, IsPart, LacksPart}
 use Rattle.jm_commands.specs.Run.{HasFile}
-use Rattle.jm_commands.specs.Taken.{TakesFrom, TakesNoMore, TakesOf, TaskTakes, WorkTakes, front_size, front_with, sought_size}
+use Rattle.jm_commands.specs.Taken.{TakesFrom, TakesNoMore, TakesOf, TaskTakes, WorkTakes, extract_size, front_size, front_with, opened_size, sought_size, unless_damaged}
 
 -- A told file
 
@@ -234,31 +235,46 @@ index_within told path head size h is found = omega (arith, is.length_is, (head_
 -- What was taken
 
 pub takes_nothing : (told : Option Files) (path : List ℕ) (most : List ℕ → ℕ) (n : ℕ) → TakesFrom told path most n n
-takes_nothing None path most n = tt
-takes_nothing (Some files) path most n = go (file files path)
+takes_nothing None path most n = (None, tt, refl)
+takes_nothing (Some files) path most n = (file files path, refl, go (file files path))
   where
     go : (found : Option (List ℕ)) → TakesOf most found n n
     go None = refl
     go (Some b) = omega arith
 
--- of a file that is there
-pub takes_there : (told : Option Files) (path : List ℕ) (most : List ℕ → ℕ) (size old new : ℕ) → HasLength told path (Some size)
-    → ((b : List ℕ) → new ≤ old + most b) → TakesFrom told path most old new
-takes_there None path most size old new long within = tt
-takes_there (Some files) path most size old new long within = go (file files path) refl
+pub takes_none : (told : Option Files) (path : List ℕ) (most : List ℕ → ℕ) (old new : ℕ) → new ≡ old → TakesFrom told path most old new
+takes_none told path most old new same = subst (λ n. TakesFrom told path most old n) (sym same) (takes_nothing told path most old)
+
+-- a file that has a length is there
+length_there : (told : Option Files) (path : List ℕ) (size : ℕ) → HasLength told path (Some size)
+    → (b : List ℕ) × HasFile told path (Some b) × (length b ≡ size)
+length_there None path size long = (replicate size 0, tt, length-replicate {A = ℕ} size 0)
+length_there (Some files) path size long = go (file files path) refl
   where
-    go : (found : Option (List ℕ)) → file files path ≡ found → TakesOf most (file files path) old new
+    go : (found : Option (List ℕ)) → file files path ≡ found → (b : List ℕ) × (Some b ≡ file files path) × (length b ≡ size)
     go None is = absurd (no_length files path size is long)
-    go (Some b) is = subst (λ (f : Option (List ℕ)). TakesOf most f old new) (sym is) (within b)
+    go (Some b) is = (b, sym is, size_of files path b is size long)
+
+pub takes_there : (told : Option Files) (path : List ℕ) (most : List ℕ → ℕ) (size old new : ℕ) → HasLength told path (Some size)
+    → ((b : List ℕ) → length b ≡ size → new ≤ old + most b) → TakesFrom told path most old new
+takes_there told path most size old new long within =
+    let there = length_there told path size long in (Some there.0, there.1, within there.0 there.2)
 
 pub takes_more : (told : Option Files) (path : List ℕ) (most also : List ℕ → ℕ) (old new : ℕ) → ((b : List ℕ) → most b ≤ also b)
     → TakesFrom told path most old new → TakesFrom told path also old new
-takes_more None path most also old new less takes = tt
-takes_more (Some files) path most also old new less takes = go (file files path) takes
+takes_more told path most also old new less (found, has, takes) = (found, has, go found takes)
   where
     go : (found : Option (List ℕ)) → TakesOf most found old new → TakesOf also found old new
     go None same = same
     go (Some b) within = omega (arith, within, less b)
+
+-- a number that hangs on no file
+takes_at_most : (told : Option Files) (path : List ℕ) (n old new : ℕ) → TakesFrom told path (λ b. n) old new → new ≤ old + n
+takes_at_most told path n old new (found, has, takes) = go found takes
+  where
+    go : (found : Option (List ℕ)) → TakesOf (λ b. n) found old new → new ≤ old + n
+    go None same = omega (arith, same)
+    go (Some b) within = within
 
 -- a header is taken in any case
 pub head_in_front : (b : List ℕ) → 28 ≤ front_size b
@@ -268,23 +284,56 @@ head_in_front b = go (header_of b)
     go (Ok h) = omega arith
     go (Err fault) = omega arith
 
+pub head_taken : (told : Option Files) (path : List ℕ) (old new : ℕ) (b : List ℕ) → TakesFrom told path (λ b. 28) old new
+    → new ≤ old + front_size b
+head_taken told path old new b takes = omega (arith, takes_at_most told path 28 old new takes, head_in_front b)
+
+-- each file that begins with a header has it
+front_long : (head : List ℕ) (size : ℕ) (h : Header) (b : List ℕ) → HoldsHead head size → header_with head size ≡ Ok h
+    → IsFileOf head size b → front_size b ≡ index_length h
+front_long head size h b holds found whole = ap front_with (sym (header_same head size b whole holds) ∙ found)
+
+begins_too : (head more : List ℕ) (size : ℕ) (b : List ℕ) → IsFileOf (head ++ more) size b → IsFileOf head size b
+begins_too head more size b whole = record {
+  begins = sym (take-take (length head) (length (head ++ more)) b (omega (arith, length-append head more)))
+      ∙ ap (take (length head)) whole.begins ∙ take_at head more (length head) refl;
+  length_is = whole.length_is;
+}
+
 -- behind the head the rest of the index
+pub index_taken : (told : Option Files) (path head front : List ℕ) (size count : ℕ) (h : Header) (old mid new : ℕ) (b : List ℕ)
+    → IsHeadOf told path head size → header_with head size ≡ Ok h → Adds told path head count front
+    → TakesFrom told path (λ b. 28) old mid → new ≤ mid + (index_length h - 28) → IsFileOf front size b → new ≤ old + front_size b
+index_taken told path head front size count h old mid new b is found (more, same, counted, has) takes rest whole =
+    let first = takes_at_most told path 28 old mid takes in
+    let most = front_long head size h b (holds_head told path head size is) found
+    (begins_too head more size b (subst (λ (l : List ℕ). IsFileOf l size b) same whole)) in
+    omega (arith, first, rest, most)
+
 pub takes_index : (told : Option Files) (path head : List ℕ) (size : ℕ) (h : Header) (old mid new : ℕ) → IsHeadOf told path head size
     → header_with head size ≡ Ok h → TakesFrom told path (λ b. 28) old mid → new ≤ mid + (index_length h - 28)
     → TakesFrom told path front_size old new
-takes_index None path head size h old mid new is found takes rest = tt
-takes_index (Some files) path head size h old mid new is found takes rest = go (file files path) refl takes
-  where
-    go : (f : Option (List ℕ)) → file files path ≡ f → TakesOf (λ b. 28) f old mid → TakesOf front_size (file files path) old new
-    go None none takes = absurd (no_length files path size none is.size_is)
-    go (Some b) some takes =
-        let whole : IsFileOf head size b = record {
-          begins = sym (part_of files path b some 0 (length head) head is.begins);
-          length_is = size_of files path b some size is.size_is;
-        } in
-        let header : header_of b ≡ Ok h = sym (header_same head size b whole (holds_head (Some files) path head size is)) ∙ found in
-        let most : front_size b ≡ index_length h = ap front_with header in
-        subst (λ (f : Option (List ℕ)). TakesOf front_size f old new) (sym some) (omega (arith, takes, rest, most))
+takes_index told path head size h old mid new is found takes rest =
+    let there = has_front told path head size is.size_is is.begins (omega (arith, is.length_is)) in
+    let first = takes_at_most told path 28 old mid takes in
+    let most = front_long head size h there.0 (holds_head told path head size is) found there.2 in
+    (Some there.0, there.1, omega (arith, first, rest, most))
+
+-- behind the front of an image without a damage contents of it
+pub takes_opened : (told : Option Files) (path front : List ℕ) (size : ℕ) (more : List ℕ → ℕ) (old now new : ℕ)
+    → IsFrontOf told path front size → ((b : List ℕ) → IsFileOf front size b → now ≤ old + front_size b)
+    → ((b : List ℕ) → IsFileOf front size b → first_damage b ≡ None)
+    → ((b : List ℕ) → IsFileOf front size b → new ≤ now + more b) → TakesFrom told path (opened_size more) old new
+takes_opened told path front size more old now new is taken sound also =
+    let there = front_there told path front size is in
+    let b = there.0 in
+    let first = taken b there.2 in
+    let rest = also b there.2 in (
+      Some b,
+      there.1,
+      subst (λ (d : Option Damage). new ≤ old + (front_size b + unless_damaged d (more b))) (sym (sound b there.2))
+          (omega (arith, first, rest)),
+    )
 
 -- An answer with nothing there
 
@@ -389,7 +438,7 @@ work_takes_nothing told path work_of.Verify n = takes_nothing told path front_si
 work_takes_nothing told path (work_of.List include) n = takes_nothing told path front_size n
 work_takes_nothing told path (work_of.Cat name) n = takes_nothing told path (sought_size (λ b. look b name)) n
 work_takes_nothing told path (work_of.Ls folder) n = takes_nothing told path (sought_size (λ b. node_sought b folder)) n
-work_takes_nothing told path (work_of.Extract dir include) n = tt
+work_takes_nothing told path (work_of.Extract dir include) n = takes_nothing told path (extract_size include) n
 work_takes_nothing told path work_of.Serve n = takes_nothing told path (λ b. length b) n
 
 task_takes_nothing : (told : Option Files) (given : Task) (n : ℕ) → TaskTakes told given n n

@@ -1,26 +1,27 @@
 //! The command `extract`.
-ghost use Rattle.std.specs.Prelude.{◌<◌, ℕ, IsOk, IsErrOf, IsTrue, IsUtf8, List};
+ghost use Rattle.std.specs.Prelude.{◌<◌, ◌≤◌, ◌+◌, ℕ, IsOk, IsErrOf, IsTrue, IsUtf8, List};
 ghost use Rattle.std.specs.Prelude.{OnOk};
+ghost use Rattle.jm_form.specs.Head.{IsFileOf};
 ghost use Rattle.jm_outside.specs.Outcome.{CountsFaults};
 ghost use Rattle.jm_outside.specs.Shelves.{shelf_at};
-ghost use Rattle.jm_extract.specs.Extracted.{Extracts, extracted};
+ghost use Rattle.jm_extract.specs.Extracted.{Extracts, extracted, taken_size};
+ghost use Rattle.jm_extract.specs.Filed.{IsFiled};
 ghost use Rattle.jm_commands.specs.ExtractText.{extract_text};
 ghost use Rattle.jm_commands.specs.Ledgers.{IsLedger};
 ghost use Rattle.jm_commands.specs.Outcome.{done, reading};
 ghost use Rattle.jm_commands.specs.Run.{PutDoes, StepComesTo, WorkComesTo};
 ghost use Rattle.jm_commands.specs.Sinks.{Seen};
+ghost use Rattle.jm_commands.specs.Taken.{TakesFrom, extract_size};
 ghost use Rattle.jm_commands.specs.World.{sink_at, world};
 
-use crate::front::whole_file;
-use crate::opened::Opened;
+use crate::front::{OpenFront, file_front};
 use crate::output::put_output;
 use crate::stop::Stop;
 use crate::workers::Workers;
-use jm_bytes::{List, Meter, Text};
-use jm_extract::{ExtractStop, extract};
+use jm_bytes::{Meter, Text};
+use jm_extract::{ExtractStop, Extraction, FiledImage, extract};
 use jm_halves::Gate;
 use jm_outside::{Shelf, Sink};
-use jm_pattern::Pattern;
 use jm_words::ImageWork;
 use std::alloc::Global;
 use std::marker::Brand;
@@ -36,34 +37,32 @@ fn put_count<O: Sink>(alloc: Global, count: usize, out: &mut O) -> Result<(), St
     put_output(alloc, text.as_bytes(), out)
 }
 
-/// What is taken out of an image, and the directory for it.
-#[derive(Clone, Copy)]
-pub struct Extraction<'w> {
-    /// Where files are made, in UTF-8.
-    pub dir: &'w [u8],
-    /// Patterns, of which one must match a name; None takes all resources.
-    pub include: &'w Option<List<Pattern>>,
-}
-
-/// Does what `extract` of jm_extract does, with a meter of its own.
+/// Does what `extract` of jm_extract does with the image at a path, with a meter of its own.
 fn extract_counted<S: Shelf, R: Ledger>(
-    alloc: Global,
-    image: &Opened,
+    path: &Text,
+    front: &OpenFront,
     work: Extraction,
     shelf: &mut S,
     reads: Blank,
 ) -> Result<usize, ExtractStop>
+    requires path { IsUtf8 path.now }
     requires text { IsUtf8 work.dir.now }
     requires reads { IsLedger reads.name reads.parts R.name R.parts }
-    ensures extracts { Extracts (extracted image.now work.entry.include.now) work.entry.dir.now
-        result (S.files shelf.old) (S.files shelf.new) }
+    ensures extracts { (b : List ℕ) → IsFiled front.now (S.files shelf.old) path.now b
+        → Extracts (extracted b work.entry.include.now) work.entry.dir.now result
+        (S.files shelf.old) (S.files shelf.new) }
+    ensures takes { (b : List ℕ) → IsFileOf front.now.bytes front.now.length b
+        → S.handed shelf.new ≤ S.handed shelf.old + taken_size b work.entry.include.now }
     ensures whole { OnOk result (IsTrue (S.whole shelf.new)) }
     ensures faults { CountsFaults (S.faults shelf.old) (S.faults shelf.new) (IsOk result)
         (IsErrOf result ExtractStop.Outside) }
 {
-    let mut reads = Meter::<R>::new(image.bytes(), reads);
-    let Extraction { dir, include } = work;
-    extract(alloc, image.as_image(), include, dir, shelf, &mut reads)
+    let mut reads = Meter::<R>::new(front.bytes(), reads);
+    let image = FiledImage {
+        index: front.as_index(),
+        path: path.as_slice(),
+    };
+    extract(path.allocator(), image, work, shelf, &mut reads)
 }
 
 /// `extract`: makes, below the directory, a file of each taken entry of the image in the file at a
@@ -79,17 +78,19 @@ pub fn extract_file<T: Threads + Sync, S: Shelf, O: Sink, G: Gate + Sync>(
     requires jobs { 0 < workers.now.jobs }
     requires path { IsUtf8 path.now }
     requires text { IsUtf8 work.dir.now }
-    ensures { (source : Seen (List ℕ)) →
+    ensures comes { (source : Seen (List ℕ)) →
         StepComesTo (WorkComesTo (S.files shelf.old) source.told path.now
         (ImageWork.Extract work.entry.dir.now work.entry.include.now)) reading result
         (world (shelf_at S.Shelf shelf.old) source (sink_at O.Sink out.old))
         (world (shelf_at S.Shelf shelf.new) source (sink_at O.Sink out.new)) }
+    ensures takes { TakesFrom (S.files shelf.old) path.now (extract_size work.entry.include.now)
+        (S.handed shelf.old) (S.handed shelf.new) }
 {
-    match whole_file(workers.alloc, path, shelf) {
-        Ok(bytes) => match Opened::of(workers, bytes.as_slice()) {
-            Ok(image) => {
+    match file_front(workers.alloc, path, shelf) {
+        Ok(bytes) => match OpenFront::of(workers, &bytes) {
+            Ok(front) => {
                 let reads = Blank::new(1);
-                let count = extract_counted::<S, Brand>(workers.alloc, &image, work, shelf, reads)?;
+                let count = extract_counted::<S, Brand>(path, &front, work, shelf, reads)?;
                 put_count(workers.alloc, count, out)
             }
             Err(stop) => Err(stop),

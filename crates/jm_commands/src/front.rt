@@ -126,6 +126,8 @@ pub fn file_front<S: Shelf>(alloc: Global, path: &Text, shelf: &mut S) -> Result
     ensures reads { ReadsFront (S.files shelf.old) path.now result }
     ensures takes { TakesFrom (S.files shelf.old) path.now front_size
         (S.handed shelf.old) (S.handed shelf.new) }
+    ensures taken { IfOk result (λ front. (b : List ℕ) → IsFileOf front.bytes front.length b
+        → S.handed shelf.new ≤ S.handed shelf.old + front_size b) }
     ensures faults { CountsFaults (S.faults shelf.old) (S.faults shelf.new) (IsOk result)
         (IsErrOf result Stop.Outside) }
 {

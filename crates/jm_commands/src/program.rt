@@ -12,7 +12,7 @@ ghost use Rattle.jm_commands.specs.World.{sink_at, world_of};
 
 use crate::cat_file::cat_file;
 use crate::describe::describe_command;
-use crate::extract::{Extraction, extract_file};
+use crate::extract::extract_file;
 use crate::generator::gen_command;
 use crate::help::help_command;
 use crate::link::link_command;
@@ -23,6 +23,7 @@ use crate::status::Status;
 use crate::stop::Stop;
 use crate::version::version_command;
 use crate::workers::Workers;
+use jm_extract::Extraction;
 use jm_halves::Gate;
 use jm_outside::{Shelf, Sink, SinkError, Source};
 use jm_words::{ImageWork, Task, read_words};
@@ -52,8 +53,8 @@ fn end<E: Sink>(alloc: Global, done: Result<(), Stop>, err: &mut E) -> Status
     }
 }
 
-/// Does what a command is to do. Of the works on an image `extract` and `serve` take the whole
-/// file, the others its index.
+/// Does what a command is to do. Of the works on an image `serve` takes the whole file, the others
+/// its index.
 fn do_command<T: Threads + Sync, S: Shelf, I: Source, O: Sink, G: Gate + Sync>(
     workers: &Workers<T, G>,
     task: &Task,

@@ -1,6 +1,6 @@
 -- The contents of an image in a file, which are read while files are made.
 use Rattle.std.proofs.Common.{◌≡◌, ◌≢◌, ◌≤◌, ◌<◌, ◌+◌, ◌⊎◌, inl, inr, ℕ, true, false, List, [], ◌∷◌, ◌++◌, drop, length}
-use Rattle.std.proofs.Common.{map, take, get_or, Option, None, Some, Result, Ok, Err, OnOk, OnErr, IsErrAnd, option_map, refl, sym, ap, subst}
+use Rattle.std.proofs.Common.{map, take, get_or, Option, None, Some, Result, Ok, Err, IsErrAnd, option_map, refl, sym, ap, subst}
 use Rattle.std.proofs.Common.{◌∙◌, arith, nat_eq, suc, zero, Bor}
 use Rattle.std.specs.Slice.{IsItemAt}
 use Rattle.std.specs.Str.{bytes_eq}
@@ -11,9 +11,8 @@ use Rattle.std.proofs.lemmas.List.{take-append-drop, length-take-le}
 use Rattle.std.proofs.lemmas.List.Elements.{All-cons, All-nil}
 use Rattle.std.proofs.lemmas.List.Sums.{sum_by_push, sum_by-append, sum_by-take-le}
 use Rattle.std.proofs.lemmas.Slice.Eq.{bytes_eq-Decides}
-use Rattle.jm_bytes.proofs.Choice.{same_some}
 use Rattle.jm_names.specs.UtfForms.{utf}
-use Rattle.jm_outside.specs.Files.{Files, file_part, part}
+use Rattle.jm_outside.specs.Files.{Files, part}
 use Rattle.jm_outside.specs.Made.{Elsewhere, MadeAll, MadePart, Writes, written}
 use Rattle.jm_outside.specs.Outcome.{Shows}
 use Rattle.jm_outside.proofs.MadeLaws.{file-written, part_of_all}
@@ -23,14 +22,6 @@ use Rattle.jm_extract.specs.Filed.{AreContents, HasContent, IsAt, is_made_at, si
 use Rattle.jm_extract.specs.Taken.{content_in, taken_as}
 
 -- Reading
-
--- what is read of the file at a path is a part of its bytes
-pub part_read : (told : Option Files) (path b text : List ℕ) (at count : ℕ) → IsAt told path b
-    → Shows told (λ (files : Files). file_part files path at count ≡ Some text)
-    → Shows told (λ (files : Files). text ≡ part b at count)
-part_read None path b text at count is read = tt
-part_read (Some files) path b text at count is read =
-    sym (same_some (part b at count) text (ap (option_map (λ bytes. part bytes at count)) is ∙ read))
 
 -- one content more
 pub contents_next : (told : Option Files) (b : List ℕ) (ts : List TakenEntry) (i : ℕ) (t : TakenEntry) (texts new : List (List ℕ))
@@ -54,17 +45,6 @@ sizes_next ts i t within is =
     ∙ ap (λ (u : TakenEntry). sizes (take i ts) + u.row.size) is
 
 -- Making
-
--- a text that was shown to be the content is made as such
-pub makes_shown : {A E : Type 0} (answer : Result A E) (told new : Option Files) (path text content : List ℕ)
-    → Shows told (λ (files : Files). text ≡ content) → OnOk answer (MadeAll ((path, text) ∷ []) told new)
-    → OnErr answer (MadePart ((path, text) ∷ []) told new) → Makes answer ((path, content) ∷ []) told new
-makes_shown (Ok x) None new path text content own made part = made
-makes_shown (Ok x) (Some files) new path text content own made part =
-    subst (λ (t : List ℕ). MadeAll ((path, t) ∷ []) (Some files) new) own made
-makes_shown (Err e) None new path text content own made part = tt
-makes_shown (Err e) (Some files) new path text content own made part =
-    subst (λ (t : List ℕ). MadePart ((path, t) ∷ []) (Some files) new) own part
 
 -- some of the files may be none
 pub makes_part : {A E : Type 0} (Q : E → Type 0) (answer : Result A E) (writes : Writes) (old new : Option Files)

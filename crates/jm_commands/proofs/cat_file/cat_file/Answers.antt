@@ -1,10 +1,11 @@
-use Rattle.std.proofs.Common.{None, Some, refl}
+use Rattle.std.proofs.Common.{None, Some, arith, refl}
 use Rattle.jm_form.specs.Validity.{look}
 use Rattle.jm_outside.specs.Shelves.{shelf_at}
 use Rattle.jm_valid.specs.Opened.{Front}
 use Rattle.jm_words.specs.declared.tasks.ImageWork.TheVariants as work
+use Rattle.jm_commands.specs.Taken.{front_size, sought_size}
 use Rattle.jm_commands.proofs.ContentLaws.{cat_put, content_unread, takes_sought}
-use Rattle.jm_commands.proofs.FrontLaws.{front_unread, index_unopened}
+use Rattle.jm_commands.proofs.FrontLaws.{front_unread, index_unopened, takes_more}
 use Rattle.jm_commands.proofs.StepLaws.{from_stop}
 use Rattle.jm_commands.proofs.cat_file.cat_file.Goals as goal
 
@@ -66,7 +67,7 @@ returns-in_err-content-clause-takes g c =
     let read = c.in_ok-bytes.ensures in
     let opened = c.in_ok-front.ensures in
     takes_sought (g.S.Shelf.files c.args.shelf.now) _ c.args.path.now c.in_ok-bytes.bytes.bytes c.in_ok-bytes.bytes.length
-    (λ b. look b c.args.name.now) c.find_counted-row.result _ _ _ _ read.reads read.takes c.in_err-content.ensures.handed
+    (λ b. look b c.args.name.now) c.find_counted-row.result _ _ _ _ read.reads read.taken opened.opens c.in_err-content.ensures.handed
     (rw (opened.bytes, opened.length) at c.find_counted-row.ensures) (rw (opened.bytes, opened.length) at c.in_err-content.ensures.reads)
 
 pub returns-in-Some-clause-takes : goal.returns-in-Some-clause-takes
@@ -74,7 +75,7 @@ returns-in-Some-clause-takes g c =
     let read = c.in_ok-bytes.ensures in
     let opened = c.in_ok-front.ensures in
     takes_sought (g.S.Shelf.files c.args.shelf.now) _ c.args.path.now c.in_ok-bytes.bytes.bytes c.in_ok-bytes.bytes.length
-    (λ b. look b c.args.name.now) c.find_counted-row.result _ _ _ _ read.reads read.takes c.in_ok-content.ensures.handed
+    (λ b. look b c.args.name.now) c.find_counted-row.result _ _ _ _ read.reads read.taken opened.opens c.in_ok-content.ensures.handed
     (rw (opened.bytes, opened.length) at c.find_counted-row.ensures) (rw (opened.bytes, opened.length) at c.in_ok-content.ensures.reads)
 
 pub returns-clause-takes : goal.returns-clause-takes
@@ -82,5 +83,15 @@ returns-clause-takes g c =
     let read = c.in_ok-bytes.ensures in
     let opened = c.in_ok-front.ensures in
     takes_sought (g.S.Shelf.files c.args.shelf.now) _ c.args.path.now c.in_ok-bytes.bytes.bytes c.in_ok-bytes.bytes.length
-    (λ b. look b c.args.name.now) c.find_counted-row.result _ _ _ _ read.reads read.takes c.in_ok-content.ensures.handed
+    (λ b. look b c.args.name.now) c.find_counted-row.result _ _ _ _ read.reads read.taken opened.opens c.in_ok-content.ensures.handed
     (rw (opened.bytes, opened.length) at c.find_counted-row.ensures) (rw (opened.bytes, opened.length) at c.in_ok-content.ensures.reads)
+
+pub returns-in_err-bytes-clause-takes : goal.returns-in_err-bytes-clause-takes
+returns-in_err-bytes-clause-takes g c =
+    takes_more (g.S.Shelf.files c.args.shelf.now) c.args.path.now front_size (sought_size (λ b. look b c.args.name.now)) _ _ (λ b. omega arith)
+    c.in_err-bytes.ensures.takes
+
+pub returns-in_err-front-clause-takes : goal.returns-in_err-front-clause-takes
+returns-in_err-front-clause-takes g c =
+    takes_more (g.S.Shelf.files c.args.shelf.now) c.args.path.now front_size (sought_size (λ b. look b c.args.name.now)) _ _ (λ b. omega arith)
+    c.in_ok-bytes.ensures.takes

@@ -1,7 +1,7 @@
 use Rattle.std.proofs.Common.{◌-◌, ap, sym}
 use Rattle.jm_commands.specs.declared.front.FileFront.{FileFront}
 use Rattle.jm_commands.specs.FileParts.{IsFrontOf}
-use Rattle.jm_commands.proofs.FrontLaws.{front_is, head_in_front, index_within, takes_index, takes_more, unextended}
+use Rattle.jm_commands.proofs.FrontLaws.{front_is, head_in_front, head_taken, index_taken, index_within, takes_index, takes_more, unextended}
 use Rattle.jm_commands.proofs.StepLaws.{from_stop}
 use Rattle.jm_commands.proofs.front.file_front.Goals as goal
 
@@ -44,4 +44,21 @@ returns-in_ok-extend_front-in-Ok-clause-takes g c =
 
 pub returns-in-Err-clause-takes : goal.returns-in-Err-clause-takes
 returns-in-Err-clause-takes g c =
+    takes_more (g.S.Shelf.files c.args.shelf.now) c.args.path.now _ _ _ _ head_in_front c.file_head.ensures.takes
+
+pub returns-in_ok-extend_front-in-Ok-clause-taken : goal.returns-in_ok-extend_front-in-Ok-clause-taken
+returns-in_ok-extend_front-in-Ok-clause-taken g c b whole =
+    let told = g.S.Shelf.files c.args.shelf.now in
+    let head = c.in_ok-bytes.field-0 in
+    let found = rw c.as_slice.ensures at (sym c.in-Ok.ensures) in
+    let read = rw (c.file_head.ensures.files, c.contents_place-count.ensures) at c.in_ok-extend_front-in-Ok.ensures.reads in
+    index_taken told c.args.path.now head.bytes c.extend_front.new.front head.length _ c.in-Ok.header _ _ _ b c.in_ok-bytes.ensures.reads
+    found read c.file_head.ensures.takes (rw c.contents_place-count.ensures at c.extend_front.ensures.handed) whole
+
+pub returns-in-Err-clause-taken : goal.returns-in-Err-clause-taken
+returns-in-Err-clause-taken g c b whole =
+    head_taken (g.S.Shelf.files c.args.shelf.now) c.args.path.now _ _ b c.file_head.ensures.takes
+
+pub returns-in_err-bytes-clause-takes : goal.returns-in_err-bytes-clause-takes
+returns-in_err-bytes-clause-takes g c =
     takes_more (g.S.Shelf.files c.args.shelf.now) c.args.path.now _ _ _ _ head_in_front c.file_head.ensures.takes

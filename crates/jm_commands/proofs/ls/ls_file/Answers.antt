@@ -1,11 +1,12 @@
-use Rattle.std.proofs.Common.{refl, sym, ◌∙◌}
+use Rattle.std.proofs.Common.{arith, refl, sym, ◌∙◌}
 use Rattle.jm_jrt.specs.Stat.{held, node_sought, stat}
 use Rattle.jm_outside.specs.Shelves.{shelf_at}
 use Rattle.jm_valid.specs.Opened.{Front}
 use Rattle.jm_words.specs.declared.tasks.ImageWork.TheVariants as work
 use Rattle.jm_commands.specs.Outcome.{ls_outcome}
+use Rattle.jm_commands.specs.Taken.{front_size, sought_size}
 use Rattle.jm_commands.proofs.ContentLaws.{content_unread, sought_there, takes_sought}
-use Rattle.jm_commands.proofs.FrontLaws.{file_put, front_unread, index_unopened}
+use Rattle.jm_commands.proofs.FrontLaws.{file_put, front_unread, index_unopened, takes_more}
 use Rattle.jm_commands.proofs.OutcomeLaws.{ls_session}
 use Rattle.jm_commands.proofs.StepLaws.{from_stop}
 use Rattle.jm_commands.proofs.ls.ls_file.Goals as goal
@@ -65,7 +66,7 @@ returns-in_err-content-clause-takes g c =
     let read = c.in_ok-bytes.ensures in
     let opened = c.in_ok-front.ensures in
     takes_sought (g.S.Shelf.files c.args.shelf.now) _ c.args.image.now c.in_ok-bytes.bytes.bytes c.in_ok-bytes.bytes.length
-    (λ b. node_sought b c.args.path.now) c.node_counted-row.result _ _ _ _ read.reads read.takes c.in_err-content.ensures.handed
+    (λ b. node_sought b c.args.path.now) c.node_counted-row.result _ _ _ _ read.reads read.taken opened.opens c.in_err-content.ensures.handed
     (rw (opened.bytes, opened.length) at c.node_counted-row.ensures) (rw (opened.bytes, opened.length) at c.in_err-content.ensures.reads)
 
 pub returns-clause-takes : goal.returns-clause-takes
@@ -73,5 +74,15 @@ returns-clause-takes g c =
     let read = c.in_ok-bytes.ensures in
     let opened = c.in_ok-front.ensures in
     takes_sought (g.S.Shelf.files c.args.shelf.now) _ c.args.image.now c.in_ok-bytes.bytes.bytes c.in_ok-bytes.bytes.length
-    (λ b. node_sought b c.args.path.now) c.node_counted-row.result _ _ _ _ read.reads read.takes c.in_ok-content.ensures.handed
+    (λ b. node_sought b c.args.path.now) c.node_counted-row.result _ _ _ _ read.reads read.taken opened.opens c.in_ok-content.ensures.handed
     (rw (opened.bytes, opened.length) at c.node_counted-row.ensures) (rw (opened.bytes, opened.length) at c.in_ok-content.ensures.reads)
+
+pub returns-in_err-bytes-clause-takes : goal.returns-in_err-bytes-clause-takes
+returns-in_err-bytes-clause-takes g c =
+    takes_more (g.S.Shelf.files c.args.shelf.now) c.args.image.now front_size (sought_size (λ b. node_sought b c.args.path.now)) _ _ (λ b. omega arith)
+    c.in_err-bytes.ensures.takes
+
+pub returns-in_err-front-clause-takes : goal.returns-in_err-front-clause-takes
+returns-in_err-front-clause-takes g c =
+    takes_more (g.S.Shelf.files c.args.shelf.now) c.args.image.now front_size (sought_size (λ b. node_sought b c.args.path.now)) _ _ (λ b. omega arith)
+    c.in_ok-bytes.ensures.takes

@@ -45,7 +45,10 @@ returns-in-Ls-clause-takes g c = rw (c.in-Image.is, c.in-Ls.is, sym c.as_slice-i
 
 pub returns-in-Extract-clause-comes : goal.returns-in-Extract-clause-comes
 returns-in-Extract-clause-comes g c =
-    rw (c.in-Image.is, c.in-Extract.is, sym c.as_slice-in-Extract.ensures) (c.extract_file.ensures (source_at g.I.Source c.args.input.now))
+    rw (c.in-Image.is, c.in-Extract.is, sym c.as_slice-in-Extract.ensures) (c.extract_file.ensures.comes (source_at g.I.Source c.args.input.now))
+
+pub returns-in-Extract-clause-takes : goal.returns-in-Extract-clause-takes
+returns-in-Extract-clause-takes g c = rw (c.in-Image.is, c.in-Extract.is) c.extract_file.ensures.takes
 
 pub returns-in-Serve-clause-comes : goal.returns-in-Serve-clause-comes
 returns-in-Serve-clause-comes g c = rw (c.in-Image.is, c.in-Serve.is) c.serve_file.ensures.comes
