@@ -13,7 +13,7 @@ use Rattle.jm_names.specs.NameFaults.{IsSound}
 use Rattle.jm_names.specs.Names.{is_node}
 use Rattle.jm_modpath.specs.declared.refusal.PathRefusal.{PathRefusal}
 use Rattle.jm_modpath.specs.Modules.{bytes_at, candidates, path_refusal, visible}
-use Rattle.jm_outside.specs.Files.{AreBytes, Files, IsSound as IsSoundShelf}
+use Rattle.jm_outside.specs.Files.{AreBytes, Files, HaveBytes}
 use Rattle.jm_outside.proofs.Sound.{bytes_added}
 use Rattle.jm_plugins.proofs.NameLaws.{names_kept}
 use Rattle.jm_relink.specs.declared.fault.RelinkFault.{RelinkFault}
@@ -37,10 +37,10 @@ use Rattle.jm_link.proofs.RelinkedLaws.{IsMade, made_parts}
 use Rattle.jm_link.proofs.SeenAgain.{AreOf}
 use Rattle.jm_link.proofs.ShownResources.{image_resources, path_resources}
 
--- a file that a shelf tells has bytes alone
-told_bytes : (files : Files) (path : List ℕ) → IsSoundShelf files → AreBytes (bytes_at files path)
-told_bytes files path sound =
-    subst AreBytes (append-nil (bytes_at files path)) (bytes_added files path [] sound.bytes (All-nil (λ byte. byte < 256)))
+-- the bytes of a file, among files that have bytes alone
+told_bytes : (files : Files) (path : List ℕ) → HaveBytes files → AreBytes (bytes_at files path)
+told_bytes files path bytes =
+    subst AreBytes (append-nil (bytes_at files path)) (bytes_added files path [] bytes (All-nil (λ byte. byte < 256)))
 
 -- What it was made of
 
@@ -107,12 +107,12 @@ made_from (ModulePath files directories) asked image sound linked =
       once = λ others shown. shown;
       gathered = gathered;
       made = made;
-      of = path_resources asked.release files directories (λ path. told_bytes files path sound) (Chosen asked.bind found (roots_among found asked.roots)) made.places made.closes.4
+      of = path_resources asked.release files directories (λ path. told_bytes files path sound.bytes) (Chosen asked.bind found (roots_among found asked.roots)) made.places made.closes.4
           (taken_within asked found gathered image made);
     }
 made_from (Image b) asked image (files, sound, path, is) linked =
     let links = image_links asked linked.0 image linked.2 in
-    let bytes = subst (λ o. AreBytes (unwrap_or o [])) is (told_bytes files path sound) in
+    let bytes = subst (λ o. AreBytes (unwrap_or o [])) is (told_bytes files path sound.bytes) in
     from_seen b asked image bytes links.0 (subst (ModulesOf asked.release b) links.1 linked.1) links.2
 
 -- Its layout
