@@ -3,8 +3,8 @@ use Rattle.std.proofs.Common.{◌≡◌, ◌∷◌, inl, inr, ℕ, List, [], Opt
 use Rattle.std.proofs.lemmas.List.Elements.{All-nil}
 use Rattle.jm_bytes.proofs.Choice.{same_err}
 use Rattle.jm_bytes.specs.declared.words.Order.{Order}
-use Rattle.jm_outside.specs.Files.{Files, put}
-use Rattle.jm_outside.specs.Shelves.{ShelfFailed, ShelfSeen}
+use Rattle.jm_outside.specs.Files.{Files}
+use Rattle.jm_outside.specs.Shelves.{ShelfFailed}
 use Rattle.jm_outside.proofs.MadeLaws.{part_alone}
 use Rattle.jm_link.specs.declared.linking.LinkStop.{LinkStop}
 use Rattle.jm_link.specs.declared.linking.LinkStop.TheVariants as link_stop
