@@ -166,9 +166,9 @@ stretch_cut texts place n =
 -- The passages of the places
 
 -- where no bytes stand any more, the text is empty
-pub passage_behind : (texts : List ℕ) (nth : ℕ) → length texts ≤ nth * 4096 → nth_passage texts nth ≡ range_with_len 0 257
+pub passage_behind : (texts : List ℕ) (nth : ℕ) → length texts ≤ nth * 512 → nth_passage texts nth ≡ range_with_len 0 257
 passage_behind texts nth past =
-    ap (λ l. passage_of (before_first (λ x. x == 0) l)) (drop_all (nth * 4096) texts past) ∙ map_same (range_with_len 0 257)
+    ap (λ l. passage_of (before_first (λ x. x == 0) l)) (drop_all (nth * 512) texts past) ∙ map_same (range_with_len 0 257)
 
 pub length_passage : (text : List ℕ) → length (passage_of text) ≡ 257
 length_passage text = length-map-range_with_len (λ s. state_after s text) 0 257

@@ -15,7 +15,7 @@ use jm_names::HASH_FACTOR;
 use std::alloc::Global;
 
 /// How many bytes of the strings lie between two places whose passages are kept.
-pub const STRETCH: usize = 4096;
+pub const STRETCH: usize = 512;
 
 /// The state after a text from a state before it, by the text's passage.
 pub fn passed(passage: &[u32], state: u32) -> u32
@@ -92,7 +92,7 @@ fn passage_at(
     behind: &[u32],
 ) -> Result<List<u32>, NoMemory>
     requires within { place ≤ length texts.now }
-    requires behind { behind.now ≡ passage_of (text_at texts.now (place + 4096)) }
+    requires behind { behind.now ≡ passage_of (text_at texts.now (place + 512)) }
     ensures { IfOk result (λ p. p ≡ passage_of (text_at texts.now place)) }
 {
     let (_, rest) = texts.split_at(place);

@@ -27,7 +27,7 @@ pub struct Names<'a> {
 }
 
 impl<'a> Names<'a> {
-    /// Takes memory only where a text is long: a byte for each four bytes of the strings.
+    /// Takes memory only where a text is long: twice as much as the strings have.
     pub fn of(alloc: Global, sections: &Sections<'a>) -> Result<Names<'a>, NoMemory>
         ensures names { IfOk result (λ names. names.sections ≡ sections.now) }
         ensures long { IfErr result (λ _. HasLongText sections.now.texts.now) }
@@ -42,7 +42,7 @@ impl<'a> Names<'a> {
     /// The passage of the text at the front of the next stretch, if it is kept.
     fn passage_behind(&self, place: usize) -> Option<&[u32]>
         ensures { IfSome result (λ p. p.now
-            ≡ nth_passage self.now.sections.texts.now (place / 4096 + 1)) }
+            ≡ nth_passage self.now.sections.texts.now (place / 512 + 1)) }
     {
         let nth = place / STRETCH + 1;
         let count = self.passages.len();

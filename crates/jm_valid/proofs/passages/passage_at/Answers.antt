@@ -12,14 +12,14 @@ pub returns : goal.returns
 returns c =
     let texts = c.args.texts.now in
     let place = c.args.place in
-    let rest = drop (place + 4096) texts in
-    let bytes = All-drop (λ b. b < 256) (place + 4096) texts (All-from_get_or (λ b. b < 256) texts 0
+    let rest = drop (place + 512) texts in
+    let bytes = All-drop (λ b. b < 256) (place + 512) texts (All-from_get_or (λ b. b < 256) texts 0
     (λ k below. (c.type_inv.texts k).fits)) in
     let behind = c.split_at.ensures.back in
-    let front : c.split_at-2.result.0.now ≡ take (min 4096 (length (drop place texts))) (drop place texts) =
-    c.split_at-2.ensures.front ∙ ap₂ (λ n l. take n l) (c.min.ensures ∙ ap (λ (l : List ℕ). min 4096 (length l)) behind) behind in
+    let front : c.split_at-2.result.0.now ≡ take (min 512 (length (drop place texts))) (drop place texts) =
+    c.split_at-2.ensures.front ∙ ap₂ (λ n l. take n l) (c.min.ensures ∙ ap (λ (l : List ℕ). min 512 (length l)) behind) behind in
     let whole : c.split_at-2.result.0.now ++ rest ≡ drop place texts = ap (λ (l : List ℕ). l ++ rest) front
-    ∙ stretch_cut texts place 4096 in
+    ∙ stretch_cut texts place 512 in
     let done : c.pass_stretch.new.states ≡ passage_of (text_at texts place) =
     c.pass_stretch.ensures rest bytes c.requires.behind ∙ ap₂ (λ t l. map (λ s. state_after s (text_at t 0)) l) whole
     (c.as_mut_slice.ensures.value ∙ c.in_ok-states.ensures) in

@@ -4,4 +4,4 @@ use Rattle.jm_valid.specs.Passages.{nth_passage}
 use Rattle.jm_valid.proofs.passages.passages_if_long.Given as goal
 
 abbrev pub invariant-loop-nth : goal.invariant-loop-nth
-invariant-loop-nth l = l.passages ≡ map (λ k. nth_passage l.texts (length l.texts / 4096 + 2 - 1 - k)) (range_with_len 0 (l.nth + 1))
+invariant-loop-nth l = l.passages ≡ map (λ k. nth_passage l.texts (length l.texts / 512 + 2 - 1 - k)) (range_with_len 0 (l.nth + 1))

@@ -5,7 +5,7 @@ use Rattle.jm_valid.proofs.row_names.Names.passage_behind.Goals as goal
 pub returns : goal.returns
 returns c =
     let names = c.args.self.now in
-    let nth = c.args.place / 4096 + 1 in
+    let nth = c.args.place / 512 + 1 in
     let size = c.len-count.ensures in
     let test = c.if-nth-count.false in
     let read = c.index-as_slice-count.result in
