@@ -28,6 +28,7 @@ fn append_resources<S: Shelf>(
         (HoldsPart base path.now (front ++ contents_text pool.now) (S.files shelf.new)) }
     ensures faults { CountsFaults (S.faults shelf.old) (S.faults shelf.new) (IsOk result)
         (IsErrOf result ShelfError.Failed) }
+    ensures handed { S.handed shelf.new ≡ S.handed shelf.old }
 {
     for place in 0..pool.len() {
         let (_, bytes) = pool.at(place);
@@ -55,6 +56,7 @@ pub fn write<S: Shelf>(
         × HoldsPart (S.files shelf.old) path.now image (S.files shelf.new)) }
     ensures faults { CountsFaults (S.faults shelf.old) (S.faults shelf.new) (IsOk result)
         (IsErrOf result ShelfError.Failed) }
+    ensures handed { S.handed shelf.new ≡ S.handed shelf.old }
 {
     shelf.create(alloc, path)?;
     shelf.append(alloc, path, draft.index.as_slice())?;

@@ -35,4 +35,5 @@ loop-place-preserved g c =
           (holds_more base (g.S.Shelf.files c.loop-place.shelf) (g.S.Shelf.files c.append.new.self) path done bytes
           (c.loop-place.invariant.files base front at_first) c.in_ok-append.ensures.ok);
       faults = c.in_ok-append.ensures.faults.kept refl ∙ c.loop-place.invariant.faults;
+      handed = c.append.ensures.handed ∙ c.loop-place.invariant.handed;
     }

@@ -9,4 +9,5 @@ invariant-loop-place g l = record {
   files : (base : Option Files) (front : List ℕ) → Holds base l.path front (g.S.Shelf.files l.fn.shelf)
       → Holds base l.path (front ++ contents_text (take l.place l.pool)) (g.S.Shelf.files l.shelf);
   faults : g.S.Shelf.faults l.shelf ≡ g.S.Shelf.faults l.fn.shelf;
+  handed : g.S.Shelf.handed l.shelf ≡ g.S.Shelf.handed l.fn.shelf;
 }
