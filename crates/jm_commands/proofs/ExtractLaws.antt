@@ -5,21 +5,27 @@ use Rattle.jm_names.specs.ByName.{Named}
 use Rattle.jm_texts.specs.declared.refusal.Refusal.{Refusal}
 use Rattle.jm_extract.specs.declared.extracting.ExtractStop.{ExtractStop}
 use Rattle.jm_extract.specs.declared.extracting.ExtractStop.TheVariants as extract_stop
-use Rattle.jm_extract.specs.Extracted.{BreaksOff, Extracts, writes_of}
+use Rattle.jm_extract.specs.Extracted.{BreaksOff, Extracts, extracted, writes_of}
+use Rattle.jm_filed.specs.Filed.{IsFiled}
 use Rattle.jm_outside.specs.Files.{Files}
-use Rattle.jm_outside.specs.Shelves.{ShelfFailed}
+use Rattle.jm_outside.specs.Shelves.{ShelfFailed, ShelfSeen}
+use Rattle.jm_pattern.specs.declared.signs.Sign.{Sign}
+use Rattle.jm_valid.specs.Opened.{Front}
+use Rattle.jm_words.specs.declared.tasks.ImageWork.TheVariants as work
 use Rattle.jm_commands.specs.declared.complaint.Complaint.TheVariants as complaint
 use Rattle.jm_commands.specs.declared.stop.Stop.{Stop}
 use Rattle.jm_commands.specs.declared.stop.Stop.TheVariants as stop
 use Rattle.jm_commands.specs.ExtractText.{extract_text}
-use Rattle.jm_commands.specs.Outcome.{done, extract_outcome, reading, refusing}
 use Rattle.jm_commands.specs.FailedBefore.{WorkFailed}
-use Rattle.jm_commands.specs.Run.{PutDoes, StepDoes}
+use Rattle.jm_commands.specs.FileParts.{IsOpenFront}
+use Rattle.jm_commands.specs.Outcome.{done, extract_outcome, image_outcome, reading, refusing}
+use Rattle.jm_commands.specs.Run.{PutDoes, StepComesTo, StepDoes, WorkComesTo}
 use Rattle.jm_commands.specs.Sinks.{Seen}
 use Rattle.jm_commands.specs.Stops.{stop_of_extract}
-use Rattle.jm_commands.specs.World.{World}
+use Rattle.jm_commands.specs.World.{World, world}
+use Rattle.jm_commands.proofs.FrontLaws.{filed_there, of_work, opened}
 use Rattle.jm_commands.proofs.Made.{stays_part}
-use Rattle.jm_commands.proofs.StepLaws.{complained, made_in_part, made_put, put_step}
+use Rattle.jm_commands.proofs.StepLaws.{complained, made_in_part, made_put, on_any_text, put_step}
 
 -- no session is due of an extraction
 pub extract_session : (dir : List ℕ) (due : Result (List Named) Refusal) → (extract_outcome dir due).session ≡ None
@@ -70,3 +76,16 @@ module _ (dir : List ℕ) (due : Result (List Named) Refusal) (old new : World) 
   extract_stopped extract_stop.Memory broken rose unput =
       made_in_part (extract_outcome dir due) stop.Memory old new tt (extract_session dir due)
       (broken_part dir due old.shelf.told new.shelf.told broken) source unput (λ failed. cc)
+
+-- behind the opening of the image in the file of a path
+pub extract_does : (dir : List ℕ) (include : Option (List (List Sign))) (path : List ℕ) (shelf mid : ShelfSeen) (source out : Seen (List ℕ))
+    (front : Front) (answer : Result (Unit {0}) Stop) (new : World) → mid.told ≡ shelf.told → mid.faults ≡ shelf.faults
+    → IsOpenFront shelf.told path front → ((b : List ℕ) → IsFiled front mid.told path b → StepDoes reading (extract_outcome dir (extracted b include)) answer
+    (world mid source out) new) → StepComesTo (WorkComesTo shelf.told source.told path (work.Extract dir include)) reading answer
+    (world shelf source out) new
+extract_does dir include path shelf mid source out front answer new same kept opens does =
+    let there = filed_there path shelf mid same front opens in
+    let b = there.0 in
+    opened (of_work (work.Extract dir include) source) path shelf mid same source out kept front b answer new opens
+    there.1 (on_any_text (image_outcome (work.Extract dir include) b) (extract_outcome dir (extracted b include)) answer
+    (world mid source out) new (λ text. refl) (does b there.1))

@@ -5,36 +5,33 @@ use Rattle.std.proofs.Common.{Result, Ok, Err, refl, sym, ap, ◌∙◌, subst, 
 use Rattle.std.proofs.lemmas.List.{append_assoc, length-append, length-replicate, length-take}
 use Rattle.std.proofs.lemmas.List.{length-drop, take_all, take_at, take-take, drop-take, take-append-drop}
 use Rattle.jm_bytes.proofs.Choice.{same_ok, same_some}
+use Rattle.jm_filed.specs.Filed.{IsFiled, IsIndexAt}
 use Rattle.jm_form.specs.declared.container.Header.{Header}
 use Rattle.jm_form.specs.declared.container.HeaderFault.{HeaderFault}
 use Rattle.jm_form.specs.Head.{HoldsHead, IsFileOf, header_of, header_with, index_length}
 use Rattle.jm_form.specs.declared.damage.Damage.{Damage}
 use Rattle.jm_form.specs.Damages.{first_damage}
-use Rattle.jm_form.specs.Validity.{ValidAs, look}
+use Rattle.jm_form.specs.Validity.{ValidAs}
 use Rattle.jm_form.proofs.HeadLaws.{head_read}
 use Rattle.jm_form.proofs.LocalityLaws.{header_same}
-use Rattle.jm_jrt.specs.Stat.{node_sought}
 use Rattle.jm_outside.specs.Files.{Files, file, file_length, file_part, part}
 use Rattle.jm_outside.specs.Outcome.{Shows}
 use Rattle.jm_outside.specs.Shelves.{ShelfFailed, ShelfSeen}
 use Rattle.jm_reader.specs.Walk.{entries_of, entries_with}
 use Rattle.jm_texts.specs.InfoText.{header_text, info_text, info_with}
-use Rattle.jm_words.specs.declared.errors.WordsFault.{WordsFault}
-use Rattle.jm_words.specs.declared.tasks.Command.{Command}
+use Rattle.jm_valid.specs.Opened.{Front}
 use Rattle.jm_words.specs.declared.tasks.ImageWork.{ImageWork}
-use Rattle.jm_words.specs.declared.tasks.ImageWork.TheVariants as work_of
-use Rattle.jm_words.specs.declared.tasks.Task.{Task}
-use Rattle.jm_words.specs.declared.tasks.Task.TheVariants as task
+use Rattle.jm_commands.specs.declared.complaint.Complaint.TheVariants as complaint
 use Rattle.jm_commands.specs.declared.stop.Stop.{Stop}
 use Rattle.jm_commands.specs.declared.stop.Stop.TheVariants as stop
-use Rattle.jm_commands.specs.Outcome.{Outcome, done, image_outcome, reading}
-use Rattle.jm_commands.specs.Run.{OpenedComesTo, Opens, PutDoes, ReadsFile, StepComesTo, StepOnText, TextComesTo, WorkComesTo}
+use Rattle.jm_commands.specs.FileParts.{Adds, Comes, HasFront, HasLength, HasPart, IsFrontOf, IsHeadOf, IsOpenFront, IsPart, IsSoundFile}
+use Rattle.jm_commands.specs.FileParts.{IsUnopened, LacksPart, ReadsMore}
+use Rattle.jm_commands.specs.Outcome.{Outcome, damaged, image_outcome, not_there, reading}
+use Rattle.jm_commands.specs.Run.{HasFile, ImageComes, OpenedComesTo, StepComesTo, TextComesTo}
 use Rattle.jm_commands.specs.Sinks.{Seen}
-use Rattle.jm_commands.specs.World.{world}
-use Rattle.jm_commands.proofs.StepLaws.{file_read, file_unread, image_unopened, put_on_text}
-use Rattle.jm_commands.specs.FileParts.{Comes, ReadsFront, ReadsMore, Adds, HasFront, HasLength, HasPart, IsFrontOf, IsHeadOf, IsPart, LacksPart}
-use Rattle.jm_commands.specs.Run.{HasFile}
-use Rattle.jm_commands.specs.Taken.{TakesFrom, TakesNoMore, TakesOf, TaskTakes, WorkTakes, extract_size, front_size, front_with, opened_size, sought_size, unless_damaged}
+use Rattle.jm_commands.specs.Taken.{TakesBy, TakesFrom, TakesOf, front_size, front_with, opened_size, unless_damaged}
+use Rattle.jm_commands.specs.World.{World, world}
+use Rattle.jm_commands.proofs.StepLaws.{complains, fails_at_once, file_read}
 
 -- A told file
 
@@ -164,20 +161,6 @@ head_is told path head size long (more, is, count, has) = record {
 pub holds_head : (told : Option Files) (path head : List ℕ) (size : ℕ) → IsHeadOf told path head size → HoldsHead head size
 holds_head told path head size is = omega (arith, is.length_is)
 
--- without a header they are all
-pub head_alone : (told : Option Files) (path head : List ℕ) (size : ℕ) (fault : HeaderFault) → IsHeadOf told path head size
-    → header_with head size ≡ Err fault → IsFrontOf told path head size
-head_alone told path head size fault is damaged = record {
-  size_is = is.size_is;
-  begins = is.begins;
-  holds = record {
-    within = omega (arith, is.length_is);
-    head = omega (arith, is.length_is);
-    index = λ h found. let never : Ok h ≡ Err fault = sym found ∙ damaged in cc;
-  };
-  ends = λ h found. let never : Ok h ≡ Err fault = sym found ∙ damaged in cc;
-}
-
 -- more bytes behind them leave the header
 header_longer : (head more : List ℕ) (size : ℕ) → HoldsHead head size → length (head ++ more) ≤ size
     → header_with (head ++ more) size ≡ header_with head size
@@ -234,11 +217,20 @@ index_within told path head size h is found = omega (arith, is.length_is, (head_
 
 -- What was taken
 
+-- what follows for each file's bytes follows for what was taken
+pub takes_so : (told : Option Files) (path : List ℕ) (Takes Also : List ℕ → ℕ → ℕ → Type 0) (old new : ℕ)
+    → ((b : List ℕ) → Takes b old new → Also b old new) → TakesBy told path Takes old new → TakesBy told path Also old new
+takes_so told path Takes Also old new follows (found, has, takes) = (found, has, go found takes)
+  where
+    go : (found : Option (List ℕ)) → TakesOf Takes found old new → TakesOf Also found old new
+    go None same = same
+    go (Some b) takes = follows b takes
+
 pub takes_nothing : (told : Option Files) (path : List ℕ) (most : List ℕ → ℕ) (n : ℕ) → TakesFrom told path most n n
 takes_nothing None path most n = (None, tt, refl)
 takes_nothing (Some files) path most n = (file files path, refl, go (file files path))
   where
-    go : (found : Option (List ℕ)) → TakesOf most found n n
+    go : (found : Option (List ℕ)) → TakesOf (λ b before after. after ≤ before + most b) found n n
     go None = refl
     go (Some b) = omega arith
 
@@ -262,17 +254,15 @@ takes_there told path most size old new long within =
 
 pub takes_more : (told : Option Files) (path : List ℕ) (most also : List ℕ → ℕ) (old new : ℕ) → ((b : List ℕ) → most b ≤ also b)
     → TakesFrom told path most old new → TakesFrom told path also old new
-takes_more told path most also old new less (found, has, takes) = (found, has, go found takes)
-  where
-    go : (found : Option (List ℕ)) → TakesOf most found old new → TakesOf also found old new
-    go None same = same
-    go (Some b) within = omega (arith, within, less b)
+takes_more told path most also old new less takes =
+    takes_so told path (λ b before after. after ≤ before + most b) (λ b before after. after ≤ before + also b) old new
+    (λ b within. omega (arith, within, less b)) takes
 
 -- a number that hangs on no file
 takes_at_most : (told : Option Files) (path : List ℕ) (n old new : ℕ) → TakesFrom told path (λ b. n) old new → new ≤ old + n
 takes_at_most told path n old new (found, has, takes) = go found takes
   where
-    go : (found : Option (List ℕ)) → TakesOf (λ b. n) found old new → new ≤ old + n
+    go : (found : Option (List ℕ)) → TakesOf (λ b before after. after ≤ before + n) found old new → new ≤ old + n
     go None same = omega (arith, same)
     go (Some b) within = within
 
@@ -319,13 +309,17 @@ takes_index told path head size h old mid new is found takes rest =
     let most = front_long head size h there.0 (holds_head told path head size is) found there.2 in
     (Some there.0, there.1, omega (arith, first, rest, most))
 
+-- the front alone
+pub takes_front : (told : Option Files) (path : List ℕ) (more : List ℕ → ℕ) (old new : ℕ) → TakesFrom told path front_size old new
+    → TakesFrom told path (opened_size more) old new
+takes_front told path more old new takes = takes_more told path front_size (opened_size more) old new (λ b. omega arith) takes
+
 -- behind the front of an image without a damage contents of it
-pub takes_opened : (told : Option Files) (path front : List ℕ) (size : ℕ) (more : List ℕ → ℕ) (old now new : ℕ)
-    → IsFrontOf told path front size → ((b : List ℕ) → IsFileOf front size b → now ≤ old + front_size b)
-    → ((b : List ℕ) → IsFileOf front size b → first_damage b ≡ None)
-    → ((b : List ℕ) → IsFileOf front size b → new ≤ now + more b) → TakesFrom told path (opened_size more) old new
-takes_opened told path front size more old now new is taken sound also =
-    let there = front_there told path front size is in
+pub takes_opened : (told : Option Files) (path : List ℕ) (front : Front) (more : List ℕ → ℕ) (old now new : ℕ)
+    → IsOpenFront told path front → ((b : List ℕ) → IsFileOf front.bytes front.length b → now ≤ old + front_size b)
+    → ((b : List ℕ) → IsFileOf front.bytes front.length b → new ≤ now + more b) → TakesFrom told path (opened_size more) old new
+takes_opened told path front more old now new (is, sound) taken also =
+    let there = front_there told path front.bytes front.length is in
     let b = there.0 in
     let first = taken b there.2 in
     let rest = also b there.2 in (
@@ -355,71 +349,64 @@ unextended told mid path old new Also size count more given same long counted wi
     old) count) same
     (subst (λ (k : ℕ). LacksPart mid path (length old) k) counted lacks))) read
 
-unread : (told : Option Files) (path : List ℕ) (given : Stop) → ReadsFront told path (Err given) → ReadsFile told path (Err given)
-unread told path (stop.Complaint given) read = read
-unread told path stop.Outside read = tt
-unread told path stop.Memory read = tt
+-- An image that was opened
 
-opens_as : (A B : Type 0) (b : List ℕ) (given : Stop) → Opens {A = A} b (Err given) → Opens {A = B} b (Err given)
-opens_as A B b (stop.Complaint given) opens = opens
-opens_as A B b stop.Outside never = absurd never
-opens_as A B b stop.Memory opens = tt
+module _ (path : List ℕ) (shelf mid : ShelfSeen) (same : mid.told ≡ shelf.told) (front : Front)
+    (opens : IsOpenFront shelf.told path front) where
+  pub still_front : IsOpenFront mid.told path front
+  still_front = subst (λ (told : Option Files). IsOpenFront told path front) (sym same) opens
 
--- A work on an image by its index
+  -- a file of the front is there
+  pub filed_there : (b : List ℕ) × IsFiled front mid.told path b
+  filed_there = let there = front_there mid.told path front.bytes front.length still_front.0 in (there.0, (there.2, there.1))
 
-module _ (work : ImageWork) (path : List ℕ) (shelf mid : ShelfSeen) (source : Seen (List ℕ)) where
-  abbrev comes : List ℕ → Outcome → Type 0
-  comes b = OpenedComesTo (TextComesTo source.told (image_outcome work b)) (first_damage b)
+  pub index_there : IsIndexAt front mid.told path
+  index_there = record { alone = still_front.0.ends; filed = go mid.told filed_there }
+    where
+      go : (told : Option Files) → (b : List ℕ) × IsFiled front told path b
+          → Shows told (λ files. (b : List ℕ) × (Some b ≡ file files path) × IsFileOf front.bytes front.length b)
+      go None there = tt
+      go (Some files) (b, (whole, has)) = (b, has, whole)
 
-  module _ (same : mid.told ≡ shelf.told) (kept : mid.faults ≡ shelf.faults) where
-    -- what it puts is due of a file
-    pub file_put : (due : Outcome) (answer : Result (Unit {0}) Stop) (out new_out : Seen (List ℕ)) (b : List ℕ)
-        → HasFile shelf.told path (Some b) → first_damage b ≡ None → due.session ≡ None → ((t : List ℕ) → image_outcome work b t ≡ due)
-        → PutDoes due answer out new_out
-        → StepComesTo (WorkComesTo shelf.told source.told path work) reading answer (world shelf source out) (world mid source new_out)
-    file_put due answer out new_out b has sound alone puts put =
-        let step : StepOnText (image_outcome work b) answer (world mid source out) (world mid source new_out) =
-        put_on_text (image_outcome work b) due answer (world mid source out) (world mid source new_out) put refl refl alone
-        (λ ok. (refl, refl)) puts in
-        file_read comes path b shelf (world mid source out) (world mid source new_out) answer has same kept (rw sound step)
+-- what comes of an image without a damage, by the work on it
+abbrev pub of_work : ImageWork → Seen (List ℕ) → List ℕ → Outcome → Type 0
+of_work work source b = TextComesTo source.told (image_outcome work b)
 
-  module _ (front : List ℕ) (size : ℕ) (is : IsFrontOf shelf.told path front size) (same : mid.told ≡ shelf.told) (kept :
-      mid.faults ≡ shelf.faults) where
-    -- what it puts is due of each file with this front
-    pub index_put : (text : List ℕ → List ℕ) (answer : Result (Unit {0}) Stop) (out new_out : Seen (List ℕ))
-        → ((b t : List ℕ) → image_outcome work b t ≡ done (text b))
-        → ((b : List ℕ) → IsFileOf front size b → first_damage b ≡ None)
-        → ((b : List ℕ) → IsFileOf front size b → PutDoes (done (text b)) answer out new_out)
-        → StepComesTo (WorkComesTo shelf.told source.told path work) reading answer (world shelf source out) (world mid source new_out)
-    index_put text answer out new_out puts sound put =
-        let found = front_there shelf.told path front size is in
-        let b = found.0 in
-        file_put same kept (done (text b)) answer out new_out b found.1 (sound b found.2) refl (puts b) (put b found.2)
+-- what a step comes to that opens the image in the file of a path, by what comes of an image without a damage
+module _ (Sound : List ℕ → Outcome → Type 0) (path : List ℕ) (shelf mid : ShelfSeen) (same : mid.told ≡ shelf.told)
+    (source out : Seen (List ℕ)) where
+  abbrev Does : Result (Unit {0}) Stop → World → Type 0
+  Does answer new = StepComesTo (ImageComes shelf.told path Sound) reading answer (world shelf source out) new
 
-    -- each file with this front has a damage
-    pub index_unopened : (A : Type 0) (given : Stop) (out : Seen (List ℕ)) → ((b : List ℕ) → IsFileOf front size b → Opens {A =
-        A} b (Err given))
-        → StepComesTo (WorkComesTo shelf.told source.told path work) reading (Err given) (world shelf source out) (world mid source out)
-    index_unopened A given out opens =
-        let found = front_there shelf.told path front size is in
-        let b = found.0 in
-        file_read comes path b shelf (world mid source out) (world mid source out) (Err given) found.1 same kept
-        (image_unopened (TextComesTo source.told (image_outcome work b)) b given (world mid source out) (opens_as A (List ℕ) b
-        given (opens b found.2)))
+  -- the image wasn't opened
+  pub unopened : (given : Stop) → IsUnopened shelf.told path given → (given ≡ stop.Outside → ShelfFailed shelf mid)
+      → Does (Err given) (world mid source out)
+  unopened (stop.Complaint given) (None, none, is) rose =
+      complains (ImageComes shelf.told path Sound) reading (not_there path) given (complaint.NotThere path) (world shelf source out)
+      (world mid source out) (None, none, refl) refl is (record { files = same; source = refl; output = refl })
+  unopened (stop.Complaint given) (Some b, has, (damage, found, is)) rose =
+      complains (ImageComes shelf.told path Sound) reading (damaged damage) given (complaint.Damaged damage) (world shelf source out)
+      (world mid source out) (Some b, has, rw found refl) refl is (record { files = same; source = refl; output = refl })
+  unopened stop.Outside never rose =
+      fails_at_once (ImageComes shelf.told path Sound) reading (Err stop.Outside) (world shelf source out) (world mid source out) tt
+      (record { files = same; source = refl; output = refl }) (λ failed. (refl, rose refl))
+  unopened stop.Memory never rose =
+      fails_at_once (ImageComes shelf.told path Sound) reading (Err stop.Memory) (world shelf source out) (world mid source out) tt
+      (record { files = same; source = refl; output = refl }) (λ failed. cc)
 
-  -- no file is there, or a call on it failed
-  pub file_unseen : (given : Stop) (out : Seen (List ℕ)) → ReadsFile shelf.told path (Err given) → mid.told ≡ shelf.told
-      → (given ≡ stop.Outside → ShelfFailed shelf mid)
-      → StepComesTo (WorkComesTo shelf.told source.told path work) reading (Err given) (world shelf source out) (world mid source out)
-  file_unseen given out read same failed =
-      file_unread comes path given (world shelf source out) (world mid source out) read
-      (record { files = same; source = refl; output = refl }) failed
+  -- it was, and what was done then is due of the file
+  pub opened_file : mid.faults ≡ shelf.faults → (b : List ℕ) (answer : Result (Unit {0}) Stop) (new : World) → IsSoundFile shelf.told path b
+      → StepComesTo (Sound b) reading answer (world mid source out) new → Does answer new
+  opened_file kept b answer new (has, sound) step =
+      file_read (λ c. OpenedComesTo (Sound c) (first_damage c)) path b shelf (world mid source out) new answer has same kept (rw sound step)
 
-  -- no file is there, or its front wasn't read
-  pub front_unread : (given : Stop) (out : Seen (List ℕ)) → ReadsFront shelf.told path (Err given) → mid.told ≡ shelf.told
-      → (given ≡ stop.Outside → ShelfFailed shelf mid)
-      → StepComesTo (WorkComesTo shelf.told source.told path work) reading (Err given) (world shelf source out) (world mid source out)
-  front_unread given out read same failed = file_unseen given out (unread shelf.told path given read) same failed
+  -- and of each file of a front that was opened
+  pub opened : mid.faults ≡ shelf.faults → (front : Front) (b : List ℕ) (answer : Result (Unit {0}) Stop) (new : World)
+      → IsOpenFront shelf.told path front → IsFiled front mid.told path b → StepComesTo (Sound b) reading answer (world mid source out) new
+      → Does answer new
+  opened kept front b answer new opens (whole, has) step =
+      let there = subst (λ (told : Option Files). HasFile told path (Some b)) same has in
+      opened_file kept b answer new (there, opens.1 b whole) step
 
 -- What is put
 
@@ -429,32 +416,3 @@ info_is b h size header long = ap (λ k. header_text h (k - index_length h)) (sy
 
 pub count_is : (b : List ℕ) (h : Header) → ValidAs b h → h.count ≡ length (entries_of b)
 count_is b h valid = valid.count ∙ ap (λ r. length (entries_with b r)) (sym valid.header)
-
--- A run
-
-work_takes_nothing : (told : Option Files) (path : List ℕ) (does : ImageWork) (n : ℕ) → WorkTakes told path does n n
-work_takes_nothing told path work_of.Info n = takes_nothing told path front_size n
-work_takes_nothing told path work_of.Verify n = takes_nothing told path front_size n
-work_takes_nothing told path (work_of.List include) n = takes_nothing told path front_size n
-work_takes_nothing told path (work_of.Cat name) n = takes_nothing told path (sought_size (λ b. look b name)) n
-work_takes_nothing told path (work_of.Ls folder) n = takes_nothing told path (sought_size (λ b. node_sought b folder)) n
-work_takes_nothing told path (work_of.Extract dir include) n = takes_nothing told path (extract_size include) n
-work_takes_nothing told path work_of.Serve n = takes_nothing told path (λ b. length b) n
-
-task_takes_nothing : (told : Option Files) (given : Task) (n : ℕ) → TaskTakes told given n n
-task_takes_nothing told (task.Image image does) n = work_takes_nothing told image does n
-task_takes_nothing told (task.Link link) n = tt
-task_takes_nothing told (task.Gen gen) n = tt
-task_takes_nothing told (task.Describe file release) n = tt
-task_takes_nothing told task.Help n = refl
-task_takes_nothing told task.Version n = refl
-
--- words that weren't read to a command take nothing
-pub words_take_nothing : (told : Option Files) (asked : Result Command WordsFault) (n : ℕ) → TakesNoMore told asked n n
-words_take_nothing told (Ok command) n = task_takes_nothing told command.task n
-words_take_nothing told (Err fault) n = refl
-
--- words that were read to a command take what its task does
-pub words_take : (told : Option Files) (asked : Result Command WordsFault) (given : Command) (old new : ℕ)
-    → Ok given ≡ asked → TaskTakes told given.task old new → TakesNoMore told asked old new
-words_take told asked given old new read takes = subst (λ (a : Result Command WordsFault). TakesNoMore told a old new) read takes

@@ -16,4 +16,5 @@ pub mod RunLaws
 pub mod ServedLaws
 pub mod SessionLaws
 pub mod StepLaws
+pub mod TakenLaws
 mod Vectors

@@ -1,19 +1,26 @@
 -- What `link` does, from what its call answered.
-use Rattle.std.proofs.Common.{◌≡◌, ◌∷◌, inl, inr, ℕ, List, [], Option, Result, Ok, Err, refl, sym, ap, subst, arith, All, IsUtf8}
+use Rattle.std.proofs.Common.{◌≡◌, ◌∷◌, ◌≤◌, ◌+◌, inl, inr, ℕ, List, [], Option, Some, None, Result, Ok, Err, refl, sym, ap, subst}
+use Rattle.std.proofs.Common.{arith, All, IsUtf8}
 use Rattle.std.proofs.lemmas.List.Elements.{All-nil}
 use Rattle.jm_bytes.proofs.Choice.{same_err}
 use Rattle.jm_bytes.specs.declared.words.Order.{Order}
+use Rattle.jm_form.specs.declared.damage.Damage.{Damage}
+use Rattle.jm_form.specs.Damages.{first_damage}
+use Rattle.jm_form.specs.Head.{IsFileOf}
 use Rattle.jm_outside.specs.Files.{Files}
-use Rattle.jm_outside.specs.Shelves.{ShelfFailed}
+use Rattle.jm_outside.specs.Shelves.{ShelfFailed, ShelfSeen}
 use Rattle.jm_outside.proofs.MadeLaws.{part_alone}
 use Rattle.jm_link.specs.declared.linking.LinkStop.{LinkStop}
 use Rattle.jm_link.specs.declared.linking.LinkStop.TheVariants as link_stop
 use Rattle.jm_link.specs.declared.linking.Summary.{Summary}
 use Rattle.jm_texts.specs.declared.refusal.Refusal.{Refusal}
 use Rattle.jm_jrt.proofs.TreeLaws.{trees_shown_short}
-use Rattle.jm_link.specs.Linked.{LinkedImage}
+use Rattle.jm_link.specs.FiledLinked.{FiledLinks}
+use Rattle.jm_link.specs.ImageTaken.{TakesLinked}
+use Rattle.jm_link.specs.Linked.{LinkedImage, Request}
 use Rattle.jm_link.specs.ImageLinked.{ImageComesTo, ImageLinks}
 use Rattle.jm_link.specs.Links.{BreaksOff, ComesTo, IsLaid, Links, LinksBy, TellsNothing, request_of, summary_of}
+use Rattle.jm_valid.specs.Opened.{Front}
 use Rattle.jm_words.specs.declared.tasks.LinkTask.{LinkTask}
 use Rattle.jm_words.specs.declared.tasks.Source.{Source}
 use Rattle.jm_words.specs.declared.tasks.Source.TheVariants.{Path, Image}
@@ -21,12 +28,15 @@ use Rattle.jm_words.specs.Paths.{SourceIsText, directories_of}
 use Rattle.jm_commands.specs.declared.complaint.Complaint.TheVariants as complaint
 use Rattle.jm_commands.specs.declared.stop.Stop.{Stop}
 use Rattle.jm_commands.specs.declared.stop.Stop.TheVariants as stop
+use Rattle.jm_commands.specs.FileParts.{IsOpenFront}
 use Rattle.jm_commands.specs.Outcome.{Outcome, done, link_outcome, linked, not_there, reading, refusing}
-use Rattle.jm_commands.specs.Run.{ImageLinkComesTo, IsFailure, LinkComesFrom, LinkComesTo, PathLinkComesTo, PutDoes}
-use Rattle.jm_commands.specs.Run.{ShowsLinked, StepComesTo}
+use Rattle.jm_commands.specs.Run.{HasFile, ImageComes, ImageLinkComesTo, IsFailure, LinkComesFrom, LinkComesTo, PathLinkComesTo}
+use Rattle.jm_commands.specs.Run.{PutDoes, ShowsLinked, StepComesTo}
 use Rattle.jm_commands.specs.Sinks.{Seen}
 use Rattle.jm_commands.specs.Stops.{stop_of_link}
-use Rattle.jm_commands.specs.World.{World}
+use Rattle.jm_commands.specs.Taken.{LinkTakes, TakesFrom, TakesLinkedOf, front_size}
+use Rattle.jm_commands.specs.World.{World, world}
+use Rattle.jm_commands.proofs.FrontLaws.{opened, takes_so}
 use Rattle.jm_commands.proofs.StepLaws.{complains, fails_at_once, made_in_part, made_put}
 
 -- an image that is laid out shows the trees of its resources
@@ -34,6 +44,39 @@ linked_shown : (order : Order) (result : Result LinkedImage Refusal) → IsLaid 
 linked_shown order (Err refusal) laid = tt
 linked_shown order (Ok image) laid =
     trees_shown_short image.bytes image.resources (omega (arith, laid.within)) laid.nodes laid.stands
+
+-- What was taken
+
+takes_later : (b : List ℕ) (asked : Request) (old later new : ℕ) → old ≤ later → TakesLinked b asked old new → TakesLinked b asked later new
+takes_later b asked old later new within (inl infos) = inl (omega (arith, within, infos))
+takes_later b asked old later new within (inr (resources, chosen, all)) = inr (resources, chosen, omega (arith, within, all))
+
+front_linked : (damage : Option Damage) (asked : Request) (b : List ℕ) (old new : ℕ) → new ≤ old + front_size b
+    → TakesLinkedOf damage asked b old new
+front_linked None asked b old new within = inl (omega (arith, within))
+front_linked (Some damage) asked b old new within = within
+
+-- the front alone
+pub takes_link_front : (told : Option Files) (path : List ℕ) (asked : Request) (old new : ℕ) → TakesFrom told path front_size old new
+    → LinkTakes told asked (Image path) old new
+takes_link_front told path asked old new takes =
+    takes_so told path (λ b before after. after ≤ before + front_size b) (λ b. TakesLinkedOf (first_damage b) asked b) old new
+    (λ b within. front_linked (first_damage b) asked b old new within) takes
+
+-- the front, and what the link takes
+pub takes_filed : (asked : Request) (path output : List ℕ) (shelf mid new : ShelfSeen) (front : Front) (answer : Result Summary LinkStop)
+    (old now after : ℕ) → mid.told ≡ shelf.told → IsOpenFront shelf.told path front
+    → FiledLinks front asked path output answer mid new now after
+    → ((b : List ℕ) → IsFileOf front.bytes front.length b → now ≤ old + front_size b) → LinkTakes shelf.told asked (Image path) old after
+takes_filed asked path output shelf mid new front answer old now after same opens did taken =
+    let b = did.bytes in (
+      Some b,
+      subst (λ (told : Option Files). HasFile told path (Some b)) same did.filed.1,
+      subst (λ (d : Option Damage). TakesLinkedOf d asked b old after) (sym (opens.1 b did.filed.0))
+          (takes_later b asked now (old + front_size b) after (taken b did.filed.0) did.takes),
+    )
+
+-- What was linked
 
 -- of a link that comes to one of these results, or finds a listed file missing, from what is due then
 module _ (text : Summary → List ℕ) (link : LinkTask) (Comes : Result LinkedImage Refusal → Type 0) (Absent : Type 0) (Due : Outcome
@@ -119,6 +162,29 @@ module _ (text : Summary → List ℕ) (link : LinkTask) (b : List ℕ) (old new
       ≡ old.out.told → StepComesTo (ImageLinkComesTo text link b) reading (Err (stop_of_link given)) old new
   image_stopped = stopped_linked text link (ImageComesTo b (request_of link)) ⊥ (ImageLinkComesTo text link b) old new input
       image_due (λ listed never. absurd never)
+
+-- From the image in the file of a path
+
+module _ (text : Summary → List ℕ) (link : LinkTask) (path : List ℕ) (shelf mid new : ShelfSeen) (source out new_out : Seen (List ℕ))
+    (same : mid.told ≡ shelf.told) (kept : mid.faults ≡ shelf.faults) (front : Front) (opens : IsOpenFront shelf.told path front)
+    (handed new_handed : ℕ) where
+  abbrev Did : Result Summary LinkStop → Type 0
+  Did answer = FiledLinks front (request_of link) path link.output answer mid new handed new_handed
+
+  abbrev Ends : Result (Unit {0}) Stop → Type 0
+  Ends answer = StepComesTo (ImageComes shelf.told path (ImageLinkComesTo text link)) reading answer (world shelf source out)
+      (world new source new_out)
+
+  pub filed_put : (summary : Summary) (answer : Result (Unit {0}) Stop) → Did (Ok summary) → PutDoes (done (text summary)) answer out new_out
+      → Ends answer
+  filed_put summary answer did puts =
+      opened (ImageLinkComesTo text link) path shelf mid same source out kept front did.bytes answer (world new source new_out) opens did.filed
+      (image_put text link did.bytes (world mid source out) (world new source new_out) refl summary answer did.links puts)
+
+  pub filed_stopped : (given : LinkStop) → Did (Err given) → new_out.told ≡ out.told → Ends (Err (stop_of_link given))
+  filed_stopped given did unput =
+      opened (ImageLinkComesTo text link) path shelf mid same source out kept front did.bytes (Err (stop_of_link given)) (world new source new_out)
+      opens did.filed (image_stopped text link did.bytes (world mid source out) (world new source new_out) refl given did.links unput)
 
 -- By where the modules are
 

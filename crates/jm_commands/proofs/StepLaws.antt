@@ -3,7 +3,6 @@ use Rattle.std.proofs.Common.{◌≡◌, ℕ, List, [], Option, Some, None, Resu
 use Rattle.std.proofs.Common.{IsOk, inl, inr, refl, sym, ap, ◌∙◌, subst, IsErrAnd}
 use Rattle.jm_outside.specs.Made.{MadeAll, MadePart, Writes}
 use Rattle.jm_outside.proofs.MadeLaws.{part_of_all}
-use Rattle.jm_form.specs.Damages.{first_damage}
 use Rattle.jm_jrt.specs.declared.serve_error.ServeError.{ServeError}
 use Rattle.jm_jrt.specs.declared.serve_error.ServeError.TheVariants as serve_error
 use Rattle.jm_outside.specs.Files.{Files}
@@ -14,7 +13,6 @@ use Rattle.jm_words.specs.declared.errors.WordsFault.{WordsFault}
 use Rattle.jm_bytes.specs.declared.faults.Or.{Or}
 use Rattle.jm_bytes.specs.declared.faults.Or.TheVariants as or
 use Rattle.jm_bytes.specs.Results.{IfAnswered}
-use Rattle.jm_words.specs.declared.tasks.ImageWork.{ImageWork}
 use Rattle.jm_commands.specs.declared.complaint.Complaint.{Complaint}
 use Rattle.jm_commands.specs.declared.complaint.Complaint.TheVariants as complaint
 use Rattle.jm_commands.specs.declared.status.Status.{Status}
@@ -22,11 +20,12 @@ use Rattle.jm_commands.specs.declared.status.Status.TheVariants as status
 use Rattle.jm_commands.specs.declared.stop.Stop.{Stop}
 use Rattle.jm_commands.specs.declared.stop.Stop.TheVariants as stop
 use Rattle.jm_commands.specs.FailedBefore.{FilesFailed, WorkFailed}
-use Rattle.jm_commands.specs.Outcome.{Early, Outcome, damaged, done, early_in, early_of, faulty}
-use Rattle.jm_commands.specs.Outcome.{image_outcome, made_and_put, not_there, reading, without_files}
-use Rattle.jm_commands.specs.Run.{FileComesTo, FilesFirst, FilesMade, IsFailure, OpenedComesTo, Opens}
-use Rattle.jm_commands.specs.Run.{PutDoes, ReadsFile, StandAll, StepComesTo, StepDoes, StepOnText}
-use Rattle.jm_commands.specs.Run.{TaskComesTo, TextComesTo, WordsComeTo, WorkComesTo, outcome_of, status_of}
+use Rattle.jm_commands.specs.FileParts.{ReadsFile}
+use Rattle.jm_commands.specs.Outcome.{Early, Outcome, done, early_in, early_of, faulty}
+use Rattle.jm_commands.specs.Outcome.{made_and_put, not_there, reading, without_files}
+use Rattle.jm_commands.specs.Run.{FileComesTo, FilesFirst, FilesMade, IsFailure}
+use Rattle.jm_commands.specs.Run.{PutDoes, StandAll, StepComesTo, StepDoes, StepOnText}
+use Rattle.jm_commands.specs.Run.{TaskComesTo, TextComesTo, WordsComeTo, outcome_of, status_of}
 use Rattle.jm_commands.specs.SessionHeld.{EndedBy, NotBegun, SourceRead}
 use Rattle.jm_commands.specs.Sinks.{Failed, Gets, Seen}
 use Rattle.jm_commands.specs.Stops.{stop_of_words}
@@ -290,15 +289,6 @@ pub put_on_text : (of_text : List ℕ → Outcome) (same : Outcome) (answer : Re
 put_on_text of_text same answer old new put files source alone quiet is = on_any_text of_text same answer old new is
     (put_step same old new files source alone answer put quiet)
 
--- the bytes are no image
-pub image_unopened : (Sound : Outcome → Type 0) (b : List ℕ) (given : Stop) (now : World) → Opens {A = List ℕ} b (Err given)
-    → StepComesTo (OpenedComesTo Sound (first_damage b)) reading (Err given) now now
-image_unopened Sound b (stop.Complaint given) now (damage, found, is) =
-    complains (OpenedComesTo Sound (first_damage b)) reading (damaged damage) given (complaint.Damaged damage) now now
-    (rw found refl) refl is (record { files = refl; source = refl; output = refl })
-image_unopened Sound b stop.Outside now never = absurd never
-image_unopened Sound b stop.Memory now none = out_of_memory (OpenedComesTo Sound (first_damage b)) reading now
-
 -- A step behind a call of the shelf that changed no file
 
 module _ (shelf : ShelfSeen) (now new : World) where
@@ -406,36 +396,6 @@ file_unread Bytes path stop.Outside old new read unmoved rose = fails_at_once (F
     (Err stop.Outside) old new tt unmoved (λ failed. (refl, rose refl))
 file_unread Bytes path stop.Memory old new read unmoved rose = fails_at_once (FileComesTo old.shelf.told path Bytes) reading
     (Err stop.Memory) old new tt unmoved (λ failed. cc)
-
--- A work on an image by its whole file
-
-module _ (does : ImageWork) (path : List ℕ) where
-  abbrev on_bytes : Option (List ℕ) → List ℕ → Outcome → Type 0
-  on_bytes rest b = OpenedComesTo (TextComesTo rest (image_outcome does b)) (first_damage b)
-
-  -- the file was read, and the work done on its bytes
-  pub whole_read : (b : List ℕ) (shelf : ShelfSeen) (now new : World) (answer : Result (Unit {0}) Stop)
-      → ReadsFile shelf.told path (Ok b) → now.shelf.told ≡ shelf.told → now.shelf.faults ≡ shelf.faults
-      → StepComesTo (on_bytes now.input.told b) reading answer now new
-      → StepComesTo (WorkComesTo shelf.told now.input.told path does) reading answer
-      (record { shelf = shelf; input = now.input; out = now.out }) new
-  whole_read b shelf now new answer has same kept step =
-      file_read (on_bytes now.input.told) path b shelf now new answer has same kept step
-
-  -- its bytes are no image
-  pub whole_unopened : (b : List ℕ) (shelf : ShelfSeen) (now : World) (given : Stop) → ReadsFile shelf.told path (Ok b)
-      → now.shelf.told ≡ shelf.told → now.shelf.faults ≡ shelf.faults → Opens {A = List ℕ} b (Err given)
-      → StepComesTo (WorkComesTo shelf.told now.input.told path does) reading (Err given)
-      (record { shelf = shelf; input = now.input; out = now.out }) now
-  whole_unopened b shelf now given has same kept opens =
-      file_read (on_bytes now.input.told) path b shelf now now (Err given) has same kept
-      (image_unopened (TextComesTo now.input.told (image_outcome does b)) b given now opens)
-
-  -- it wasn't read
-  pub whole_unread : (given : Stop) (old new : World) → ReadsFile old.shelf.told path (Err given) → Unmoved old new
-      → (given ≡ stop.Outside → ShelfFailed old.shelf new.shelf)
-      → StepComesTo (WorkComesTo old.shelf.told old.input.told path does) reading (Err given) old new
-  whole_unread given old new read unmoved rose = file_unread (on_bytes old.input.told) path given old new read unmoved rose
 
 -- All words
 

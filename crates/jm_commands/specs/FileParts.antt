@@ -2,9 +2,13 @@
 use Rattle.std.specs.Prelude.{ℕ, ◌≡◌, ◌≢◌, List, ◌++◌, length, min, Option, Some, None}
 use Rattle.std.specs.Prelude.{Result, Ok, Err}
 use Rattle.jm_form.specs.declared.container.Header.{Header}
+use Rattle.jm_form.specs.declared.damage.Damage.{Damage}
+use Rattle.jm_form.specs.Damages.{first_damage}
 use Rattle.jm_form.specs.Head.{HoldsIndex, IsFileOf, header_with, index_length}
 use Rattle.jm_outside.specs.Files.{Files, file_length, file_part}
 use Rattle.jm_outside.specs.Outcome.{Shows}
+use Rattle.jm_valid.specs.Opened.{Front}
+use Rattle.jm_commands.specs.declared.complaint.Complaint.{Complaint}
 use Rattle.jm_commands.specs.declared.complaint.Complaint.TheVariants as complaint
 use Rattle.jm_commands.specs.declared.front.FileFront.{FileFront}
 use Rattle.jm_commands.specs.declared.stop.Stop.{Stop}
@@ -65,6 +69,11 @@ Comes path Is IsNot (Err (stop.Complaint given)) = IsNot × (given ≡ complaint
 Comes path Is IsNot (Err stop.Outside) = Unit {0}
 Comes path Is IsNot (Err stop.Memory) = Unit {0}
 
+-- what reading all of a file comes to
+abbrev pub ReadsFile : Option Files → List ℕ → Result (List ℕ) Stop → Type 0
+ReadsFile told path result =
+    Comes path (λ bytes. HasFile told path (Some bytes)) (HasFile told path None) result
+
 -- what asking for the length of a file comes to
 abbrev pub ReadsLength : Option Files → List ℕ → Result ℕ Stop → Type 0
 ReadsLength told path result =
@@ -92,3 +101,34 @@ abbrev pub ReadsFront : Option Files → List ℕ → Result FileFront Stop → 
 ReadsFront told path result =
     Comes path (λ front. IsFrontOf told path front.bytes front.length) (HasFile told path None)
     result
+
+-- What opening an image comes to
+
+-- this is the front of the file of a path, and each file with it is an image without a damage
+abbrev pub IsOpenFront : Option Files → List ℕ → Front → Type 0
+IsOpenFront told path front =
+    IsFrontOf told path front.bytes front.length
+    × ((b : List ℕ) → IsFileOf front.bytes front.length b → first_damage b ≡ None)
+
+-- this is the file of a path, an image without a damage
+abbrev pub IsSoundFile : Option Files → List ℕ → List ℕ → Type 0
+IsSoundFile told path b = HasFile told path (Some b) × (first_damage b ≡ None)
+
+-- this is the complaint of a file: that none is at the path, or of its first damage
+abbrev pub IsComplaint : List ℕ → Option (List ℕ) → Complaint → Type 0
+IsComplaint path None given = given ≡ complaint.NotThere path
+IsComplaint path (Some b) given =
+    (damage : Damage) × (first_damage b ≡ Some damage) × (given ≡ complaint.Damaged damage)
+
+-- the image in the file of a path isn't opened: by the complaint of this file, a failure, or no
+-- memory
+abbrev pub IsUnopened : Option Files → List ℕ → Stop → Type 0
+IsUnopened told path (stop.Complaint given) =
+    (found : Option (List ℕ)) × HasFile told path found × IsComplaint path found given
+IsUnopened told path stop.Outside = Unit {0}
+IsUnopened told path stop.Memory = Unit {0}
+
+-- opening the image in the file of a path comes to what its answer says, or it isn't opened
+abbrev pub Opens : {A : Type 0} → Option Files → List ℕ → (A → Type 0) → Result A Stop → Type 0
+Opens told path Is (Ok image) = Is image
+Opens told path Is (Err given) = IsUnopened told path given

@@ -15,9 +15,9 @@ sized_line e = decimal e.0 ++ 32 ∷ shown e.1 ++ 10 ∷ []
 abbrev pub sized : Named → ℕ × List ℕ
 sized e = (length e.1, e.0)
 
--- the same of an entry that an index hands out, whose row says the size
+-- the same of an entry that is taken by the index, which says the size
 abbrev pub sized_as : TakenEntry → ℕ × List ℕ
-sized_as t = (t.row.size, t.name)
+sized_as t = (t.content.size, t.name)
 
 -- the text of `list`: a line for each entry that is taken
 abbrev pub list_text : List ℕ → Option (List (List Sign)) → List ℕ

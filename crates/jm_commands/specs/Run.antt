@@ -143,26 +143,6 @@ AskTheSame (Err fault) (Err other) = fault ≡ other
 AskTheSame (Ok command) (Err fault) = ⊥
 AskTheSame (Err fault) (Ok command) = ⊥
 
--- What is read of a file
-
--- what reading a file comes to: its bytes; the complaint that it isn't there; a failure, or no
--- memory
-abbrev pub ReadsFile : Option Files → List ℕ → Result (List ℕ) Stop → Type 0
-ReadsFile told path (Ok bytes) = HasFile told path (Some bytes)
-ReadsFile told path (Err (stop.Complaint given)) =
-    HasFile told path None × (given ≡ complaint.NotThere path)
-ReadsFile told path (Err stop.Outside) = Unit {0}
-ReadsFile told path (Err stop.Memory) = Unit {0}
-
--- what opening an image comes to: these bytes are one; the complaint of their first damage; no
--- memory
-abbrev pub Opens : {A : Type 0} → List ℕ → Result A Stop → Type 0
-Opens b (Ok image) = first_damage b ≡ None
-Opens b (Err (stop.Complaint given)) =
-    (damage : Damage) × (first_damage b ≡ Some damage) × (given ≡ complaint.Damaged damage)
-Opens b (Err stop.Outside) = ⊥
-Opens b (Err stop.Memory) = Unit {0}
-
 -- A step of a run
 
 -- the status with which a complaint ends a run

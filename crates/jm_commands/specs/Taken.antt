@@ -10,12 +10,17 @@ use Rattle.jm_form.specs.declared.rows.Row.{Row}
 use Rattle.jm_form.specs.Validity.{look}
 use Rattle.jm_extract.specs.Extracted.{taken_size}
 use Rattle.jm_jrt.specs.Stat.{node_sought}
+use Rattle.jm_link.specs.ImageTaken.{TakesLinked}
+use Rattle.jm_link.specs.Linked.{Request}
+use Rattle.jm_link.specs.Links.{request_of}
 use Rattle.jm_outside.specs.Files.{Files}
 use Rattle.jm_pattern.specs.declared.signs.Sign.{Sign}
 use Rattle.jm_words.specs.declared.errors.WordsFault.{WordsFault}
 use Rattle.jm_words.specs.declared.tasks.Command.{Command}
 use Rattle.jm_words.specs.declared.tasks.ImageWork.{ImageWork}
 use Rattle.jm_words.specs.declared.tasks.ImageWork.TheVariants as work
+use Rattle.jm_words.specs.declared.tasks.Source.{Source}
+use Rattle.jm_words.specs.declared.tasks.Source.TheVariants as source
 use Rattle.jm_words.specs.declared.tasks.Task.{Task}
 use Rattle.jm_words.specs.declared.tasks.Task.TheVariants as task
 use Rattle.jm_commands.specs.Cat.{content_of}
@@ -48,15 +53,21 @@ sought_size sought b = opened_size (λ c. length (content_of (sought c))) b
 abbrev pub extract_size : Option (List (List Sign)) → List ℕ → ℕ
 extract_size include b = opened_size (λ c. taken_size c include) b
 
--- of the file of a path, if it is there, at most so many bytes were taken, and nothing besides
-abbrev pub TakesOf : (List ℕ → ℕ) → Option (List ℕ) → (old new : ℕ) → Type 0
-TakesOf most None old new = new ≡ old
-TakesOf most (Some b) old new = new ≤ old + most b
+-- of the file of a path, if it is there, so much was taken, and nothing besides
+abbrev pub TakesOf : (List ℕ → ℕ → ℕ → Type 0) → Option (List ℕ) → (old new : ℕ) → Type 0
+TakesOf Takes None old new = new ≡ old
+TakesOf Takes (Some b) old new = Takes b old new
 
 -- the same of the file of a path; over a shelf that tells nothing, of some file
+abbrev pub TakesBy
+    : Option Files → List ℕ → (List ℕ → ℕ → ℕ → Type 0) → (old new : ℕ) → Type 0
+TakesBy told path Takes old new =
+    (found : Option (List ℕ)) × HasFile told path found × TakesOf Takes found old new
+
+-- at most so many bytes of it
 abbrev pub TakesFrom : Option Files → List ℕ → (List ℕ → ℕ) → (old new : ℕ) → Type 0
 TakesFrom told path most old new =
-    (found : Option (List ℕ)) × HasFile told path found × TakesOf most found old new
+    TakesBy told path (λ b before after. after ≤ before + most b) old new
 
 -- what a work on the image in the file of a path takes: `info`, `verify` and `list` the front,
 -- and of an image without a damage `cat` and `ls` the content of the name or of the folder's node
@@ -73,11 +84,25 @@ WorkTakes told path (work.Extract dir include) old new =
     TakesFrom told path (extract_size include) old new
 WorkTakes told path work.Serve old new = TakesFrom told path (λ b. length b) old new
 
--- what a task takes: such a work as said, `--help` and `--version` nothing; of the others nothing
--- is said
+-- what a link takes of an image, by its first damage: the front, and without a damage what is said
+-- of the link of its modules besides
+abbrev pub TakesLinkedOf : Option Damage → Request → List ℕ → (old new : ℕ) → Type 0
+TakesLinkedOf None asked b old new = TakesLinked b asked (old + front_size b) new
+TakesLinkedOf (Some damage) asked b old new = new ≤ old + front_size b
+
+-- what a link takes, by where its modules are: that of the image in the file of a path; of a module
+-- path nothing is said
+abbrev pub LinkTakes : Option Files → Request → Source → (old new : ℕ) → Type 0
+LinkTakes told asked (source.Path directories) old new = Unit {0}
+LinkTakes told asked (source.Image path) old new =
+    TakesBy told path (λ b. TakesLinkedOf (first_damage b) asked b) old new
+
+-- what a task takes: such a work or link as said, `--help` and `--version` nothing; of the others
+-- nothing is said
 abbrev pub TaskTakes : Option Files → Task → (old new : ℕ) → Type 0
 TaskTakes told (task.Image image work) old new = WorkTakes told image work old new
-TaskTakes told (task.Link link) old new = Unit {0}
+TaskTakes told (task.Link link) old new =
+    LinkTakes told (request_of link) link.source old new
 TaskTakes told (task.Gen gen) old new = Unit {0}
 TaskTakes told (task.Describe file release) old new = Unit {0}
 TaskTakes told task.Help old new = new ≡ old

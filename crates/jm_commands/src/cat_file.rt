@@ -12,7 +12,7 @@ ghost use Rattle.jm_commands.specs.World.{sink_at, world};
 
 use crate::blanks::Blanks;
 use crate::complaint::Complaint;
-use crate::front::{OpenFront, file_front};
+use crate::front::{FileFront, OpenFront};
 use crate::output::put_output;
 use crate::sought::sought_content;
 use crate::stop::Stop;
@@ -52,6 +52,7 @@ fn no_entry(alloc: Global, name: &[u8]) -> Stop
 
 /// `cat`: the content of the entry of a name of the image at a path. The source of the run isn't
 /// lent to it.
+#[tactic(auto, using(crate::proofs::FrontLaws::takes_front))]
 pub fn cat_file<T: Threads + Sync, S: Shelf, O: Sink, G: Gate + Sync>(
     workers: &Workers<T, G>,
     path: &Text,
@@ -69,8 +70,8 @@ pub fn cat_file<T: Threads + Sync, S: Shelf, O: Sink, G: Gate + Sync>(
     ensures takes { TakesFrom (S.files shelf.old) path.now (sought_size (λ b. look b name.now))
         (S.handed shelf.old) (S.handed shelf.new) }
 {
-    let bytes = file_front(workers.alloc, path, shelf)?;
-    let front = OpenFront::of(workers, &bytes)?;
+    let mut bytes = FileFront::new(workers.alloc);
+    let front = OpenFront::at(workers, path, &mut bytes, shelf)?;
     let row = find_counted::<Brand, Brand>(&front, name, Blanks::new());
     match sought_content(workers.alloc, path, &front, &row, shelf)? {
         Some(content) => put_output(workers.alloc, content.as_slice(), out),

@@ -1,8 +1,9 @@
 ghost use Rattle.std.specs.Prelude.{◌≡◌, IsOk, IsErrOf, IsUtf8, List, ℕ};
 ghost use Rattle.jm_outside.specs.Outcome.{CountsFaults};
 ghost use Rattle.jm_outside.specs.Shelves.{shelf_at};
+ghost use Rattle.jm_commands.specs.FileParts.{ReadsFile};
 ghost use Rattle.jm_commands.specs.Outcome.{describe_outcome, reading};
-ghost use Rattle.jm_commands.specs.Run.{FileComesTo, PutDoes, ReadsFile, StepComesTo};
+ghost use Rattle.jm_commands.specs.Run.{FileComesTo, PutDoes, StepComesTo};
 ghost use Rattle.jm_commands.specs.Sinks.{Seen};
 ghost use Rattle.jm_commands.specs.World.{sink_at, world};
 

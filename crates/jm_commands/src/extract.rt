@@ -5,7 +5,7 @@ ghost use Rattle.jm_form.specs.Head.{IsFileOf};
 ghost use Rattle.jm_outside.specs.Outcome.{CountsFaults};
 ghost use Rattle.jm_outside.specs.Shelves.{shelf_at};
 ghost use Rattle.jm_extract.specs.Extracted.{Extracts, extracted, taken_size};
-ghost use Rattle.jm_extract.specs.Filed.{IsFiled};
+ghost use Rattle.jm_filed.specs.Filed.{IsFiled};
 ghost use Rattle.jm_commands.specs.ExtractText.{extract_text};
 ghost use Rattle.jm_commands.specs.Ledgers.{IsLedger};
 ghost use Rattle.jm_commands.specs.Outcome.{done, reading};
@@ -14,12 +14,13 @@ ghost use Rattle.jm_commands.specs.Sinks.{Seen};
 ghost use Rattle.jm_commands.specs.Taken.{TakesFrom, extract_size};
 ghost use Rattle.jm_commands.specs.World.{sink_at, world};
 
-use crate::front::{OpenFront, file_front};
+use crate::front::{FileFront, OpenFront};
 use crate::output::put_output;
 use crate::stop::Stop;
 use crate::workers::Workers;
 use jm_bytes::{Meter, Text};
-use jm_extract::{ExtractStop, Extraction, FiledImage, extract};
+use jm_extract::{ExtractStop, Extraction, extract};
+use jm_filed::FiledImage;
 use jm_halves::Gate;
 use jm_outside::{Shelf, Sink};
 use jm_words::ImageWork;
@@ -68,6 +69,7 @@ fn extract_counted<S: Shelf, R: Ledger>(
 /// `extract`: makes, below the directory, a file of each taken entry of the image in the file at a
 /// path, and then puts how many they are. A refusal changes no file; if the put fails, all files
 /// stand. The source of the run isn't lent to it.
+#[tactic(auto, using(crate::proofs::FrontLaws::takes_front))]
 pub fn extract_file<T: Threads + Sync, S: Shelf, O: Sink, G: Gate + Sync>(
     workers: &Workers<T, G>,
     path: &Text,
@@ -86,15 +88,9 @@ pub fn extract_file<T: Threads + Sync, S: Shelf, O: Sink, G: Gate + Sync>(
     ensures takes { TakesFrom (S.files shelf.old) path.now (extract_size work.entry.include.now)
         (S.handed shelf.old) (S.handed shelf.new) }
 {
-    match file_front(workers.alloc, path, shelf) {
-        Ok(bytes) => match OpenFront::of(workers, &bytes) {
-            Ok(front) => {
-                let reads = Blank::new(1);
-                let count = extract_counted::<S, Brand>(path, &front, work, shelf, reads)?;
-                put_count(workers.alloc, count, out)
-            }
-            Err(stop) => Err(stop),
-        },
-        Err(stop) => Err(stop),
-    }
+    let mut bytes = FileFront::new(workers.alloc);
+    let front = OpenFront::at(workers, path, &mut bytes, shelf)?;
+    let reads = Blank::new(1);
+    let count = extract_counted::<S, Brand>(path, &front, work, shelf, reads)?;
+    put_count(workers.alloc, count, out)
 }

@@ -1,11 +1,10 @@
 //! The first bytes of a file, up to the end of an image's index.
-ghost use Rattle.std.specs.Prelude.{◌≡◌, ◌≤◌, ◌<◌, ◌+◌, ℕ, List, length};
+ghost use Rattle.std.specs.Prelude.{◌≡◌, ◌≤◌, ◌<◌, ◌+◌, ℕ, List};
 ghost use Rattle.std.specs.Prelude.{IfOk, IsOk, IsErrOf, IsUtf8};
-ghost use Rattle.jm_form.specs.Head.{HoldsIndex, IsFileOf};
+ghost use Rattle.jm_form.specs.Head.{IsFileOf};
 ghost use Rattle.jm_outside.specs.Outcome.{CountsFaults};
-ghost use Rattle.jm_commands.specs.FileParts.{ReadsFront, ReadsHead, ReadsLength, ReadsMore};
-ghost use Rattle.jm_commands.specs.FileParts.{ReadsPart};
-ghost use Rattle.jm_commands.specs.Run.{Opens, ReadsFile};
+ghost use Rattle.jm_commands.specs.FileParts.{IsOpenFront, Opens, ReadsFront, ReadsHead};
+ghost use Rattle.jm_commands.specs.FileParts.{ReadsLength, ReadsMore, ReadsPart};
 ghost use Rattle.jm_commands.specs.Taken.{TakesFrom, front_size};
 
 use crate::complaint::Complaint;
@@ -30,6 +29,16 @@ pub struct FileFront {
     pub length: u64,
 }
 
+impl FileFront {
+    /// The front of an empty file: a place to read one to.
+    pub fn new(alloc: Global) -> FileFront {
+        FileFront {
+            bytes: Text::new(alloc),
+            length: 0,
+        }
+    }
+}
+
 /// The complaint that no file is at a path.
 fn not_there(alloc: Global, path: &Text) -> Result<Complaint, NoMemory>
     ensures { IfOk result (λ given. given ≡ Complaint.NotThere path.now) }
@@ -38,7 +47,7 @@ fn not_there(alloc: Global, path: &Text) -> Result<Complaint, NoMemory>
 }
 
 /// How many bytes the file at a path has.
-fn file_length<S: Shelf>(alloc: Global, path: &Text, shelf: &mut S) -> Result<u64, Stop>
+pub fn file_length<S: Shelf>(alloc: Global, path: &Text, shelf: &mut S) -> Result<u64, Stop>
     requires { IsUtf8 path.now }
     ensures files { S.files shelf.new ≡ S.files shelf.old }
     ensures reads { ReadsLength (S.files shelf.old) path.now result }
@@ -120,7 +129,7 @@ fn file_head<S: Shelf>(alloc: Global, path: &Text, shelf: &mut S) -> Result<File
 }
 
 /// The first bytes of the file at a path: its index and no more, if it has a header.
-pub fn file_front<S: Shelf>(alloc: Global, path: &Text, shelf: &mut S) -> Result<FileFront, Stop>
+fn file_front<S: Shelf>(alloc: Global, path: &Text, shelf: &mut S) -> Result<FileFront, Stop>
     requires { IsUtf8 path.now }
     ensures files { S.files shelf.new ≡ S.files shelf.old }
     ensures reads { ReadsFront (S.files shelf.old) path.now result }
@@ -140,21 +149,6 @@ pub fn file_front<S: Shelf>(alloc: Global, path: &Text, shelf: &mut S) -> Result
         }
         Err(_) => Ok(FileFront { bytes, length }),
     }
-}
-
-/// All bytes of the file at a path, as one part behind its length: a shelf of the system refuses so
-/// what is no file, as a pipe, before it waits for it.
-pub fn whole_file<S: Shelf>(alloc: Global, path: &Text, shelf: &mut S) -> Result<Text, Stop>
-    requires { IsUtf8 path.now }
-    ensures files { S.files shelf.new ≡ S.files shelf.old }
-    ensures reads { ReadsFile (S.files shelf.old) path.now result }
-    ensures takes { TakesFrom (S.files shelf.old) path.now (λ b. length b)
-        (S.handed shelf.old) (S.handed shelf.new) }
-    ensures faults { CountsFaults (S.faults shelf.old) (S.faults shelf.new) (IsOk result)
-        (IsErrOf result Stop.Outside) }
-{
-    let length = file_length(alloc, path, shelf)?;
-    file_part(alloc, path, 0, length as usize, shelf)
 }
 
 /// The index of an image beside the first bytes of its file: a meter of what is read of the index
@@ -177,18 +171,27 @@ impl<'a> Model for OpenFront<'a> {
 }
 
 impl<'a> OpenFront<'a> {
-    /// Opens the index of the image that is a file with this front, on all jobs.
-    pub fn of<T: Threads + Sync, G: Gate + Sync>(
+    /// Opens the index of the image in the file at a path, on all jobs. Its bytes are read to
+    /// `front`, in the place of what that holds, and no more of the file is read.
+    pub fn at<T: Threads + Sync, S: Shelf, G: Gate + Sync>(
         workers: &Workers<T, G>,
-        front: &'a FileFront,
+        path: &Text,
+        front: &'a mut FileFront,
+        shelf: &mut S,
     ) -> Result<OpenFront<'a>, Stop>
         requires jobs { 0 < workers.now.jobs }
-        requires holds { HoldsIndex front.now.bytes front.now.length }
-        ensures bytes { IfOk result (λ index. index.bytes ≡ front.now.bytes) }
-        ensures length { IfOk result (λ index. index.length ≡ front.now.length) }
-        ensures opens { (b : List ℕ) → IsFileOf front.now.bytes front.now.length b
-            → Opens b result }
+        requires path { IsUtf8 path.now }
+        ensures files { S.files shelf.new ≡ S.files shelf.old }
+        ensures opens { Opens (S.files shelf.old) path.now
+            (IsOpenFront (S.files shelf.old) path.now) result }
+        ensures takes { TakesFrom (S.files shelf.old) path.now front_size
+            (S.handed shelf.old) (S.handed shelf.new) }
+        ensures taken { IfOk result (λ index. (b : List ℕ) → IsFileOf index.bytes index.length b
+            → S.handed shelf.new ≤ S.handed shelf.old + front_size b) }
+        ensures faults { CountsFaults (S.faults shelf.old) (S.faults shelf.new) (IsOk result)
+            (IsErrOf result Stop.Outside) }
     {
+        *front = file_front(workers.alloc, path, shelf)?;
         let Workers {
             rt,
             alloc,

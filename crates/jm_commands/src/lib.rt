@@ -13,7 +13,6 @@ mod help;
 mod link;
 mod listing;
 mod ls;
-mod opened;
 mod output;
 mod pieces;
 mod program;

@@ -1,6 +1,7 @@
 //! The command `link`.
 ghost use Rattle.std.specs.Prelude.{◌<◌, ℕ, IsUtf8, List};
-ghost use Rattle.jm_link.specs.ImageLinked.{ImageLinks};
+ghost use Rattle.jm_filed.specs.Filed.{IsIndexAt};
+ghost use Rattle.jm_link.specs.FiledLinked.{FiledLinks};
 ghost use Rattle.jm_link.specs.Links.{request_of};
 ghost use Rattle.jm_words.specs.Paths.{LinkIsText};
 ghost use Rattle.jm_outside.specs.Shelves.{shelf_at};
@@ -10,14 +11,15 @@ ghost use Rattle.jm_commands.specs.Outcome.{done, reading};
 ghost use Rattle.jm_commands.specs.Run.{ImageComes, ImageLinkComesTo, LinkComesTo, PutDoes};
 ghost use Rattle.jm_commands.specs.Run.{StepComesTo};
 ghost use Rattle.jm_commands.specs.Sinks.{Seen};
+ghost use Rattle.jm_commands.specs.Taken.{LinkTakes};
 ghost use Rattle.jm_commands.specs.World.{sink_at, world};
 
-use crate::front::whole_file;
-use crate::opened::Opened;
+use crate::front::{FileFront, OpenFront};
 use crate::output::put_output;
 use crate::stop::Stop;
 use crate::workers::Workers;
 use jm_bytes::{Meter, Text};
+use jm_filed::FiledImage;
 use jm_halves::Gate;
 use jm_link::{LinkStop, Summary, link, link_image};
 use jm_outside::{Shelf, Sink};
@@ -42,35 +44,51 @@ fn put_summary<O: Sink>(alloc: Global, summary: &Summary, out: &mut O) -> Result
     put_output(alloc, text.as_bytes(), out)
 }
 
+/// The image whose modules are linked: its open index, and the path of its file.
+#[derive(Clone, Copy)]
+struct SourceImage<'f, 'p, 'a> {
+    front: &'f OpenFront<'a>,
+    path: &'p Text,
+}
+
 /// Does what `link_image` does, with a meter of its own.
 fn link_counted<T: Threads + Sync, S: Shelf, G: Gate + Sync, R: Ledger>(
     workers: &Workers<T, G>,
     task: &LinkTask,
-    image: &Opened,
+    source: SourceImage,
     shelf: &mut S,
     reads: Blank,
 ) -> Result<Summary, LinkStop>
     requires jobs { 0 < workers.now.jobs }
+    requires path { IsUtf8 source.path.now }
     requires output { IsUtf8 task.now.output }
+    requires there { IsIndexAt source.front.now (S.files shelf.old) source.path.now }
     requires reads { IsLedger reads.name reads.parts R.name R.parts }
-    ensures { ImageLinks image.now (request_of task.now) task.now.output result
-        (shelf_at S.Shelf shelf.old) (shelf_at S.Shelf shelf.new) }
+    ensures { FiledLinks source.entry.front.now (request_of task.now) source.entry.path.now
+        task.now.output result (shelf_at S.Shelf shelf.old) (shelf_at S.Shelf shelf.new)
+        (S.handed shelf.old) (S.handed shelf.new) }
 {
-    let mut reads = Meter::<R>::new(image.bytes(), reads);
+    let SourceImage { front, path } = source;
+    let mut reads = Meter::<R>::new(front.bytes(), reads);
+    let image = FiledImage {
+        index: front.as_index(),
+        path: path.as_slice(),
+    };
     link_image(
         workers.rt,
         workers.alloc,
         workers.jobs,
         task,
-        image.as_image(),
+        image,
         &mut reads,
         shelf,
         workers.gate,
     )
 }
 
-/// Reads an image, links its modules, and puts what the new image has. What counts are the bytes
-/// as they were read, also where the output has the same path.
+/// Links the modules of the image in the file at a path, and puts what the new image has. What
+/// counts are the file's bytes as they were read, also where the output has the same path.
+#[tactic(auto, using(crate::proofs::LinkLaws::takes_link_front))]
 fn link_from_image<T: Threads + Sync, S: Shelf, O: Sink, G: Gate + Sync>(
     workers: &Workers<T, G>,
     task: &LinkTask,
@@ -81,28 +99,23 @@ fn link_from_image<T: Threads + Sync, S: Shelf, O: Sink, G: Gate + Sync>(
     requires jobs { 0 < workers.now.jobs }
     requires path { IsUtf8 path.now }
     requires output { IsUtf8 task.now.output }
-    ensures { (source : Seen (List ℕ)) →
+    ensures comes { (source : Seen (List ℕ)) →
         StepComesTo (ImageComes (S.files shelf.old) path.now
         (ImageLinkComesTo link_text task.now)) reading result
         (world (shelf_at S.Shelf shelf.old) source (sink_at O.Sink out.old))
         (world (shelf_at S.Shelf shelf.new) source (sink_at O.Sink out.new)) }
+    ensures takes { LinkTakes (S.files shelf.old) (request_of task.now) (Source.Image path.now)
+        (S.handed shelf.old) (S.handed shelf.new) }
 {
-    match whole_file(workers.alloc, path, shelf) {
-        Ok(bytes) => {
-            let bytes = bytes.as_slice();
-            match Opened::of(workers, bytes) {
-                Ok(image) => {
-                    let reads = Blank::new(1);
-                    let summary = link_counted::<T, S, G, Brand>(
-                        workers, task, &image, shelf, reads,
-                    )?;
-                    put_summary(workers.alloc, &summary, out)
-                }
-                Err(stop) => Err(stop),
-            }
-        }
-        Err(stop) => Err(stop),
-    }
+    let mut bytes = FileFront::new(workers.alloc);
+    let front = OpenFront::at(workers, path, &mut bytes, shelf)?;
+    let source = SourceImage {
+        front: &front,
+        path,
+    };
+    let reads = Blank::new(1);
+    let summary = link_counted::<T, S, G, Brand>(workers, task, source, shelf, reads)?;
+    put_summary(workers.alloc, &summary, out)
 }
 
 /// `link`: writes the image of the closure of the roots to a file, after the plug-ins acted on its
@@ -115,10 +128,12 @@ pub fn link_command<T: Threads + Sync, S: Shelf, O: Sink, G: Gate + Sync>(
 ) -> Result<(), Stop>
     requires jobs { 0 < workers.now.jobs }
     requires paths { LinkIsText task.now }
-    ensures { (source : Seen (List ℕ)) →
+    ensures comes { (source : Seen (List ℕ)) →
         StepComesTo (LinkComesTo link_text (S.files shelf.old) task.now) reading result
         (world (shelf_at S.Shelf shelf.old) source (sink_at O.Sink out.old))
         (world (shelf_at S.Shelf shelf.new) source (sink_at O.Sink out.new)) }
+    ensures takes { LinkTakes (S.files shelf.old) (request_of task.now) task.now.source
+        (S.handed shelf.old) (S.handed shelf.new) }
 {
     match &task.source {
         Source::Image(path) => link_from_image(workers, task, path, shelf, out),

@@ -26,7 +26,7 @@ fn extend_line(alloc: Global, text: &mut Vec<u8>, entry: &TakenEntry) -> Result<
 {
     let name = entry.name.view().to_text(alloc)?;
     let mut size = Buffer::new();
-    extend(text, size.format(entry.row.size).as_bytes())?;
+    extend(text, size.format(entry.content.size).as_bytes())?;
     extend(text, b" ")?;
     extend_shown(alloc, text, name.as_slice())?;
     extend(text, b"\n")

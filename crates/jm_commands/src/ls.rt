@@ -15,7 +15,7 @@ ghost use Rattle.jm_commands.specs.World.{sink_at, world};
 
 use crate::blanks::Blanks;
 use crate::complaint::Complaint;
-use crate::front::{OpenFront, file_front};
+use crate::front::{FileFront, OpenFront};
 use crate::pieces::{PIECE, put_piece};
 use crate::sought::sought_content;
 use crate::stop::Stop;
@@ -122,6 +122,7 @@ fn list_folder<O: Sink, H: Ledger, R: Ledger>(
 
 /// `ls`: the children of the folder at a path of the image in a file, in the image's order. The
 /// source of the run isn't lent to it.
+#[tactic(auto, using(crate::proofs::FrontLaws::takes_front))]
 pub fn ls_file<T: Threads + Sync, S: Shelf, O: Sink, G: Gate + Sync>(
     workers: &Workers<T, G>,
     image: &Text,
@@ -139,8 +140,8 @@ pub fn ls_file<T: Threads + Sync, S: Shelf, O: Sink, G: Gate + Sync>(
     ensures takes { TakesFrom (S.files shelf.old) image.now
         (sought_size (λ b. node_sought b path.now)) (S.handed shelf.old) (S.handed shelf.new) }
 {
-    let bytes = file_front(workers.alloc, image, shelf)?;
-    let front = OpenFront::of(workers, &bytes)?;
+    let mut bytes = FileFront::new(workers.alloc);
+    let front = OpenFront::at(workers, image, &mut bytes, shelf)?;
     let row = node_counted::<Brand, Brand>(&front, path, Blanks::new());
     let content = sought_content(workers.alloc, image, &front, &row, shelf)?;
     let asked = AskedFolder {

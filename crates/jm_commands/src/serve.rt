@@ -3,6 +3,7 @@ ghost use Rattle.std.specs.Prelude.{◌≡◌, ◌<◌, IsOk, IsErrOf, IsUtf8, l
 ghost use Rattle.jm_bytes.specs.Metered.{Metered};
 ghost use Rattle.jm_outside.specs.Outcome.{CountsFaults};
 ghost use Rattle.jm_jrt.specs.Sessions.{Serves};
+ghost use Rattle.jm_commands.specs.FileParts.{IsSoundFile, Opens, ReadsFile};
 ghost use Rattle.jm_commands.specs.Ledgers.{IsLedger};
 ghost use Rattle.jm_commands.specs.Outcome.{reading};
 ghost use Rattle.jm_commands.specs.Run.{StepComesTo, WorkComesTo};
@@ -12,19 +13,93 @@ ghost use Rattle.jm_commands.specs.World.{world_of};
 
 use crate::blanks::Blanks;
 use crate::complaint::Complaint;
-use crate::front::whole_file;
-use crate::opened::Opened;
+use crate::front::{file_length, file_part};
 use crate::stop::Stop;
 use crate::workers::Workers;
 use jm_bytes::{Meter, Steps, Text};
 use jm_halves::Gate;
 use jm_jrt::{ServeError, serve};
 use jm_outside::{Shelf, Sink, Source};
+use jm_valid::{Image, OpenError, open_image};
 use jm_words::ImageWork;
 use std::alloc::Global;
-use std::marker::Brand;
+use std::marker::{Brand, Model};
 use std::sync::ledger::Ledger;
 use std::thread::Threads;
+
+/// All bytes of the file at a path, as one part behind its length: a shelf of the system refuses so
+/// what is no file, as a pipe, before it waits for it.
+fn whole_file<S: Shelf>(alloc: Global, path: &Text, shelf: &mut S) -> Result<Text, Stop>
+    requires { IsUtf8 path.now }
+    ensures files { S.files shelf.new ≡ S.files shelf.old }
+    ensures reads { ReadsFile (S.files shelf.old) path.now result }
+    ensures takes { TakesFrom (S.files shelf.old) path.now (λ b. length b)
+        (S.handed shelf.old) (S.handed shelf.new) }
+    ensures faults { CountsFaults (S.faults shelf.old) (S.faults shelf.new) (IsOk result)
+        (IsErrOf result Stop.Outside) }
+{
+    let length = file_length(alloc, path, shelf)?;
+    file_part(alloc, path, 0, length as usize, shelf)
+}
+
+/// An image beside the bytes that it is: a meter of what is read of it is made of the bytes.
+#[derive(Drop)]
+struct Opened<'a> {
+    image: Image<'a>,
+    bytes: &'a [u8],
+}
+
+impl<'a> Model for Opened<'a> {
+    ghost use Rattle.std.specs.Prelude.{◌≡◌, List, ℕ};
+
+    ghost Value = { List ℕ };
+
+    ghost view = { λ a. a.bytes.now };
+
+    ghost invariant = { λ a. a.image ≡ a.bytes.now };
+}
+
+impl<'a> Opened<'a> {
+    /// Opens the image in the file at a path, on all jobs, of which all bytes are read to `bytes`.
+    fn at<T: Threads + Sync, S: Shelf, G: Gate + Sync>(
+        workers: &Workers<T, G>,
+        path: &Text,
+        bytes: &'a mut Text,
+        shelf: &mut S,
+    ) -> Result<Opened<'a>, Stop>
+        requires jobs { 0 < workers.now.jobs }
+        requires path { IsUtf8 path.now }
+        ensures files { S.files shelf.new ≡ S.files shelf.old }
+        ensures opens { Opens (S.files shelf.old) path.now
+            (IsSoundFile (S.files shelf.old) path.now) result }
+        ensures takes { TakesFrom (S.files shelf.old) path.now (λ b. length b)
+            (S.handed shelf.old) (S.handed shelf.new) }
+        ensures faults { CountsFaults (S.faults shelf.old) (S.faults shelf.new) (IsOk result)
+            (IsErrOf result Stop.Outside) }
+    {
+        *bytes = whole_file(workers.alloc, path, shelf)?;
+        let bytes = bytes.as_slice();
+        match open_image(workers.rt, workers.alloc, workers.jobs, bytes, workers.gate) {
+            Ok(image) => Ok(Opened { image, bytes }),
+            Err(OpenError::Damaged(damage)) => Err(Stop::Complaint(Complaint::Damaged(damage))),
+            Err(OpenError::Memory) => Err(Stop::Memory),
+        }
+    }
+
+    /// The image.
+    fn as_image(&self) -> &Image<'a>
+        ensures { result.now ≡ self.now }
+    {
+        &self.image
+    }
+
+    /// The bytes that it is.
+    fn bytes(&self) -> &'a [u8]
+        ensures { result.now ≡ self.now }
+    {
+        self.bytes
+    }
+}
 
 /// Does what `serve` of jm_jrt does, with counters of its own.
 fn serve_counted<I: Source, O: Sink, H: Ledger, R: Ledger>(
@@ -81,21 +156,9 @@ pub fn serve_file<T: Threads + Sync, S: Shelf, I: Source, O: Sink, G: Gate + Syn
     ensures takes { TakesFrom (S.files shelf.old) path.now (λ b. length b)
         (S.handed shelf.old) (S.handed shelf.new) }
 {
-    match whole_file(workers.alloc, path, shelf) {
-        Ok(bytes) => match Opened::of(workers, bytes.as_slice()) {
-            Ok(image) => {
-                let blanks = Blanks::new();
-                let answered = serve_counted::<I, O, Brand, Brand>(
-                    workers.alloc,
-                    &image,
-                    input,
-                    out,
-                    blanks,
-                );
-                stop_of_session(answered)
-            }
-            Err(stop) => Err(stop),
-        },
-        Err(stop) => Err(stop),
-    }
+    let mut bytes = Text::new(workers.alloc);
+    let image = Opened::at(workers, path, &mut bytes, shelf)?;
+    let blanks = Blanks::new();
+    let answered = serve_counted::<I, O, Brand, Brand>(workers.alloc, &image, input, out, blanks);
+    stop_of_session(answered)
 }

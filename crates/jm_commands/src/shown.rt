@@ -9,7 +9,7 @@ ghost use Rattle.jm_commands.specs.Sinks.{Seen};
 ghost use Rattle.jm_commands.specs.Taken.{TakesFrom, front_size};
 ghost use Rattle.jm_commands.specs.World.{sink_at, world};
 
-use crate::front::{OpenFront, file_front};
+use crate::front::{FileFront, OpenFront};
 use crate::listing::put_list;
 use crate::output::put_output;
 use crate::stop::Stop;
@@ -82,11 +82,7 @@ pub fn show_command<T: Threads + Sync, S: Shelf, O: Sink, G: Gate + Sync>(
     ensures takes { TakesFrom (S.files shelf.old) path.now front_size
         (S.handed shelf.old) (S.handed shelf.new) }
 {
-    match file_front(workers.alloc, path, shelf) {
-        Ok(bytes) => match OpenFront::of(workers, &bytes) {
-            Ok(front) => put_shown(workers.alloc, &front, shown, out),
-            Err(stop) => Err(stop),
-        },
-        Err(stop) => Err(stop),
-    }
+    let mut bytes = FileFront::new(workers.alloc);
+    let front = OpenFront::at(workers, path, &mut bytes, shelf)?;
+    put_shown(workers.alloc, &front, shown, out)
 }

@@ -18,7 +18,8 @@ use Rattle.jm_outside.specs.Outcome.{Shows}
 use Rattle.jm_outside.proofs.MadeLaws.{file-written, part_of_all}
 use Rattle.jm_extract.specs.declared.taking.TakenEntry.{TakenEntry}
 use Rattle.jm_extract.specs.Extracted.{Makes, path_of, write_of, writes_of}
-use Rattle.jm_extract.specs.Filed.{AreContents, HasContent, IsAt, is_made_at, sizes, unkept_size}
+use Rattle.jm_filed.specs.Filed.{IsAt}
+use Rattle.jm_extract.specs.Filed.{AreContents, HasContent, is_made_at, sizes, unkept_size}
 use Rattle.jm_extract.specs.Taken.{content_in, taken_as}
 
 -- Reading
@@ -39,10 +40,10 @@ contents_next (Some files) b ts i t texts new text within is size before own mor
 
 -- and its size
 pub sizes_next : (ts : List TakenEntry) (i : ℕ) (t : TakenEntry) → i < length ts → get_or ts i t ≡ t
-    → sizes (take (i + 1) ts) ≡ sizes (take i ts) + t.row.size
+    → sizes (take (i + 1) ts) ≡ sizes (take i ts) + t.content.size
 sizes_next ts i t within is =
-    ap sizes (take_more ts i t within) ∙ sum_by_push (λ (t : TakenEntry). t.row.size) (take i ts) (get_or ts i t)
-    ∙ ap (λ (u : TakenEntry). sizes (take i ts) + u.row.size) is
+    ap sizes (take_more ts i t within) ∙ sum_by_push (λ (t : TakenEntry). t.content.size) (take i ts) (get_or ts i t)
+    ∙ ap (λ (u : TakenEntry). sizes (take i ts) + u.content.size) is
 
 -- Making
 
@@ -122,7 +123,7 @@ pub unkept_next : (ts : List TakenEntry) (texts : List (List ℕ)) (i : ℕ) (t 
 unkept_next ts texts i t None within is got =
     let size : length (take i ts) ≡ i = length-take-le i ts (omega (arith, within)) in
     let above = got.3 in
-    sym (sum_by_push (λ (t : TakenEntry). t.row.size) (drop (length texts) (take i ts)) t)
+    sym (sum_by_push (λ (t : TakenEntry). t.content.size) (drop (length texts) (take i ts)) t)
     ∙ ap sizes (sym (drop-append-le (length texts) (take i ts) (t ∷ []) (omega (arith, above, size))))
     ∙ ap (λ u. sizes (drop (length texts) (take i ts ++ u ∷ []))) (sym is)
     ∙ ap (λ us. sizes (drop (length texts) us)) (sym (take_more ts i t within))
@@ -134,7 +135,7 @@ unkept_next ts texts i t (Some kept) within is got =
     ∙ ap sizes (sym (drop_all (length texts) (take (i + 1) ts) (omega (arith, more, all))))
 
 pub drop_less : (n m : ℕ) (ts : List TakenEntry) → sizes (drop n (take m ts)) ≤ sizes (drop n ts)
-drop_less zero m ts = sum_by-take-le (λ (t : TakenEntry). t.row.size) ts m
+drop_less zero m ts = sum_by-take-le (λ (t : TakenEntry). t.content.size) ts m
 drop_less (suc n) zero ts = omega arith
 drop_less (suc n) (suc m) [] = omega arith
 drop_less (suc n) (suc m) (t ∷ ts) = drop_less n m ts
@@ -142,7 +143,7 @@ drop_less (suc n) (suc m) (t ∷ ts) = drop_less n m ts
 -- those that were read at first, and those that were read besides
 pub sizes_parted : (ts : List TakenEntry) (n : ℕ) → sizes (take n ts) + sizes (drop n ts) ≡ sizes ts
 sizes_parted ts n =
-    sym (sum_by-append (λ (t : TakenEntry). t.row.size) (take n ts) (drop n ts)) ∙ ap sizes (take-append-drop n ts)
+    sym (sum_by-append (λ (t : TakenEntry). t.content.size) (take n ts) (drop n ts)) ∙ ap sizes (take-append-drop n ts)
 
 -- Paths
 

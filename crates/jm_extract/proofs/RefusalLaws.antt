@@ -1,11 +1,14 @@
 -- The refusal of entries, from those of their names and of their clashes.
-use Rattle.std.proofs.Common.{◌≡◌, ℕ, true, ◌||◌, nat_eq, List, [], ◌∷◌, ◌++◌, map, Option, Some, None, Result, Ok, Err, IfOk}
-use Rattle.std.proofs.Common.{refl, sym, subst, ap, ◌∙◌}
+use Rattle.std.proofs.Common.{◌≡◌, ◌≤◌, ◌<◌, ◌+◌, ℕ, true, ◌||◌, nat_eq, List, [], ◌∷◌, ◌++◌, drop, get_or, length, map}
+use Rattle.std.proofs.Common.{Option, Some, None, option_map, refl, sym, subst, ap, ◌∙◌}
+use Rattle.std.proofs.lemmas.List.{drop_all, drop_more}
 use Rattle.std.specs.List.{starts_with}
 use Rattle.jm_bytes.proofs.Pairs.{pairs_map}
 use Rattle.jm_bytes.specs.ByteOrder.{is_before}
 use Rattle.jm_bytes.specs.Checks.{fault_if, first_fault}
 use Rattle.jm_names.specs.ByName.{Named, RisesByName}
+use Rattle.jm_names.specs.ComputedFault.{name_fault}
+use Rattle.jm_names.specs.declared.check.NameFault.{NameFault}
 use Rattle.jm_texts.specs.NameRefusals.{first_bad_name, name_refusal}
 use Rattle.jm_texts.specs.declared.refusal.Refusal.{Refusal}
 use Rattle.jm_texts.specs.declared.refusal.Refusal.TheVariants as refusal
@@ -52,22 +55,35 @@ refused_alone b ts =
 
 -- The first refusal
 
--- a bad name comes first
-pub refused_name : (es : List Named) (refused : Refusal) → Some refused ≡ first_bad_name es → Some refused ≡ refusal_of es
+-- a bad name comes first, behind names that may stand
+pub bad_name : (ts : List TakenEntry) (i : ℕ) (t : TakenEntry) (name : List ℕ) (fault : NameFault) → i < length ts
+    → get_or ts i t ≡ t → name ≡ t.name → Some fault ≡ name_fault name
+    → first_bad_name (map name_alone (drop i ts)) ≡ first_bad_name (map name_alone ts)
+    → Some (refusal.BadName name fault) ≡ refusal_of (map name_alone ts)
 unfolding refusal_of
-refused_name es refused is = ap (λ (o : Option Refusal). first_fault (o ∷ first_clash es ∷ [])) is
+bad_name ts i t name fault within is own bad so_far =
+    let es = map name_alone ts in
+    let rest = map name_refusal (map name_alone (drop (i + 1) ts)) in
+    let first : Some (refusal.BadName name fault) ≡ first_bad_name (map name_alone (t ∷ drop (i + 1) ts)) =
+    ap (λ o. first_fault (option_map (refusal.BadName name) o ∷ rest)) bad
+    ∙ ap (λ (n : List ℕ). first_fault (name_refusal (n, []) ∷ rest)) own
+    in
+    let here = drop_more ts i t within ∙ ap (λ u. u ∷ drop (i + 1) ts) is in
+    ap (λ (o : Option Refusal). first_fault (o ∷ first_clash es ∷ []))
+    (first ∙ sym (ap (λ us. first_bad_name (map name_alone us)) here) ∙ so_far)
 
 alone : (o : Option Refusal) → o ≡ first_fault (o ∷ [])
 alone None = refl
 alone (Some refused) = refl
 
--- without one the first clash decides
-refused_clash : (es : List Named) (o : Option Refusal) → None ≡ first_bad_name es → o ≡ first_clash es → o ≡ refusal_of es
+-- without one the first clash decides, when all entries were looked at
+pub refused_clash : (ts : List TakenEntry) (i : ℕ) (o : Option Refusal) → length ts ≤ i
+    → first_bad_name (map name_alone ts) ≡ None
+    → first_fault (o ∷ map (clash_refusal (map name_alone ts)) (map name_alone (drop i ts))) ≡ first_clash (map name_alone ts)
+    → o ≡ refusal_of (map name_alone ts)
 unfolding refusal_of
-refused_clash es o none is =
-    is ∙ alone (first_clash es) ∙ ap (λ (p : Option Refusal). first_fault (p ∷ first_clash es ∷ [])) none
-
-pub clash_decides : {E : Type 0} (es : List Named) (answer : Result (Option Refusal) E) → None ≡ first_bad_name es
-    → IfOk answer (λ o. o ≡ first_clash es) → IfOk answer (λ o. o ≡ refusal_of es)
-clash_decides es (Ok o) none is = refused_clash es o none is
-clash_decides es (Err e) none is = tt
+refused_clash ts i o all none so_far =
+    let es = map name_alone ts in
+    let last = ap (λ us. first_fault (o ∷ map (clash_refusal es) (map name_alone us))) (drop_all i ts all) in
+    alone o ∙ sym last ∙ so_far ∙ alone (first_clash es)
+    ∙ ap (λ (p : Option Refusal). first_fault (p ∷ first_clash es ∷ [])) (sym none)

@@ -1,7 +1,7 @@
 -- The taken entries, one entry after another and in the order of a sort.
-use Rattle.std.proofs.Common.{◌≡◌, ℕ, All, Bool, true, false, cond, List, [], ◌∷◌, ◌++◌, map, Option, AllPairs}
+use Rattle.std.proofs.Common.{◌≡◌, ℕ, Bool, true, false, cond, List, [], ◌∷◌, ◌++◌, map, Option, AllPairs}
 use Rattle.std.proofs.Common.{Result, Ok, Err, IsPermutation, refl, sym, ap, subst, ◌∙◌, append_assoc, append-nil}
-use Rattle.std.proofs.lemmas.List.Elements.{All-push}
+use Rattle.std.proofs.lemmas.List.{map-append}
 use Rattle.std.proofs.lemmas.List.Kept.{AllPairs-filter}
 use Rattle.jm_bytes.proofs.Pairs.{pairs_map, pairs_none}
 use Rattle.jm_form.specs.declared.container.Header.{Header}
@@ -13,11 +13,10 @@ use Rattle.jm_pattern.specs.declared.signs.Sign.{Sign}
 use Rattle.jm_reader.specs.Walk.{entries_of, entries_with}
 use Rattle.jm_extract.specs.declared.taking.TakenEntry.{TakenEntry}
 use Rattle.jm_names.proofs.NameOrder.{Differ, by_name_rises, items_sorted}
-use Rattle.jm_valid.specs.Opened.{Front}
 use Rattle.jm_reader.specs.Listing.{entry_listed}
-use Rattle.jm_reader.specs.Look.{SoundIn}
 use Rattle.jm_names.specs.ByName.{Named, NeverFalls, RisesByName}
-use Rattle.jm_extract.specs.Taken.{taken, is_taken, named, taken_alone, taken_among, taken_as}
+use Rattle.jm_filed.specs.Parts.{named}
+use Rattle.jm_extract.specs.Taken.{taken, is_taken, taken_alone, taken_among, taken_as}
 use Rattle.jm_reader.proofs.WalkLaws.{entries_differ}
 
 -- One entry after another
@@ -52,11 +51,20 @@ pub taken_all : (include : Option (List (List Sign))) (b : List ℕ) (whole foun
 taken_all include b whole found left so_far none =
     sym (so_far ∙ ap (λ xs. found ++ taken_among include (map (entry_listed b) xs)) none ∙ append-nil found)
 
--- one more whose row is sound
-pub sound_push : (front : Front) (ts us : List TakenEntry) (t : TakenEntry) → us ≡ ts ++ t ∷ [] → All (λ t. SoundIn front t.row) ts
-    → SoundIn front t.row → All (λ t. SoundIn front t.row) us
-sound_push front ts us t is before own =
-    subst (All (λ t. SoundIn front t.row)) (sym is) (All-push (λ t. SoundIn front t.row) ts t before own)
+-- an entry that is taken is put at the end
+pub taken_pushed : (include : Option (List (List Sign))) (b : List ℕ) (ts us : List TakenEntry) (t : TakenEntry) (e : Named)
+    → taken_as b t ≡ e → is_taken include e.0 ≡ true → us ≡ ts ++ t ∷ []
+    → map (taken_as b) us ≡ map (taken_as b) ts ++ taken_alone include e
+taken_pushed include b ts us t e is takes put =
+    ap (map (taken_as b)) put ∙ map-append (taken_as b) ts (t ∷ []) ∙ ap (λ d. map (taken_as b) ts ++ d ∷ []) is
+    ∙ ap (λ k. map (taken_as b) ts ++ cond k (e ∷ []) []) (sym takes)
+
+-- and another one isn't
+pub taken_left : (include : Option (List (List Sign))) (b : List ℕ) (ts us : List TakenEntry) (e : Named)
+    → is_taken include e.0 ≡ false → us ≡ ts → map (taken_as b) us ≡ map (taken_as b) ts ++ taken_alone include e
+taken_left include b ts us e leaves same =
+    ap (map (taken_as b)) same ∙ sym (append-nil (map (taken_as b) ts))
+    ∙ ap (λ k. map (taken_as b) ts ++ cond k (e ∷ []) []) (sym leaves)
 
 -- The names of the entries of an image differ
 

@@ -1,26 +1,17 @@
--- An image in a file on a shelf, whose contents are read one by one (this project's rule).
+-- Contents that are read of an image's file while files are made (this project's rule).
 use Rattle.std.specs.Prelude.{ℕ, ◌≡◌, Bool, List, length, map, take, Option, Some, None}
 use Rattle.std.specs.List.{list_any, sum_by}
 use Rattle.std.specs.Str.{bytes_eq}
-use Rattle.jm_form.specs.Head.{IsFileOf}
-use Rattle.jm_outside.specs.Files.{Files, file}
+use Rattle.jm_outside.specs.Files.{Files}
 use Rattle.jm_outside.specs.Outcome.{Shows}
-use Rattle.jm_valid.specs.Opened.{Front}
+use Rattle.jm_filed.specs.Filed.{IsAt}
 use Rattle.jm_extract.specs.declared.taking.TakenEntry.{TakenEntry}
 use Rattle.jm_extract.specs.Extracted.{path_of}
 use Rattle.jm_extract.specs.Taken.{content_in}
 
--- the file at a path has these bytes, where the files are told
-abbrev pub IsAt : Option Files → List ℕ → List ℕ → Type 0
-IsAt told path b = Shows told (λ files. Some b ≡ file files path)
-
--- these bytes are a file of an index, and the one at a path, where the files are told
-abbrev pub IsFiled : Front → Option Files → List ℕ → List ℕ → Type 0
-IsFiled index told path b = IsFileOf index.bytes index.length b × IsAt told path b
-
--- how many bytes the contents of some entries have together, as their rows say
+-- how many bytes the contents of some entries have together, as the index says
 abbrev pub sizes : List TakenEntry → ℕ
-sizes entries = sum_by (λ t. t.row.size) entries
+sizes entries = sum_by (λ t. t.content.size) entries
 
 -- the file of one of the entries is made at this path
 abbrev pub is_made_at : List ℕ → List ℕ → List TakenEntry → Bool
@@ -38,5 +29,5 @@ HasContent told path b content (Some kept) = Shows told (λ files. kept ≡ cont
 
 -- how many bytes are read for an entry whose content is kept, or isn't
 abbrev pub unkept_size : {A : Type 0} → TakenEntry → Option A → ℕ
-unkept_size t None = t.row.size
+unkept_size t None = t.content.size
 unkept_size t (Some kept) = 0

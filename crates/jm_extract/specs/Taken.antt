@@ -1,25 +1,21 @@
 -- The entries that `list` and `extract` take (this project's rule). A name and the content that
 -- stands under it are a pair.
 use Rattle.std.specs.Prelude.{ℕ, ◌&&◌, not, Bool, true, List, [], ◌∷◌, map, filter}
-use Rattle.std.specs.Prelude.{Option, Some, None, if◌then◌else◌}
+use Rattle.std.specs.Prelude.{All, Option, Some, None, if◌then◌else◌}
 use Rattle.std.specs.List.{list_any}
 use Rattle.jm_names.specs.Names.{is_node}
-use Rattle.jm_form.specs.Entries.{Entry, content_of}
-use Rattle.jm_form.specs.Places.{contents}
+use Rattle.jm_form.specs.Entries.{Entry}
 use Rattle.jm_pattern.specs.ComputedMatching.{matches}
 use Rattle.jm_pattern.specs.declared.signs.Sign.{Sign}
-use Rattle.jm_reader.specs.Look.{head}
 use Rattle.jm_reader.specs.Walk.{entries_of}
 use Rattle.jm_names.specs.ByName.{Named, by_name}
+use Rattle.jm_filed.specs.Filed.{IsWithin, content_at}
+use Rattle.jm_filed.specs.Parts.{named}
 use Rattle.jm_extract.specs.declared.taking.TakenEntry.{TakenEntry}
 
--- the name and the content of an entry
-abbrev pub named : Entry → Named
-named e = (e.name, e.content)
-
--- the content that the row of what the code hands out says in a file
+-- the content of what the code hands out, in a file
 abbrev pub content_in : List ℕ → TakenEntry → List ℕ
-content_in b t = content_of (contents b (head b)) t.row
+content_in b t = content_at b t.content
 
 -- its name, and that content
 abbrev pub taken_as : List ℕ → TakenEntry → Named
@@ -28,6 +24,10 @@ taken_as b t = (t.name, content_in b t)
 -- the name alone, with no content
 abbrev pub name_alone : TakenEntry → Named
 name_alone t = (t.name, [])
+
+-- the contents of entries lie within a file of so many bytes
+abbrev pub LieWithin : ℕ → List TakenEntry → Type 0
+LieWithin size entries = All (λ t. IsWithin size t.content) entries
 
 -- one of the patterns matches a name, or none are given
 abbrev pub is_included : Option (List (List Sign)) → List ℕ → Bool

@@ -4,19 +4,20 @@ ghost use Rattle.std.specs.Prelude.{OnOk, IsErrOf, map, option_map};
 ghost use Rattle.jm_form.specs.Head.{IsFileOf};
 ghost use Rattle.jm_names.specs.NameFaults.{IsSound};
 ghost use Rattle.jm_outside.specs.Outcome.{CountsFaults};
-ghost use Rattle.jm_reader.specs.Look.{SoundIn};
 ghost use Rattle.jm_reader.specs.Walk.{IsLater};
+ghost use Rattle.jm_filed.specs.Filed.{IsAt, IsFiled};
 ghost use Rattle.jm_extract.specs.Extracted.{Extracts, Makes, extracted, taken_size, write_of};
 ghost use Rattle.jm_extract.specs.Extracted.{writes_of};
-ghost use Rattle.jm_extract.specs.Filed.{HasContent, IsFiled, sizes, unkept_size};
+ghost use Rattle.jm_extract.specs.Filed.{HasContent, sizes, unkept_size};
 ghost use Rattle.jm_extract.specs.Stops.{stop_of};
 ghost use Rattle.jm_extract.specs.Taken.{content_in, taken_as};
 
-use crate::contents::{FiledImage, kept_contents, read_content};
+use crate::contents::{kept_contents, read_content};
 use crate::file_paths::path_of;
 use crate::refusals::refusal_of;
 use crate::taking::{TakenEntry, taken};
 use jm_bytes::{List, Meter, NoMemory, Text};
+use jm_filed::FiledImage;
 use jm_outside::{Shelf, ShelfError, make_file};
 use jm_pattern::Pattern;
 use jm_texts::Refusal;
@@ -64,11 +65,11 @@ pub struct Extraction<'w> {
     pub include: &'w Option<List<Pattern>>,
 }
 
-/// Where the files of an image's entries are made.
+/// Where the file of an image is, and where files are made of it.
 #[derive(Clone, Copy)]
-struct Making<'m, 'i, 'a> {
+struct Making<'m> {
     alloc: Global,
-    image: FiledImage<'i, 'a>,
+    path: &'m [u8],
     dir: &'m [u8],
 }
 
@@ -81,13 +82,11 @@ fn make_entry<S: Shelf>(
     text: &mut Text,
     shelf: &mut S,
 ) -> Result<(), ShelfError>
-    requires path { IsUtf8 making.image.path.now }
+    requires path { IsUtf8 making.path.now }
     requires text { IsUtf8 making.dir.now }
     requires name { IsSound entry.now.name }
-    requires row { SoundIn making.image.index.now entry.now.row }
     ensures makes { (b : List ℕ)
-        → IsFileOf making.entry.image.index.now.bytes making.entry.image.index.now.length b
-        → HasContent (S.files shelf.old) making.entry.image.path.now b (content_in b entry.now)
+        → HasContent (S.files shelf.old) making.entry.path.now b (content_in b entry.now)
         (option_map (λ t. t.now) kept.entry)
         → Makes result (write_of making.entry.dir.now (taken_as b entry.now) ∷ [])
         (S.files shelf.old) (S.files shelf.new) }
@@ -95,13 +94,13 @@ fn make_entry<S: Shelf>(
     ensures faults { CountsFaults (S.faults shelf.old) (S.faults shelf.new) (IsOk result)
         (IsErrOf result ShelfError.Failed) }
 {
-    let Making { alloc, image, dir } = making;
-    let path = path_of(alloc, dir, &entry.name)?;
+    let Making { alloc, path, dir } = making;
+    let made = path_of(alloc, dir, &entry.name)?;
     match kept {
-        Some(content) => make_file(alloc, shelf, path.as_slice(), content.as_slice()),
+        Some(content) => make_file(alloc, shelf, made.as_slice(), content.as_slice()),
         None => {
-            read_content(alloc, image, &entry.row, text, shelf)?;
-            make_file(alloc, shelf, path.as_slice(), text.as_slice())
+            read_content(alloc, path, entry.content, text, shelf)?;
+            make_file(alloc, shelf, made.as_slice(), text.as_slice())
         }
     }
 }
@@ -110,17 +109,15 @@ fn make_entry<S: Shelf>(
 /// made, but all before the first where one of the files takes the place of the image's own.
 fn make_files<S: Shelf>(
     alloc: Global,
-    image: FiledImage,
+    path: &[u8],
     dir: &[u8],
     entries: &[TakenEntry],
     shelf: &mut S,
 ) -> Result<(), ShelfError>
-    requires path { IsUtf8 image.path.now }
+    requires path { IsUtf8 path.now }
     requires text { IsUtf8 dir.now }
     requires names { All (λ t. IsSound t.name) entries.now }
-    requires rows { All (λ t. SoundIn image.index.now t.row) entries.now }
-    ensures makes { (b : List ℕ)
-        → IsFiled image.entry.index.now (S.files shelf.old) image.entry.path.now b
+    ensures makes { (b : List ℕ) → IsAt (S.files shelf.old) path.now b
         → Makes result (writes_of dir.now (map (taken_as b) entries.now))
         (S.files shelf.old) (S.files shelf.new) }
     ensures whole { OnOk result (IsTrue (S.whole shelf.new)) }
@@ -128,9 +125,9 @@ fn make_files<S: Shelf>(
     ensures faults { CountsFaults (S.faults shelf.old) (S.faults shelf.new) (IsOk result)
         (IsErrOf result ShelfError.Failed) }
 {
-    let contents = kept_contents(alloc, image, dir, entries, shelf)?;
+    let contents = kept_contents(alloc, path, dir, entries, shelf)?;
     let kept = contents.as_slice();
-    let making = Making { alloc, image, dir };
+    let making = Making { alloc, path, dir };
     let mut text = Text::new(alloc);
     for (place, entry) in entries.iter().enumerate() {
         make_entry(making, entry, kept.get(place), &mut text, shelf)?;
@@ -176,6 +173,6 @@ pub fn extract<S: Shelf, R: Ledger>(
     if let Some(refusal) = refusal_of(alloc, entries)? {
         return Err(ExtractStop::Refused(refusal));
     }
-    make_files(alloc, image, dir, entries, shelf)?;
+    make_files(alloc, image.path, dir, entries, shelf)?;
     Ok(entries.len())
 }

@@ -8,7 +8,6 @@ mod refusals;
 mod taken_name;
 mod taking;
 
-pub use contents::FiledImage;
 pub use extracting::{ExtractStop, Extraction, extract};
 pub use taken_name::TakenName;
 pub use taking::{TakenEntry, taken};

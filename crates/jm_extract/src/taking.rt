@@ -1,17 +1,16 @@
 //! The entries of an image that are taken, by rising name, as its index says them.
-ghost use Rattle.std.specs.Prelude.{◌≡◌, ◌++◌, ℕ, List, All, IfOk, OnOk, map};
+ghost use Rattle.std.specs.Prelude.{◌≡◌, ◌++◌, ℕ, List, IfOk, OnOk, map};
 ghost use Rattle.jm_form.specs.Head.{IsFileOf};
-ghost use Rattle.jm_valid.specs.Opened.{Front};
 ghost use Rattle.jm_reader.specs.Listing.{entry_listed, handed};
 ghost use Rattle.jm_reader.specs.Look.{SoundIn};
 ghost use Rattle.jm_reader.specs.Walk.{IsLater};
 ghost use Rattle.jm_names.specs.ByName.{RisesByName};
-ghost use Rattle.jm_extract.specs.Taken.{is_included, named, taken, taken_alone};
-ghost use Rattle.jm_extract.specs.Taken.{taken_as};
+ghost use Rattle.jm_filed.specs.Parts.{named};
+ghost use Rattle.jm_extract.specs.Taken.{LieWithin, is_included, taken, taken_alone, taken_as};
 
 use crate::taken_name::TakenName;
 use jm_bytes::{List, Meter, NoMemory};
-use jm_form::Row;
+use jm_filed::Extent;
 use jm_pattern::{Pattern, matches_any};
 use jm_reader::{Listed, list};
 use jm_valid::Index;
@@ -23,8 +22,8 @@ use std::sync::ledger::Ledger;
 pub struct TakenEntry<'a> {
     /// Its name.
     pub name: TakenName<'a>,
-    /// Its location row, which says where its content lies and how many bytes it has.
-    pub row: Row,
+    /// Where its content stands in the image's file, and how many bytes it has.
+    pub content: Extent,
 }
 
 /// One of the patterns matches the name, or none are given.
@@ -41,14 +40,16 @@ fn is_included(include: &Option<List<Pattern>>, name: &[u8]) -> bool
 fn take_entry<'a>(
     alloc: Global,
     list: &mut List<TakenEntry<'a>>,
+    index: &Index<'a>,
     entry: Listed<'a>,
     include: &Option<List<Pattern>>,
 ) -> Result<(), NoMemory>
-    ensures taken { (b : List ℕ) → OnOk result (map (taken_as b) list.new
-        ≡ map (taken_as b) list.old
+    requires { SoundIn index.now entry.row }
+    ensures taken { (b : List ℕ) → IsFileOf index.now.bytes index.now.length b
+        → OnOk result (map (taken_as b) list.new ≡ map (taken_as b) list.old
         ++ taken_alone include.now (named (entry_listed b (handed entry.entry)))) }
-    ensures sound { (front : Front) → All (λ t. SoundIn front t.row) list.old
-        → SoundIn front entry.entry.row → OnOk result (All (λ t. SoundIn front t.row) list.new) }
+    ensures within { LieWithin index.now.length list.old
+        → OnOk result (LieWithin index.now.length list.new) }
 {
     if entry.name.is_node() {
         return Ok(());
@@ -57,7 +58,7 @@ fn take_entry<'a>(
     if is_included(include, name.as_slice()) {
         list.push(TakenEntry {
             name: TakenName::of(entry.name, name.as_slice()),
-            row: entry.row,
+            content: Extent::of(index, &entry.row),
         })?;
     }
     Ok(())
@@ -77,13 +78,13 @@ pub fn taken<'a, R: Ledger>(
         → IfOk result (λ list. map (taken_as b) list ≡ taken b include.now) }
     ensures rises { (b : List ℕ) → IsFileOf index.now.bytes index.now.length b
         → IfOk result (λ list. RisesByName (map (taken_as b) list)) }
-    ensures sound { IfOk result (λ list. All (λ t. SoundIn index.now t.row) list) }
+    ensures within { IfOk result (LieWithin index.now.length) }
     ensures reads { IsLater reads.old reads.new }
 {
     let mut entries = list(index);
     let mut by_slot = List::new(alloc);
     while let Some(entry) = entries.step(reads) {
-        take_entry(alloc, &mut by_slot, entry, include)?;
+        take_entry(alloc, &mut by_slot, index, entry, include)?;
     }
     let mut sorted = by_slot.into_vec();
     sorted.sort_unstable_by(|one, other| one.name.order(&other.name));

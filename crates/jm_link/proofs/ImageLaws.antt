@@ -1,14 +1,13 @@
--- The modules of an image as what a link is made of: their names differ, their resources are no
--- nodes and differ too, and what a link of them does, from what its steps did.
-use Rattle.std.proofs.Common.{◌⊎◌, ◌≡◌, ◌≢◌, ◌<◌, ℕ, suc, Bool, true, false, not, List, [], ◌∷◌, ◌++◌, length}
-use Rattle.std.proofs.Common.{map, All, AllPairs, Contains, Option, Some, None, option_map, slice_get, Result}
-use Rattle.std.proofs.Common.{Ok, Err, refl, sym, ap, subst, ◌∙◌, arith}
-use Rattle.std.proofs.lemmas.List.Elements.{All-contains, All-cons, All-map, All-nil}
+-- The modules of an image as what a link is made of: their resources are no nodes and have names that
+-- differ; and what a link of them does, from what its steps did.
+use Rattle.std.proofs.Common.{◌⊎◌, ◌≡◌, ◌<◌, ℕ, Bool, true, false, not, List, [], ◌∷◌, ◌++◌, length}
+use Rattle.std.proofs.Common.{map, All, Contains, Option, Some, None, option_map, slice_get, Result}
+use Rattle.std.proofs.Common.{Ok, Err, refl, sym, ap, subst, ◌∙◌}
+use Rattle.std.proofs.lemmas.List.Elements.{All-contains, All-cons, All-map, All-nil, All-weaker}
 use Rattle.std.proofs.lemmas.Option.{slice_get-map}
-use Rattle.std.specs.List.{filter_map, flat_map, zip}
+use Rattle.std.specs.List.{filter_map, flat_map, list_any, zip}
 use Rattle.jm_bytes.proofs.Choice.{same_some}
 use Rattle.jm_bytes.proofs.Members.{all_from_contains, from_filter, from_filter_map, from_map}
-use Rattle.jm_bytes.proofs.Pairs.{pairs_append, pairs_filter_map, pairs_head, pairs_map, pairs_none, pairs_tail, pairs_weaker}
 use Rattle.jm_bytes.proofs.SameOrder.{from_flat_map}
 use Rattle.jm_bytes.specs.Checks.{first_fault}
 use Rattle.jm_closure.specs.declared.candidate.Candidate.{Candidate}
@@ -17,11 +16,10 @@ use Rattle.jm_form.specs.Layout.{Written, names_of}
 use Rattle.jm_names.specs.ComputedFault.{name_fault}
 use Rattle.jm_names.specs.declared.check.NameFault.{NameFault}
 use Rattle.jm_names.specs.NameFaults.{IsSound}
-use Rattle.jm_names.specs.Names.{is_node}
+use Rattle.jm_names.specs.Names.{is_node, is_slash}
 use Rattle.jm_names.proofs.ComputedFaultLaws.{IsSound-computed}
 use Rattle.jm_form.specs.Validity.{resources}
 use Rattle.jm_form.specs.Entries.{Entry}
-use Rattle.jm_bytes.specs.ByteOrder.{is_before}
 use Rattle.jm_reader.specs.Walk.{entries_of}
 use Rattle.jm_relink.specs.declared.fault.GatherFault.{GatherFault}
 use Rattle.jm_relink.specs.declared.fault.RelinkFault.{RelinkFault}
@@ -31,8 +29,8 @@ use Rattle.jm_names.specs.ByName.{Named}
 use Rattle.jm_relink.specs.Gathering.{ArePlaces, GathersAll, gathered, named_files, resource_of, resources_with}
 use Rattle.jm_relink.specs.Gathering as gathering
 use Rattle.jm_relink.specs.Modules.{FindsModules, HoldsModules, IsSeenIn, IsVisibleIn, ModulesOf, SeenModule, name_of}
-use Rattle.jm_relink.proofs.AskedLaws.{before_at, candidates_rise, image_names_differ, visible_in}
-use Rattle.jm_relink.proofs.NameLaws.{names_tell}
+use Rattle.jm_relink.proofs.AskedLaws.{before_at, candidates_rise, image_modules, visible_in}
+use Rattle.jm_relink.proofs.GatherLaws.{gathered_apart}
 use Rattle.jm_texts.specs.declared.refusal.Refusal.{Refusal}
 use Rattle.jm_link.specs.Chosen.{reserved, roots_among}
 use Rattle.jm_link.specs.Closing.{ClosesAmong, ClosesWith, IsRefusedAmong}
@@ -42,15 +40,15 @@ use Rattle.jm_link.specs.Links.{PoolComesTo}
 use Rattle.jm_link.specs.Resources.{AreFit}
 use Rattle.jm_link.specs.Steps.{gathering_refusal}
 use Rattle.jm_texts.specs.NameRefusals.{first_bad_name}
-use Rattle.jm_link.proofs.ChosenLaws.{chosen_differ, chosen_rise, chosen_within}
+use Rattle.jm_link.proofs.ChosenLaws.{chosen_rise, chosen_within}
 use Rattle.jm_link.proofs.FileLaws.{got}
 use Rattle.jm_link.proofs.LinkingLaws.{among_to, refused_among}
-use Rattle.jm_bytes.proofs.ByteOrderLaws.{before_less, before_other}
+use Rattle.jm_bytes.proofs.ByteOrderLaws.{before_less}
 
 -- Two lists of modules that were seen
 
 module _ (release : ℕ) (b : List ℕ) (modules : ImageModules) (seen : List SeenModule) (visible : IsVisibleIn release (resources_of b) seen)
-    (holds : HoldsModules modules seen) where
+    (holds : HoldsModules b modules seen) where
   abbrev found : List Candidate
   found = modules.candidates
 
@@ -71,7 +69,7 @@ module _ (release : ℕ) (b : List ℕ) (modules : ImageModules) (seen : List Se
   zipped [] = refl
   zipped (s ∷ ss) = ap (λ rest. named s ∷ rest) (zipped ss)
 
-  named_is : named_files modules ≡ map named seen
+  named_is : named_files b modules ≡ map named seen
   named_is = rw (holds.candidates, holds.files) (zipped seen)
 
   abbrev resources_named : List ℕ × List Named → List Written
@@ -87,7 +85,7 @@ module _ (release : ℕ) (b : List ℕ) (modules : ImageModules) (seen : List Se
       go None is rest = rw (slice_get-map named seen p, is) rest
       go (Some s) is rest = rw (slice_get-map named seen p, is) (ap (λ rs. seen_resources s ++ rs) rest)
 
-  pub gathered_is : (places : List ℕ) → gathered modules places ≡ resources_seen seen places
+  pub gathered_is : (places : List ℕ) → gathered b modules places ≡ resources_seen seen places
   gathered_is places = ap (λ ms. flat_map resources_named (filter_map (slice_get ms) places)) named_is ∙ from_named places
 
 -- Resources
@@ -103,91 +101,37 @@ no_node es r there =
     off false h = refl
     off true h = cc
 
-abbrev Differ : Written → Written → Type 0
-Differ e f = e.0 ≢ f.0
+-- a resource of an image that is a file of a module
+pub record IsFileIn (b : List ℕ) (r : Written) : Type 0 where
+  pub «module» : List ℕ
+  pub path : List ℕ
+  pub whole : list_any is_slash «module» ≡ false
+  pub name : r.0 ≡ file_name «module» path
+  pub there : Contains (resources_of b) r
 
-module _ (release : ℕ) (b : List ℕ) where
-  abbrev Seen : SeenModule → Type 0
-  Seen = IsSeenIn release (resources_of b)
+seen_file : (release : ℕ) (b : List ℕ) (s : SeenModule) → IsSeenIn release (resources_of b) s → (r : Written)
+    → Contains (seen_resources s) r → IsFileIn b r
+seen_file release b s is r there =
+    let from = from_map (resource_of (name_of s)) s.files r there in
+    record {
+      «module» = name_of s;
+      path = from.0.0;
+      whole = is.info.whole;
+      name = ap (λ (p : Written). p.0) (sym from.2);
+      there = subst (Contains (resources_of b)) from.2 ((is.files.each from.0.0 from.0.1).0 from.1);
+    }
 
-  seen_free : (s : SeenModule) → Seen s → (r : Written) → Contains (seen_resources s) r → is_node r.0 ≡ false
-  seen_free s is r there =
-      let from = from_map (resource_of (name_of s)) s.files r there in
-      ap (λ (p : Written). is_node p.0) (sym from.2) ∙ no_node (entries_of b) (file_name (name_of s) from.0.0, from.0.1)
-      ((is.files.each from.0.0 from.0.1).0 from.1)
-
-  own_apart : (s : SeenModule) → Seen s → AllPairs Differ (seen_resources s)
-  own_apart s is =
-      pairs_map Differ (resource_of (name_of s)) s.files
-      (pairs_weaker (λ (e f : Named). is_before e.0 f.0 ≡ true) (λ e f. Differ (resource_of (name_of s) e) (resource_of (name_of s) f))
-      (λ e f before same. before_other f.0 (subst (λ (p : List ℕ). is_before p f.0 ≡ true) (names_tell (name_of s) (name_of s) e.0
-      f.0 is.info.whole is.info.whole same).1 before))
-      s.files is.files.rising)
-
-  two_apart : (s t : SeenModule) → Seen s → Seen t → name_of s ≢ name_of t → (e f : Written) → Contains (seen_resources s) e
-      → Contains (seen_resources t) f → Differ e f
-  two_apart s t one other apart e f there too same =
-      let first = from_map (resource_of (name_of s)) s.files e there in
-      let second = from_map (resource_of (name_of t)) t.files f too in
-      let names : file_name (name_of s) first.0.0 ≡ file_name (name_of t) second.0.0 = ap (λ (p : Written). p.0) first.2 ∙ same
-      ∙ sym (ap (λ (p : Written). p.0) second.2) in
-      apart (names_tell (name_of s) (name_of t) first.0.0 second.0.0 one.info.whole other.info.whole names).0
-
-  all_free : (ss : List SeenModule) → All Seen ss → All (λ (r : Written). is_node r.0 ≡ false) (flat_map seen_resources ss)
-  all_free ss each = all_from_contains (λ (r : Written). is_node r.0 ≡ false) (flat_map seen_resources ss)
-      (λ r there. let from = from_flat_map seen_resources ss r there in seen_free from.0 (All-contains Seen ss from.0 each from.1) r from.2)
-
-  apart_all : (ss : List SeenModule) → All Seen ss → AllPairs (λ (s t : SeenModule). name_of s ≢ name_of t) ss
-      → AllPairs Differ (flat_map seen_resources ss)
-  apart_all [] each apart = pairs_none Differ
-  apart_all (s ∷ ss) each apart =
-      let later : All Seen ss = λ i d inside. each (suc i) d (omega arith) in
-      let is = each 0 s (omega arith) in
-      let others = pairs_head (λ (t u : SeenModule). name_of t ≢ name_of u) s ss apart in
-      pairs_append Differ (seen_resources s) (flat_map seen_resources ss) (own_apart s is)
-      (apart_all ss later (pairs_tail (λ (t u : SeenModule). name_of t ≢ name_of u) s ss apart))
-      (λ e f there too.
-      let from = from_flat_map seen_resources ss f too in
-      two_apart s from.0 is (All-contains Seen ss from.0 later from.1) (All-contains (λ t. name_of s ≢ name_of t) ss from.0 others
-      from.1) e f there from.2)
-
-module _ (release : ℕ) (b : List ℕ) (modules : ImageModules) (seen : List SeenModule) (visible : IsVisibleIn release (resources_of b) seen)
-    (holds : HoldsModules modules seen) (roots : List (List ℕ)) (bind : Bool) (places : List ℕ)
-    (closes : ClosesWith bind modules.candidates roots (Ok places)) where
-  abbrev Is : SeenModule → Type 0
-  Is = IsSeenIn release (resources_of b)
-
-  abbrev chosen : List SeenModule
-  chosen = filter_map (slice_get seen) places
-
-  all_chosen : All Is chosen
-  all_chosen = all_from_contains Is chosen (λ s there.
-      let from = from_filter_map (slice_get seen) places s there in
-      All-contains Is seen s visible.each (got seen from.0 s from.2))
-
-  candidate_at : (p : ℕ) (s : SeenModule) → slice_get seen p ≡ Some s → slice_get modules.candidates p ≡ Some s.candidate
-  candidate_at p s is = ap (λ cs. slice_get cs p) holds.candidates ∙ slice_get-map (λ (t : SeenModule). t.candidate) seen p
-      ∙ ap (option_map (λ (t : SeenModule). t.candidate)) is
-
-  chosen_apart : AllPairs (λ (s t : SeenModule). name_of s ≢ name_of t) chosen
-  chosen_apart =
-      pairs_filter_map (λ (p q : ℕ). p ≢ q) (λ (s t : SeenModule). name_of s ≢ name_of t) (slice_get seen)
-      (λ p q other s t one two same. other (image_names_differ release b modules seen visible holds p q (name_of s)
-      (s.candidate, candidate_at p s one, refl) (t.candidate, candidate_at q t two, sym same)))
-      places (chosen_differ modules.candidates roots bind places closes)
-
-  pub image_free : All (λ name. is_node name ≡ false) (names_of (gathered modules places))
-  image_free =
-      subst (λ (rs : List Written). All (λ name. is_node name ≡ false) (names_of rs))
-      (sym (gathered_is release b modules seen visible holds places))
-      (All-map (λ name. is_node name ≡ false) (λ (r : Written). r.0) (resources_seen seen places) (all_free release b chosen all_chosen))
-
-  pub image_apart : AllPairs (λ (m n : List ℕ). m ≢ n) (names_of (gathered modules places))
-  image_apart =
-      subst (λ (rs : List Written). AllPairs (λ (m n : List ℕ). m ≢ n) (names_of rs))
-      (sym (gathered_is release b modules seen visible holds places))
-      (pairs_map (λ (m n : List ℕ). m ≢ n) (λ (r : Written). r.0) (resources_seen seen places)
-      (apart_all release b chosen all_chosen chosen_apart))
+-- what is gathered is of that kind
+pub gathered_files : (release : ℕ) (b : List ℕ) (modules : ImageModules) → FindsModules release b (Ok modules)
+    → (places : List ℕ) → All (IsFileIn b) (gathered b modules places)
+gathered_files release b modules (seen, shows, holds) places =
+    let visible = visible_in release b seen shows in
+    subst (All (IsFileIn b)) (sym (gathered_is release b modules seen visible holds places))
+    (all_from_contains (IsFileIn b) (resources_seen seen places) (λ r there.
+    let from = from_flat_map seen_resources (filter_map (slice_get seen) places) r there in
+    let at = from_filter_map (slice_get seen) places from.0 from.1 in
+    let is = All-contains (IsSeenIn release (resources_of b)) seen from.0 visible.each (got seen at.0 from.0 at.2) in
+    seen_file release b from.0 is r from.2))
 
 -- Names that were checked
 
@@ -232,7 +176,7 @@ pub unseen : (b : List ℕ) (asked : Request) (fault : RelinkFault) → FindsMod
 unseen b asked fault is = ((Err fault, is, refl), tt)
 
 module _ (b : List ℕ) (asked : Request) (modules : ImageModules) (seen : List SeenModule) (shows : ModulesOf asked.release b (Ok seen))
-    (holds : HoldsModules modules seen) where
+    (holds : HoldsModules b modules seen) where
   -- no closure was had
   pub unclosed : (r : Refusal) → (reserved modules.candidates ≡ Some r) ⊎ IsRefusedAmong modules.candidates asked.roots asked.bind r
       → ImageComesTo b asked (Err r)
@@ -245,11 +189,11 @@ module _ (b : List ℕ) (asked : Request) (modules : ImageModules) (seen : List 
     abbrev as_seen : ClosesAmong (seen_candidates seen) asked.roots asked.bind (Ok places)
     as_seen = subst (λ (cs : List Candidate). ClosesAmong cs asked.roots asked.bind (Ok places)) holds.candidates closed
 
-    abbrev is : gathered modules places ≡ resources_seen seen places
+    abbrev is : gathered b modules places ≡ resources_seen seen places
     is = gathered_is asked.release b modules seen (visible_in asked.release b seen shows) holds places
 
     -- a name is unfit
-    pub unfit : (fault : GatherFault) → GathersAll (gathered modules places) (Err fault)
+    pub unfit : (fault : GatherFault) → GathersAll (gathered b modules places) (Err fault)
         → ImageComesTo b asked (Err (gathering_refusal fault))
     unfit bad gathers =
         let first = same_bad (resources_seen seen places) bad (subst (λ (rs : List Named). gathering.first_bad_name rs ≡ Some bad)
@@ -264,7 +208,7 @@ module _ (b : List ℕ) (asked : Request) (modules : ImageModules) (seen : List 
         )
 
     -- the resources were gathered
-    pub gathered_to : (pool : List Written) → GathersAll (gathered modules places) (Ok pool) → (r : Result LinkedImage Refusal)
+    pub gathered_to : (pool : List Written) → GathersAll (gathered b modules places) (Ok pool) → (r : Result LinkedImage Refusal)
         → PoolComesTo asked (length places) pool r → ImageComesTo b asked r
     gathered_to pool (none, same) r (comes, laid) =
         let fit = none_bad (resources_seen seen places) (subst (λ (rs : List Named). gathering.first_bad_name rs ≡ None) is none) in
@@ -272,11 +216,15 @@ module _ (b : List ℕ) (asked : Request) (modules : ImageModules) (seen : List 
         ((Ok seen, shows, among_to asked (seen_candidates seen) (resources_seen seen) places as_seen r (rw fit plugged)), laid)
 
     -- they have fit names
-    pub gathered_fit : (pool : List Written) → GathersAll (gathered modules places) (Ok pool) → AreFit (names_of pool)
-    gathered_fit pool (none, same) = rw same (record {
-      differ = image_apart asked.release b modules seen (visible_in asked.release b seen shows) holds
-          (roots_among modules.candidates asked.roots) asked.bind places closed.1;
-      sound = fit_names (gathered modules places) none;
-      plain = image_free asked.release b modules seen (visible_in asked.release b seen shows) holds
-          (roots_among modules.candidates asked.roots) asked.bind places closed.1;
-    })
+    pub gathered_fit : (pool : List Written) → GathersAll (gathered b modules places) (Ok pool) → AreFit (names_of pool)
+    gathered_fit pool (none, same) =
+        let visible = visible_in asked.release b seen shows in
+        rw same (record {
+          differ = gathered_apart b modules places (image_modules asked.release b modules seen visible holds)
+              (image_places asked.release b modules seen visible holds (roots_among modules.candidates asked.roots) asked.bind places
+              closed.1);
+          sound = fit_names (gathered b modules places) none;
+          plain = All-map (λ name. is_node name ≡ false) (λ (r : Written). r.0) (gathered b modules places)
+              (All-weaker (IsFileIn b) (λ r. is_node r.0 ≡ false) (λ r file. no_node (entries_of b) r file.there)
+              (gathered b modules places) (gathered_files asked.release b modules (seen, shows, holds) places));
+        })

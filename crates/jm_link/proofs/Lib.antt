@@ -1,17 +1,22 @@
 pub mod ChosenLaws
+pub mod ChosenParts
 pub mod ClosedAgain
 pub mod ClosingLaws
 pub mod FileLaws
 pub mod FileOrder
+pub mod FiledLinkLaws
 pub mod GivenBack
 pub mod ImageLaws
+pub mod InfoLaws
 pub mod KeptLaws
 pub mod LaidLaws
 pub mod LinkVectors
 pub mod LinkingLaws
 pub mod ListedLaws
 pub mod MadeFrom
+pub mod ModuleParts
 pub mod OnceLaws
+pub mod PartLaws
 pub mod RelinkedLaws
 pub mod ResourceLaws
 pub mod ResourceNames
@@ -19,3 +24,4 @@ pub mod ResourcesApart
 pub mod SaidLaws
 pub mod SeenAgain
 pub mod ShownResources
+pub mod TakenLaws

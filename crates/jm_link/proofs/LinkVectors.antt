@@ -1,4 +1,4 @@
--- The resources of a link and its refusals, evaluated on small told files.
+-- The resources of a link and its refusals, and what it takes, evaluated on small told files.
 use Rattle.std.proofs.Common.{◌≡◌, ℕ, List, [], ◌∷◌, ◌++◌, Some, None, refl}
 use Rattle.std.specs.Prelude.{codes}
 use Rattle.jm_bytes.specs.declared.words.Order.TheVariants.{Little}
@@ -11,6 +11,7 @@ use Rattle.jm_names.specs.declared.check.NameFault.TheVariants as fault
 use Rattle.jm_outside.specs.Files.{Files}
 use Rattle.jm_texts.specs.declared.refusal.Refusal.TheVariants as refusal
 use Rattle.jm_names.specs.ByName.{Named}
+use Rattle.jm_link.specs.ImageTaken.{sizes, undescribed}
 use Rattle.jm_link.specs.Linked.{layout_refusal}
 use Rattle.jm_link.specs.Chosen.{reserved, roots_among}
 use Rattle.jm_link.specs.Resources.{link_files, resources_of}
@@ -113,3 +114,16 @@ apart :
     layout_refusal Little ((codes "/m/p", codes "x") ∷ (codes "/m/q", codes "y") ∷ []) ≡ None
 unfolding seeds table_lengths
 apart = refl
+
+-- of the files of two modules those that aren't their descriptors; a deeper file has another path
+abbrev files_of_two : List Written
+files_of_two =
+    (codes "/m/module-info.class", codes "mm") ∷ (codes "/m/p/module-info.class", codes "x")
+    ∷ (codes "/n/module-info.class", codes "n") ∷ (codes "/n/q", codes "yyy") ∷ []
+
+without_descriptors :
+    undescribed files_of_two ≡ (codes "/m/p/module-info.class", codes "x") ∷ (codes "/n/q", codes "yyy") ∷ []
+without_descriptors = refl
+
+their_sizes : sizes (undescribed files_of_two) ≡ 4
+their_sizes = refl

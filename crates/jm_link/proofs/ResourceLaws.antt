@@ -88,20 +88,19 @@ files_texts found places fs texts below is =
 -- The names of a pool
 
 -- a name is new where those before it were put into a pool and names differ
-pub name_is_new : (fs done : List ResourceFile) (f : ResourceFile) (rest : List ResourceFile) (pool : List Named)
-    → AllPairs (λ a b. a ≢ b) (file_names fs) → done ++ f ∷ rest ≡ fs → names_of pool ≡ file_names done → bytes_of f.name pool ≡ None
-name_is_new fs done f rest pool differ all names =
-    let apart = subst (λ gs. AllPairs (λ (a b : List ℕ). a ≢ b) (file_names gs)) (sym all) differ in
-    let parts : file_names (done ++ f ∷ rest) ≡ file_names done ++ f.name ∷ file_names rest =
-    map-append (λ (g : ResourceFile). g.name) done (f ∷ rest) in
-    let pairs = subst (AllPairs (λ (a b : List ℕ). a ≢ b)) (parts ∙ ap (λ ns. ns ++ f.name ∷ file_names rest) (sym names)) apart in
-    let long = length-append (names_of pool) (f.name ∷ file_names rest) in
-    let before = pairs_before (λ (a b : List ℕ). a ≢ b) (names_of pool ++ f.name ∷ file_names rest) (length (names_of pool)) f.name
+pub name_is_new : {X : Type 0} (name : X → List ℕ) (fs done : List X) (f : X) (rest : List X) (pool : List Named)
+    → AllPairs (λ a b. a ≢ b) (map name fs) → done ++ f ∷ rest ≡ fs → names_of pool ≡ map name done → bytes_of (name f) pool ≡ None
+name_is_new name fs done f rest pool differ all names =
+    let apart = subst (λ gs. AllPairs (λ (a b : List ℕ). a ≢ b) (map name gs)) (sym all) differ in
+    let parts : map name (done ++ f ∷ rest) ≡ map name done ++ name f ∷ map name rest = map-append name done (f ∷ rest) in
+    let pairs = subst (AllPairs (λ (a b : List ℕ). a ≢ b)) (parts ∙ ap (λ ns. ns ++ name f ∷ map name rest) (sym names)) apart in
+    let long = length-append (names_of pool) (name f ∷ map name rest) in
+    let before = pairs_before (λ (a b : List ℕ). a ≢ b) (names_of pool ++ name f ∷ map name rest) (length (names_of pool)) (name f)
     pairs (omega (arith, long)) in
-    bytes_of_none f.name pool (rw (
-      at_front (names_of pool) (f.name ∷ file_names rest) f.name,
+    bytes_of_none (name f) pool (rw (
+      at_front (names_of pool) (name f ∷ map name rest) (name f),
       take_at (names_of pool)
-          (f.name ∷ file_names rest) (length (names_of pool)) refl,
+          (name f ∷ map name rest) (length (names_of pool)) refl,
     ) at before)
   where
     at_front : (front back : List (List ℕ)) (d : List ℕ) → get_or (front ++ back) (length front) d ≡ get_or back 0 d

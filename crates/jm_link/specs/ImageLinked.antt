@@ -51,8 +51,8 @@ ImageLinksTo b asked result =
 abbrev pub ImageComesTo : List ℕ → Request → Result LinkedImage Refusal → Type 0
 ImageComesTo b asked result = ImageLinksTo b asked result × IsLaid asked.order result
 
--- what a link of the modules of an image did to the files, by its answer; no file is read, so none
--- is missing
+-- what a link of the modules of an image did to the files, by its answer; no file is listed, so
+-- none is missing
 abbrev pub ImageLinks : List ℕ → Request → List ℕ → Result Summary LinkStop
     → (old new : ShelfSeen) → Type 0
 ImageLinks b asked path answer old new = LinksBy (ImageComesTo b asked) ⊥ path answer old new

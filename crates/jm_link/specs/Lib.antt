@@ -1,6 +1,10 @@
 pub mod Chosen
 pub mod Closing
+pub mod FiledLinked
 pub mod ImageLinked
+pub mod ImageParts
+pub mod ImageSteps
+pub mod ImageTaken
 pub mod Linked
 pub mod Links
 pub mod Relinked

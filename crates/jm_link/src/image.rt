@@ -33,6 +33,7 @@ fn write_whole<S: Shelf>(
     ensures err { OnErr result ((image : List ℕ) × (layout draft.now.order pool.now ≡ Some image)
         × HoldsPart (S.files shelf.old) path.now image (S.files shelf.new)) }
     ensures whole { OnOk result (IsTrue (S.whole shelf.new)) }
+    ensures handed { S.handed shelf.new ≡ S.handed shelf.old }
     ensures faults { CountsFaults (S.faults shelf.old) (S.faults shelf.new) (IsOk result)
         (IsErrOf result ShelfError.Failed) }
 {
@@ -60,6 +61,7 @@ fn write_planned<S: Shelf>(
     ensures writes { WritesImage planned.now.draft.order planned.now.modules pool.now path.now
         result (shelf_at S.Shelf shelf.old) (shelf_at S.Shelf shelf.new) }
     ensures whole { AfterStep (IsTrue (S.whole shelf.new)) result }
+    ensures handed { S.handed shelf.new ≡ S.handed shelf.old }
 {
     write_whole(alloc, &planned.draft, pool, shelf, path)?;
     Ok(Summary {
@@ -84,6 +86,7 @@ pub fn write_image<S: Shelf>(
     ensures writes { WritesImage task.now.order modules pool.now task.now.output result
         (shelf_at S.Shelf shelf.old) (shelf_at S.Shelf shelf.new) }
     ensures whole { IsTrue (S.whole shelf.old) → AfterStep (IsTrue (S.whole shelf.new)) result }
+    ensures handed { S.handed shelf.new ≡ S.handed shelf.old }
 {
     let draft = plan(alloc, task.order, pool)?;
     let planned = Planned { draft, modules };

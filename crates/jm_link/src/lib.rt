@@ -4,6 +4,7 @@
 
 mod closing;
 mod image;
+mod image_parts;
 mod linking;
 mod relinking;
 mod resources;

@@ -12,6 +12,7 @@ use Rattle.jm_bytes.specs.Results.{IfAnswered}
 use Rattle.jm_bytes.specs.declared.faults.Or.{Or}
 use Rattle.jm_bytes.proofs.Members.{all_from_contains, contains_map}
 use Rattle.jm_bytes.proofs.Pairs.{pairs_map}
+use Rattle.jm_bytes.proofs.SameOrder.{mapped_twice}
 use Rattle.jm_closure.specs.declared.candidate.Candidate.{Candidate}
 use Rattle.jm_closure.specs.Modules as closure
 use Rattle.jm_closure.specs.Names.{NamesDiffer}
@@ -22,8 +23,9 @@ use Rattle.jm_bytes.proofs.ByteOrderLaws.{before_other}
 use Rattle.jm_relink.specs.declared.fault.RelinkFault.{RelinkFault}
 use Rattle.jm_relink.specs.declared.modules.ImageFile.{ImageFile}
 use Rattle.jm_relink.specs.declared.modules.ImageModules.{ImageModules}
-use Rattle.jm_relink.specs.Files.{file_as, files_as, resources_of}
-use Rattle.jm_relink.specs.Gathering.{AreModules}
+use Rattle.jm_relink.specs.Files.{file_in, files_in, resources_of}
+use Rattle.jm_relink.specs.Gathering.{AreModules, HasInfos, LieWithin, StandIn}
+use Rattle.jm_relink.specs.Groups.{info_content}
 use Rattle.jm_relink.specs.Modules.{FindsModules, HoldsModules, IsSeenIn, IsVisibleIn, ModulesOf, SeenModule, name_of}
 
 -- what is seen of an image is what the rule says
@@ -57,7 +59,7 @@ rising_differ cs rises i j name (c, one, is) (e, other, also) = go (nat_lt i j) 
 -- Two lists of modules that were seen
 
 module _ (release : ℕ) (b : List ℕ) (modules : ImageModules) (seen : List SeenModule)
-    (visible : IsVisibleIn release (resources_of b) seen) (holds : HoldsModules modules seen) where
+    (visible : IsVisibleIn release (resources_of b) seen) (holds : HoldsModules b modules seen) where
   abbrev found : List Candidate
   found = modules.candidates
 
@@ -76,33 +78,56 @@ module _ (release : ℕ) (b : List ℕ) (modules : ImageModules) (seen : List Se
       (All-map (λ (c : Candidate). list_any is_slash c.descriptor.name ≡ false) (λ (s : SeenModule). s.candidate) seen
       (λ k d inside. whole_name _ (visible.each k d inside)))
 
-  all_rise : All RisesByName (map files_as modules.files)
+  all_rise : All RisesByName (map (files_in b) modules.files)
   all_rise =
       subst (All RisesByName) (sym holds.files)
       (All-map RisesByName (λ (s : SeenModule). s.files) seen (λ k d inside. (visible.each k d inside).files.rising))
 
-  paths_apart : (fs : List ImageFile) → RisesByName (files_as fs) → AllPairs (λ (e f : ImageFile). e.path ≢ f.path) fs
+  paths_apart : (fs : List ImageFile) → RisesByName (files_in b fs) → AllPairs (λ (e f : ImageFile). e.path ≢ f.path) fs
   paths_apart fs rises i j d less inside same =
-      let up = rises i j (file_as d) less (rw (length-map fs file_as) inside) in
-      let one = get_or-map file_as fs i d (file_as d) (omega (arith, less, inside)) in
-      let other = get_or-map file_as fs j d (file_as d) inside in
+      let up = rises i j (file_in b d) less (rw (length-map fs (file_in b)) inside) in
+      let one = get_or-map (file_in b) fs i d (file_in b d) (omega (arith, less, inside)) in
+      let other = get_or-map (file_in b) fs j d (file_in b d) inside in
       let before = rw (one, other) at up in
       before_other (get_or fs j d).path (rw same at before)
 
   all_apart : All (λ (fs : List ImageFile). AllPairs (λ (e f : ImageFile). e.path ≢ f.path) fs) modules.files
   all_apart = all_from_contains (λ (fs : List ImageFile). AllPairs (λ (e f : ImageFile). e.path ≢ f.path) fs) modules.files
-      (λ fs there. paths_apart fs (All-contains RisesByName (map files_as modules.files) (files_as fs) all_rise
-      (contains_map files_as modules.files fs there)))
+      (λ fs there. paths_apart fs (All-contains RisesByName (map (files_in b) modules.files) (files_in b fs) all_rise
+      (contains_map (files_in b) modules.files fs there)))
 
   as_long : length modules.candidates ≡ length modules.files
   as_long =
       ap length holds.candidates ∙ length-map seen (λ (s : SeenModule). s.candidate)
-      ∙ sym (sym (length-map modules.files files_as) ∙ ap length holds.files ∙ length-map seen (λ (s : SeenModule). s.files))
+      ∙ sym (sym (length-map modules.files (files_in b)) ∙ ap length holds.files ∙ length-map seen (λ (s : SeenModule). s.files))
+
+  as_many : length modules.candidates ≡ length modules.infos
+  as_many =
+      ap length holds.candidates ∙ length-map seen (λ (s : SeenModule). s.candidate)
+      ∙ sym (sym (length-map modules.infos (λ (text : List ℕ). Some text)) ∙ ap length holds.infos
+      ∙ length-map seen (λ (s : SeenModule). info_content s.files))
+
+  -- the descriptors are those of the image
+  pub image_infos : HasInfos b modules
+  image_infos =
+      sym (mapped_twice info_content (files_in b) modules.files) ∙ ap (map info_content) holds.files
+      ∙ mapped_twice info_content (λ (s : SeenModule). s.files) seen ∙ sym holds.infos
 
   pub image_modules : AreModules modules
-  image_modules = record { long = as_long; differ = image_names_differ; whole = all_whole; apart = all_apart }
+  image_modules = record { long = as_long; infos = as_many; differ = image_names_differ; whole = all_whole; apart = all_apart }
 
 pub found_are : (release : ℕ) (b : List ℕ) (answer : Result ImageModules (Or RelinkFault))
     → IfAnswered (FindsModules release b) answer → IfOk answer AreModules
 found_are release b (Ok found) (seen, shows, holds) = image_modules release b found seen (visible_in release b seen shows) holds
 found_are release b (Err e) finds = tt
+
+pub found_infos : (release : ℕ) (b : List ℕ) (answer : Result ImageModules (Or RelinkFault))
+    → IfAnswered (FindsModules release b) answer → IfOk answer (HasInfos b)
+found_infos release b (Ok found) (seen, shows, holds) = image_infos release b found seen (visible_in release b seen shows) holds
+found_infos release b (Err e) finds = tt
+
+-- and its files stand in it
+pub found_stand : (release : ℕ) (b : List ℕ) (answer : Result ImageModules (Or RelinkFault))
+    → IfAnswered (FindsModules release b) answer → IfOk answer (LieWithin (length b)) → IfOk answer (StandIn b)
+found_stand release b (Ok found) finds inside = record { infos = found_infos release b (Ok found) finds; within = inside }
+found_stand release b (Err e) finds inside = tt

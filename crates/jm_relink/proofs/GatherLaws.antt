@@ -1,7 +1,7 @@
--- The resources of chosen modules, one file after another and one module after another.
+-- The resources of chosen modules: their names differ, and the first bad name of all is that of a part.
 use Rattle.std.proofs.Common.{◌≡◌, ◌≢◌, ℕ, zero, suc, ◌+◌, ◌<◌, false, List, [], ◌∷◌, ◌++◌, take, drop}
 use Rattle.std.proofs.Common.{length, map, get_or, All, AllPairs, Contains, Option, Some, None, option_map}
-use Rattle.std.proofs.Common.{slice_get, Result, Err, refl, sym, ap, subst, ◌∙◌, append_assoc, arith}
+use Rattle.std.proofs.Common.{slice_get, Result, Err, refl, sym, ap, subst, ◌∙◌, arith}
 use Rattle.std.proofs.lemmas.Grind.{flat_map-append}
 use Rattle.std.proofs.lemmas.List.{drop_more, map-append, take-append-drop, take_more}
 use Rattle.std.proofs.lemmas.List.Elements.{All-contains, All-head, All-tail, filter_map-append}
@@ -22,13 +22,13 @@ use Rattle.jm_pool.specs.Pairs.{bytes_of, names_of}
 use Rattle.jm_relink.specs.declared.fault.GatherFault.{GatherFault}
 use Rattle.jm_relink.specs.declared.modules.ImageFile.{ImageFile}
 use Rattle.jm_relink.specs.declared.modules.ImageModules.{ImageModules}
-use Rattle.jm_relink.specs.Files.{file_as, file_name, files_as}
+use Rattle.jm_relink.specs.Files.{file_in, files_in}
 use Rattle.jm_names.specs.ByName.{Named}
 use Rattle.jm_relink.specs.Gathering.{AreModules, ArePlaces, first_bad_name, gathered}
 use Rattle.jm_relink.specs.Gathering.{name_refusal, named_files, resource_of, resources_with}
 use Rattle.jm_bytes.proofs.Choice.{mapped_some}
 use Rattle.jm_bytes.proofs.ByteOrderLaws.{unequal}
-use Rattle.jm_relink.proofs.ListLaws.{append_none, pairs_front, pairs_left}
+use Rattle.jm_relink.proofs.ListLaws.{append_none}
 use Rattle.jm_relink.proofs.NameLaws.{names_tell}
 
 -- what is due of another answer with the same refusal
@@ -47,26 +47,28 @@ bytes_of_none name (p ∷ pairs) all =
 
 -- One file after another
 
-abbrev all_with : List ℕ → List ImageFile → List Named
-all_with m fs = resources_with m (files_as fs)
+abbrev pub all_with : List ℕ → List ℕ → List ImageFile → List Named
+all_with b m fs = resources_with m (files_in b fs)
 
-with_append : (m : List ℕ) (es fs : List ImageFile) → all_with m (es ++ fs) ≡ all_with m es ++ all_with m fs
-with_append m es fs = ap (map (resource_of m)) (map-append file_as es fs) ∙ map-append (resource_of m) (files_as es) (files_as fs)
+with_append : (b m : List ℕ) (es fs : List ImageFile) → all_with b m (es ++ fs) ≡ all_with b m es ++ all_with b m fs
+with_append b m es fs =
+    ap (map (resource_of m)) (map-append (file_in b) es fs) ∙ map-append (resource_of m) (files_in b es) (files_in b fs)
 
 parted_at : (fs : List ImageFile) (i : ℕ) (f : ImageFile) → i < length fs → f ≡ get_or fs i f → fs ≡ take i fs ++ f ∷ drop (i + 1) fs
 parted_at fs i f below is =
     sym (take-append-drop i fs) ∙ ap (λ gs. take i fs ++ gs) (drop_more fs i f below ∙ ap (λ g. g ∷ drop (i + 1) fs) (sym is))
 
-resources_parted : (m : List ℕ) (fs : List ImageFile) (i : ℕ) (f : ImageFile) → i < length fs → f ≡ get_or fs i f → all_with m fs
-    ≡ all_with m (take i fs) ++ resource_of m (file_as f) ∷ all_with m (drop (i + 1) fs)
-resources_parted m fs i f below is = ap (all_with m) (parted_at fs i f below is) ∙ with_append m (take i fs) (f ∷ drop (i + 1) fs)
+resources_parted : (b m : List ℕ) (fs : List ImageFile) (i : ℕ) (f : ImageFile) → i < length fs → f ≡ get_or fs i f
+    → all_with b m fs ≡ all_with b m (take i fs) ++ (resource_of m (file_in b f) ∷ [] ++ all_with b m (drop (i + 1) fs))
+resources_parted b m fs i f below is = ap (all_with b m) (parted_at fs i f below is)
+    ∙ with_append b m (take i fs) (f ∷ drop (i + 1) fs)
 
-resources_more : (m : List ℕ) (fs : List ImageFile) (i : ℕ) (f : ImageFile) → i < length fs → f ≡ get_or fs i f
-    → all_with m (take (i + 1) fs) ≡ all_with m (take i fs) ++ resource_of m (file_as f) ∷ []
-resources_more m fs i f below is =
-    ap (all_with m) (take_more fs i f below ∙ ap (λ g. take i fs ++ g ∷ []) (sym is)) ∙ with_append m (take i fs) (f ∷ [])
+pub resources_more : (b m : List ℕ) (fs : List ImageFile) (i : ℕ) (f : ImageFile) → i < length fs → f ≡ get_or fs i f
+    → all_with b m (take (i + 1) fs) ≡ all_with b m (take i fs) ++ resource_of m (file_in b f) ∷ []
+resources_more b m fs i f below is =
+    ap (all_with b m) (take_more fs i f below ∙ ap (λ g. take i fs ++ g ∷ []) (sym is)) ∙ with_append b m (take i fs) (f ∷ [])
 
-bad_append_none : (rs qs : List Named) → first_bad_name rs ≡ None → first_bad_name (rs ++ qs) ≡ first_bad_name qs
+pub bad_append_none : (rs qs : List Named) → first_bad_name rs ≡ None → first_bad_name (rs ++ qs) ≡ first_bad_name qs
 bad_append_none rs qs none = ap first_fault (map-append name_refusal rs qs) ∙ first_fault_append_none (map name_refusal rs)
     (map name_refusal qs) none
 
@@ -74,56 +76,30 @@ bad_append_some : (rs qs : List Named) (e : GatherFault) → first_bad_name rs �
 bad_append_some rs qs e some = ap first_fault (map-append name_refusal rs qs) ∙ first_fault_append_some (map name_refusal rs)
     (map name_refusal qs) e some
 
--- the name of the next file is new
-pub name_is_new : (m : List ℕ) (fs : List ImageFile) (i : ℕ) (f : ImageFile) (old pool : List Named) → i < length fs
-    → f ≡ get_or fs i f → AllPairs (λ a b. a ≢ b) (names_of (old ++ all_with m fs)) → pool ≡ old ++ all_with m (take i fs)
-    → bytes_of (file_name m f.path) pool ≡ None
-name_is_new m fs i f old pool below is differ so_far =
-    let rest = all_with m (drop (i + 1) fs) in
-    let whole : old ++ all_with m fs ≡ pool ++ resource_of m (file_as f) ∷ rest =
-    ap (λ rs. old ++ rs) (resources_parted m fs i f below is)
-    ∙ sym (append_assoc old (all_with m (take i fs)) (resource_of m (file_as f) ∷ rest))
-    ∙ ap (λ rs. rs ++ resource_of m (file_as f) ∷ rest) (sym so_far)
-    in
-    let names : names_of (old ++ all_with m fs) ≡ names_of pool ++ file_name m f.path ∷ names_of rest =
-    ap names_of whole ∙ map-append (λ (r : Named). r.0) pool (resource_of m (file_as f) ∷ rest)
-    in
-    bytes_of_none (file_name m f.path) pool
-    (pairs_front (λ (a b : List ℕ). a ≢ b) (names_of pool) (file_name m f.path) (names_of rest)
-    (subst (AllPairs (λ (a b : List ℕ). a ≢ b)) names differ))
-
 -- the refusal of a part, where nothing in front of it is refused, is that of the whole
 pub refused_further : (rs front part back : List Named) (e : GatherFault) → rs ≡ front ++ (part ++ back)
     → first_bad_name front ≡ None → first_bad_name part ≡ Some e → first_bad_name rs ≡ Some e
 refused_further rs front part back e is none given =
     ap first_bad_name is ∙ bad_append_none front (part ++ back) none ∙ bad_append_some part back e given
 
-pub file_refused : (m : List ℕ) (fs : List ImageFile) (i : ℕ) (f : ImageFile) (e : GatherFault)
-    → i < length fs → f ≡ get_or fs i f → first_bad_name (all_with m (take i fs)) ≡ None
-    → first_bad_name (resource_of m (file_as f) ∷ []) ≡ Some e → first_bad_name (all_with m fs) ≡ Some e
-file_refused m fs i f e below is none given =
-    refused_further (all_with m fs) (all_with m (take i fs)) (resource_of m (file_as f) ∷ []) (all_with m (drop (i + 1) fs)) e
-    (resources_parted m fs i f below is) none given
+pub bad_one : (r : Named) (o : Option GatherFault) → name_refusal r ≡ o → first_bad_name (r ∷ []) ≡ o
+bad_one r o is = ap (λ c. first_fault (c ∷ [])) is ∙ go o
+  where
+    go : (p : Option GatherFault) → first_fault (p ∷ []) ≡ p
+    go None = refl
+    go (Some e) = refl
 
--- the next file was put
-pub record ArePut (m : List ℕ) (fs : List ImageFile) (i : ℕ) (old pool : List Named) : Type 0 where
-  pub sound : first_bad_name (all_with m (take i fs)) ≡ None
-  pub put : pool ≡ old ++ all_with m (take i fs)
-
-pub file_put : (m : List ℕ) (fs : List ImageFile) (i : ℕ) (f : ImageFile) (old pool new : List Named) → i < length fs
-    → f ≡ get_or fs i f → first_bad_name (all_with m (take i fs)) ≡ None → pool ≡ old ++ all_with m (take i fs)
-    → first_bad_name (resource_of m (file_as f) ∷ []) ≡ None → new ≡ pool ++ resource_of m (file_as f) ∷ [] → ArePut m fs (i + 1) old new
-file_put m fs i f old pool new below is none so_far sound put =
-    let more = resources_more m fs i f below is in
-    record {
-      sound = ap first_bad_name more ∙ bad_append_none (all_with m (take i fs)) (resource_of m (file_as f) ∷ []) none ∙ sound;
-      put = put ∙ ap (λ rs. rs ++ resource_of m (file_as f) ∷ []) so_far ∙ append_assoc old (all_with m (take i fs))
-          (resource_of m (file_as f) ∷ []) ∙ ap (λ rs. old ++ rs) (sym more);
-    }
+pub file_refused : (b m : List ℕ) (fs : List ImageFile) (i : ℕ) (f : ImageFile) (e : GatherFault)
+    → i < length fs → f ≡ get_or fs i f → first_bad_name (all_with b m (take i fs)) ≡ None
+    → name_refusal (resource_of m (file_in b f)) ≡ Some e → first_bad_name (all_with b m fs) ≡ Some e
+file_refused b m fs i f e below is none given =
+    refused_further (all_with b m fs) (all_with b m (take i fs)) (resource_of m (file_in b f) ∷ [])
+    (all_with b m (drop (i + 1) fs)) e
+    (resources_parted b m fs i f below is) none (bad_one (resource_of m (file_in b f)) (Some e) given)
 
 -- Elements at places
 
-all_got : {X : Type 0} (P : X → Type 0) (xs : List X) (i : ℕ) (x : X) → All P xs → slice_get xs i ≡ Some x → P x
+pub all_got : {X : Type 0} (P : X → Type 0) (xs : List X) (i : ℕ) (x : X) → All P xs → slice_get xs i ≡ Some x → P x
 all_got P [] i x all is = cc
 all_got P (y ∷ xs) zero x all is = subst P (same_some y x is) (All-head P y xs all)
 all_got P (y ∷ xs) (suc i) x all is = all_got P xs i x (All-tail P y xs all) is
@@ -146,50 +122,54 @@ unzipped (a ∷ xs) (b ∷ ys) (suc i) z is = unzipped xs ys i z is
 
 -- One module after another
 
-gathered_append : (modules : ImageModules) (ps qs : List ℕ) → gathered modules (ps ++ qs) ≡ gathered modules ps ++ gathered modules qs
-gathered_append modules ps qs =
-    ap (flat_map (λ (m : List ℕ × List Named). resources_with m.0 m.1)) (filter_map-append (slice_get (named_files modules)) ps qs)
-    ∙ flat_map-append (λ (m : List ℕ × List Named). resources_with m.0 m.1) (filter_map (slice_get (named_files modules)) ps)
-    (filter_map (slice_get (named_files modules)) qs)
+gathered_append : (b : List ℕ) (modules : ImageModules) (ps qs : List ℕ) → gathered b modules (ps ++ qs) ≡ gathered b modules ps
+    ++ gathered b modules qs
+gathered_append b modules ps qs =
+    ap (flat_map (λ (m : List ℕ × List Named). resources_with m.0 m.1)) (filter_map-append (slice_get (named_files b modules)) ps
+    qs)
+    ∙ flat_map-append (λ (m : List ℕ × List Named). resources_with m.0 m.1) (filter_map (slice_get (named_files b modules)) ps)
+    (filter_map (slice_get (named_files b modules)) qs)
 
 -- the module at a place
-module_at : (modules : ImageModules) (p : ℕ) (c : Candidate) (fs : List ImageFile) → slice_get modules.candidates p ≡ Some c
-    → slice_get modules.files p ≡ Some fs → gathered modules (p ∷ []) ≡ all_with c.descriptor.name fs
-module_at modules p c fs one other =
+module_at : (b : List ℕ) (modules : ImageModules) (p : ℕ) (c : Candidate) (fs : List ImageFile) → slice_get modules.candidates p
+    ≡ Some c
+    → slice_get modules.files p ≡ Some fs → gathered b modules (p ∷ []) ≡ all_with b c.descriptor.name fs
+module_at b modules p c fs one other =
     let name : slice_get (map (λ (k : Candidate). k.descriptor.name) modules.candidates) p ≡ Some c.descriptor.name =
     slice_get-map (λ (k : Candidate). k.descriptor.name) modules.candidates p ∙ ap (option_map (λ (k : Candidate). k.descriptor.name)) one
     in
-    let files : slice_get (map files_as modules.files) p ≡ Some (files_as fs) = slice_get-map files_as modules.files p
-    ∙ ap (option_map files_as) other in
-    let is : slice_get (named_files modules) p ≡ Some (c.descriptor.name, files_as fs) =
-    zipped (map (λ (k : Candidate). k.descriptor.name) modules.candidates) (map files_as modules.files) p c.descriptor.name
-    (files_as fs) name files
+    let files : slice_get (map (files_in b) modules.files) p ≡ Some (files_in b fs) = slice_get-map (files_in b) modules.files p
+    ∙ ap (option_map (files_in b)) other in
+    let is : slice_get (named_files b modules) p ≡ Some (c.descriptor.name, files_in b fs) =
+    zipped (map (λ (k : Candidate). k.descriptor.name) modules.candidates) (map (files_in b) modules.files) p c.descriptor.name
+    (files_in b fs) name files
     in
     ap (λ (o : Option (List ℕ × List Named)). flat_map (λ (m : List ℕ × List Named). resources_with m.0 m.1) (cons_option o [])) is
-    ∙ append_none (all_with c.descriptor.name fs)
+    ∙ append_none (all_with b c.descriptor.name fs)
 
-pub module_there : (modules : ImageModules) (p : ℕ) (c : Candidate) (fs : List ImageFile) → AreModules modules
-    → p < length modules.candidates → c ≡ get_or modules.candidates p c → fs ≡ get_or modules.files p fs → gathered modules (p ∷ [])
-    ≡ all_with c.descriptor.name fs
-module_there modules p c fs are within one other =
-    module_at modules p c fs
+pub module_there : (b : List ℕ) (modules : ImageModules) (p : ℕ) (c : Candidate) (fs : List ImageFile) → AreModules modules
+    → p < length modules.candidates → c ≡ get_or modules.candidates p c → fs ≡ get_or modules.files p fs
+    → gathered b modules (p ∷ [])
+    ≡ all_with b c.descriptor.name fs
+module_there b modules p c fs are within one other =
+    module_at b modules p c fs
     (slice_get-get_or modules.candidates p c within ∙ ap (λ k. Some k) (sym one))
     (slice_get-get_or modules.files p fs (omega (arith, within, are.long)) ∙ ap (λ gs. Some gs) (sym other))
 
--- the resources of the next module stand behind those of the earlier ones
-pub record IsNext (modules : ImageModules) (places : List ℕ) (i : ℕ) (rs : List Named) : Type 0 where
-  pub more : gathered modules (take (i + 1) places) ≡ gathered modules (take i places) ++ rs
-  pub whole : gathered modules places ≡ gathered modules (take i places) ++ (rs ++ gathered modules (drop (i + 1) places))
+-- the resources of the next module stand after those of the earlier ones
+pub record IsNext (b : List ℕ) (modules : ImageModules) (places : List ℕ) (i : ℕ) (rs : List Named) : Type 0 where
+  pub more : gathered b modules (take (i + 1) places) ≡ gathered b modules (take i places) ++ rs
+  pub whole : gathered b modules places ≡ gathered b modules (take i places) ++ (rs ++ gathered b modules (drop (i + 1) places))
 
-pub next_module : (modules : ImageModules) (places : List ℕ) (i p : ℕ) → i < length places → p ≡ get_or places i 0
-    → IsNext modules places i (gathered modules (p ∷ []))
-next_module modules places i p below is = record {
-  more = ap (gathered modules) (take_more places i 0 below ∙ ap (λ q. take i places ++ q ∷ []) (sym is))
-      ∙ gathered_append modules (take i places) (p ∷ []);
-  whole = ap (gathered modules) (sym (take-append-drop i places) ∙ ap (λ qs. take i places ++ qs) (drop_more places i 0 below
+pub next_module : (b : List ℕ) (modules : ImageModules) (places : List ℕ) (i p : ℕ) → i < length places → p ≡ get_or places i 0
+    → IsNext b modules places i (gathered b modules (p ∷ []))
+next_module b modules places i p below is = record {
+  more = ap (gathered b modules) (take_more places i 0 below ∙ ap (λ q. take i places ++ q ∷ []) (sym is))
+      ∙ gathered_append b modules (take i places) (p ∷ []);
+  whole = ap (gathered b modules) (sym (take-append-drop i places) ∙ ap (λ qs. take i places ++ qs) (drop_more places i 0 below
       ∙ ap (λ q. q ∷ drop (i + 1) places) (sym is)))
-      ∙ gathered_append modules (take i places) (p ∷ drop (i + 1) places)
-      ∙ ap (λ qs. gathered modules (take i places) ++ qs) (gathered_append modules (p ∷ []) (drop (i + 1) places));
+      ∙ gathered_append b modules (take i places) (p ∷ drop (i + 1) places)
+      ∙ ap (λ qs. gathered b modules (take i places) ++ qs) (gathered_append b modules (p ∷ []) (drop (i + 1) places));
 }
 
 -- All names differ
@@ -232,51 +212,55 @@ modules_apart (m ∷ ms) whole apart =
     (All-contains (Other m) ms from.0 (pairs_head Other m ms apart) from.1) r q there from.2)
 
 -- what stands at a place of modules and of their files
-record IsAt (modules : ImageModules) (p : ℕ) (m : List ℕ × List Named) : Type 0 where
+record IsAt (b : List ℕ) (modules : ImageModules) (p : ℕ) (m : List ℕ × List Named) : Type 0 where
   candidate : Candidate
   there : slice_get modules.candidates p ≡ Some candidate
   name : candidate.descriptor.name ≡ m.0
   files : List ImageFile
   among : slice_get modules.files p ≡ Some files
-  are : files_as files ≡ m.1
+  are : files_in b files ≡ m.1
 
-at_place : (modules : ImageModules) (p : ℕ) (m : List ℕ × List Named) → slice_get (named_files modules) p ≡ Some m → IsAt modules p m
-at_place modules p m is =
-    let both = unzipped (map (λ (c : Candidate). c.descriptor.name) modules.candidates) (map files_as modules.files) p m is in
+at_place : (b : List ℕ) (modules : ImageModules) (p : ℕ) (m : List ℕ × List Named) → slice_get (named_files b modules) p ≡ Some m
+    → IsAt b modules p m
+at_place b modules p m is =
+    let both = unzipped (map (λ (c : Candidate). c.descriptor.name) modules.candidates) (map (files_in b) modules.files) p m is in
     let one = mapped_some (λ (c : Candidate). c.descriptor.name) (slice_get modules.candidates p) m.0
     (sym (slice_get-map (λ (c : Candidate). c.descriptor.name) modules.candidates p) ∙ both.0) in
-    let other = mapped_some files_as (slice_get modules.files p) m.1 (sym (slice_get-map files_as modules.files p) ∙ both.1) in
+    let other = mapped_some (files_in b) (slice_get modules.files p) m.1 (sym (slice_get-map (files_in b) modules.files p)
+    ∙ both.1) in
     record { candidate = one.0; there = one.1; name = one.2; files = other.0; among = other.1; are = other.2 }
 
-whole_at : (modules : ImageModules) (p : ℕ) (m : List ℕ × List Named) → AreModules modules → IsAt modules p m → IsWhole m
-whole_at modules p m are at = record {
+whole_at : (b : List ℕ) (modules : ImageModules) (p : ℕ) (m : List ℕ × List Named) → AreModules modules → IsAt b modules p m
+    → IsWhole m
+whole_at b modules p m are at = record {
   whole = subst (λ n. list_any is_slash n ≡ false) at.name (all_got (λ (c : Candidate). list_any is_slash c.descriptor.name ≡ false)
       modules.candidates p at.candidate are.whole at.there);
   apart = subst (AllPairs (λ (e f : Named). e.0 ≢ f.0)) at.are
-      (pairs_map (λ (e f : Named). e.0 ≢ f.0) file_as at.files (all_got (λ (fs : List ImageFile). AllPairs (λ e f. e.path ≢ f.path)
+      (pairs_map (λ (e f : Named). e.0 ≢ f.0) (file_in b) at.files
+      (all_got (λ (fs : List ImageFile). AllPairs (λ e f. e.path ≢ f.path)
       fs) modules.files p at.files are.apart at.among));
 }
 
-pub gathered_apart : (modules : ImageModules) (places : List ℕ) → AreModules modules → ArePlaces modules places
-    → AllPairs (λ a b. a ≢ b) (names_of (gathered modules places))
-gathered_apart modules places are chosen =
-    pairs_map (λ (a b : List ℕ). a ≢ b) (λ (r : Named). r.0) (gathered modules places) (modules_apart ms whole other)
+pub gathered_apart : (b : List ℕ) (modules : ImageModules) (places : List ℕ) → AreModules modules → ArePlaces modules places
+    → AllPairs (λ a b. a ≢ b) (names_of (gathered b modules places))
+gathered_apart b modules places are chosen =
+    pairs_map (λ (a b : List ℕ). a ≢ b) (λ (r : Named). r.0) (gathered b modules places) (modules_apart ms whole other)
   where
     ms : List (List ℕ × List Named)
-    ms = filter_map (slice_get (named_files modules)) places
+    ms = filter_map (slice_get (named_files b modules)) places
 
-    whole : All IsWhole (filter_map (slice_get (named_files modules)) places)
-    whole = all_from_contains IsWhole (filter_map (slice_get (named_files modules)) places)
+    whole : All IsWhole (filter_map (slice_get (named_files b modules)) places)
+    whole = all_from_contains IsWhole (filter_map (slice_get (named_files b modules)) places)
         (λ m there.
-        let from = from_filter_map (slice_get (named_files modules)) places m there in
-        whole_at modules from.0 m are (at_place modules from.0 m from.2))
+        let from = from_filter_map (slice_get (named_files b modules)) places m there in
+        whole_at b modules from.0 m are (at_place b modules from.0 m from.2))
 
-    other : AllPairs Other (filter_map (slice_get (named_files modules)) places)
+    other : AllPairs Other (filter_map (slice_get (named_files b modules)) places)
     other =
-        pairs_filter_map (λ (p q : ℕ). p < q) Other (slice_get (named_files modules))
+        pairs_filter_map (λ (p q : ℕ). p < q) Other (slice_get (named_files b modules))
         (λ p q lesser m k one two same.
-        let first = at_place modules p m one in
-        let second = at_place modules q k two in
+        let first = at_place b modules p m one in
+        let second = at_place b modules q k two in
         let equal : p ≡ q = are.differ p q (m.0) (first.candidate, first.there, first.name) (
           second.candidate,
           second.there,
@@ -284,36 +268,3 @@ gathered_apart modules places are chosen =
         ) in
         absurd (omega (arith, lesser, equal)))
         places chosen.rising
-
--- the names in front of a next module and its own differ
-pub next_differ : (modules : ImageModules) (places : List ℕ) (i : ℕ) (rs : List Named) (pool : List Named) → AreModules modules
-    → ArePlaces modules places → IsNext modules places i rs → pool ≡ gathered modules (take i places)
-    → AllPairs (λ a b. a ≢ b) (names_of (pool ++ rs))
-next_differ modules places i rs pool are chosen next so_far =
-    let rest = gathered modules (drop (i + 1) places) in
-    let whole : gathered modules places ≡ (pool ++ rs) ++ rest =
-    next.whole ∙ sym (append_assoc (gathered modules (take i places)) (rs) rest) ∙ ap (λ qs. (qs ++ rs) ++ rest) (sym so_far)
-    in
-    let names = ap names_of whole ∙ map-append (λ (r : Named). r.0) (pool ++ rs) rest in
-    pairs_left (λ (a b : List ℕ). a ≢ b) (names_of (pool ++ rs)) (names_of rest)
-    (subst (AllPairs (λ (a b : List ℕ). a ≢ b)) names (gathered_apart modules places are chosen))
-
--- the next module was put, or refused
-pub record AreGathered (modules : ImageModules) (places : List ℕ) (i : ℕ) (pool : List Named) : Type 0 where
-  pub sound : first_bad_name (gathered modules (take i places)) ≡ None
-  pub put : pool ≡ gathered modules (take i places)
-
-pub module_put : (modules : ImageModules) (places : List ℕ) (i : ℕ) (rs : List Named) (pool new : List Named)
-    → IsNext modules places i rs → AreGathered modules places i pool → first_bad_name (rs) ≡ None → new ≡ pool ++ rs
-    → AreGathered modules places (i + 1) new
-module_put modules places i rs pool new next are sound put = record {
-  sound = ap first_bad_name next.more ∙ bad_append_none (gathered modules (take i places)) (rs) are.sound ∙ sound;
-  put = put ∙ ap (λ qs. qs ++ rs) are.put ∙ sym next.more;
-}
-
-pub module_refused : (modules : ImageModules) (places : List ℕ) (i : ℕ) (rs pool : List Named) (e : GatherFault)
-    → IsNext modules places i rs → AreGathered modules places i pool → first_bad_name rs ≡ Some e
-    → first_bad_name (gathered modules places) ≡ Some e
-module_refused modules places i rs pool e next are given =
-    refused_further (gathered modules places) (gathered modules (take i places)) rs (gathered modules (drop (i + 1) places)) e
-    next.whole are.sound given

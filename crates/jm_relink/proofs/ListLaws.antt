@@ -1,7 +1,8 @@
 -- Lists whose elements differ by a key, and parts of lists.
 use Rattle.std.proofs.Common.{◌≡◌, ◌≢◌, inl, inr, List, [], ◌∷◌, ◌++◌, map, Option, Some, None}
-use Rattle.std.proofs.Common.{option_to_list, All, AllPairs, Contains, refl, sym, ap, ◌∙◌}
-use Rattle.std.proofs.lemmas.List.Elements.{All-contains, Contains-append_left, Contains-append_right}
+use Rattle.std.proofs.Common.{IfSome, option_map, option_to_list, All, AllPairs, Contains, append_assoc, refl, subst}
+use Rattle.std.proofs.Common.{sym, ap, ◌∙◌}
+use Rattle.std.proofs.lemmas.List.Elements.{All-cons, All-contains, All-nil, Contains-append_left, Contains-append_right}
 use Rattle.std.proofs.lemmas.List.Kept.{AllPairs-cons}
 use Rattle.std.specs.List.{cons_option, flat_map}
 use Rattle.jm_bytes.proofs.Members.{all_from_contains, contains_cases, contains_here, contains_map, contains_none}
@@ -11,9 +12,34 @@ pub put_alone : {X : Type 0} (o : Option X) (xs : List X) → cons_option o xs �
 put_alone None xs = refl
 put_alone (Some x) xs = refl
 
+pub map_alone : {X Y : Type 0} (f : X → Y) (o : Option X) → map f (option_to_list o) ≡ option_to_list (option_map f o)
+map_alone f None = refl
+map_alone f (Some x) = refl
+
+pub all_alone : {X : Type 0} (P : X → Type 0) (o : Option X) → IfSome o P → All P (option_to_list o)
+all_alone P None holds = All-nil P
+all_alone P (Some x) holds = All-cons P x [] holds (All-nil P)
+
+pub all_front : {X : Type 0} (P : X → Type 0) (xs ys : List X) → All P (xs ++ ys) → All P xs
+all_front P xs ys all = all_from_contains P xs (λ x there. All-contains P (xs ++ ys) x all (Contains-append_left xs ys x there))
+
 pub append_none : {X : Type 0} (xs : List X) → xs ++ [] ≡ xs
 append_none [] = refl
 append_none (x ∷ xs) = ap (λ ys. x ∷ ys) (append_none xs)
+
+-- what was taken of a list, one element after another
+pub taken_more : {X : Type 0} (xs left rest all : List X) (x : X) → xs ++ left ≡ all → left ≡ x ∷ rest → (xs ++ x ∷ []) ++ rest
+    ≡ all
+taken_more xs left rest all x so_far next = append_assoc xs (x ∷ []) rest ∙ ap (λ ys. xs ++ ys) (sym next) ∙ so_far
+
+pub taken_all : {X : Type 0} (xs left all : List X) → xs ++ left ≡ all → left ≡ [] → xs ≡ all
+taken_all xs left all so_far none = sym (append_none xs) ∙ ap (λ ys. xs ++ ys) (sym none) ∙ so_far
+
+-- what holds of all holds of the next one
+pub of_next : {X : Type 0} (P : X → Type 0) (xs rest all : List X) (x : X) → All P all → xs ++ x ∷ rest ≡ all → P x
+of_next P xs rest all x holds whole =
+    All-contains P (xs ++ x ∷ rest) x (subst (All P) (sym whole) holds) (Contains-append_right xs (x ∷ rest) x
+    (contains_here x rest))
 
 -- two elements with one key are one
 pub one_of : {X K : Type 0} (key : X → K) (xs : List X) (x y : X) → AllPairs (λ a b. key a ≢ key b) xs → Contains xs x

@@ -19,23 +19,17 @@ use Rattle.jm_form.specs.declared.container.Header.{Header}
 use Rattle.jm_form.specs.declared.container.HeaderFault.{HeaderFault}
 use Rattle.jm_modinfo.specs.declared.descriptor.Descriptor.{Descriptor}
 use Rattle.jm_bytes.specs.ByteOrder.{is_before}
-use Rattle.jm_bytes.specs.Results.{IfAnswered}
-use Rattle.jm_bytes.specs.declared.faults.Or.{Or}
-use Rattle.jm_bytes.specs.declared.faults.Or.TheVariants.{Fault, Memory}
 use Rattle.jm_modinfo.specs.Descriptions.{info_for}
 use Rattle.jm_form.specs.ModuleFiles.{info_name}
 use Rattle.jm_names.specs.Names.{is_node, is_slash}
 use Rattle.jm_reader.specs.Walk.{entries_with}
-use Rattle.jm_bytes.proofs.SameOrder.{mapped_twice}
 use Rattle.jm_relink.specs.declared.fault.RelinkFault.{RelinkFault}
-use Rattle.jm_relink.specs.declared.judging.SeenModule as handed
-use Rattle.jm_relink.specs.declared.modules.ImageModules.{ImageModules}
-use Rattle.jm_relink.specs.Files.{Filed, NeverFalls, file_name, files_as, info_entry, located, module_and_path, resources_of}
+use Rattle.jm_relink.specs.Files.{Filed, NeverFalls, file_name, info_entry, located, module_and_path, resources_of}
 use Rattle.jm_names.specs.ByName.{Named}
 use Rattle.jm_relink.specs.Groups.{Group, groups, info_content}
-use Rattle.jm_relink.specs.Judging.{ComesFrom, entry_due, group_due, groups_due, seen_as, seen_with}
-use Rattle.jm_relink.specs.Modules.{AreFilesOf, FindsModules, HasInfo, HoldsModules, IsRefusedIn, IsSeenIn}
-use Rattle.jm_relink.specs.Modules.{IsVisibleIn, ModulesOf, SeenModule, info_refusal, name_of}
+use Rattle.jm_relink.specs.Judging.{entry_due, group_due, groups_due, seen_with}
+use Rattle.jm_relink.specs.Modules.{AreFilesOf, HasInfo, IsRefusedIn, IsSeenIn}
+use Rattle.jm_relink.specs.Modules.{IsVisibleIn, SeenModule, info_refusal, name_of}
 use Rattle.jm_relink.proofs.GroupLaws.{files_rise, groups_rise, in_group, of_group, one_group}
 use Rattle.jm_relink.proofs.JudgingLaws.{IsFirstRefused, IsFree, entry_err, entry_ok, groups_err, groups_ok, seen_of, value}
 use Rattle.jm_bytes.proofs.Choice.{mapped_some}
@@ -295,29 +289,6 @@ refused_from release rs fs e are due = refused_at release rs fs e are (groups_er
 
 -- What the code hands out
 
--- modules in two lists
-held : (found : ImageModules) (seen : List handed.SeenModule) → found.candidates ≡ map (λ (s : handed.SeenModule). s.candidate) seen
-    → found.files ≡ map (λ (s : handed.SeenModule). s.files) seen → HoldsModules found (map seen_as seen)
-held found seen candidates files = record {
-  candidates = candidates ∙ sym (mapped_twice (λ (s : SeenModule). s.candidate) seen_as seen);
-  files = ap (map files_as) files ∙ mapped_twice files_as (λ (s : handed.SeenModule). s.files) seen
-      ∙ sym (mapped_twice (λ (s : SeenModule). s.files) seen_as seen);
-}
-
 pub are_sorted : (b : List ℕ) (fs : List Filed) → IsPermutation (filter_map located (resources_of b)) fs → NeverFalls fs
     → AreSorted (resources_of b) fs
 are_sorted b fs moved sorted = record { differ = resources_differ b; moved = moved; sorted = sorted }
-
-pub come_from : (release : ℕ) (fs : List Filed) (gs : List Group) (seen : List handed.SeenModule) (found : ImageModules)
-    → gs ≡ groups fs → groups_due release [] gs ≡ Ok (map seen_as seen)
-    → found.candidates ≡ map (λ (s : handed.SeenModule). s.candidate) seen
-    → found.files ≡ map (λ (s : handed.SeenModule). s.files) seen → ComesFrom release fs (Ok found)
-come_from release fs gs seen found is due candidates files =
-    (map seen_as seen, ap (groups_due release []) (sym is) ∙ due, held found seen candidates files)
-
-pub found_modules : (release : ℕ) (b : List ℕ) (fs : List Filed) (answer : Result ImageModules (Or RelinkFault))
-    → AreSorted (resources_of b) fs → IfAnswered (ComesFrom release fs) answer → IfAnswered (FindsModules release b) answer
-unfolding ModulesOf
-found_modules release b fs (Ok found) are come = (come.0, visible_from release (resources_of b) fs come.0 are come.1, come.2)
-found_modules release b fs (Err (Fault fault)) are come = refused_from release (resources_of b) fs fault are come
-found_modules release b fs (Err Memory) are come = tt

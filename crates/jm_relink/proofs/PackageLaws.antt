@@ -10,22 +10,24 @@ use Rattle.jm_form.specs.Trees as trees
 use Rattle.jm_form.proofs.ClassPackageLaws.{class_packages_are}
 use Rattle.jm_names.specs.Names.{is_slash}
 use Rattle.jm_relink.specs.declared.modules.ImageFile.{ImageFile}
-use Rattle.jm_relink.specs.Files.{file_as, file_name, files_as}
+use Rattle.jm_relink.specs.Files.{file_in, file_name, files_in}
 use Rattle.jm_names.specs.ByName.{Named}
 use Rattle.jm_relink.specs.Packages.{packages_of}
 use Rattle.jm_relink.proofs.NameLaws.{path_of_file}
 
 -- one file more
-pub file_more : (fs : List ImageFile) (i : ℕ) (f : ImageFile) (o : Option (List ℕ)) (old new : List (List ℕ)) → i < length fs
+pub file_more : (b : List ℕ) (fs : List ImageFile) (i : ℕ) (f : ImageFile) (o : Option (List ℕ)) (old new : List (List ℕ))
+    → i < length fs
     → f ≡ get_or fs i f → class_package f.path ≡ o → new ≡ old ++ cons_option o []
-    → old ≡ filter_map class_package (map (λ (p : Named). p.0) (files_as (take i fs)))
-    → new ≡ filter_map class_package (map (λ (p : Named). p.0) (files_as (take (i + 1) fs)))
-file_more fs i f o old new below is gives put so_far =
-    let paths : List ImageFile → List (List ℕ) = λ gs. map (λ (p : Named). p.0) (files_as gs) in
+    → old ≡ filter_map class_package (map (λ (p : Named). p.0) (files_in b (take i fs)))
+    → new ≡ filter_map class_package (map (λ (p : Named). p.0) (files_in b (take (i + 1) fs)))
+file_more b fs i f o old new below is gives put so_far =
+    let paths : List ImageFile → List (List ℕ) = λ gs. map (λ (p : Named). p.0) (files_in b gs) in
     let step : take (i + 1) fs ≡ take i fs ++ f ∷ [] = take_more fs i f below ∙ ap (λ g. take i fs ++ g ∷ []) (sym is) in
     let apart : paths (take i fs ++ f ∷ []) ≡ paths (take i fs) ++ f.path ∷ [] =
-    ap (map (λ (p : Named). p.0)) (map-append file_as (take i fs) (f ∷ [])) ∙ map-append (λ (p : Named). p.0) (files_as (take i fs))
-    (file_as f ∷ []) in
+    ap (map (λ (p : Named). p.0)) (map-append (file_in b) (take i fs) (f ∷ []))
+    ∙ map-append (λ (p : Named). p.0) (files_in b (take i fs))
+    (file_in b f ∷ []) in
     put ∙ ap (λ qs. qs ++ cons_option o []) so_far
     ∙ ap (λ p. filter_map class_package (paths (take i fs)) ++ cons_option p []) (sym gives)
     ∙ sym (filter_map-append class_package (paths (take i fs)) (f.path ∷ []))

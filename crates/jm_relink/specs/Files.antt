@@ -1,11 +1,12 @@
 -- The resources of an image as files of modules (JEP 220: `/module/path`).
-use Rattle.std.specs.Prelude.{ℕ, ◌&&◌, List, [], ◌∷◌, ◌++◌, map, AllPairs}
+use Rattle.std.specs.Prelude.{ℕ, ◌&&◌, List, [], ◌∷◌, ◌++◌, map, All, AllPairs}
 use Rattle.std.specs.Prelude.{Option, Some, None, option_map, option_to_list, if◌then◌else◌}
 use Rattle.std.specs.Prelude.{IsFalse}
 use Rattle.std.specs.Cmp.Lexicographic.{slice_cmp}
 use Rattle.std.specs.List.{after_first, before_first, list_any}
 use Rattle.std.specs.Ordering.{is_lt, nat_cmp, ordering_then}
 use Rattle.std.specs.declared.cmp.Ordering.{Ordering}
+use Rattle.jm_filed.specs.Filed.{IsWithin, content_at}
 use Rattle.jm_form.specs.Validity.{resources}
 use Rattle.jm_names.specs.ByName.{Named}
 use Rattle.jm_form.specs.ModuleFiles.{info_name}
@@ -42,17 +43,21 @@ module_and_path (b ∷ name) =
 abbrev pub Filed : Type 0
 Filed = List ℕ × Named
 
--- a file of an image that the code holds, as its path and its bytes
-abbrev pub file_as : ImageFile → Named
-file_as f = (f.path, f.bytes.now)
+-- a file of an image of these bytes: its path and its content
+abbrev pub file_in : List ℕ → ImageFile → Named
+file_in b f = (f.path, content_at b f.content)
 
--- files of an image that the code holds, as their paths and bytes
-abbrev pub files_as : List ImageFile → List Named
-files_as fs = map file_as fs
+-- files of an image of these bytes, as their paths and contents
+abbrev pub files_in : List ℕ → List ImageFile → List Named
+files_in b fs = map (file_in b) fs
 
 -- such a file with its module, as plain data
-abbrev pub located_as : Located → Filed
-located_as l = (l.module, file_as l.file)
+abbrev pub located_in : List ℕ → Located → Filed
+located_in b l = (l.module, file_in b l.file)
+
+-- the contents of some files lie in a file of that many bytes
+abbrev pub AllWithin : ℕ → List ImageFile → Type 0
+AllWithin size fs = All (λ f. IsWithin size f.content) fs
 
 -- a resource as a file of a module, if its name is that of one
 abbrev pub located : Named → Option Filed
@@ -65,6 +70,12 @@ located_alone r = if is_node r.0 then [] else option_to_list (located r)
 -- the order of files: by module and then by path
 abbrev pub filed_cmp : Filed → Filed → Ordering
 filed_cmp e f = ordering_then (slice_cmp nat_cmp e.0 f.0) (slice_cmp nat_cmp e.1.0 f.1.0)
+
+-- the same of files that the code holds, whatever their contents are
+abbrev pub located_cmp : Located → Located → Ordering
+located_cmp l k =
+    ordering_then (slice_cmp nat_cmp l.module k.module)
+    (slice_cmp nat_cmp l.file.path k.file.path)
 
 -- no file stands before an earlier one
 abbrev pub NeverFalls : List Filed → Type 0

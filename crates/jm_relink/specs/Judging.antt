@@ -1,6 +1,6 @@
 -- What the steps come to that judge the modules of an image (this project's rule). The number in
 -- front is the release of Java SE whose classes are taken.
-use Rattle.std.specs.Prelude.{ℕ, ◌≡◌, List, [], ◌∷◌, ◌++◌, Option, Some, None}
+use Rattle.std.specs.Prelude.{ℕ, List, [], ◌∷◌, ◌++◌, Option, Some, None}
 use Rattle.std.specs.Prelude.{option_to_list, Result, Ok, Err}
 use Rattle.std.specs.Prelude.{if◌then◌else◌}
 use Rattle.std.specs.Str.{bytes_eq}
@@ -11,11 +11,10 @@ use Rattle.jm_modinfo.specs.Descriptions.{info_for}
 use Rattle.jm_relink.specs.declared.fault.RelinkFault.{RelinkFault}
 use Rattle.jm_relink.specs.declared.fault.RelinkFault.TheVariants as fault_of
 use Rattle.jm_relink.specs.declared.judging.SeenModule as handed
-use Rattle.jm_relink.specs.declared.modules.ImageModules.{ImageModules}
-use Rattle.jm_relink.specs.Files.{Filed, files_as, info_entry}
+use Rattle.jm_relink.specs.Files.{files_in, info_entry}
 use Rattle.jm_names.specs.ByName.{Named}
-use Rattle.jm_relink.specs.Groups.{Group, groups, info_content}
-use Rattle.jm_relink.specs.Modules.{HoldsModules, SeenModule}
+use Rattle.jm_relink.specs.Groups.{Group, info_content}
+use Rattle.jm_relink.specs.Modules.{SeenModule}
 use Rattle.jm_relink.specs.Packages.{packages_of}
 
 -- an answer with another value
@@ -23,9 +22,9 @@ abbrev pub mapped : {A B : Type 0} → (A → B) → Result A RelinkFault → Re
 mapped f (Ok value) = Ok (f value)
 mapped f (Err e) = Err e
 
--- a module of an image that the code hands out, as plain data
-abbrev pub seen_as : handed.SeenModule → SeenModule
-seen_as s = record { candidate = s.candidate; files = files_as s.files }
+-- a module that the code hands out, as plain data of an image of these bytes
+abbrev pub seen_in : List ℕ → handed.SeenModule → SeenModule
+seen_in b s = record { candidate = s.candidate; files = files_in b s.files }
 
 -- the descriptor of a module's entry, or the fault: there is none, or it is that of another module
 abbrev pub descriptor_due : List ℕ → Result Descriptor DescriptorFault
@@ -60,10 +59,3 @@ abbrev pub groups_due : ℕ → List SeenModule → List Group → Result (List 
 groups_due release seen [] = Ok seen
 groups_due release seen (g ∷ gs) =
     followed (group_due release g) (λ o. groups_due release (seen ++ option_to_list o) gs)
-
--- by the answer: the modules of sorted files, or their first fault
-abbrev pub ComesFrom : ℕ → List Filed → Result ImageModules RelinkFault → Type 0
-ComesFrom release files (Ok found) =
-    (seen : List SeenModule) × (groups_due release [] (groups files) ≡ Ok seen)
-    × HoldsModules found seen
-ComesFrom release files (Err fault) = groups_due release [] (groups files) ≡ Err fault

@@ -1,3 +1,5 @@
+pub mod Choosing
+pub mod Entries
 pub mod Files
 pub mod Gathering
 pub mod Groups

@@ -19,8 +19,9 @@ use Rattle.jm_reader.specs.Walk.{IsLater}
 use Rattle.jm_relink.specs.declared.fault.RelinkFault.{RelinkFault}
 use Rattle.jm_relink.specs.declared.fault.RelinkFault.TheVariants as fault_of
 use Rattle.jm_relink.specs.declared.modules.ImageModules.{ImageModules}
-use Rattle.jm_relink.specs.Files.{file_name, files_as, info_entry, resources_of}
-use Rattle.jm_relink.specs.Gathering.{AreModules}
+use Rattle.jm_relink.specs.Files.{file_name, files_in, info_entry, resources_of}
+use Rattle.jm_relink.specs.Gathering.{AreModules, StandIn}
+use Rattle.jm_relink.specs.Groups.{info_content}
 use Rattle.jm_names.specs.ByName.{Named, RisesByName}
 
 -- a module, with its files by their paths and their contents
@@ -39,7 +40,7 @@ pub record HasInfo (rs : List Named) («module» content : List ℕ) : Type 0 wh
   pub whole : list_any is_slash «module» ≡ false
   pub there : Contains rs (info_entry «module», content)
 
--- the files of a module: the resources that have its name in front, rising by path
+-- the files of a module: the resources of names `/module/path`, rising by path
 pub record AreFilesOf (rs : List Named) («module» : List ℕ) (files : List Named) : Type 0 where
   pub rising : RisesByName files
   pub each : (path content : List ℕ)
@@ -86,16 +87,24 @@ ModulesOf release b (Err refusal) = IsRefusedIn release (resources_of b) refusal
 
 -- What is handed out
 
--- the code's two lists hold these modules
-pub record HoldsModules (found : ImageModules) (seen : List SeenModule) : Type 0 where
+-- the code's three lists hold these modules, with their files in an image of these bytes
+pub record HoldsModules (b : List ℕ) (found : ImageModules) (seen : List SeenModule) : Type 0 where
   pub candidates : found.candidates ≡ map (λ s. s.candidate) seen
-  pub files : map files_as found.files ≡ map (λ s. s.files) seen
+  pub infos : map Some found.infos ≡ map (λ s. info_content s.files) seen
+  pub files : map (files_in b) found.files ≡ map (λ s. s.files) seen
 
 -- what looking for an image's modules comes to: these, or their first refusal
 abbrev pub FindsModules : ℕ → List ℕ → Result ImageModules RelinkFault → Type 0
 FindsModules release b (Ok found) =
-    (seen : List SeenModule) × ModulesOf release b (Ok seen) × HoldsModules found seen
+    (seen : List SeenModule) × ModulesOf release b (Ok seen) × HoldsModules b found seen
 FindsModules release b (Err fault) = ModulesOf release b (Err fault)
+
+-- what the modules of an image come to: these or their first refusal, and modules as
+-- `chosen_files` takes them
+pub record FindsIn (release : ℕ) (b : List ℕ) (result : Result ImageModules (Or RelinkFault))
+    : Type 0 where
+  pub modules : IfAnswered (FindsModules release b) result
+  pub are : IfOk result AreModules
 
 -- what the search for the modules of an image gives: these or their first refusal, modules as
 -- `gather` takes them, and a meter of the same bytes whose count didn't fall
@@ -103,4 +112,5 @@ pub record FindsFor (release : ℕ) (b : List ℕ) (old new : Metered)
     (result : Result ImageModules (Or RelinkFault)) : Type 0 where
   pub modules : IfAnswered (FindsModules release b) result
   pub are : IfOk result AreModules
+  pub stand : IfOk result (StandIn b)
   pub reads : IsLater old new

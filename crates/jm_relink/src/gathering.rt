@@ -1,94 +1,106 @@
-//! The resources that the files of chosen modules are.
-ghost use Rattle.std.specs.Prelude.{◌≡◌, ◌≢◌, ◌<◌, ◌∷◌, ◌++◌, [], None, AllPairs};
-ghost use Rattle.std.specs.Prelude.{length};
+//! The resources that the files of chosen modules are, copied from an open image.
+ghost use Rattle.std.specs.Prelude.{◌≡◌, ◌≢◌, ◌∷◌, ◌++◌, [], None, All, AllPairs, IfOk, OnOk};
+ghost use Rattle.std.specs.Prelude.{IfSome, length, map};
 ghost use Rattle.jm_bytes.specs.Results.{IfAnswered};
+ghost use Rattle.jm_filed.specs.Filed.{IsWithin, content_at};
 ghost use Rattle.jm_pool.specs.Pairs.{bytes_of, names_of};
-ghost use Rattle.jm_relink.specs.Files.{file_as, file_name, files_as};
-ghost use Rattle.jm_relink.specs.Gathering.{ArePlaces, AreModules, Gathers, GathersAll};
-ghost use Rattle.jm_relink.specs.Gathering.{gathered, resource_of, resources_with};
+ghost use Rattle.jm_reader.specs.Walk.{IsLater};
+ghost use Rattle.jm_relink.specs.Choosing.{chosen_in, IsDescribedIn};
+ghost use Rattle.jm_relink.specs.Gathering.{ArePlaces, AreModules, GathersAll, gathered, StandIn};
 
+use crate::choosing::{ChosenFile, chosen_files};
+use crate::contents::content_in;
 use crate::fault::GatherFault;
-use crate::modules::{ImageFile, ImageModules};
-use crate::names::file_name;
-use jm_bytes::{Or, Text};
-use jm_names::check_name;
+use crate::modules::ImageModules;
+use jm_bytes::{List, Meter, NoMemory, Or, Text};
+use jm_filed::Extent;
 use jm_pool::Pool;
+use jm_valid::Image;
 use std::alloc::Global;
+use std::sync::ledger::Ledger;
 
-/// Puts a file of a module at the end as a resource.
-fn put_file(
+/// The content of a chosen file. A descriptor isn't read again.
+fn content_of<R: Ledger>(
     alloc: Global,
-    pool: &mut Pool,
-    module: &[u8],
-    file: &ImageFile,
-) -> Result<(), Or<GatherFault>>
-    requires new { bytes_of (file_name «module».now file.now.path) pool.old ≡ None }
-    ensures { IfAnswered (Gathers (resource_of «module».now (file_as file.now) ∷ [])
-        pool.old pool.new) result }
+    image: &Image,
+    content: Extent,
+    described: Option<Text>,
+    reads: &mut Meter<R>,
+) -> Result<Text, NoMemory>
+    requires described { IfSome described (λ text. text ≡ content_at image.now content) }
+    requires within { IsWithin (length image.now) content }
+    requires metered { reads.old.bytes ≡ image.now }
+    ensures content { IfOk result (λ text. text ≡ content_at image.now content) }
+    ensures reads { IsLater reads.old reads.new }
 {
-    let name = file_name(alloc, module, file.path.as_slice())?;
-    if let Err(fault) = check_name(name.as_slice()) {
-        return Err(Or::Fault(GatherFault { name, fault }));
+    match described {
+        Some(text) => Ok(text),
+        None => content_in(alloc, image, content, reads),
     }
-    let bytes = Text::copy_of(alloc, file.bytes)?;
-    Ok(pool.push(name, bytes)?)
 }
 
-/// Puts the files of a module at the end as resources.
-fn put_files(
+/// Puts a file of an image at the end.
+fn put_file<R: Ledger>(
     alloc: Global,
     pool: &mut Pool,
-    module: &[u8],
-    files: &[ImageFile],
-) -> Result<(), Or<GatherFault>>
-    requires differ { AllPairs (λ name other. name ≢ other)
-        (names_of (pool.old ++ resources_with «module».now (files_as files.now))) }
-    ensures { IfAnswered (Gathers (resources_with «module».now (files_as files.now))
-        pool.old pool.new) result }
+    image: &Image,
+    file: ChosenFile,
+    reads: &mut Meter<R>,
+) -> Result<(), NoMemory>
+    requires new { bytes_of file.name pool.old ≡ None }
+    requires described { IsDescribedIn image.now file }
+    requires within { IsWithin (length image.now) file.content }
+    requires metered { reads.old.bytes ≡ image.now }
+    ensures put { OnOk result (pool.new ≡ pool.old ++ chosen_in image.now file ∷ []) }
+    ensures reads { IsLater reads.old reads.new }
 {
-    for file in files {
-        put_file(alloc, pool, module, file)?;
-    }
-    Ok(())
+    let ChosenFile {
+        name,
+        content,
+        described,
+    } = file;
+    let bytes = content_of(alloc, image, content, described, reads)?;
+    pool.push(name, bytes)
 }
 
-/// Puts the files of the module at a place at the end as resources.
-fn put_module(
+/// The files of an image as a pool.
+fn pooled<R: Ledger>(
     alloc: Global,
-    pool: &mut Pool,
-    modules: &ImageModules,
-    place: usize,
-) -> Result<(), Or<GatherFault>>
-    requires modules { AreModules modules.now }
-    requires within { place < length modules.now.candidates }
+    image: &Image,
+    files: List<ChosenFile>,
+    reads: &mut Meter<R>,
+) -> Result<Pool, NoMemory>
     requires differ { AllPairs (λ name other. name ≢ other)
-        (names_of (pool.old ++ gathered modules.now (place ∷ []))) }
-    ensures { IfAnswered (Gathers (gathered modules.now (place ∷ [])) pool.old pool.new) result }
+        (names_of (map (chosen_in image.now) files)) }
+    requires described { All (IsDescribedIn image.now) files }
+    requires within { All (λ f. IsWithin (length image.now) f.content) files }
+    requires metered { reads.old.bytes ≡ image.now }
+    ensures pool { IfOk result (λ pool. pool ≡ map (chosen_in image.now) files) }
+    ensures reads { IsLater reads.old reads.new }
 {
-    let candidate = &modules.candidates.as_slice()[place];
-    let files = &modules.files.as_slice()[place];
-    put_files(
-        alloc,
-        pool,
-        candidate.descriptor.name.as_slice(),
-        files.as_slice(),
-    )
+    let mut pool = Pool::new(alloc);
+    for file in files.into_vec() {
+        put_file(alloc, &mut pool, image, file, reads)?;
+    }
+    Ok(pool)
 }
 
 /// The resources that the files of the modules at these places are, in the order of the places and
 /// of each module's files. Each content is copied once.
-pub fn gather(
+pub fn gather<R: Ledger>(
     alloc: Global,
+    image: &Image,
     modules: &ImageModules,
     chosen: &[usize],
+    reads: &mut Meter<R>,
 ) -> Result<Pool, Or<GatherFault>>
     requires modules { AreModules modules.now }
+    requires stand { StandIn image.now modules.now }
     requires places { ArePlaces modules.now chosen.now }
-    ensures { IfAnswered (GathersAll (gathered modules.now chosen.now)) result }
+    requires metered { reads.old.bytes ≡ image.now }
+    ensures gathers { IfAnswered (GathersAll (gathered image.now modules.now chosen.now)) result }
+    ensures reads { IsLater reads.old reads.new }
 {
-    let mut pool = Pool::new(alloc);
-    for place in chosen {
-        put_module(alloc, &mut pool, modules, *place)?;
-    }
-    Ok(pool)
+    let files = chosen_files(alloc, modules, chosen)?;
+    Ok(pooled(alloc, image, files, reads)?)
 }

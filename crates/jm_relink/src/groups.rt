@@ -1,7 +1,8 @@
 //! Files side by side, module by module.
-ghost use Rattle.std.specs.Prelude.{◌≡◌, ◌∷◌, ◌++◌, List, IfOk, map};
-ghost use Rattle.jm_relink.specs.Files.{Filed, located_as};
-ghost use Rattle.jm_relink.specs.Groups.{begun_as, group_as, groups, groups_from};
+ghost use Rattle.std.specs.Prelude.{◌≡◌, ◌∷◌, ◌++◌, ℕ, List, All, IfOk, map};
+ghost use Rattle.jm_filed.specs.Filed.{IsWithin};
+ghost use Rattle.jm_relink.specs.Files.{AllWithin, Filed, located_in};
+ghost use Rattle.jm_relink.specs.Groups.{begun_as, files_of, groups, groups_from};
 
 use crate::located::Located;
 use crate::modules::ImageFile;
@@ -10,16 +11,19 @@ use std::alloc::Global;
 
 /// A module and files of it.
 #[derive(Debug, Drop)]
-pub struct ModuleFiles<'a> {
+pub struct ModuleFiles {
     /// The module's name.
     pub module: Text,
     /// The files.
-    pub files: List<ImageFile<'a>>,
+    pub files: List<ImageFile>,
 }
 
 /// A module with its first file.
-fn begun<'a>(alloc: Global, located: Located<'a>) -> Result<ModuleFiles<'a>, NoMemory>
-    ensures { IfOk result (λ group. group_as group ≡ begun_as (located_as located.entry)) }
+fn begun(alloc: Global, located: Located) -> Result<ModuleFiles, NoMemory>
+    ensures group { (b : List ℕ) → IfOk result (λ group.
+        files_of b group ≡ begun_as (located_in b located)) }
+    ensures within { (size : ℕ) → IsWithin size located.file.content
+        → IfOk result (λ group. AllWithin size group.files) }
 {
     let Located { module, file } = located;
     let mut files = List::new(alloc);
@@ -27,18 +31,22 @@ fn begun<'a>(alloc: Global, located: Located<'a>) -> Result<ModuleFiles<'a>, NoM
     Ok(ModuleFiles { module, files })
 }
 
-/// One file more behind the files of a module: it is a further one of these, or they are done and
+/// One file more after the files of a module: it is a further one of these, or they are done and
 /// it is the first of the next module.
-fn with_file<'a>(
+fn with_file(
     alloc: Global,
-    done: &mut List<ModuleFiles<'a>>,
-    group: ModuleFiles<'a>,
-    located: Located<'a>,
-) -> Result<ModuleFiles<'a>, NoMemory>
-    ensures { IfOk result (λ next. (rest : List Filed) →
-        map group_as done.new ++ groups_from (group_as next) rest
-        ≡ map group_as done.old
-        ++ groups_from (group_as group.entry) (located_as located.entry ∷ rest)) }
+    done: &mut List<ModuleFiles>,
+    group: ModuleFiles,
+    located: Located,
+) -> Result<ModuleFiles, NoMemory>
+    ensures group { (b : List ℕ) → IfOk result (λ next. (rest : List Filed) →
+        map (files_of b) done.new ++ groups_from (files_of b next) rest
+        ≡ map (files_of b) done.old
+        ++ groups_from (files_of b group) (located_in b located ∷ rest)) }
+    ensures within { (size : ℕ) → All (λ g. AllWithin size g.files) done.old
+        → AllWithin size group.files → IsWithin size located.file.content
+        → IfOk result (λ next. All (λ g. AllWithin size g.files) done.new
+        × AllWithin size next.files) }
 {
     if group.module.as_slice() != located.module.as_slice() {
         done.push(group)?;
@@ -50,11 +58,11 @@ fn with_file<'a>(
 }
 
 /// The modules that some files are of, with their files.
-pub fn groups<'a>(
-    alloc: Global,
-    files: List<Located<'a>>,
-) -> Result<List<ModuleFiles<'a>>, NoMemory>
-    ensures { IfOk result (λ list. map group_as list ≡ groups (map located_as files.entry)) }
+pub fn groups(alloc: Global, files: List<Located>) -> Result<List<ModuleFiles>, NoMemory>
+    ensures groups { (b : List ℕ) → IfOk result (λ list.
+        map (files_of b) list ≡ groups (map (located_in b) files)) }
+    ensures within { (size : ℕ) → All (λ l. IsWithin size l.file.content) files
+        → IfOk result (All (λ g. AllWithin size g.files)) }
 {
     let mut done = List::new(alloc);
     let mut rest = files.into_vec().into_iter();

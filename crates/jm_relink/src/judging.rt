@@ -1,14 +1,14 @@
-//! The modules among those that have files: whose `module-info.class` is there.
-ghost use Rattle.std.specs.Prelude.{◌≡◌, [], IfOk, map, option_map};
+//! What the descriptors of modules say.
+ghost use Rattle.std.specs.Prelude.{◌≡◌, ℕ, List, [], All, IfOk, length, map};
 ghost use Rattle.jm_bytes.specs.Results.{IfAnswered};
 ghost use Rattle.jm_modinfo.specs.Descriptions.{info_for};
-ghost use Rattle.jm_relink.specs.Files.{files_as, info_entry};
-ghost use Rattle.jm_relink.specs.Groups.{group_as, info_content};
-ghost use Rattle.jm_relink.specs.Judging.{descriptor_due, group_due, groups_due, mapped, seen_as};
-ghost use Rattle.jm_relink.specs.Judging.{seen_due};
+ghost use Rattle.jm_relink.specs.Entries.{AreInfosIn, HasInfoAt};
+ghost use Rattle.jm_relink.specs.Files.{info_entry};
+ghost use Rattle.jm_relink.specs.Groups.{group_in};
+ghost use Rattle.jm_relink.specs.Judging.{descriptor_due, groups_due, mapped, seen_in, seen_due};
 
+use crate::entries::ModuleEntries;
 use crate::fault::RelinkFault;
-use crate::groups::ModuleFiles;
 use crate::modules::ImageFile;
 use crate::names::file_name;
 use crate::packages::class_packages;
@@ -19,11 +19,11 @@ use std::alloc::Global;
 
 /// A module of an image, with its files.
 #[derive(Debug, Drop)]
-pub struct SeenModule<'a> {
+pub struct SeenModule {
     /// What its descriptor says, and its class packages.
     pub candidate: Candidate,
     /// Its files.
-    pub files: List<ImageFile<'a>>,
+    pub files: List<ImageFile>,
 }
 
 /// The name of the entry that makes a module.
@@ -61,70 +61,49 @@ fn descriptor(
     }
 }
 
-/// The content of the file `module-info.class`.
-fn info_content<'a>(files: &[ImageFile<'a>]) -> Option<&'a [u8]>
-    ensures { option_map (λ bytes. bytes.now) result ≡ info_content (files_as files.now) }
-{
-    for file in files {
-        if file.path.as_slice() == b"module-info.class".as_slice() {
-            return Some(file.bytes);
-        }
-    }
-    None
-}
-
-/// The module of some files, from the content of its `module-info.class`, as a class of this
-/// release of Java SE.
-fn seen<'a>(
+/// A module, from the content of its `module-info.class`, as a class of this release of Java SE.
+fn seen(
     alloc: Global,
     release: u32,
-    group: ModuleFiles<'a>,
-    bytes: &[u8],
-) -> Result<SeenModule<'a>, Or<RelinkFault>>
-    ensures { IfAnswered (λ r. seen_due (group_as group.entry) (info_for release bytes.now)
-        ≡ mapped seen_as r) result }
+    module: ModuleEntries,
+    info: &[u8],
+) -> Result<SeenModule, Or<RelinkFault>>
+    ensures seen { (b : List ℕ) → IfAnswered (λ r.
+        seen_due (group_in b «module») (info_for release info.now) ≡ mapped (seen_in b) r)
+        result }
+    ensures files { IfOk result (λ seen. seen.files ≡ «module».files) }
 {
-    let descriptor = descriptor(alloc, release, group.module.as_slice(), bytes)?;
-    let packages = class_packages(alloc, group.files.as_slice())?;
+    let descriptor = descriptor(alloc, release, module.module.as_slice(), info)?;
+    let packages = class_packages(alloc, module.files.as_slice())?;
     Ok(SeenModule {
         candidate: Candidate {
             descriptor,
             packages,
         },
-        files: group.files,
+        files: module.files,
     })
 }
 
-/// The module of some files, if its `module-info.class` is there, as a class of this release of
-/// Java SE.
-fn judged<'a>(
+/// Modules, from the content of each one's `module-info.class`, as classes of this release of Java
+/// SE.
+pub fn seen_modules(
     alloc: Global,
     release: u32,
-    group: ModuleFiles<'a>,
-) -> Result<Option<SeenModule<'a>>, Or<RelinkFault>>
-    ensures { IfAnswered (λ r. group_due release (group_as group.entry)
-        ≡ mapped (option_map seen_as) r) result }
+    modules: List<ModuleEntries>,
+    infos: &[Text],
+) -> Result<List<SeenModule>, Or<RelinkFault>>
+    requires { length infos.now ≡ length modules }
+    ensures seen { (b : List ℕ) → All (HasInfoAt b) modules
+        → AreInfosIn b modules infos.now → IfAnswered (λ r.
+        groups_due release [] (map (group_in b) modules) ≡ mapped (map (seen_in b)) r)
+        result }
+    ensures files { IfOk result (λ seen.
+        map (λ m. m.files) seen ≡ map (λ m. m.files) modules) }
 {
-    match info_content(group.files.as_slice()) {
-        Some(bytes) => Ok(Some(seen(alloc, release, group, bytes)?)),
-        None => Ok(None),
+    let mut done = List::new(alloc);
+    for module in modules.into_vec() {
+        let info = &infos[done.len()];
+        done.push(seen(alloc, release, module, info.as_slice())?)?;
     }
-}
-
-/// The modules of some files, in their order, by classes of this release of Java SE.
-pub fn seen_modules<'a>(
-    alloc: Global,
-    release: u32,
-    groups: List<ModuleFiles<'a>>,
-) -> Result<List<SeenModule<'a>>, Or<RelinkFault>>
-    ensures { IfAnswered (λ r. groups_due release [] (map group_as groups.entry)
-        ≡ mapped (map seen_as) r) result }
-{
-    let mut modules = List::new(alloc);
-    for group in groups.into_vec() {
-        if let Some(module) = judged(alloc, release, group)? {
-            modules.push(module)?;
-        }
-    }
-    Ok(modules)
+    Ok(done)
 }

@@ -1,44 +1,51 @@
 //! The modules of an image.
-ghost use Rattle.std.specs.Prelude.{◌≡◌, IfOk, map};
-ghost use Rattle.jm_bytes.specs.Results.{IfAnswered};
-ghost use Rattle.jm_relink.specs.Judging.{ComesFrom};
-ghost use Rattle.jm_relink.specs.Modules.{FindsFor};
-ghost use Rattle.jm_relink.specs.Files.{located_as};
+ghost use Rattle.std.specs.Prelude.{◌≡◌, ℕ, List, All, IfOk, length, map};
+ghost use Rattle.jm_relink.specs.Entries.{AreEntriesOf, AreInfosIn, EntriesWithin};
+ghost use Rattle.jm_relink.specs.Gathering.{LieWithin};
+ghost use Rattle.jm_relink.specs.Modules.{FindsFor, FindsIn};
 
+use crate::contents::infos_in;
+use crate::entries::{ModuleEntries, module_entries};
 use crate::fault::RelinkFault;
-use crate::groups::groups;
 use crate::judging::{SeenModule, seen_modules};
-use crate::located::{Located, located_files};
 use jm_bytes::{List, Meter, NoMemory, Or, Text};
 use jm_class::DEFAULT_RELEASE;
 use jm_closure::Candidate;
+use jm_filed::Extent;
 use jm_valid::Image;
 use std::alloc::Global;
 use std::sync::ledger::Ledger;
 
 /// A file of a module of an image.
 #[derive(Debug, Drop)]
-pub struct ImageFile<'a> {
+pub struct ImageFile {
     /// Its path within the module.
     pub path: Text,
-    /// Its content, which is the image's.
-    pub bytes: &'a [u8],
+    /// Where its content stands in the image's file.
+    pub content: Extent,
 }
 
-/// Modules of an image, and the files of each.
+/// Modules of an image, their descriptors and the files of each.
 #[derive(Debug, Drop)]
-pub struct ImageModules<'a> {
+pub struct ImageModules {
     /// What their descriptors say, and their class packages.
     pub candidates: List<Candidate>,
+    /// The content of each one's `module-info.class`, in the same order.
+    pub infos: List<Text>,
     /// The files of each, in the same order.
-    pub files: List<List<ImageFile<'a>>>,
+    pub files: List<List<ImageFile>>,
 }
 
-/// What the modules say, and their files.
-fn parted<'a>(alloc: Global, seen: List<SeenModule<'a>>) -> Result<ImageModules<'a>, NoMemory>
+/// What the modules say, with the contents of their descriptors, and their files.
+fn parted(
+    alloc: Global,
+    seen: List<SeenModule>,
+    infos: List<Text>,
+) -> Result<ImageModules, NoMemory>
     ensures candidates { IfOk result (λ found.
-        found.candidates ≡ map (λ m. m.candidate) seen.entry) }
-    ensures files { IfOk result (λ found. found.files ≡ map (λ m. m.files) seen.entry) }
+        found.candidates ≡ map (λ m. m.candidate) seen) }
+    ensures infos { IfOk result (λ found. found.infos ≡ infos) }
+    ensures files { IfOk result (λ found. found.files ≡ map (λ m. m.files) seen) }
 {
     let mut candidates = List::new(alloc);
     let mut files = List::new(alloc);
@@ -46,47 +53,57 @@ fn parted<'a>(alloc: Global, seen: List<SeenModule<'a>>) -> Result<ImageModules<
         candidates.push(module.candidate)?;
         files.push(module.files)?;
     }
-    Ok(ImageModules { candidates, files })
+    Ok(ImageModules {
+        candidates,
+        infos,
+        files,
+    })
 }
 
-/// The modules of files that are sorted by module and by path, by classes of this release of Java
-/// SE.
-fn modules_among<'a>(
+/// The modules of an image, from what its index says of them, which `module_entries` tells, and the
+/// content of each one's `module-info.class`, which is read as a class of this release of Java SE.
+/// Of the modules that are refused the one with the least name decides.
+pub fn modules_with(
     alloc: Global,
     release: u32,
-    files: List<Located<'a>>,
-) -> Result<ImageModules<'a>, Or<RelinkFault>>
-    ensures { IfAnswered (ComesFrom release (map located_as files.entry)) result }
+    entries: List<ModuleEntries>,
+    infos: List<Text>,
+) -> Result<ImageModules, Or<RelinkFault>>
+    requires { length infos ≡ length entries }
+    ensures modules { (b : List ℕ) → AreEntriesOf b entries
+        → AreInfosIn b entries infos → FindsIn release b result }
+    ensures within { (size : ℕ) → All (EntriesWithin size) entries
+        → IfOk result (LieWithin size) }
 {
-    let groups = groups(alloc, files)?;
-    let seen = seen_modules(alloc, release, groups)?;
-    Ok(parted(alloc, seen)?)
+    let seen = seen_modules(alloc, release, entries, infos.as_slice())?;
+    Ok(parted(alloc, seen, infos)?)
 }
 
 /// The modules of an image: those whose `module-info.class` stands in it, rising by name, and the
-/// files of each, rising by path. The contents are the image's. Time n log n in the entries.
+/// files of each, rising by path. Time n log n in the entries.
 ///
 /// These entries are read as classes of this release of Java SE. An entry of no such module is left
 /// out, and so are the nodes. Of the modules that are refused the one with the least name decides.
-pub fn modules_for<'a, R: Ledger>(
+pub fn modules_for<R: Ledger>(
     alloc: Global,
     release: u32,
-    image: &Image<'a>,
+    image: &Image,
     reads: &mut Meter<R>,
-) -> Result<ImageModules<'a>, Or<RelinkFault>>
+) -> Result<ImageModules, Or<RelinkFault>>
     requires { reads.old.bytes ≡ image.now }
     ensures { FindsFor release image.now reads.old reads.new result }
 {
-    let files = located_files(alloc, image, reads)?;
-    modules_among(alloc, release, files)
+    let entries = module_entries(alloc, &image.index(), reads)?;
+    let infos = infos_in(alloc, image, entries.as_slice(), reads)?;
+    modules_with(alloc, release, entries, infos)
 }
 
 /// The modules of an image by classes of release 21 of Java SE, as `modules_for` finds them.
-pub fn modules_of<'a, R: Ledger>(
+pub fn modules_of<R: Ledger>(
     alloc: Global,
-    image: &Image<'a>,
+    image: &Image,
     reads: &mut Meter<R>,
-) -> Result<ImageModules<'a>, Or<RelinkFault>>
+) -> Result<ImageModules, Or<RelinkFault>>
     requires { reads.old.bytes ≡ image.now }
     ensures { FindsFor 21 image.now reads.old reads.new result }
 {

@@ -1,6 +1,6 @@
 //! The class packages of a module, from its files.
-ghost use Rattle.std.specs.Prelude.{◌≡◌, IfOk};
-ghost use Rattle.jm_relink.specs.Files.{files_as};
+ghost use Rattle.std.specs.Prelude.{◌≡◌, ℕ, List, IfOk};
+ghost use Rattle.jm_relink.specs.Files.{files_in};
 ghost use Rattle.jm_relink.specs.Packages.{packages_of};
 
 use crate::modules::ImageFile;
@@ -11,7 +11,8 @@ use std::alloc::Global;
 
 /// The packages in which files of a module are classes, rising.
 pub fn class_packages(alloc: Global, files: &[ImageFile]) -> Result<List<Text>, NoMemory>
-    ensures { IfOk result (λ packages. packages ≡ packages_of (files_as files.now)) }
+    ensures { (b : List ℕ) → IfOk result (λ packages.
+        packages ≡ packages_of (files_in b files.now)) }
 {
     let mut packages = Vec::new(alloc);
     for file in files {

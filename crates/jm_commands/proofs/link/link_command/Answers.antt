@@ -7,16 +7,16 @@ use Rattle.jm_commands.proofs.link.link_command.Goals as goal
 pub link-requires-clause-directories : goal.link-requires-clause-directories
 link-requires-clause-directories g c lifetimes outlives = directories_text c.args.task.now.source c.requires.paths.0
 
-pub returns-in-Image : goal.returns-in-Image
-returns-in-Image g c source =
+pub returns-in-Image-clause-comes : goal.returns-in-Image-clause-comes
+returns-in-Image-clause-comes g c source =
     link_comes link_text (g.S.Shelf.files c.args.shelf.now) c.args.task.now _ _ _ _ c.in-Image.is
-    (c.link_from_image.ensures source)
+    (c.link_from_image.ensures.comes source)
 
-pub returns-in_err-summary-in-Path : goal.returns-in_err-summary-in-Path
-returns-in_err-summary-in-Path g c source =
+pub returns-in_err-summary-in-Path-clause-comes : goal.returns-in_err-summary-in-Path-clause-comes
+returns-in_err-summary-in-Path-clause-comes g c source =
     let is = from_stop c.from_residual.result _ c.from_residual.ensures.1 in
     rw is (path_stopped link_text c.args.task.now _ _ _ refl c.in-Path.is _ c.in_err-summary-in-Path.ensures.links refl)
 
-pub returns-in_ok-summary-in-Path : goal.returns-in_ok-summary-in-Path
-returns-in_ok-summary-in-Path g c source =
+pub returns-in_ok-summary-in-Path-clause-comes : goal.returns-in_ok-summary-in-Path-clause-comes
+returns-in_ok-summary-in-Path-clause-comes g c source =
     path_put link_text c.args.task.now _ _ _ refl c.in-Path.is _ _ c.in_ok-summary-in-Path.ensures.links c.put_summary.ensures

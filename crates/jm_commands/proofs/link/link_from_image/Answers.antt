@@ -1,54 +1,47 @@
 use Rattle.std.proofs.Common.{refl}
-use Rattle.jm_form.specs.Damages.{first_damage}
 use Rattle.jm_outside.specs.Shelves.{shelf_at}
 use Rattle.jm_commands.specs.LinkText.{link_text}
-use Rattle.jm_commands.specs.Run.{ImageLinkComesTo, OpenedComesTo}
-use Rattle.jm_commands.specs.World.{sink_at, world}
-use Rattle.jm_commands.proofs.LinkLaws.{image_put, image_stopped}
-use Rattle.jm_commands.proofs.StepLaws.{from_stop, file_read, file_unread, image_unopened}
+use Rattle.jm_commands.specs.Run.{ImageLinkComesTo}
+use Rattle.jm_commands.proofs.FrontLaws.{index_there, unopened}
+use Rattle.jm_commands.proofs.LinkLaws.{filed_put, filed_stopped, takes_filed}
+use Rattle.jm_commands.proofs.StepLaws.{from_stop}
 use Rattle.jm_commands.proofs.link.link_from_image.Goals as goal
 
-pub returns-in-Ok-of : goal.returns-in-Ok-of
-returns-in-Ok-of g c source =
-    let read = c.in-Ok.ensures in
-    let b = c.as_slice-bytes.result.now in
-    let link = c.args.task.now in
-    let old = world (shelf_at g.S.Shelf c.whole_file.new.shelf) source (sink_at g.O.Sink c.args.out.now) in
-    let new = world (shelf_at g.S.Shelf c.link_counted.new.shelf) source (sink_at g.O.Sink c.put_summary.new.out) in
-    let put = image_put link_text link c.in-Ok-of.image old new refl _ c.put_summary.result c.in_ok-summary-in-Ok-of.ensures
-    c.put_summary.ensures in
-    let does = rw c.in-Ok-of.ensures.same at put in
-    file_read (λ bytes. OpenedComesTo (ImageLinkComesTo link_text link bytes) (first_damage bytes)) c.args.path.now b
-    (shelf_at g.S.Shelf c.args.shelf.now)
-    (world (shelf_at g.S.Shelf c.whole_file.new.shelf) source (sink_at g.O.Sink c.args.out.now)) _ _
-    (rw c.as_slice-bytes.ensures read.reads) read.files (read.faults.kept refl) (rw c.in-Ok-of.ensures.opens does)
+pub link_counted-requires-clause-there : goal.link_counted-requires-clause-there
+link_counted-requires-clause-there g c lifetimes outlives =
+    let read = c.in_ok-front.ensures in
+    index_there c.args.path.now (shelf_at g.S.Shelf c.args.shelf.now) (shelf_at g.S.Shelf c.at.new.shelf) read.files c.in_ok-front.front
+    read.opens
 
-pub returns-in_err-summary-in-Ok-of : goal.returns-in_err-summary-in-Ok-of
-returns-in_err-summary-in-Ok-of g c source =
-    let read = c.in-Ok.ensures in
-    let b = c.as_slice-bytes.result.now in
-    let link = c.args.task.now in
-    let old = world (shelf_at g.S.Shelf c.whole_file.new.shelf) source (sink_at g.O.Sink c.args.out.now) in
-    let new = world (shelf_at g.S.Shelf c.link_counted.new.shelf) source (sink_at g.O.Sink c.args.out.now) in
+pub returns-in_err-front-clause-comes : goal.returns-in_err-front-clause-comes
+returns-in_err-front-clause-comes g c source =
     let is = from_stop c.from_residual.result _ c.from_residual.ensures.1 in
-    let stopped = image_stopped link_text link c.in-Ok-of.image old new refl _ c.in_err-summary-in-Ok-of.ensures refl in
-    let does = rw c.in-Ok-of.ensures.same at stopped in
-    rw is (file_read (λ bytes. OpenedComesTo (ImageLinkComesTo link_text link bytes) (first_damage bytes)) c.args.path.now b
-    (shelf_at g.S.Shelf c.args.shelf.now) old _ _
-    (rw c.as_slice-bytes.ensures read.reads) read.files (read.faults.kept refl) (rw c.in-Ok-of.ensures.opens does))
+    let read = c.in_err-front.ensures in
+    rw is (unopened (ImageLinkComesTo link_text c.args.task.now) c.args.path.now (shelf_at g.S.Shelf c.args.shelf.now)
+    (shelf_at g.S.Shelf c.at.new.shelf) read.files source _ _ read.opens (λ failed. read.faults.rose (rw failed refl)))
 
-pub returns-in-Ok : goal.returns-in-Ok
-returns-in-Ok g c source =
-    let read = c.in-Ok.ensures in
-    let b = c.as_slice-bytes.result.now in
-    let link = c.args.task.now in
-    file_read (λ bytes. OpenedComesTo (ImageLinkComesTo link_text link bytes) (first_damage bytes)) c.args.path.now b _ _ _ _
-    (rw c.as_slice-bytes.ensures read.reads) read.files (read.faults.kept refl) (image_unopened (ImageLinkComesTo link_text link b)
-    b c.in-Err-of.stop _ c.in-Err-of.ensures.opens)
+pub returns-in_err-summary-clause-comes : goal.returns-in_err-summary-clause-comes
+returns-in_err-summary-clause-comes g c source =
+    let is = from_stop c.from_residual-in_err-summary.result _ c.from_residual-in_err-summary.ensures.1 in
+    let read = c.in_ok-front.ensures in
+    rw is (filed_stopped link_text c.args.task.now c.args.path.now _ (shelf_at g.S.Shelf c.at.new.shelf)
+    (shelf_at g.S.Shelf c.link_counted.new.shelf) source _ _ read.files (read.faults.kept refl) c.in_ok-front.front read.opens _ _ _
+    c.in_err-summary.ensures refl)
 
-pub returns : goal.returns
-returns g c source =
-    let read = c.in-Err.ensures in
-    let link = c.args.task.now in
-    file_unread (λ bytes. OpenedComesTo (ImageLinkComesTo link_text link bytes) (first_damage bytes)) c.args.path.now c.in-Err.stop
-    _ _ read.reads (record { files = read.files; source = refl; output = refl }) (λ failed. read.faults.rose (rw failed refl))
+pub returns-clause-comes : goal.returns-clause-comes
+returns-clause-comes g c source =
+    let read = c.in_ok-front.ensures in
+    filed_put link_text c.args.task.now c.args.path.now _ (shelf_at g.S.Shelf c.at.new.shelf) (shelf_at g.S.Shelf c.link_counted.new.shelf)
+    source _ _ read.files (read.faults.kept refl) c.in_ok-front.front read.opens _ _ _ _ c.in_ok-summary.ensures c.put_summary.ensures
+
+pub returns-in_err-summary-clause-takes : goal.returns-in_err-summary-clause-takes
+returns-in_err-summary-clause-takes g c =
+    let read = c.in_ok-front.ensures in
+    takes_filed _ c.args.path.now _ (shelf_at g.S.Shelf c.args.shelf.now) (shelf_at g.S.Shelf c.at.new.shelf)
+    (shelf_at g.S.Shelf c.link_counted.new.shelf) c.in_ok-front.front _ _ _ _ read.files read.opens c.in_err-summary.ensures read.taken
+
+pub returns-clause-takes : goal.returns-clause-takes
+returns-clause-takes g c =
+    let read = c.in_ok-front.ensures in
+    takes_filed _ c.args.path.now _ (shelf_at g.S.Shelf c.args.shelf.now) (shelf_at g.S.Shelf c.at.new.shelf)
+    (shelf_at g.S.Shelf c.link_counted.new.shelf) c.in_ok-front.front _ _ _ _ read.files read.opens c.in_ok-summary.ensures read.taken

@@ -17,7 +17,7 @@ returns g c b file =
     let front = c.args.front.now in
     let entries = c.in_ok-entries.entries in
     let took = rw c.as_index.ensures at c.in_ok-entries.ensures in
-    let sizes = sizes_are front b file entries took.sound in
+    let sizes = sizes_are front.length b file.length_is entries took.within in
     let text = ap (flat_map sized_line) (ap (map sized) (sym (took.taken b file)) ∙ sizes) in
     subst (λ t. PutsText t c.put_lines.result (sink_at g.O.Sink c.args.out.now) (sink_at g.O.Sink c.put_lines.new.out)) (sym text)
     (rw c.as_slice.ensures at c.put_lines.ensures)

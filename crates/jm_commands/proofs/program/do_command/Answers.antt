@@ -6,7 +6,10 @@ use Rattle.jm_commands.proofs.StepLaws.{put_comes}
 use Rattle.jm_commands.proofs.program.do_command.Goals as goal
 
 pub returns-in-Link-clause-comes : goal.returns-in-Link-clause-comes
-returns-in-Link-clause-comes g c = rw c.in-Link.is (c.link_command.ensures (source_at g.I.Source c.args.input.now))
+returns-in-Link-clause-comes g c = rw c.in-Link.is (c.link_command.ensures.comes (source_at g.I.Source c.args.input.now))
+
+pub returns-in-Link-clause-takes : goal.returns-in-Link-clause-takes
+returns-in-Link-clause-takes g c = rw c.in-Link.is c.link_command.ensures.takes
 
 pub returns-in-Info-clause-comes : goal.returns-in-Info-clause-comes
 returns-in-Info-clause-comes g c =

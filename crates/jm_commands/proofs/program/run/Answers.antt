@@ -2,7 +2,7 @@ use Rattle.std.proofs.Common.{Global, map, string_bytes}
 use Rattle.jm_words.specs.Rule.{command_in}
 use Rattle.jm_commands.specs.Outcome.{early_in}
 use Rattle.jm_commands.specs.Run.{WordsComeTo}
-use Rattle.jm_commands.proofs.FrontLaws.{words_take, words_take_nothing}
+use Rattle.jm_commands.proofs.TakenLaws.{words_take, words_take_nothing}
 use Rattle.jm_commands.proofs.RelinkedRun.{run_relinks}
 use Rattle.jm_commands.proofs.RunLaws.{comes_ended}
 use Rattle.jm_commands.proofs.ServedLaws.{run_serves}

@@ -4,7 +4,7 @@ use Rattle.std.proofs.lemmas.List.Sums.{sum_by-take-le}
 use Rattle.jm_outside.specs.Files.{Files}
 use Rattle.jm_outside.specs.Outcome.{Shows}
 use Rattle.jm_extract.specs.declared.taking.TakenEntry.{TakenEntry}
-use Rattle.jm_extract.specs.Filed.{IsFiled}
+use Rattle.jm_filed.specs.Filed.{IsAt}
 use Rattle.jm_extract.specs.Taken.{content_in}
 use Rattle.jm_extract.proofs.FiledLaws.{contents_next, sizes_next}
 use Rattle.jm_extract.proofs.contents.all_contents.Goals as goal
@@ -14,7 +14,7 @@ returns-in_err-read_content-clause-handed g c =
     let ts = c.args.entries.now in
     let i = c.loop-entry.entry-index in
     let next = sizes_next ts i c.entry-item.result c.loop-entry-test.true (sym c.entry-item.is) in
-    let most = sum_by-take-le (λ (t : TakenEntry). t.row.size) ts (i + 1) in
+    let most = sum_by-take-le (λ (t : TakenEntry). t.content.size) ts (i + 1) in
     omega (arith, next, most, c.loop-entry.invariant.handed, c.in_err-read_content.ensures.handed)
 
 pub returns-in_err-push-clause-handed : goal.returns-in_err-push-clause-handed
@@ -22,7 +22,7 @@ returns-in_err-push-clause-handed g c =
     let ts = c.args.entries.now in
     let i = c.loop-entry.entry-index in
     let next = sizes_next ts i c.entry-item.result c.loop-entry-test.true (sym c.entry-item.is) in
-    let most = sum_by-take-le (λ (t : TakenEntry). t.row.size) ts (i + 1) in
+    let most = sum_by-take-le (λ (t : TakenEntry). t.content.size) ts (i + 1) in
     omega (arith, next, most, c.loop-entry.invariant.handed, c.in_ok-read_content.ensures.handed)
 
 pub loop-entry-preserved : goal.loop-entry-preserved
@@ -39,9 +39,9 @@ loop-entry-preserved g c =
       count = read.faults.kept refl ∙ before.count;
       size = ap (λ (us : List (List ℕ)). length us) c.in_ok-push.ensures.ok ∙ length-append c.loop-entry.texts (c.read_content.new.text ∷ [])
           ∙ ap (λ n. n + 1) before.size;
-      contents = λ b filed. contents_next told b ts i t c.loop-entry.texts c.push.new.self c.read_content.new.text c.loop-entry-test.true
-          (sym c.entry-item.is) before.size (before.contents b filed) (subst (λ (o : Option Files). Shows o (λ (files : Files).
-          c.read_content.new.text ≡ content_in b t)) before.files (read.content b (subst (λ (o : Option Files). IsFiled c.args.image.index.now o
-          c.args.image.path.now b) (sym before.files) filed))) c.in_ok-push.ensures.ok;
+      contents = λ b at. contents_next told b ts i t c.loop-entry.texts c.push.new.self c.read_content.new.text c.loop-entry-test.true
+          (sym c.entry-item.is) before.size (before.contents b at) (subst (λ (o : Option Files). Shows o (λ (files : Files).
+          c.read_content.new.text ≡ content_in b t)) before.files
+          (read.content b (subst (λ (o : Option Files). IsAt o c.args.path.now b) (sym before.files) at))) c.in_ok-push.ensures.ok;
       handed = omega (arith, next, before.handed, read.handed);
     }

@@ -1,12 +1,10 @@
-use Rattle.std.proofs.Common.{◌∙◌, All, Ok, Option, ap, arith, map, refl, sym, subst}
+use Rattle.std.proofs.Common.{◌∙◌, Ok, Option, ap, arith, map, refl, sym, subst}
 use Rattle.std.proofs.lemmas.List.{length-map}
 use Rattle.jm_names.specs.ByName.{RisesByName}
-use Rattle.jm_reader.specs.Look.{SoundIn}
 use Rattle.jm_reader.proofs.IndexLaws.{file_begins, file_with}
 use Rattle.jm_texts.specs.declared.refusal.Refusal.{Refusal}
-use Rattle.jm_extract.specs.declared.taking.TakenEntry.{TakenEntry}
 use Rattle.jm_extract.specs.Extracted.{due_size, extracted}
-use Rattle.jm_extract.specs.Taken.{taken_as}
+use Rattle.jm_extract.specs.Taken.{LieWithin, taken_as}
 use Rattle.jm_extract.proofs.ExtractLaws.{broken_off, free_due, out_of_memory, refused_due}
 use Rattle.jm_extract.proofs.RefusalLaws.{rises_alone}
 use Rattle.jm_extract.proofs.SizeLaws.{sizes_taken}
@@ -46,8 +44,6 @@ make_files-requires g c =
       path = c.requires.path;
       text = c.requires.text;
       names = c.in_ok-refusal.ensures.sound (ap (λ (o : Option Refusal). Ok o) c.in_default.is);
-      rows = subst (All (λ (t : TakenEntry). SoundIn c.args.image.index.now t.row)) (sym c.as_slice-entries.ensures)
-          c.in_ok-taken.ensures.sound;
     }
 
 pub returns-in_err-make_files-clause-extracts : goal.returns-in_err-make_files-clause-extracts
@@ -58,7 +54,7 @@ returns-in_err-make_files-clause-extracts g c b filed =
     ∙ c.in_ok-taken.ensures.taken b filed.0) is in
     broken_off (extracted b c.args.work.include.now) (map (taken_as b) entries) c.args.work.dir.now
     c.from_residual-in_err-make_files.result c.in_err-make_files.field-0.0 (g.S.Shelf.files c.args.shelf.now)
-    (g.S.Shelf.files c.make_files.new.shelf) due c.from_residual-in_err-make_files.ensures.1 (c.in_err-make_files.ensures.makes b filed)
+    (g.S.Shelf.files c.make_files.new.shelf) due c.from_residual-in_err-make_files.ensures.1 (c.in_err-make_files.ensures.makes b filed.1)
 
 pub returns-in_err-make_files-clause-takes : goal.returns-in_err-make_files-clause-takes
 returns-in_err-make_files-clause-takes g c b file =
@@ -66,9 +62,8 @@ returns-in_err-make_files-clause-takes g c b file =
     let is = rw c.in_default.is at (c.in_ok-refusal.ensures.refusal b) in
     let due = free_due (map (taken_as b) entries) _ (ap (map (taken_as b)) c.as_slice-entries.ensures
     ∙ c.in_ok-taken.ensures.taken b file) is in
-    let sound = subst (All (λ (t : TakenEntry). SoundIn c.args.image.index.now t.row)) (sym c.as_slice-entries.ensures)
-    c.in_ok-taken.ensures.sound in
-    let size = ap due_size due ∙ sizes_taken c.args.image.index.now b entries file sound in
+    let within = subst (LieWithin c.args.image.index.now.length) (sym c.as_slice-entries.ensures) c.in_ok-taken.ensures.within in
+    let size = ap due_size due ∙ sizes_taken c.args.image.index.now.length b entries file.length_is within in
     omega (arith, size, c.in_err-make_files.ensures.handed)
 
 pub returns-clause-extracts : goal.returns-clause-extracts
@@ -79,7 +74,7 @@ returns-clause-extracts g c b filed =
       free_due (map (taken_as b) entries) _ (ap (map (taken_as b)) c.as_slice-entries.ensures
           ∙ c.in_ok-taken.ensures.taken b filed.0) is,
       sym (length-map entries (taken_as b)),
-      c.in_ok-make_files.ensures.makes b filed,
+      c.in_ok-make_files.ensures.makes b filed.1,
     )
 
 pub returns-clause-takes : goal.returns-clause-takes
@@ -88,7 +83,6 @@ returns-clause-takes g c b file =
     let is = rw c.in_default.is at (c.in_ok-refusal.ensures.refusal b) in
     let due = free_due (map (taken_as b) entries) _ (ap (map (taken_as b)) c.as_slice-entries.ensures
     ∙ c.in_ok-taken.ensures.taken b file) is in
-    let sound = subst (All (λ (t : TakenEntry). SoundIn c.args.image.index.now t.row)) (sym c.as_slice-entries.ensures)
-    c.in_ok-taken.ensures.sound in
-    let size = ap due_size due ∙ sizes_taken c.args.image.index.now b entries file sound in
+    let within = subst (LieWithin c.args.image.index.now.length) (sym c.as_slice-entries.ensures) c.in_ok-taken.ensures.within in
+    let size = ap due_size due ∙ sizes_taken c.args.image.index.now.length b entries file.length_is within in
     omega (arith, size, c.in_ok-make_files.ensures.handed)

@@ -11,7 +11,7 @@ use Rattle.jm_extract.proofs.FiledLaws.{drop_less, has_content, kept_of, makes_a
 use Rattle.jm_extract.proofs.extracting.make_files.Goals as goal
 
 pub returns-in_err-contents-clause-makes : goal.returns-in_err-contents-clause-makes
-returns-in_err-contents-clause-makes g c b filed =
+returns-in_err-contents-clause-makes g c b at =
     let told = g.S.Shelf.files c.args.shelf.now in
     let writes = writes_of c.args.dir.now (map (taken_as b) c.args.entries.now) in
     makes_part _ c.from_residual.result writes told (g.S.Shelf.files c.kept_contents.new.shelf) c.from_residual.ensures.1
@@ -25,13 +25,13 @@ loop-place-init g c =
     let kept = subst (λ (us : List (List ℕ)). g.S.Shelf.handed c.kept_contents.new.shelf ≤ g.S.Shelf.handed c.args.shelf.now
     + sizes (take (length us) c.args.entries.now)) (sym c.as_slice-kept.ensures) c.in_ok-contents.ensures.kept in
     record {
-      made = λ b filed. subst (λ (o : Option Files). MadeAll [] told o) (sym c.kept_contents.ensures.files) (made_none told);
+      made = λ b at. subst (λ (o : Option Files). MadeAll [] told o) (sym c.kept_contents.ensures.files) (made_none told);
       count = c.in_ok-contents.ensures.faults.kept refl;
       handed = omega (arith, kept, none);
     }
 
 pub returns-in_err-make_entry-clause-makes : goal.returns-in_err-make_entry-clause-makes
-returns-in_err-make_entry-clause-makes g c b filed =
+returns-in_err-make_entry-clause-makes g c b at =
     let told = g.S.Shelf.files c.args.shelf.now in
     let now = g.S.Shelf.files c.loop-place.shelf in
     let new = g.S.Shelf.files c.make_entry.new.shelf in
@@ -41,14 +41,14 @@ returns-in_err-make_entry-clause-makes g c b filed =
     let t = c.index-entries-place.result in
     let is = sym c.index-entries-place.is in
     let texts = c.as_slice-kept.result.now in
-    let contents = subst (AreContents told b ts) (sym c.as_slice-kept.ensures) (c.in_ok-contents.ensures.contents b filed) in
+    let contents = subst (AreContents told b ts) (sym c.as_slice-kept.ensures) (c.in_ok-contents.ensures.contents b at) in
     let enough = rw (sym c.as_slice-kept.ensures) at c.in_ok-contents.ensures.enough in
-    let made = c.loop-place.invariant.made b filed in
-    let has = has_content told now c.args.image.path.now dir b ts texts i t (option_map (λ x. x.now) c.get.result) c.loop-place-test.true is
-    filed.1 contents enough made (kept_of texts i c.get.result c.get.ensures.lookup) in
+    let made = c.loop-place.invariant.made b at in
+    let has = has_content told now c.args.path.now dir b ts texts i t (option_map (λ x. x.now) c.get.result) c.loop-place-test.true is
+    at contents enough made (kept_of texts i c.get.result c.get.ensures.lookup) in
     makes_part _ c.from_residual-in_err-make_entry.result (writes_of dir (map (taken_as b) ts)) told new
     c.from_residual-in_err-make_entry.ensures.1
-    (part_next b dir ts i t told now new c.loop-place-test.true is made (c.in_err-make_entry.ensures.makes b filed.0 has))
+    (part_next b dir ts i t told now new c.loop-place-test.true is made (c.in_err-make_entry.ensures.makes b has))
 
 pub returns-in_err-make_entry-clause-handed : goal.returns-in_err-make_entry-clause-handed
 returns-in_err-make_entry-clause-handed g c =
@@ -76,23 +76,23 @@ loop-place-preserved g c =
     let enough = rw (sym c.as_slice-kept.ensures) at c.in_ok-contents.ensures.enough in
     let next = unkept_next ts texts i t c.get.result c.loop-place-test.true is c.get.ensures.lookup in
     record {
-      made = λ b filed. made_next b dir ts i t told now new c.loop-place-test.true is (before.made b filed)
-          (c.in_ok-make_entry.ensures.makes b filed.0 (has_content told now c.args.image.path.now dir b ts texts i t
-          (option_map (λ x. x.now) c.get.result) c.loop-place-test.true is filed.1 (subst (AreContents told b ts) (sym c.as_slice-kept.ensures)
-          (c.in_ok-contents.ensures.contents b filed)) enough (before.made b filed) (kept_of texts i c.get.result c.get.ensures.lookup)));
+      made = λ b at. made_next b dir ts i t told now new c.loop-place-test.true is (before.made b at)
+          (c.in_ok-make_entry.ensures.makes b (has_content told now c.args.path.now dir b ts texts i t
+          (option_map (λ x. x.now) c.get.result) c.loop-place-test.true is at (subst (AreContents told b ts) (sym c.as_slice-kept.ensures)
+          (c.in_ok-contents.ensures.contents b at)) enough (before.made b at) (kept_of texts i c.get.result c.get.ensures.lookup)));
       count = c.in_ok-make_entry.ensures.faults.kept refl ∙ before.count;
       handed = omega (arith, next, before.handed, c.in_ok-make_entry.ensures.handed);
     }
 
 pub returns-clause-makes : goal.returns-clause-makes
-returns-clause-makes g c b filed =
+returns-clause-makes g c b at =
     let told = g.S.Shelf.files c.args.shelf.now in
     let dir = c.args.dir.now in
     let ts = c.args.entries.now in
     let all = ap (λ us. writes_of dir (map (taken_as b) us)) (take_all c.loop-place.place ts c.loop-place-test.false) in
     makes_all c.finish.result (writes_of dir (map (taken_as b) ts)) told (g.S.Shelf.files c.finish.new.self)
     (c.finish.ensures.files ∙ subst (λ (ws : Writes). MadeAll ws told (g.S.Shelf.files c.loop-place.shelf)) all
-    (c.loop-place.invariant.made b filed))
+    (c.loop-place.invariant.made b at))
 
 pub returns-clause-handed : goal.returns-clause-handed
 returns-clause-handed g c =

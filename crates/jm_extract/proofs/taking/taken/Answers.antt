@@ -1,4 +1,4 @@
-use Rattle.std.proofs.Common.{◌++◌, ◌∙◌, ℕ, All, IsPermutation, List, ap, arith, map, of_calls, refl, rules, subst, sym}
+use Rattle.std.proofs.Common.{◌++◌, ◌∙◌, ℕ, IsPermutation, List, ap, arith, map, of_calls, refl, rules, subst, sym}
 use Rattle.std.proofs.lemmas.List.Elements.{All-nil}
 use Rattle.std.proofs.lemmas.List.Sorted.{All-permutation}
 use Rattle.jm_extract.specs.declared.taking.TakenEntry.{TakenEntry}
@@ -8,7 +8,8 @@ use Rattle.jm_reader.specs.Look.{SoundIn}
 use Rattle.jm_reader.specs.Walk.{entries_of}
 use Rattle.jm_reader.proofs.IndexLaws.{relisted}
 use Rattle.jm_reader.proofs.WalkLaws.{later_further}
-use Rattle.jm_extract.specs.Taken.{taken_among, taken_as}
+use Rattle.jm_filed.specs.Filed.{IsWithin}
+use Rattle.jm_extract.specs.Taken.{LieWithin, taken_among, taken_as}
 use Rattle.jm_extract.proofs.TakingLaws.{taken_all, taken_rises, taken_sorted, taken_step}
 use Rattle.jm_extract.proofs.taking.taken.Goals as goal
 
@@ -24,9 +25,16 @@ loop-entry-init g c =
       reads = record { bytes = refl; count = omega arith };
       taken = λ b file. ap (taken_among include) (sym (ap (map (entry_listed b)) (from.rest b file) ∙ relisted b))
           ∙ ap (λ ts. map (taken_as b) ts ++ taken_among include (map (entry_listed b) rest)) (sym c.new-by_slot.ensures);
-      sound = subst (All (λ t. SoundIn c.args.index.now t.row)) (sym c.new-by_slot.ensures) (All-nil (λ (t : TakenEntry).
-          SoundIn c.args.index.now t.row));
+      within = subst (LieWithin c.args.index.now.length) (sym c.new-by_slot.ensures)
+          (All-nil (λ (t : TakenEntry). IsWithin c.args.index.now.length t.content));
     }
+
+pub take_entry-requires : goal.take_entry-requires
+take_entry-requires g c =
+    let before = c.loop-entry.invariant in
+    let entry = c.in-Some.entry in
+    subst (λ l. SoundIn (record { bytes = l; length = c.args.index.now.length }) entry.row) before.bytes
+    (subst (λ n. SoundIn (record { bytes = c.loop-entry.entries.bytes; length = n }) entry.row) before.length c.in-Some.ensures.sound)
 
 pub loop-entry-preserved : goal.loop-entry-preserved
 loop-entry-preserved g c =
@@ -34,10 +42,7 @@ loop-entry-preserved g c =
     let step = c.step.ensures in
     let put = c.in_ok-take_entry.ensures in
     let include = c.args.include.now in
-    let index = c.args.index.now in
     let entry = c.in-Some.entry in
-    let own = subst (λ l. SoundIn (record { bytes = l; length = index.length }) entry.row) before.bytes
-    (subst (λ n. SoundIn (record { bytes = c.loop-entry.entries.bytes; length = n }) entry.row) before.length c.in-Some.ensures.sound) in
     record {
       bytes = step.bytes ∙ before.bytes;
       length = step.length ∙ before.length;
@@ -45,8 +50,8 @@ loop-entry-preserved g c =
       reads = later_further c.args.reads.now c.loop-entry.reads c.step.new.reads before.reads step.reads;
       taken = λ b file. taken_step include b (taken_among include (entries_of b)) (map (taken_as b) c.loop-entry.by_slot)
           (map (taken_as b) c.take_entry.new.list) c.loop-entry.entries.rest c.step.new.self.rest (handed entry) (before.taken b file)
-          c.in-Some.ensures.entry (put.taken b);
-      sound = put.sound index before.sound own;
+          c.in-Some.ensures.entry (put.taken b file);
+      within = put.within before.within;
     }
 
 pub returns : goal.returns
@@ -62,7 +67,7 @@ returns g c =
           (c.loop-entry.invariant.taken b file) (rw c.in_default.is at c.step.ensures.end)) moved (up b));
       rises = λ b file. rw c.from_vec.ensures (taken_rises include b by_slot sorted (taken_all include b _ _ _
           (c.loop-entry.invariant.taken b file) (rw c.in_default.is at c.step.ensures.end)) moved (up b));
-      sound = rw c.from_vec.ensures (All-permutation (λ (t : TakenEntry). SoundIn c.args.index.now t.row) by_slot sorted moved
-          c.loop-entry.invariant.sound);
+      within = rw c.from_vec.ensures (All-permutation (λ (t : TakenEntry). IsWithin c.args.index.now.length t.content)
+          by_slot sorted moved c.loop-entry.invariant.within);
       reads = later_further c.args.reads.now c.loop-entry.reads c.step.new.reads c.loop-entry.invariant.reads c.step.ensures.reads;
     }

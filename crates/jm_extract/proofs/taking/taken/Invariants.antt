@@ -1,9 +1,8 @@
-use Rattle.std.proofs.Common.{◌≡◌, ◌++◌, ℕ, List, All, length, map}
+use Rattle.std.proofs.Common.{◌≡◌, ◌++◌, ℕ, List, length, map}
 use Rattle.jm_form.specs.Head.{IsFileOf}
 use Rattle.jm_reader.specs.Listing.{entry_listed}
-use Rattle.jm_reader.specs.Look.{SoundIn}
 use Rattle.jm_reader.specs.Walk.{entries_of, IsLater}
-use Rattle.jm_extract.specs.Taken.{taken_among, taken_as}
+use Rattle.jm_extract.specs.Taken.{LieWithin, taken_among, taken_as}
 use Rattle.jm_extract.proofs.taking.taken.Given as goal
 
 abbrev pub invariant-loop-entry : goal.invariant-loop-entry
@@ -14,7 +13,7 @@ invariant-loop-entry g l = record {
   reads : IsLater l.fn.reads l.reads;
   taken : (b : List ℕ) → IsFileOf l.index.bytes l.index.length b → taken_among l.include (entries_of b) ≡ map (taken_as b) l.by_slot
       ++ taken_among l.include (map (entry_listed b) l.entries.rest);
-  sound : All (λ t. SoundIn l.index t.row) l.by_slot;
+  within : LieWithin l.index.length l.by_slot;
 }
 
 abbrev pub decreases-loop-entry : goal.decreases-loop-entry

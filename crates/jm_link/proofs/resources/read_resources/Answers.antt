@@ -10,7 +10,8 @@ read_resource-requires-clause-text g c =
 
 pub read_resource-requires-clause-new : goal.read_resource-requires-clause-new
 read_resource-requires-clause-new g c =
-    name_is_new c.args.files c.loop-file.yielded c.in-Some.file c.next.new.self.rest.items c.loop-file.pool c.requires.differ
+    name_is_new (λ (f : ResourceFile). f.name) c.args.files c.loop-file.yielded c.in-Some.file c.next.new.self.rest.items
+    c.loop-file.pool c.requires.differ
     (ap (λ rest. c.loop-file.yielded ++ rest) (sym c.in-Some.ensures.steps.0) ∙ c.loop-file.invariant.all) c.loop-file.invariant.names
 
 pub loop-file-preserved : goal.loop-file-preserved

@@ -1,18 +1,21 @@
-use Rattle.std.proofs.Common.{map}
-use Rattle.jm_relink.specs.Files.{located_as}
-use Rattle.jm_relink.proofs.AskedLaws.{found_are}
-use Rattle.jm_relink.proofs.ModuleLaws.{are_sorted, found_modules}
+use Rattle.std.proofs.Common.{length}
+use Rattle.jm_reader.proofs.IndexLaws.{own_file}
+use Rattle.jm_reader.proofs.WalkLaws.{later_further}
+use Rattle.jm_relink.proofs.AskedLaws.{found_stand}
 use Rattle.jm_relink.proofs.modules.modules_for.Goals as goal
 
 pub returns : goal.returns
 returns g c =
-    let release = c.args.release in
     let b = c.args.image.now in
-    let fs = map located_as c.in_ok-files.files in
-    let sorted = are_sorted b fs c.in_ok-files.ensures.moved c.in_ok-files.ensures.sorted in
-    let modules = found_modules release b fs c.modules_among.result sorted c.modules_among.ensures in
+    let entries = c.in_ok-entries in
+    let infos = c.in_ok-infos in
+    let are = entries.ensures.entries b (own_file c.index.result b c.index.ensures.bytes c.index.ensures.length) in
+    let found = c.modules_with.ensures.modules b are (rw c.as_slice.ensures at infos.ensures.infos) in
+    let inside = c.modules_with.ensures.within (length b) (rw c.index.ensures.length at entries.ensures.within) in
     record {
-      modules = modules;
-      are = found_are release b c.modules_among.result modules;
-      reads = c.in_ok-files.ensures.reads;
+      modules = found.modules;
+      are = found.are;
+      stand = found_stand c.args.release b c.modules_with.result found.modules inside;
+      reads = later_further c.args.reads.now c.module_entries.new.reads c.infos_in.new.reads entries.ensures.reads
+          infos.ensures.reads;
     }
