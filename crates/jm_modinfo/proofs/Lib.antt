@@ -3,6 +3,7 @@ pub mod DescriptionLaws
 pub mod InfoFaultLaws
 pub mod InfoLaws
 pub mod LayoutLaws
+pub mod SaysLaws
 pub mod Stops
 mod Vectors
 pub mod WrittenLaws
