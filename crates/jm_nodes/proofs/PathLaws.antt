@@ -1,37 +1,16 @@
 -- Names of packages, compared by the paths of folders.
-use Rattle.std.proofs.Common.{◌≡◌, ℕ, ◌-◌, ◌≤◌, ◌⊎◌, inl, inr, min, List, [], ◌∷◌, ◌++◌, length, take}
-use Rattle.std.proofs.Common.{drop, refl, sym, ap, ◌∙◌, arith}
+use Rattle.std.proofs.Common.{◌≡◌, ℕ, ◌-◌, ◌≤◌, ◌⊎◌, inl, inr, min, List, [], ◌∷◌, length, drop}
+use Rattle.std.proofs.Common.{refl, ◌∙◌, arith}
 use Rattle.std.proofs.lemmas.Bool.{cases_lt}
 use Rattle.std.proofs.lemmas.Bool.Decides.{nat_tests}
-use Rattle.std.proofs.lemmas.List.{length-drop, length-map, map-append, take-append-drop}
+use Rattle.std.proofs.lemmas.List.{length-drop, length-map}
 use Rattle.std.specs.Cmp.Lexicographic.{slice_cmp}
-use Rattle.std.specs.Ordering.{nat_cmp, ordering_then}
+use Rattle.std.specs.Ordering.{nat_cmp}
 use Rattle.std.specs.Prelude.{if◌then◌else◌}
-use Rattle.std.specs.declared.cmp.Ordering.TheVariants.{Equal}
 use Rattle.jm_names.specs.Names.{dotted, is_slash}
 
 abbrev dot : ℕ → ℕ
 dot b = if is_slash b then 46 else b
-
-cmp_byte : (x : ℕ) → nat_cmp x x ≡ Equal
-cmp_byte x = grind (arith, nat_tests)
-
--- what two texts both begin with changes nothing
-same_front : (front xs ys : List ℕ) → slice_cmp nat_cmp (front ++ xs) (front ++ ys) ≡ slice_cmp nat_cmp xs ys
-same_front [] xs ys = refl
-same_front (x ∷ front) xs ys =
-    ap (λ o. ordering_then o (slice_cmp nat_cmp (front ++ xs) (front ++ ys))) (cmp_byte x) ∙ same_front front xs ys
-
-pub after_front : (xs ys : List ℕ) (n : ℕ) {front rest other_front other_rest : List ℕ} → front ≡ take n xs → rest ≡ drop n xs
-    → other_front ≡ take n ys → other_rest ≡ drop n ys → dotted front ≡ dotted other_front
-    → slice_cmp nat_cmp (dotted xs) (dotted ys) ≡ slice_cmp nat_cmp (dotted rest) (dotted other_rest)
-after_front xs ys n {front} {rest} {other_front} {other_rest} front_is rest_is other_front_is other_rest_is same =
-    let whole : front ++ rest ≡ xs = (λ i. front_is i ++ rest_is i) ∙ take-append-drop n xs in
-    let other_whole : other_front ++ other_rest ≡ ys = (λ i. other_front_is i ++ other_rest_is i) ∙ take-append-drop n ys in
-    (λ i. slice_cmp nat_cmp (dotted (sym whole i)) (dotted (sym other_whole i)))
-    ∙ (λ i. slice_cmp nat_cmp (map-append dot front rest i) (map-append dot other_front other_rest i))
-    ∙ ap (λ f. slice_cmp nat_cmp (dotted front ++ dotted rest) (f ++ dotted other_rest)) (sym same)
-    ∙ same_front (dotted front) (dotted rest) (dotted other_rest)
 
 -- where one text is at its end, the lengths decide
 at_end : (xs ys : List ℕ) → (length xs ≡ 0) ⊎ (length ys ≡ 0) → slice_cmp nat_cmp xs ys ≡ nat_cmp (length xs) (length ys)

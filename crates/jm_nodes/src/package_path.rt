@@ -1,5 +1,5 @@
 //! Packages by the paths of their folders.
-ghost use Rattle.std.specs.Prelude.{◌≡◌, IsTrue, length, if◌then◌else◌};
+ghost use Rattle.std.specs.Prelude.{◌≡◌, if◌then◌else◌};
 ghost use Rattle.std.specs.Cmp.Lexicographic.{slice_cmp};
 ghost use Rattle.std.specs.Ordering.{nat_cmp};
 ghost use Rattle.jm_names.specs.Names.{dotted, is_slash};
@@ -13,9 +13,6 @@ pub struct PackagePath<'a> {
     pub path: &'a [u8],
 }
 
-/// How many bytes are compared at one time.
-const BLOCK: usize = 32;
-
 /// A byte of a path as it stands in the package's name.
 fn dotted_byte(byte: u8) -> u8
     ensures { result ≡ (if is_slash byte then 46 else byte) }
@@ -23,49 +20,17 @@ fn dotted_byte(byte: u8) -> u8
     if byte == b'/' { b'.' } else { byte }
 }
 
-/// Whether two blocks are the same in names of packages. It goes through to their end, so that the
-/// processor compares many bytes at a time.
-fn same_block(block: &[u8], other: &[u8]) -> bool
-    requires { length block.now ≡ length other.now }
-    ensures { IsTrue result → dotted block.now ≡ dotted other.now }
-{
-    let mut same = true;
-    for at in 0..block.len() {
-        same &= dotted_byte(block[at]) == dotted_byte(other[at]);
-    }
-    same
-}
-
-/// What follows the blocks that two paths both begin with.
-fn after_same_blocks<'a, 'b>(path: &'a [u8], other: &'b [u8]) -> (&'a [u8], &'b [u8])
-    ensures { slice_cmp nat_cmp (dotted path.now) (dotted other.now)
-        ≡ slice_cmp nat_cmp (dotted result.0.now) (dotted result.1.now) }
-{
-    let (mut rest, mut other_rest) = (path, other);
-    while rest.len() >= BLOCK && other_rest.len() >= BLOCK {
-        let (block, behind) = rest.split_at(BLOCK);
-        let (other_block, other_behind) = other_rest.split_at(BLOCK);
-        if !same_block(block, other_block) {
-            break;
-        }
-        rest = behind;
-        other_rest = other_behind;
-    }
-    (rest, other_rest)
-}
-
 /// How the packages of two paths stand to one another in byte order.
 fn order(path: &[u8], other: &[u8]) -> Ordering
     ensures { result ≡ slice_cmp nat_cmp (dotted path.now) (dotted other.now) }
 {
-    let (rest, other_rest) = after_same_blocks(path, other);
-    for at in 0..rest.len().min(other_rest.len()) {
-        let found = dotted_byte(rest[at]).cmp(&dotted_byte(other_rest[at]));
+    for at in 0..path.len().min(other.len()) {
+        let found = dotted_byte(path[at]).cmp(&dotted_byte(other[at]));
         if found.is_ne() {
             return found;
         }
     }
-    rest.len().cmp(&other_rest.len())
+    path.len().cmp(&other.len())
 }
 
 impl<'a> PartialEq for PackagePath<'a> {

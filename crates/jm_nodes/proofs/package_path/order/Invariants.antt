@@ -7,4 +7,4 @@ use Rattle.jm_nodes.proofs.package_path.order.Given as goal
 abbrev pub invariant-loop-at : goal.invariant-loop-at
 invariant-loop-at l =
     slice_cmp nat_cmp (dotted l.path) (dotted l.other)
-    ≡ slice_cmp nat_cmp (dotted (drop l.at l.rest)) (dotted (drop l.at l.other_rest))
+    ≡ slice_cmp nat_cmp (dotted (drop l.at l.path)) (dotted (drop l.at l.other))
