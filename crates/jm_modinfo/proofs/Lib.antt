@@ -2,6 +2,7 @@ pub mod BodiesLaws
 pub mod DescriptionLaws
 pub mod InfoFaultLaws
 pub mod InfoLaws
+pub mod KeptLaws
 pub mod LayoutLaws
 pub mod SaysLaws
 pub mod Stops
