@@ -36,7 +36,7 @@ info_faulty (Ok d) fault is = cc
 info_faulty (Err other) fault is = cc
 
 -- a descriptor or its fault, as that of a file
-abbrev of_class : Result Descriptor InfoFault → Result Descriptor DescriptorFault
+abbrev pub of_class : Result Descriptor InfoFault → Result Descriptor DescriptorFault
 of_class (Ok d) = Ok d
 of_class (Err fault) = Err (kind.Info fault)
 

@@ -4,12 +4,12 @@ use Rattle.std.proofs.Common.{◌≡◌, ◌≢◌, ℕ, ◌^◌, ◌<◌, ◌�
 use Rattle.std.proofs.Common.{None, Result, Ok, Err, refl, sym, ap, ◌∙◌, subst}
 use Rattle.std.proofs.lemmas.Bool.{ne_eqb, le-ltb}
 use Rattle.std.proofs.lemmas.Nat.{from_be_bytes-to_be_bytes_2}
-use Rattle.std.specs.Prelude.{not, is_some, bit_and, nat_lt, option_and_then, if◌then◌else◌, IfOk, OnOk, IfNone}
+use Rattle.std.specs.Prelude.{not, bit_and, nat_lt, option_and_then, if◌then◌else◌, IfOk, OnOk}
 use Rattle.jm_bytes.proofs.Choice.{same_ok, same_some}
 use Rattle.jm_bytes.specs.Checks.{fault_if, first_fault}
 use Rattle.jm_class.specs.Classes.{SlotData, ClassData, u2}
 use Rattle.jm_modinfo.proofs.LayoutLaws.{Gives, gives_any, says-whole, whole-gives}
-use Rattle.jm_modinfo.specs.ComputedInfo.{body_info, only_body, main_named, main_of, with_body, info_of}
+use Rattle.jm_modinfo.specs.ComputedInfo.{body_info, only_body, main_named, main_of, with_body, with_info, info_of}
 use Rattle.jm_modinfo.specs.Constants.{number_in, named_at, is_legal}
 use Rattle.jm_modinfo.specs.declared.constants.Kind.TheVariants.{Class, Module}
 use Rattle.jm_modinfo.specs.declared.descriptor.Descriptor.{Descriptor}
@@ -17,7 +17,7 @@ use Rattle.jm_modinfo.specs.declared.faults.InfoFault.{InfoFault}
 use Rattle.jm_modinfo.specs.declared.faults.InfoFault.TheVariants.{NotModule, OldVersion}
 use Rattle.jm_bytes.specs.declared.faults.Or.{Or}
 use Rattle.jm_bytes.specs.declared.faults.Or.TheVariants.{Fault, Memory}
-use Rattle.jm_modinfo.specs.Descriptors.{IsIndex, IsModuleBody, IsMain, module_bodies, main_bodies, InfoOf}
+use Rattle.jm_modinfo.specs.Descriptors.{IsModuleBody, IsMain, module_bodies, main_bodies, InfoOf}
 use Rattle.jm_modinfo.specs.Faults.{fault_of, body_fault, info_fault}
 use Rattle.jm_modinfo.specs.Flags.{is_module}
 use Rattle.jm_modinfo.specs.Layouts.{Layout, listed, Says}
@@ -95,18 +95,10 @@ parts-info c d main body access major only says is = record {
   main = is;
 }
 
--- the attribute of the one main class
-pub main-found : (pool : List SlotData) (all behind : List (List ℕ)) (body text : List ℕ) → all ≡ body ∷ behind → behind ≡ []
-    → Some text ≡ option_and_then (named_at pool Class) (number_in body) → main_of pool all ≡ Ok (Some text)
-main-found pool all behind body text is none found = rw (is, none, sym found) refl
-
-pub main-said : (pool : List SlotData) (all behind : List (List ℕ)) (body text : List ℕ) → all ≡ body ∷ behind → behind ≡ []
-    → IsIndex (named_at pool Class) text body → IsMain pool all (Some text)
-main-said pool all behind body text is none says = rw (is, none) (text, refl, says)
-
-pub none_there : {A : Type 0} {P : Type 0} (found : Option A) → is_some found ≡ false → IfNone found P → P
-none_there None e holds = holds
-none_there (Some a) e holds = cc
+-- the descriptor of a class with one body is that of the body, with the main class
+pub info_with : (c : ClassData) (body : List ℕ) → bit_and c.access 0x8000 ≢ 0 → 53 ≤ c.major → only_body (module_bodies c) ≡ Ok body
+    → info_of c ≡ with_info (body_info c.pool body) (main_of c.pool (main_bodies c))
+info_with c body access major only = rw (flagged c.access access, le-ltb c.major 53 major, only) refl
 
 -- From the rule to the computed form
 

@@ -2,7 +2,9 @@ pub mod BodiesLaws
 pub mod DescriptionLaws
 pub mod InfoFaultLaws
 pub mod InfoLaws
+pub mod KeptLaws
 pub mod LayoutLaws
+pub mod SaysLaws
 pub mod Stops
 mod Vectors
 pub mod WrittenLaws

@@ -1,10 +1,10 @@
 -- The constants that a descriptor names, and their texts (JVMS 4.4, 4.7.25). Which names of modules
 -- are legal is this project's rule.
-use Rattle.std.specs.Prelude.{ℕ, nat_le, ◌==◌, Bool, true, not, ◌&&◌, ◌||◌, List, length, Option}
+use Rattle.std.specs.Prelude.{◌≡◌, ℕ, nat_le, ◌==◌, Bool, true, not, ◌&&◌, ◌||◌, List, length, Option}
 use Rattle.std.specs.Prelude.{Some, None, option_map, option_and_then, if◌then◌else◌}
 use Rattle.std.specs.Int.{w16, from_be_bytes}
-use Rattle.std.specs.List.{list_all}
-use Rattle.jm_class.specs.Classes.{SlotData, Constant, Hole, slot_at, utf8_at}
+use Rattle.std.specs.List.{list_all, AllZip}
+use Rattle.jm_class.specs.Classes.{SlotData, Constant, Hole, slot_at, utf8_of, utf8_at}
 use Rattle.jm_modinfo.specs.declared.constants.Kind.{Kind}
 use Rattle.jm_modinfo.specs.declared.constants.Kind.TheVariants.{Class, Module, Package}
 
@@ -47,3 +47,12 @@ abbrev pub is_allowed : Kind → List ℕ → Bool
 is_allowed Module text = is_legal text
 is_allowed Class text = true
 is_allowed Package text = true
+
+-- what is kept for a constant is its text, if anything is kept
+abbrev pub IsKept : SlotData → Option (List ℕ) → Type 0
+IsKept slot (Some text) = utf8_of slot ≡ Some text
+IsKept slot None = Unit {0}
+
+-- what is kept is the texts of some of the constants, each at the place of its constant
+abbrev pub AreKept : List SlotData → List (Option (List ℕ)) → Type 0
+AreKept pool kept = AllZip IsKept pool kept

@@ -8,11 +8,12 @@ ghost use Rattle.jm_modinfo.specs.Descriptors.{bytes_named, bodies, module_bodie
 ghost use Rattle.jm_modinfo.specs.Descriptors.{IsIndex, IsMain};
 ghost use Rattle.jm_modinfo.specs.Views.{Answers};
 
-use crate::constants::{Kind, named, number_in};
+use crate::class_texts::ClassTexts;
+use crate::constants::{Kind, number_in};
 use crate::faults::InfoFault;
-use jm_bytes::{Or, Text};
+use crate::shared_text::SharedText;
+use jm_bytes::{NoMemory, Or};
 use jm_class::{Attribute, Body, Class, utf8};
-use std::alloc::Global;
 
 /// The bytes of an attribute, if it has this name.
 fn bytes_named<'a>(class: &Class<'a>, name: &[u8], attribute: &Attribute<'a>) -> Option<&'a [u8]>
@@ -63,31 +64,40 @@ pub fn module_body<'a>(class: &Class<'a>) -> Result<&'a [u8], Or<InfoFault>>
 }
 
 /// The class that the bytes of an attribute `ModuleMainClass` name.
-fn main_named<'a>(class: &Class<'a>, body: &[u8]) -> Option<&'a [u8]>
-    ensures found { option_map (λ text. text.now) result
-        ≡ option_and_then (named_at (plain class.now).pool kind.Class) (number_in body.now) }
-    ensures says { IfSome result (λ text.
-        IsIndex (named_at (plain class.now).pool kind.Class) text.now body.now) }
+fn main_named(texts: &mut ClassTexts, body: &[u8]) -> Result<Option<SharedText>, NoMemory>
+    ensures class { texts.new ≡ texts.old }
+    ensures found { IfOk result (λ text.
+        text ≡ option_and_then (named_at texts.old.pool kind.Class) (number_in body.now)) }
+    ensures says { IfOk result (λ text. IfSome text (λ text.
+        IsIndex (named_at texts.old.pool kind.Class) text body.now)) }
 {
-    named(class, Kind::Class, number_in(body)?)
+    let Some(index) = number_in(body) else {
+        return Ok(None);
+    };
+    match texts.named(Kind::Class, index)? {
+        Some(text) => Ok(Some(text.into_text())),
+        None => Ok(None),
+    }
 }
 
 /// The main class of a module, if it has one.
-pub fn main_class(alloc: Global, class: &Class) -> Result<Option<Text>, Or<InfoFault>>
+pub fn main_class(texts: &mut ClassTexts) -> Result<Option<SharedText>, Or<InfoFault>>
+    ensures class { texts.new ≡ texts.old }
     ensures main { Answers (λ main. main)
-        (main_of (plain class.now).pool (main_bodies (plain class.now))) result }
+        (main_of texts.old.pool (main_bodies texts.old)) result }
     ensures says { IfOk result (λ main.
-        IsMain (plain class.now).pool (main_bodies (plain class.now)) main) }
+        IsMain texts.old.pool (main_bodies texts.old) main) }
 {
     let name = b"ModuleMainClass".as_slice();
+    let class = texts.class();
     match first_named(class, name, class.attributes.as_slice()) {
         None => Ok(None),
         Some((body, behind)) => {
             if first_named(class, name, behind).is_some() {
                 return Err(Or::Fault(InfoFault::Main));
             }
-            match main_named(class, body) {
-                Some(text) => Ok(Some(Text::copy_of(alloc, text)?)),
+            match main_named(texts, body)? {
+                Some(text) => Ok(Some(text)),
                 None => Err(Or::Fault(InfoFault::Main)),
             }
         }

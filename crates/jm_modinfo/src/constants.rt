@@ -1,11 +1,12 @@
-ghost use Rattle.std.specs.Prelude.{◌≡◌, option_map, IfSome};
+ghost use Rattle.std.specs.Prelude.{◌≡◌, option_and_then, IfSome};
 ghost use Rattle.std.specs.List.{list_all};
+ghost use Rattle.jm_class.specs.Classes.{utf8_at};
 ghost use Rattle.jm_class.specs.Views.{plain};
 ghost use Rattle.jm_modinfo.specs.Descriptors.{IsNumber};
 ghost use Rattle.jm_modinfo.specs.Constants.{number_in, tag_of, named_at, is_legal_byte};
-ghost use Rattle.jm_modinfo.specs.Constants.{is_allowed};
+ghost use Rattle.jm_modinfo.specs.Constants.{is_legal};
 
-use jm_class::{Class, Slot, utf8};
+use jm_class::{Class, Slot};
 
 /// A kind of constant that stands for a text.
 #[derive(Clone, Copy)]
@@ -44,15 +45,16 @@ pub fn number_in(bytes: &[u8]) -> Option<u16>
     }
 }
 
-/// The text for which the constant of a number stands; none where it isn't of this kind.
-pub fn named<'a>(class: &Class<'a>, kind: Kind, index: u16) -> Option<&'a [u8]>
-    ensures { option_map (λ text. text.now) result ≡ named_at (plain class.now).pool kind index }
+/// The number of the Utf8 that the constant of a number holds; none where it isn't of this kind.
+pub fn utf8_number(class: &Class, kind: Kind, index: u16) -> Option<u16>
+    ensures { option_and_then (utf8_at (plain class.now).pool) result
+        ≡ named_at (plain class.now).pool kind index }
 {
     let place = usize::from(index).checked_sub(1)?;
     match class.pool.as_slice().get(place)? {
         Slot::Constant { tag, body } => {
             if *tag == kind.tag() {
-                utf8(class, number_in(body)?)
+                number_in(body)
             } else {
                 None
             }
@@ -75,13 +77,9 @@ fn has_legal_bytes(name: &[u8]) -> bool
     name.iter().all(|byte| is_legal_byte(*byte))
 }
 
-/// Whether a text may stand where a constant of a kind does. Which names are legal for a module is
-/// this project's rule.
-pub fn is_allowed(kind: Kind, text: &[u8]) -> bool
-    ensures { result ≡ is_allowed kind text.now }
+/// Whether a text is legal as the name of a module. Which names are is this project's rule.
+pub fn is_legal(name: &[u8]) -> bool
+    ensures { result ≡ is_legal name.now }
 {
-    match kind {
-        Kind::Module => !text.is_empty() && has_legal_bytes(text),
-        Kind::Class | Kind::Package => true,
-    }
+    !name.is_empty() && has_legal_bytes(name)
 }

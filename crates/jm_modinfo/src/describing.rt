@@ -13,6 +13,7 @@ ghost use Rattle.jm_modinfo.specs.Faults.{info_fault};
 ghost use Rattle.jm_modinfo.specs.Views.{Answers};
 
 use crate::attributes::{main_class, module_body};
+use crate::class_texts::ClassTexts;
 use crate::descriptor::Descriptor;
 use crate::faults::{DescriptorFault, InfoFault};
 use crate::fields::module;
@@ -21,12 +22,13 @@ use jm_class::{Class, Cursor, read_for};
 use std::alloc::Global;
 
 /// The fields of the Module attribute, and nothing behind them.
-fn whole_module(alloc: Global, class: &Class, body: &[u8]) -> Result<Descriptor, Or<InfoFault>>
-    ensures info { Answers (λ d. d) (body_info (plain class.now).pool body.now) result }
-    ensures says { IfOk result (λ d. IsModuleBody (plain class.now).pool d body.now) }
+fn whole_module(texts: &mut ClassTexts, body: &[u8]) -> Result<Descriptor, Or<InfoFault>>
+    ensures class { texts.new ≡ texts.old }
+    ensures info { Answers (λ d. d) (body_info texts.old.pool body.now) result }
+    ensures says { IfOk result (λ d. IsModuleBody texts.old.pool d body.now) }
 {
     let mut cursor = Cursor::new(body);
-    let descriptor = module(alloc, &mut cursor, class)?;
+    let descriptor = module(&mut cursor, texts)?;
     if cursor.len() != 0 {
         return Err(Or::Fault(InfoFault::Rest(cursor.place())));
     }
@@ -45,13 +47,15 @@ fn info(alloc: Global, class: &Class) -> Result<Descriptor, Or<InfoFault>>
         return Err(Or::Fault(InfoFault::OldVersion(class.major)));
     }
     let body = module_body(class)?;
-    let mut descriptor = whole_module(alloc, class, body)?;
-    descriptor.main = main_class(alloc, class)?;
+    let mut texts = ClassTexts::of(alloc, class)?;
+    let mut descriptor = whole_module(&mut texts, body)?;
+    descriptor.main = main_class(&mut texts)?;
     Ok(descriptor)
 }
 
 /// What the class of a module says. A fault is the first by JVMS 4.7.25 and the rules of this
-/// project.
+/// project. The descriptor takes the bytes of each constant that it names once, however many fields
+/// name it, and a few words for each field; time and memory are linear in the class.
 pub fn describe(alloc: Global, class: &Class) -> Result<Descriptor, Or<InfoFault>>
     requires { IsClass (plain class.now) }
     ensures info { IfOk result (λ d. InfoOf (plain class.now) d) }

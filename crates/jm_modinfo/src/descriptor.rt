@@ -1,15 +1,17 @@
 ghost use Rattle.std.specs.Prelude.{◌≡◌};
 ghost use Rattle.jm_modinfo.specs.Flags.{is_static};
 
-use jm_bytes::{List, Text};
+use crate::shared_text::SharedText;
+use jm_bytes::List;
 
-/// What a module's descriptor says. Names are the texts that its constants hold, in Modified UTF-8.
+/// What a module's descriptor says. Names are the texts that its constants hold, in Modified UTF-8;
+/// fields that name one constant share its text.
 #[derive(Debug, Drop)]
 pub struct Descriptor {
     /// The module's name.
-    pub name: Text,
+    pub name: SharedText,
     /// Its version, if it has one.
-    pub version: Option<Text>,
+    pub version: Option<SharedText>,
     /// Its flags: 0x0020 for an open module.
     pub flags: u16,
     /// The modules that it requires, in the order in which they stand.
@@ -19,22 +21,22 @@ pub struct Descriptor {
     /// The packages that it opens.
     pub opens: List<Opened>,
     /// The services that it uses.
-    pub uses: List<Text>,
+    pub uses: List<SharedText>,
     /// The services that it provides.
     pub provides: List<Provides>,
     /// Its main class, if it has one.
-    pub main: Option<Text>,
+    pub main: Option<SharedText>,
 }
 
 /// A module that another one requires.
 #[derive(Debug, Drop)]
 pub struct Need {
     /// The name of the module that is required.
-    pub name: Text,
+    pub name: SharedText,
     /// 0x0020 transitive, 0x0040 static, 0x1000 synthetic, 0x8000 mandated.
     pub flags: u16,
     /// The version that it was compiled with, if that is known.
-    pub version: Option<Text>,
+    pub version: Option<SharedText>,
 }
 
 impl Need {
@@ -50,18 +52,18 @@ impl Need {
 #[derive(Debug, Drop)]
 pub struct Opened {
     /// The package, with slashes between its parts.
-    pub package: Text,
+    pub package: SharedText,
     /// 0x1000 synthetic, 0x8000 mandated.
     pub flags: u16,
     /// The modules to which alone it is exported or opened; none for all.
-    pub to: List<Text>,
+    pub to: List<SharedText>,
 }
 
 /// A service that a module provides.
 #[derive(Debug, Drop)]
 pub struct Provides {
     /// The service, the name of a class with slashes between its parts.
-    pub service: Text,
+    pub service: SharedText,
     /// The classes that provide it.
-    pub classes: List<Text>,
+    pub classes: List<SharedText>,
 }

@@ -1,17 +1,19 @@
+ghost use Rattle.std.specs.Prelude.{◌≡◌};
 ghost use Rattle.std.specs.Int.{w16};
 ghost use Rattle.jm_class.specs.Readings.{number};
-ghost use Rattle.jm_class.specs.Views.{Gives, plain};
+ghost use Rattle.jm_class.specs.Views.{Gives};
 ghost use Rattle.jm_modinfo.specs.Layouts.{listed};
 ghost use Rattle.jm_modinfo.specs.ModuleLayout as layout;
 ghost use Rattle.jm_modinfo.specs.ModuleLayout.{read_by};
 ghost use Rattle.jm_modinfo.specs.declared.faults.InfoFault.TheVariants.{Short};
 
-use crate::constants::{Kind, is_allowed, named};
+use crate::class_texts::ClassTexts;
+use crate::constants::Kind;
 use crate::descriptor::{Descriptor, Need, Opened, Provides};
 use crate::faults::InfoFault;
-use jm_bytes::{List, Or, Text};
-use jm_class::{Class, Cursor, utf8};
-use std::alloc::Global;
+use crate::shared_text::SharedText;
+use jm_bytes::{List, Or};
+use jm_class::Cursor;
 
 /// A number of two bytes.
 fn number(cursor: &mut Cursor) -> Result<u16, Or<InfoFault>>
@@ -23,30 +25,31 @@ fn number(cursor: &mut Cursor) -> Result<u16, Or<InfoFault>>
 
 /// The index of a constant of a kind, as the text for which it stands.
 fn name(
-    alloc: Global,
     cursor: &mut Cursor,
-    class: &Class,
+    texts: &mut ClassTexts,
     kind: Kind,
-) -> Result<Text, Or<InfoFault>>
-    ensures { Gives (λ text. text) (read_by (plain class.now).pool (layout.named kind) cursor.old)
+) -> Result<SharedText, Or<InfoFault>>
+    ensures class { texts.new ≡ texts.old }
+    ensures text { Gives (λ text. text) (read_by texts.old.pool (layout.named kind) cursor.old)
         result cursor.new }
 {
     let at = cursor.place();
     let index = number(cursor)?;
-    match named(class, kind, index) {
+    match texts.named(kind, index)? {
         Some(text) => {
-            if !is_allowed(kind, text) {
+            if !text.is_allowed(kind) {
                 return Err(Or::Fault(InfoFault::Name(at)));
             }
-            Ok(Text::copy_of(alloc, text)?)
+            Ok(text.into_text())
         }
         None => Err(Or::Fault(InfoFault::Index(at))),
     }
 }
 
 /// The index of a version, or 0 for none.
-fn version(alloc: Global, cursor: &mut Cursor, class: &Class) -> Result<Option<Text>, Or<InfoFault>>
-    ensures { Gives (λ version. version) (read_by (plain class.now).pool layout.version cursor.old)
+fn version(cursor: &mut Cursor, texts: &mut ClassTexts) -> Result<Option<SharedText>, Or<InfoFault>>
+    ensures class { texts.new ≡ texts.old }
+    ensures version { Gives (λ version. version) (read_by texts.old.pool layout.version cursor.old)
         result cursor.new }
 {
     let at = cursor.place();
@@ -54,43 +57,44 @@ fn version(alloc: Global, cursor: &mut Cursor, class: &Class) -> Result<Option<T
     if index == 0 {
         return Ok(None);
     }
-    match utf8(class, index) {
-        Some(text) => Ok(Some(Text::copy_of(alloc, text)?)),
+    match texts.utf8(index)? {
+        Some(text) => Ok(Some(text.into_text())),
         None => Err(Or::Fault(InfoFault::Index(at))),
     }
 }
 
-/// A count, and so many constants of a kind.
+/// A count, and that many constants of a kind.
 fn names(
-    alloc: Global,
     cursor: &mut Cursor,
-    class: &Class,
+    texts: &mut ClassTexts,
     kind: Kind,
-) -> Result<List<Text>, Or<InfoFault>>
-    ensures { Gives (λ names. names) (read_by (plain class.now).pool (layout.names kind) cursor.old)
+) -> Result<List<SharedText>, Or<InfoFault>>
+    ensures class { texts.new ≡ texts.old }
+    ensures names { Gives (λ names. names) (read_by texts.old.pool (layout.names kind) cursor.old)
         result cursor.new }
 {
     let count = number(cursor)?;
-    let mut names = List::new(alloc);
+    let mut names = List::new(texts.allocator());
     for _k in 0..count {
-        let name = name(alloc, cursor, class, kind)?;
+        let name = name(cursor, texts, kind)?;
         names.push(name)?;
     }
     Ok(names)
 }
 
 /// The modules that are required.
-fn needs(alloc: Global, cursor: &mut Cursor, class: &Class) -> Result<List<Need>, Or<InfoFault>>
-    ensures { Gives (λ needs. needs)
-        (read_by (plain class.now).pool (listed layout.number layout.need) cursor.old)
+fn needs(cursor: &mut Cursor, texts: &mut ClassTexts) -> Result<List<Need>, Or<InfoFault>>
+    ensures class { texts.new ≡ texts.old }
+    ensures needs { Gives (λ needs. needs)
+        (read_by texts.old.pool (listed layout.number layout.need) cursor.old)
         result cursor.new }
 {
     let count = number(cursor)?;
-    let mut needs = List::new(alloc);
+    let mut needs = List::new(texts.allocator());
     for _k in 0..count {
-        let name = name(alloc, cursor, class, Kind::Module)?;
+        let name = name(cursor, texts, Kind::Module)?;
         let flags = number(cursor)?;
-        let version = version(alloc, cursor, class)?;
+        let version = version(cursor, texts)?;
         needs.push(Need {
             name,
             flags,
@@ -101,21 +105,18 @@ fn needs(alloc: Global, cursor: &mut Cursor, class: &Class) -> Result<List<Need>
 }
 
 /// The packages that are exported or opened.
-fn all_opened(
-    alloc: Global,
-    cursor: &mut Cursor,
-    class: &Class,
-) -> Result<List<Opened>, Or<InfoFault>>
-    ensures { Gives (λ all. all)
-        (read_by (plain class.now).pool (listed layout.number layout.opened) cursor.old)
+fn all_opened(cursor: &mut Cursor, texts: &mut ClassTexts) -> Result<List<Opened>, Or<InfoFault>>
+    ensures class { texts.new ≡ texts.old }
+    ensures all { Gives (λ all. all)
+        (read_by texts.old.pool (listed layout.number layout.opened) cursor.old)
         result cursor.new }
 {
     let count = number(cursor)?;
-    let mut all = List::new(alloc);
+    let mut all = List::new(texts.allocator());
     for _k in 0..count {
-        let package = name(alloc, cursor, class, Kind::Package)?;
+        let package = name(cursor, texts, Kind::Package)?;
         let flags = number(cursor)?;
-        let to = names(alloc, cursor, class, Kind::Module)?;
+        let to = names(cursor, texts, Kind::Module)?;
         all.push(Opened { package, flags, to })?;
     }
     Ok(all)
@@ -123,41 +124,38 @@ fn all_opened(
 
 /// The services that are provided.
 fn all_provides(
-    alloc: Global,
     cursor: &mut Cursor,
-    class: &Class,
+    texts: &mut ClassTexts,
 ) -> Result<List<Provides>, Or<InfoFault>>
-    ensures { Gives (λ all. all)
-        (read_by (plain class.now).pool (listed layout.number layout.provides) cursor.old)
+    ensures class { texts.new ≡ texts.old }
+    ensures all { Gives (λ all. all)
+        (read_by texts.old.pool (listed layout.number layout.provides) cursor.old)
         result cursor.new }
 {
     let count = number(cursor)?;
-    let mut all = List::new(alloc);
+    let mut all = List::new(texts.allocator());
     for _k in 0..count {
-        let service = name(alloc, cursor, class, Kind::Class)?;
-        let classes = names(alloc, cursor, class, Kind::Class)?;
+        let service = name(cursor, texts, Kind::Class)?;
+        let classes = names(cursor, texts, Kind::Class)?;
         all.push(Provides { service, classes })?;
     }
     Ok(all)
 }
 
 /// The fields of the Module attribute. The main class stands elsewhere.
-pub fn module(
-    alloc: Global,
-    cursor: &mut Cursor,
-    class: &Class,
-) -> Result<Descriptor, Or<InfoFault>>
-    ensures { Gives (λ d. d) (read_by (plain class.now).pool layout.module_layout cursor.old)
+pub fn module(cursor: &mut Cursor, texts: &mut ClassTexts) -> Result<Descriptor, Or<InfoFault>>
+    ensures class { texts.new ≡ texts.old }
+    ensures module { Gives (λ d. d) (read_by texts.old.pool layout.module_layout cursor.old)
         result cursor.new }
 {
-    let name = name(alloc, cursor, class, Kind::Module)?;
+    let name = name(cursor, texts, Kind::Module)?;
     let flags = number(cursor)?;
-    let version = version(alloc, cursor, class)?;
-    let needs = needs(alloc, cursor, class)?;
-    let exports = all_opened(alloc, cursor, class)?;
-    let opens = all_opened(alloc, cursor, class)?;
-    let uses = names(alloc, cursor, class, Kind::Class)?;
-    let provides = all_provides(alloc, cursor, class)?;
+    let version = version(cursor, texts)?;
+    let needs = needs(cursor, texts)?;
+    let exports = all_opened(cursor, texts)?;
+    let opens = all_opened(cursor, texts)?;
+    let uses = names(cursor, texts, Kind::Class)?;
+    let provides = all_provides(cursor, texts)?;
     Ok(Descriptor {
         name,
         version,

@@ -1,16 +1,17 @@
 -- What `nodes` answers, from what its steps say.
-use Rattle.std.proofs.Common.{◌≡◌, ℕ, List, All, Contains, Option, None, ap, ◌∙◌, subst}
+use Rattle.std.proofs.Common.{◌≡◌, ◌+◌, ◌<◌, ℕ, List, All, Contains, Option, None, length, ap, sym, ◌∙◌, subst, arith}
 use Rattle.std.specs.List.{find, flat_map}
 use Rattle.std.proofs.lemmas.List.Elements.{All-contains}
 use Rattle.jm_bytes.proofs.SameOrder.{contains_flat_map, from_flat_map}
 use Rattle.jm_form.specs.Rising.{rising}
-use Rattle.jm_form.specs.Trees.{first_clash, fronts, tree_nodes}
+use Rattle.jm_form.specs.Trees.{first_clash, fronts, packages, tree_nodes}
 use Rattle.jm_form.specs.declared.trees.TreeNode.{TreeNode}
 use Rattle.jm_names.specs.NameFaults.{IsSound}
-use Rattle.jm_nodes.specs.FrontTrees.{IsMadeOf}
+use Rattle.jm_nodes.specs.FrontTrees.{called_all, folders_among, Folder, IsMadeOf}
 use Rattle.jm_nodes.specs.Order.{is_among, SameElements}
 use Rattle.jm_nodes.proofs.ClashLaws.{apart_from, clash_found}
-use Rattle.jm_nodes.proofs.NodeLaws.{nodes_same}
+use Rattle.jm_nodes.proofs.FolderLaws.{packages_same}
+use Rattle.jm_nodes.proofs.NodeLaws.{nodes_count, nodes_same}
 use Rattle.jm_form.proofs.RisingLaws.{contains_rising, from_rising, rising_rises}
 use Rattle.jm_nodes.proofs.SoundLaws.{sound_cut, IsCut}
 
@@ -38,21 +39,34 @@ module _ (names : Texts) (sound : All IsSound names) where
         contains_flat_map fronts names from.0 front (from_rising names from.0 from.1) from.2;
   }
 
-  pub clash_is : (ns seen known fs shown : Texts) (found : Option (List ℕ)) → ns ≡ rising names → known ≡ ns → fs
-      ≡ rising (flat_map fronts known) → seen ≡ ns → shown ≡ fs
-      → found ≡ find (λ name. is_among name shown) seen → found ≡ first_clash names
-  clash_is ns seen known fs shown found names_are same_known fronts_are same_seen same_shown is =
-      is
-      ∙ (λ i. find (λ name. is_among name ((same_shown ∙ fronts_are ∙ ap (λ n. rising (flat_map fronts n)) (same_known ∙ names_are))
-      i)) ((same_seen ∙ names_are) i))
-      ∙ clash_found names risen cut same_fronts
+  made_count : length (tree_nodes names) ≡ 2 + length risen + length (packages names)
+  made_count = nodes_count names risen cut (rising_rises (flat_map fronts (rising names))) same_fronts
 
-  pub nodes_are : (ns seen known fs shown : Texts) (nodes : List TreeNode) → ns ≡ rising names → known ≡ ns → fs
-      ≡ rising (flat_map fronts known) → seen ≡ ns → shown ≡ fs
-      → first_clash names ≡ None → IsMadeOf seen shown nodes → nodes ≡ tree_nodes names
-  nodes_are ns seen known fs shown nodes names_are same_known fronts_are same_seen same_shown none made =
-      nodes_same names (rising names) risen nodes cut (rising_rises (flat_map fronts (rising names))) listed same_fronts
-      (apart_from names risen cut same_fronts (clash_found names risen cut same_fronts ∙ none))
-      (subst (λ (n : Texts). IsMadeOf n risen nodes) (same_seen ∙ names_are)
-      (subst (λ (f : Texts). IsMadeOf seen f nodes) (same_shown ∙ fronts_are ∙ ap (λ n. rising (flat_map fronts n)) (same_known
-      ∙ names_are)) made))
+  -- the two roots are always there
+  pub has_nodes : 0 < length (tree_nodes names)
+  has_nodes = let made = made_count in omega (arith, made)
+
+  module _ (listed_names fs : Texts) (names_are : listed_names ≡ rising names)
+      (fronts_are : fs ≡ rising (flat_map fronts listed_names)) where
+    fs_are : fs ≡ risen
+    fs_are = fronts_are ∙ ap (λ n. rising (flat_map fronts n)) names_are
+
+    pub clash_is : (found : Option (List ℕ)) → found ≡ find (λ name. is_among name fs) listed_names → found ≡ first_clash names
+    clash_is found is = is ∙ (λ i. find (λ name. is_among name (fs_are i)) (names_are i)) ∙ clash_found names risen cut same_fronts
+
+    pub nodes_are : (nodes : List TreeNode) → first_clash names ≡ None → IsMadeOf listed_names fs nodes → nodes ≡ tree_nodes names
+    nodes_are nodes none made =
+        nodes_same names (rising names) risen nodes cut (rising_rises (flat_map fronts (rising names))) listed same_fronts
+        (apart_from names risen cut same_fronts (clash_found names risen cut same_fronts ∙ none))
+        (subst (λ (n : Texts). IsMadeOf n risen nodes) names_are (subst (λ (f : Texts). IsMadeOf listed_names f nodes) fs_are made))
+
+    -- two roots, a node for each front, and one for each package
+    pub count_is : (folders : List Folder) (called : Texts) → folders ≡ folders_among fs → called ≡ rising (called_all folders)
+        → length (tree_nodes names) ≡ 2 + length fs + length called
+    count_is folders called folders_are called_are =
+        let same : called ≡ packages names = called_are ∙ ap (λ f. rising (called_all f)) (folders_are ∙ ap folders_among fs_are)
+        ∙ sym (packages_same names cut risen same_fronts) in
+        let made = made_count in
+        let few = ap length fs_are in
+        let many = ap length same in
+        omega (arith, made, few, many)

@@ -9,6 +9,7 @@ pub mod NameLaws
 pub mod NodeLaws
 pub mod OrderLaws
 pub mod OwnerLaws
+pub mod PathLaws
 pub mod SharedLaws
 pub mod SoundLaws
 mod Vectors

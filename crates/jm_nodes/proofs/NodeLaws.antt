@@ -1,9 +1,10 @@
 -- The nodes that are made of the tables are those of the definition.
-use Rattle.std.proofs.Common.{◌≡◌, ℕ, inl, inr, List, [], ◌∷◌, ◌++◌, map, reverse, All, Contains, refl, sym, ap, ◌∙◌, subst}
+use Rattle.std.proofs.Common.{◌≡◌, ◌+◌, ℕ, inl, inr, List, [], ◌∷◌, ◌++◌, map, length, reverse, All, Contains, refl, sym, ap}
+use Rattle.std.proofs.Common.{◌∙◌, subst, arith}
 use Rattle.std.specs.Prelude.{codes}
 use Rattle.std.specs.List.{flat_map}
 use mathlib.Core.List.{reverse_aux}
-use Rattle.std.proofs.lemmas.List.{map-append}
+use Rattle.std.proofs.lemmas.List.{length-append, length-map, length-reverse, map-append}
 use Rattle.std.proofs.lemmas.List.Elements.{Contains-append_left, Contains-append_right, Contains-append_cases}
 use Rattle.std.proofs.lemmas.List.Kept.{AllPairs-cons}
 use Rattle.jm_bytes.proofs.Members.{all_from_contains, contains_cases, contains_here, contains_later, contains_map, from_map}
@@ -134,6 +135,16 @@ module _ (names risen : Texts) (cut : (name : List ℕ) → Contains names name 
 
   pub names_same : node_names names ≡ reverse all
   names_same = ap reverse (sym (rising_only stated all rises same.has same.only))
+
+  -- how many nodes there are
+  pub nodes_count : length (tree_nodes names) ≡ 2 + length risen + length (packages names)
+  nodes_count =
+      let named : length (tree_nodes names) ≡ length (node_names names) = simp length-map refl in
+      let turned = ap length names_same ∙ length-reverse all in
+      let parts = length-append (map below_modules risen) (codes "/packages" ∷ package_nodes names) in
+      let inner = length-map risen below_modules in
+      let called = length-map (packages names) package_node in
+      omega (arith, named, turned, parts, inner, called)
 
 -- Each node holds what the tables say
 

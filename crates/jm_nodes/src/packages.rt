@@ -14,10 +14,11 @@ ghost use Rattle.jm_nodes.specs.FrontTrees.{
   package_filings,
   package_folder,
 };
+ghost use Rattle.jm_nodes.specs.PackagePaths.{called_of};
 
 use crate::children::is_bare;
 use crate::filed::{Filed, filed_under, in_order, is_filed};
-use crate::rising::rising;
+use crate::package_path::PackagePath;
 use jm_bytes::{List, NoMemory, Text};
 use jm_form::Owner;
 use jm_names::{cut_at_first, dotted};
@@ -88,15 +89,29 @@ pub fn called_all(alloc: Global, folders: &[PackageFolder]) -> Result<List<Text>
     Ok(called)
 }
 
-/// The packages, rising.
-pub fn packages<'a>(alloc: Global, called: &'a [Text]) -> Result<List<&'a [u8]>, NoMemory>
-    ensures { IfOk result (λ packages. map (λ text. text.now) packages ≡ rising called.now) }
+/// The packages, each once, rising.
+fn rising_packages<'a>(packages: List<PackagePath<'a>>) -> List<PackagePath<'a>>
+    ensures { map called_of result ≡ rising (map called_of packages.entry) }
 {
-    let mut packages = List::with_capacity(alloc, called.len())?;
-    for text in called {
-        packages.push(text.as_slice())?;
+    let mut sorted = packages.into_vec();
+    sorted.sort_unstable();
+    sorted.dedup();
+    List::from_vec(sorted)
+}
+
+/// The packages that folders make, each once, rising. No text is made of what they are called.
+pub fn packages<'a>(
+    alloc: Global,
+    folders: &[PackageFolder<'a>],
+) -> Result<List<PackagePath<'a>>, NoMemory>
+    ensures { IfOk result (λ packages.
+        map called_of packages ≡ rising (called_all (map folder_of folders.now))) }
+{
+    let mut packages = List::with_capacity(alloc, folders.len())?;
+    for folder in folders {
+        packages.push(PackagePath { path: folder.path })?;
     }
-    Ok(rising(packages))
+    Ok(rising_packages(packages))
 }
 
 /// A folder's module under the package, the mark where the folder has no resource.

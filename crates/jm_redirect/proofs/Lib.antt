@@ -1,6 +1,7 @@
 pub mod FreeSlotLaws
 pub mod LengthLaws
 pub mod MarkLaws
+pub mod PrefixLaws
 pub mod ReachedLaws
 pub mod SeedLaws
 pub mod SizeLaws

@@ -2,8 +2,8 @@
 use Rattle.std.proofs.Common.{◌≡◌, ℕ, suc, ◌+◌, ◌-◌, ◌%◌, ◌==◌, ◌<◌, inl, inr, Bool, true, false, cond, ◌||◌}
 use Rattle.std.proofs.Common.{List, [], ◌∷◌, ◌++◌, Some, length, map, set, take, drop, get_or, refl, sym, ap}
 use Rattle.std.proofs.Common.{◌∙◌, arith, Bor}
-use Rattle.std.proofs.lemmas.Bool.{or_from, or_left, or_right, cases_eq, eq-eqb, ne_eqb, lt-ltb}
-use Rattle.std.proofs.lemmas.List.{take_more, drop_more, take-append-drop, get_or-set_same, get_or-set_other, length-set, map-append}
+use Rattle.std.proofs.lemmas.Bool.{cases_eq, eq-eqb, ne_eqb, lt-ltb}
+use Rattle.std.proofs.lemmas.List.{take_more, take-map, length-map, take-append-drop, append_assoc, get_or-set_same, get_or-set_other, length-set, map-append}
 use Rattle.std.proofs.lemmas.List.Elements.{filter_map-append}
 use Rattle.std.specs.List.{find, range_with_len}
 use Rattle.jm_names.specs.Hash.{hash}
@@ -20,37 +20,19 @@ sent_one slots seed name some =
     rw (lt-ltb (hash seed name % slots) slots below) refl
 
 -- one name more is sent
-pub sent_more : (names : List (Bor (List ℕ))) (slots seed i : ℕ) (d : Bor (List ℕ)) → 0 < slots → i < length names
+pub sent_more : (names : List (Bor (List ℕ))) (slots seed i : ℕ) → 0 < slots → i < length names
     → slots_sent slots seed (map (λ name. name.now) (take (i + 1) names))
-    ≡ slots_sent slots seed (map (λ name. name.now) (take i names)) ++ (hash seed (get_or names i d).now % slots) ∷ []
-sent_more names slots seed i d some inside =
+    ≡ slots_sent slots seed (map (λ name. name.now) (take i names))
+    ++ (hash seed (get_or (map (λ name. name.now) names) i []) % slots) ∷ []
+sent_more names slots seed i some inside =
     let now : Bor (List ℕ) → List ℕ = λ name. name.now in
-    let one = get_or names i d in
-    ap (λ l. slots_sent slots seed (map now l)) (take_more names i d inside)
-    ∙ ap (slots_sent slots seed) (map-append now (take i names) (one ∷ []))
-    ∙ filter_map-append (λ n. slot_of slots n (redirect.Seed seed)) (map now (take i names)) (one.now ∷ [])
-    ∙ ap (λ l. slots_sent slots seed (map now (take i names)) ++ l) (sent_one slots seed one.now some)
-
--- one mark less, at a slot
-pub unmarked_more : (flags now : List Bool) (sent : List ℕ) (gone slot : ℕ) → gone < length now → get_or now slot false
-    ≡ cond (is_among sent slot) false (get_or flags slot false) → get_or (set now gone false) slot false
-    ≡ cond (is_among (sent ++ gone ∷ []) slot) false (get_or flags slot false)
-unmarked_more flags now sent gone slot inside so_far =
-    elim (cases_eq gone slot) [
-      | inl same ↦
-          let there = among_append sent (gone ∷ []) slot ∙ or_right (is_among sent slot) (is_among (gone ∷ []) slot)
-          (or_left (gone == slot) false (eq-eqb gone slot same)) in
-          rw there (ap (λ s. get_or (set now gone false) s false) (sym same) ∙ get_or-set_same now gone false false inside)
-      | inr other ↦
-          let out : is_among (gone ∷ []) slot ≡ false = or_from (gone == slot) false (ne_eqb gone slot other) refl in
-          get_or-set_other now gone slot false false (λ e. other (sym e)) ∙ so_far
-          ∙ ap (λ b. cond b false (get_or flags slot false)) (sym (stays (is_among sent slot) (is_among (gone ∷ []) slot) out)
-          ∙ sym (among_append sent (gone ∷ []) slot))
-    ]
-  where
-    stays : (a b : Bool) → b ≡ false → (a || b) ≡ a
-    stays true b out = refl
-    stays false b out = out
+    let all = map now names in
+    let one = get_or all i [] in
+    let long = length-map names now in
+    ap (slots_sent slots seed) (sym (take-map now (i + 1) names)) ∙ ap (slots_sent slots seed) (take_more all i [] (omega arith))
+    ∙ filter_map-append (λ n. slot_of slots n (redirect.Seed seed)) (take i all) (one ∷ [])
+    ∙ ap (λ l. slots_sent slots seed l ++ slots_led slots (redirect.Seed seed) (one ∷ [])) (take-map now i names)
+    ∙ ap (λ l. slots_sent slots seed (map now (take i names)) ++ l) (sent_one slots seed one some)
 
 -- the marks with one slot more
 pub marks_more : (flags : List Bool) (taken : List ℕ) (slot : ℕ) → slot < length flags → Marks flags taken
@@ -114,17 +96,17 @@ find_next p i n below fails =
     ap (λ m. find p (range_with_len i m)) left ∙ ap (λ b. cond b (Some i) (find p (range_with_len (i + 1) (n - (i + 1))))) fails
 
 -- the slots of all names, around the one at a place
-pub sent_split : (names : List (Bor (List ℕ))) (slots seed i : ℕ) (d : Bor (List ℕ)) → 0 < slots → i < length names
+pub sent_split : (names : List (Bor (List ℕ))) (slots seed i : ℕ) → 0 < slots → i < length names
     → slots_sent slots seed (map (λ name. name.now) names) ≡ slots_sent slots seed (map (λ name. name.now) (take i names))
-    ++ (hash seed (get_or names i d).now % slots) ∷ slots_sent slots seed (map (λ name. name.now) (drop (i + 1) names))
-sent_split names slots seed i d some inside =
+    ++ (hash seed (get_or (map (λ name. name.now) names) i []) % slots)
+    ∷ slots_sent slots seed (map (λ name. name.now) (drop (i + 1) names))
+sent_split names slots seed i some inside =
     let now : Bor (List ℕ) → List ℕ = λ name. name.now in
-    let one = get_or names i d in
     let send : List (List ℕ) → List ℕ = slots_sent slots seed in
-    let whole : names ≡ take i names ++ one ∷ drop (i + 1) names = sym (take-append-drop i names)
-    ∙ ap (λ l. take i names ++ l) (drop_more names i d inside) in
-    ap (λ l. send (map now l)) whole ∙ ap send (map-append now (take i names) (one ∷ drop (i + 1) names))
-    ∙ filter_map-append (λ n. slot_of slots n (redirect.Seed seed)) (map now (take i names)) (one.now
-    ∷ map now (drop (i + 1) names)) ∙ ap (λ l. send (map now (take i names)) ++ l)
-    (filter_map-append (λ n. slot_of slots n (redirect.Seed seed)) (one.now ∷ []) (map now (drop (i + 1) names))
-    ∙ ap (λ l. l ++ send (map now (drop (i + 1) names))) (sent_one slots seed one.now some))
+    let back = map now (drop (i + 1) names) in
+    let whole : map now (take (i + 1) names) ++ back ≡ map now names =
+    sym (map-append now (take (i + 1) names) (drop (i + 1) names)) ∙ ap (map now) (take-append-drop (i + 1) names) in
+    let front = send (map now (take i names)) in
+    let slot = hash seed (get_or (map now names) i []) % slots in
+    sym (ap send whole) ∙ filter_map-append (λ n. slot_of slots n (redirect.Seed seed)) (map now (take (i + 1) names)) back
+    ∙ ap (λ l. l ++ send back) (sent_more names slots seed i some inside) ∙ append_assoc front (slot ∷ []) (send back)

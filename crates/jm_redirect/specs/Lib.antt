@@ -1,4 +1,5 @@
 pub mod Built
 pub mod Marks
+pub mod Prefixes
 pub mod Reached
 pub mod Turns

@@ -8,6 +8,7 @@ ghost use Rattle.jm_redirect.specs.Marks.{Marks, TakenBelow, AllWithin, names_at
 ghost use Rattle.jm_redirect.specs.Reached.{Reached};
 
 use crate::marks::{mark, unmarked_from};
+use crate::prefix::Bucket;
 use crate::turns::{Turn, turns_in_order};
 use jm_bytes::{List, NoMemory, Text};
 use jm_form::Redirect;
@@ -17,16 +18,19 @@ use std::alloc::Global;
 const LAST_SEED: u32 = 1000;
 
 /// The least seed that sends the names to slots which differ and aren't taken. They are marked.
-fn least_seed(names: &[&[u8]], slots: u32, taken: &mut [bool]) -> Option<u32>
+fn least_seed(bucket: &Bucket, slots: u32, taken: &mut [bool], marked: &mut [u32]) -> Option<u32>
     requires some { 0 < slots }
     requires size { length taken.old ≡ slots }
+    requires room { length bucket.now.names.now ≤ length marked.old }
+    ensures room { length marked.new ≡ length marked.old }
     ensures seed { (before : List ℕ) → Marks taken.old before →
-        result ≡ least_seed slots before (map (λ name. name.now) names.now) }
+        result ≡ least_seed slots before (map (λ name. name.now) bucket.now.names.now) }
     ensures marks { (before : List ℕ) → Marks taken.old before → IfSome result (λ seed.
-        Marks taken.new (slots_sent slots seed (map (λ name. name.now) names.now) ++ before)) }
+        Marks taken.new (slots_sent slots seed (map (λ name. name.now) bucket.now.names.now)
+        ++ before)) }
 {
     for seed in 1..LAST_SEED + 1 {
-        if mark(names, seed, slots, taken) {
+        if mark(bucket, seed, slots, taken, marked) {
             return Some(seed);
         }
     }
@@ -57,9 +61,12 @@ fn redirect_for(
     slots: u32,
     free: &mut usize,
     taken: &mut [bool],
+    marked: &mut [u32],
 ) -> Option<Redirect>
     requires some { 0 < slots }
     requires size { length taken.old ≡ slots }
+    requires room { length names.now ≤ length marked.old }
+    ensures room { length marked.new ≡ length marked.old }
     ensures redirect { (before : List ℕ) → Marks taken.old before → TakenBelow free.old before →
         result ≡ redirect_for slots before (map (λ name. name.now) names.now) }
     ensures marks { (before : List ℕ) → Marks taken.old before → IfSome result (λ r.
@@ -70,34 +77,37 @@ fn redirect_for(
     if names.len() == 1 {
         Some(Redirect::Slot(least_free(free, taken)?))
     } else {
-        Some(Redirect::Seed(least_seed(names, slots, taken)?))
+        Some(Redirect::Seed(least_seed(&Bucket::new(names), slots, taken, marked)?))
     }
 }
 
-/// Turns that are left, and the names that have them.
+/// Turns that are left, the names that have them, and a place before which all slots are taken.
 #[derive(Clone, Copy)]
 struct Left<'t, 'n> {
     turns: &'t [Turn],
     names: &'t [&'n [u8]],
+    free: usize,
 }
 
 /// Gives the first of the buckets in turn its redirect, and answers what is left for the others.
 fn give_first<'t, 'n>(
     names: &[Text],
     left: Left<'t, 'n>,
-    free: &mut usize,
     taken: &mut [bool],
+    marked: &mut [u32],
     redirects: &mut [Redirect],
 ) -> Option<Left<'t, 'n>>
     requires some { 0 < length left.turns.now }
+    requires room { length names.now ≤ length marked.old }
     requires few { length redirects.old < 2 ^ 32 }
     requires named { map (λ name. name.now) left.names.now ≡ names_at names.now left.turns.now }
     requires reached { Reached names.now (length redirects.old)
-        taken.old redirects.old free.old left.turns.now }
+        taken.old redirects.old left.free left.turns.now }
+    ensures room { length marked.new ≡ length marked.old }
     ensures named { IfSome result (λ others.
         map (λ name. name.now) others.names.now ≡ names_at names.now others.turns.now) }
     ensures reached { IfSome result (λ others. Reached names.now (length redirects.old)
-        taken.new redirects.new free.new others.turns.now) }
+        taken.new redirects.new others.free others.turns.now) }
     ensures shorter { IfSome result (λ others.
         length others.turns.now < length left.entry.turns.now) }
     ensures none { IfNone result (greedy names.now (length redirects.old) ≡ None) }
@@ -105,28 +115,37 @@ fn give_first<'t, 'n>(
     let size = names.len() - left.turns[0].others as usize;
     let (_, turns) = left.turns.split_at(size);
     let (bucket, others) = left.names.split_at(size);
-    let redirect = redirect_for(bucket, redirects.len() as u32, free, taken)?;
+    let mut free = left.free;
+    let slots = redirects.len() as u32;
+    let redirect = redirect_for(bucket, slots, &mut free, taken, marked)?;
     redirects[left.turns[0].bucket as usize] = redirect;
     Some(Left {
         turns,
         names: others,
+        free,
     })
 }
 
 /// Gives the buckets of the turns their redirects, in turn, or answers that one of them gets none.
-fn give_all(names: &[Text], all: Left, taken: &mut [bool], redirects: &mut [Redirect]) -> bool
+fn give_all(
+    names: &[Text],
+    all: Left,
+    taken: &mut [bool],
+    marked: &mut [u32],
+    redirects: &mut [Redirect],
+) -> bool
+    requires room { length names.now ≤ length marked.old }
     requires few { length redirects.old < 2 ^ 32 }
     requires named { map (λ name. name.now) all.names.now ≡ names_at names.now all.turns.now }
     requires reached { Reached names.now (length redirects.old)
-        taken.old redirects.old 0 all.turns.now }
+        taken.old redirects.old all.free all.turns.now }
     ensures all { OnTrue result (option_map (λ table. table.redirects)
         (greedy names.now (length redirects.old)) ≡ Some redirects.new) }
     ensures none { OnFalse result (greedy names.now (length redirects.old) ≡ None) }
 {
-    let mut free = 0;
     let mut left = all;
     while !left.turns.is_empty() {
-        match give_first(names, left, &mut free, taken, redirects) {
+        match give_first(names, left, taken, marked, redirects) {
             Some(others) => left = others,
             None => return false,
         }
@@ -171,10 +190,12 @@ pub fn redirects_at(
     let left = Left {
         turns: turns.as_slice(),
         names: named.as_slice(),
+        free: 0,
     };
     let mut taken = vec![in alloc; false; slots as usize]?;
+    let mut marked = vec![in alloc; 0u32; names.len()]?;
     let mut redirects = vec![in alloc; Redirect::Nowhere; slots as usize]?;
-    if give_all(names, left, &mut taken, &mut redirects) {
+    if give_all(names, left, &mut taken, &mut marked, &mut redirects) {
         Ok(Some(List::from_vec(redirects)))
     } else {
         Ok(None)

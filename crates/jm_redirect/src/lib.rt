@@ -6,6 +6,7 @@ mod buckets;
 mod building;
 mod hashes;
 mod marks;
+mod prefix;
 mod turns;
 
 pub use building::{NoTable, Table, build, redirects_of};

@@ -1,46 +1,47 @@
 //! The flags of the slots that are taken, while seeds are tried.
-ghost use Rattle.std.specs.Prelude.{◌≡◌, ◌<◌, ◌-◌, ◌%◌, ◌++◌, ℕ, List, true, false, not};
+ghost use Rattle.std.specs.Prelude.{◌≡◌, ◌<◌, ◌≤◌, ◌-◌, ◌++◌, ℕ, List, All, true, false, not};
 ghost use Rattle.std.specs.Prelude.{find, length, map, slice_index_or, if◌then◌else◌};
 ghost use Rattle.std.specs.List.{range_with_len};
-ghost use Rattle.jm_names.specs.Hash.{hash};
 ghost use Rattle.jm_form.specs.Greedy.{is_among, are_free};
 ghost use Rattle.jm_redirect.specs.Marks.{Marks, slots_sent};
 
-use crate::hashes::hash_of;
+use crate::prefix::Bucket;
 
-/// Takes away the marks at the slots to which the seed sends the names.
-fn unmark(names: &[&[u8]], seed: u32, slots: u32, taken: &mut [bool])
-    requires some { 0 < slots }
-    requires size { length taken.old ≡ slots }
-    ensures { (slot : ℕ) → slot < slots → slice_index_or taken.new slot false ≡
-        (if is_among (slots_sent slots seed (map (λ name. name.now) names.now)) slot then false
-        else slice_index_or taken.old slot false) }
+/// Takes away the marks at these slots.
+fn unmark(slots: &[u32], taken: &mut [bool])
+    requires { All (λ slot. slot < length taken.old) slots.now }
+    ensures size { length taken.new ≡ length taken.old }
+    ensures gone { (slot : ℕ) → slot < length taken.old → slice_index_or taken.new slot false ≡
+        (if is_among slots.now slot then false else slice_index_or taken.old slot false) }
 {
-    for name in names {
-        let hash = hash_of(seed, name);
-        taken[(hash % slots) as usize] = false;
+    for slot in slots {
+        taken[*slot as usize] = false;
     }
 }
 
 /// Marks the slots to which the seed sends the names, if they differ and none is marked. If not,
-/// the marks stay as they were.
-pub fn mark(names: &[&[u8]], seed: u32, slots: u32, taken: &mut [bool]) -> bool
+/// the marks stay as they were. The slots that it marks are kept in `marked`, so that no name is
+/// hashed again to take their marks away.
+pub fn mark(bucket: &Bucket, seed: u32, slots: u32, taken: &mut [bool], marked: &mut [u32]) -> bool
     requires some { 0 < slots }
     requires size { length taken.old ≡ slots }
+    requires room { length bucket.now.names.now ≤ length marked.old }
+    ensures room { length marked.new ≡ length marked.old }
     ensures fits { (before : List ℕ) → Marks taken.old before → result ≡
-        are_free before (slots_sent slots seed (map (λ name. name.now) names.now)) }
+        are_free before (slots_sent slots seed (map (λ name. name.now) bucket.now.names.now)) }
     ensures marks { (before : List ℕ) → Marks taken.old before → Marks taken.new
-        (if result then slots_sent slots seed (map (λ name. name.now) names.now) ++ before
+        (if result then slots_sent slots seed (map (λ name. name.now) bucket.now.names.now) ++ before
         else before) }
 {
-    for at in 0..names.len() {
-        let hash = hash_of(seed, names[at]);
-        let slot = (hash % slots) as usize;
-        if taken[slot] {
-            unmark(&names[..at], seed, slots, taken);
+    let state = bucket.state_after_prefix(seed);
+    for at in 0..bucket.names.len() {
+        let slot = bucket.hash_at(at, state) % slots;
+        if taken[slot as usize] {
+            unmark(&marked[..at], taken);
             return false;
         }
-        taken[slot] = true;
+        taken[slot as usize] = true;
+        marked[at] = slot;
     }
     true
 }

@@ -1,7 +1,6 @@
 use Rattle.std.proofs.Common.{ap}
 use Rattle.jm_class.proofs.ReadingLaws.{bytes_all}
 use Rattle.jm_class.proofs.WholeReadings.{ended-all, ended-rest, ended-stop}
-use Rattle.jm_class.specs.Views.{pool_of}
 use Rattle.jm_modinfo.proofs.InfoLaws.{without_main}
 use Rattle.jm_modinfo.proofs.LayoutLaws.{whole-says}
 use Rattle.jm_modinfo.proofs.Stops.{answers_stop}
@@ -13,8 +12,8 @@ use Rattle.jm_modinfo.proofs.describing.whole_module.Goals as goal
 pub returns-in_err-descriptor-clause-info : goal.returns-in_err-descriptor-clause-info
 returns-in_err-descriptor-clause-info c =
     answers_stop (λ d. d) (λ d. d) _ _ c.in_err-descriptor.field-0.0 c.from_residual.result c.module.new.cursor
-    c.from_residual.ensures.1 c.in_err-descriptor.ensures
-    (λ fault stops. ap value_of (ended-stop Rest (read_by (pool_of c.args.class.now.pool) module_layout) (record {
+    c.from_residual.ensures.1 c.in_err-descriptor.ensures.module
+    (λ fault stops. ap value_of (ended-stop Rest (read_by c.args.texts.now.pool module_layout) (record {
       place = 0;
       bytes =
           c.args.body.now;
@@ -23,18 +22,18 @@ returns-in_err-descriptor-clause-info c =
 pub returns-then-len-ne0-clause-info : goal.returns-then-len-ne0-clause-info
 returns-then-len-ne0-clause-info c =
     rw c.place.ensures
-    (ap value_of (ended-rest Rest (read_by (pool_of c.args.class.now.pool) module_layout) (record { place = 0; bytes = c.args.body.now })
-    c.module.new.cursor c.in_ok-descriptor.descriptor c.len.result (rw c.new-cursor.ensures at c.in_ok-descriptor.ensures)
+    (ap value_of (ended-rest Rest (read_by c.args.texts.now.pool module_layout) (record { place = 0; bytes = c.args.body.now })
+    c.module.new.cursor c.in_ok-descriptor.descriptor c.len.result (rw c.new-cursor.ensures at c.in_ok-descriptor.ensures.module)
     c.len.ensures c.if-len-ne0.true))
 
 pub returns-clause-info : goal.returns-clause-info
 returns-clause-info c =
-    ap value_of (ended-all Rest (read_by (pool_of c.args.class.now.pool) module_layout) (record { place = 0; bytes = c.args.body.now })
-    c.module.new.cursor c.in_ok-descriptor.descriptor c.len.result (rw c.new-cursor.ensures at c.in_ok-descriptor.ensures)
+    ap value_of (ended-all Rest (read_by c.args.texts.now.pool module_layout) (record { place = 0; bytes = c.args.body.now })
+    c.module.new.cursor c.in_ok-descriptor.descriptor c.len.result (rw c.new-cursor.ensures at c.in_ok-descriptor.ensures.module)
     c.len.ensures c.if-len-ne0.false)
 
 pub returns-clause-says : goal.returns-clause-says
 returns-clause-says c =
-    without_main (pool_of c.args.class.now.pool) c.args.body.now c.in_ok-descriptor.descriptor (returns-clause-info c)
-    (whole-says (info_rows (pool_of c.args.class.now.pool)) module_layout c.args.body.now c.in_ok-descriptor.descriptor
+    without_main c.args.texts.now.pool c.args.body.now c.in_ok-descriptor.descriptor (returns-clause-info c)
+    (whole-says (info_rows c.args.texts.now.pool) module_layout c.args.body.now c.in_ok-descriptor.descriptor
     (bytes_all c.args.body.now (λ i. (c.type_inv.body i).fits)) (returns-clause-info c))

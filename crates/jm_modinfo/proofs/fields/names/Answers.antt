@@ -1,25 +1,31 @@
 use Rattle.std.proofs.Common.{◌∙◌, refl}
 use Rattle.jm_class.proofs.ListReadings.{counted-next, counted-stop}
-use Rattle.jm_class.specs.Views.{pool_of}
 use Rattle.jm_class.proofs.Stops.{gives_stop}
 use Rattle.jm_modinfo.proofs.LayoutLaws.{reading-listed}
 use Rattle.jm_modinfo.specs.ModuleLayout.{number, named, info_rows, read_by}
 use Rattle.jm_modinfo.proofs.fields.names.Goals as goal
 
 pub loop-k-init : goal.loop-k-init
-loop-k-init c =
-    rw c.new-names.ensures
-    (reading-listed (info_rows (pool_of c.args.class.now.pool)) number (named c.args.kind) c.args.cursor.now c.number.new.cursor
-    c.in_ok-count.count (rw c.in_ok-count.ensures refl))
+loop-k-init c = (
+  refl,
+  rw c.new-names.ensures
+      (reading-listed (info_rows c.args.texts.now.pool) number (named c.args.kind) c.args.cursor.now c.number.new.cursor
+      c.in_ok-count.count (rw c.in_ok-count.ensures refl)),
+)
 
-pub returns-in_err-name : goal.returns-in_err-name
-returns-in_err-name c =
+pub returns-in_err-name-clause-names : goal.returns-in_err-name-clause-names
+returns-in_err-name-clause-names c =
+    let class = c.loop-k.invariant.0 in
     gives_stop (λ x. x) (λ xs. xs) _ _ c.in_err-name.field-0.0 c.from_residual-in_err-name.result c.name.new.cursor
-    c.name.new.cursor c.from_residual-in_err-name.ensures.1 c.in_err-name.ensures
-    (λ fault stops. c.loop-k.invariant ∙ counted-stop c.in_ok-count.count c.loop-k._k (read_by (pool_of c.args.class.now.pool) (named c.args.kind)) c.loop-k.names c.loop-k.cursor fault c.loop-k-test.true stops)
+    c.name.new.cursor c.from_residual-in_err-name.ensures.1 c.in_err-name.ensures.text
+    (λ fault stops. c.loop-k.invariant.1 ∙ counted-stop c.in_ok-count.count c.loop-k._k (read_by c.args.texts.now.pool (named c.args.kind))
+    c.loop-k.names c.loop-k.cursor fault c.loop-k-test.true (rw class at stops))
 
 pub loop-k-preserved : goal.loop-k-preserved
 loop-k-preserved c =
-    rw c.in_ok-push.ensures.ok
-    (c.loop-k.invariant ∙ counted-next c.in_ok-count.count c.loop-k._k (read_by (pool_of c.args.class.now.pool) (named c.args.kind))
-    c.loop-k.names c.loop-k.cursor c.name.new.cursor c.in_ok-name.name c.loop-k-test.true c.in_ok-name.ensures)
+    let class = c.loop-k.invariant.0 in (
+      c.in_ok-name.ensures.class ∙ class,
+      rw c.in_ok-push.ensures.ok
+          (c.loop-k.invariant.1 ∙ counted-next c.in_ok-count.count c.loop-k._k (read_by c.args.texts.now.pool (named c.args.kind))
+          c.loop-k.names c.loop-k.cursor c.name.new.cursor c.in_ok-name.name c.loop-k-test.true (rw class at c.in_ok-name.ensures.text)),
+    )

@@ -46,7 +46,7 @@ returns-in_err-redirect-clause-none c =
     c.split_at-2.ensures.front ∙ ap (names_at c.args.names.now) says.front ∙ names_of_turns c.args.names.now slots first.bucket in
     let none = ap (redirect_for slots r.taken) (sym named) ∙ sym (c.redirect_for.ensures.redirect r.taken r.marks r.below)
     ∙ c.in_err-redirect.was in
-    let no_table = reached_none c.args.names.now slots c.args.taken.now c.args.redirects.now c.args.free.now c.args.left.turns.now r
+    let no_table = reached_none c.args.names.now slots c.args.taken.now c.args.redirects.now c.args.left.free c.args.left.turns.now r
     first none in
     rw c.from_residual.ensures no_table
 
@@ -64,7 +64,7 @@ returns-clause-reached c =
     ∙ c.in_ok-redirect.was in
     let marks = subst (λ l. Marks c.redirect_for.new.taken (slots_led slots given l ++ r.taken)) named
     (c.in_ok-redirect.ensures.marks r.taken r.marks) in
-    let next = reached_next names slots c.args.taken.now c.redirect_for.new.taken c.args.redirects.now c.args.free.now
+    let next = reached_next names slots c.args.taken.now c.redirect_for.new.taken c.args.redirects.now c.args.left.free
     c.redirect_for.new.free c.args.left.turns.now r first given some (omega arith) marks (c.redirect_for.ensures.free
     r.taken r.marks r.below) in
     rw (says.bucket_is, c.split_at.ensures.back, says.back) next

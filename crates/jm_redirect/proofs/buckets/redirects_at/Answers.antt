@@ -27,6 +27,6 @@ give_all-requires-clause-reached c =
     let free : c.in_ok-taken.taken.items ≡ replicate slots false = search rules in
     let none : c.in_ok-redirects.redirects.items ≡ replicate slots redirect.Nowhere = search rules in
     let flags = c.deref_mut.ensures.value ∙ free in
-    let redirects = c.deref_mut-2.ensures.value ∙ none in
+    let redirects = c.deref_mut-3.ensures.value ∙ none in
     rw (flags, redirects, length-replicate slots redirect.Nowhere) (reached_start names slots c.as_slice-2.result.now
     (c.as_slice-2.ensures.value ∙ sorted))
