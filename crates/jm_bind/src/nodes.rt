@@ -1,5 +1,5 @@
 //! The found modules, and behind them the services, as the nodes of one graph.
-ghost use Rattle.std.specs.Prelude.{◌≡◌, ◌+◌, ◌<◌, Some, length, IfOk, OnOk};
+ghost use Rattle.std.specs.Prelude.{◌≡◌, ◌+◌, ◌<◌, Some, length, IfOk, IfSome, OnOk};
 ghost use Rattle.jm_bind.specs.Binding.{ProvidesService, UsesService};
 ghost use Rattle.jm_bind.specs.Nodes.{Below, HasNode, IsDrawn, IsGraphOfAll};
 ghost use Rattle.jm_closure.specs.Cycles.{IsGraphOf};
@@ -9,17 +9,25 @@ use jm_bytes::NoMemory;
 use jm_closure::{Candidate, Graph, Places};
 use std::alloc::Global;
 
-/// The node of a service; one more where it has none yet.
+/// The node of a service; one more where it has none yet. One that has the name of the last service
+/// isn't looked up.
 fn node_of(
     alloc: Global,
     services: &mut Places,
     graph: &mut Graph,
+    last: Option<(&[u8], usize)>,
     service: &[u8],
 ) -> Result<usize, NoMemory>
+    requires { IfSome last (λ last. place_in services.old last.0.now ≡ Some last.1) }
     ensures node { IfOk result (λ node. place_in services.new service.now ≡ Some node) }
     ensures has { OnOk result
         (HasNode services.old graph.old services.new graph.new service.now) }
 {
+    if let Some((name, node)) = last
+        && name == service
+    {
+        return Ok(node);
+    }
     if let Some(node) = services.get(service) {
         return Ok(node);
     }
@@ -43,9 +51,12 @@ fn add_uses(
     ensures { OnOk result (IsDrawn found.now (Below (place + 1) (UsesService found.now))
         (Below place (ProvidesService found.now)) services.new graph.new) }
 {
+    let mut last = None;
     for service in found[place].descriptor.uses.as_slice() {
-        let node = node_of(alloc, services, graph, service.as_slice())?;
+        let service = service.as_slice();
+        let node = node_of(alloc, services, graph, last, service)?;
         graph.add(place, node)?;
+        last = Some((service, node));
     }
     Ok(())
 }
@@ -64,9 +75,12 @@ fn add_provides(
     ensures { OnOk result (IsDrawn found.now (Below (place + 1) (UsesService found.now))
         (Below (place + 1) (ProvidesService found.now)) services.new graph.new) }
 {
+    let mut last = None;
     for provided in found[place].descriptor.provides.as_slice() {
-        let node = node_of(alloc, services, graph, provided.service.as_slice())?;
+        let service = provided.service.as_slice();
+        let node = node_of(alloc, services, graph, last, service)?;
         graph.add(node, place)?;
+        last = Some((service, node));
     }
     Ok(())
 }

@@ -1,4 +1,5 @@
 pub mod ContentLaws
+pub mod DescribedLaws
 pub mod ExtractLaws
 pub mod FrontLaws
 pub mod GenLaws

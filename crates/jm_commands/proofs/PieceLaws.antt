@@ -3,7 +3,8 @@ use Rattle.std.proofs.Common.{◌≡◌, ℕ, ◌+◌, ◌<◌, ◌≤◌, List,
 use Rattle.std.proofs.Common.{take, Option, Some, None, option_map, Result, Ok, Err, OnOk, IsOk, IsErrOf, inl}
 use Rattle.std.proofs.Common.{refl, sym, ap, subst, ◌∙◌, arith, append-nil}
 use Rattle.std.proofs.Math.Seq.{take-append-add}
-use Rattle.std.proofs.lemmas.List.{append_assoc, drop_all, drop_more, length-append, take-append-le}
+use Rattle.std.proofs.lemmas.List.{append_assoc, drop_all, drop_more, flat_map_more, length-append, take-append-drop, take-append-le, take_all, take_more}
+use Rattle.std.proofs.lemmas.Grind.{flat_map-append}
 use Rattle.jm_form.specs.declared.trees.Holds.{Holds}
 use Rattle.jm_form.specs.declared.trees.Holds.TheVariants.{Children, Owners}
 use Rattle.jm_jrt.specs.Reply.{held_lines}
@@ -100,6 +101,96 @@ line_passed line held more holds (Err e) old new is text = record {
   front = subst (λ l. GetsFront l old new) (append-nil more ∙ is) text.front;
   faults = text.faults;
 }
+
+-- Texts that pass one behind another
+
+-- nothing was put
+pub all_held : (more held holds : List ℕ) (now : Seen (List ℕ)) → holds ≡ held ++ more
+    → PassesText more held holds (Ok tt) now now
+all_held more held holds now is = record {
+  passed = ([], gets_nothing now now refl, sym is);
+  front = tt;
+  faults = record { count = omega arith; kept = λ ok. refl; rose = λ failed. cc };
+}
+
+-- no memory was found
+pub none_passed : (more held holds : List ℕ) (now : Seen (List ℕ)) → PassesText more held holds (Err sink_error.Memory) now now
+none_passed more held holds now = record {
+  passed = tt;
+  front = front_of_nothing (held ++ more) now now refl;
+  faults = record { count = omega arith; kept = λ ok. cc; rose = λ failed. cc };
+}
+
+-- two of them
+pub then_passed : (a b held mid holds : List ℕ) (answer : Result (Unit {0}) SinkError) (old now new : Seen (List ℕ))
+    → PassesText a held mid (Ok tt) old now → PassesText b mid holds answer now new → PassesText (a ++ b) held holds answer old new
+then_passed a b held mid holds answer old now new one two = go answer two
+  where
+    got : List ℕ
+    got = one.passed.0
+
+    same : now.faults ≡ old.faults
+    same = one.faults.kept refl
+
+    both : held ++ (a ++ b) ≡ got ++ (mid ++ b)
+    both = sym (append_assoc held a b) ∙ ap (λ l. l ++ b) one.passed.2 ∙ append_assoc got mid b
+
+    go : (answer : Result (Unit {0}) SinkError) → PassesText b mid holds answer now new → PassesText (a ++ b) held holds answer old new
+    go (Ok _) two = record {
+      passed = (
+        got ++ two.passed.0,
+        gets_both got two.passed.0 old now new one.passed.1 two.passed.1,
+        both ∙ ap (λ l. got ++ l) two.passed.2 ∙ sym (append_assoc got two.passed.0 holds),
+      );
+      front = tt;
+      faults = let kept = two.faults.kept refl ∙ same in record { count = omega (arith, kept); kept = λ ok. kept; rose = λ failed. cc };
+    }
+    go (Err e) two = record {
+      passed = tt;
+      front = subst (λ l. GetsFront l old new) (sym both) (front_behind got (mid ++ b) old now new one.passed.1 two.front);
+      faults = subst (λ (count : ℕ). CountsFaults count new.faults (IsOk {T = Unit {0}} (Err e)) (IsErrOf {T = Unit {0}} (Err e)
+          sink_error.Failed)) same two.faults;
+    }
+
+-- the first of two broke off
+pub cut_passed : (a b held holds : List ℕ) (error : SinkError) (old new : Seen (List ℕ)) → PassesText a held holds (Err error) old new
+    → PassesText (a ++ b) held holds (Err error) old new
+cut_passed a b held holds error old new text = record {
+  passed = tt;
+  front = subst (λ l. GetsFront l old new) (append_assoc held a b) (front_longer (held ++ a) b old new text.front);
+  faults = text.faults;
+}
+
+-- the lines of some items
+
+module _ {T : Type 0} (line : T → List ℕ) (ts : List T) (i : ℕ) where
+  more_lines : (t : T) → i < length ts → get_or ts i t ≡ t → flat_map line (take (i + 1) ts) ≡ flat_map line (take i ts) ++ line t
+  more_lines t within is =
+      ap (flat_map line) (take_more ts i t within ∙ ap (λ (u : T). take i ts ++ u ∷ []) is) ∙ sym (flat_map_more line [] (take i ts) t)
+
+  -- of one more
+  pub line_then : (t : T) (held mid holds : List ℕ) (answer : Result (Unit {0}) SinkError) (old now new : Seen (List ℕ))
+      → i < length ts → get_or ts i t ≡ t → PassesText (flat_map line (take i ts)) held mid (Ok tt) old now
+      → PassesText (line t) mid holds answer now new → PassesText (flat_map line (take (i + 1) ts)) held holds answer old new
+  line_then t held mid holds answer old now new within is before one =
+      subst (λ l. PassesText l held holds answer old new) (sym (more_lines t within is))
+      (then_passed (flat_map line (take i ts)) (line t) held mid holds answer old now new before one)
+
+  -- the line of one broke off
+  pub line_cut : (t : T) (held mid holds : List ℕ) (error : SinkError) (old now new : Seen (List ℕ))
+      → i < length ts → get_or ts i t ≡ t → PassesText (flat_map line (take i ts)) held mid (Ok tt) old now
+      → PassesText (line t) mid holds (Err error) now new → PassesText (flat_map line ts) held holds (Err error) old new
+  line_cut t held mid holds error old now new within is before one =
+      subst (λ l. PassesText l held holds (Err error) old new)
+      (sym (flat_map-append line (take (i + 1) ts) (drop (i + 1) ts)) ∙ ap (flat_map line) (take-append-drop (i + 1) ts))
+      (cut_passed (flat_map line (take (i + 1) ts)) (flat_map line (drop (i + 1) ts)) held holds error old new
+      (line_then t held mid holds (Err error) old now new within is before one))
+
+  -- of all of them
+  pub all_passed : (held holds : List ℕ) (answer : Result (Unit {0}) SinkError) (old new : Seen (List ℕ)) → length ts ≤ i
+      → PassesText (flat_map line (take i ts)) held holds answer old new → PassesText (flat_map line ts) held holds answer old new
+  all_passed held holds answer old new all =
+      subst (λ l. PassesText (flat_map line l) held holds answer old new) (take_all i ts all)
 
 -- The whole
 

@@ -25,7 +25,7 @@ use Rattle.jm_commands.specs.Outcome.{Early, Outcome, done, early_in, early_of, 
 use Rattle.jm_commands.specs.Outcome.{made_and_put, not_there, reading, without_files}
 use Rattle.jm_commands.specs.Run.{FileComesTo, FilesFirst, FilesMade, IsFailure}
 use Rattle.jm_commands.specs.Run.{PutDoes, StandAll, StepComesTo, StepDoes, StepOnText}
-use Rattle.jm_commands.specs.Run.{TaskComesTo, TextComesTo, WordsComeTo, outcome_of, status_of}
+use Rattle.jm_commands.specs.Run.{TaskComesTo, WordsComeTo, outcome_of, status_of}
 use Rattle.jm_commands.specs.SessionHeld.{EndedBy, NotBegun, SourceRead}
 use Rattle.jm_commands.specs.Sinks.{Failed, Gets, Seen}
 use Rattle.jm_commands.specs.Stops.{stop_of_words}

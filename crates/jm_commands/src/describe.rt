@@ -8,12 +8,12 @@ ghost use Rattle.jm_commands.specs.Sinks.{Seen};
 ghost use Rattle.jm_commands.specs.World.{sink_at, world};
 
 use crate::complaint::Complaint;
-use crate::output::put_output;
+use crate::described::put_description;
 use crate::stop::Stop;
 use jm_bytes::{Or, Text};
 use jm_modinfo::describe_bytes;
 use jm_outside::{Shelf, Sink};
-use jm_texts::{Refusal, describe_text};
+use jm_texts::Refusal;
 use std::alloc::Global;
 
 /// The bytes of the file at a path, which may be a pipe.
@@ -46,10 +46,7 @@ fn put_described<O: Sink>(
         (sink_at O.Sink out.old) (sink_at O.Sink out.new) }
 {
     match describe_bytes(alloc, release, bytes) {
-        Ok(descriptor) => {
-            let text = describe_text(alloc, &descriptor)?;
-            put_output(alloc, text.as_slice(), out)
-        }
+        Ok(descriptor) => Ok(put_description(alloc, &descriptor, out)?),
         Err(Or::Fault(fault)) => {
             let path = Text::copy_of(alloc, path)?;
             let refusal = Refusal::BadInfo { path, fault };

@@ -6,6 +6,7 @@ mod cat;
 mod cat_file;
 mod complaint;
 mod describe;
+mod described;
 mod extract;
 mod front;
 mod generator;

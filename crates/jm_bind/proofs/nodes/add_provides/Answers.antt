@@ -15,8 +15,11 @@ loop-provided-init c =
     let found = c.args.found.now in
     let Uses = Below (c.args.place + 1) (UsesService found) in
     let Provided = Below c.args.place (ProvidesService found) in
-    provides_begin found Uses Provided c.args.services.now c.args.graph.now c.args.place
-    c.requires.drawn
+    record {
+      drawn = provides_begin found Uses Provided c.args.services.now c.args.graph.now c.args.place
+          c.requires.drawn;
+      last = tt;
+    }
 
 pub loop-provided-preserved : goal.loop-provided-preserved
 loop-provided-preserved c =
@@ -29,16 +32,19 @@ loop-provided-preserved c =
     let front = map service_of (take at items) in
     let services = c.node_of.new.services in
     let graph = c.node_of.new.graph in
-    rw (
-      c.in_ok-add.ensures.ok,
-      map_more service_of items at x c.loop-provided-test.true,
-      ← c.provided-item.is,
-    )
-    (provides_more found Uses Provided services graph c.args.place front x.service c.in_ok-node.node
-    c.requires.place (rw c.as_slice.ensures at c.in_ok-node.ensures.node)
-    (drawn_has found Uses (With Provided c.args.place front)
-    c.loop-provided.services services c.loop-provided.graph graph x.service
-    (rw c.as_slice.ensures at c.in_ok-node.ensures.has) c.loop-provided.invariant))
+    record {
+      drawn = rw (
+        c.in_ok-add.ensures.ok,
+        map_more service_of items at x c.loop-provided-test.true,
+        ← c.provided-item.is,
+      )
+          (provides_more found Uses Provided services graph c.args.place front x.service c.in_ok-node.node
+          c.requires.place (rw c.as_slice-service.ensures at c.in_ok-node.ensures.node)
+          (drawn_has found Uses (With Provided c.args.place front)
+          c.loop-provided.services services c.loop-provided.graph graph x.service
+          (rw c.as_slice-service.ensures at c.in_ok-node.ensures.has) c.loop-provided.invariant.drawn));
+      last = c.in_ok-node.ensures.node;
+    }
 
 pub returns : goal.returns
 returns c =
@@ -52,4 +58,4 @@ returns c =
     (provides_of found c.args.place one
     (found_at found c.args.place one c.requires.place c.index-found-place.is))
     (rw (all, c.as_slice-provided-items.ensures, ← c.index-found-place.is)
-    at c.loop-provided.invariant)
+    at c.loop-provided.invariant.drawn)

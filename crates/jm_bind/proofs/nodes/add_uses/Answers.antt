@@ -11,7 +11,10 @@ loop-service-init c =
     let found = c.args.found.now in
     let Uses = Below c.args.place (UsesService found) in
     let Provides = Below c.args.place (ProvidesService found) in
-    uses_begin found Uses Provides c.args.services.now c.args.graph.now c.args.place c.requires.drawn
+    record {
+      drawn = uses_begin found Uses Provides c.args.services.now c.args.graph.now c.args.place c.requires.drawn;
+      last = tt;
+    }
 
 pub loop-service-preserved : goal.loop-service-preserved
 loop-service-preserved c =
@@ -23,12 +26,15 @@ loop-service-preserved c =
     let x = c.service-item.result in
     let services = c.node_of.new.services in
     let graph = c.node_of.new.graph in
-    rw (c.in_ok-add.ensures.ok, take_more texts at x c.loop-service-test.true, ← c.service-item.is)
-    (uses_more found Uses Provides services graph c.args.place (take at texts) x c.in_ok-node.node
-    c.requires.place (rw c.as_slice.ensures at c.in_ok-node.ensures.node)
-    (drawn_has found (With Uses c.args.place (take at texts)) Provides
-    c.loop-service.services services c.loop-service.graph graph x
-    (rw c.as_slice.ensures at c.in_ok-node.ensures.has) c.loop-service.invariant))
+    record {
+      drawn = rw (c.in_ok-add.ensures.ok, take_more texts at x c.loop-service-test.true, ← c.service-item.is)
+          (uses_more found Uses Provides services graph c.args.place (take at texts) x c.in_ok-node.node
+          c.requires.place (rw c.as_slice-service.ensures at c.in_ok-node.ensures.node)
+          (drawn_has found (With Uses c.args.place (take at texts)) Provides
+          c.loop-service.services services c.loop-service.graph graph x
+          (rw c.as_slice-service.ensures at c.in_ok-node.ensures.has) c.loop-service.invariant.drawn));
+      last = c.in_ok-node.ensures.node;
+    }
 
 pub returns : goal.returns
 returns c =
@@ -41,4 +47,4 @@ returns c =
     (uses_of found c.args.place one
     (found_at found c.args.place one c.requires.place c.index-found-place.is))
     (rw (all, c.as_slice-service-items.ensures, ← c.index-found-place.is)
-    at c.loop-service.invariant)
+    at c.loop-service.invariant.drawn)

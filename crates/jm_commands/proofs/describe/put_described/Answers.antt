@@ -9,19 +9,23 @@ use Rattle.jm_commands.specs.declared.stop.Stop.TheVariants as stop
 use Rattle.jm_texts.specs.declared.refusal.Refusal.TheVariants as refusal
 use Rattle.jm_commands.specs.Outcome.{describe_outcome, descriptor_outcome}
 use Rattle.jm_commands.specs.Run.{PutDoes}
+use Rattle.jm_commands.specs.Stops.{stop_of_sink}
 use Rattle.jm_commands.specs.World.{sink_at}
+use Rattle.jm_commands.proofs.PieceLaws.{text_put, text_unput}
 use Rattle.jm_commands.proofs.StepLaws.{complained, from_stop, no_memory}
 use Rattle.jm_commands.proofs.describe.put_described.Goals as goal
 
-pub returns-in_err-text-in-Ok : goal.returns-in_err-text-in-Ok
-returns-in_err-text-in-Ok g c =
-    let is = from_stop c.from_residual.result stop.Memory c.from_residual.ensures.1 in
-    rw is (no_memory _ _ _ refl)
-
-pub returns-in_ok-text-in-Ok : goal.returns-in_ok-text-in-Ok
-returns-in_ok-text-in-Ok g c =
+pub returns-in_err-put_description-in-Ok : goal.returns-in_err-put_description-in-Ok
+returns-in_err-put_description-in-Ok g c =
+    let unput = c.in_err-put_description-in-Ok in
+    let is = from_stop c.from_residual.result (stop_of_sink unput.field-0.0) c.from_residual.ensures.1 in
     let due = ap (descriptor_outcome c.args.path.now) (sym c.in-Ok.ensures.info) in
-    rw (due, ← c.in_ok-text-in-Ok.ensures, ← c.as_slice.ensures.value) c.put_output.ensures
+    rw (due, is) (text_unput _ unput.field-0.0 _ _ unput.ensures)
+
+pub returns-in_ok-put_description-in-Ok : goal.returns-in_ok-put_description-in-Ok
+returns-in_ok-put_description-in-Ok g c =
+    let due = ap (descriptor_outcome c.args.path.now) (sym c.in-Ok.ensures.info) in
+    rw due (text_put _ _ _ c.in_ok-put_description-in-Ok.ensures)
 
 pub returns-in_err-path-in-Err-Fault : goal.returns-in_err-path-in-Err-Fault
 returns-in_err-path-in-Err-Fault g c =
