@@ -1,5 +1,5 @@
 -- The parts that were laid out and drawn are those of the layout.
-use Rattle.std.proofs.Common.{AllPairs, ◌≢◌, ◌≡◌, ℕ, zero, suc, ◌+◌, ◌*◌, ◌<◌, ◌≤◌, ◌==◌, ◌⊎◌, inl, inr, Bool}
+use Rattle.std.proofs.Common.{AllPairs, ◌≢◌, ◌≡◌, ℕ, zero, suc, ◌+◌, ◌-◌, ◌*◌, ◌<◌, ◌≤◌, ◌==◌, ◌⊎◌, inl, inr, Bool}
 use Rattle.std.proofs.Common.{true, false, cond, is_some, List, [], ◌∷◌, ◌++◌, Option, Some, None, Err}
 use Rattle.std.proofs.Common.{unwrap_or, length, map, get_or, slice_get, All, Contains, refl, sym, ap, ◌∙◌}
 use Rattle.std.proofs.Common.{subst, arith, append_assoc, length-append}
@@ -31,6 +31,10 @@ use Rattle.jm_form.specs.Layout.{rows_from, sized, sized_node, texts_of, written
 use Rattle.jm_form.specs.Nodes.{words_text}
 use Rattle.jm_form.specs.Trees.{first_clash, tree_nodes}
 use Rattle.jm_form.proofs.PartLaws.{length-rows}
+use Rattle.jm_names.specs.NameFaults.{IsSound}
+use Rattle.jm_nodes.specs.Refusals.{IsRefused}
+use Rattle.jm_nodes.specs.declared.trees.NodesFault.TheVariants as unmade
+use Rattle.jm_nodes.proofs.EndLaws.{has_nodes}
 use Rattle.jm_redirect.specs.declared.building.Table.{Table}
 use Rattle.jm_writer.specs.declared.draft.Draft.{Draft}
 use Rattle.jm_writer.specs.declared.draft.PlanFault.{PlanFault}
@@ -296,6 +300,30 @@ count_sized pool nodes is =
     length-append (map sized pool) (map sized_node (tree_nodes (names_of pool)))
     ∙ ap (λ n. n + length (map sized_node (tree_nodes (names_of pool)))) (length-map pool sized)
     ∙ ap (λ n. length pool + n) (length-map (tree_nodes (names_of pool)) sized_node ∙ ap length (sym is))
+
+-- nodes for which the resources leave room
+pub nodes_few : (pool : List Written) (nodes : List TreeNode) (count room : ℕ) → All IsSound (names_of pool) → nodes
+    ≡ tree_nodes (names_of pool) → length (tree_nodes (names_of pool)) ≤ room → count ≡ length pool → room ≡ 1048576 - count
+    → length pool + length nodes ≤ 1048576
+nodes_few pool nodes count room sound is within resources left =
+    let some = has_nodes (names_of pool) sound in
+    let size = ap length is in
+    omega (arith, some, size, within, resources, left)
+
+-- nodes for which they leave none
+pub plan_crowded : (order : Order) (pool : List Written) (count room number : ℕ) (why : Or PlanFault)
+    → (why ≡ due.Memory) ⊎ (why ≡ due.Fault (refusal.TooMany (count + number))) → count ≡ length pool → room ≡ 1048576 - count
+    → IsRefused (names_of pool) room (unmade.TooMany number) → IfAnswered (Plans order pool) (Err why)
+plan_crowded order pool count room number why (inl none) resources left refused =
+    subst (λ w. IfAnswered (Plans order pool) (Err w)) (sym none) tt
+plan_crowded order pool count room number why (inr is) resources left refused =
+    let all = count_sized pool (tree_nodes (names_of pool)) refl in
+    let size = refused.2 in
+    subst (λ w. IfAnswered (Plans order pool) (Err w)) (sym is) (
+      refused.0,
+      omega (arith, left, refused.1),
+      omega (arith, all, size, resources),
+    )
 
 -- the entries of a pool whose names differ and make trees
 pub entries_fit : (pool : List Written) (entries : Entries) → IsOfEntries (all_sized pool) entries → length (all_sized pool)

@@ -17,11 +17,9 @@ pub struct Entries {
     pub sizes: List<u64>,
 }
 
-/// The entries of the resources, with room for that many entries. They are fewer than 2^63, since
-/// the names stand in a vector.
+/// The entries of the resources, with room for that many entries.
 pub fn resources_of(alloc: Global, pool: &Pool, room: usize) -> Result<Entries, NoMemory>
-    ensures entries { IfOk result (IsOfEntries (map sized pool.now)) }
-    ensures few { OnOk result (length pool.now < 2 ^ 63) }
+    ensures { IfOk result (IsOfEntries (map sized pool.now)) }
 {
     let mut names = Vec::with_capacity(alloc, room)?;
     let mut sizes = Vec::with_capacity(alloc, room)?;

@@ -1,12 +1,14 @@
 //! The plan of an image.
-ghost use Rattle.std.specs.Prelude.{◌≡◌, ◌<◌, ◌≤◌, ◌^◌, ℕ, List, length, false, Some, None, All};
+ghost use Rattle.std.specs.Prelude.{◌≡◌, ◌+◌, ◌≤◌, ◌⊎◌, ℕ, List, length, false, Some, None, All};
 ghost use Rattle.jm_bytes.specs.Results.{IfAnswered};
+ghost use Rattle.jm_bytes.specs.declared.faults.Or.TheVariants.{Fault, Memory};
 ghost use Rattle.jm_names.specs.Names.{is_node};
 ghost use Rattle.jm_names.specs.NameFaults.{IsSound};
 ghost use Rattle.jm_form.specs.Layout.{layout, names_of};
 ghost use Rattle.jm_form.specs.Trees.{first_clash, tree_nodes};
-ghost use Rattle.jm_writer.specs.Drafts.{NoClash, Plans, image_limit};
+ghost use Rattle.jm_writer.specs.Drafts.{NoClash, Plans, entry_limit, image_limit};
 ghost use Rattle.jm_writer.specs.Laid.{IsLaidOut};
+ghost use Rattle.jm_writer.specs.declared.draft.PlanFault.TheVariants.{TooMany};
 
 use crate::draft::{Draft, PlanFault};
 use crate::entries::{add_nodes, resources_of};
@@ -15,7 +17,7 @@ use crate::laying::{lay_out, table_of};
 use crate::tail::tail_bytes;
 use jm_bytes::{Or, Order};
 use jm_form::TreeNode;
-use jm_nodes::{Clash, nodes};
+use jm_nodes::{NodesFault, nodes_within};
 use jm_pool::Pool;
 use std::alloc::Global;
 
@@ -33,15 +35,11 @@ fn plan_with(
     requires resources { All (λ name. is_node name ≡ false) (names_of pool.now) }
     requires apart { first_clash (names_of pool.now) ≡ None }
     requires nodes { nodes.now ≡ tree_nodes (names_of pool.now) }
-    requires few { length nodes.now < 2 ^ 63 }
+    requires few { length pool.now + length nodes.now ≤ entry_limit }
     ensures { IfAnswered (Plans order pool.now) result }
 {
-    let room = pool.len().min(ENTRY_LIMIT) + nodes.len().min(ENTRY_LIMIT);
-    let mut entries = resources_of(alloc, pool, room)?;
     let count = pool.len() + nodes.len();
-    if count > ENTRY_LIMIT {
-        return Err(Or::Fault(PlanFault::TooMany(count as u64)));
-    }
+    let mut entries = resources_of(alloc, pool, count)?;
     add_nodes(alloc, &mut entries, nodes)?;
     let table = table_of(alloc, entries.names.as_slice())?;
     let laid = lay_out(alloc, &entries, &table)?;
@@ -56,6 +54,16 @@ fn plan_with(
     })
 }
 
+/// The refusal of that many resources and nodes. No memory holds more than a number counts.
+fn too_many(resources: usize, nodes: usize) -> Or<PlanFault>
+    ensures { (result ≡ Memory) ⊎ (result ≡ Fault (TooMany (resources + nodes))) }
+{
+    match resources.checked_add(nodes) {
+        Some(count) => Or::Fault(PlanFault::TooMany(count as u64)),
+        None => Or::Memory,
+    }
+}
+
 /// The plan of the image of a pool: all of its bytes but those of the resources.
 ///
 /// # Errors
@@ -68,10 +76,11 @@ pub fn plan(alloc: Global, order: Order, pool: &Pool) -> Result<Draft, Or<PlanFa
     ensures laid { (image : List ℕ) → NoClash pool.now → layout order pool.now ≡ Some image
         → length image ≤ image_limit → IsLaidOut order pool.now image }
 {
-    let _names_differ = pool.len();
-    match nodes(alloc, pool) {
-        Ok(nodes) => plan_with(alloc, order, pool, nodes.into_vec().as_slice()),
-        Err(Or::Fault(Clash(name))) => Err(Or::Fault(PlanFault::Clash(name))),
+    let resources = pool.len();
+    match nodes_within(alloc, pool, ENTRY_LIMIT.saturating_sub(resources)) {
+        Ok(nodes) => plan_with(alloc, order, pool, nodes.as_slice()),
+        Err(Or::Fault(NodesFault::Clash(name))) => Err(Or::Fault(PlanFault::Clash(name))),
+        Err(Or::Fault(NodesFault::TooMany(count))) => Err(too_many(resources, count)),
         Err(Or::Memory) => Err(Or::Memory),
     }
 }

@@ -19,12 +19,12 @@ returns-in_err-laid c =
     let e = c.add_nodes.new.entries in
     let nodes = c.requires.nodes in
     let of_entries = subst (λ ns. IsOfEntries (map sized pool ++ map sized_node ns) e) nodes (c.in_ok-add_nodes.ensures (map sized pool)
-    c.in_ok-entries.ensures.entries) in
+    c.in_ok-entries.ensures) in
     let tabled = subst (λ ns. IsTable ns c.in_ok-table.table) c.as_slice.ensures c.in_ok-table.ensures in
     let is : c.from_residual-in_err-laid.result ≡ Err c.in_err-laid.field-0.0 = search rules in
     let all = count_sized pool c.args.nodes.now nodes in
-    let size = c.len-2.ensures.len in
-    let few : length (all_sized pool) ≤ 1048576 = omega (arith, all, size, c.if-count-gt-ENTRY_LIMIT.false) in
+    let size = c.len.ensures.len in
+    let few : length (all_sized pool) ≤ 1048576 = omega (arith, all, size, c.requires.few) in
     subst (IfAnswered (Plans c.args.order pool)) (sym is)
     (plan_large c.args.order pool e c.in_ok-table.table c.in_err-laid.field-0.0 of_entries tabled c.in_err-laid.ensures
     c.requires.apart few)
@@ -38,13 +38,13 @@ returns c =
     let order = c.args.order in
     let nodes = c.requires.nodes in
     let of_entries = subst (λ ns. IsOfEntries (map sized pool ++ map sized_node ns) e) nodes (c.in_ok-add_nodes.ensures (map sized pool)
-    c.in_ok-entries.ensures.entries) in
+    c.in_ok-entries.ensures) in
     let tabled = subst (λ ns. IsTable ns table) c.as_slice.ensures c.in_ok-table.ensures in
     let all = count_sized pool c.args.nodes.now nodes in
-    let size = c.len-2.ensures.len in
-    let few : length (all_sized pool) ≤ 1048576 = omega (arith, all, size, c.if-count-gt-ENTRY_LIMIT.false) in
+    let size = c.len.ensures.len in
+    let few : length (all_sized pool) ≤ 1048576 = omega (arith, all, size, c.requires.few) in
     let names = ap length of_entries.names ∙ length-map (all_sized pool) (λ e. e.name) in
-    let long : c.len-2.result + length c.args.nodes.now ≡ length e.names = omega (arith, names, all, size) in
+    let long : c.len.result + length c.args.nodes.now ≡ length e.names = omega (arith, names, all, size) in
     let can : CanLay pool = record {
       differ = c.len.ensures.differ;
       plain = record {
@@ -78,10 +78,10 @@ lay_out-requires-clause-entries c =
     let e = c.add_nodes.new.entries in
     let nodes = c.requires.nodes in
     let of_entries = subst (λ ns. IsOfEntries (map sized pool ++ map sized_node ns) e) nodes (c.in_ok-add_nodes.ensures (map sized pool)
-    c.in_ok-entries.ensures.entries) in
+    c.in_ok-entries.ensures) in
     let all = count_sized pool c.args.nodes.now nodes in
-    let size = c.len-2.ensures.len in
-    let few : length (all_sized pool) ≤ 1048576 = omega (arith, all, size, c.if-count-gt-ENTRY_LIMIT.false) in
+    let size = c.len.ensures.len in
+    let few : length (all_sized pool) ≤ 1048576 = omega (arith, all, size, c.requires.few) in
     entries_fit pool e of_entries few (record {
       differ = c.len.ensures.differ;
       plain =
@@ -94,9 +94,9 @@ add_nodes-requires c =
     let nodes = c.requires.nodes in
     let count = ap length nodes in
     let names = length-map pool (λ p. p.0) in
-    let size = c.len-2.ensures.len in
+    let size = c.len.ensures.len in
     subst (All (λ node. holds_size node.holds < 2 ^ 64)) (sym nodes)
-    (nodes_fit (names_of pool) (omega (arith, count, names, size, c.if-count-gt-ENTRY_LIMIT.false)))
+    (nodes_fit (names_of pool) (omega (arith, count, names, size, c.requires.few)))
 
 pub index_bytes-requires-clause-slots : goal.index_bytes-requires-clause-slots
 index_bytes-requires-clause-slots c =
@@ -104,13 +104,13 @@ index_bytes-requires-clause-slots c =
     let e = c.add_nodes.new.entries in
     let nodes = c.requires.nodes in
     let of_entries = subst (λ ns. IsOfEntries (map sized pool ++ map sized_node ns) e) nodes (c.in_ok-add_nodes.ensures (map sized pool)
-    c.in_ok-entries.ensures.entries) in
+    c.in_ok-entries.ensures) in
     let tabled = subst (λ ns. IsTable ns c.in_ok-table.table) c.as_slice.ensures c.in_ok-table.ensures in
     let all = count_sized pool c.args.nodes.now nodes in
-    let size = c.len-2.ensures.len in
+    let size = c.len.ensures.len in
     let names = ap length of_entries.names ∙ length-map (all_sized pool) (λ e. e.name) in
     let same = ap length tabled.redirects in
-    omega (arith, same, tabled.whole, tabled.few, names, all, size, c.if-count-gt-ENTRY_LIMIT.false)
+    omega (arith, same, tabled.whole, tabled.few, names, all, size, c.requires.few)
 
 pub index_bytes-requires-clause-locations : goal.index_bytes-requires-clause-locations
 index_bytes-requires-clause-locations c =
