@@ -6,8 +6,8 @@ use Rattle.std.proofs.lemmas.Bool.{cases_eq, cases_lt}
 use Rattle.std.proofs.lemmas.List.Elements.{All-push, Contains-push_cases}
 use Rattle.std.proofs.lemmas.List.{take_more, take-append-drop}
 use Rattle.jm_closure.specs.Cycles.{IsFirstOf, LeavesRound, Turns}
-use Rattle.jm_closure.specs.Graphs.{ends_at, round_of, with_edge, EndsWithin, HasEdge, IsReached, IsReversed}
-use Rattle.jm_closure.specs.Graphs.{IsRound, OnCycle, RoundsRise, RoundsSoFar}
+use Rattle.jm_closure.specs.Graphs.{ends_at, round_of, with_edge, EndsWithin, HasEdge, IsReached}
+use Rattle.jm_closure.specs.Graphs.{OnCycle, RoundsRise}
 use Rattle.jm_closure.specs.Modules.{Leads}
 use Rattle.jm_closure.proofs.GraphLaws.{edge_cases, edge_kept, edge_new}
 
@@ -48,54 +48,6 @@ reversed_more graph back back' node turns size within turned = (
 )
 
 -- One round more
-
-pub rounds_later : (back : List (List ℕ)) (round : ℕ) (rounds : List ℕ)
-    → RoundsSoFar back round rounds → RoundsSoFar back (round + 1) rounds
-rounds_later back round rounds so_far = record {
-  size = so_far.size;
-  within = λ i. (let below = so_far.within i in omega arith);
-  rise = so_far.rise;
-}
-
-pub rounds_more : (back : List (List ℕ)) (round : ℕ) (before rounds starts : List ℕ)
-    → RoundsSoFar back round before → IsRound back before starts (round + 1) rounds
-    → RoundsSoFar back (round + 1) rounds
-rounds_more back round before rounds starts so_far now = record { size = now.size; within = within; rise = rise }
-  where
-    within : (i : ℕ) → round_of rounds i ≤ round + 1
-    within i = elim (cases_lt 0 (round_of rounds i)) [
-      | inl is ↦ elim (now.fresh i is) [
-        | inl same ↦ (let below = so_far.within i in omega arith)
-        | inr (at, led) ↦ omega arith
-      ]
-      | inr none ↦ omega arith
-    ]
-
-    -- a node that was reached before
-    earlier : (i j : ℕ) → HasEdge back j i → IsReached before j
-        → IsReached rounds i × (round_of rounds i ≤ round_of rounds j)
-    earlier i j edge was =
-        let old = so_far.rise i j edge was in
-        let first = old.0 in
-        let second = old.1 in
-        let i_kept = now.kept i old.0 in
-        let j_kept = now.kept j was in
-        (omega arith, omega arith)
-
-    rise : (i j : ℕ) → HasEdge back j i → IsReached rounds j
-        → IsReached rounds i × (round_of rounds i ≤ round_of rounds j)
-    rise i j edge is = elim (now.followed j i is edge) [
-      | inl was ↦ earlier i j edge was
-      | inr there ↦ elim (now.fresh j is) [
-        | inl same ↦ earlier i j edge (rw same is)
-        | inr (at, led) ↦ (there, (let below = within i in omega arith))
-      ]
-    ]
-
-pub rounds_rise : (graph back : List (List ℕ)) (round : ℕ) (rounds : List ℕ)
-    → IsReversed graph back → RoundsSoFar back round rounds → RoundsRise graph rounds
-rounds_rise graph back round rounds reversed so_far i j edge is =
-    so_far.rise i j (reversed.turned i j edge) is
 
 -- Cycles
 

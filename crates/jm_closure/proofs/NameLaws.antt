@@ -21,9 +21,6 @@ within_found [] i x is = cc
 within_found (y ∷ xs) zero x is = omega arith
 within_found (y ∷ xs) (suc i) x is = let rest = within_found xs i x is in omega arith
 
-pub index_none : (found : List Candidate) → IndexesBelow found [] 0
-index_none found name i = (λ is. cc, λ is. absurd (omega (arith, is.1)))
-
 -- one more module is indexed
 pub index_more : (found : List Candidate) (names more : List (List ℕ × ℕ)) (i : ℕ) (c : Candidate)
     → NamesDiffer found → slice_get found i ≡ Some c → Puts names more (name_of c) i

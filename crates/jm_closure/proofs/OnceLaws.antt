@@ -168,8 +168,3 @@ led_found found i (k ∷ places) j inside (required, leads) =
 pub reached_found : (found : List Candidate) (roots : List (List ℕ)) (j : ℕ) → Reached found roots j → j < length found
 reached_found found roots j (i, places, (name, rooted, named), leads) =
     led_found found i places j (within_found found i named.0 named.1) leads
-
--- so a closure has one answer
-pub closure_once : (found : List Candidate) (roots : List (List ℕ)) (a b : Result (List ℕ) CloseFault)
-    → Closes found roots (Reached found roots) a → Closes found roots (Reached found roots) b → a ≡ b
-closure_once found roots = closes_once found (Reached found roots) (reached_found found roots) roots

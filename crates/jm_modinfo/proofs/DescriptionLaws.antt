@@ -1,11 +1,11 @@
 -- What a file says as the class of a module, from what the calls answered that read it.
-use Rattle.std.proofs.Common.{◌≡◌, ◌≤◌, ℕ, true, List, Some, None, Result, Ok, Err, refl, sym, ap, ◌∙◌}
+use Rattle.std.proofs.Common.{◌≡◌, ℕ, true, List, Some, None, Result, Ok, Err, refl, sym, ap, ◌∙◌}
 use Rattle.jm_bytes.proofs.Choice.{same_ok}
 use Rattle.jm_class.specs.declared.class.ClassFault.{ClassFault}
 use Rattle.jm_class.specs.Classes.{ClassData}
 use Rattle.jm_class.specs.ComputedClass.{fault_of}
 use Rattle.jm_class.specs.Releases.{ReadsFor, class_for, fault_for}
-use Rattle.jm_class.proofs.ReleaseLaws.{reads-class_for, class_for-class_of, class_for-later}
+use Rattle.jm_class.proofs.ReleaseLaws.{reads-class_for, class_for-class_of}
 use Rattle.jm_modinfo.specs.declared.descriptor.Descriptor.{Descriptor}
 use Rattle.jm_modinfo.specs.declared.faults.DescriptorFault.{DescriptorFault}
 use Rattle.jm_modinfo.specs.declared.faults.DescriptorFault.TheVariants as kind
@@ -60,12 +60,6 @@ pub info_for-info_in : (release : ℕ) (bytes : List ℕ) (d : Descriptor) → i
 info_for-info_in release bytes d is =
     let one = class_from (class_for release bytes) d is in
     ap info_with (class_for-class_of release bytes one.0 one.1) ∙ ap of_class one.2
-
-pub info_for-later : (release later : ℕ) → release ≤ later → (bytes : List ℕ) (d : Descriptor) → info_for release bytes ≡ Ok d
-    → info_for later bytes ≡ Ok d
-info_for-later release later rises bytes d is =
-    let one = class_from (class_for release bytes) d is in
-    ap info_with (class_for-later release later rises bytes one.0 one.1) ∙ ap of_class one.2
 
 -- the name of a module is legal
 pub legal_name : (c : ClassData) (d : Descriptor) → InfoOf c d → is_legal d.name ≡ true

@@ -1,7 +1,7 @@
 -- The constants and the fields of the needs, one need after another.
 use Rattle.std.proofs.Common.{◌≡◌, ℕ, suc, ◌+◌, ◌-◌, ◌*◌, ◌<◌, ◌≤◌, ◌^◌, List, [], ◌∷◌, ◌++◌, get_or, length}
 use Rattle.std.proofs.Common.{take, drop, sym, ap, ◌∙◌, subst, arith, append_assoc}
-use Rattle.std.proofs.lemmas.List.{at_drop_more, append-nil, at_drop_all, take_more, take_all}
+use Rattle.std.proofs.lemmas.List.{at_drop_more, append-nil, take_more, take_all}
 use Rattle.std.proofs.lemmas.List.Elements.{All-nil, All-cons, All-append}
 use Rattle.std.specs.Prelude.{All}
 use Rattle.jm_class.specs.Classes.{SlotData, Constant, u2}
@@ -73,11 +73,6 @@ module _ (needs : List Need) (i : ℕ) (item : Need) (more : i < length needs) (
       subst (All (λ n. n.flags < 2 ^ 16)) (sym (take_more needs i item more))
       (All-append (λ n. n.flags < 2 ^ 16) (take i needs) (get_or needs i item ∷ []) before
       (All-cons (λ n. n.flags < 2 ^ 16) (get_or needs i item) [] this (All-nil (λ n. n.flags < 2 ^ 16))))
-
-pub needs-all : (needs : List Need) (i number : ℕ) (done all : List ℕ) → length needs ≤ i → done ++ needs_text number (drop i needs)
-    ≡ all → done ≡ all
-needs-all needs i number done all end e = sym (append-nil done)
-    ∙ ap (λ t. done ++ t) (sym (at_drop_all (needs_text number) needs i end)) ∙ e
 
 pub flags-all : (needs : List Need) (i : ℕ) → length needs ≤ i → All (λ n. n.flags < 2 ^ 16) (take i needs)
     → All (λ n. n.flags < 2 ^ 16) needs

@@ -80,15 +80,6 @@ table_with names slots redirects enough is = go (given_in_turn names slots [] []
     go None e is = cc
     go (Some given) e is = subst (IsTableOf names slots) (same_some (table_of names slots given).redirects redirects is) (made given e)
 
--- no redirects, so no table
-pub table_without : (names : List (List ℕ)) (slots : ℕ) → option_map (λ t. t.redirects) (greedy names slots) ≡ None
-    → greedy names slots ≡ None
-table_without names slots is = go (greedy names slots) refl is
-  where
-    go : (o : Option GreedyTable) → greedy names slots ≡ o → option_map (λ t. t.redirects) o ≡ None → greedy names slots ≡ None
-    go None e is = e
-    go (Some table) e is = cc
-
 -- a table that is built serves its names
 pub table_serves : (names : List (List ℕ)) (slots : ℕ) (table : GreedyTable) → length names ≤ slots → slots < 2 ^ 31
     → greedy names slots ≡ Some table → table.length ≡ slots → ServesNames names (as_table table)

@@ -5,7 +5,7 @@ use Rattle.std.proofs.Common.{IsSome, Contains, AllPairs, refl, sym, ap, ◌∙�
 use Rattle.std.proofs.Common.{length-append, drop_at, take_at}
 use Rattle.std.proofs.lemmas.Bool.{eqb-true, false≢true}
 use Rattle.std.proofs.lemmas.List.{get_or_append_left, get_or_at}
-use Rattle.std.proofs.lemmas.List.Elements.{All-cons, All-nil, Contains-append_left, Contains-append_right, Contains-push}
+use Rattle.std.proofs.lemmas.List.Elements.{All-nil, Contains-append_left, Contains-append_right, Contains-push}
 use Rattle.std.proofs.lemmas.List.Folds.{list_any_at}
 use Rattle.std.proofs.lemmas.List.Kept.{AllPairs-cons}
 use Rattle.std.proofs.lemmas.Slice.Eq.{bytes_eq-Decides}
@@ -168,14 +168,6 @@ with_differs text held differ = go (is_some (place_of text held)) refl
 all_differ : (texts held : List (List ℕ)) → AllPairs (λ a b. a ≢ b) held → AllPairs (λ a b. a ≢ b) (with_texts held texts)
 all_differ [] held differ = differ
 all_differ (text ∷ texts) held differ = all_differ texts (with_text text held) (with_differs text held differ)
-
-pub texts_differ : (names : List (List ℕ)) → AllPairs (λ a b. a ≢ b) (texts_of names)
-texts_differ names = all_differ (flat_map (λ n. pieces (split n)) names) ([] ∷ codes "class" ∷ []) first_two
-  where
-    first_two : AllPairs (λ a b. a ≢ b) ([] ∷ codes "class" ∷ [])
-    first_two = AllPairs-cons (λ a b. a ≢ b) [] (codes "class" ∷ []) (All-cons (λ b. [] ≢ b) (codes "class") [] (λ e. cc)
-        (All-nil (λ b. [] ≢ b))) (AllPairs-cons (λ a b. a ≢ b) (codes "class") [] (All-nil (λ b. codes "class" ≢ b))
-        (pairs_none (λ a b. a ≢ b)))
 
 -- the first text stays the first
 front_kept : (first : List ℕ) (rest texts : List (List ℕ)) → (more : List (List ℕ)) × (with_texts (first ∷ rest) texts ≡ first ∷ more)

@@ -21,10 +21,3 @@ laid_length order resources table b of is =
     let same : other ≡ table = same_some other table (sym found ∙ of) in
     ap length (sym whole) ∙ ap (λ t. length (layout_with order resources t)) same
     ∙ layout_length order resources table (table_found (all_names resources) table of).redirects
-
--- both orders give one length
-pub layouts_same_length : (resources : List Written) (one other : Order) (b c : List ℕ) → layout one resources ≡ Some b
-    → layout other resources ≡ Some c → length b ≡ length c
-layouts_same_length resources one other b c first second =
-    let (table, of, whole) = layout_from one resources b first in
-    laid_length one resources table b of first ∙ sym (laid_length other resources table c of second)

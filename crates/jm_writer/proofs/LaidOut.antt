@@ -1,13 +1,8 @@
 -- What the layout of resources is: the promise that is kept for each pool whose names are fit.
-use Rattle.std.proofs.Common.{◌≡◌, ℕ, ◌≤◌, List, length, Option, Some, None, Contains, option_map, refl, sym, ◌∙◌, subst}
-use Rattle.std.specs.Map.{lookup}
-use Rattle.std.specs.Str.{bytes_eq}
+use Rattle.std.proofs.Common.{◌≡◌, ℕ, ◌≤◌, List, length, Some, sym, subst}
 use Rattle.jm_bytes.specs.declared.words.Order.{Order}
 use Rattle.jm_form.specs.Greedy.{GreedyTable}
-use Rattle.jm_form.specs.Layout.{Written, layout, layout_table, layout_with, names_of}
-use Rattle.jm_form.specs.declared.rows.Row.{Row}
-use Rattle.jm_form.specs.Trees.{node_names}
-use Rattle.jm_form.specs.Validity.{look}
+use Rattle.jm_form.specs.Layout.{Written, layout, layout_table, layout_with}
 use Rattle.jm_writer.specs.Laid.{CanLay, IsLaidOut}
 use Rattle.jm_writer.specs.Drafts.{image_limit}
 use Rattle.jm_writer.proofs.LaidLooks.{laid_answers, laid_ordered}
@@ -33,12 +28,3 @@ pub laid_out : (order : Order) (resources : List Written) (b : List ℕ) → Can
 laid_out order resources b can is within =
     let (table, of, whole) = layout_from order resources b is in
     subst (IsLaidOut order resources) whole (laid_by order resources can table of (subst (λ l. length l ≤ image_limit) (sym whole) within))
-
--- a name that is neither a resource's nor a node's is looked up in vain
-pub laid_missing : (order : Order) (resources : List Written) (b name : List ℕ) → IsLaidOut order resources b
-    → lookup (bytes_eq name) resources ≡ None → (Contains (node_names (names_of resources)) name → ⊥) → look b name ≡ None
-laid_missing order resources b name laid none other = go (look b name) (laid.answers name other ∙ none)
-  where
-    go : (o : Option (Row × List ℕ)) → option_map (λ found. found.1) o ≡ None → o ≡ None
-    go None is = refl
-    go (Some found) is = cc
