@@ -1,4 +1,4 @@
-//! What `describe` prints, put piece by piece: a class can say lines that are far longer than it is.
+//! What `describe` prints, put piece by piece: a class can say a line far longer than itself.
 ghost use Rattle.std.specs.Prelude.{◌≡◌, ◌∷◌, ◌++◌, [], OnOk, codes, flat_map};
 ghost use Rattle.jm_names.specs.Shown.{shown};
 ghost use Rattle.jm_texts.specs.DescribeText.{behind, behind_comma, describe_text, is_marked};

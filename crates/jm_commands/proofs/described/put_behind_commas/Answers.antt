@@ -1,24 +1,26 @@
 use Rattle.std.proofs.Common.{append-nil, arith, sym}
 use Rattle.jm_bytes.proofs.ResultLaws.{passed_on}
 use Rattle.jm_texts.specs.DescribeText.{behind_comma}
-use Rattle.jm_commands.proofs.PieceLaws.{all_passed, all_held, line_cut, line_then}
+use Rattle.jm_commands.proofs.PieceLaws.{all_held, all_passed, line_cut, line_then}
 use Rattle.jm_commands.proofs.described.put_behind_commas.Goals as goal
 
 pub loop-name-init : goal.loop-name-init
-loop-name-init g c =
-    all_held _ _ _ _ (sym (append-nil _))
+loop-name-init g c = all_held (sym (append-nil _))
 
 pub returns-in_err-put_named : goal.returns-in_err-put_named
 returns-in_err-put_named g c =
     rw (passed_on c.from_residual.result c.in_err-put_named.field-0.0 c.from_residual.ensures.1)
-    (line_cut behind_comma c.args.names.now c.loop-name.name-index c.name-item.result _ _ _ _ _ _ _ c.loop-name-test.true (sym c.name-item.is)
-    c.loop-name.invariant (rw c.as_slice.ensures at c.in_err-put_named.ensures))
+    (line_cut behind_comma c.args.names.now c.loop-name.name-index c.loop-name-test.true
+    (sym c.name-item.is) c.loop-name.invariant
+    (rw c.as_slice.ensures at c.in_err-put_named.ensures))
 
 pub loop-name-preserved : goal.loop-name-preserved
 loop-name-preserved g c =
-    line_then behind_comma c.args.names.now c.loop-name.name-index c.name-item.result _ _ _ _ _ _ _ c.loop-name-test.true (sym c.name-item.is)
-    c.loop-name.invariant (rw c.as_slice.ensures at c.in_ok-put_named.ensures)
+    line_then behind_comma c.args.names.now c.loop-name.name-index c.loop-name-test.true
+    (sym c.name-item.is) c.loop-name.invariant
+    (rw c.as_slice.ensures at c.in_ok-put_named.ensures)
 
 pub returns : goal.returns
 returns g c =
-    all_passed behind_comma c.args.names.now c.loop-name.name-index _ _ _ _ _ (let end = c.loop-name-test.false in omega arith) c.loop-name.invariant
+    let end = c.loop-name-test.false in
+    all_passed behind_comma c.args.names.now c.loop-name.name-index (omega arith) c.loop-name.invariant

@@ -6,5 +6,6 @@ use Rattle.jm_commands.proofs.described.put_behind_commas.Given as goal
 
 abbrev pub invariant-loop-name : goal.invariant-loop-name
 invariant-loop-name g l =
-    PassesText (flat_map behind_comma (take l.name-index l.names)) l.fn.text.items l.text.items (Ok tt) (sink_at g.O.Sink l.fn.out)
+    PassesText (flat_map behind_comma (take l.name-index l.names)) l.fn.text.items l.text.items (Ok tt)
+    (sink_at g.O.Sink l.fn.out)
     (sink_at g.O.Sink l.out)

@@ -11,10 +11,10 @@ returns-in_err-put_named g c =
       c.in-Some.ensures.cases.0,
       listed,
     )
-    (cut_passed _ _ _ _ _ _ _ (rw c.as_slice.ensures at c.in_err-put_named.ensures))
+    (cut_passed _ (rw c.as_slice.ensures at c.in_err-put_named.ensures))
 
 pub returns : goal.returns
 returns g c =
     let listed = listed_names c.args.word.now c.in-Some.first.now c.in-Some.others.now in
     rw (c.in-Some.ensures.cases.0, listed)
-    (then_passed _ _ _ _ _ _ _ _ _ (rw c.as_slice.ensures at c.in_ok-put_named.ensures) c.put_behind_commas.ensures)
+    (then_passed (rw c.as_slice.ensures at c.in_ok-put_named.ensures) c.put_behind_commas.ensures)

@@ -6,18 +6,24 @@ use Rattle.jm_commands.proofs.described.put_module.Goals as goal
 pub returns-in_err-put_named : goal.returns-in_err-put_named
 returns-in_err-put_named g c =
     rw (passed_on c.from_residual.result c.in_err-put_named.field-0.0 c.from_residual.ensures.1)
-    (cut_passed _ _ _ _ _ _ _ (cut_passed _ _ _ _ _ _ _ (rw (c.module_word.ensures, c.as_slice.ensures) at c.in_err-put_named.ensures)))
+    (cut_passed _ (cut_passed _ (rw (c.module_word.ensures, c.as_slice.ensures) at c.in_err-put_named.ensures)))
 
 pub returns-in_err-put_version : goal.returns-in_err-put_version
 returns-in_err-put_version g c =
-    rw (passed_on c.from_residual-in_err-put_version.result c.in_err-put_version.field-0.0 c.from_residual-in_err-put_version.ensures.1)
-    (cut_passed _ _ _ _ _ _ _ (then_passed _ _ _ _ _ _ _ _ _ (rw (c.module_word.ensures, c.as_slice.ensures) at c.in_ok-put_named.ensures) c.in_err-put_version.ensures))
+    let name = rw (c.module_word.ensures, c.as_slice.ensures) at c.in_ok-put_named.ensures in
+    rw (passed_on c.from_residual-in_err-put_version.result c.in_err-put_version.field-0.0
+    c.from_residual-in_err-put_version.ensures.1)
+    (cut_passed _ (then_passed name c.in_err-put_version.ensures))
 
 pub returns-in_err-extend : goal.returns-in_err-extend
 returns-in_err-extend g c =
+    let name = rw (c.module_word.ensures, c.as_slice.ensures) at c.in_ok-put_named.ensures in
+    let version = then_passed name c.in_ok-put_version.ensures in
     rw (passed_on c.from_residual-in_err-extend.result sink_error.Memory c.from_residual-in_err-extend.ensures.1)
-    (then_passed _ _ _ _ _ _ _ _ _ (then_passed _ _ _ _ _ _ _ _ _ (rw (c.module_word.ensures, c.as_slice.ensures) at c.in_ok-put_named.ensures) c.in_ok-put_version.ensures) (none_passed _ _ _ _))
+    (then_passed version none_passed)
 
 pub returns : goal.returns
 returns g c =
-    then_passed _ _ _ _ _ _ _ _ _ (then_passed _ _ _ _ _ _ _ _ _ (rw (c.module_word.ensures, c.as_slice.ensures) at c.in_ok-put_named.ensures) c.in_ok-put_version.ensures) (all_held _ _ _ _ c.in_ok-extend.ensures.ok)
+    let name = rw (c.module_word.ensures, c.as_slice.ensures) at c.in_ok-put_named.ensures in
+    let version = then_passed name c.in_ok-put_version.ensures in
+    then_passed version (all_held c.in_ok-extend.ensures.ok)

@@ -6,5 +6,6 @@ use Rattle.jm_commands.proofs.described.put_needs.Given as goal
 
 abbrev pub invariant-loop-need : goal.invariant-loop-need
 invariant-loop-need g l =
-    PassesText (flat_map need_line (take l.need-index l.needs)) l.fn.text.items l.text.items (Ok tt) (sink_at g.O.Sink l.fn.out)
+    PassesText (flat_map need_line (take l.need-index l.needs)) l.fn.text.items l.text.items (Ok tt)
+    (sink_at g.O.Sink l.fn.out)
     (sink_at g.O.Sink l.out)

@@ -1,24 +1,27 @@
 use Rattle.std.proofs.Common.{append-nil, arith, sym}
 use Rattle.jm_bytes.proofs.ResultLaws.{passed_on}
 use Rattle.jm_texts.specs.DescribeText.{opened_line}
-use Rattle.jm_commands.proofs.PieceLaws.{all_passed, all_held, line_cut, line_then}
+use Rattle.jm_commands.proofs.PieceLaws.{all_held, all_passed, line_cut, line_then}
 use Rattle.jm_commands.proofs.described.put_packages.Goals as goal
 
 pub loop-opened-init : goal.loop-opened-init
-loop-opened-init g c =
-    all_held _ _ _ _ (sym (append-nil _))
+loop-opened-init g c = all_held (sym (append-nil _))
 
 pub returns-in_err-put_package : goal.returns-in_err-put_package
 returns-in_err-put_package g c =
     rw (passed_on c.from_residual.result c.in_err-put_package.field-0.0 c.from_residual.ensures.1)
-    (line_cut (opened_line c.args.word.now) c.args.packages.now c.loop-opened.opened-index c.opened-item.result _ _ _ _ _ _ _ c.loop-opened-test.true (sym c.opened-item.is)
-    c.loop-opened.invariant c.in_err-put_package.ensures)
+    (line_cut (opened_line c.args.word.now) c.args.packages.now c.loop-opened.opened-index c.loop-opened-test.true
+    (sym c.opened-item.is) c.loop-opened.invariant
+    c.in_err-put_package.ensures)
 
 pub loop-opened-preserved : goal.loop-opened-preserved
 loop-opened-preserved g c =
-    line_then (opened_line c.args.word.now) c.args.packages.now c.loop-opened.opened-index c.opened-item.result _ _ _ _ _ _ _ c.loop-opened-test.true (sym c.opened-item.is)
-    c.loop-opened.invariant c.in_ok-put_package.ensures
+    line_then (opened_line c.args.word.now) c.args.packages.now c.loop-opened.opened-index c.loop-opened-test.true
+    (sym c.opened-item.is) c.loop-opened.invariant
+    c.in_ok-put_package.ensures
 
 pub returns : goal.returns
 returns g c =
-    all_passed (opened_line c.args.word.now) c.args.packages.now c.loop-opened.opened-index _ _ _ _ _ (let end = c.loop-opened-test.false in omega arith) c.loop-opened.invariant
+    let end = c.loop-opened-test.false in
+    all_passed (opened_line c.args.word.now) c.args.packages.now c.loop-opened.opened-index
+    (omega arith) c.loop-opened.invariant

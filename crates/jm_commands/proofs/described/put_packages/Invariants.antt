@@ -6,5 +6,6 @@ use Rattle.jm_commands.proofs.described.put_packages.Given as goal
 
 abbrev pub invariant-loop-opened : goal.invariant-loop-opened
 invariant-loop-opened g l =
-    PassesText (flat_map (opened_line l.word) (take l.opened-index l.packages)) l.fn.text.items l.text.items (Ok tt) (sink_at g.O.Sink l.fn.out)
+    PassesText (flat_map (opened_line l.word) (take l.opened-index l.packages)) l.fn.text.items l.text.items (Ok tt)
+    (sink_at g.O.Sink l.fn.out)
     (sink_at g.O.Sink l.out)

@@ -1,24 +1,26 @@
 use Rattle.std.proofs.Common.{append-nil, arith, sym}
 use Rattle.jm_bytes.proofs.ResultLaws.{passed_on}
 use Rattle.jm_texts.specs.DescribeText.{provides_line}
-use Rattle.jm_commands.proofs.PieceLaws.{all_passed, all_held, line_cut, line_then}
+use Rattle.jm_commands.proofs.PieceLaws.{all_held, all_passed, line_cut, line_then}
 use Rattle.jm_commands.proofs.described.put_provides.Goals as goal
 
 pub loop-provided-init : goal.loop-provided-init
-loop-provided-init g c =
-    all_held _ _ _ _ (sym (append-nil _))
+loop-provided-init g c = all_held (sym (append-nil _))
 
 pub returns-in_err-put_provided : goal.returns-in_err-put_provided
 returns-in_err-put_provided g c =
     rw (passed_on c.from_residual.result c.in_err-put_provided.field-0.0 c.from_residual.ensures.1)
-    (line_cut provides_line c.args.provides.now c.loop-provided.provided-index c.provided-item.result _ _ _ _ _ _ _ c.loop-provided-test.true (sym c.provided-item.is)
-    c.loop-provided.invariant c.in_err-put_provided.ensures)
+    (line_cut provides_line c.args.provides.now c.loop-provided.provided-index c.loop-provided-test.true
+    (sym c.provided-item.is) c.loop-provided.invariant
+    c.in_err-put_provided.ensures)
 
 pub loop-provided-preserved : goal.loop-provided-preserved
 loop-provided-preserved g c =
-    line_then provides_line c.args.provides.now c.loop-provided.provided-index c.provided-item.result _ _ _ _ _ _ _ c.loop-provided-test.true (sym c.provided-item.is)
-    c.loop-provided.invariant c.in_ok-put_provided.ensures
+    line_then provides_line c.args.provides.now c.loop-provided.provided-index c.loop-provided-test.true
+    (sym c.provided-item.is) c.loop-provided.invariant
+    c.in_ok-put_provided.ensures
 
 pub returns : goal.returns
 returns g c =
-    all_passed provides_line c.args.provides.now c.loop-provided.provided-index _ _ _ _ _ (let end = c.loop-provided-test.false in omega arith) c.loop-provided.invariant
+    let end = c.loop-provided-test.false in
+    all_passed provides_line c.args.provides.now c.loop-provided.provided-index (omega arith) c.loop-provided.invariant

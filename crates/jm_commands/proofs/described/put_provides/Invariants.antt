@@ -6,5 +6,6 @@ use Rattle.jm_commands.proofs.described.put_provides.Given as goal
 
 abbrev pub invariant-loop-provided : goal.invariant-loop-provided
 invariant-loop-provided g l =
-    PassesText (flat_map provides_line (take l.provided-index l.provides)) l.fn.text.items l.text.items (Ok tt) (sink_at g.O.Sink l.fn.out)
+    PassesText (flat_map provides_line (take l.provided-index l.provides)) l.fn.text.items l.text.items (Ok tt)
+    (sink_at g.O.Sink l.fn.out)
     (sink_at g.O.Sink l.out)

@@ -6,5 +6,6 @@ use Rattle.jm_commands.proofs.described.put_uses.Given as goal
 
 abbrev pub invariant-loop-service : goal.invariant-loop-service
 invariant-loop-service g l =
-    PassesText (flat_map uses_line (take l.service-index l.services)) l.fn.text.items l.text.items (Ok tt) (sink_at g.O.Sink l.fn.out)
+    PassesText (flat_map uses_line (take l.service-index l.services)) l.fn.text.items l.text.items (Ok tt)
+    (sink_at g.O.Sink l.fn.out)
     (sink_at g.O.Sink l.out)

@@ -1,11 +1,10 @@
-use Rattle.std.proofs.Common.{◌++◌, drop, flat_map, map}
-use Rattle.jm_commands.specs.ListText.{sized_as, sized_line}
+use Rattle.std.proofs.Common.{[], Ok, flat_map, take}
+use Rattle.jm_commands.specs.Pieces.{PassesText}
 use Rattle.jm_commands.specs.World.{sink_at}
-use Rattle.jm_commands.proofs.PieceLaws.{Left}
+use Rattle.jm_commands.proofs.ListingLaws.{entry_line}
 use Rattle.jm_commands.proofs.listing.put_lines.Given as goal
 
 abbrev pub invariant-loop-entry : goal.invariant-loop-entry
 invariant-loop-entry g l =
-    Left (flat_map sized_line (map sized_as l.entries))
-    (l.text.items ++ flat_map sized_line (map sized_as (drop l.entry-index l.entries)))
-    (sink_at g.O.Sink l.fn.out) (sink_at g.O.Sink l.out)
+    PassesText (flat_map entry_line (take l.entry-index l.entries)) [] l.text.items (Ok tt) (sink_at g.O.Sink l.fn.out)
+    (sink_at g.O.Sink l.out)
