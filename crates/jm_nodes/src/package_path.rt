@@ -43,13 +43,13 @@ fn after_same_blocks<'a, 'b>(path: &'a [u8], other: &'b [u8]) -> (&'a [u8], &'b 
 {
     let (mut rest, mut other_rest) = (path, other);
     while rest.len() >= BLOCK && other_rest.len() >= BLOCK {
-        let (block, behind) = rest.split_at(BLOCK);
-        let (other_block, other_behind) = other_rest.split_at(BLOCK);
+        let (block, after) = rest.split_at(BLOCK);
+        let (other_block, other_after) = other_rest.split_at(BLOCK);
         if !same_block(block, other_block) {
             break;
         }
-        rest = behind;
-        other_rest = other_behind;
+        rest = after;
+        other_rest = other_after;
     }
     (rest, other_rest)
 }
