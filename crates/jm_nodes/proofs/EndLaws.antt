@@ -7,7 +7,7 @@ use Rattle.jm_form.specs.Rising.{rising}
 use Rattle.jm_form.specs.Trees.{first_clash, fronts, packages, tree_nodes}
 use Rattle.jm_form.specs.declared.trees.TreeNode.{TreeNode}
 use Rattle.jm_names.specs.NameFaults.{IsSound}
-use Rattle.jm_nodes.specs.FrontTrees.{called_all, folders_among, Folder, IsMadeOf}
+use Rattle.jm_nodes.specs.FrontTrees.{called_all, folders_among, IsMadeOf}
 use Rattle.jm_nodes.specs.Order.{is_among, SameElements}
 use Rattle.jm_nodes.proofs.ClashLaws.{apart_from, clash_found}
 use Rattle.jm_nodes.proofs.FolderLaws.{packages_same}
@@ -61,10 +61,10 @@ module _ (names : Texts) (sound : All IsSound names) where
         (subst (λ (n : Texts). IsMadeOf n risen nodes) names_are (subst (λ (f : Texts). IsMadeOf listed_names f nodes) fs_are made))
 
     -- two roots, a node for each front, and one for each package
-    pub count_is : (folders : List Folder) (called : Texts) → folders ≡ folders_among fs → called ≡ rising (called_all folders)
+    pub count_is : (called : Texts) → called ≡ rising (called_all (folders_among fs))
         → length (tree_nodes names) ≡ 2 + length fs + length called
-    count_is folders called folders_are called_are =
-        let same : called ≡ packages names = called_are ∙ ap (λ f. rising (called_all f)) (folders_are ∙ ap folders_among fs_are)
+    count_is called called_are =
+        let same : called ≡ packages names = called_are ∙ ap (λ f. rising (called_all (folders_among f))) fs_are
         ∙ sym (packages_same names cut risen same_fronts) in
         let made = made_count in
         let few = ap length fs_are in

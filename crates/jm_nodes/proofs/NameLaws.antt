@@ -2,14 +2,14 @@
 use Rattle.std.proofs.Common.{◌≡◌, ℕ, zero, suc, ◌+◌, ◌<◌, List, [], ◌∷◌, ◌++◌, length, map, take, add-one}
 use Rattle.std.proofs.Common.{get_or, Option, Some, None, refl, sym, subst, All, ap, ◌∙◌, arith, slice_get}
 use Rattle.std.proofs.Common.{Bor}
-use Rattle.std.proofs.lemmas.List.{get_or-map, length-map, map_more, map_push}
+use Rattle.std.proofs.lemmas.List.{get_or-map, length-map, map-append, map_more, map_push}
 use Rattle.std.proofs.lemmas.List.Elements.{filter_map-append, All-append, All-cons, All-nil}
 use Rattle.std.specs.List.{cons_option, filter_map}
 use Rattle.std.specs.Option.{option_to_list}
 use Rattle.jm_pool.specs.Pairs.{names_of}
 use Rattle.jm_names.specs.Names.{dotted}
 use Rattle.jm_bytes.proofs.Choice.{same_some}
-use Rattle.jm_nodes.specs.FrontTrees.{called_all, folder_of, package_folder, Folder}
+use Rattle.jm_nodes.specs.FrontTrees.{called_all, folder_of, folders_among, package_folder, Folder}
 use Rattle.jm_nodes.specs.declared.packages.PackageFolder.{PackageFolder}
 
 taken_next : (pairs : List (List ℕ × List ℕ)) (place : ℕ) (name bytes : List ℕ) → slice_get pairs place ≡ Some (name, bytes)
@@ -60,3 +60,14 @@ folders_next fronts place d before after below was is =
     alone : (o : Option Folder) → option_to_list o ≡ cons_option o []
     alone None = refl
     alone (Some folder) = refl
+
+-- the package of one front more, where its folder makes one
+pub packages_next : (fronts : List (Bor (List ℕ))) (place : ℕ) (d : Bor (List ℕ)) (before after : List (List ℕ))
+    → place < length fronts → before ≡ called_all (folders_among (map (λ f. f.now) (take place fronts)))
+    → after ≡ before ++ called_all (option_to_list (package_folder (get_or fronts place d).now))
+    → after ≡ called_all (folders_among (map (λ f. f.now) (take (place + 1) fronts)))
+packages_next fronts place d before after below was is =
+    let so_far = folders_among (map (λ (f : Bor (List ℕ)). f.now) (take place fronts)) in
+    let one = option_to_list (package_folder (get_or fronts place d).now) in
+    is ∙ ap (λ l. l ++ called_all one) was ∙ sym (map-append (λ (f : Folder). dotted f.path) so_far one)
+    ∙ ap called_all (folders_next fronts place d so_far (so_far ++ one) below refl refl)

@@ -8,6 +8,7 @@ ghost use Rattle.jm_nodes.specs.Filings.{filing_of, IsFiledInOrder, FilesAll};
 ghost use Rattle.jm_nodes.specs.FrontTrees.{
   called_all,
   folder_of,
+  folders_among,
   owner_alone,
   owners_of,
   package_filing,
@@ -99,17 +100,26 @@ fn rising_packages<'a>(packages: List<PackagePath<'a>>) -> List<PackagePath<'a>>
     List::from_vec(sorted)
 }
 
-/// The packages that folders make, each once, rising. No text is made of what they are called.
-pub fn packages<'a>(
-    alloc: Global,
-    folders: &[PackageFolder<'a>],
-) -> Result<List<PackagePath<'a>>, NoMemory>
-    ensures { IfOk result (λ packages.
-        map called_of packages ≡ rising (called_all (map folder_of folders.now))) }
+/// Puts the package of a front's folder at the end, where it makes one.
+fn put_package<'a>(packages: &mut List<PackagePath<'a>>, front: &'a [u8]) -> Result<(), NoMemory>
+    ensures { OnOk result (map called_of packages.new ≡ map called_of packages.old
+        ++ called_all (option_to_list (package_folder front.now))) }
 {
-    let mut packages = List::with_capacity(alloc, folders.len())?;
-    for folder in folders {
+    if let Some(folder) = package_folder(front) {
         packages.push(PackagePath { path: folder.path })?;
+    }
+    Ok(())
+}
+
+/// The packages of the folders among fronts, each once, rising. No text is made of what they are
+/// called.
+pub fn packages<'a>(alloc: Global, fronts: &[&'a [u8]]) -> Result<List<PackagePath<'a>>, NoMemory>
+    ensures { IfOk result (λ packages. map called_of packages
+        ≡ rising (called_all (folders_among (map (λ front. front.now) fronts.now)))) }
+{
+    let mut packages = List::with_capacity(alloc, fronts.len())?;
+    for front in fronts {
+        put_package(&mut packages, front)?;
     }
     Ok(rising_packages(packages))
 }

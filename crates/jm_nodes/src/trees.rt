@@ -10,7 +10,6 @@ ghost use Rattle.jm_pool.specs.Pairs.{names_of};
 ghost use Rattle.jm_nodes.specs.Filings.{filing_of, IsFiledInOrder};
 ghost use Rattle.jm_nodes.specs.FrontTrees.{
   called_all,
-  folder_of,
   folders_among,
   front_node,
   owners_node,
@@ -26,9 +25,7 @@ use crate::filed::Filed;
 use crate::fronts::fronts_of;
 use crate::names::{first_front, rising_names};
 use crate::package_path::PackagePath;
-use crate::packages::{
-    PackageFolder, called_all, owners, package_folders, package_table, packages,
-};
+use crate::packages::{called_all, owners, package_folders, package_table, packages};
 use crate::texts::joined;
 use jm_bytes::{List, NoMemory, Or, Text};
 use jm_form::{Holds, TreeNode};
@@ -148,24 +145,27 @@ fn rising_nodes(
     Ok(nodes)
 }
 
-/// The nodes of resources whose names, fronts, folders and packages these are, falling by name.
+/// The nodes of resources whose names, fronts and packages these are, falling by name.
 fn nodes_of<'a>(
     alloc: Global,
     names: &[&'a [u8]],
     fronts: &[&'a [u8]],
-    folders: &[PackageFolder<'a>],
     packages: &[PackagePath<'a>],
 ) -> Result<List<TreeNode>, NoMemory>
-    requires folders { map folder_of folders.now
-        ≡ folders_among (map (λ front. front.now) fronts.now) }
-    requires packages { map called_of packages.now
-        ≡ rising (called_all (map folder_of folders.now)) }
+    requires { map called_of packages.now
+        ≡ rising (called_all (folders_among (map (λ front. front.now) fronts.now))) }
     ensures { IfOk result (λ nodes. IsMadeOf (map (λ name. name.now) names.now)
         (map (λ front. front.now) fronts.now) nodes) }
 {
     let table = child_table(alloc, names, fronts)?;
-    let called = called_all(alloc, folders)?;
-    let owned = package_table(alloc, table.as_slice(), folders, called.as_slice())?;
+    let folders = package_folders(alloc, fronts)?;
+    let called = called_all(alloc, folders.as_slice())?;
+    let owned = package_table(
+        alloc,
+        table.as_slice(),
+        folders.as_slice(),
+        called.as_slice(),
+    )?;
     let nodes = rising_nodes(alloc, table.as_slice(), fronts, owned.as_slice(), packages)?;
     let mut falling = nodes.into_vec();
     falling.reverse();
@@ -207,15 +207,13 @@ pub fn nodes_within(
     if let Some(name) = first_front(names, fronts) {
         return Err(Or::Fault(NodesFault::Clash(Text::copy_of(alloc, name)?)));
     }
-    let found = package_folders(alloc, fronts)?;
-    let folders = found.as_slice();
-    let paths = packages(alloc, folders)?;
+    let paths = packages(alloc, fronts)?;
     let packages = paths.as_slice();
     let count = count_of(fronts.len(), packages.len())?;
     if count > room {
         return Err(Or::Fault(NodesFault::TooMany(count)));
     }
-    Ok(nodes_of(alloc, names, fronts, folders, packages)?)
+    Ok(nodes_of(alloc, names, fronts, packages)?)
 }
 
 /// The nodes of the trees of a pool's resources, falling by name.

@@ -4,7 +4,6 @@ use Rattle.std.specs.List.{flat_map}
 use Rattle.jm_form.proofs.RisingLaws.{rising_rises}
 use Rattle.jm_form.specs.Trees.{fronts}
 use Rattle.jm_pool.specs.Pairs.{names_of}
-use Rattle.jm_nodes.specs.FrontTrees.{folder_of}
 use Rattle.jm_nodes.specs.PackagePaths.{called_of}
 use Rattle.jm_nodes.proofs.EndLaws.{clash_is, count_is, nodes_are}
 use Rattle.jm_nodes.proofs.trees.nodes_within.Goals as goal
@@ -31,10 +30,9 @@ returns-then-count-room-clause-refused c =
     let fs = map (λ front. front.now) c.as_slice-fronts.result.now in
     let names_are = ap (map (λ name. name.now)) c.as_slice-names.ensures ∙ c.in_ok-listed.ensures in
     let fronts_are = ap (map (λ front. front.now)) c.as_slice-fronts.ensures ∙ c.in_ok-risen.ensures in
-    let folders_are = ap (map folder_of) c.as_slice-folders.ensures ∙ c.in_ok-found.ensures in
     let called_are = ap (map called_of) c.as_slice-packages.ensures ∙ c.in_ok-paths.ensures in
-    let all = count_is names c.requires.sound ns fs names_are fronts_are (map folder_of c.as_slice-folders.result.now)
-    (map called_of c.as_slice-packages.result.now) folders_are called_are in
+    let all = count_is names c.requires.sound ns fs names_are fronts_are (map called_of c.as_slice-packages.result.now)
+    called_are in
     let few = length-map c.as_slice-fronts.result.now (λ front. front.now) in
     let many = length-map c.as_slice-packages.result.now called_of in (
       sym (clash_is names c.requires.sound ns fs names_are fronts_are None c.in_default.ensures),
@@ -59,10 +57,9 @@ returns-clause-within c =
     let fs = map (λ front. front.now) c.as_slice-fronts.result.now in
     let names_are = ap (map (λ name. name.now)) c.as_slice-names.ensures ∙ c.in_ok-listed.ensures in
     let fronts_are = ap (map (λ front. front.now)) c.as_slice-fronts.ensures ∙ c.in_ok-risen.ensures in
-    let folders_are = ap (map folder_of) c.as_slice-folders.ensures ∙ c.in_ok-found.ensures in
     let called_are = ap (map called_of) c.as_slice-packages.ensures ∙ c.in_ok-paths.ensures in
-    let all = count_is names c.requires.sound ns fs names_are fronts_are (map folder_of c.as_slice-folders.result.now)
-    (map called_of c.as_slice-packages.result.now) folders_are called_are in
+    let all = count_is names c.requires.sound ns fs names_are fronts_are (map called_of c.as_slice-packages.result.now)
+    called_are in
     let few = length-map c.as_slice-fronts.result.now (λ front. front.now) in
     let many = length-map c.as_slice-packages.result.now called_of in
     omega (arith, c.in_ok-count.ensures, all, few, many, c.if-count-room.false)
