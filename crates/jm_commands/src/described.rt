@@ -8,8 +8,8 @@ ghost use Rattle.jm_commands.specs.Pieces.{PassesText, PutsText};
 ghost use Rattle.jm_commands.specs.World.{sink_at};
 
 use crate::pieces::put_full;
-use jm_bytes::{NoMemory, Text, extend};
-use jm_modinfo::{Descriptor, Need, Opened, Provides};
+use jm_bytes::{NoMemory, extend};
+use jm_modinfo::{Descriptor, Need, Opened, Provides, SharedText};
 use jm_names::extend_shown;
 use jm_outside::{Sink, SinkError};
 use std::alloc::Global;
@@ -81,7 +81,7 @@ fn put_line<O: Sink>(
 fn put_behind_commas<O: Sink>(
     alloc: Global,
     text: &mut Vec<u8>,
-    names: &[Text],
+    names: &[SharedText],
     out: &mut O,
 ) -> Result<(), SinkError>
     ensures { PassesText (flat_map behind_comma names.now) text.old.items text.new.items result
@@ -98,7 +98,7 @@ fn put_listed_behind<O: Sink>(
     alloc: Global,
     text: &mut Vec<u8>,
     word: &[u8],
-    names: &[Text],
+    names: &[SharedText],
     out: &mut O,
 ) -> Result<(), SinkError>
     ensures { PassesText (listed_behind word.now names.now) text.old.items text.new.items result
@@ -126,7 +126,7 @@ fn module_word(flags: u16) -> &'static [u8]
 fn put_version<O: Sink>(
     alloc: Global,
     text: &mut Vec<u8>,
-    version: &Option<Text>,
+    version: &Option<SharedText>,
     out: &mut O,
 ) -> Result<(), SinkError>
     ensures { PassesText (behind (codes "@") version.now) text.old.items text.new.items result
@@ -207,7 +207,7 @@ fn put_packages<O: Sink>(
 fn put_uses<O: Sink>(
     alloc: Global,
     text: &mut Vec<u8>,
-    services: &[Text],
+    services: &[SharedText],
     out: &mut O,
 ) -> Result<(), SinkError>
     ensures { PassesText (flat_map uses_line services.now) text.old.items text.new.items result
@@ -255,7 +255,7 @@ fn put_provides<O: Sink>(
 fn put_main<O: Sink>(
     alloc: Global,
     text: &mut Vec<u8>,
-    main: &Option<Text>,
+    main: &Option<SharedText>,
     out: &mut O,
 ) -> Result<(), SinkError>
     ensures { PassesText (main_line main.now) text.old.items text.new.items result
