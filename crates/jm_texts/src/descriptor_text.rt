@@ -5,8 +5,8 @@ ghost use Rattle.jm_texts.specs.DescribeText.{describe_text, is_marked, listed_b
 ghost use Rattle.jm_texts.specs.DescribeText.{main_line, module_line, need_line};
 ghost use Rattle.jm_texts.specs.DescribeText.{opened_line, provides_line, uses_line, word_if};
 
-use jm_bytes::{NoMemory, Text, extend};
-use jm_modinfo::{Descriptor, Need, Opened, Provides};
+use jm_bytes::{NoMemory, extend};
+use jm_modinfo::{Descriptor, Need, Opened, Provides, SharedText};
 use jm_names::extend_shown;
 use std::alloc::Global;
 
@@ -29,7 +29,7 @@ fn extend_listed_behind(
     alloc: Global,
     text: &mut Vec<u8>,
     word: &[u8],
-    texts: &[Text],
+    texts: &[SharedText],
 ) -> Result<(), NoMemory>
     ensures { OnOk result
         (text.new.items ≡ text.old.items ++ listed_behind word.now texts.now) }
@@ -94,7 +94,7 @@ fn extend_packages(
 }
 
 /// Puts the lines on the services at the end that are used.
-fn extend_uses(alloc: Global, text: &mut Vec<u8>, services: &[Text]) -> Result<(), NoMemory>
+fn extend_uses(alloc: Global, text: &mut Vec<u8>, services: &[SharedText]) -> Result<(), NoMemory>
     ensures { OnOk result (text.new.items ≡ text.old.items ++ flat_map uses_line services.now) }
 {
     for service in services {
@@ -121,7 +121,7 @@ fn extend_provides(alloc: Global, text: &mut Vec<u8>, provides: &[Provides]) -> 
 }
 
 /// Puts the line on the main class at the end, if there is one.
-fn extend_main(alloc: Global, text: &mut Vec<u8>, main: &Option<Text>) -> Result<(), NoMemory>
+fn extend_main(alloc: Global, text: &mut Vec<u8>, main: &Option<SharedText>) -> Result<(), NoMemory>
     ensures { OnOk result (text.new.items ≡ text.old.items ++ main_line main.now) }
 {
     let Some(class) = main else {
