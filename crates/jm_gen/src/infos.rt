@@ -4,7 +4,7 @@ ghost use Rattle.jm_gen.specs.Generated.{module_name, need_of, needs};
 
 use crate::names::module_name;
 use jm_bytes::{List, NoMemory, Text};
-use jm_modinfo::{Need, write_info};
+use jm_modinfo::{Need, SharedText, write_info};
 use std::alloc::Global;
 
 /// A need of a module of this number.
@@ -12,7 +12,7 @@ fn need(alloc: Global, number: u32) -> Result<Need, NoMemory>
     ensures { IfOk result (λ need. need ≡ need_of number) }
 {
     Ok(Need {
-        name: Text::copy_of(alloc, &module_name(number))?,
+        name: SharedText::copy_of(alloc, &module_name(number))?,
         flags: 0,
         version: None,
     })

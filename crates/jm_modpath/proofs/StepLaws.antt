@@ -163,9 +163,9 @@ below_within (f ∷ files) directory folder =
 
 -- a folder whose module has the name of an earlier one
 pub shown_twice : (directory : List ℕ) (earlier : List VisibleModule) (folder : List ℕ) (d : Described) (paths : List (List ℕ))
-    (r : Result VisibleModule PathStop) → is_named earlier d.descriptor.name ≡ true
-    → Comes ⊥ (Err (refusal.TwoModules directory d.descriptor.name)) r → Comes ⊥ (shown_due directory earlier folder d paths) r
-shown_twice directory earlier folder d paths r again comes = rw again comes
+    (r : Result VisibleModule PathStop) (name : List ℕ) → is_named earlier d.descriptor.name ≡ true → name ≡ d.descriptor.name
+    → Comes ⊥ (Err (refusal.TwoModules directory name)) r → Comes ⊥ (shown_due directory earlier folder d paths) r
+shown_twice directory earlier folder d paths r name again is comes = rw (again, ← is) comes
 
 -- one whose module has a new name
 pub shown_new : (directory : List ℕ) (earlier : List VisibleModule) (folder : List ℕ) (d : Described) (paths : List (List ℕ))

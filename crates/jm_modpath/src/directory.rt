@@ -93,18 +93,15 @@ fn module_with(
     })
 }
 
-/// The refusal of a directory with a second module of the name of this one.
-fn two_modules(alloc: Global, directory: &[u8], second: Descriptor) -> PathStop
-    ensures due { Comes {A = VisibleModule} ⊥ (Err (TwoModules directory.now second.name))
+/// The refusal of a directory with a second module of this name.
+fn two_modules(alloc: Global, directory: &[u8], name: &[u8]) -> PathStop
+    ensures due { Comes {A = VisibleModule} ⊥ (Err (TwoModules directory.now name.now))
         (Err result) }
     ensures inside { result ≢ PathStop.Outside }
 {
-    match Text::copy_of(alloc, directory) {
-        Ok(dir) => PathStop::Refused(PathRefusal::TwoModules {
-            dir,
-            name: second.name,
-        }),
-        Err(_) => PathStop::Memory,
+    match (Text::copy_of(alloc, directory), Text::copy_of(alloc, name)) {
+        (Ok(dir), Ok(name)) => PathStop::Refused(PathRefusal::TwoModules { dir, name }),
+        _ => PathStop::Memory,
     }
 }
 
@@ -142,8 +139,9 @@ fn visible_module<S: Shelf>(
 {
     let path = inside(alloc, listing.directory, folder)?;
     let info = read_info(alloc, listing.release, path.as_slice(), shelf)?;
-    if earlier.has(info.descriptor.name.as_slice()) {
-        return Err(two_modules(alloc, listing.directory, info.descriptor));
+    let name = info.descriptor.name.as_slice();
+    if earlier.has(name) {
+        return Err(two_modules(alloc, listing.directory, name));
     }
     let files = names_within(alloc, listing.names, folder)?;
     Ok(module_with(alloc, path, info, files)?)

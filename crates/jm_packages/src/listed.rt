@@ -10,7 +10,7 @@ ghost use Rattle.jm_packages.specs.Packages.{dotted_packages, listed, named_by, 
 use jm_bytes::{List, NoMemory, Or, Text, copy_of};
 use jm_class::Class;
 use jm_form::rising;
-use jm_modinfo::{Descriptor, Opened, Provides, describe};
+use jm_modinfo::{Descriptor, Opened, Provides, SharedText, describe};
 use jm_names::{cut_at_last, dotted};
 use std::alloc::Global;
 
@@ -54,7 +54,7 @@ fn push_opened(
 fn push_classes(
     alloc: Global,
     packages: &mut Vec<Vec<u8>>,
-    classes: &[Text],
+    classes: &[SharedText],
 ) -> Result<(), NoMemory>
     ensures { OnOk result (items_of packages.new.items ≡ items_of packages.old.items
         ++ dotted_packages (map (before_last is_slash) classes.now)) }

@@ -31,7 +31,7 @@ returns-then-has-clause-told g c =
     folder_shown c.args.listing.release _ directory c.args.folder.now c.in_ok-path.path names c.args.earlier.now c.in_ok-info.info
     (Err c.two_modules.result) c.in_ok-path.ensures c.requires.told (rw c.as_slice.ensures at c.in_ok-info.ensures.told)
     (shown_twice directory c.args.earlier.now c.in_ok-path.path c.in_ok-info.info (names_within c.args.folder.now names)
-    (Err c.two_modules.result) again c.two_modules.ensures.due)
+    (Err c.two_modules.result) c.as_slice-name.result.now again c.as_slice-name.ensures c.two_modules.ensures.due)
 
 pub returns-in_err-files-clause-told : goal.returns-in_err-files-clause-told
 returns-in_err-files-clause-told g c =
