@@ -5,9 +5,5 @@ mod contents;
 mod extracting;
 mod file_paths;
 mod refusals;
-mod taken_name;
-mod taking;
 
 pub use extracting::{ExtractStop, Extraction, extract};
-pub use taken_name::TakenName;
-pub use taking::{TakenEntry, taken};

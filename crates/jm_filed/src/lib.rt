@@ -4,6 +4,12 @@
 
 mod extent;
 mod filed_image;
+mod reading;
+mod taken_name;
+mod taking;
 
 pub use extent::Extent;
 pub use filed_image::FiledImage;
+pub use reading::read_extent;
+pub use taken_name::TakenName;
+pub use taking::{TakenEntry, taken};

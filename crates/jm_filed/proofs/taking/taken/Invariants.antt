@@ -2,8 +2,8 @@ use Rattle.std.proofs.Common.{◌≡◌, ◌++◌, ℕ, List, length, map}
 use Rattle.jm_form.specs.Head.{IsFileOf}
 use Rattle.jm_reader.specs.Listing.{entry_listed}
 use Rattle.jm_reader.specs.Walk.{entries_of, IsLater}
-use Rattle.jm_extract.specs.Taken.{LieWithin, taken_among, taken_as}
-use Rattle.jm_extract.proofs.taking.taken.Given as goal
+use Rattle.jm_filed.specs.Taken.{LieWithin, taken_among, taken_as}
+use Rattle.jm_filed.proofs.taking.taken.Given as goal
 
 abbrev pub invariant-loop-entry : goal.invariant-loop-entry
 invariant-loop-entry g l = record {

@@ -4,7 +4,7 @@ use Rattle.std.specs.Prelude.{ℕ, ◌≡◌, ◌<◌, nat_lt, List, length, dro
 use Rattle.std.specs.Ordering.{nat_cmp, ordering_then}
 use Rattle.std.specs.declared.cmp.Ordering.{Ordering}
 use Rattle.byteorder.specs.Endian.{big_number}
-use Rattle.jm_extract.specs.declared.taken_name.Front.{Front}
+use Rattle.jm_filed.specs.declared.taken_name.Front.{Front}
 
 -- three times eight bytes as three numbers, the highest byte first
 abbrev pub front_numbers : List ℕ → Front

@@ -1,8 +1,8 @@
 use Rattle.std.proofs.Common.{ap₂, sym, ◌∙◌}
 use Rattle.std.specs.Cmp.Lexicographic.{slice_cmp}
 use Rattle.std.specs.Ordering.{nat_cmp}
-use Rattle.jm_extract.proofs.FrontLaws.{by_fronts}
-use Rattle.jm_extract.proofs.taken_name.TakenName.order.Goals as goal
+use Rattle.jm_filed.proofs.FrontLaws.{by_fronts}
+use Rattle.jm_filed.proofs.taken_name.TakenName.order.Goals as goal
 
 pub returns-in_default : goal.returns-in_default
 returns-in_default c =

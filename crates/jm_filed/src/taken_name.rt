@@ -1,7 +1,7 @@
 ghost use Rattle.std.specs.Prelude.{◌≡◌};
 ghost use Rattle.std.specs.Cmp.Lexicographic.{slice_cmp};
 ghost use Rattle.std.specs.Ordering.{nat_cmp};
-ghost use Rattle.jm_extract.specs.Fronts.{front_of, order_of_fronts};
+ghost use Rattle.jm_filed.specs.Fronts.{front_of, order_of_fronts};
 
 use byteorder::{BigEndian, ByteOrder};
 use jm_reader::NameView;
@@ -26,7 +26,7 @@ pub struct TakenName<'a> {
 
 impl<'a> Model for TakenName<'a> {
     ghost use Rattle.std.specs.Prelude.{List, ℕ};
-    ghost use Rattle.jm_extract.specs.Fronts.{IsFrontOf};
+    ghost use Rattle.jm_filed.specs.Fronts.{IsFrontOf};
 
     ghost Value = { List ℕ };
 

@@ -4,11 +4,11 @@ use Rattle.jm_names.specs.ByName.{Named}
 use Rattle.jm_reader.specs.Listing.{entry_listed, handed}
 use Rattle.jm_filed.specs.Filed.{IsWithin}
 use Rattle.jm_filed.specs.Parts.{named}
-use Rattle.jm_extract.specs.declared.taking.TakenEntry.{TakenEntry}
-use Rattle.jm_extract.specs.Taken.{LieWithin}
-use Rattle.jm_extract.proofs.TakingLaws.{taken_left, taken_pushed}
-use Rattle.jm_extract.proofs.taking.take_entry.Goals as goal
-use Rattle.jm_extract.proofs.taking.take_entry.Goals.{then-is_included+in_ok-push, else-is_included}
+use Rattle.jm_filed.specs.declared.taking.TakenEntry.{TakenEntry}
+use Rattle.jm_filed.specs.Taken.{LieWithin}
+use Rattle.jm_filed.proofs.TakingLaws.{taken_left, taken_pushed}
+use Rattle.jm_filed.proofs.taking.take_entry.Goals as goal
+use Rattle.jm_filed.proofs.taking.take_entry.Goals.{then-is_included+in_ok-push, else-is_included}
 
 pub returns-clause-taken : goal.returns-clause-taken
 returns-clause-taken c b file =

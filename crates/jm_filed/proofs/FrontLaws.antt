@@ -11,8 +11,8 @@ use Rattle.std.specs.declared.cmp.Ordering.{Ordering}
 use Rattle.std.specs.declared.cmp.Ordering.TheVariants.{Less, Equal, Greater}
 use Rattle.byteorder.specs.Endian.{big_from, big_number}
 use Rattle.byteorder.specs.Numbers.{big_from-cons, big_from-lt}
-use Rattle.jm_extract.specs.declared.taken_name.Front.{Front}
-use Rattle.jm_extract.specs.Fronts.{AreBytes, front_numbers, front_of, order_of_fronts}
+use Rattle.jm_filed.specs.declared.taken_name.Front.{Front}
+use Rattle.jm_filed.specs.Fronts.{AreBytes, front_numbers, front_of, order_of_fronts}
 
 behind : (x : ℕ) (xs : List ℕ) → AreBytes (x ∷ xs) → AreBytes xs
 behind x xs bytes k = bytes (suc k)

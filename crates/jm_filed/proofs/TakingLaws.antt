@@ -11,12 +11,12 @@ use Rattle.jm_form.specs.Entries.{Entry, entries}
 use Rattle.jm_form.specs.Head.{header_of}
 use Rattle.jm_pattern.specs.declared.signs.Sign.{Sign}
 use Rattle.jm_reader.specs.Walk.{entries_of, entries_with}
-use Rattle.jm_extract.specs.declared.taking.TakenEntry.{TakenEntry}
+use Rattle.jm_filed.specs.declared.taking.TakenEntry.{TakenEntry}
 use Rattle.jm_names.proofs.NameOrder.{Differ, by_name_rises, items_sorted}
 use Rattle.jm_reader.specs.Listing.{entry_listed}
 use Rattle.jm_names.specs.ByName.{Named, NeverFalls, RisesByName}
 use Rattle.jm_filed.specs.Parts.{named}
-use Rattle.jm_extract.specs.Taken.{taken, is_taken, taken_alone, taken_among, taken_as}
+use Rattle.jm_filed.specs.Taken.{taken, is_taken, taken_alone, taken_among, taken_as}
 use Rattle.jm_reader.proofs.WalkLaws.{entries_differ}
 
 -- One entry after another

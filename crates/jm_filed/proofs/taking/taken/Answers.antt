@@ -1,7 +1,7 @@
 use Rattle.std.proofs.Common.{◌++◌, ◌∙◌, ℕ, IsPermutation, List, ap, arith, map, of_calls, refl, rules, subst, sym}
 use Rattle.std.proofs.lemmas.List.Elements.{All-nil}
 use Rattle.std.proofs.lemmas.List.Sorted.{All-permutation}
-use Rattle.jm_extract.specs.declared.taking.TakenEntry.{TakenEntry}
+use Rattle.jm_filed.specs.declared.taking.TakenEntry.{TakenEntry}
 use Rattle.jm_names.proofs.NameOrder.{names_sorted}
 use Rattle.jm_reader.specs.Listing.{entry_listed, handed}
 use Rattle.jm_reader.specs.Look.{SoundIn}
@@ -9,9 +9,9 @@ use Rattle.jm_reader.specs.Walk.{entries_of}
 use Rattle.jm_reader.proofs.IndexLaws.{relisted}
 use Rattle.jm_reader.proofs.WalkLaws.{later_further}
 use Rattle.jm_filed.specs.Filed.{IsWithin}
-use Rattle.jm_extract.specs.Taken.{LieWithin, taken_among, taken_as}
-use Rattle.jm_extract.proofs.TakingLaws.{taken_all, taken_rises, taken_sorted, taken_step}
-use Rattle.jm_extract.proofs.taking.taken.Goals as goal
+use Rattle.jm_filed.specs.Taken.{LieWithin, taken_among, taken_as}
+use Rattle.jm_filed.proofs.TakingLaws.{taken_all, taken_rises, taken_sorted, taken_step}
+use Rattle.jm_filed.proofs.taking.taken.Goals as goal
 
 pub loop-entry-init : goal.loop-entry-init
 loop-entry-init g c =

@@ -6,11 +6,11 @@ ghost use Rattle.jm_reader.specs.Look.{SoundIn};
 ghost use Rattle.jm_reader.specs.Walk.{IsLater};
 ghost use Rattle.jm_names.specs.ByName.{RisesByName};
 ghost use Rattle.jm_filed.specs.Parts.{named};
-ghost use Rattle.jm_extract.specs.Taken.{LieWithin, is_included, taken, taken_alone, taken_as};
+ghost use Rattle.jm_filed.specs.Taken.{LieWithin, is_included, taken, taken_alone, taken_as};
 
+use crate::extent::Extent;
 use crate::taken_name::TakenName;
 use jm_bytes::{List, Meter, NoMemory};
-use jm_filed::Extent;
 use jm_pattern::{Pattern, matches_any};
 use jm_reader::{Listed, list};
 use jm_valid::Index;

@@ -11,7 +11,7 @@ use Rattle.jm_reader.specs.Walk.{entries_of}
 use Rattle.jm_names.specs.ByName.{Named, by_name}
 use Rattle.jm_filed.specs.Filed.{IsWithin, content_at}
 use Rattle.jm_filed.specs.Parts.{named}
-use Rattle.jm_extract.specs.declared.taking.TakenEntry.{TakenEntry}
+use Rattle.jm_filed.specs.declared.taking.TakenEntry.{TakenEntry}
 
 -- the content of what the code hands out, in a file
 abbrev pub content_in : List ℕ → TakenEntry → List ℕ
