@@ -1,4 +1,4 @@
-//! The entries of an image that are taken, and the files that are made of them.
+//! The files that are made of the entries of an image that are taken.
 #![tactic(auto)]
 
 mod contents;

@@ -1,5 +1,5 @@
--- The entries that `list` and `extract` take (this project's rule). A name and the content that
--- stands under it are a pair.
+-- The entries that are taken of an image: all but the nodes', or those that patterns match (this
+-- project's rule). A name and the content that stands under it are a pair.
 use Rattle.std.specs.Prelude.{ℕ, ◌&&◌, not, Bool, true, List, [], ◌∷◌, map, filter}
 use Rattle.std.specs.Prelude.{All, Option, Some, None, if◌then◌else◌}
 use Rattle.std.specs.List.{list_any}
@@ -46,6 +46,6 @@ taken_among include entries = filter (λ e. is_taken include e.0) (map named ent
 abbrev pub taken_alone : Option (List (List Sign)) → Named → List Named
 taken_alone include e = if is_taken include e.0 then e ∷ [] else []
 
--- what `list` and `extract` take of an image
+-- what is taken of an image, by rising name
 abbrev pub taken : List ℕ → Option (List (List Sign)) → List Named
 taken b include = by_name (taken_among include (entries_of b))

@@ -1,5 +1,5 @@
-//! An image in a file on a shelf: its index, which is open, and where in the file the contents of
-//! its entries stand.
+//! An image in a file on a shelf: its index, which is open, its entries by rising name, and where
+//! in the file their contents stand.
 #![tactic(auto)]
 
 mod extent;

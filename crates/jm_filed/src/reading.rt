@@ -1,4 +1,4 @@
-//! The contents of entries, read from the file of their image.
+//! What stands at an extent of an image's file.
 ghost use Rattle.std.specs.Prelude.{◌≡◌, ◌≤◌, ◌+◌, ℕ, List, IsErrOf, IsOk, IsUtf8, OnOk};
 ghost use Rattle.jm_outside.specs.Outcome.{CountsFaults, Shows};
 ghost use Rattle.jm_filed.specs.Filed.{IsAt, IsReadAt, content_at};

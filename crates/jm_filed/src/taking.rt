@@ -17,7 +17,7 @@ use jm_valid::Index;
 use std::alloc::Global;
 use std::sync::ledger::Ledger;
 
-/// An entry that `list` or `extract` takes, which borrows its name from the index.
+/// An entry that is taken of an image. It borrows its name from the index.
 #[derive(Debug, Drop)]
 pub struct TakenEntry<'a> {
     /// Its name.
