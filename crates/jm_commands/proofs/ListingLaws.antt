@@ -4,8 +4,8 @@ use Rattle.std.proofs.lemmas.List.Elements.{All-head, All-tail}
 use Rattle.std.proofs.lemmas.List.Folds.{flat_map-map}
 use Rattle.jm_filed.specs.Filed.{IsWithin}
 use Rattle.jm_filed.proofs.ExtentLaws.{content_length}
-use Rattle.jm_extract.specs.declared.taking.TakenEntry.{TakenEntry}
-use Rattle.jm_extract.specs.Taken.{LieWithin, taken_as}
+use Rattle.jm_filed.specs.declared.taking.TakenEntry.{TakenEntry}
+use Rattle.jm_filed.specs.Taken.{LieWithin, taken_as}
 use Rattle.jm_commands.specs.ListText.{sized, sized_as, sized_line}
 
 -- what is listed of taken entries is what their extents say

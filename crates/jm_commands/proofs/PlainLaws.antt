@@ -32,7 +32,7 @@ use Rattle.jm_words.specs.declared.errors.WordsFault.{WordsFault}
 use Rattle.jm_words.specs.declared.errors.WordsKind.{WordsKind}
 use Rattle.jm_words.specs.declared.errors.WordsKind.TheVariants as words
 use Rattle.jm_words.specs.FaultText.{fault_text, kind_text}
-use Rattle.jm_extract.specs.Taken.{taken}
+use Rattle.jm_filed.specs.Taken.{taken}
 use Rattle.jm_commands.specs.declared.complaint.Complaint.{Complaint}
 use Rattle.jm_commands.specs.declared.complaint.Complaint.TheVariants as complaint
 use Rattle.jm_commands.specs.ListText.{list_text, sized, sized_line}

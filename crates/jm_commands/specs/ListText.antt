@@ -4,8 +4,8 @@ use Rattle.std.specs.Fmt.{decimal}
 use Rattle.jm_names.specs.Shown.{shown}
 use Rattle.jm_pattern.specs.declared.signs.Sign.{Sign}
 use Rattle.jm_names.specs.ByName.{Named}
-use Rattle.jm_extract.specs.Taken.{taken}
-use Rattle.jm_extract.specs.declared.taking.TakenEntry.{TakenEntry}
+use Rattle.jm_filed.specs.Taken.{taken}
+use Rattle.jm_filed.specs.declared.taking.TakenEntry.{TakenEntry}
 
 -- a line: a size in bytes, a space, a name as it is shown and a newline
 abbrev pub sized_line : ℕ × List ℕ → List ℕ

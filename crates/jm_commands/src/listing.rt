@@ -12,7 +12,7 @@ use crate::pieces::put_full;
 use crate::stop::Stop;
 use itoa::Buffer;
 use jm_bytes::{List, Meter, NoMemory, extend};
-use jm_extract::{TakenEntry, taken};
+use jm_filed::{TakenEntry, taken};
 use jm_names::extend_shown;
 use jm_outside::{Sink, SinkError};
 use jm_pattern::Pattern;

@@ -12,10 +12,10 @@ use Rattle.jm_names.specs.ByName.{Named}
 use Rattle.jm_texts.specs.declared.refusal.Refusal.{Refusal}
 use Rattle.jm_extract.specs.declared.extracting.ExtractStop.{ExtractStop}
 use Rattle.jm_extract.specs.declared.extracting.ExtractStop.TheVariants as stop
-use Rattle.jm_extract.specs.declared.taking.TakenEntry.{TakenEntry}
+use Rattle.jm_filed.specs.declared.taking.TakenEntry.{TakenEntry}
 use Rattle.jm_extract.specs.Extracted.{BreaksOff, Extracts, refusal_of, unless_refused, write_of, writes_of}
 use Rattle.jm_extract.specs.Stops.{stop_of}
-use Rattle.jm_extract.specs.Taken.{taken_as}
+use Rattle.jm_filed.specs.Taken.{taken_as}
 
 -- One file more
 

@@ -16,11 +16,11 @@ use Rattle.jm_outside.specs.Files.{Files, part}
 use Rattle.jm_outside.specs.Made.{Elsewhere, MadeAll, MadePart, Writes, written}
 use Rattle.jm_outside.specs.Outcome.{Shows}
 use Rattle.jm_outside.proofs.MadeLaws.{file-written, part_of_all}
-use Rattle.jm_extract.specs.declared.taking.TakenEntry.{TakenEntry}
+use Rattle.jm_filed.specs.declared.taking.TakenEntry.{TakenEntry}
 use Rattle.jm_extract.specs.Extracted.{Makes, path_of, write_of, writes_of}
 use Rattle.jm_filed.specs.Filed.{IsAt}
 use Rattle.jm_extract.specs.Filed.{AreContents, HasContent, is_made_at, sizes, unkept_size}
-use Rattle.jm_extract.specs.Taken.{content_in, taken_as}
+use Rattle.jm_filed.specs.Taken.{content_in, taken_as}
 
 -- Reading
 

@@ -16,8 +16,8 @@ use Rattle.jm_bytes.specs.ByteOrder.{is_before}
 use Rattle.jm_bytes.proofs.ByteOrderLaws.{before_further, before_one_way}
 use Rattle.jm_names.specs.ByName.{Named, RisesByName}
 use Rattle.jm_extract.specs.Extracted.{begins}
-use Rattle.jm_extract.specs.Taken.{name_alone}
-use Rattle.jm_extract.specs.declared.taking.TakenEntry.{TakenEntry}
+use Rattle.jm_filed.specs.Taken.{name_alone}
+use Rattle.jm_filed.specs.declared.taking.TakenEntry.{TakenEntry}
 
 -- One name
 

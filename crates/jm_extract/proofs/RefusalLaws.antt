@@ -12,9 +12,9 @@ use Rattle.jm_names.specs.declared.check.NameFault.{NameFault}
 use Rattle.jm_texts.specs.NameRefusals.{first_bad_name, name_refusal}
 use Rattle.jm_texts.specs.declared.refusal.Refusal.{Refusal}
 use Rattle.jm_texts.specs.declared.refusal.Refusal.TheVariants as refusal
-use Rattle.jm_extract.specs.declared.taking.TakenEntry.{TakenEntry}
+use Rattle.jm_filed.specs.declared.taking.TakenEntry.{TakenEntry}
 use Rattle.jm_extract.specs.Extracted.{begins, clash_refusal, first_clash, refusal_of}
-use Rattle.jm_extract.specs.Taken.{name_alone, taken_as}
+use Rattle.jm_filed.specs.Taken.{name_alone, taken_as}
 
 -- Names alone
 

@@ -6,9 +6,9 @@ use Rattle.std.proofs.lemmas.List.Sums.{sum_by-cons}
 use Rattle.jm_names.specs.ByName.{Named}
 use Rattle.jm_filed.specs.Filed.{IsWithin}
 use Rattle.jm_filed.proofs.ExtentLaws.{content_length}
-use Rattle.jm_extract.specs.declared.taking.TakenEntry.{TakenEntry}
+use Rattle.jm_filed.specs.declared.taking.TakenEntry.{TakenEntry}
 use Rattle.jm_extract.specs.Filed.{sizes}
-use Rattle.jm_extract.specs.Taken.{LieWithin, taken_as}
+use Rattle.jm_filed.specs.Taken.{LieWithin, taken_as}
 
 -- the contents have as many bytes together as the index says
 pub sizes_taken : (size : ℕ) (b : List ℕ) (ts : List TakenEntry) → length b ≡ size → LieWithin size ts

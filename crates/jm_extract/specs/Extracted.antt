@@ -13,7 +13,7 @@ use Rattle.jm_texts.specs.declared.refusal.Refusal.{Refusal}
 use Rattle.jm_texts.specs.declared.refusal.Refusal.TheVariants as refusal
 use Rattle.jm_extract.specs.declared.extracting.ExtractStop.{ExtractStop}
 use Rattle.jm_extract.specs.declared.extracting.ExtractStop.TheVariants as stop
-use Rattle.jm_extract.specs.Taken.{taken}
+use Rattle.jm_filed.specs.Taken.{taken}
 
 -- Refusals
 

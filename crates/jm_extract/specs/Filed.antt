@@ -5,9 +5,9 @@ use Rattle.std.specs.Str.{bytes_eq}
 use Rattle.jm_outside.specs.Files.{Files}
 use Rattle.jm_outside.specs.Outcome.{Shows}
 use Rattle.jm_filed.specs.Filed.{IsAt}
-use Rattle.jm_extract.specs.declared.taking.TakenEntry.{TakenEntry}
+use Rattle.jm_filed.specs.declared.taking.TakenEntry.{TakenEntry}
 use Rattle.jm_extract.specs.Extracted.{path_of}
-use Rattle.jm_extract.specs.Taken.{content_in}
+use Rattle.jm_filed.specs.Taken.{content_in}
 
 -- how many bytes the contents of some entries have together, as the index says
 abbrev pub sizes : List TakenEntry → ℕ

@@ -1,5 +1,3 @@
 pub mod Extracted
 pub mod Filed
-pub mod Fronts
 pub mod Stops
-pub mod Taken

@@ -1,35 +1,15 @@
 //! The contents of entries, read from the file of their image.
 ghost use Rattle.std.specs.Prelude.{◌≡◌, ◌≤◌, ◌+◌, ◌⊎◌, ℕ, List, IfOk, IsOk, IsErrOf, IsUtf8};
-ghost use Rattle.std.specs.Prelude.{IsFalse, OnOk, length, take};
-ghost use Rattle.jm_outside.specs.Outcome.{CountsFaults, Shows};
-ghost use Rattle.jm_filed.specs.Filed.{IsAt, content_at};
+ghost use Rattle.std.specs.Prelude.{IsFalse, length, take};
+ghost use Rattle.jm_outside.specs.Outcome.{CountsFaults};
+ghost use Rattle.jm_filed.specs.Filed.{IsAt};
 ghost use Rattle.jm_extract.specs.Filed.{AreContents, is_made_at, sizes};
 
 use crate::file_paths::is_made_at;
-use crate::taking::TakenEntry;
 use jm_bytes::{List, Text};
-use jm_filed::Extent;
+use jm_filed::{TakenEntry, read_extent};
 use jm_outside::{Shelf, ShelfError};
 use std::alloc::Global;
-
-/// Reads a content of the file at a path into a text, in place of what it had.
-pub fn read_content<S: Shelf>(
-    alloc: Global,
-    path: &[u8],
-    content: Extent,
-    text: &mut Text,
-    shelf: &mut S,
-) -> Result<(), ShelfError>
-    requires path { IsUtf8 path.now }
-    ensures files { S.files shelf.new ≡ S.files shelf.old }
-    ensures content { (b : List ℕ) → IsAt (S.files shelf.old) path.now b
-        → OnOk result (Shows (S.files shelf.old) (λ files. text.new ≡ content_at b content)) }
-    ensures handed { S.handed shelf.new ≤ S.handed shelf.old + content.size }
-    ensures faults { CountsFaults (S.faults shelf.old) (S.faults shelf.new) (IsOk result)
-        (IsErrOf result ShelfError.Failed) }
-{
-    shelf.read_exact(alloc, path, content.at, content.size as usize, text)
-}
 
 /// The contents of all entries, in their order.
 fn all_contents<S: Shelf>(
@@ -50,7 +30,7 @@ fn all_contents<S: Shelf>(
     let mut texts = List::with_capacity(alloc, entries.len())?;
     for entry in entries {
         let mut text = Text::new(alloc);
-        read_content(alloc, path, entry.content, &mut text, shelf)?;
+        read_extent(alloc, path, entry.content, &mut text, shelf)?;
         texts.push(text)?;
     }
     Ok(texts)

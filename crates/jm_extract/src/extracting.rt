@@ -10,14 +10,13 @@ ghost use Rattle.jm_extract.specs.Extracted.{Extracts, Makes, extracted, taken_s
 ghost use Rattle.jm_extract.specs.Extracted.{writes_of};
 ghost use Rattle.jm_extract.specs.Filed.{HasContent, sizes, unkept_size};
 ghost use Rattle.jm_extract.specs.Stops.{stop_of};
-ghost use Rattle.jm_extract.specs.Taken.{content_in, taken_as};
+ghost use Rattle.jm_filed.specs.Taken.{content_in, taken_as};
 
-use crate::contents::{kept_contents, read_content};
+use crate::contents::kept_contents;
 use crate::file_paths::path_of;
 use crate::refusals::refusal_of;
-use crate::taking::{TakenEntry, taken};
 use jm_bytes::{List, Meter, NoMemory, Text};
-use jm_filed::FiledImage;
+use jm_filed::{FiledImage, TakenEntry, read_extent, taken};
 use jm_outside::{Shelf, ShelfError, make_file};
 use jm_pattern::Pattern;
 use jm_texts::Refusal;
@@ -99,7 +98,7 @@ fn make_entry<S: Shelf>(
     match kept {
         Some(content) => make_file(alloc, shelf, made.as_slice(), content.as_slice()),
         None => {
-            read_content(alloc, path, entry.content, text, shelf)?;
+            read_extent(alloc, path, entry.content, text, shelf)?;
             make_file(alloc, shelf, made.as_slice(), text.as_slice())
         }
     }

@@ -3,9 +3,8 @@ ghost use Rattle.std.specs.Prelude.{◌≡◌, IfOk};
 ghost use Rattle.jm_extract.specs.Extracted.{path_of};
 ghost use Rattle.jm_extract.specs.Filed.{is_made_at};
 
-use crate::taken_name::TakenName;
-use crate::taking::TakenEntry;
 use jm_bytes::{NoMemory, Text, extend};
+use jm_filed::{TakenEntry, TakenName};
 use jm_names::to_utf8;
 use std::alloc::Global;
 

@@ -3,10 +3,10 @@ ghost use Rattle.std.specs.Prelude.{◌≡◌, [], ℕ, List, None, Ok, All, IfO
 ghost use Rattle.jm_names.specs.NameFaults.{IsSound};
 ghost use Rattle.jm_names.specs.ByName.{RisesByName};
 ghost use Rattle.jm_extract.specs.Extracted.{begins, clash_refusal, refusal_of};
-ghost use Rattle.jm_extract.specs.Taken.{name_alone, taken_as};
+ghost use Rattle.jm_filed.specs.Taken.{name_alone, taken_as};
 
-use crate::taking::TakenEntry;
 use jm_bytes::{NoMemory, Text};
+use jm_filed::TakenEntry;
 use jm_names::check_name;
 use jm_texts::Refusal;
 use std::alloc::Global;

@@ -1,2 +1,4 @@
 pub mod ExtentLaws
 pub mod FileLaws
+pub mod FrontLaws
+pub mod TakingLaws

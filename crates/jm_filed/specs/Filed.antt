@@ -2,7 +2,7 @@
 use Rattle.std.specs.Prelude.{ℕ, ◌≡◌, ◌≤◌, ◌+◌, List, length, Some, Ok, Option}
 use Rattle.jm_form.specs.declared.container.Header.{Header}
 use Rattle.jm_form.specs.Head.{IsFileOf, header_with, index_length}
-use Rattle.jm_outside.specs.Files.{Files, file, part}
+use Rattle.jm_outside.specs.Files.{Files, file, file_part, part}
 use Rattle.jm_outside.specs.Outcome.{Shows}
 use Rattle.jm_valid.specs.Opened.{Front}
 use Rattle.jm_filed.specs.declared.extent.Extent.{Extent}
@@ -22,6 +22,13 @@ IsAt told path b = Shows told (λ files. Some b ≡ file files path)
 -- these bytes are a file of an index, and the one at a path, where the files are told
 abbrev pub IsFiled : Front → Option Files → List ℕ → List ℕ → Type 0
 IsFiled index told path b = IsFileOf index.bytes index.length b × IsAt told path b
+
+-- a text was read at an extent of the file at a path: it has the size, and is what stands there,
+-- where the files are told
+pub record IsReadAt (told : Option Files) (path : List ℕ) (x : Extent) (text : List ℕ)
+    : Type 0 where
+  pub size : length text ≡ x.size
+  pub shown : Shows told (λ files. file_part files path x.at x.size ≡ Some text)
 
 -- these bytes are the index of an image and no more, and that of the file at a path, where the
 -- files are told

@@ -1,2 +1,4 @@
 pub mod Filed
+pub mod Fronts
 pub mod Parts
+pub mod Taken

@@ -10,7 +10,7 @@ use Rattle.std.specs.Prelude.{is_some}
 use Rattle.std.specs.Str.{bytes_eq}
 use Rattle.jm_bytes.proofs.Members.{all_from_contains, contains_none, contains_filter, contains_map, from_filter}
 use Rattle.jm_bytes.proofs.SameOrder.{mapped_twice}
-use Rattle.jm_filed.specs.Filed.{IsAt, IsWithin, content_at}
+use Rattle.jm_filed.specs.Filed.{IsAt, IsReadAt, IsWithin, content_at}
 use Rattle.jm_filed.specs.Parts.{AgreeByName}
 use Rattle.jm_filed.proofs.ExtentLaws.{content_length}
 use Rattle.jm_form.specs.Layout.{Written, names_of}
@@ -26,7 +26,7 @@ use Rattle.jm_relink.specs.Gathering.{GathersAll}
 use Rattle.jm_relink.proofs.ListLaws.{one_of, pairs_unmap}
 use Rattle.jm_relink.proofs.ModuleLaws.{one_content}
 use Rattle.jm_relink.proofs.NameLaws.{path_of_file}
-use Rattle.jm_link.specs.ImageParts.{AreReadAs, IsContentAt, IsReadAs, IsReadAt, read_size, read_sizes}
+use Rattle.jm_link.specs.ImageParts.{AreReadAs, IsContentAt, IsReadAs, read_size, read_sizes}
 use Rattle.jm_link.specs.ImageSteps.{GathersIn, HasSize, ReadsResources}
 use Rattle.jm_link.specs.ImageTaken.{is_info, sizes, undescribed}
 use Rattle.jm_link.specs.Steps.{stop_of}

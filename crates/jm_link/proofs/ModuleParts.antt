@@ -9,7 +9,7 @@ use Rattle.jm_bytes.proofs.Members.{all_from_contains, contains_none, from_filte
 use Rattle.jm_bytes.proofs.Pairs.{pairs_map}
 use Rattle.jm_bytes.specs.declared.faults.Or.{Or}
 use Rattle.jm_bytes.specs.declared.faults.Or.TheVariants as or
-use Rattle.jm_filed.specs.Filed.{IsFiled, content_at}
+use Rattle.jm_filed.specs.Filed.{IsFiled, IsReadAt, content_at}
 use Rattle.jm_filed.specs.Parts.{AreRead, HasContents, HasSizes, named}
 use Rattle.jm_filed.proofs.ExtentLaws.{content_length}
 use Rattle.jm_form.specs.declared.container.Header.{Header}
@@ -36,7 +36,7 @@ use Rattle.jm_valid.specs.Opened.{Front}
 use Rattle.jm_link.specs.declared.linking.LinkStop.{LinkStop}
 use Rattle.jm_link.specs.declared.linking.LinkStop.TheVariants as stop
 use Rattle.jm_link.specs.ImageLinked.{image_refusal}
-use Rattle.jm_link.specs.ImageParts.{AreInfosRead, IsReadAt, info_sizes}
+use Rattle.jm_link.specs.ImageParts.{AreInfosRead, info_sizes}
 use Rattle.jm_link.specs.ImageSteps.{HasSize, ShowsIn, ReadsModules}
 use Rattle.jm_link.specs.ImageTaken.{infos_of, is_info, sizes}
 use Rattle.jm_link.specs.Steps.{stop_of, stop_of_fault}

@@ -11,7 +11,7 @@ use Rattle.jm_bytes.proofs.Members.{all_from_contains, contains_cases, contains_
 use Rattle.jm_bytes.proofs.Members.{contains_none, from_filter, from_map}
 use Rattle.jm_bytes.proofs.Pairs.{pairs_map, pairs_none}
 use Rattle.jm_filed.specs.declared.extent.Extent.{Extent}
-use Rattle.jm_filed.specs.Filed.{IsAt, content_at}
+use Rattle.jm_filed.specs.Filed.{IsAt, IsReadAt, content_at}
 use Rattle.jm_filed.specs.Parts.{HasSizes, named}
 use Rattle.jm_form.specs.declared.container.Header.{Header}
 use Rattle.jm_form.specs.declared.container.HeaderFault.{HeaderFault}
@@ -32,7 +32,7 @@ use Rattle.jm_reader.proofs.WalkLaws.{entries_differ}
 use Rattle.jm_relink.specs.Files.{resources_of}
 use Rattle.jm_relink.proofs.ModuleLaws.{one_content}
 use Rattle.jm_relink.specs.declared.entries.ModuleEntries.{ModuleEntries}
-use Rattle.jm_link.specs.ImageParts.{AreInfosRead, IsReadAt, info_sizes}
+use Rattle.jm_link.specs.ImageParts.{AreInfosRead, info_sizes}
 
 -- Two lists side by side
 

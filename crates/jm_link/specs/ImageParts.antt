@@ -1,19 +1,12 @@
 -- Contents that are read as parts of an image's file (this project's rule).
-use Rattle.std.specs.Prelude.{ℕ, ◌≡◌, List, length, Option, Some, None}
+use Rattle.std.specs.Prelude.{ℕ, ◌≡◌, List, Option, Some, None}
 use Rattle.std.specs.List.{AllZip, sum_by}
+use Rattle.jm_filed.specs.Filed.{IsReadAt}
 use Rattle.jm_filed.specs.declared.extent.Extent.{Extent}
 use Rattle.jm_form.specs.Layout.{Written}
-use Rattle.jm_outside.specs.Files.{Files, file_part}
-use Rattle.jm_outside.specs.Outcome.{Shows}
+use Rattle.jm_outside.specs.Files.{Files}
 use Rattle.jm_relink.specs.declared.choosing.ChosenFile.{ChosenFile}
 use Rattle.jm_relink.specs.declared.entries.ModuleEntries.{ModuleEntries}
-
--- a text was read at an extent of the file at a path: it has the size, and is what stands there,
--- where the files are told
-pub record IsReadAt (told : Option Files) (path : List ℕ) (x : Extent) (text : List ℕ)
-    : Type 0 where
-  pub size : length text ≡ x.size
-  pub shown : Shows told (λ files. file_part files path x.at x.size ≡ Some text)
 
 -- Descriptors
 

@@ -2,18 +2,19 @@
 ghost use Rattle.std.specs.Prelude.{◌≡◌, ◌≢◌, ◌≤◌, ◌+◌, AllPairs, IfOk, IsErrOf, IsOk, IsUtf8};
 ghost use Rattle.std.specs.Prelude.{map};
 ghost use Rattle.jm_outside.specs.Outcome.{CountsFaults};
-ghost use Rattle.jm_link.specs.ImageParts.{AreInfosRead, AreReadAs, IsContentAt, IsReadAt};
+ghost use Rattle.jm_filed.specs.Filed.{IsReadAt};
+ghost use Rattle.jm_link.specs.ImageParts.{AreInfosRead, AreReadAs, IsContentAt};
 ghost use Rattle.jm_link.specs.ImageParts.{info_sizes, read_size, read_sizes};
 
 use jm_bytes::{List, Text};
-use jm_filed::Extent;
+use jm_filed::{Extent, read_extent};
 use jm_outside::{Shelf, ShelfError};
 use jm_pool::Pool;
 use jm_relink::{ChosenFile, ModuleEntries};
 use std::alloc::Global;
 
 /// The content at an extent of a file.
-fn read_extent<S: Shelf>(
+fn read_content<S: Shelf>(
     alloc: Global,
     path: &[u8],
     extent: Extent,
@@ -27,7 +28,7 @@ fn read_extent<S: Shelf>(
         (IsErrOf result ShelfError.Failed) }
 {
     let mut text = Text::new(alloc);
-    shelf.read_exact(alloc, path, extent.at, extent.size as usize, &mut text)?;
+    read_extent(alloc, path, extent, &mut text, shelf)?;
     Ok(text)
 }
 
@@ -47,7 +48,7 @@ pub fn read_infos<S: Shelf>(
 {
     let mut infos = List::with_capacity(alloc, entries.len())?;
     for module in entries {
-        infos.push(read_extent(alloc, path, module.info, shelf)?)?;
+        infos.push(read_content(alloc, path, module.info, shelf)?)?;
     }
     Ok(infos)
 }
@@ -69,7 +70,7 @@ fn content_at<S: Shelf>(
 {
     match known {
         Some(content) => Ok(content),
-        None => read_extent(alloc, path, extent, shelf),
+        None => read_content(alloc, path, extent, shelf),
     }
 }
 

@@ -26,13 +26,13 @@ use std::sync::ledger::Ledger;
 use std::thread::Threads;
 
 /// The modules of an image. Of its file only their descriptors are read.
-fn shown_modules<S: Shelf, R: Ledger>(
+fn shown_modules<'a, S: Shelf, R: Ledger>(
     alloc: Global,
     release: u32,
-    image: FiledImage,
+    image: FiledImage<'_, 'a>,
     reads: &mut Meter<R>,
     shelf: &mut S,
-) -> Result<ImageModules, LinkStop>
+) -> Result<ImageModules<'a>, LinkStop>
     requires reads { reads.old.bytes ≡ image.index.now.bytes }
     requires path { IsUtf8 image.path.now }
     ensures files { S.files shelf.new ≡ S.files shelf.old }

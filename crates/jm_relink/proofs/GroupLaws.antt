@@ -69,7 +69,7 @@ of_group es m f there =
 
 -- The modules rise
 
-abbrev Falls : Filed → Filed → Type 0
+abbrev pub Falls : Filed → Filed → Type 0
 Falls e f = is_lt (filed_cmp f e) ≡ false
 
 abbrev Before : Group → Group → Type 0
@@ -160,7 +160,7 @@ one_group es g h sorted there too name =
 
 -- The files of a module rise
 
-second_decides : (o p : Ordering) → o ≡ Equal → is_lt (ordering_then o p) ≡ is_lt p
+pub second_decides : (o p : Ordering) → o ≡ Equal → is_lt (ordering_then o p) ≡ is_lt p
 second_decides o p is = ap (λ q. is_lt (ordering_then q p)) is
 
 abbrev Both : Filed → Filed → Type 0

@@ -1,114 +1,149 @@
--- What the code's groups of files are, one file after another.
-use Rattle.std.proofs.Common.{◌≡◌, ℕ, false, cond, List, [], ◌∷◌, ◌++◌, All, append_assoc, IfOk, map, Result, ap, sym, subst, ◌∙◌}
-use Rattle.std.proofs.lemmas.List.{map_push}
-use Rattle.std.proofs.lemmas.List.Elements.{All-head, All-nil, All-push, All-tail}
+-- What the code's groups of files are, one entry after another.
+use Rattle.std.proofs.Common.{◌≡◌, ℕ, cond, List, [], ◌∷◌, ◌++◌, All, IfOk, IfSome, map, Option, Some, None}
+use Rattle.std.proofs.Common.{is_some, option_map, option_to_list, Result, refl, sym, ap, ap₂, subst, ◌∙◌}
+use Rattle.std.proofs.lemmas.List.{map-append, map_push}
+use Rattle.std.proofs.lemmas.List.Elements.{All-append, All-head, All-nil, All-push, All-tail}
 use Rattle.std.proofs.lemmas.Result.{IfOk-weaker}
-use Rattle.std.specs.Str.{bytes_eq}
+use Rattle.std.specs.List.{filter}
 use Rattle.jm_bytes.specs.declared.texts.NoMemory.{NoMemory}
-use Rattle.jm_filed.specs.Filed.{IsWithin}
+use Rattle.jm_filed.specs.declared.extent.Extent.{Extent}
+use Rattle.jm_filed.specs.declared.taking.TakenEntry.{TakenEntry}
+use Rattle.jm_filed.specs.Filed.{IsWithin, content_at}
+use Rattle.jm_filed.specs.Taken.{LieWithin, taken_as}
+use Rattle.jm_names.specs.ByName.{Named}
+use Rattle.jm_relink.specs.declared.entries.ModuleEntries.{ModuleEntries}
 use Rattle.jm_relink.specs.declared.groups.ModuleFiles.{ModuleFiles}
-use Rattle.jm_relink.specs.declared.located.Located.{Located}
 use Rattle.jm_relink.specs.declared.modules.ImageFile.{ImageFile}
-use Rattle.jm_relink.specs.Files.{AllWithin, Filed, file_in, located_in}
-use Rattle.jm_relink.specs.Groups.{begun_as, files_of, groups, groups_from}
+use Rattle.jm_relink.specs.Entries.{FilesWithin, HasExtent}
+use Rattle.jm_relink.specs.Files.{AllWithin, Filed, file_in, files_in, located, located_among, module_and_path}
+use Rattle.jm_relink.specs.Groups.{Group, GroupWithin, KnowsInfo, begun_group, described_from, files_of, group_in, groups, groups_from, has_info}
+use Rattle.jm_relink.proofs.InfoLaws.{extent_content}
+use Rattle.jm_relink.proofs.JoinedLaws.{file_joins}
+use Rattle.jm_relink.proofs.ListLaws.{all_alone, map_alone, put_alone}
 
--- the first file of a next module
-pub file_apart : (b : List ℕ) (old new : List ModuleFiles) (g : ModuleFiles) (l : Located) (r : Result ModuleFiles NoMemory)
-    → bytes_eq g.module l.module ≡ false → new ≡ old ++ g ∷ [] → IfOk r (λ next. files_of b next ≡ begun_as (located_in b l))
-    → IfOk r (λ next. (rest : List Filed) → map (files_of b) new ++ groups_from (files_of b next) rest
-    ≡ map (files_of b) old ++ groups_from (files_of b g) (located_in b l ∷ rest))
-file_apart b old new g l r apart put begins =
-    IfOk-weaker r (λ next. files_of b next ≡ begun_as (located_in b l))
-    (λ next. (rest : List Filed) → map (files_of b) new ++ groups_from (files_of b next) rest
-    ≡ map (files_of b) old ++ groups_from (files_of b g) (located_in b l ∷ rest))
-    (λ next is rest.
-    ap (λ gs. map (files_of b) gs ++ groups_from (files_of b next) rest) put
-    ∙ ap (λ gs. gs ++ groups_from (files_of b next) rest) (map_push (files_of b) old g)
-    ∙ append_assoc (map (files_of b) old) (files_of b g ∷ []) (groups_from (files_of b next) rest)
-    ∙ ap (λ k. map (files_of b) old ++ files_of b g ∷ groups_from k rest) is
-    ∙ sym (ap (λ t. map (files_of b) old ++ cond t (groups_from (g.module, (files_of b g).1 ++ file_in b l.file ∷ []) rest)
-    (files_of b g ∷ groups_from (begun_as (located_in b l)) rest)) apart))
-    begins
+-- One group
 
--- Contents that lie in a file
+-- a group has a descriptor where the code knows its place
+pub described_if : (b : List ℕ) (current : Option ModuleFiles) (g : ModuleFiles) (o : Option Extent) → IfSome current KnowsInfo
+    → current ≡ Some g → g.info ≡ o
+    → cond (is_some o) (files_of b g ∷ []) [] ≡ described_from (option_map (files_of b) current) []
+described_if b current g o known same is =
+    ap (λ t. cond t (files_of b g ∷ []) []) (as_content o
+    ∙ ap is_some (ap (option_map (content_at b)) (sym is ∙ subst (λ x. IfSome x KnowsInfo) same known) ∙ sym (extent_content b g.files)))
+    ∙ sym (ap (λ x. described_from (option_map (files_of b) x) []) same)
+  where
+    as_content : (p : Option Extent) → is_some p ≡ is_some (option_map (content_at b) p)
+    as_content None = refl
+    as_content (Some x) = refl
 
-abbrev pub GroupWithin : ℕ → ModuleFiles → Type 0
-GroupWithin size g = AllWithin size g.files
+-- A module of which no file is known yet
 
-pub group_done : (size : ℕ) (old new : List ModuleFiles) (g : ModuleFiles) (r : Result ModuleFiles NoMemory) → new ≡ old ++ g ∷ []
-    → All (GroupWithin size) old → GroupWithin size g → IfOk r (GroupWithin size)
-    → IfOk r (λ next. All (GroupWithin size) new × GroupWithin size next)
-group_done size old new g r put all this next =
-    IfOk-weaker r (GroupWithin size) (λ k. All (GroupWithin size) new × GroupWithin size k)
-    (λ k inside. (subst (All (GroupWithin size)) (sym put) (All-push (GroupWithin size) old g all this), inside)) next
+pub within_begun : (size : ℕ) (m : List ℕ) (old new : List ModuleEntries) (o : Option ModuleEntries)
+    (r : Result ModuleFiles NoMemory) → new ≡ old ++ option_to_list o → All (FilesWithin size) old → IfSome o (FilesWithin size)
+    → IfOk r (λ g. g ≡ begun_group m) → IfOk r (λ g. All (FilesWithin size) new × GroupWithin size g)
+within_begun size m old new o r put all this begun =
+    IfOk-weaker r (λ g. g ≡ begun_group m) (λ g. All (FilesWithin size) new × GroupWithin size g)
+    (λ g same. (
+      subst (All (FilesWithin size)) (sym put) (All-append (FilesWithin size) old (option_to_list o) all
+          (all_alone (FilesWithin size) o this)),
+      subst (GroupWithin size) (sym same) (All-nil (λ (f : ImageFile). IsWithin size f.content)),
+    )) begun
 
-pub file_more_within : (size : ℕ) (old new : List ImageFile) (f : ImageFile) → new ≡ old ++ f ∷ [] → AllWithin size old
+-- One entry more
+
+pub entry_joins : (b : List ℕ) (old new : List ModuleEntries) (o : Option Group) (g next : ModuleFiles) (t : TakenEntry)
+    (m p : List ℕ) (file : ImageFile) → module_and_path t.name ≡ Some (m, p) → file.path ≡ p → file.content ≡ t.content
+    → g.module ≡ m → next.module ≡ g.module → next.files ≡ g.files ++ file ∷ []
+    → ((f : Named) (rest : List Filed) → map (group_in b) new ++ described_from (Some (files_of b g)) ((m, f) ∷ rest)
+    ≡ map (group_in b) old ++ described_from o ((m, f) ∷ rest)) → (rest : List Filed) → map (group_in b) new ++ described_from (Some (files_of b next)) rest
+    ≡ map (group_in b) old ++ described_from o (option_to_list (located (taken_as b t)) ++ rest)
+entry_joins b old new o g next t m p file cut path content of_module same_module put goes rest =
+    let f : Named = (p, content_at b t.content) in
+    let own : ◌≡◌ {A = Named} (file_in b file) f = ap₂ (λ (n : List ℕ) (x : Extent). (n, content_at b x)) path content in
+    let there : located (taken_as b t) ≡ Some (m, f) =
+    ap (option_map (λ (parts : List ℕ × List ℕ). (parts.0, (parts.1, content_at b t.content)))) cut in
+    let files : files_in b next.files ≡ files_in b g.files ++ f ∷ [] =
+    ap (files_in b) put ∙ map_push (file_in b) g.files file ∙ ap (λ x. files_in b g.files ++ x ∷ []) own in
+    ap₂ (λ n fs. map (group_in b) new ++ filter has_info (groups_from (n, fs) rest)) (same_module ∙ of_module) files
+    ∙ ap (λ gs. map (group_in b) new ++ filter has_info gs) (sym (file_joins m (files_in b g.files) f rest))
+    ∙ ap (λ n. map (group_in b) new ++ filter has_info (groups_from (n, files_in b g.files) ((m, f) ∷ rest))) (sym of_module)
+    ∙ goes f rest
+    ∙ sym (ap (λ x. map (group_in b) old ++ described_from o (option_to_list x ++ rest)) there)
+
+pub file_within : (size : ℕ) (old new : List ImageFile) (f : ImageFile) → new ≡ old ++ f ∷ [] → AllWithin size old
     → IsWithin size f.content → AllWithin size new
-file_more_within size old new f put all this =
+file_within size old new f put all this =
     subst (AllWithin size) (sym put) (All-push (λ (x : ImageFile). IsWithin size x.content) old f all this)
 
 -- All of them
 
-module _ (files : List Located) where
-  abbrev FileWithin : ℕ → Located → Type 0
-  FileWithin size l = IsWithin size l.file.content
+module _ (entries : List TakenEntry) where
+  record GroupsWithin (size : ℕ) (done : List ModuleEntries) (current : Option ModuleFiles) (rest : List TakenEntry) : Type 0 where
+    earlier : All (FilesWithin size) done
+    here : IfSome current (GroupWithin size)
+    coming : LieWithin size rest
 
-  record GroupsWithin (size : ℕ) (done : List ModuleFiles) (group : ModuleFiles) (rest : List Located) : Type 0 where
-    earlier : All (GroupWithin size) done
-    begun : GroupWithin size group
-    coming : All (FileWithin size) rest
+  -- the modules that are done, the group that is current, and the entries that are still to come
+  pub record AreGrouped (done : List ModuleEntries) (current : Option ModuleFiles) (rest : List TakenEntry) : Type 0 where
+    so_far : (b : List ℕ) → map (group_in b) done ++ described_from (option_map (files_of b) current) (located_among b rest)
+        ≡ filter has_info (groups (located_among b entries))
+    pub known : IfSome current KnowsInfo
+    pub infos : All HasExtent done
+    within : (size : ℕ) → LieWithin size entries → GroupsWithin size done current rest
 
-  -- the groups that are done, the one that is begun, and the files that are still to come
-  pub record AreGrouped (done : List ModuleFiles) (group : ModuleFiles) (rest : List Located) : Type 0 where
-    so_far : (b : List ℕ) → map (files_of b) done ++ groups_from (files_of b group) (map (located_in b) rest)
-        ≡ groups (map (located_in b) files)
-    within : (size : ℕ) → All (FileWithin size) files → GroupsWithin size done group rest
-
-  pub grouped_first : (done : List ModuleFiles) (first : Located) (rest : List Located) (group : ModuleFiles) → done ≡ []
-      → files ≡ first ∷ rest → ((b : List ℕ) → files_of b group ≡ begun_as (located_in b first))
-      → ((size : ℕ) → FileWithin size first → GroupWithin size group) → AreGrouped done group rest
-  grouped_first done first rest group none whole begins inside = record {
-    so_far = λ b.
-        ap (λ gs. map (files_of b) gs ++ groups_from (files_of b group) (map (located_in b) rest)) none
-        ∙ ap (λ g. groups_from g (map (located_in b) rest)) (begins b)
-        ∙ sym (ap (λ fs. groups (map (located_in b) fs)) whole);
-    within = λ size all.
-        let all_files = subst (All (FileWithin size)) whole all in
-        record {
-          earlier = subst (All (GroupWithin size)) (sym none) (All-nil (GroupWithin size));
-          begun = inside size (All-head (FileWithin size) first rest all_files);
-          coming = All-tail (FileWithin size) first rest all_files;
-        };
+  pub grouped_first : (done : List ModuleEntries) (rest : List TakenEntry) → done ≡ [] → rest ≡ entries → AreGrouped done None rest
+  grouped_first done rest none all = record {
+    so_far = λ b. ap₂ (λ ms ts. map (group_in b) ms ++ filter has_info (groups (located_among b ts))) none all;
+    known = tt;
+    infos = subst (All HasExtent) (sym none) (All-nil HasExtent);
+    within = λ size inside. record {
+      earlier = subst (All (FilesWithin size)) (sym none) (All-nil (FilesWithin size));
+      here = tt;
+      coming = subst (LieWithin size) (sym all) inside;
+    };
   }
 
-  pub grouped_next : (done new : List ModuleFiles) (group next : ModuleFiles) (l : Located) (left rest : List Located)
-      → AreGrouped done group left → left ≡ l ∷ rest
-      → ((b : List ℕ) (es : List Filed) → map (files_of b) new ++ groups_from (files_of b next) es
-      ≡ map (files_of b) done ++ groups_from (files_of b group) (located_in b l ∷ es))
-      → ((size : ℕ) → All (GroupWithin size) done → GroupWithin size group → FileWithin size l
-      → All (GroupWithin size) new × GroupWithin size next)
-      → AreGrouped new next rest
-  grouped_next done new group next l left rest before parts put inside = record {
+  pub grouped_next : (done new : List ModuleEntries) (current next : Option ModuleFiles) (t : TakenEntry) (left rest : List TakenEntry)
+      → AreGrouped done current left → left ≡ t ∷ rest
+      → ((b : List ℕ) (fs : List Filed) → map (group_in b) new ++ described_from (option_map (files_of b) next) fs
+      ≡ map (group_in b) done ++ described_from (option_map (files_of b) current) (option_to_list (located (taken_as b t)) ++ fs))
+      → IfSome next KnowsInfo → (All HasExtent done → All HasExtent new)
+      → ((size : ℕ) → All (FilesWithin size) done → IfSome current (GroupWithin size) → IsWithin size t.content
+      → All (FilesWithin size) new × IfSome next (GroupWithin size)) → AreGrouped new next rest
+  grouped_next done new current next t left rest before first joins known infos inside = record {
     so_far = λ b.
-        put b (map (located_in b) rest)
-        ∙ sym (ap (λ fs. map (files_of b) done ++ groups_from (files_of b group) (map (located_in b) fs)) parts)
+        joins b (located_among b rest)
+        ∙ ap (λ fs. map (group_in b) done ++ described_from (option_map (files_of b) current) fs)
+        (sym (put_alone (located (taken_as b t)) (located_among b rest)) ∙ ap (located_among b) (sym first))
         ∙ before.so_far b;
+    known = known;
+    infos = infos before.infos;
     within = λ size all.
         let so = before.within size all in
-        let coming = subst (All (FileWithin size)) parts so.coming in
-        let both = inside size so.earlier so.begun (All-head (FileWithin size) l rest coming) in
-        record { earlier = both.0; begun = both.1; coming = All-tail (FileWithin size) l rest coming };
+        let lies : TakenEntry → Type 0 = λ x. IsWithin size x.content in
+        let coming = subst (LieWithin size) first so.coming in
+        let both = inside size so.earlier so.here (All-head lies t rest coming) in
+        record { earlier = both.0; here = both.1; coming = All-tail lies t rest coming };
   }
 
-  pub grouped_all : (done new : List ModuleFiles) (group : ModuleFiles) (rest : List Located) → AreGrouped done group rest
-      → rest ≡ []
-      → new ≡ done ++ group ∷ [] → (b : List ℕ) → map (files_of b) new ≡ groups (map (located_in b) files)
-  grouped_all done new group rest before none put b =
-      ap (map (files_of b)) put ∙ map_push (files_of b) done group
-      ∙ sym (ap (λ fs. map (files_of b) done ++ groups_from (files_of b group) (map (located_in b) fs)) none) ∙ before.so_far b
+  module _ (done new : List ModuleEntries) (current : Option ModuleFiles) (rest : List TakenEntry) (o : Option ModuleEntries)
+      (before : AreGrouped done current rest) (put : new ≡ done ++ option_to_list o) where
+    pub grouped_all : rest ≡ [] → ((b : List ℕ) → option_to_list (option_map (group_in b) o)
+        ≡ described_from (option_map (files_of b) current) []) → (b : List ℕ) → map (group_in b) new
+        ≡ filter has_info (groups (located_among b entries))
+    grouped_all none is b =
+        ap (map (group_in b)) put ∙ map-append (group_in b) done (option_to_list o)
+        ∙ ap (λ gs. map (group_in b) done ++ gs) (map_alone (group_in b) o ∙ is b)
+        ∙ ap (λ ts. map (group_in b) done ++ described_from (option_map (files_of b) current) (located_among b ts)) (sym none)
+        ∙ before.so_far b
 
-  pub grouped_within : (done new : List ModuleFiles) (group : ModuleFiles) (rest : List Located) → AreGrouped done group rest
-      → new ≡ done ++ group ∷ [] → (size : ℕ) → All (FileWithin size) files → All (GroupWithin size) new
-  grouped_within done new group rest before put size all =
-      let so = before.within size all in
-      subst (All (GroupWithin size)) (sym put) (All-push (GroupWithin size) done group so.earlier so.begun)
+    pub infos_all : IfSome o HasExtent → All HasExtent new
+    infos_all info = subst (All HasExtent) (sym put) (All-append HasExtent done (option_to_list o) before.infos
+        (all_alone HasExtent o info))
+
+    pub within_all : ((size : ℕ) → IfSome current (GroupWithin size) → IfSome o (FilesWithin size)) → (size : ℕ) → LieWithin size entries
+        → All (FilesWithin size) new
+    within_all inside size all =
+        let so = before.within size all in
+        subst (All (FilesWithin size)) (sym put) (All-append (FilesWithin size) done (option_to_list o) so.earlier
+        (all_alone (FilesWithin size) o (inside size so.here)))

@@ -32,9 +32,6 @@ pub taken_more : {X : Type 0} (xs left rest all : List X) (x : X) → xs ++ left
     ≡ all
 taken_more xs left rest all x so_far next = append_assoc xs (x ∷ []) rest ∙ ap (λ ys. xs ++ ys) (sym next) ∙ so_far
 
-pub taken_all : {X : Type 0} (xs left all : List X) → xs ++ left ≡ all → left ≡ [] → xs ≡ all
-taken_all xs left all so_far none = sym (append_none xs) ∙ ap (λ ys. xs ++ ys) (sym none) ∙ so_far
-
 -- what holds of all holds of the next one
 pub of_next : {X : Type 0} (P : X → Type 0) (xs rest all : List X) (x : X) → All P all → xs ++ x ∷ rest ≡ all → P x
 of_next P xs rest all x holds whole =

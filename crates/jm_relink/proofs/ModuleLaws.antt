@@ -24,7 +24,7 @@ use Rattle.jm_form.specs.ModuleFiles.{info_name}
 use Rattle.jm_names.specs.Names.{is_node, is_slash}
 use Rattle.jm_reader.specs.Walk.{entries_with}
 use Rattle.jm_relink.specs.declared.fault.RelinkFault.{RelinkFault}
-use Rattle.jm_relink.specs.Files.{Filed, NeverFalls, file_name, info_entry, located, module_and_path, resources_of}
+use Rattle.jm_relink.specs.Files.{Filed, NeverFalls, file_name, info_entry, located, resources_of}
 use Rattle.jm_names.specs.ByName.{Named}
 use Rattle.jm_relink.specs.Groups.{Group, groups, info_content}
 use Rattle.jm_relink.specs.Judging.{entry_due, group_due, groups_due, seen_with}
@@ -34,7 +34,7 @@ use Rattle.jm_relink.proofs.GroupLaws.{files_rise, groups_rise, in_group, of_gro
 use Rattle.jm_relink.proofs.JudgingLaws.{IsFirstRefused, IsFree, entry_err, entry_ok, groups_err, groups_ok, seen_of, value}
 use Rattle.jm_bytes.proofs.Choice.{mapped_some}
 use Rattle.jm_relink.proofs.ListLaws.{one_of, pairs_right}
-use Rattle.jm_relink.proofs.NameLaws.{file_of_parts, parts_of_file}
+use Rattle.jm_relink.proofs.NameLaws.{located_from, parts_of_file}
 use Rattle.jm_bytes.proofs.ByteOrderLaws.{before_apart, one_way}
 use Rattle.jm_names.proofs.KeyLaws.{differ_moved}
 use Rattle.jm_relink.proofs.PackageLaws.{packages_are}
@@ -71,16 +71,6 @@ pub record AreSorted (rs : List Named) (fs : List Filed) : Type 0 where
 pub record IsFileOf (rs : List Named) (m : List ℕ) (f : Named) : Type 0 where
   pub whole : list_any is_slash m ≡ false
   pub there : Contains rs (file_name m f.0, f.1)
-
-located_from : (r : Named) (e : Filed) → located r ≡ Some e → (list_any is_slash e.0 ≡ false) × (r ≡ (file_name e.0 e.1.0, e.1.1))
-located_from r e h =
-    let some = mapped_some (λ (cut : List ℕ × List ℕ). (cut.0, (cut.1, r.1))) (module_and_path r.0) e h in
-    let cut = some.0 in
-    let name = file_of_parts r.0 cut.0 cut.1 some.1 in
-    let same : ◌≡◌ {A = Filed} (cut.0, (cut.1, r.1)) e = some.2 in (
-      subst (λ (x : Filed). list_any is_slash x.0 ≡ false) same name.whole,
-      ap (λ n. (n, r.1)) name.is ∙ ap (λ (x : Filed). (file_name x.0 x.1.0, x.1.1)) same,
-    )
 
 file_from : (rs : List Named) (fs : List Filed) (m : List ℕ) (f : Named) → AreSorted rs fs → Contains fs (m, f) → IsFileOf rs m f
 file_from rs fs m f are there =

@@ -1,15 +1,16 @@
 -- Names of resources: the module and the path of each.
-use Rattle.std.proofs.Common.{inl, inr, ◌≡◌, ℕ, suc, ◌+◌, Bool, true, false, ◌&&◌, ◌||◌, not, cond, List, []}
+use Rattle.std.proofs.Common.{inl, inr, ◌≡◌, ◌≤◌, ℕ, suc, ◌+◌, Bool, true, false, ◌&&◌, ◌||◌, not, cond, List, []}
 use Rattle.std.proofs.Common.{◌∷◌, ◌++◌, take, drop, length, Some, None, refl, sym, ap, ◌∙◌, subst, arith}
 use Rattle.std.proofs.lemmas.Bool.{false≢true, eqb-true}
-use Rattle.std.proofs.lemmas.List.{append_cancel_left, take_at}
+use Rattle.std.proofs.lemmas.List.{append_cancel_left, length-append, take_at}
 use Rattle.std.specs.List.{after_first, before_first, list_any, position_or_len}
-use Rattle.jm_bytes.proofs.Choice.{chosen, same_first, same_second}
+use Rattle.jm_bytes.proofs.Choice.{chosen, mapped_some, same_first, same_second}
 use Rattle.jm_bytes.proofs.Cuts.{first_parts}
 use Rattle.jm_form.specs.Trees.{path_of}
 use Rattle.jm_form.proofs.ListLaws.{any_behind, drop_front}
 use Rattle.jm_names.specs.Names.{is_slash}
-use Rattle.jm_relink.specs.Files.{file_name, module_and_path}
+use Rattle.jm_names.specs.ByName.{Named}
+use Rattle.jm_relink.specs.Files.{Filed, file_name, located, module_and_path}
 
 -- Tests
 
@@ -94,3 +95,26 @@ file_of_parts (b ∷ name) m p h =
           }
       | inr fails ↦ cc
     ]
+
+-- a resource that is a file of a module has the name that the module and the path make
+pub located_from : (r : Named) (e : Filed) → located r ≡ Some e → (list_any is_slash e.0 ≡ false) × (r ≡ (file_name e.0 e.1.0, e.1.1))
+located_from r e h =
+    let some = mapped_some (λ (cut : List ℕ × List ℕ). (cut.0, (cut.1, r.1))) (module_and_path r.0) e h in
+    let cut = some.0 in
+    let name = file_of_parts r.0 cut.0 cut.1 some.1 in
+    let same : ◌≡◌ {A = Filed} (cut.0, (cut.1, r.1)) e = some.2 in (
+      subst (λ (x : Filed). list_any is_slash x.0 ≡ false) same name.whole,
+      ap (λ n. (n, r.1)) name.is ∙ ap (λ (x : Filed). (file_name x.0 x.1.0, x.1.1)) same,
+    )
+
+-- the path stands after the module and two slashes
+pub path_after : (name m p : List ℕ) → module_and_path name ≡ Some (m, p) → (length m + 2 ≤ length name)
+    × (drop (length m + 2) name ≡ p)
+path_after name m p cut =
+    let is = (file_of_parts name m p cut).is in
+    let size = ap length is in
+    let parts = length-append m (47 ∷ p) in
+    let places : length m + 2 ≡ suc (length m + 1) = omega arith in (
+      omega (arith, size, parts),
+      ap (drop (length m + 2)) is ∙ ap (λ n. drop n (file_name m p)) places ∙ drop_front m (47 ∷ p) 1,
+    )

@@ -6,11 +6,15 @@ use Rattle.jm_filed.specs.Filed.{IsWithin, content_at}
 use Rattle.jm_relink.specs.declared.entries.ModuleEntries.{ModuleEntries}
 use Rattle.jm_relink.specs.Files.{AllWithin, Filed, NeverFalls, files_in, located}
 use Rattle.jm_relink.specs.Files.{resources_of}
-use Rattle.jm_relink.specs.Groups.{group_in, groups, has_info, info_content}
+use Rattle.jm_relink.specs.Groups.{group_in, groups, has_info, info_content, info_extent}
 
 -- the place of a module's descriptor is that of its file `module-info.class`
 abbrev pub HasInfoAt : List ℕ → ModuleEntries → Type 0
 HasInfoAt b m = info_content (files_in b m.files) ≡ Some (content_at b m.info)
+
+-- the same of the extents, whatever the bytes are
+abbrev pub HasExtent : ModuleEntries → Type 0
+HasExtent m = Some m.info ≡ info_extent m.files
 
 -- these are the modules that have a descriptor among the resources of an image: the groups of its
 -- files, sorted by module and by path, that have a file `module-info.class`
@@ -25,6 +29,10 @@ pub record AreEntriesOf (b : List ℕ) (ms : List ModuleEntries) : Type 0 where
 pub record EntriesWithin (size : ℕ) (m : ModuleEntries) : Type 0 where
   pub info : IsWithin size m.info
   pub files : AllWithin size m.files
+
+-- the contents of a module's files lie in a file of that many bytes
+abbrev pub FilesWithin : ℕ → ModuleEntries → Type 0
+FilesWithin size m = AllWithin size m.files
 
 -- these are the contents of the modules' descriptors
 abbrev pub AreInfosIn : List ℕ → List ModuleEntries → List (List ℕ) → Type 0

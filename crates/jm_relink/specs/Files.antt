@@ -1,18 +1,18 @@
 -- The resources of an image as files of modules (JEP 220: `/module/path`).
 use Rattle.std.specs.Prelude.{ℕ, ◌&&◌, List, [], ◌∷◌, ◌++◌, map, All, AllPairs}
-use Rattle.std.specs.Prelude.{Option, Some, None, option_map, option_to_list, if◌then◌else◌}
-use Rattle.std.specs.Prelude.{IsFalse}
+use Rattle.std.specs.Prelude.{Option, Some, None, option_map, if◌then◌else◌, IsFalse}
 use Rattle.std.specs.Cmp.Lexicographic.{slice_cmp}
-use Rattle.std.specs.List.{after_first, before_first, list_any}
+use Rattle.std.specs.List.{after_first, before_first, filter_map, list_any}
 use Rattle.std.specs.Ordering.{is_lt, nat_cmp, ordering_then}
 use Rattle.std.specs.declared.cmp.Ordering.{Ordering}
 use Rattle.jm_filed.specs.Filed.{IsWithin, content_at}
+use Rattle.jm_filed.specs.Taken.{taken_as}
+use Rattle.jm_filed.specs.declared.taking.TakenEntry.{TakenEntry}
 use Rattle.jm_form.specs.Validity.{resources}
 use Rattle.jm_names.specs.ByName.{Named}
 use Rattle.jm_form.specs.ModuleFiles.{info_name}
-use Rattle.jm_names.specs.Names.{is_node, is_slash}
+use Rattle.jm_names.specs.Names.{is_slash}
 use Rattle.jm_reader.specs.Walk.{entries_of}
-use Rattle.jm_relink.specs.declared.located.Located.{Located}
 use Rattle.jm_relink.specs.declared.modules.ImageFile.{ImageFile}
 
 -- the entries of an image whose names are no nodes'
@@ -51,10 +51,6 @@ file_in b f = (f.path, content_at b f.content)
 abbrev pub files_in : List ℕ → List ImageFile → List Named
 files_in b fs = map (file_in b) fs
 
--- such a file with its module, as plain data
-abbrev pub located_in : List ℕ → Located → Filed
-located_in b l = (l.module, file_in b l.file)
-
 -- the contents of some files lie in a file of that many bytes
 abbrev pub AllWithin : ℕ → List ImageFile → Type 0
 AllWithin size fs = All (λ f. IsWithin size f.content) fs
@@ -63,19 +59,13 @@ AllWithin size fs = All (λ f. IsWithin size f.content) fs
 abbrev pub located : Named → Option Filed
 located r = option_map (λ cut. (cut.0, (cut.1, r.1))) (module_and_path r.0)
 
--- a resource as a file of a module, if it is one; a node is none
-abbrev pub located_alone : Named → List Filed
-located_alone r = if is_node r.0 then [] else option_to_list (located r)
+-- the files of modules among entries of an image of these bytes
+abbrev pub located_among : List ℕ → List TakenEntry → List Filed
+located_among b entries = filter_map located (map (taken_as b) entries)
 
 -- the order of files: by module and then by path
 abbrev pub filed_cmp : Filed → Filed → Ordering
 filed_cmp e f = ordering_then (slice_cmp nat_cmp e.0 f.0) (slice_cmp nat_cmp e.1.0 f.1.0)
-
--- the same of files that the code holds, whatever their contents are
-abbrev pub located_cmp : Located → Located → Ordering
-located_cmp l k =
-    ordering_then (slice_cmp nat_cmp l.module k.module)
-    (slice_cmp nat_cmp l.file.path k.file.path)
 
 -- no file stands before an earlier one
 abbrev pub NeverFalls : List Filed → Type 0

@@ -55,14 +55,15 @@ fn chosen_file(
         → IfAnswered (IsChosen b (resource_of «module».now (file_in b file.now))) result }
     ensures content { IfOk result (λ chosen. chosen.content ≡ file.now.content) }
 {
-    let name = file_name(alloc, module, file.path.as_slice())?;
+    let path = file.path.to_text(alloc)?;
+    let name = file_name(alloc, module, path.as_slice())?;
     if let Err(fault) = check_name(name.as_slice()) {
         return Err(Or::Fault(GatherFault { name, fault }));
     }
     Ok(ChosenFile {
         name,
         content: file.content,
-        described: described(alloc, file.path.as_slice(), info)?,
+        described: described(alloc, path.as_slice(), info)?,
     })
 }
 

@@ -19,11 +19,11 @@ use std::alloc::Global;
 
 /// A module of an image, with its files.
 #[derive(Debug, Drop)]
-pub struct SeenModule {
+pub struct SeenModule<'a> {
     /// What its descriptor says, and its class packages.
     pub candidate: Candidate,
     /// Its files.
-    pub files: List<ImageFile>,
+    pub files: List<ImageFile<'a>>,
 }
 
 /// The name of the entry that makes a module.
@@ -62,16 +62,16 @@ fn descriptor(
 }
 
 /// A module, from the content of its `module-info.class`, as a class of this release of Java SE.
-fn seen(
+fn seen<'a>(
     alloc: Global,
     release: u32,
-    module: ModuleEntries,
+    module: ModuleEntries<'a>,
     info: &[u8],
-) -> Result<SeenModule, Or<RelinkFault>>
+) -> Result<SeenModule<'a>, Or<RelinkFault>>
     ensures seen { (b : List ℕ) → IfAnswered (λ r.
-        seen_due (group_in b «module») (info_for release info.now) ≡ mapped (seen_in b) r)
+        seen_due (group_in b «module».entry) (info_for release info.now) ≡ mapped (seen_in b) r)
         result }
-    ensures files { IfOk result (λ seen. seen.files ≡ «module».files) }
+    ensures files { IfOk result (λ seen. seen.files ≡ «module».entry.files) }
 {
     let descriptor = descriptor(alloc, release, module.module.as_slice(), info)?;
     let packages = class_packages(alloc, module.files.as_slice())?;
@@ -86,19 +86,19 @@ fn seen(
 
 /// Modules, from the content of each one's `module-info.class`, as classes of this release of Java
 /// SE.
-pub fn seen_modules(
+pub fn seen_modules<'a>(
     alloc: Global,
     release: u32,
-    modules: List<ModuleEntries>,
+    modules: List<ModuleEntries<'a>>,
     infos: &[Text],
-) -> Result<List<SeenModule>, Or<RelinkFault>>
+) -> Result<List<SeenModule<'a>>, Or<RelinkFault>>
     requires { length infos.now ≡ length modules }
-    ensures seen { (b : List ℕ) → All (HasInfoAt b) modules
-        → AreInfosIn b modules infos.now → IfAnswered (λ r.
-        groups_due release [] (map (group_in b) modules) ≡ mapped (map (seen_in b)) r)
+    ensures seen { (b : List ℕ) → All (HasInfoAt b) modules.entry
+        → AreInfosIn b modules.entry infos.now → IfAnswered (λ r.
+        groups_due release [] (map (group_in b) modules.entry) ≡ mapped (map (seen_in b)) r)
         result }
     ensures files { IfOk result (λ seen.
-        map (λ m. m.files) seen ≡ map (λ m. m.files) modules) }
+        map (λ m. m.files) seen ≡ map (λ m. m.files) modules.entry) }
 {
     let mut done = List::new(alloc);
     for module in modules.into_vec() {

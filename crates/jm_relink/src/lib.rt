@@ -11,13 +11,14 @@ mod gathering;
 mod groups;
 mod judging;
 mod lists;
-mod located;
 mod modules;
 mod names;
 mod packages;
+mod path;
 
 pub use choosing::{ChosenFile, chosen_files};
 pub use entries::{ModuleEntries, module_entries};
 pub use fault::{GatherFault, RelinkFault};
 pub use gathering::gather;
 pub use modules::{ImageFile, ImageModules, modules_for, modules_of, modules_with};
+pub use path::ImagePath;

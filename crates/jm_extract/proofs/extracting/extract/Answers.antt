@@ -4,7 +4,7 @@ use Rattle.jm_names.specs.ByName.{RisesByName}
 use Rattle.jm_reader.proofs.IndexLaws.{file_begins, file_with}
 use Rattle.jm_texts.specs.declared.refusal.Refusal.{Refusal}
 use Rattle.jm_extract.specs.Extracted.{due_size, extracted}
-use Rattle.jm_extract.specs.Taken.{LieWithin, taken_as}
+use Rattle.jm_filed.specs.Taken.{LieWithin, taken_as}
 use Rattle.jm_extract.proofs.ExtractLaws.{broken_off, free_due, out_of_memory, refused_due}
 use Rattle.jm_extract.proofs.RefusalLaws.{rises_alone}
 use Rattle.jm_extract.proofs.SizeLaws.{sizes_taken}

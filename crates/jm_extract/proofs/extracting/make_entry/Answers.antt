@@ -19,4 +19,4 @@ make_file-requires-in-None g c =
 
 pub returns-clause-handed : goal.returns-clause-handed
 returns-clause-handed g c =
-    rw c.in-None.is (omega (arith, c.make_file-in-None.ensures.handed, c.in_ok-read_content-in-None.ensures.handed))
+    rw c.in-None.is (omega (arith, c.make_file-in-None.ensures.handed, c.in_ok-read_extent-in-None.ensures.handed))

@@ -5,7 +5,7 @@ use Rattle.jm_outside.specs.Made.{MadeAll, MadePart, Writes}
 use Rattle.jm_outside.proofs.MadeLaws.{made_none, part_of_none}
 use Rattle.jm_extract.specs.Extracted.{writes_of}
 use Rattle.jm_extract.specs.Filed.{AreContents, sizes}
-use Rattle.jm_extract.specs.Taken.{taken_as}
+use Rattle.jm_filed.specs.Taken.{taken_as}
 use Rattle.jm_extract.proofs.ExtractLaws.{made_next, part_next}
 use Rattle.jm_extract.proofs.FiledLaws.{drop_less, has_content, kept_of, makes_all, makes_part, sizes_parted, unkept_next}
 use Rattle.jm_extract.proofs.extracting.make_files.Goals as goal

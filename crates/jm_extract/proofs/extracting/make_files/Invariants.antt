@@ -3,7 +3,7 @@ use Rattle.jm_outside.specs.Made.{MadeAll}
 use Rattle.jm_extract.specs.Extracted.{writes_of}
 use Rattle.jm_filed.specs.Filed.{IsAt}
 use Rattle.jm_extract.specs.Filed.{sizes}
-use Rattle.jm_extract.specs.Taken.{taken_as}
+use Rattle.jm_filed.specs.Taken.{taken_as}
 use Rattle.jm_extract.proofs.extracting.make_files.Given as goal
 
 abbrev pub invariant-loop-place : goal.invariant-loop-place

@@ -3,7 +3,7 @@ use Rattle.std.proofs.lemmas.Bool.{ltb-true, ltb-false}
 use Rattle.std.proofs.lemmas.Fn.{always_returns_same}
 use Rattle.std.specs.List.{starts_with}
 use Rattle.jm_bytes.specs.ByteOrder.{is_before}
-use Rattle.jm_extract.specs.declared.taking.TakenEntry.{TakenEntry}
+use Rattle.jm_filed.specs.declared.taking.TakenEntry.{TakenEntry}
 use Rattle.jm_extract.proofs.FrontNames.{begins_at, begins_nowhere, parted}
 use Rattle.jm_extract.proofs.refusals.begins.Goals as goal
 

@@ -1,5 +1,5 @@
 use Rattle.std.proofs.Common.{of_calls, rules, sym, ◌∙◌}
-use Rattle.jm_extract.specs.Taken.{name_alone}
+use Rattle.jm_filed.specs.Taken.{name_alone}
 use Rattle.jm_extract.proofs.RefusalLaws.{bad_name, refused_alone, refused_clash}
 use Rattle.jm_texts.proofs.NameRefusalLaws.{all_sound, none_checked}
 use Rattle.jm_extract.proofs.refusals.refusal_of.Goals as goal

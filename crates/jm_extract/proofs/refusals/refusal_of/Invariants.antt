@@ -2,7 +2,7 @@ use Rattle.std.proofs.Common.{◌≡◌, ◌∷◌, drop, map}
 use Rattle.jm_bytes.specs.Checks.{first_fault}
 use Rattle.jm_texts.specs.NameRefusals.{first_bad_name}
 use Rattle.jm_extract.specs.Extracted.{clash_refusal, first_clash}
-use Rattle.jm_extract.specs.Taken.{name_alone}
+use Rattle.jm_filed.specs.Taken.{name_alone}
 use Rattle.jm_extract.proofs.refusals.refusal_of.Given as goal
 
 abbrev pub invariant-loop-entry : goal.invariant-loop-entry
