@@ -11,7 +11,7 @@ use Rattle.std.specs.Option.{is_some}
 use Rattle.std.specs.Str.{bytes_eq}
 use Rattle.jm_bytes.proofs.Choice.{same_some}
 use Rattle.jm_bytes.proofs.Members.{any_contains, contains_cases, contains_none}
-use Rattle.jm_bytes.proofs.Pairs.{pairs_append, pairs_none}
+use Rattle.jm_bytes.proofs.Pairs.{pairs_append}
 use Rattle.jm_closure.specs.Names.{NamesDiffer}
 use Rattle.jm_closure.specs.Modules.{HasName}
 use Rattle.jm_closure.specs.declared.candidate.Candidate.{Candidate}
@@ -61,9 +61,6 @@ holds_more ms m names more place holds new texts puts = record {
               ((bytes_eq-Decides (name_of m) (name_of k)).1 one)))
           | inr none ↦ contains_none l none
         ]
-
-pub holds_none : Holds [] []
-holds_none = record { knows = λ name. refl; differ = pairs_none (λ k l. name_of k ≢ name_of l); texts = All-nil HasTexts }
 
 -- Names of candidates
 

@@ -1,5 +1,5 @@
 -- The modules of directories and of a module path, as the steps find them.
-use Rattle.std.proofs.Common.{◌≡◌, ◌≢◌, ℕ, ◌+◌, ◌<◌, ◌≤◌, Bool, true, false, cond, List, [], ◌∷◌, ◌++◌, append-nil}
+use Rattle.std.proofs.Common.{◌≡◌, ℕ, ◌+◌, ◌<◌, ◌≤◌, Bool, true, false, cond, List, [], ◌∷◌, ◌++◌, append-nil}
 use Rattle.std.proofs.Common.{append_assoc, length, length-append, take, drop, get_or, Option, Some, None}
 use Rattle.std.proofs.Common.{Result, Ok, Err, refl, sym, ap, ◌∙◌, subst, arith, filter_map}
 use Rattle.std.proofs.lemmas.List.{at_drop_all, drop_more, take_at}
@@ -202,14 +202,6 @@ path_shown release told directories r comes =
 
 -- Loops
 
-pub directories_next : (release : ℕ) (files : Files) (directories : List (List ℕ)) (i : ℕ) (directory : List ℕ)
-    (found more : List VisibleModule)
-    → i < length directories → directory ≡ get_or directories i directory
-    → Comes ⊥ (shown_more release files found directory) (Ok more)
-    → directories_due release files more (drop (i + 1) directories) ≡ directories_due release files found (drop i directories)
-directories_next release files directories i directory found more below is comes =
-    rw (drop_more directories i directory below, ← is, comes) refl
-
 pub directories_ended : (release : ℕ) (files : Files) (directories : List (List ℕ)) (i : ℕ) (directory : List ℕ)
     (found : List VisibleModule)
     (e : PathStop) → i < length directories → directory ≡ get_or directories i directory
@@ -256,11 +248,6 @@ pub path_done : (release : ℕ) (told : Option Files) (directories : List (List 
 path_done release told directories i found all so_far =
     path_shown release told directories (Ok found)
     (told_more told _ _ (λ files left. sym left ∙ at_drop_all (directories_due release files found) directories i all) so_far)
-
--- a loop went past some of a list that isn't empty
-pub some_passed : {X : Type 0} (xs : List X) (i : ℕ) → length xs ≤ i → xs ≢ [] → 0 < i
-some_passed [] i all some = absurd (some refl)
-some_passed (x ∷ xs) i all some = omega (arith, all)
 
 pub nothing_left : {X : Type 0} (xs : List X) (n : ℕ) → n ≡ length xs → n ≡ 0 → xs ≡ []
 nothing_left [] n is none = refl

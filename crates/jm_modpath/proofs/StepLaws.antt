@@ -16,7 +16,6 @@ use Rattle.jm_bytes.proofs.Cuts.{first_parts}
 use Rattle.jm_bytes.proofs.Members.{any_contains, contains_cases, contains_here, contains_later, from_filter_map}
 use Rattle.jm_modpath.specs.declared.directory.Described.{Described}
 use Rattle.jm_names.specs.Names.{is_empty, is_slash}
-use Rattle.jm_outside.specs.declared.shelf.ShelfError.{ShelfError}
 use Rattle.jm_outside.specs.declared.shelf.ShelfError.TheVariants as outside
 use Rattle.jm_outside.specs.Files.{Files, after_front, file, names_below}
 use Rattle.jm_outside.specs.Outcome.{Shows}
@@ -27,8 +26,8 @@ use Rattle.jm_modpath.specs.declared.refusal.PathStop.TheVariants as stop
 use Rattle.jm_modpath.specs.declared.refusal.PathRefusal.{PathRefusal}
 use Rattle.jm_modpath.specs.declared.refusal.PathRefusal.TheVariants as refusal
 use Rattle.jm_modpath.specs.declared.visible.VisibleModule.{VisibleModule}
-use Rattle.jm_modpath.specs.Finding.{AfterStep, AfterStop, Comes, folder_due, folders_among, info_due}
-use Rattle.jm_modpath.specs.Finding.{names_within, refused_at, shown_due, stop_of}
+use Rattle.jm_modpath.specs.Finding.{Comes, folder_due, folders_among, info_due}
+use Rattle.jm_modpath.specs.Finding.{names_within, refused_at, shown_due}
 use Rattle.jm_form.specs.ModuleFiles.{info_name}
 use Rattle.jm_modinfo.specs.Descriptions.{info_for}
 use Rattle.jm_modpath.specs.Modules.{bytes_at, folder_with_info, info_path, inside, is_named, module_with, name_of, unhidden}
@@ -46,19 +45,6 @@ comes_weaker due (Err (stop.Refused e)) more h = h
 comes_weaker due (Err (stop.NotThere path)) more h = more h
 comes_weaker due (Err stop.Outside) more h = h
 comes_weaker due (Err stop.Memory) more h = h
-
--- what holds in any case holds behind a step
-pub holds_after : {A : Type 0} (Fact : Type 0) (r : Result A PathStop) → Fact → AfterStep Fact r
-holds_after Fact (Ok x) fact = fact
-holds_after Fact (Err (stop.Refused e)) fact = fact
-holds_after Fact (Err (stop.NotThere path)) fact = fact
-holds_after Fact (Err stop.Outside) fact = tt
-holds_after Fact (Err stop.Memory) fact = tt
-
--- and nothing needs to hold behind a failed call of the shelf
-pub failed_after : (Fact : Type 0) (error : ShelfError) → AfterStop Fact (stop_of error)
-failed_after Fact outside.Failed = tt
-failed_after Fact outside.Memory = tt
 
 -- a step that went on, and what came of the next one
 pub comes_next : {A B : Type 0} (due : Result A PathRefusal) (next : A → Result B PathRefusal) (x : A) (r : Result B PathStop) → due

@@ -1,5 +1,5 @@
 -- The packages that a class is to list, one after another.
-use Rattle.std.proofs.Common.{◌≡◌, ℕ, ◌+◌, ◌<◌, false, cond, not, List, [], ◌∷◌, ◌++◌, length, get_or, take}
+use Rattle.std.proofs.Common.{◌≡◌, ℕ, ◌+◌, ◌<◌, not, List, [], ◌∷◌, ◌++◌, length, get_or, take}
 use Rattle.std.proofs.Common.{map, filter, Contains, Result, Ok, Err, Some, refl, sym, ap, subst, ◌∙◌}
 use Rattle.std.proofs.Common.{append-nil, append_assoc}
 use Rattle.std.proofs.lemmas.Grind.{flat_map-append}
@@ -36,9 +36,6 @@ pub dotted_joins : (xs ys : List (List ℕ)) → dotted_packages (xs ++ ys) ≡ 
 dotted_joins xs ys =
     let test = λ (text : List ℕ). not (is_empty text) in
     ap (map dotted) (filter-append test xs ys) ∙ map-append dotted (filter test xs) (filter test ys)
-
-pub not_empty : (text : List ℕ) → is_empty text ≡ false → dotted_packages (text ∷ []) ≡ dotted text ∷ []
-not_empty text some = ap (λ b. map dotted (cond (not b) (text ∷ []) [])) some
 
 abbrev pub opened_packages : List Opened → List (List ℕ)
 opened_packages opened = dotted_packages (map (λ p. p.package) opened)
