@@ -14,6 +14,7 @@ use Rattle.jm_commands.specs.Outcome.{Early, Outcome}
 use Rattle.jm_commands.specs.Run.{DoesAll, DoesFront, EndsStep, EndsWith, ReportDoes, RunComesTo, RunDoes, StepComesTo, StepDoes, status_of}
 use Rattle.jm_commands.specs.SessionHeld.{EndsAs, EndsBroken, SourceRead, StopsAs}
 use Rattle.jm_commands.specs.Sinks.{Failed, Gets, GetsFront, Seen}
+use Rattle.jm_commands.specs.Stops.{stop_of_session}
 use Rattle.jm_commands.specs.Texts.{line_of}
 use Rattle.jm_commands.specs.World.{World}
 use Rattle.jm_commands.proofs.Gotten.{front_of_all, front_of_nothing, gets_nothing}
@@ -65,31 +66,26 @@ source_map (Some b) Ends Also old new f held = record {
   serves = held.serves;
 }
 
--- nothing was put to the error sink
-module _ (err : Seen (List ℕ)) where
-  ends_done : (answered : Result ℕ ServeError) → StopsAs (Ok tt) answered → EndsAs status.Done err err answered
-  ends_done (Ok n) stops = refl
-  ends_done (Err serve_error.ReadFault) stops = cc
-  ends_done (Err serve_error.WriteFault) stops = cc
-  ends_done (Err (serve_error.LongLine k)) stops = cc
-  ends_done (Err serve_error.TooManyLines) stops = cc
-  ends_done (Err serve_error.Memory) stops = cc
+-- the status of the run of a session whose step had no complaint, so nothing was put to the error
+-- sink
+abbrev EndsPlain : Seen (List ℕ) → Result (Unit {0}) Stop → Result ℕ ServeError → Type 0
+EndsPlain err (Ok _) answered = EndsAs status.Done err err answered
+EndsPlain err (Err stop.Outside) answered = EndsAs status.Outside err err answered
+EndsPlain err (Err stop.Memory) answered = EndsAs status.Memory err err answered
+EndsPlain err (Err (stop.Complaint given)) answered = Unit {0}
 
-  ends_outside : (answered : Result ℕ ServeError) → StopsAs (Err stop.Outside) answered → EndsAs status.Outside err err answered
-  ends_outside (Ok n) stops = cc
-  ends_outside (Err serve_error.ReadFault) stops = refl
-  ends_outside (Err serve_error.WriteFault) stops = refl
-  ends_outside (Err (serve_error.LongLine k)) stops = cc
-  ends_outside (Err serve_error.TooManyLines) stops = cc
-  ends_outside (Err serve_error.Memory) stops = cc
-
-  ends_memory : (answered : Result ℕ ServeError) → StopsAs (Err stop.Memory) answered → EndsAs status.Memory err err answered
-  ends_memory (Ok n) stops = cc
-  ends_memory (Err serve_error.ReadFault) stops = cc
-  ends_memory (Err serve_error.WriteFault) stops = cc
-  ends_memory (Err (serve_error.LongLine k)) stops = cc
-  ends_memory (Err serve_error.TooManyLines) stops = cc
-  ends_memory (Err serve_error.Memory) stops = refl
+ends_plain : (err : Seen (List ℕ)) (stopped : Result (Unit {0}) Stop) (answered : Result ℕ ServeError) → StopsAs stopped answered
+    → EndsPlain err stopped answered
+ends_plain err stopped answered stops =
+    subst (λ (s : Result (Unit {0}) Stop). EndsPlain err s answered) (sym stops) (go answered)
+  where
+    go : (answered : Result ℕ ServeError) → EndsPlain err (stop_of_session answered) answered
+    go (Ok n) = refl
+    go (Err serve_error.ReadFault) = refl
+    go (Err serve_error.WriteFault) = refl
+    go (Err (serve_error.LongLine k)) = tt
+    go (Err serve_error.TooManyLines) = tt
+    go (Err serve_error.Memory) = refl
 
 -- the status of a complaint
 abbrev status_in : Result (Unit {0}) Stop → Status
@@ -130,7 +126,7 @@ module _ (early : Early) (due : Outcome) (old new : World) where
         files = step.files;
       },
     );
-    source = source_map due.session (StopsAs (Ok tt)) (EndsAs status.Done err err) old new (ends_done err) step.source;
+    source = source_map due.session (StopsAs (Ok tt)) (EndsAs status.Done err err) old new (ends_plain err (Ok tt)) step.source;
     none_rose = λ done. (step.none_rose refl, refl);
   }
 
@@ -147,7 +143,7 @@ module _ (early : Early) (due : Outcome) (old new : World) where
       },
       inl (step.outside refl),
     );
-    source = source_map due.session (StopsAs (Err stop.Outside)) (EndsAs status.Outside err err) old new (ends_outside err) step.source;
+    source = source_map due.session (StopsAs (Err stop.Outside)) (EndsAs status.Outside err err) old new (ends_plain err (Err stop.Outside)) step.source;
     none_rose = λ done. cc;
   }
 
@@ -161,7 +157,7 @@ module _ (early : Early) (due : Outcome) (old new : World) where
       files_first =
           step.files_first;
     };
-    source = source_map due.session (StopsAs (Err stop.Memory)) (EndsAs status.Memory err err) old new (ends_memory err) step.source;
+    source = source_map due.session (StopsAs (Err stop.Memory)) (EndsAs status.Memory err err) old new (ends_plain err (Err stop.Memory)) step.source;
     none_rose = λ done. cc;
   }
 

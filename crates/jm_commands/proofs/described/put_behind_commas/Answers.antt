@@ -1,11 +1,8 @@
-use Rattle.std.proofs.Common.{append-nil, arith, sym}
+use Rattle.std.proofs.Common.{sym}
 use Rattle.jm_bytes.proofs.ResultLaws.{passed_on}
 use Rattle.jm_texts.specs.DescribeText.{behind_comma}
-use Rattle.jm_commands.proofs.PieceLaws.{all_held, all_passed, line_cut, line_then}
+use Rattle.jm_commands.proofs.PieceLaws.{line_cut, line_then}
 use Rattle.jm_commands.proofs.described.put_behind_commas.Goals as goal
-
-pub loop-name-init : goal.loop-name-init
-loop-name-init g c = all_held (sym (append-nil _))
 
 pub returns-in_err-put_named : goal.returns-in_err-put_named
 returns-in_err-put_named g c =
@@ -19,8 +16,3 @@ loop-name-preserved g c =
     line_then behind_comma c.args.names.now c.loop-name.name-index c.loop-name-test.true
     (sym c.name-item.is) c.loop-name.invariant
     (rw c.as_slice.ensures at c.in_ok-put_named.ensures)
-
-pub returns : goal.returns
-returns g c =
-    let end = c.loop-name-test.false in
-    all_passed behind_comma c.args.names.now c.loop-name.name-index (omega arith) c.loop-name.invariant

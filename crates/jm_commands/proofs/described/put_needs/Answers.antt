@@ -1,12 +1,9 @@
-use Rattle.std.proofs.Common.{append-nil, arith, sym}
+use Rattle.std.proofs.Common.{sym}
 use Rattle.jm_bytes.proofs.ResultLaws.{passed_on}
 use Rattle.jm_outside.specs.declared.streams.SinkError.TheVariants as sink_error
 use Rattle.jm_texts.specs.DescribeText.{need_line}
-use Rattle.jm_commands.proofs.PieceLaws.{all_held, all_passed, line_cut, line_then, none_passed, passed_then}
+use Rattle.jm_commands.proofs.PieceLaws.{all_held, line_cut, line_then, none_passed, passed_then}
 use Rattle.jm_commands.proofs.described.put_needs.Goals as goal
-
-pub loop-need-init : goal.loop-need-init
-loop-need-init g c = all_held (sym (append-nil _))
 
 pub returns-in_err-extend_need : goal.returns-in_err-extend_need
 returns-in_err-extend_need g c =
@@ -27,8 +24,3 @@ loop-need-preserved g c =
     line_then need_line c.args.needs.now c.loop-need.need-index c.loop-need-test.true
     (sym c.need-item.is) c.loop-need.invariant
     (passed_then (all_held c.in_ok-extend_need.ensures) c.in_ok-put_full.ensures)
-
-pub returns : goal.returns
-returns g c =
-    let end = c.loop-need-test.false in
-    all_passed need_line c.args.needs.now c.loop-need.need-index (omega arith) c.loop-need.invariant

@@ -1,11 +1,8 @@
-use Rattle.std.proofs.Common.{append-nil, arith, sym}
+use Rattle.std.proofs.Common.{sym}
 use Rattle.jm_bytes.proofs.ResultLaws.{passed_on}
 use Rattle.jm_texts.specs.DescribeText.{opened_line}
-use Rattle.jm_commands.proofs.PieceLaws.{all_held, all_passed, line_cut, line_then}
+use Rattle.jm_commands.proofs.PieceLaws.{line_cut, line_then}
 use Rattle.jm_commands.proofs.described.put_packages.Goals as goal
-
-pub loop-opened-init : goal.loop-opened-init
-loop-opened-init g c = all_held (sym (append-nil _))
 
 pub returns-in_err-put_package : goal.returns-in_err-put_package
 returns-in_err-put_package g c =
@@ -19,9 +16,3 @@ loop-opened-preserved g c =
     line_then (opened_line c.args.word.now) c.args.packages.now c.loop-opened.opened-index c.loop-opened-test.true
     (sym c.opened-item.is) c.loop-opened.invariant
     c.in_ok-put_package.ensures
-
-pub returns : goal.returns
-returns g c =
-    let end = c.loop-opened-test.false in
-    all_passed (opened_line c.args.word.now) c.args.packages.now c.loop-opened.opened-index
-    (omega arith) c.loop-opened.invariant

@@ -1,11 +1,8 @@
-use Rattle.std.proofs.Common.{append-nil, arith, sym}
+use Rattle.std.proofs.Common.{sym}
 use Rattle.jm_bytes.proofs.ResultLaws.{passed_on}
 use Rattle.jm_texts.specs.DescribeText.{provides_line}
-use Rattle.jm_commands.proofs.PieceLaws.{all_held, all_passed, line_cut, line_then}
+use Rattle.jm_commands.proofs.PieceLaws.{line_cut, line_then}
 use Rattle.jm_commands.proofs.described.put_provides.Goals as goal
-
-pub loop-provided-init : goal.loop-provided-init
-loop-provided-init g c = all_held (sym (append-nil _))
 
 pub returns-in_err-put_provided : goal.returns-in_err-put_provided
 returns-in_err-put_provided g c =
@@ -19,8 +16,3 @@ loop-provided-preserved g c =
     line_then provides_line c.args.provides.now c.loop-provided.provided-index c.loop-provided-test.true
     (sym c.provided-item.is) c.loop-provided.invariant
     c.in_ok-put_provided.ensures
-
-pub returns : goal.returns
-returns g c =
-    let end = c.loop-provided-test.false in
-    all_passed provides_line c.args.provides.now c.loop-provided.provided-index (omega arith) c.loop-provided.invariant

@@ -1,11 +1,8 @@
-use Rattle.std.proofs.Common.{append-nil, arith, sym}
+use Rattle.std.proofs.Common.{sym}
 use Rattle.jm_bytes.proofs.ResultLaws.{passed_on}
 use Rattle.jm_texts.specs.DescribeText.{uses_line}
-use Rattle.jm_commands.proofs.PieceLaws.{all_held, all_passed, line_cut, line_then}
+use Rattle.jm_commands.proofs.PieceLaws.{line_cut, line_then}
 use Rattle.jm_commands.proofs.described.put_uses.Goals as goal
-
-pub loop-service-init : goal.loop-service-init
-loop-service-init g c = all_held (sym (append-nil _))
 
 pub returns-in_err-put_line : goal.returns-in_err-put_line
 returns-in_err-put_line g c =
@@ -19,8 +16,3 @@ loop-service-preserved g c =
     line_then uses_line c.args.services.now c.loop-service.service-index c.loop-service-test.true
     (sym c.service-item.is) c.loop-service.invariant
     (rw c.as_slice.ensures at c.in_ok-put_line.ensures)
-
-pub returns : goal.returns
-returns g c =
-    let end = c.loop-service-test.false in
-    all_passed uses_line c.args.services.now c.loop-service.service-index (omega arith) c.loop-service.invariant

@@ -5,9 +5,6 @@ use Rattle.jm_commands.proofs.ListingLaws.{entry_line, entry_lines}
 use Rattle.jm_commands.proofs.PieceLaws.{all_held, all_passed, broken, last_put, line_cut, line_then, none_passed, passed_then}
 use Rattle.jm_commands.proofs.listing.put_lines.Goals as goal
 
-pub loop-entry-init : goal.loop-entry-init
-loop-entry-init g c = all_held c.new-text.ensures.items
-
 pub returns-in_err-extend_line : goal.returns-in_err-extend_line
 returns-in_err-extend_line g c =
     rw (passed_on c.from_residual.result sink_error.Memory c.from_residual.ensures.1, entry_lines c.args.entries.now)

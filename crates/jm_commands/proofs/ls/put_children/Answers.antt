@@ -1,12 +1,9 @@
-use Rattle.std.proofs.Common.{[], Ok, ◌++◌, ◌∙◌, append-nil, ap, refl, sym}
+use Rattle.std.proofs.Common.{[], Ok, ◌++◌, ◌∙◌, append-nil, ap, sym}
 use Rattle.jm_bytes.proofs.ResultLaws.{passed_on}
 use Rattle.jm_jrt.specs.Reply.{held_lines}
 use Rattle.jm_outside.specs.declared.streams.SinkError.TheVariants as sink_error
-use Rattle.jm_commands.proofs.PieceLaws.{all_held, broken, front_put, last_put, no_child, none_passed, passed_then}
+use Rattle.jm_commands.proofs.PieceLaws.{broken, front_put, last_put, no_child, none_passed, passed_then}
 use Rattle.jm_commands.proofs.ls.put_children.Goals as goal
-
-pub loop-text-init : goal.loop-text-init
-loop-text-init g c = record { bytes = c.requires; empty = c.new-text.ensures.items; left = all_held refl }
 
 pub returns-in_err-extend_next_children : goal.returns-in_err-extend_next_children
 returns-in_err-extend_next_children g c =
