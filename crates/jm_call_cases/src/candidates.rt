@@ -2,13 +2,13 @@
 
 use jm_bytes::{List, NoMemory, Text};
 use jm_closure::Candidate;
-use jm_modinfo::{Descriptor, Need, Provides};
+use jm_modinfo::{Descriptor, Need, Provides, SharedText};
 use std::alloc::Global;
 
 /// A module that is required, with these flags.
 fn need(alloc: Global, name: &str, flags: u16) -> Result<Need, NoMemory> {
     Ok(Need {
-        name: Text::copy_of(alloc, name.as_bytes())?,
+        name: SharedText::copy_of(alloc, name.as_bytes())?,
         flags,
         version: None,
     })
@@ -16,7 +16,7 @@ fn need(alloc: Global, name: &str, flags: u16) -> Result<Need, NoMemory> {
 
 fn provides(alloc: Global, service: &str) -> Result<Provides, NoMemory> {
     Ok(Provides {
-        service: Text::copy_of(alloc, service.as_bytes())?,
+        service: SharedText::copy_of(alloc, service.as_bytes())?,
         classes: List::new(alloc),
     })
 }
@@ -24,7 +24,7 @@ fn provides(alloc: Global, service: &str) -> Result<Provides, NoMemory> {
 /// A module of this name, and of nothing else.
 fn named(alloc: Global, name: &str) -> Result<Candidate, NoMemory> {
     let descriptor = Descriptor {
-        name: Text::copy_of(alloc, name.as_bytes())?,
+        name: SharedText::copy_of(alloc, name.as_bytes())?,
         version: None,
         flags: 0,
         needs: List::new(alloc),
@@ -47,7 +47,7 @@ fn put(alloc: Global, one: &mut Candidate, word: &str) -> Result<(), NoMemory> {
         return one
             .descriptor
             .uses
-            .push(Text::copy_of(alloc, service.as_bytes())?);
+            .push(SharedText::copy_of(alloc, service.as_bytes())?);
     }
     if let Some(service) = word.strip_prefix("!") {
         return one.descriptor.provides.push(provides(alloc, service)?);

@@ -1,5 +1,5 @@
 use jm_bytes::{List, NoMemory, Text};
-use jm_modinfo::{Need, write_info};
+use jm_modinfo::{Need, SharedText, write_info};
 use std::alloc::Global;
 use std::test::Fail;
 
@@ -28,12 +28,12 @@ const TWO: [u8; 113] = [
 fn two_needs(alloc: Global) -> Result<Text, NoMemory> {
     let mut needs = List::new(alloc);
     needs.push(Need {
-        name: Text::copy_of(alloc, b"b")?,
+        name: SharedText::copy_of(alloc, b"b")?,
         flags: 0,
         version: None,
     })?;
     needs.push(Need {
-        name: Text::copy_of(alloc, b"java.base")?,
+        name: SharedText::copy_of(alloc, b"java.base")?,
         flags: 0x8000,
         version: None,
     })?;
