@@ -1,9 +1,9 @@
 -- The first bytes of a file: what is known of the file, and how many were taken.
-use Rattle.std.proofs.Common.{◌≡◌, ◌≢◌, ◌+◌, ◌-◌, ◌≤◌, ℕ, List, [], ◌++◌}
+use Rattle.std.proofs.Common.{◌≡◌, ◌+◌, ◌-◌, ◌≤◌, ℕ, List, [], ◌++◌}
 use Rattle.std.proofs.Common.{length, take, drop, min, replicate, Option, Some, None, option_map}
 use Rattle.std.proofs.Common.{Result, Ok, Err, refl, sym, ap, ◌∙◌, subst, arith}
 use Rattle.std.proofs.lemmas.List.{append_assoc, length-append, length-replicate, length-take}
-use Rattle.std.proofs.lemmas.List.{length-drop, take_all, take_at, take-take, drop-take, take-append-drop}
+use Rattle.std.proofs.lemmas.List.{length-drop, take_at, take-take, drop-take, take-append-drop}
 use Rattle.jm_bytes.proofs.Choice.{same_ok, same_some}
 use Rattle.jm_filed.specs.Filed.{IsFiled, IsIndexAt}
 use Rattle.jm_form.specs.declared.container.Header.{Header}
@@ -24,7 +24,7 @@ use Rattle.jm_words.specs.declared.tasks.ImageWork.{ImageWork}
 use Rattle.jm_commands.specs.declared.complaint.Complaint.TheVariants as complaint
 use Rattle.jm_commands.specs.declared.stop.Stop.{Stop}
 use Rattle.jm_commands.specs.declared.stop.Stop.TheVariants as stop
-use Rattle.jm_commands.specs.FileParts.{Adds, Comes, HasFront, HasLength, HasPart, IsFrontOf, IsHeadOf, IsOpenFront, IsPart, IsSoundFile}
+use Rattle.jm_commands.specs.FileParts.{Adds, Comes, HasFront, HasLength, HasPart, IsFrontOf, IsHeadOf, IsOpenFront, IsSoundFile}
 use Rattle.jm_commands.specs.FileParts.{IsUnopened, LacksPart, ReadsMore}
 use Rattle.jm_commands.specs.Outcome.{Outcome, damaged, image_outcome, not_there, reading}
 use Rattle.jm_commands.specs.Run.{HasFile, ImageComes, OpenedComesTo, StepComesTo, TextComesTo}
@@ -69,29 +69,6 @@ never_lacks (Some files) path size at count long within lacks = go (file files p
     go (Some b) is =
         absurd (lacks (part b at count) (of_part files path b is at count (part b at count) refl)
         (omega (arith, length-take count (drop at b), length-drop at b, size_of files path b is size long, within)))
-
-pub lacks_none : (told : Option Files) (path : List ℕ) (at count : ℕ) → Shows told (λ files. None ≡ file_part files path at count)
-    → LacksPart told path at count
-lacks_none None path at count none = tt
-lacks_none (Some files) path at count none = λ bytes some same. let never : None ≡ Some bytes = none ∙ sym some in cc
-
-pub lacks_short : (told : Option Files) (path : List ℕ) (at count : ℕ) (short : List ℕ) → HasPart told path at count short
-    → length short ≢ count → LacksPart told path at count
-lacks_short None path at count short has other = tt
-lacks_short (Some files) path at count short has other = λ bytes some same.
-    let one : short ≡ bytes = same_some _ _ (has ∙ sym some) in other (ap (λ l. length l) one ∙ same)
-
--- all bytes of a file are those of a part of its length from its first byte on
-pub whole_there : (told : Option Files) (path bytes : List ℕ) (size : ℕ) → HasLength told path (Some size)
-    → IsPart told path 0 size bytes → HasFile told path (Some bytes)
-whole_there None path bytes size long part = tt
-whole_there (Some files) path bytes size long part = go (file files path) refl
-  where
-    go : (found : Option (List ℕ)) → file files path ≡ found → Some bytes ≡ file files path
-    go None is = absurd (no_length files path size is long)
-    go (Some b) is =
-        let all : take size b ≡ b = take_all size b (omega (arith, size_of files path b is size long)) in
-        ap (λ l. Some l) (part_of files path b is 0 size bytes part.1 ∙ all) ∙ sym is
 
 -- Fronts
 

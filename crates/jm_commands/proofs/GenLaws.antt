@@ -1,9 +1,7 @@
 -- What `gen` does, from what its calls answered.
 use Rattle.std.proofs.Common.{◌≡◌, ◌⊎◌, inl, inr, IsTrue, ℕ, List, [], ◌++◌, ◌∷◌, Option, Result, Ok, Err, refl, subst, append-nil}
 use Rattle.jm_outside.specs.Files.{Files}
-use Rattle.jm_outside.specs.Shelves.{ShelfFailed, ShelfSeen}
-use Rattle.jm_outside.specs.declared.shelf.ShelfError.{ShelfError}
-use Rattle.jm_outside.specs.declared.shelf.ShelfError.TheVariants as shelf_error
+use Rattle.jm_outside.specs.Shelves.{ShelfSeen}
 use Rattle.jm_outside.specs.Made.{MadeAll, MadePart, Writes}
 use Rattle.jm_outside.proofs.MadeLaws.{made_append, part_append}
 use Rattle.jm_link.specs.declared.linking.LinkStop.{LinkStop}
@@ -19,7 +17,7 @@ use Rattle.jm_commands.specs.LinkText.{gen_text}
 use Rattle.jm_commands.specs.Outcome.{Outcome, behind, done, making, reading}
 use Rattle.jm_commands.specs.Run.{Answers, FilesFirst, FilesMade, GenComesTo, IsFailure, LinkComesTo, PutDoes}
 use Rattle.jm_commands.specs.Run.{StandAll, StepComesTo}
-use Rattle.jm_commands.specs.Stops.{stop_of_link, stop_of_shelf}
+use Rattle.jm_commands.specs.Stops.{stop_of_link}
 use Rattle.jm_commands.specs.World.{World}
 use Rattle.jm_commands.proofs.LinkLaws.{link_put, link_stopped}
 use Rattle.jm_commands.proofs.StepLaws.{files_sooner, none_sooner, source_behind, work_sooner}
@@ -143,12 +141,3 @@ module _ (gen : GenTask) (shelf : ShelfSeen) (now new : World) where
   gen_stopped given made kept input links whole unput =
       linked_after (Err (stop_of_link given)) made kept (stopped_files given now new whole unput) (link_stopped gen_text (gen_link gen)
       (modules_path gen ∷ []) now new input given links unput)
-
--- the making was broken off
-pub gen_unmade : (gen : GenTask) (error : ShelfError) (old new : World) → MadePart (made_first gen) old.shelf.told new.shelf.told
-    → new.input.told ≡ old.input.told → new.out.told ≡ old.out.told → (error ≡ shelf_error.Failed → ShelfFailed old.shelf new.shelf)
-    → StepComesTo (GenComesTo old.shelf.told gen) (making (made_first gen)) (Err (stop_of_shelf error)) old new
-gen_unmade gen shelf_error.Failed old new part source unput rose =
-    inl (record { failed = tt; files = part; source = source; output = unput; outside = λ failed. (refl, rose refl) })
-gen_unmade gen shelf_error.Memory old new part source unput rose =
-    inl (record { failed = tt; files = part; source = source; output = unput; outside = λ failed. cc })

@@ -1,5 +1,5 @@
 -- Files that stay.
-use Rattle.std.proofs.Common.{◌≡◌, [], Option, Some, None, sym, ap, subst}
+use Rattle.std.proofs.Common.{◌≡◌, [], Option, sym, subst}
 use Rattle.jm_outside.specs.Made.{MadeAll, MadePart, Writes}
 use Rattle.jm_outside.proofs.MadeLaws.{made_none, part_of_none}
 use Rattle.jm_outside.specs.Files.{Files}
@@ -11,8 +11,3 @@ stays_all old new same = subst (λ (o : Option Files). MadeAll [] old o) (sym sa
 -- files that were made not at all were made in part
 pub stays_part : (writes : Writes) (old new : Option Files) → new ≡ old → MadePart writes old new
 stays_part writes old new same = subst (λ (o : Option Files). MadePart writes old o) (sym same) (part_of_none writes old)
-
--- a part of none is none: the files are as before
-pub none_in_part : (files : Files) (new : Option Files) → MadePart [] (Some files) new → new ≡ Some files
-none_in_part files None part = absurd part
-none_in_part files (Some all) part = ap (λ (f : Files). Some f) part

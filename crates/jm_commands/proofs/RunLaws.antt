@@ -143,7 +143,8 @@ module _ (early : Early) (due : Outcome) (old new : World) where
       },
       inl (step.outside refl),
     );
-    source = source_map due.session (StopsAs (Err stop.Outside)) (EndsAs status.Outside err err) old new (ends_plain err (Err stop.Outside)) step.source;
+    source = source_map due.session (StopsAs (Err stop.Outside)) (EndsAs status.Outside err err) old new
+        (ends_plain err (Err stop.Outside)) step.source;
     none_rose = λ done. cc;
   }
 
@@ -157,7 +158,8 @@ module _ (early : Early) (due : Outcome) (old new : World) where
       files_first =
           step.files_first;
     };
-    source = source_map due.session (StopsAs (Err stop.Memory)) (EndsAs status.Memory err err) old new (ends_plain err (Err stop.Memory)) step.source;
+    source = source_map due.session (StopsAs (Err stop.Memory)) (EndsAs status.Memory err err) old new
+        (ends_plain err (Err stop.Memory)) step.source;
     none_rose = λ done. cc;
   }
 
