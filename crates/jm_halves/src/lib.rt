@@ -14,7 +14,9 @@ mod gate;
 mod map;
 mod run;
 mod search;
+mod workers;
 
 pub use gate::{Gate, NoGate};
 pub use map::map_halves;
 pub use search::{first_between, first_some};
+pub use workers::Workers;
