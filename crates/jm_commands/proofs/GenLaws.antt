@@ -10,17 +10,18 @@ use Rattle.jm_link.specs.declared.linking.Summary.{Summary}
 use Rattle.jm_link.specs.Links.{Links, request_of}
 use Rattle.jm_link.specs.Steps.{AfterStep}
 use Rattle.jm_words.specs.declared.tasks.GenTask.{GenTask}
-use Rattle.jm_commands.specs.declared.stop.Stop.{Stop}
-use Rattle.jm_commands.specs.declared.stop.Stop.TheVariants as stop
+use Rattle.jm_inspect.specs.declared.stop.Stop.{Stop}
+use Rattle.jm_inspect.specs.declared.stop.Stop.TheVariants as stop
 use Rattle.jm_commands.specs.Gen.{gen_link, image_path, made_first, modules_path}
 use Rattle.jm_commands.specs.LinkText.{gen_text}
-use Rattle.jm_commands.specs.Outcome.{Outcome, behind, done, making, reading}
-use Rattle.jm_commands.specs.Run.{Answers, FilesFirst, FilesMade, GenComesTo, IsFailure, LinkComesTo, PutDoes}
-use Rattle.jm_commands.specs.Run.{StandAll, StepComesTo}
+use Rattle.jm_inspect.specs.Outcome.{Outcome, done, reading}
+use Rattle.jm_commands.specs.Outcome.{behind, making}
+use Rattle.jm_inspect.specs.Steps.{Answers, FilesFirst, FilesMade, IsFailure, PutDoes, StandAll, StepComesTo}
+use Rattle.jm_commands.specs.Run.{GenComesTo, LinkComesTo}
 use Rattle.jm_commands.specs.Stops.{stop_of_link}
-use Rattle.jm_commands.specs.World.{World}
+use Rattle.jm_inspect.specs.World.{World}
 use Rattle.jm_commands.proofs.LinkLaws.{link_put, link_stopped}
-use Rattle.jm_commands.proofs.StepLaws.{files_sooner, none_sooner, source_behind, work_sooner}
+use Rattle.jm_inspect.proofs.StepLaws.{files_sooner, none_sooner, source_behind, work_sooner}
 
 -- the answer is that of what is due with files made before
 answers_behind : (made : Writes) (due : Outcome) (answer : Result (Unit {0}) Stop) → Answers due answer → Answers (behind made due) answer

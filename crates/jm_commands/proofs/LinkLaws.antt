@@ -25,19 +25,22 @@ use Rattle.jm_words.specs.declared.tasks.LinkTask.{LinkTask}
 use Rattle.jm_words.specs.declared.tasks.Source.{Source}
 use Rattle.jm_words.specs.declared.tasks.Source.TheVariants.{Path, Image}
 use Rattle.jm_words.specs.Paths.{SourceIsText, directories_of}
-use Rattle.jm_commands.specs.declared.complaint.Complaint.TheVariants as complaint
-use Rattle.jm_commands.specs.declared.stop.Stop.{Stop}
-use Rattle.jm_commands.specs.declared.stop.Stop.TheVariants as stop
-use Rattle.jm_commands.specs.FileParts.{IsOpenFront}
-use Rattle.jm_commands.specs.Outcome.{Outcome, done, link_outcome, linked, not_there, reading, refusing}
-use Rattle.jm_commands.specs.Run.{HasFile, ImageComes, ImageLinkComesTo, IsFailure, LinkComesFrom, LinkComesTo, PathLinkComesTo}
-use Rattle.jm_commands.specs.Run.{PutDoes, ShowsLinked, StepComesTo}
-use Rattle.jm_commands.specs.Sinks.{Seen}
+use Rattle.jm_inspect.specs.declared.complaint.Complaint.TheVariants as complaint
+use Rattle.jm_inspect.specs.declared.stop.Stop.{Stop}
+use Rattle.jm_inspect.specs.declared.stop.Stop.TheVariants as stop
+use Rattle.jm_inspect.specs.FileParts.{IsOpenFront}
+use Rattle.jm_inspect.specs.Outcome.{Outcome, done, not_there, reading, refusing}
+use Rattle.jm_commands.specs.Outcome.{link_outcome, linked}
+use Rattle.jm_inspect.specs.Works.{HasFile, ImageComes}
+use Rattle.jm_commands.specs.Run.{ImageLinkComesTo, LinkComesFrom, LinkComesTo, PathLinkComesTo, ShowsLinked}
+use Rattle.jm_inspect.specs.Steps.{IsFailure, PutDoes, StepComesTo}
+use Rattle.jm_inspect.specs.Sinks.{Seen}
 use Rattle.jm_commands.specs.Stops.{stop_of_link}
-use Rattle.jm_commands.specs.Taken.{LinkTakes, TakesFrom, TakesLinkedOf, front_size}
-use Rattle.jm_commands.specs.World.{World, world}
-use Rattle.jm_commands.proofs.FrontLaws.{opened, takes_so}
-use Rattle.jm_commands.proofs.StepLaws.{complains, fails_at_once, made_in_part, made_put}
+use Rattle.jm_commands.specs.Taken.{LinkTakes, TakesLinkedOf}
+use Rattle.jm_inspect.specs.Taken.{TakesFrom, front_size}
+use Rattle.jm_inspect.specs.World.{World, world}
+use Rattle.jm_inspect.proofs.FrontLaws.{opened, takes_so}
+use Rattle.jm_inspect.proofs.StepLaws.{complains, fails_at_once, made_in_part, made_put}
 
 -- an image that is laid out shows the trees of its resources
 linked_shown : (order : Order) (result : Result LinkedImage Refusal) → IsLaid order result → ShowsLinked result

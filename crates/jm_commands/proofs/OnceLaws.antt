@@ -18,9 +18,10 @@ use Rattle.jm_words.specs.declared.tasks.Task.{Task}
 use Rattle.jm_words.specs.declared.tasks.Task.TheVariants as task
 use Rattle.jm_commands.specs.Gen.{gen_link, made_first}
 use Rattle.jm_commands.specs.LinkText.{gen_text, link_text}
-use Rattle.jm_commands.specs.Outcome.{Outcome, behind, describe_outcome, faulty, image_outcome, link_outcome}
-use Rattle.jm_commands.specs.Run.{AskTheSame, FileComesTo, FoundComesTo, GenComesTo, ImageComes, ImageLinkComesTo}
-use Rattle.jm_commands.specs.Run.{LinkComesFrom, OpenedComesTo, PathLinkComesTo, TaskComesTo, TextComesTo, WordsComeTo}
+use Rattle.jm_inspect.specs.Outcome.{Outcome, describe_outcome, faulty, image_outcome}
+use Rattle.jm_commands.specs.Outcome.{behind, link_outcome}
+use Rattle.jm_commands.specs.Run.{AskTheSame, GenComesTo, ImageLinkComesTo, LinkComesFrom, PathLinkComesTo, TaskComesTo, WordsComeTo}
+use Rattle.jm_inspect.specs.Works.{FileComesTo, FoundComesTo, ImageComes, OpenedComesTo, TextComesTo}
 
 -- what comes of a file or of a text
 

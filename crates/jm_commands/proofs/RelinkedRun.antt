@@ -16,16 +16,17 @@ use Rattle.jm_words.specs.declared.tasks.Command.{Command}
 use Rattle.jm_words.specs.declared.tasks.LinkTask.{LinkTask}
 use Rattle.jm_words.specs.declared.tasks.Task.{Task}
 use Rattle.jm_words.specs.declared.tasks.Task.TheVariants as task
-use Rattle.jm_commands.specs.declared.status.Status.{Status}
-use Rattle.jm_commands.specs.declared.status.Status.TheVariants as status
+use Rattle.jm_inspect.specs.declared.status.Status.{Status}
+use Rattle.jm_inspect.specs.declared.status.Status.TheVariants as status
 use Rattle.jm_commands.specs.LinkText.{link_text}
-use Rattle.jm_commands.specs.Outcome.{Early, Outcome, link_outcome}
+use Rattle.jm_inspect.specs.Outcome.{Early, Outcome}
+use Rattle.jm_commands.specs.Outcome.{link_outcome}
 use Rattle.jm_commands.specs.RelinkedRun.{IsRelinked, RelinksFile, RelinksRun, RelinksTask}
-use Rattle.jm_commands.specs.Run.{EndsWith, FoundComesTo, HasFile, ImageComes, ImageLinkComesTo, IsFailed}
-use Rattle.jm_commands.specs.Run.{LinkComesFrom, LinkComesTo, OpenedComesTo, RunComesTo, RunDoes, TaskComesTo}
+use Rattle.jm_commands.specs.Run.{EndsWith, ImageLinkComesTo, IsFailed, LinkComesFrom, LinkComesTo, RunComesTo, RunDoes, TaskComesTo}
 use Rattle.jm_commands.specs.Run.{WordsComeTo}
-use Rattle.jm_commands.specs.Sinks.{Seen}
-use Rattle.jm_commands.specs.World.{World}
+use Rattle.jm_inspect.specs.Works.{FoundComesTo, HasFile, ImageComes, OpenedComesTo}
+use Rattle.jm_inspect.specs.Sinks.{Seen}
+use Rattle.jm_inspect.specs.World.{World}
 
 failed_free : (output b : List ℕ) (is : Status) (old new : Option Files) → IsFailed is → IsRelinked output b is old new
 failed_free output b is old new (inl same) = subst (λ s. IsRelinked output b s old new) (sym same) tt

@@ -3,22 +3,23 @@ use Rattle.std.proofs.Common.{◌≡◌, inl, inr, ℕ, List, Option, Some, None
 use Rattle.jm_outside.proofs.MadeLaws.{part_of_all}
 use Rattle.jm_jrt.specs.declared.serve_error.ServeError.{ServeError}
 use Rattle.jm_jrt.specs.declared.serve_error.ServeError.TheVariants as serve_error
-use Rattle.jm_commands.specs.declared.complaint.Complaint.{Complaint}
-use Rattle.jm_commands.specs.declared.complaint.Complaint.TheVariants as complaint
-use Rattle.jm_commands.specs.declared.status.Status.{Status}
-use Rattle.jm_commands.specs.declared.status.Status.TheVariants as status
-use Rattle.jm_commands.specs.declared.stop.Stop.{Stop}
-use Rattle.jm_commands.specs.declared.stop.Stop.TheVariants as stop
-use Rattle.jm_commands.specs.FailedBefore.{LineFailed}
-use Rattle.jm_commands.specs.Outcome.{Early, Outcome}
-use Rattle.jm_commands.specs.Run.{DoesAll, DoesFront, EndsStep, EndsWith, ReportDoes, RunComesTo, RunDoes, StepComesTo, StepDoes, status_of}
-use Rattle.jm_commands.specs.SessionHeld.{EndsAs, EndsBroken, SourceRead, StopsAs}
-use Rattle.jm_commands.specs.Sinks.{Failed, Gets, GetsFront, Seen}
-use Rattle.jm_commands.specs.Stops.{stop_of_session}
-use Rattle.jm_commands.specs.Texts.{line_of}
-use Rattle.jm_commands.specs.World.{World}
-use Rattle.jm_commands.proofs.Gotten.{front_of_all, front_of_nothing, gets_nothing}
-use Rattle.jm_commands.proofs.StepLaws.{complains_undone}
+use Rattle.jm_inspect.specs.declared.complaint.Complaint.{Complaint}
+use Rattle.jm_inspect.specs.declared.complaint.Complaint.TheVariants as complaint
+use Rattle.jm_inspect.specs.declared.status.Status.{Status}
+use Rattle.jm_inspect.specs.declared.status.Status.TheVariants as status
+use Rattle.jm_inspect.specs.declared.stop.Stop.{Stop}
+use Rattle.jm_inspect.specs.declared.stop.Stop.TheVariants as stop
+use Rattle.jm_inspect.specs.FailedBefore.{LineFailed}
+use Rattle.jm_inspect.specs.Outcome.{Early, Outcome}
+use Rattle.jm_commands.specs.Run.{DoesAll, DoesFront, EndsStep, EndsWith, ReportDoes, RunComesTo, RunDoes}
+use Rattle.jm_inspect.specs.Steps.{StepComesTo, StepDoes, status_of}
+use Rattle.jm_inspect.specs.SessionHeld.{EndsAs, EndsBroken, SourceRead, StopsAs}
+use Rattle.jm_inspect.specs.Sinks.{Failed, Gets, GetsFront, Seen}
+use Rattle.jm_inspect.specs.Stops.{stop_of_session}
+use Rattle.jm_inspect.specs.Texts.{line_of}
+use Rattle.jm_inspect.specs.World.{World}
+use Rattle.jm_inspect.proofs.Gotten.{front_of_all, front_of_nothing, gets_nothing}
+use Rattle.jm_inspect.proofs.StepLaws.{complains_undone}
 
 -- a complaint's line was put
 pub reported : (given : Complaint) (is : Status) (err new_err : Seen (List ℕ)) → is ≡ status_of given

@@ -24,21 +24,22 @@ use Rattle.jm_words.specs.declared.tasks.Source.{Source}
 use Rattle.jm_words.specs.declared.tasks.Source.TheVariants.{Path, Image}
 use Rattle.jm_words.specs.declared.tasks.Task.{Task}
 use Rattle.jm_words.specs.declared.tasks.Task.TheVariants as task
-use Rattle.jm_commands.specs.declared.complaint.Complaint.{Complaint}
-use Rattle.jm_commands.specs.declared.status.Status.{Status}
-use Rattle.jm_commands.specs.declared.status.Status.TheVariants as status
+use Rattle.jm_inspect.specs.declared.complaint.Complaint.{Complaint}
+use Rattle.jm_inspect.specs.declared.status.Status.{Status}
+use Rattle.jm_inspect.specs.declared.status.Status.TheVariants as status
 use Rattle.jm_commands.specs.Gen.{gen_link, made_first}
 use Rattle.jm_commands.specs.LinkText.{gen_text, link_text}
-use Rattle.jm_commands.specs.Outcome.{Early, Outcome, image_outcome, link_outcome, session_outcome, session_with}
-use Rattle.jm_commands.specs.Run.{EndsWith, HasFile, ImageLinkComesTo, LinkComesFrom, LinkComesTo}
-use Rattle.jm_commands.specs.Run.{OpenedComesTo, RunComesTo, RunDoes, TaskComesTo, TextComesTo, WordsComeTo}
+use Rattle.jm_inspect.specs.Outcome.{Early, Outcome, image_outcome, session_outcome, session_with}
+use Rattle.jm_commands.specs.Outcome.{link_outcome}
+use Rattle.jm_commands.specs.Run.{EndsWith, ImageLinkComesTo, LinkComesFrom, LinkComesTo, RunComesTo, RunDoes, TaskComesTo, WordsComeTo}
+use Rattle.jm_inspect.specs.Works.{HasFile, OpenedComesTo, TextComesTo}
 use Rattle.jm_commands.specs.Served.{ServesRun, served, served_in}
-use Rattle.jm_commands.specs.SessionHeld.{EndsAs, NotBegun, SourceRead}
-use Rattle.jm_commands.specs.Sinks.{Gets, GetsFront, Seen}
-use Rattle.jm_commands.specs.World.{World}
-use Rattle.jm_commands.proofs.ExtractLaws.{extract_session}
-use Rattle.jm_commands.proofs.OutcomeLaws.{cat_session, describe_session, ls_session}
-use Rattle.jm_commands.proofs.StepLaws.{not_begun}
+use Rattle.jm_inspect.specs.SessionHeld.{EndsAs, NotBegun, SourceRead}
+use Rattle.jm_inspect.specs.Sinks.{Gets, GetsFront, Seen}
+use Rattle.jm_inspect.specs.World.{World}
+use Rattle.jm_inspect.proofs.ExtractLaws.{extract_session}
+use Rattle.jm_inspect.proofs.OutcomeLaws.{cat_session, describe_session, ls_session}
+use Rattle.jm_inspect.proofs.StepLaws.{not_begun}
 
 -- A session is due of `serve` alone
 

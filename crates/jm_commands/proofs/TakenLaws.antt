@@ -13,8 +13,9 @@ use Rattle.jm_words.specs.declared.tasks.Source.{Source}
 use Rattle.jm_words.specs.declared.tasks.Source.TheVariants as source
 use Rattle.jm_words.specs.declared.tasks.Task.{Task}
 use Rattle.jm_words.specs.declared.tasks.Task.TheVariants as task
-use Rattle.jm_commands.specs.Taken.{LinkTakes, TakesNoMore, TaskTakes, WorkTakes, extract_size, front_size, sought_size}
-use Rattle.jm_commands.proofs.FrontLaws.{takes_nothing}
+use Rattle.jm_commands.specs.Taken.{LinkTakes, TakesNoMore, TaskTakes}
+use Rattle.jm_inspect.specs.Taken.{WorkTakes, extract_size, front_size, sought_size}
+use Rattle.jm_inspect.proofs.FrontLaws.{takes_nothing}
 use Rattle.jm_commands.proofs.LinkLaws.{takes_link_front}
 
 work_takes_nothing : (told : Option Files) (path : List ℕ) (does : ImageWork) (n : ℕ) → WorkTakes told path does n n

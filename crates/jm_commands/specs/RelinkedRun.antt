@@ -10,8 +10,8 @@ use Rattle.jm_words.specs.declared.tasks.LinkTask.{LinkTask}
 use Rattle.jm_words.specs.declared.tasks.Source.TheVariants.{Image}
 use Rattle.jm_words.specs.declared.tasks.Task.{Task}
 use Rattle.jm_words.specs.declared.tasks.Task.TheVariants as task
-use Rattle.jm_commands.specs.declared.status.Status.{Status}
-use Rattle.jm_commands.specs.declared.status.Status.TheVariants as status
+use Rattle.jm_inspect.specs.declared.status.Status.{Status}
+use Rattle.jm_inspect.specs.declared.status.Status.TheVariants as status
 
 -- the image that is linked is these bytes, where the files are told, and what is asked for relinks
 -- it

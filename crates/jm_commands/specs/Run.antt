@@ -1,82 +1,41 @@
 -- What a run did to the outside, said by what its command comes to (this project's rule).
-use Rattle.std.specs.Prelude.{ℕ, ◌≡◌, ◌≢◌, ◌⊎◌, IsTrue, IsOk, List, [], Option, Some, None}
-use Rattle.std.specs.Prelude.{option_map}
-use Rattle.std.specs.Prelude.{Result, Ok, Err}
-use Rattle.jm_form.specs.declared.damage.Damage.{Damage}
-use Rattle.jm_form.specs.Damages.{first_damage}
-use Rattle.jm_outside.specs.Made.{MadeAll, MadePart, Writes, written}
-use Rattle.jm_outside.specs.Shelves.{ShelfSeen}
+use Rattle.std.specs.Prelude.{ℕ, ◌≡◌, ◌⊎◌, List, Option, option_map, Result, Ok, Err}
+use Rattle.jm_outside.specs.Made.{MadePart, written}
 use Rattle.jm_jrt.specs.TreesShown.{ShowsTrees}
 use Rattle.jm_texts.specs.declared.refusal.Refusal.{Refusal}
 use Rattle.jm_link.specs.declared.linking.Summary.{Summary}
 use Rattle.jm_link.specs.Linked.{LinkedImage}
 use Rattle.jm_link.specs.ImageLinked.{ImageComesTo}
 use Rattle.jm_link.specs.Links.{ComesTo, request_of}
-use Rattle.jm_outside.specs.Files.{Files, file}
+use Rattle.jm_outside.specs.Files.{Files}
 use Rattle.jm_outside.specs.Outcome.{Shows}
 use Rattle.jm_words.specs.declared.errors.WordsFault.{WordsFault}
 use Rattle.jm_words.specs.declared.tasks.Command.{Command}
 use Rattle.jm_words.specs.declared.tasks.GenTask.{GenTask}
-use Rattle.jm_words.specs.declared.tasks.ImageWork.{ImageWork}
 use Rattle.jm_words.specs.declared.tasks.LinkTask.{LinkTask}
 use Rattle.jm_words.specs.declared.tasks.Source.{Source}
 use Rattle.jm_words.specs.declared.tasks.Source.TheVariants as source
 use Rattle.jm_words.specs.declared.tasks.Task.{Task}
 use Rattle.jm_words.specs.declared.tasks.Task.TheVariants as task
-use Rattle.jm_commands.specs.declared.complaint.Complaint.{Complaint}
-use Rattle.jm_commands.specs.declared.complaint.Complaint.TheVariants as complaint
-use Rattle.jm_commands.specs.declared.status.Status.{Status}
-use Rattle.jm_commands.specs.declared.status.Status.TheVariants as status
-use Rattle.jm_commands.specs.declared.stop.Stop.{Stop}
-use Rattle.jm_commands.specs.declared.stop.Stop.TheVariants as stop
-use Rattle.jm_commands.specs.FailedBefore.{FailedBefore, FilesFailed, WorkFailed}
+use Rattle.jm_inspect.specs.declared.complaint.Complaint.{Complaint}
+use Rattle.jm_inspect.specs.declared.status.Status.{Status}
+use Rattle.jm_inspect.specs.declared.status.Status.TheVariants as status
+use Rattle.jm_inspect.specs.declared.stop.Stop.{Stop}
+use Rattle.jm_inspect.specs.declared.stop.Stop.TheVariants as stop
+use Rattle.jm_inspect.specs.FailedBefore.{FailedBefore, FilesFailed}
 use Rattle.jm_commands.specs.Gen.{gen_link, made_first}
 use Rattle.jm_commands.specs.HelpText.{help_text, version_text}
 use Rattle.jm_commands.specs.LinkText.{gen_text, link_text}
-use Rattle.jm_commands.specs.Outcome.{Early, Outcome, behind, damaged, describe_outcome, done}
-use Rattle.jm_commands.specs.Outcome.{faulty, image_outcome, link_outcome, not_there, reading}
-use Rattle.jm_commands.specs.Outcome.{refused}
-use Rattle.jm_commands.specs.SessionHeld.{EndsAs, SourceRead, StopsAs}
-use Rattle.jm_commands.specs.Sinks.{Seen, Failed, Gets, GetsFront}
-use Rattle.jm_commands.specs.Texts.{complaint_text, line_of}
-use Rattle.jm_commands.specs.World.{NoneRose, World}
+use Rattle.jm_inspect.specs.Outcome.{Early, Outcome, describe_outcome, done, faulty, not_there}
+use Rattle.jm_commands.specs.Outcome.{behind, link_outcome}
+use Rattle.jm_inspect.specs.SessionHeld.{EndsAs, SourceRead}
+use Rattle.jm_inspect.specs.Sinks.{Seen, Failed, Gets, GetsFront}
+use Rattle.jm_inspect.specs.Steps.{FilesFirst, StandAll, status_of}
+use Rattle.jm_inspect.specs.Texts.{line_of}
+use Rattle.jm_inspect.specs.Works.{FileComesTo, ImageComes, WorkComesTo}
+use Rattle.jm_inspect.specs.World.{NoneRose, World}
 
 -- What the words come to
-
--- this is the file of a path, where the files are told
-abbrev pub HasFile : Option Files → List ℕ → Option (List ℕ) → Type 0
-HasFile told path found = Shows told (λ files. found ≡ file files path)
-
--- what comes of the file of a path, if it is there, by what comes of its bytes
-abbrev pub FoundComesTo
-    : (List ℕ → Outcome → Type 0) → List ℕ → Option (List ℕ) → Outcome → Type 0
-FoundComesTo Bytes path None due = due ≡ not_there path
-FoundComesTo Bytes path (Some b) due = Bytes b due
-
--- what comes of the file of a path; over a shelf that tells nothing, what comes of some file
-abbrev pub FileComesTo : Option Files → List ℕ → (List ℕ → Outcome → Type 0) → Outcome → Type 0
-FileComesTo told path Bytes due =
-    (found : Option (List ℕ)) × HasFile told path found × FoundComesTo Bytes path found due
-
--- what comes of the bytes of an image, by their first damage, if they have one
-abbrev pub OpenedComesTo : (Outcome → Type 0) → Option Damage → Outcome → Type 0
-OpenedComesTo Sound None due = Sound due
-OpenedComesTo Sound (Some damage) due = due ≡ damaged damage
-
--- what comes of the image in the file of a path, by what comes of bytes without a damage
-abbrev pub ImageComes : Option Files → List ℕ → (List ℕ → Outcome → Type 0) → Outcome → Type 0
-ImageComes told path Sound due =
-    FileComesTo told path (λ b. OpenedComesTo (Sound b) (first_damage b)) due
-
--- what is due for the text of the source; where that isn't told, for some text
-abbrev pub TextComesTo : Option (List ℕ) → (List ℕ → Outcome) → Outcome → Type 0
-TextComesTo rest of_text due =
-    (text : List ℕ) × Shows rest (λ told. text ≡ told) × (due ≡ of_text text)
-
--- what comes of a work on the image in the file of a path, by the told text of the source
-abbrev pub WorkComesTo : Option Files → Option (List ℕ) → List ℕ → ImageWork → Outcome → Type 0
-WorkComesTo told rest path work due =
-    ImageComes told path (λ b. TextComesTo rest (image_outcome work b)) due
 
 -- at every path of an image's trees stands what the trees of its resources have there, and nothing
 -- else; of a refusal, nothing
@@ -142,114 +101,6 @@ AskTheSame (Ok command) (Ok other) = command.task ≡ other.task
 AskTheSame (Err fault) (Err other) = fault ≡ other
 AskTheSame (Ok command) (Err fault) = ⊥
 AskTheSame (Err fault) (Ok command) = ⊥
-
--- A step of a run
-
--- the status with which a complaint ends a run
-abbrev pub status_of : Complaint → Status
-status_of (complaint.Words fault) = status.Words
-status_of (complaint.Damaged damage) = status.Damaged
-status_of (complaint.NotThere text) = status.NotThere
-status_of (complaint.Refused refusal) = status.Refused
-status_of (complaint.BadNode at) = status.Damaged
-status_of complaint.NotFolder = status.Refused
-status_of (complaint.LongLine k) = status.Session
-status_of complaint.TooManyLines = status.Session
-
--- the step's answer is that of the outcome, unless the outside failed or no memory was found
-abbrev pub Answers : Outcome → Result (Unit {0}) Stop → Type 0
-Answers due (Ok _) = (due.status ≡ status.Done) × (due.line ≡ [])
-Answers due (Err (stop.Complaint complaint)) =
-    (due.status ≡ status_of complaint) × (due.line ≡ line_of complaint)
-Answers due (Err stop.Outside) = Unit {0}
-Answers due (Err stop.Memory) = Unit {0}
-
--- the output is whole, but a front of it where the outside failed or no memory was found
-abbrev pub Outputs : Result (Unit {0}) Stop → List ℕ → Seen (List ℕ) → Seen (List ℕ) → Type 0
-Outputs (Ok _) output old new = Gets output old new
-Outputs (Err (stop.Complaint complaint)) output old new = Gets output old new
-Outputs (Err stop.Outside) output old new = GetsFront output old new
-Outputs (Err stop.Memory) output old new = GetsFront output old new
-
--- all files were made, and, where there are any, they stand whole under their own names
-pub record StandAll (writes : Writes) (old new : ShelfSeen) : Type 0 where
-  pub made : MadeAll writes old.told new.told
-  pub whole : writes ≢ [] → IsTrue new.whole
-
--- the files are made and stand; but some of them are made where the outside failed or no memory was
--- found
-abbrev pub FilesMade : Result (Unit {0}) Stop → Writes → (old new : ShelfSeen) → Type 0
-FilesMade (Ok _) writes old new = StandAll writes old new
-FilesMade (Err (stop.Complaint complaint)) writes old new = StandAll writes old new
-FilesMade (Err stop.Outside) writes old new = MadePart writes old.told new.told
-FilesMade (Err stop.Memory) writes old new = MadePart writes old.told new.told
-
--- a failure of the outside, or want of memory
-abbrev pub IsFailure : Result (Unit {0}) Stop → Type 0
-IsFailure (Ok _) = ⊥
-IsFailure (Err (stop.Complaint complaint)) = ⊥
-IsFailure (Err stop.Outside) = Unit {0}
-IsFailure (Err stop.Memory) = Unit {0}
-
--- the output is put behind all files: they stand whole, under their own names, or nothing was put
-abbrev pub FilesFirst : Writes → World → World → Type 0
-FilesFirst writes old new =
-    StandAll writes old.shelf new.shelf ⊎ (new.out.told ≡ old.out.told)
-
--- what any step does, where this is what the command comes to
-pub record StepDoes (early : Early) (due : Outcome) (answer : Result (Unit {0}) Stop)
-    (old new : World) : Type 0 where
-  pub answers : Answers due answer
-  pub output : Outputs answer due.output old.out new.out
-  pub files : FilesMade answer due.writes old.shelf new.shelf
-  pub files_first : FilesFirst due.writes old new
-  pub source : SourceRead due.session (StopsAs answer) old new
-  pub outside : answer ≡ Err stop.Outside → WorkFailed early due.session due.status old new
-  pub none_rose : IsOk answer → NoneRose old new
-
--- a step failed before it was known what the command comes to: with nothing put and nothing read
--- from the source, and of these files some made
-pub record FailsAtOnce (early : Early) (answer : Result (Unit {0}) Stop) (old new : World)
-    : Type 0 where
-  pub failed : IsFailure answer
-  pub files : MadePart early.writes old.shelf.told new.shelf.told
-  pub source : new.input.told ≡ old.input.told
-  pub output : new.out.told ≡ old.out.told
-  pub outside : answer ≡ Err stop.Outside → FilesFailed early old new
-
--- a step does what is due, or fails at once, whatever would have been due
-abbrev pub StepComesTo : (Outcome → Type 0) → Early → Result (Unit {0}) Stop → World → World
-    → Type 0
-StepComesTo Due early answer old new =
-    FailsAtOnce early answer old new
-    ⊎ ((due : Outcome) × Due due × StepDoes early due answer old new)
-
--- a step does what is due for the text of the source
-abbrev pub StepOnText : (List ℕ → Outcome) → Result (Unit {0}) Stop → World → World → Type 0
-StepOnText of_text answer old new =
-    StepComesTo (TextComesTo old.input.told of_text) reading answer old new
-
--- what a complaint comes to by itself
-abbrev pub outcome_of : Complaint → Outcome
-outcome_of complaint = refused (status_of complaint) (complaint_text complaint)
-
--- the answer of a command that makes no file is the whole outcome; the outside fails only where an
--- output is due
-abbrev pub AnswersAll : Outcome → Result (Unit {0}) Stop → Type 0
-AnswersAll due (Ok _) = due ≡ done due.output
-AnswersAll due (Err (stop.Complaint complaint)) = due ≡ outcome_of complaint
-AnswersAll due (Err stop.Outside) = due ≡ done due.output
-AnswersAll due (Err stop.Memory) = Unit {0}
-
--- what a step does that only puts to the output; memory may run out behind a part of an output that
--- is due
-pub record PutDoes (due : Outcome) (answer : Result (Unit {0}) Stop)
-    (out new_out : Seen (List ℕ)) : Type 0 where
-  pub answers : AnswersAll due answer
-  pub output : Outputs answer due.output out new_out
-  pub outside : answer ≡ Err stop.Outside → Failed out new_out
-  pub kept : IsOk answer → new_out.faults ≡ out.faults
-  pub memory : answer ≡ Err stop.Memory → (due ≡ done due.output) ⊎ (new_out.told ≡ out.told)
 
 -- A run
 

@@ -6,11 +6,11 @@ use Rattle.jm_words.specs.declared.tasks.Command.{Command}
 use Rattle.jm_words.specs.declared.tasks.ImageWork.TheVariants as work
 use Rattle.jm_words.specs.declared.tasks.Task.{Task}
 use Rattle.jm_words.specs.declared.tasks.Task.TheVariants as task
-use Rattle.jm_commands.specs.declared.status.Status.{Status}
-use Rattle.jm_commands.specs.Run.{HasFile}
-use Rattle.jm_commands.specs.SessionHeld.{EndsAs, Held, NotBegun}
-use Rattle.jm_commands.specs.Sinks.{Seen}
-use Rattle.jm_commands.specs.World.{World}
+use Rattle.jm_inspect.specs.declared.status.Status.{Status}
+use Rattle.jm_inspect.specs.Works.{HasFile}
+use Rattle.jm_inspect.specs.SessionHeld.{EndsAs, Held, NotBegun}
+use Rattle.jm_inspect.specs.Sinks.{Seen}
+use Rattle.jm_inspect.specs.World.{World}
 
 -- the image of a `serve`, if a task is one
 abbrev pub served : Task → Option (List ℕ)

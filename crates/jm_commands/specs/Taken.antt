@@ -1,88 +1,19 @@
--- How many bytes of its image a command takes from the shelf (promise reads-what-it-needs; this
+-- How many bytes of its image a run takes from the shelf (promise reads-what-it-needs; this
 -- project's rule).
-use Rattle.std.specs.Prelude.{ℕ, ◌+◌, ◌≡◌, ◌≤◌, List, length, Option, Some, None, Result, Ok, Err}
-use Rattle.jm_form.specs.declared.container.Header.{Header}
+use Rattle.std.specs.Prelude.{ℕ, ◌+◌, ◌≡◌, ◌≤◌, List, Option, Some, None, Result, Ok, Err}
 use Rattle.jm_form.specs.declared.damage.Damage.{Damage}
 use Rattle.jm_form.specs.Damages.{first_damage}
-use Rattle.jm_form.specs.declared.container.HeaderFault.{HeaderFault}
-use Rattle.jm_form.specs.Head.{header_of, index_length}
-use Rattle.jm_form.specs.declared.rows.Row.{Row}
-use Rattle.jm_form.specs.Validity.{look}
-use Rattle.jm_extract.specs.Extracted.{taken_size}
-use Rattle.jm_jrt.specs.Stat.{node_sought}
 use Rattle.jm_link.specs.ImageTaken.{TakesLinked}
 use Rattle.jm_link.specs.Linked.{Request}
 use Rattle.jm_link.specs.Links.{request_of}
 use Rattle.jm_outside.specs.Files.{Files}
-use Rattle.jm_pattern.specs.declared.signs.Sign.{Sign}
 use Rattle.jm_words.specs.declared.errors.WordsFault.{WordsFault}
 use Rattle.jm_words.specs.declared.tasks.Command.{Command}
-use Rattle.jm_words.specs.declared.tasks.ImageWork.{ImageWork}
-use Rattle.jm_words.specs.declared.tasks.ImageWork.TheVariants as work
 use Rattle.jm_words.specs.declared.tasks.Source.{Source}
 use Rattle.jm_words.specs.declared.tasks.Source.TheVariants as source
 use Rattle.jm_words.specs.declared.tasks.Task.{Task}
 use Rattle.jm_words.specs.declared.tasks.Task.TheVariants as task
-use Rattle.jm_commands.specs.Cat.{content_of}
-use Rattle.jm_commands.specs.Run.{HasFile}
-
--- the first bytes that are taken, by what was read as the header: the index; 28 where there is none
-abbrev pub front_with : Result Header HeaderFault → ℕ
-front_with (Ok h) = index_length h
-front_with (Err fault) = 28
-
--- the first bytes that are taken of a file
-abbrev pub front_size : List ℕ → ℕ
-front_size b = front_with (header_of b)
-
--- bytes that are taken behind the front; none, where the file has a damage
-abbrev pub unless_damaged : Option Damage → ℕ → ℕ
-unless_damaged None more = more
-unless_damaged (Some damage) more = 0
-
--- the bytes that are taken of a file for contents in it: the front, and these, if it is an image
--- without a damage
-abbrev pub opened_size : (List ℕ → ℕ) → List ℕ → ℕ
-opened_size more b = front_size b + unless_damaged (first_damage b) (more b)
-
--- those for a content that is found in it
-abbrev pub sought_size : (List ℕ → Option (Row × List ℕ)) → List ℕ → ℕ
-sought_size sought b = opened_size (λ c. length (content_of (sought c))) b
-
--- those for the contents that are extracted
-abbrev pub extract_size : Option (List (List Sign)) → List ℕ → ℕ
-extract_size include b = opened_size (λ c. taken_size c include) b
-
--- of the file of a path, if it is there, so much was taken, and nothing besides
-abbrev pub TakesOf : (List ℕ → ℕ → ℕ → Type 0) → Option (List ℕ) → (old new : ℕ) → Type 0
-TakesOf Takes None old new = new ≡ old
-TakesOf Takes (Some b) old new = Takes b old new
-
--- the same of the file of a path; over a shelf that tells nothing, of some file
-abbrev pub TakesBy
-    : Option Files → List ℕ → (List ℕ → ℕ → ℕ → Type 0) → (old new : ℕ) → Type 0
-TakesBy told path Takes old new =
-    (found : Option (List ℕ)) × HasFile told path found × TakesOf Takes found old new
-
--- at most so many bytes of it
-abbrev pub TakesFrom : Option Files → List ℕ → (List ℕ → ℕ) → (old new : ℕ) → Type 0
-TakesFrom told path most old new =
-    TakesBy told path (λ b before after. after ≤ before + most b) old new
-
--- what a work on the image in the file of a path takes: `info`, `verify` and `list` the front,
--- and of an image without a damage `cat` and `ls` the content of the name or of the folder's node
--- besides, and `extract` those of the entries that it takes; `serve` the file
-abbrev pub WorkTakes : Option Files → List ℕ → ImageWork → (old new : ℕ) → Type 0
-WorkTakes told path work.Info old new = TakesFrom told path front_size old new
-WorkTakes told path work.Verify old new = TakesFrom told path front_size old new
-WorkTakes told path (work.List include) old new = TakesFrom told path front_size old new
-WorkTakes told path (work.Cat name) old new =
-    TakesFrom told path (sought_size (λ b. look b name)) old new
-WorkTakes told path (work.Ls folder) old new =
-    TakesFrom told path (sought_size (λ b. node_sought b folder)) old new
-WorkTakes told path (work.Extract dir include) old new =
-    TakesFrom told path (extract_size include) old new
-WorkTakes told path work.Serve old new = TakesFrom told path (λ b. length b) old new
+use Rattle.jm_inspect.specs.Taken.{TakesBy, WorkTakes, front_size}
 
 -- what a link takes of an image, by its first damage: the front, and without a damage what is said
 -- of the link of its modules besides

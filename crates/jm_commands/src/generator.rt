@@ -7,17 +7,18 @@ ghost use Rattle.jm_words.specs.Paths.{GenFits};
 ghost use Rattle.jm_outside.specs.Shelves.{shelf_at};
 ghost use Rattle.jm_commands.specs.Gen.{gen_link, image_path, made_first};
 ghost use Rattle.jm_commands.specs.LinkText.{gen_text};
-ghost use Rattle.jm_commands.specs.Outcome.{done, making};
-ghost use Rattle.jm_commands.specs.Run.{GenComesTo, PutDoes, StepComesTo};
-ghost use Rattle.jm_commands.specs.Sinks.{Seen};
-ghost use Rattle.jm_commands.specs.World.{sink_at, world};
+ghost use Rattle.jm_inspect.specs.Outcome.{done};
+ghost use Rattle.jm_commands.specs.Outcome.{making};
+ghost use Rattle.jm_commands.specs.Run.{GenComesTo};
+ghost use Rattle.jm_inspect.specs.Steps.{PutDoes, StepComesTo};
+ghost use Rattle.jm_inspect.specs.Sinks.{Seen};
+ghost use Rattle.jm_inspect.specs.World.{sink_at, world};
 
-use crate::output::put_output;
-use crate::stop::Stop;
-use crate::workers::Workers;
+use crate::link::stop_of_link;
 use jm_bytes::{List, NoMemory, Order, Text, copy_of, extend};
 use jm_gen::{generate, module_names};
 use jm_halves::Gate;
+use jm_inspect::{Stop, Workers, put_output};
 use jm_link::{LinkStop, Summary, link};
 use jm_outside::{Shelf, Sink};
 use jm_words::{GenTask, LinkTask, Plugin, Source};
@@ -118,6 +119,8 @@ pub fn gen_command<T: Threads + Sync, S: Shelf, O: Sink, G: Gate + Sync>(
         task.classes,
         task.seed,
     )?;
-    let summary = link_generated(workers, task, mods, shelf)?;
-    put_generated(workers.alloc, &summary, out)
+    match link_generated(workers, task, mods, shelf) {
+        Ok(summary) => put_generated(workers.alloc, &summary, out),
+        Err(why) => Err(stop_of_link(why)),
+    }
 }

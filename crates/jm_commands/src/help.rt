@@ -1,13 +1,12 @@
 ghost use Rattle.std.specs.Prelude.{◌≡◌, option_map, IfOk};
 ghost use Rattle.jm_words.specs.Help.{usage_text};
 ghost use Rattle.jm_commands.specs.HelpText.{help_text};
-ghost use Rattle.jm_commands.specs.Outcome.{done};
-ghost use Rattle.jm_commands.specs.Run.{PutDoes};
-ghost use Rattle.jm_commands.specs.World.{sink_at};
+ghost use Rattle.jm_inspect.specs.Outcome.{done};
+ghost use Rattle.jm_inspect.specs.Steps.{PutDoes};
+ghost use Rattle.jm_inspect.specs.World.{sink_at};
 
-use crate::output::put_output;
-use crate::stop::Stop;
 use jm_bytes::{NoMemory, Text};
+use jm_inspect::{Stop, put_output};
 use jm_outside::Sink;
 use jm_words::help_text;
 use std::alloc::Global;

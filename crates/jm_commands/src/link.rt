@@ -1,26 +1,25 @@
 //! The command `link`.
-ghost use Rattle.std.specs.Prelude.{◌<◌, ℕ, IsUtf8, List};
+ghost use Rattle.std.specs.Prelude.{◌≡◌, ◌<◌, ℕ, IsUtf8, List};
 ghost use Rattle.jm_filed.specs.Filed.{IsIndexAt};
 ghost use Rattle.jm_link.specs.FiledLinked.{FiledLinks};
 ghost use Rattle.jm_link.specs.Links.{request_of};
 ghost use Rattle.jm_words.specs.Paths.{LinkIsText};
 ghost use Rattle.jm_outside.specs.Shelves.{shelf_at};
-ghost use Rattle.jm_commands.specs.Ledgers.{IsLedger};
+ghost use Rattle.jm_inspect.specs.Ledgers.{IsLedger};
 ghost use Rattle.jm_commands.specs.LinkText.{link_text};
-ghost use Rattle.jm_commands.specs.Outcome.{done, reading};
-ghost use Rattle.jm_commands.specs.Run.{ImageComes, ImageLinkComesTo, LinkComesTo, PutDoes};
-ghost use Rattle.jm_commands.specs.Run.{StepComesTo};
-ghost use Rattle.jm_commands.specs.Sinks.{Seen};
+ghost use Rattle.jm_commands.specs.Stops.{stop_of_link};
+ghost use Rattle.jm_inspect.specs.Outcome.{done, reading};
+ghost use Rattle.jm_inspect.specs.Works.{ImageComes};
+ghost use Rattle.jm_commands.specs.Run.{ImageLinkComesTo, LinkComesTo};
+ghost use Rattle.jm_inspect.specs.Steps.{PutDoes, StepComesTo};
+ghost use Rattle.jm_inspect.specs.Sinks.{Seen};
 ghost use Rattle.jm_commands.specs.Taken.{LinkTakes};
-ghost use Rattle.jm_commands.specs.World.{sink_at, world};
+ghost use Rattle.jm_inspect.specs.World.{sink_at, world};
 
-use crate::front::{FileFront, OpenFront};
-use crate::output::put_output;
-use crate::stop::Stop;
-use crate::workers::Workers;
 use jm_bytes::{Meter, Text};
 use jm_filed::FiledImage;
 use jm_halves::Gate;
+use jm_inspect::{Complaint, FileFront, OpenFront, Stop, Workers, put_output};
 use jm_link::{LinkStop, Summary, link, link_image};
 use jm_outside::{Shelf, Sink};
 use jm_words::{LinkTask, Source};
@@ -28,6 +27,18 @@ use std::alloc::Global;
 use std::marker::Brand;
 use std::sync::ledger::{Blank, Ledger};
 use std::thread::Threads;
+
+/// Why a command stops where a link did.
+pub fn stop_of_link(why: LinkStop) -> Stop
+    ensures { result ≡ stop_of_link why }
+{
+    match why {
+        LinkStop::Refused(refusal) => Stop::Complaint(Complaint::Refused(refusal)),
+        LinkStop::NotThere(path) => Stop::Complaint(Complaint::NotThere(path)),
+        LinkStop::Outside => Stop::Outside,
+        LinkStop::Memory => Stop::Memory,
+    }
+}
 
 /// Puts what was linked.
 fn put_summary<O: Sink>(alloc: Global, summary: &Summary, out: &mut O) -> Result<(), Stop>
@@ -114,8 +125,10 @@ fn link_from_image<T: Threads + Sync, S: Shelf, O: Sink, G: Gate + Sync>(
         path,
     };
     let reads = Blank::new(1);
-    let summary = link_counted::<T, S, G, Brand>(workers, task, source, shelf, reads)?;
-    put_summary(workers.alloc, &summary, out)
+    match link_counted::<T, S, G, Brand>(workers, task, source, shelf, reads) {
+        Ok(summary) => put_summary(workers.alloc, &summary, out),
+        Err(why) => Err(stop_of_link(why)),
+    }
 }
 
 /// `link`: writes the image of the closure of the roots to a file, after the plug-ins acted on its
@@ -138,15 +151,17 @@ pub fn link_command<T: Threads + Sync, S: Shelf, O: Sink, G: Gate + Sync>(
     match &task.source {
         Source::Image(path) => link_from_image(workers, task, path, shelf, out),
         Source::Path(_) => {
-            let summary = link(
+            match link(
                 workers.rt,
                 workers.alloc,
                 workers.jobs,
                 task,
                 shelf,
                 workers.gate,
-            )?;
-            put_summary(workers.alloc, &summary, out)
+            ) {
+                Ok(summary) => put_summary(workers.alloc, &summary, out),
+                Err(why) => Err(stop_of_link(why)),
+            }
         }
     }
 }

@@ -1,32 +1,23 @@
-ghost use Rattle.std.specs.Prelude.{◌<◌, List};
+ghost use Rattle.std.specs.Prelude.{◌<◌};
 ghost use Rattle.std.specs.Prelude.{map, string_bytes};
 ghost use Rattle.jm_words.specs.Paths.{FilePathsAreText, NumbersFit};
 ghost use Rattle.jm_words.specs.Rule.{Says};
 ghost use Rattle.jm_commands.specs.Outcome.{early_in, early_of};
-ghost use Rattle.jm_commands.specs.Run.{EndsStep, RunComesTo, StepComesTo};
-ghost use Rattle.jm_commands.specs.Run.{TaskComesTo, WordsComeTo};
+ghost use Rattle.jm_commands.specs.Run.{EndsStep, RunComesTo, TaskComesTo, WordsComeTo};
+ghost use Rattle.jm_inspect.specs.Steps.{StepComesTo};
 ghost use Rattle.jm_commands.specs.RelinkedRun.{RelinksRun};
 ghost use Rattle.jm_commands.specs.Served.{ServesRun, served_in};
 ghost use Rattle.jm_commands.specs.Taken.{TakesNoMore, TaskTakes};
-ghost use Rattle.jm_commands.specs.World.{sink_at, world_of};
+ghost use Rattle.jm_inspect.specs.World.{sink_at, world_of};
 
-use crate::cat_file::cat_file;
-use crate::describe::describe_command;
-use crate::extract::extract_file;
 use crate::generator::gen_command;
 use crate::help::help_command;
 use crate::link::link_command;
-use crate::ls::ls_file;
-use crate::serve::serve_file;
-use crate::shown::{Shown, show_command};
-use crate::status::Status;
-use crate::stop::Stop;
 use crate::version::version_command;
-use crate::workers::Workers;
-use jm_extract::Extraction;
 use jm_halves::Gate;
+use jm_inspect::{Status, Stop, Workers, describe_command, do_work};
 use jm_outside::{Shelf, Sink, SinkError, Source};
-use jm_words::{ImageWork, Task, read_words};
+use jm_words::{Task, read_words};
 use std::alloc::Global;
 use std::thread::Threads;
 
@@ -53,8 +44,7 @@ fn end<E: Sink>(alloc: Global, done: Result<(), Stop>, err: &mut E) -> Status
     }
 }
 
-/// Does what a command is to do. Of the works on an image `serve` takes the whole file, the others
-/// its index.
+/// Does what a command is to do.
 fn do_command<T: Threads + Sync, S: Shelf, I: Source, O: Sink, G: Gate + Sync>(
     workers: &Workers<T, G>,
     task: &Task,
@@ -74,23 +64,7 @@ fn do_command<T: Threads + Sync, S: Shelf, I: Source, O: Sink, G: Gate + Sync>(
 {
     match task {
         Task::Link(task) => link_command(workers, task, shelf, out),
-        Task::Image { image, work } => match work {
-            ImageWork::Info => show_command(workers, image, &Shown::Info, shelf, out),
-            ImageWork::Verify => show_command(workers, image, &Shown::Verify, shelf, out),
-            ImageWork::List { include } => {
-                show_command(workers, image, &Shown::List(include), shelf, out)
-            }
-            ImageWork::Cat { name } => cat_file(workers, image, name.as_slice(), shelf, out),
-            ImageWork::Ls { path } => ls_file(workers, image, path.as_slice(), shelf, out),
-            ImageWork::Extract { dir, include } => {
-                let work = Extraction {
-                    dir: dir.as_slice(),
-                    include,
-                };
-                extract_file(workers, image, work, shelf, out)
-            }
-            ImageWork::Serve => serve_file(workers, image, shelf, input, out),
-        },
+        Task::Image { image, work } => do_work(workers, image, work, shelf, input, out),
         Task::Gen(task) => gen_command(workers, task, shelf, out),
         Task::Describe { file, release } => {
             describe_command(workers.alloc, file, *release, shelf, out)

@@ -1,10 +1,9 @@
 ghost use Rattle.jm_commands.specs.HelpText.{version_text};
-ghost use Rattle.jm_commands.specs.Outcome.{done};
-ghost use Rattle.jm_commands.specs.Run.{PutDoes};
-ghost use Rattle.jm_commands.specs.World.{sink_at};
+ghost use Rattle.jm_inspect.specs.Outcome.{done};
+ghost use Rattle.jm_inspect.specs.Steps.{PutDoes};
+ghost use Rattle.jm_inspect.specs.World.{sink_at};
 
-use crate::output::put_output;
-use crate::stop::Stop;
+use jm_inspect::{Stop, put_output};
 use jm_outside::Sink;
 use std::alloc::Global;
 

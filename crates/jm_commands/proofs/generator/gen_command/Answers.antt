@@ -3,33 +3,31 @@ use Rattle.jm_outside.specs.Made.{MadeAll}
 use Rattle.jm_gen.specs.Generated.{generated}
 use Rattle.jm_commands.specs.Gen.{modules_path}
 use Rattle.jm_outside.specs.Shelves.{shelf_at}
-use Rattle.jm_commands.specs.World.{sink_at, world}
+use Rattle.jm_inspect.specs.World.{sink_at, world}
 use Rattle.jm_commands.proofs.GenLaws.{gen_put, gen_stopped, links_as}
-use Rattle.jm_commands.proofs.StepLaws.{from_stop}
 use Rattle.jm_commands.proofs.generator.gen_command.Goals as goal
 
-pub returns : goal.returns
-returns g c source =
+pub returns-in-Ok : goal.returns-in-Ok
+returns-in-Ok g c source =
     let gen = c.args.task.now in
     let path : c.in_ok-mods.mods ≡ modules_path gen = c.in_ok-mods.ensures.path ∙ rw (c.as_slice.ensures, c.as_bytes.ensures.value) refl in
     let made = subst (λ (dir : List ℕ). MadeAll (generated dir gen.modules gen.classes gen.seed) (g.S.Shelf.files c.args.shelf.now)
     (g.S.Shelf.files c.generate.new.shelf)) (c.as_slice-2.ensures ∙ path) c.in_ok-generate.ensures.ok in
-    let links = links_as gen _ (Ok c.in_ok-summary.summary) (shelf_at g.S.Shelf c.generate.new.shelf)
-    (shelf_at g.S.Shelf c.link_generated.new.shelf) path c.in_ok-summary.ensures.links in
+    let links = links_as gen _ (Ok c.in-Ok.summary) (shelf_at g.S.Shelf c.generate.new.shelf)
+    (shelf_at g.S.Shelf c.link_generated.new.shelf) path c.in-Ok.ensures.links in
     gen_put gen (shelf_at g.S.Shelf c.args.shelf.now) (world (shelf_at g.S.Shelf c.generate.new.shelf) source
     (sink_at g.O.Sink c.args.out.now))
     _ _ _ made (c.in_ok-generate.ensures.faults.kept refl) refl links c.put_generated.ensures
 
-pub returns-in_err-summary : goal.returns-in_err-summary
-returns-in_err-summary g c source =
+pub returns-in-Err : goal.returns-in-Err
+returns-in-Err g c source =
     let gen = c.args.task.now in
     let path : c.in_ok-mods.mods ≡ modules_path gen = c.in_ok-mods.ensures.path ∙ rw (c.as_slice.ensures, c.as_bytes.ensures.value) refl in
     let made = subst (λ (dir : List ℕ). MadeAll (generated dir gen.modules gen.classes gen.seed) (g.S.Shelf.files c.args.shelf.now)
     (g.S.Shelf.files c.generate.new.shelf)) (c.as_slice-2.ensures ∙ path) c.in_ok-generate.ensures.ok in
-    let links = links_as gen _ (Err c.in_err-summary.field-0.0) (shelf_at g.S.Shelf c.generate.new.shelf)
-    (shelf_at g.S.Shelf c.link_generated.new.shelf) path c.in_err-summary.ensures.links in
-    let is = from_stop c.from_residual-in_err-summary.result _ c.from_residual-in_err-summary.ensures.1 in
-    rw is
+    let links = links_as gen _ (Err c.in-Err.why) (shelf_at g.S.Shelf c.generate.new.shelf)
+    (shelf_at g.S.Shelf c.link_generated.new.shelf) path c.in-Err.ensures.links in
+    rw c.stop_of_link.ensures
     (gen_stopped gen (shelf_at g.S.Shelf c.args.shelf.now) (world (shelf_at g.S.Shelf c.generate.new.shelf) source
     (sink_at g.O.Sink c.args.out.now))
-    _ _ made (c.in_ok-generate.ensures.faults.kept refl) refl links c.in_err-summary.ensures.whole refl)
+    _ _ made (c.in_ok-generate.ensures.faults.kept refl) refl links c.in-Err.ensures.whole refl)

@@ -1,7 +1,7 @@
 use Rattle.std.proofs.Common.{◌≡◌, refl, sym, ◌∙◌}
 use Rattle.jm_commands.specs.LinkText.{gen_text}
-use Rattle.jm_commands.specs.declared.stop.Stop.TheVariants as stop
-use Rattle.jm_commands.proofs.StepLaws.{from_stop, no_memory}
+use Rattle.jm_inspect.specs.declared.stop.Stop.TheVariants as stop
+use Rattle.jm_inspect.proofs.StepLaws.{from_stop, no_memory}
 use Rattle.jm_commands.proofs.generator.put_generated.Goals as goal
 
 pub returns-in_err-text : goal.returns-in_err-text

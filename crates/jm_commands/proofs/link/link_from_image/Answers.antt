@@ -2,9 +2,9 @@ use Rattle.std.proofs.Common.{refl}
 use Rattle.jm_outside.specs.Shelves.{shelf_at}
 use Rattle.jm_commands.specs.LinkText.{link_text}
 use Rattle.jm_commands.specs.Run.{ImageLinkComesTo}
-use Rattle.jm_commands.proofs.FrontLaws.{index_there, unopened}
+use Rattle.jm_inspect.proofs.FrontLaws.{index_there, unopened}
 use Rattle.jm_commands.proofs.LinkLaws.{filed_put, filed_stopped, takes_filed}
-use Rattle.jm_commands.proofs.StepLaws.{from_stop}
+use Rattle.jm_inspect.proofs.StepLaws.{from_stop}
 use Rattle.jm_commands.proofs.link.link_from_image.Goals as goal
 
 pub link_counted-requires-clause-there : goal.link_counted-requires-clause-there
@@ -20,28 +20,27 @@ returns-in_err-front-clause-comes g c source =
     rw is (unopened (ImageLinkComesTo link_text c.args.task.now) c.args.path.now (shelf_at g.S.Shelf c.args.shelf.now)
     (shelf_at g.S.Shelf c.at.new.shelf) read.files source _ _ read.opens (λ failed. read.faults.rose (rw failed refl)))
 
-pub returns-in_err-summary-clause-comes : goal.returns-in_err-summary-clause-comes
-returns-in_err-summary-clause-comes g c source =
-    let is = from_stop c.from_residual-in_err-summary.result _ c.from_residual-in_err-summary.ensures.1 in
-    let read = c.in_ok-front.ensures in
-    rw is (filed_stopped link_text c.args.task.now c.args.path.now _ (shelf_at g.S.Shelf c.at.new.shelf)
-    (shelf_at g.S.Shelf c.link_counted.new.shelf) source _ _ read.files (read.faults.kept refl) c.in_ok-front.front read.opens _ _ _
-    c.in_err-summary.ensures refl)
-
 pub returns-clause-comes : goal.returns-clause-comes
 returns-clause-comes g c source =
     let read = c.in_ok-front.ensures in
-    filed_put link_text c.args.task.now c.args.path.now _ (shelf_at g.S.Shelf c.at.new.shelf) (shelf_at g.S.Shelf c.link_counted.new.shelf)
-    source _ _ read.files (read.faults.kept refl) c.in_ok-front.front read.opens _ _ _ _ c.in_ok-summary.ensures c.put_summary.ensures
+    rw c.stop_of_link.ensures (filed_stopped link_text c.args.task.now c.args.path.now _ (shelf_at g.S.Shelf c.at.new.shelf)
+    (shelf_at g.S.Shelf c.link_counted.new.shelf) source _ _ read.files (read.faults.kept refl) c.in_ok-front.front read.opens _ _ _
+    c.in-Err.ensures refl)
 
-pub returns-in_err-summary-clause-takes : goal.returns-in_err-summary-clause-takes
-returns-in_err-summary-clause-takes g c =
+pub returns-in-Ok-clause-comes : goal.returns-in-Ok-clause-comes
+returns-in-Ok-clause-comes g c source =
     let read = c.in_ok-front.ensures in
-    takes_filed _ c.args.path.now _ (shelf_at g.S.Shelf c.args.shelf.now) (shelf_at g.S.Shelf c.at.new.shelf)
-    (shelf_at g.S.Shelf c.link_counted.new.shelf) c.in_ok-front.front _ _ _ _ read.files read.opens c.in_err-summary.ensures read.taken
+    filed_put link_text c.args.task.now c.args.path.now _ (shelf_at g.S.Shelf c.at.new.shelf) (shelf_at g.S.Shelf c.link_counted.new.shelf)
+    source _ _ read.files (read.faults.kept refl) c.in_ok-front.front read.opens _ _ _ _ c.in-Ok.ensures c.put_summary.ensures
 
 pub returns-clause-takes : goal.returns-clause-takes
 returns-clause-takes g c =
     let read = c.in_ok-front.ensures in
     takes_filed _ c.args.path.now _ (shelf_at g.S.Shelf c.args.shelf.now) (shelf_at g.S.Shelf c.at.new.shelf)
-    (shelf_at g.S.Shelf c.link_counted.new.shelf) c.in_ok-front.front _ _ _ _ read.files read.opens c.in_ok-summary.ensures read.taken
+    (shelf_at g.S.Shelf c.link_counted.new.shelf) c.in_ok-front.front _ _ _ _ read.files read.opens c.in-Err.ensures read.taken
+
+pub returns-in-Ok-clause-takes : goal.returns-in-Ok-clause-takes
+returns-in-Ok-clause-takes g c =
+    let read = c.in_ok-front.ensures in
+    takes_filed _ c.args.path.now _ (shelf_at g.S.Shelf c.args.shelf.now) (shelf_at g.S.Shelf c.at.new.shelf)
+    (shelf_at g.S.Shelf c.link_counted.new.shelf) c.in_ok-front.front _ _ _ _ read.files read.opens c.in-Ok.ensures read.taken

@@ -6,7 +6,7 @@ use Rattle.jm_commands.proofs.TakenLaws.{words_take, words_take_nothing}
 use Rattle.jm_commands.proofs.RelinkedRun.{run_relinks}
 use Rattle.jm_commands.proofs.RunLaws.{comes_ended}
 use Rattle.jm_commands.proofs.ServedLaws.{run_serves}
-use Rattle.jm_commands.proofs.StepLaws.{words_read, words_unread}
+use Rattle.jm_commands.proofs.WordsLaws.{words_read, words_unread}
 use Rattle.jm_commands.proofs.program.run.Goals as goal
 
 pub returns-in-Ok-clause-comes : goal.returns-in-Ok-clause-comes

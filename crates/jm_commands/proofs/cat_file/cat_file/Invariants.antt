@@ -1,7 +1,0 @@
-use Rattle.jm_commands.proofs.cat_file.cat_file.Given as goal
-
-abbrev pub ghosts-find_counted-H-Ledger : goal.ghosts-find_counted-H-Ledger
-ghosts-find_counted-H-Ledger g a = record { name = a.blanks.hashes.name; parts = a.blanks.hashes.parts }
-
-abbrev pub ghosts-find_counted-R-Ledger : goal.ghosts-find_counted-R-Ledger
-ghosts-find_counted-R-Ledger g a = record { name = a.blanks.reads.name; parts = a.blanks.reads.parts }

@@ -1,4 +1,0 @@
-use Rattle.jm_commands.proofs.extract.extract_file.Given as goal
-
-abbrev pub ghosts-extract_counted : goal.ghosts-extract_counted
-ghosts-extract_counted g a = record { name = a.reads.name; parts = a.reads.parts }

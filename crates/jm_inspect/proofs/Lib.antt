@@ -1,0 +1,14 @@
+pub mod ContentLaws
+pub mod DescribedLaws
+pub mod ExtractLaws
+pub mod FrontLaws
+pub mod Gotten
+pub mod ListingLaws
+mod ListingVectors
+pub mod Made
+pub mod OutcomeLaws
+pub mod PieceLaws
+pub mod PlainLaws
+pub mod SessionLaws
+pub mod StepLaws
+mod Vectors

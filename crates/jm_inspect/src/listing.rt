@@ -1,0 +1,79 @@
+ghost use Rattle.std.specs.Prelude.{◌≡◌, ◌++◌, ℕ, List, OnOk, map, flat_map};
+ghost use Rattle.jm_form.specs.Head.{IsFileOf};
+ghost use Rattle.jm_inspect.specs.Ledgers.{IsLedger};
+ghost use Rattle.jm_inspect.specs.ListText.{list_text, sized_as, sized_line};
+ghost use Rattle.jm_inspect.specs.Outcome.{done};
+ghost use Rattle.jm_inspect.specs.Pieces.{PutsText};
+ghost use Rattle.jm_inspect.specs.Steps.{PutDoes};
+ghost use Rattle.jm_inspect.specs.World.{sink_at};
+
+use crate::front::OpenFront;
+use crate::pieces::put_full;
+use crate::stop::Stop;
+use itoa::Buffer;
+use jm_bytes::{List, Meter, NoMemory, extend};
+use jm_filed::{TakenEntry, taken};
+use jm_names::extend_shown;
+use jm_outside::{Sink, SinkError};
+use jm_pattern::Pattern;
+use std::alloc::Global;
+use std::marker::Brand;
+use std::sync::ledger::{Blank, Ledger};
+
+/// Adds the line of an entry at the end: its size in bytes, a space, its name as it is shown.
+fn extend_line(alloc: Global, text: &mut Vec<u8>, entry: &TakenEntry) -> Result<(), NoMemory>
+    ensures { OnOk result (text.new.items ≡ text.old.items ++ sized_line (sized_as entry.now)) }
+{
+    let name = entry.name.view().to_text(alloc)?;
+    let mut size = Buffer::new();
+    extend(text, size.format(entry.content.size).as_bytes())?;
+    extend(text, b" ")?;
+    extend_shown(alloc, text, name.as_slice())?;
+    extend(text, b"\n")
+}
+
+/// Puts the lines of some entries, piece by piece; the last piece may be empty.
+fn put_lines<O: Sink>(alloc: Global, entries: &[TakenEntry], out: &mut O) -> Result<(), SinkError>
+    ensures { PutsText (flat_map sized_line (map sized_as entries.now)) result
+        (sink_at O.Sink out.old) (sink_at O.Sink out.new) }
+{
+    let mut text = Vec::new(alloc);
+    for entry in entries {
+        extend_line(alloc, &mut text, entry)?;
+        put_full(alloc, &mut text, out)?;
+    }
+    out.put(alloc, text.as_slice())
+}
+
+/// Puts the text of `list`, with a meter of its own.
+fn put_taken<O: Sink, R: Ledger>(
+    alloc: Global,
+    front: &OpenFront,
+    include: &Option<List<Pattern>>,
+    out: &mut O,
+    reads: Blank,
+) -> Result<(), SinkError>
+    requires reads { IsLedger reads.name reads.parts R.name R.parts }
+    ensures { (b : List ℕ) → IsFileOf front.now.bytes front.now.length b →
+        PutsText (list_text b include.now) result
+        (sink_at O.Sink out.old) (sink_at O.Sink out.new) }
+{
+    let mut reads = Meter::<R>::new(front.bytes(), reads);
+    let entries = taken(alloc, front.as_index(), include, &mut reads)?;
+    put_lines(alloc, entries.as_slice(), out)
+}
+
+/// Puts the lines of the taken entries of an image, piece by piece.
+pub fn put_list<O: Sink>(
+    alloc: Global,
+    front: &OpenFront,
+    include: &Option<List<Pattern>>,
+    out: &mut O,
+) -> Result<(), Stop>
+    ensures { (b : List ℕ) → IsFileOf front.now.bytes front.now.length b →
+        PutDoes (done (list_text b include.now)) result
+        (sink_at O.Sink out.old) (sink_at O.Sink out.new) }
+{
+    put_taken::<O, Brand>(alloc, front, include, out, Blank::new(1))?;
+    Ok(())
+}
