@@ -7,10 +7,9 @@ use crate::exclusion::{Dropping, drop_named};
 use crate::order::order;
 use crate::packages::list_packages;
 use crate::system_modules::drop_system_modules;
-use crate::workers::Workers;
 use jm_bytes::{Or, Text};
 use jm_class::{ClassFault, DEFAULT_RELEASE};
-use jm_halves::Gate;
+use jm_halves::{Gate, Workers};
 use jm_pool::Pool;
 use jm_words::Plugin;
 use std::alloc::Global;
@@ -26,13 +25,12 @@ pub struct BadClass {
 }
 
 /// What one plug-in makes of a pool, where classes are those of a release.
-fn act<T: Threads + Sync, G: Gate + Sync>(
-    workers: &Workers<T, G>,
+fn act<R: Threads + Sync, G: Gate + Sync>(
+    workers: &Workers<R, G>,
     release: u32,
     pool: Pool,
     plugin: &Plugin,
 ) -> Result<Pool, Or<BadClass>>
-    requires { 0 < workers.now.jobs }
     ensures { IfAnswered (Makes release plugin.now pool) result }
 {
     match plugin {
@@ -53,26 +51,16 @@ fn act<T: Threads + Sync, G: Gate + Sync>(
 /// the least place of such a class in the pool that it has then; want of memory at an earlier place
 /// is answered instead. A class that no plug-in takes is of any release.
 pub fn apply_for<R: Threads + Sync, G: Gate + Sync>(
-    rt: &R,
-    alloc: Global,
-    jobs: u32,
+    workers: &Workers<R, G>,
     release: u32,
     pool: Pool,
     list: &[Plugin],
-    gate: &G,
 ) -> Result<Pool, Or<BadClass>>
-    requires { 0 < jobs }
     ensures { IfAnswered (Applies release list.now pool) result }
 {
-    let workers = Workers {
-        rt,
-        alloc,
-        jobs,
-        gate,
-    };
     let mut pool = pool;
     for number in 0..list.len() {
-        pool = act(&workers, release, pool, &list[number])?;
+        pool = act(workers, release, pool, &list[number])?;
     }
     Ok(pool)
 }
@@ -89,5 +77,11 @@ pub fn apply<R: Threads + Sync, G: Gate + Sync>(
     requires { 0 < jobs }
     ensures { IfAnswered (Applies 21 list.now pool) result }
 {
-    apply_for(rt, alloc, jobs, DEFAULT_RELEASE, pool, list, gate)
+    let workers = Workers {
+        rt,
+        alloc,
+        jobs,
+        gate,
+    };
+    apply_for(&workers, DEFAULT_RELEASE, pool, list)
 }

@@ -10,11 +10,10 @@ ghost use Rattle.jm_plugins.specs.Steps.{ReadsByRule, Refuses, RemadeAs, TakenRe
 
 use crate::chain::BadClass;
 use crate::packages::{Keys, folders_by, is_descriptor, module_of};
-use crate::workers::Workers;
 use jm_bytes::{List, NoMemory, Or, Text};
 use jm_class::ClassFault;
 use jm_compact::compact_for;
-use jm_halves::{Gate, map_halves};
+use jm_halves::{Gate, Workers};
 use jm_packages::list_packages_for;
 use jm_pool::Pool;
 use jm_strip::strip_for;
@@ -139,25 +138,19 @@ fn put_remade(alloc: Global, pool: Pool, remade: List<Remade>) -> Result<Pool, O
 }
 
 /// Puts for each class of a release in a pool that a way takes its text made anew.
-pub fn remake_classes<T: Threads + Sync, G: Gate + Sync>(
-    workers: &Workers<T, G>,
+pub fn remake_classes<R: Threads + Sync, G: Gate + Sync>(
+    workers: &Workers<R, G>,
     release: u32,
     pool: Pool,
     way: Remaking,
 ) -> Result<Pool, Or<BadClass>>
-    requires { 0 < workers.now.jobs }
     ensures computed { IfAnswered
         (λ r. r ≡ remade_pairs release (taken_by way.entry) (text_of way.entry) pool) result }
     ensures read { IfAnswered (λ r. TakenRead release (taken_by way.entry) pool) result }
 {
-    let Workers {
-        rt,
-        alloc,
-        jobs,
-        gate,
-    } = *workers;
+    let alloc = workers.alloc;
     let places = class_places(alloc, &pool, way)?;
     let work = |place: &usize| remake_at(alloc, release, &pool, *place, way);
-    let remade = map_halves(rt, alloc, jobs, places.as_slice(), &work, gate)?;
+    let remade = workers.map(places.as_slice(), &work)?;
     put_remade(alloc, pool, remade)
 }

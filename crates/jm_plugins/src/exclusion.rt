@@ -3,9 +3,8 @@ ghost use Rattle.jm_plugins.specs.Steps.{is_dropped};
 
 use crate::places::places_below;
 use crate::system_modules::is_system_modules;
-use crate::workers::Workers;
 use jm_bytes::NoMemory;
-use jm_halves::{Gate, map_halves};
+use jm_halves::{Gate, Workers};
 use jm_pattern::{Pattern, matches_any};
 use jm_pool::Pool;
 use std::alloc::Global;
@@ -41,24 +40,17 @@ fn stays(pool: &Pool, way: Dropping, place: usize) -> bool
 }
 
 /// Drops the pairs whose name is dropped.
-pub fn drop_named<T: Threads + Sync, G: Gate + Sync>(
-    workers: &Workers<T, G>,
+pub fn drop_named<R: Threads + Sync, G: Gate + Sync>(
+    workers: &Workers<R, G>,
     pool: Pool,
     way: Dropping,
 ) -> Result<Pool, NoMemory>
-    requires { 0 < workers.now.jobs }
     ensures { IfOk result
         (λ left. left ≡ filter (λ pair. not (is_dropped way.entry pair.0)) pool) }
 {
-    let Workers {
-        rt,
-        alloc,
-        jobs,
-        gate,
-    } = *workers;
-    let places = places_below(alloc, pool.len())?;
+    let places = places_below(workers.alloc, pool.len())?;
     let look = |place: &usize| stays(&pool, way, *place);
-    let keep = map_halves(rt, alloc, jobs, places.as_slice(), &look, gate)?;
+    let keep = workers.map(places.as_slice(), &look)?;
     let mut pool = pool;
     pool.retain_flags(keep.as_slice());
     Ok(pool)

@@ -8,6 +8,5 @@ mod order;
 mod packages;
 mod places;
 mod system_modules;
-mod workers;
 
 pub use chain::{BadClass, apply, apply_for};

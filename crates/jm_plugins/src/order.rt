@@ -4,9 +4,8 @@ ghost use Rattle.jm_plugins.specs.Steps.{rank};
 ghost use Rattle.jm_plugins.specs.Turns.{IsByRank};
 
 use crate::places::places_below;
-use crate::workers::Workers;
 use jm_bytes::{List, NoMemory};
-use jm_halves::{Gate, map_halves};
+use jm_halves::{Gate, Workers};
 use jm_pattern::Pattern;
 use jm_pool::Pool;
 use std::alloc::Global;
@@ -68,24 +67,17 @@ fn places_of(alloc: Global, turns: &[Turn]) -> Result<List<usize>, NoMemory>
 
 /// Puts, pattern by pattern, the pairs that match it and no earlier one in front of those that
 /// match none.
-pub fn order<T: Threads + Sync, G: Gate + Sync>(
-    workers: &Workers<T, G>,
+pub fn order<R: Threads + Sync, G: Gate + Sync>(
+    workers: &Workers<R, G>,
     pool: Pool,
     patterns: &[Pattern],
 ) -> Result<Pool, NoMemory>
-    requires { 0 < workers.now.jobs }
     ensures { IfOk result (λ left. left ≡ ordered patterns.now pool) }
 {
-    let Workers {
-        rt,
-        alloc,
-        jobs,
-        gate,
-    } = *workers;
-    let places = places_below(alloc, pool.len())?;
+    let places = places_below(workers.alloc, pool.len())?;
     let look = |place: &usize| turn_at(&pool, patterns, *place);
-    let turns = map_halves(rt, alloc, jobs, places.as_slice(), &look, gate)?;
+    let turns = workers.map(places.as_slice(), &look)?;
     let sorted = by_rank(turns)?;
-    let order = places_of(alloc, sorted.as_slice())?;
+    let order = places_of(workers.alloc, sorted.as_slice())?;
     pool.reorder(order.as_slice())
 }

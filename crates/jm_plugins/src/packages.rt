@@ -1,5 +1,5 @@
 //! The packages of modules, from the names of a pool.
-ghost use Rattle.std.specs.Prelude.{◌≡◌, ◌<◌, ◌∷◌, ◌++◌, [], true, All, IfOk};
+ghost use Rattle.std.specs.Prelude.{◌≡◌, ◌∷◌, ◌++◌, [], true, All, IfOk};
 ghost use Rattle.std.specs.Prelude.{filter, option_map, OnOk};
 ghost use Rattle.std.specs.List.{filter_map};
 ghost use Rattle.jm_bytes.specs.Results.{IfAnswered};
@@ -16,10 +16,9 @@ ghost use Rattle.jm_plugins.specs.Steps.{TakenRead};
 
 use crate::chain::BadClass;
 use crate::classes::{Remaking, remake_classes};
-use crate::workers::Workers;
 use jm_bytes::{List, NoMemory, Or, Text, copy_of, extend};
 use jm_form::{path_of, rising};
-use jm_halves::Gate;
+use jm_halves::{Gate, Workers};
 use jm_modpath::names_of_folder;
 use jm_names::{cut_at_first, cut_at_last, dotted};
 use jm_packages::{is_package_name, stays};
@@ -164,12 +163,11 @@ fn all_stay(alloc: Global, release: u32, pool: &Pool) -> Result<bool, NoMemory>
 
 /// Puts for the descriptor of each module its class with the module's packages. The keys of folders
 /// are looked for only where a descriptor is to change.
-pub fn list_packages<T: Threads + Sync, G: Gate + Sync>(
-    workers: &Workers<T, G>,
+pub fn list_packages<R: Threads + Sync, G: Gate + Sync>(
+    workers: &Workers<R, G>,
     release: u32,
     pool: Pool,
 ) -> Result<Pool, Or<BadClass>>
-    requires { 0 < workers.now.jobs }
     ensures computed { IfAnswered
         (λ r. r ≡ remade_pairs release is_descriptor (listing_text (names_of pool)) pool) result }
     ensures read { IfAnswered (λ r. TakenRead release is_descriptor pool) result }

@@ -1,14 +1,13 @@
 //! The classes of java.base with which a JVM knows the modules of its image beforehand.
-ghost use Rattle.std.specs.Prelude.{◌≡◌, ◌<◌, map, IfOk, OnOk};
+ghost use Rattle.std.specs.Prelude.{◌≡◌, map, IfOk, OnOk};
 ghost use Rattle.std.specs.Str.{bytes_eq};
 ghost use Rattle.jm_plugins.specs.SystemModules.{is_class_here, is_system_modules, map_name};
 ghost use Rattle.jm_plugins.specs.SystemModules.{plain_map_text, with_plain_map};
 ghost use Rattle.jm_plugins.specs.SystemModules.{without_system_modules};
 
 use crate::exclusion::{Dropping, drop_named};
-use crate::workers::Workers;
 use jm_bytes::{NoMemory, Text};
-use jm_halves::Gate;
+use jm_halves::{Gate, Workers};
 use jm_pool::Pool;
 use std::alloc::Global;
 use std::thread::Threads;
@@ -86,11 +85,10 @@ fn put_plain_map(alloc: Global, pool: &mut Pool) -> Result<(), NoMemory>
 
 /// Drops the classes that name all modules of an image, and puts the plain map for the one that
 /// tells of them. A JVM then goes by the descriptors of its modules.
-pub fn drop_system_modules<T: Threads + Sync, G: Gate + Sync>(
-    workers: &Workers<T, G>,
+pub fn drop_system_modules<R: Threads + Sync, G: Gate + Sync>(
+    workers: &Workers<R, G>,
     pool: Pool,
 ) -> Result<Pool, NoMemory>
-    requires { 0 < workers.now.jobs }
     ensures { IfOk result (λ left. left ≡ without_system_modules pool) }
 {
     let mut pool = drop_named(workers, pool, Dropping::SystemModules)?;

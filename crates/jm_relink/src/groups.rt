@@ -52,11 +52,11 @@ fn described<'a>(group: Option<ModuleFiles<'a>>) -> Option<ModuleEntries<'a>>
 }
 
 /// A module without files.
-fn begun<'a>(alloc: Global, module: &[u8]) -> Result<ModuleFiles<'a>, NoMemory>
-    ensures { IfOk result (λ group. group ≡ begun_group «module».now) }
+fn begun<'a>(alloc: Global, called: &[u8]) -> Result<ModuleFiles<'a>, NoMemory>
+    ensures { IfOk result (λ group. group ≡ begun_group called.now) }
 {
     Ok(ModuleFiles {
-        module: Text::copy_of(alloc, module)?,
+        module: Text::copy_of(alloc, called)?,
         info: None,
         files: List::new(alloc),
     })
@@ -68,15 +68,15 @@ fn group_of<'a>(
     alloc: Global,
     done: &mut List<ModuleEntries<'a>>,
     current: Option<ModuleFiles<'a>>,
-    module: &[u8],
+    called: &[u8],
 ) -> Result<ModuleFiles<'a>, NoMemory>
     requires { IfSome current KnowsInfo }
-    ensures name { IfOk result (λ group. group.module ≡ «module».now) }
+    ensures name { IfOk result (λ group. group.module ≡ called.now) }
     ensures group { (b : List ℕ) → IfOk result (λ group. (f : Named) (rest : List Filed)
         → map (group_in b) done.new
-        ++ described_from (Some (files_of b group)) ((«module».now, f) ∷ rest)
+        ++ described_from (Some (files_of b group)) ((called.now, f) ∷ rest)
         ≡ map (group_in b) done.old
-        ++ described_from (option_map (files_of b) current.entry) ((«module».now, f) ∷ rest)) }
+        ++ described_from (option_map (files_of b) current.entry) ((called.now, f) ∷ rest)) }
     ensures info { IfOk result KnowsInfo }
     ensures infos { All HasExtent done.old → IfOk result (λ _. All HasExtent done.new) }
     ensures within { (size : ℕ) → All (FilesWithin size) done.old
@@ -84,13 +84,13 @@ fn group_of<'a>(
         → IfOk result (λ group. All (FilesWithin size) done.new × GroupWithin size group) }
 {
     let Some(group) = current else {
-        return begun(alloc, module);
+        return begun(alloc, called);
     };
-    if group.module.as_slice() == module {
+    if group.module.as_slice() == called {
         return Ok(group);
     }
     push_some(done, described(Some(group)))?;
-    begun(alloc, module)
+    begun(alloc, called)
 }
 
 /// The files of a module with one more, of this path.

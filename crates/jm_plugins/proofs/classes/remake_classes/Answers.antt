@@ -6,8 +6,8 @@ use Rattle.jm_plugins.proofs.Beside.{each_told}
 use Rattle.jm_plugins.proofs.ClassLaws.{answered, classes_within, remade_within, put_all, taken_read, unless_then}
 use Rattle.jm_plugins.proofs.classes.remake_classes.Goals as goal
 
-pub map_halves-requires-clause-callable : goal.map_halves-requires-clause-callable
-map_halves-requires-clause-callable g c κs few =
+pub map-requires-clause-callable : goal.map-requires-clause-callable
+map-requires-clause-callable g c κs few =
     let pool = c.args.pool in
     let below = subst (All (λ place. place < length pool)) (sym (c.as_slice.ensures ∙ c.in_ok-places.ensures))
     (classes_within (taken_by c.args.way) pool) in

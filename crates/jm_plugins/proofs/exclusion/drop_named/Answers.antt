@@ -6,8 +6,8 @@ use Rattle.jm_plugins.specs.Steps.{is_dropped}
 use Rattle.jm_plugins.proofs.Beside.{below_count, each_told, flagged_filter, mapped_beside}
 use Rattle.jm_plugins.proofs.exclusion.drop_named.Goals as goal
 
-pub map_halves-requires-clause-callable : goal.map_halves-requires-clause-callable
-map_halves-requires-clause-callable g c κs within x there lives ptr same room unit fits =
+pub map-requires-clause-callable : goal.map-requires-clause-callable
+map-requires-clause-callable g c κs within x there lives ptr same room unit fits =
     below_count _ _ x.now (c.as_slice.ensures ∙ c.in_ok-places.ensures ∙ ap (range_with_len 0) c.len.ensures.len) there
 
 pub retain_flags-requires : goal.retain_flags-requires

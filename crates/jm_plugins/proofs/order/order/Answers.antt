@@ -6,8 +6,8 @@ use Rattle.jm_plugins.proofs.Beside.{below_count, each_told}
 use Rattle.jm_plugins.proofs.TurnLaws.{IsTurnAt, all_in_order, in_order, turns_are}
 use Rattle.jm_plugins.proofs.order.order.Goals as goal
 
-pub map_halves-requires-clause-callable : goal.map_halves-requires-clause-callable
-map_halves-requires-clause-callable g c κs within x there lives ptr same room unit fits kept =
+pub map-requires-clause-callable : goal.map-requires-clause-callable
+map-requires-clause-callable g c κs within x there lives ptr same room unit fits kept =
     below_count _ _ x.now (c.as_slice.ensures ∙ c.in_ok-places.ensures ∙ ap (range_with_len 0) c.len.ensures.len) there
 
 pub reorder-requires : goal.reorder-requires
