@@ -11,6 +11,7 @@ use std::alloc::Global;
 use std::thread::Threads;
 
 /// The jobs that work a list or a range of places in pieces, and what they work with.
+#[derive(Drop)]
 pub struct Workers<'a, R, G> {
     pub rt: &'a R,
     /// Where answers take their memory.
