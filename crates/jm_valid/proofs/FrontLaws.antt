@@ -5,7 +5,7 @@ use Rattle.jm_form.specs.declared.container.Header.{Header}
 use Rattle.jm_form.specs.Damages.{front_damage, front_damage_with, image_checks_with}
 use Rattle.jm_form.specs.Head.{HoldsIndex, IsFileOf, header_of}
 use Rattle.jm_form.specs.Validity.{Valid, ValidAs}
-use Rattle.jm_form.proofs.LocalityLaws.{damage_same, front_valid, header_of_front, whole_file, whole_index}
+use Rattle.jm_form.proofs.LocalityLaws.{damage_same, front_valid, whole_file, whole_index}
 use Rattle.jm_form.proofs.Validity.{valid_sound}
 use Rattle.jm_valid.specs.declared.open_error.OpenError.{OpenError}
 use Rattle.jm_valid.specs.declared.open_error.OpenError.TheVariants.{Damaged, Memory}
@@ -41,10 +41,6 @@ reported f size s b Memory file holds are says = tt
 -- and where none was found the file is valid
 pub index_valid : (f : List ℕ) (size : ℕ) (b : List ℕ) (h : Header) → IsFileOf f size b → IsIndexOf f size h → ValidAs b h
 index_valid f size b h file index = front_valid f size b h file index.holds index.header index.sound
-
--- the header is that of the front alone, too
-pub index_header : (f : List ℕ) (size : ℕ) (h : Header) → IsIndexOf f size h → header_of f ≡ Ok h
-index_header f size h index = header_of_front f size h index.header (index.holds.index h index.header)
 
 -- The whole file
 
