@@ -1,8 +1,8 @@
 -- A text of the strings that is a name: the name's bytes and a zero byte stand at its place.
-use Rattle.std.proofs.Common.{◌≡◌, ◌==◌, ℕ, ◌+◌, ◌-◌, ◌<◌, ◌≤◌, true, List, [], ◌∷◌, Ok, length, take, drop}
+use Rattle.std.proofs.Common.{◌≡◌, ◌==◌, ℕ, ◌+◌, ◌-◌, ◌<◌, ◌≤◌, false, true, List, [], ◌∷◌, Ok, length, take, drop}
 use Rattle.std.proofs.Common.{get_or, slice_range, ap, sym, ◌∙◌, arith, length-drop}
 use Rattle.std.proofs.Math.Seq.{drop-cons}
-use Rattle.std.proofs.lemmas.Bool.{eqb-true, true_from_ne_false}
+use Rattle.std.proofs.lemmas.Bool.{eqb-true, false_from_ne_true, true_from_ne_false}
 use Rattle.std.proofs.lemmas.List.{drop-take, length-take-le, take-take}
 use Rattle.std.proofs.lemmas.List.Sums.{passes_at_first}
 use Rattle.std.proofs.lemmas.Slice.Eq.{bytes_eq-Decides}
@@ -83,3 +83,21 @@ begins section name place ends same =
 pub text_of_front : (section : List ℕ) (place n : ℕ) → list_any (λ x. x == 0) (take n (drop place section)) ≡ true
     → text_at (take n (drop place section)) 0 ≡ text_at section place
 text_of_front section place n some = (before_first-take (λ x. x == 0) n (drop place section) some).0
+
+-- a name that doesn't begin so is not the text
+pub other_text : (b : List ℕ) (h : Header) (place : ℕ) (name : List ℕ) → header_of b ≡ Ok h
+    → text_ends (strings b (head b)) place ≡ true → (Begins (drop place (strings b h)) name → ⊥)
+    → false ≡ bytes_eq name (text_at (strings b (head b)) place)
+other_text b h place name read ends never =
+    let at = head_is b h read in
+    let ends_here = ap (λ g. text_ends (strings b g) place) (sym at) ∙ ends in
+    rw at (sym (false_from_ne_true (bytes_eq name (text_at (strings b h) place))
+    (λ same. never (begins (strings b h) name place ends_here same))))
+
+-- a text that ends among the bytes that were looked at is the text
+pub text_looked : (b : List ℕ) (h : Header) (place : ℕ) (name part text : List ℕ) → header_of b ≡ Ok h → Looked b h place name part
+    → true ≡ text_ends part 0 → text ≡ text_at part 0 → text ≡ text_at (strings b (head b)) place
+text_looked b h place name part text read part_is ends is =
+    let some : true ≡ list_any (λ x. x == 0) (take (length name + 1) (drop place (strings b h))) = ends
+    ∙ ap (λ l. text_ends l 0) part_is.is in
+    rw (head_is b h read) (is ∙ ap (λ l. text_at l 0) part_is.is ∙ text_of_front (strings b h) place (length name + 1) (sym some))

@@ -1,6 +1,5 @@
 -- The first bad word, and where no word is bad.
-use Rattle.std.proofs.Common.{◌≡◌, ℕ, ◌+◌, ◌*◌, ◌<◌, inl, inr, not, Bool, true, false, Some, None, refl, ap, ◌∙◌, arith}
-use Rattle.std.proofs.lemmas.Bool.{cases_lt}
+use Rattle.std.proofs.Common.{◌≡◌, ℕ, ◌*◌, ◌<◌, not, Bool, true, false, Some, None, refl, ap, arith}
 use Rattle.jm_bytes.specs.Checks.{fault_if}
 use Rattle.jm_bytes.proofs.CheckLaws.{fault_if_false, fault_if_none, first_fault_least, no_fault_between, no_fault_from_between}
 use Rattle.jm_jrt.specs.declared.jrt_error.JrtError.TheVariants.{BadNode}
@@ -25,11 +24,3 @@ passes false e = cc
 pub sound_below : (s : ℕ → Bool) (n : ℕ) → words_fault s n ≡ None → (k : ℕ) → k < n → s k ≡ true
 sound_below s n none k below =
     passes (s k) (fault_if_none (not (s k)) (BadNode (4 * k)) (no_fault_between (word_fault s) 0 n none k (omega arith) (omega arith)))
-
--- with one more sound word all so far are sound
-pub sound_more : (s : ℕ → Bool) (n : ℕ) → ((j : ℕ) → j < n → s j ≡ true) → s n ≡ true → (j : ℕ) → j < n + 1 → s j ≡ true
-sound_more s n before here j below =
-    elim (cases_lt j n) [
-      | inl low ↦ before j low
-      | inr high ↦ let same : j ≡ n = omega arith in ap s same ∙ here
-    ]

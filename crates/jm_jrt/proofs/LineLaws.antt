@@ -120,9 +120,6 @@ answered_all (suc most) (first ∷ done) more good within =
     ∙ ap (λ (rest : List (List ℕ)). first ∷ rest) (answered_all most done more (All-tail IsLine first done good) (omega arith)
     ∙ ap (λ (n : ℕ). done ++ answered n more) (omega arith))
 
-pub answered_none : (more : List (List ℕ)) → answered 0 more ≡ []
-answered_none more = refl
-
 pub answered_long : (most : ℕ) (first : List ℕ) (more : List (List ℕ)) → 8192 < length first → answered most (first ∷ more) ≡ []
 answered_long zero first more long = refl
 answered_long (suc most) first more long =

@@ -1,6 +1,6 @@
 -- What holds of a content without a bad word, and its items from one on.
-use Rattle.std.proofs.Common.{◌≡◌, ℕ, suc, ◌+◌, ◌-◌, ◌*◌, ◌%◌, ◌==◌, ◌<◌, ◌≤◌, ◌&&◌, nat_lt, Bool, true}
-use Rattle.std.proofs.Common.{false, List, [], ◌∷◌, length, Option, None, Some, is_some, IfSome, Bor, refl}
+use Rattle.std.proofs.Common.{◌≡◌, ℕ, suc, ◌+◌, ◌-◌, ◌*◌, ◌%◌, ◌==◌, ◌<◌, ◌&&◌, nat_lt, Bool, true}
+use Rattle.std.proofs.Common.{false, List, ◌∷◌, length, None, Some, refl}
 use Rattle.std.proofs.Common.{ap, ◌∙◌, arith}
 use Rattle.std.proofs.lemmas.List.{length-map}
 use Rattle.std.proofs.lemmas.List.FromFn.{length-range_with_len}
@@ -38,11 +38,6 @@ pub names_more : (b : List ℕ) (content : List ℕ) (k : ℕ) → k < word_coun
     ≡ name_told b (word_of b content k) ∷ names_left b content (k + 1)
 names_more b content k below =
     let size : word_count content - k ≡ suc (word_count content - (k + 1)) = omega arith in
-    ap (λ (n : ℕ). names_from b content k n) size
-
-pub names_end : (b : List ℕ) (content : List ℕ) (k : ℕ) → word_count content ≤ k → names_left b content k ≡ []
-names_end b content k past =
-    let size : word_count content - k ≡ 0 = omega arith in
     ap (λ (n : ℕ). names_from b content k n) size
 
 pub names_length : (b : List ℕ) (content : List ℕ) (k : ℕ) → length (names_left b content k) ≡ word_count content - k
@@ -86,11 +81,6 @@ owners_more b content k below =
     let size : pair_count content - k ≡ suc (pair_count content - (k + 1)) = omega arith in
     ap (λ (n : ℕ). owners_from b content k n) size
 
-pub owners_end : (b : List ℕ) (content : List ℕ) (k : ℕ) → pair_count content ≤ k → owners_left b content k ≡ []
-owners_end b content k past =
-    let size : pair_count content - k ≡ 0 = omega arith in
-    ap (λ (n : ℕ). owners_from b content k n) size
-
 pub owners_length : (b : List ℕ) (content : List ℕ) (k : ℕ) → length (owners_left b content k) ≡ pair_count content - k
 owners_length b content k =
     length-map (range_with_len k (pair_count content - k)) (owner_told b content) ∙ length-range_with_len k (pair_count content - k)
@@ -105,17 +95,6 @@ full_later o os empty = rw empty refl
 
 -- An owner that is a module
 
-pub any_here : (name : List ℕ) (o : Owner) (os : List Owner) → bytes_eq name o.module ≡ true
-    → list_any (λ o. bytes_eq name o.module) (o ∷ os) ≡ true
-any_here name o os same = rw same refl
-
 pub any_later : (name : List ℕ) (o : Owner) (os : List Owner) → bytes_eq name o.module ≡ false
     → list_any (λ o. bytes_eq name o.module) (o ∷ os) ≡ list_any (λ o. bytes_eq name o.module) os
 any_later name o os other = rw other refl
-
--- The text that is there
-
-pub text_there : (o : Option (Bor (List ℕ))) (x y : List ℕ) → is_some o ≡ true → IfSome o (λ t. t.now ≡ y)
-    → IfSome o (λ t. x ≡ t.now) → x ≡ y
-text_there None x y there first second = cc
-text_there (Some t) x y there first second = second ∙ first

@@ -152,11 +152,6 @@ no_package_above path is = false_from_ne_true (is_package_node (before_last is_s
 
 -- Names of nodes are those of nodes
 
-node_of_some : (a b c d : Bool) → (a || b) ≡ true → (a || b || (c || d)) ≡ true
-node_of_some true b c d e = refl
-node_of_some false true c d e = refl
-node_of_some false false c d e = cc
-
 node_of_third : (a b c d : Bool) → c ≡ true → (a || b || (c || d)) ≡ true
 node_of_third true b c d e = refl
 node_of_third false true c d e = refl
@@ -167,10 +162,6 @@ node_of_last true b c d e = refl
 node_of_last false true c d e = refl
 node_of_last false false true d e = refl
 node_of_last false false false d e = e
-
-pub root_is_node : (path : List ℕ) → is_root path ≡ true → is_node path ≡ true
-root_is_node path is =
-    node_of_some (bytes_eq path (codes "/modules")) (bytes_eq path (codes "/packages")) (is_inner path) (is_package_node path) is
 
 pub inner_is_node : (path : List ℕ) → is_inner path ≡ true → is_node path ≡ true
 inner_is_node path is =

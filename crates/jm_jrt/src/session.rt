@@ -259,9 +259,9 @@ fn serve_ended<I: Source, O: Sink, H: Ledger, R: Ledger>(
 /// where it has a byte. How the source cuts its bytes shows nowhere.
 ///
 /// What was put before an error stays: the replies to the earlier lines, after `WriteFault` and a
-/// front of one more, and after `ReadFault` those to the lines whose newline the source gave. Of the
-/// input it took no more than these lines, the beginning of the next one, of at most 8,192 bytes,
-/// and one piece of 65,536. It costs at most four hashes for each line.
+/// front of one more, and after `ReadFault` those to the lines whose newline the source gave. Of
+/// the input it took no more than these lines, the beginning of the next one, of at most 8,192
+/// bytes, and one piece of 65,536. It costs at most four hashes for each line.
 pub fn serve<I: Source, O: Sink, H: Ledger, R: Ledger>(
     alloc: Global,
     image: &Image,

@@ -5,7 +5,7 @@ ghost use Rattle.jm_form.specs.Texts.{ended_length, text_ends};
 ghost use Rattle.jm_reader.specs.Look.{head};
 ghost use Rattle.jm_reader.specs.Walk.{IsLater};
 ghost use Rattle.jm_jrt.specs.Nodes.{on_ok};
-ghost use Rattle.jm_jrt.specs.Told.{all_told, fault_of, is_word_sound, told_in};
+ghost use Rattle.jm_jrt.specs.Told.{all_told, fault_of, is_word_sound, told_in, words_read};
 ghost use Rattle.jm_jrt.specs.Told as told;
 
 use crate::jrt_error::JrtError;
@@ -35,6 +35,16 @@ pub fn pair_count(content: &[u8]) -> usize
     ensures { result ≡ told.pair_count content.now }
 {
     (content.len() + 7) / 8
+}
+
+/// How many words a content of this form is read as.
+fn words_in(content: &[u8], form: Form) -> usize
+    ensures { result ≡ words_read content.now form }
+{
+    match form {
+        Form::Children => word_count(content),
+        Form::Owners => 2 * pair_count(content),
+    }
 }
 
 /// Word `k` of a content.
@@ -118,11 +128,7 @@ pub fn check<R: Ledger>(
     let strings = buf.part(header.strings_place(), header.strings as usize, reads);
     let length = ended_texts(strings).len() as u64;
     let ended = Ended { index, length };
-    let count = match form {
-        Form::Children => word_count(content),
-        Form::Owners => 2 * pair_count(content),
-    };
-    for k in 0..count {
+    for k in 0..words_in(content, form) {
         if !ended.is_sound(content, form, k, reads) {
             return Err(JrtError::BadNode(4 * k));
         }

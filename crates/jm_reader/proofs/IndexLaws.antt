@@ -1,8 +1,8 @@
 -- What an index says of names and rows is what each file says that begins so.
-use Rattle.std.proofs.Common.{◌≡◌, ℕ, ◌+◌, ◌-◌, ◌≤◌, Bool, true, false, cond, List, ◌++◌, length, take, drop}
+use Rattle.std.proofs.Common.{◌≡◌, ℕ, ◌+◌, ◌-◌, ◌≤◌, Bool, true, false, cond, List, ◌++◌, length}
 use Rattle.std.proofs.Common.{Option, Some, None, option_map, Ok, refl, sym, ap, ◌∙◌, subst, arith, length-append, length-drop}
 use Rattle.std.proofs.Common.{[], ◌∷◌, ◌<◌, All, Err, Result, map, length-take}
-use Rattle.std.proofs.lemmas.List.{drop-drop, length-replicate, take_at}
+use Rattle.std.proofs.lemmas.List.{length-replicate, take_at}
 use Rattle.std.proofs.lemmas.List.Elements.{All-head, All-tail}
 use Rattle.std.proofs.lemmas.Slice.Eq.{bytes_eq-Decides}
 use Rattle.std.proofs.Math.ListN.{replicate}
@@ -258,11 +258,3 @@ pub lies_within : (f : List ℕ) (size : ℕ) (h : Header) (row : Row) → heade
     → row.offset + row.size ≤ size - index_length h
 lies_within f size h row read sound =
     (subst (λ g. SoundRowWith (strings f g) (contents_size size g) row) (head_is f h read) sound).within
-
--- the content of a row stands behind the index of the file
-pub content_from : (b : List ℕ) (h : Header) (row : Row) (place : ℕ) → header_of b ≡ Ok h → place ≡ index_length h + row.offset
-    → take row.size (drop place b) ≡ content_of (contents b (head b)) row
-content_from b h row place read is =
-    ap (λ n. take row.size (drop n b)) is
-    ∙ sym (ap (take row.size) (drop-drop row.offset (index_length h) b))
-    ∙ ap (λ g. content_of (contents b g) row) (sym (head_is b h read))

@@ -1,7 +1,6 @@
 pub mod HeadLaws
 pub mod IndexLaws
 pub mod MarkLaws
-pub mod NameTexts
 pub mod OrderLaws
 pub mod ViewLaws
 pub mod WalkLaws

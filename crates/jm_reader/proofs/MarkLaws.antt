@@ -90,11 +90,6 @@ front_marked before after text name n k some fits is mark =
     let sum : (behind_mark before name).0 + (n + k) ≡ (behind_mark before name).0 + n + k = omega arith in
     (shape ∙ ap (λ l. option_to_list before ++ l) whole ∙ put.0 ∙ ap (λ (j : ℕ). take j name) sum, (let fit = put.1 in omega arith))
 
--- an empty text takes nothing
-pub front_empty : (before after : Option ℕ) (text name : List ℕ) → text ≡ take 0 (behind_mark before name).1
-    → marked before after text ≡ take 0 name
-front_empty before after text name is = ap (marked before after) is
-
 -- a name of which the first text with its marks is no front is not spelled
 pub not_spelled : (bytes name : List ℕ) (texts : List MarkedText) (d : MarkedText) → 0 < length texts
     → ((n : ℕ) → marked_text bytes (get_or texts 0 d) ≢ take n name) → name ≢ spelling bytes texts

@@ -1,11 +1,11 @@
 -- What was found of a front with the index holds of each file that begins so.
-use Rattle.std.proofs.Common.{◌≡◌, ℕ, List, length, None, Ok, sym, ap, ◌∙◌, subst}
+use Rattle.std.proofs.Common.{◌≡◌, ℕ, List, length, None, Ok, sym, ap, ◌∙◌}
 use Rattle.jm_bytes.specs.Checks.{first_fault}
 use Rattle.jm_form.specs.declared.container.Header.{Header}
 use Rattle.jm_form.specs.Damages.{front_damage, front_damage_with, image_checks_with}
 use Rattle.jm_form.specs.Head.{HoldsIndex, IsFileOf, header_of}
 use Rattle.jm_form.specs.Validity.{Valid, ValidAs}
-use Rattle.jm_form.proofs.LocalityLaws.{damage_same, front_valid, header_of_front, whole_file, whole_index}
+use Rattle.jm_form.proofs.LocalityLaws.{damage_same, front_valid, whole_file, whole_index}
 use Rattle.jm_form.proofs.Validity.{valid_sound}
 use Rattle.jm_valid.specs.declared.open_error.OpenError.{OpenError}
 use Rattle.jm_valid.specs.declared.open_error.OpenError.TheVariants.{Damaged, Memory}
@@ -21,33 +21,26 @@ sections_damage f size s are =
     ap (λ l. first_fault (image_checks_with l s.header s.size)) are.bytes ∙ ap (λ n. first_fault (image_checks_with f s.header n)) are.size
     ∙ sym (ap (front_damage_with f size) are.header)
 
-pub sections_index : (f : List ℕ) (size : ℕ) (s : Sections) (h : Header) → HoldsIndex f size → AreSectionsOf f size s → h ≡ s.header
-    → body_damage_in s ≡ None → IsIndexOf f size h
-sections_index f size s h holds are same none = record {
+pub sections_index : (f : List ℕ) (size : ℕ) (s : Sections) → HoldsIndex f size → AreSectionsOf f size s → body_damage_in s ≡ None
+    → IsIndexOf f size s.header
+sections_index f size s holds are none = record {
   holds = holds;
-  header = are.header ∙ ap Ok (sym same);
+  header = are.header;
   sound = sym (sections_damage f size s are) ∙ none;
 }
 
-pub sections_report : (f : List ℕ) (size : ℕ) (s : Sections) (e : OpenError) → AreSectionsOf f size s → Reports (body_damage_in s) e
-    → Reports (front_damage f size) e
-sections_report f size s e are = subst (λ d. Reports d e) (sections_damage f size s are)
-
 -- Files
 
--- a damage that was found in the front is the first one of the file
-pub reported : (f : List ℕ) (size : ℕ) (b : List ℕ) (e : OpenError) → IsFileOf f size b → HoldsIndex f size
-    → Reports (front_damage f size) e → IsDamageOf b e
-reported f size b (Damaged damage) file holds says = sym (damage_same f size b file holds) ∙ says
-reported f size b Memory file holds says = tt
+-- a damage that was found behind the header is the first one of the file
+pub reported : (f : List ℕ) (size : ℕ) (s : Sections) (b : List ℕ) (e : OpenError) → IsFileOf f size b → HoldsIndex f size
+    → AreSectionsOf f size s → Reports (body_damage_in s) e → IsDamageOf b e
+reported f size s b (Damaged damage) file holds are says =
+    sym (damage_same f size b file holds) ∙ sym (sections_damage f size s are) ∙ says
+reported f size s b Memory file holds are says = tt
 
 -- and where none was found the file is valid
 pub index_valid : (f : List ℕ) (size : ℕ) (b : List ℕ) (h : Header) → IsFileOf f size b → IsIndexOf f size h → ValidAs b h
 index_valid f size b h file index = front_valid f size b h file index.holds index.header index.sound
-
--- the header is that of the front alone, too
-pub index_header : (f : List ℕ) (size : ℕ) (h : Header) → IsIndexOf f size h → header_of f ≡ Ok h
-index_header f size h index = header_of_front f size h index.header (index.holds.index h index.header)
 
 -- The whole file
 

@@ -1,7 +1,6 @@
 pub mod BodyLaws
 pub mod EntryRows
 pub mod FrontLaws
-pub mod LeastFault
 pub mod LeastRanges
 pub mod NameLaws
 pub mod PartLaws

@@ -1,5 +1,5 @@
 -- The texts of a row's name in the strings' front, and the states after them.
-use Rattle.std.proofs.Common.{◌≡◌, ℕ, suc, ◌+◌, ◌<◌, ◌==◌, ◌&&◌, not, Bool, true, false, cond, List, [], ◌∷◌}
+use Rattle.std.proofs.Common.{◌≡◌, ℕ, suc, ◌+◌, ◌<◌, ◌==◌, not, Bool, true, false, cond, List, [], ◌∷◌}
 use Rattle.std.proofs.Common.{◌++◌, append-nil, length, take, drop, get_or, refl, sym, ap, ◌∙◌, arith}
 use Rattle.std.proofs.Math.Seq.{drop-cons}
 use Rattle.std.proofs.lemmas.Bool.{ltb-true}
@@ -79,11 +79,3 @@ joined_state cut s =
     state_after-append s m (p ++ (cut.base ++ e)) ∙ state_after-append (state_after s m) p (cut.base ++ e)
     ∙ state_after-append (state_after (state_after s m) p) cut.base e
     ))
-
--- each of the four texts ends where all do
-pub each_ends : (a b c d : Bool) → a && b && c && d ≡ true → (a ≡ true) × (b ≡ true) × (c ≡ true) × (d ≡ true)
-each_ends true true true true all = (refl, refl, refl, refl)
-each_ends false b c d all = cc
-each_ends true false c d all = cc
-each_ends true true false d all = cc
-each_ends true true true false all = cc

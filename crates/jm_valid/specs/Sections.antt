@@ -4,7 +4,6 @@ use Rattle.jm_bytes.specs.Checks.{first_fault}
 use Rattle.jm_form.specs.declared.damage.Damage.{Damage}
 use Rattle.jm_form.specs.declared.rows.Row.{Row}
 use Rattle.jm_form.specs.Damages.{entries_checks, image_checks_with, row_checks, slot_fault_with}
-use Rattle.jm_form.specs.Damages.{slot_faults_with}
 use Rattle.jm_form.specs.Entries.{Entry, entries, entry_of, is_reached, row_at}
 use Rattle.jm_form.specs.Head.{header_with}
 use Rattle.jm_form.specs.Places.{contents_size, strings}
@@ -32,10 +31,6 @@ row_fault_in s slot row = first_fault (row_checks slot (strings_in s) s.size row
 -- the first fault of a slot
 abbrev pub slot_fault_in : Sections → ℕ → Option Damage
 slot_fault_in s slot = slot_fault_with s.bytes.now s.header s.size slot
-
--- the first fault of the least slot that has one
-abbrev pub least_fault_in : Sections → Option Damage
-least_fault_in s = first_fault (slot_faults_with s.bytes.now s.header s.size)
 
 -- no slot has a fault
 abbrev pub IsSound : Sections → Type 0

@@ -11,7 +11,7 @@ use crate::sections::Sections;
 use crate::slots::entry_row;
 use jm_bytes::{List, NoMemory};
 use jm_form::Range;
-use jm_halves::{Gate, map_halves};
+use jm_halves::{Gate, Workers};
 use std::alloc::Global;
 use std::marker::Brand;
 use std::sync::ledger::Blank;
@@ -102,22 +102,19 @@ fn add_part(all: &mut Contents, part: &Result<Contents, NoMemory>) -> Result<(),
 /// The entries of an image none of whose slots has a fault, looked for in parts that the jobs
 /// share.
 pub fn contents_of<R: Threads + Sync, G: Gate + Sync>(
-    rt: &R,
-    alloc: Global,
-    jobs: u32,
+    workers: &Workers<R, G>,
     sections: &Sections,
-    gate: &G,
 ) -> Result<Contents, NoMemory>
-    requires jobs { 0 < jobs }
-    requires sound { IsSound sections.now }
+    requires { IsSound sections.now }
     ensures count { IfOk result (λ c. c.count ≡ length (entries_in sections.now)) }
     ensures ranges { IfOk result (λ c. c.ranges.items
         ≡ ranges_with_bytes (ranges_of (entries_in sections.now))) }
 {
+    let alloc = workers.alloc;
     let names = Names::of(alloc, sections)?;
     let firsts = parts_of(alloc, sections.header.length)?;
     let look = |first: &u32| contents_of_slots(alloc, &names, *first, PART);
-    let parts = map_halves(rt, alloc, jobs, firsts.as_slice(), &look, gate)?;
+    let parts = workers.map(firsts.as_slice(), &look)?;
     let mut all = Contents {
         count: 0,
         ranges: Vec::new(alloc),

@@ -1,12 +1,12 @@
 ghost use Rattle.std.specs.Prelude.{◌≡◌, ◌<◌, ℕ, List, length, None, IfOk, IfErr, OnOk};
-ghost use Rattle.jm_form.specs.Damages.{front_damage};
 ghost use Rattle.jm_form.specs.Head.{HoldsIndex, IsFileOf};
 ghost use Rattle.jm_form.specs.Overlap.{ranges_of};
 ghost use Rattle.jm_form.specs.Validity.{Valid};
+ghost use Rattle.jm_halves.specs.First.{IsFirstIn};
 ghost use Rattle.jm_valid.specs.Opened.{IsDamageOf, Reports};
 ghost use Rattle.jm_valid.specs.Ranges.{ranges_with_bytes};
-ghost use Rattle.jm_valid.specs.Sections.{AreSectionsOf, body_damage_in, entries_damage_in};
-ghost use Rattle.jm_valid.specs.Sections.{entries_in};
+ghost use Rattle.jm_valid.specs.Sections.{AreSectionsOf, body_damage_in, entries_in};
+ghost use Rattle.jm_valid.specs.Sections.{slot_fault_in, IsSound};
 
 use crate::entries::{Contents, contents_alone, contents_of};
 use crate::image::Image;
@@ -16,7 +16,7 @@ use crate::overlap::first_overlap;
 use crate::sections::{Sections, ended_texts};
 use crate::slots::slot_fault;
 use jm_form::{Damage, read_header_of};
-use jm_halves::{Gate, first_between, first_some};
+use jm_halves::{Gate, Workers, first_between};
 use std::alloc::Global;
 use std::thread::Threads;
 
@@ -25,7 +25,7 @@ use std::thread::Threads;
 fn sections_of<'a>(front: &'a [u8], length: u64) -> Result<Sections<'a>, OpenError>
     requires { HoldsIndex front.now length }
     ensures sections { IfOk result (AreSectionsOf front.now length) }
-    ensures damaged { IfErr result (Reports (front_damage front.now length)) }
+    ensures damaged { (b : List ℕ) → IsFileOf front.now length b → IfErr result (IsDamageOf b) }
 {
     match read_header_of(front, length) {
         Ok(header) => {
@@ -42,14 +42,28 @@ fn sections_of<'a>(front: &'a [u8], length: u64) -> Result<Sections<'a>, OpenErr
     }
 }
 
+/// Refuses an image by the fault of the least slot that has one, if there is one.
+fn check_slots(sections: &Sections, fault: Option<(usize, Damage)>) -> Result<(), OpenError>
+    requires { IsFirstIn (λ slot r. r ≡ slot_fault_in sections.now slot)
+        0 sections.now.header.length fault }
+    ensures sound { OnOk result (IsSound sections.now) }
+    ensures damaged { IfErr result (Reports (body_damage_in sections.now)) }
+{
+    match fault {
+        Some((_, damage)) => Err(OpenError::Damaged(damage)),
+        None => Ok(()),
+    }
+}
+
 /// Refuses these entries of an image none of whose slots has a fault, if their number is wrong or
 /// two contents have a byte in common.
 fn check_entries(sections: &Sections, mut contents: Contents) -> Result<(), OpenError>
+    requires slots { IsSound sections.now }
     requires count { contents.count ≡ length (entries_in sections.now) }
     requires ranges { contents.ranges.items
         ≡ ranges_with_bytes (ranges_of (entries_in sections.now)) }
-    ensures sound { OnOk result (entries_damage_in sections.now ≡ None) }
-    ensures damaged { IfErr result (Reports (entries_damage_in sections.now)) }
+    ensures sound { OnOk result (body_damage_in sections.now ≡ None) }
+    ensures damaged { IfErr result (Reports (body_damage_in sections.now)) }
 {
     let stated = sections.header.count;
     let found = contents.count;
@@ -65,25 +79,16 @@ fn check_entries(sections: &Sections, mut contents: Contents) -> Result<(), Open
 /// Refuses an image with a damage behind the header: the fault of the least slot that has one, else
 /// that of the entries.
 fn check_body<R: Threads + Sync, G: Gate + Sync>(
-    rt: &R,
-    alloc: Global,
-    jobs: u32,
+    workers: &Workers<R, G>,
     sections: &Sections,
-    gate: &G,
 ) -> Result<(), OpenError>
-    requires { 0 < jobs }
     ensures sound { OnOk result (body_damage_in sections.now ≡ None) }
     ensures damaged { IfErr result (Reports (body_damage_in sections.now)) }
 {
     let slots = sections.header.length as usize;
-    let fault = first_some(rt, jobs, slots, &|slot| slot_fault(sections, slot), gate);
-    if let Some((_, damage)) = fault {
-        return Err(OpenError::Damaged(damage));
-    }
-    let Ok(contents) = contents_of(rt, alloc, jobs, sections, gate) else {
-        return Err(OpenError::Memory);
-    };
-    check_entries(sections, contents)
+    let fault = workers.first_some(slots, &|slot| slot_fault(sections, slot));
+    check_slots(sections, fault)?;
+    check_entries(sections, contents_of(workers, sections)?)
 }
 
 /// The same, looked for one slot after another, on the caller's thread.
@@ -93,17 +98,76 @@ fn check_body_alone(alloc: Global, sections: &Sections) -> Result<(), OpenError>
 {
     let slots = sections.header.length as usize;
     let fault = first_between(0, slots, &|slot| slot_fault(sections, slot));
-    if let Some((_, damage)) = fault {
-        return Err(OpenError::Damaged(damage));
+    check_slots(sections, fault)?;
+    check_entries(sections, contents_alone(alloc, sections)?)
+}
+
+/// The index of the files of this length that begin with these bytes, which have these sections, or
+/// what was found behind the header.
+fn index_of<'a>(
+    front: &'a [u8],
+    length: u64,
+    sections: &Sections,
+    checked: Result<(), OpenError>,
+) -> Result<Index<'a>, OpenError>
+    requires holds { HoldsIndex front.now length }
+    requires sections { AreSectionsOf front.now length sections.now }
+    requires sound { OnOk checked (body_damage_in sections.now ≡ None) }
+    requires damaged { IfErr checked (Reports (body_damage_in sections.now)) }
+    ensures same { IfOk result (λ index. index ≡ record { bytes = front.now; length = length }) }
+    ensures valid { (b : List ℕ) → IsFileOf front.now length b → OnOk result (Valid b) }
+    ensures damaged { (b : List ℕ) → IsFileOf front.now length b → IfErr result (IsDamageOf b) }
+{
+    match checked {
+        Ok(()) => Ok(Index::checked(front, sections.header, length)),
+        Err(error) => Err(error),
     }
-    let Ok(contents) = contents_alone(alloc, sections) else {
-        return Err(OpenError::Memory);
-    };
-    check_entries(sections, contents)
+}
+
+impl<'a> Index<'a> {
+    /// The index of the image that a file of this length is, of which these are the first bytes, or
+    /// the file's first damage: what `Image::open` answers for the whole file.
+    ///
+    /// The bytes hold the file's index, if it has a header; what stands behind that changes
+    /// nothing.
+    pub fn open<R: Threads + Sync, G: Gate + Sync>(
+        workers: &Workers<R, G>,
+        front: &'a [u8],
+        length: u64,
+    ) -> Result<Index<'a>, OpenError>
+        requires { HoldsIndex front.now length }
+        ensures same { IfOk result
+            (λ index. index ≡ record { bytes = front.now; length = length }) }
+        ensures valid { (b : List ℕ) → IsFileOf front.now length b → OnOk result (Valid b) }
+        ensures damaged { (b : List ℕ) → IsFileOf front.now length b
+            → IfErr result (IsDamageOf b) }
+    {
+        let sections = sections_of(front, length)?;
+        index_of(front, length, &sections, check_body(workers, &sections))
+    }
+}
+
+impl<'a> Image<'a> {
+    /// The image that these bytes are, or their first damage (jimage 1.0, uncompressed).
+    ///
+    /// The slots are checked, and their entries' names looked up, in pieces that the jobs share; no
+    /// number of jobs changes the answer.
+    /// Memory is taken for the entries' places, and `Memory` is answered where none is found.
+    pub fn open<R: Threads + Sync, G: Gate + Sync>(
+        workers: &Workers<R, G>,
+        bytes: &'a [u8],
+    ) -> Result<Image<'a>, OpenError>
+        ensures same { IfOk result (λ image. image ≡ bytes.now) }
+        ensures valid { OnOk result (Valid bytes.now) }
+        ensures damaged { IfErr result (IsDamageOf bytes.now) }
+    {
+        let index = Index::open(workers, bytes, bytes.len() as u64)?;
+        Ok(Image::whole(index))
+    }
 }
 
 /// The image that these bytes are, or their first damage (jimage 1.0, uncompressed), found on the
-/// caller's thread: the answer of `open_image`, with no runtime, jobs or gate.
+/// caller's thread: the answer of `Image::open`, with no workers.
 ///
 /// Memory is taken for the entries' places, and `Memory` is answered where none is found.
 pub fn open_alone<'a>(alloc: Global, bytes: &'a [u8]) -> Result<Image<'a>, OpenError>
@@ -113,15 +177,12 @@ pub fn open_alone<'a>(alloc: Global, bytes: &'a [u8]) -> Result<Image<'a>, OpenE
 {
     let length = bytes.len() as u64;
     let sections = sections_of(bytes, length)?;
-    check_body_alone(alloc, &sections)?;
-    Ok(Image::whole(Index::checked(bytes, sections.header, length)))
+    let checked = check_body_alone(alloc, &sections);
+    let index = index_of(bytes, length, &sections, checked)?;
+    Ok(Image::whole(index))
 }
 
-/// The image that these bytes are, or their first damage (jimage 1.0, uncompressed).
-///
-/// The slots are checked, and their entries' names looked up, in pieces that the jobs share; no
-/// number of jobs changes the answer.
-/// Memory is taken for the entries' places, and `Memory` is answered where none is found.
+/// What `Image::open` answers by that many jobs of a runtime.
 pub fn open_image<'a, R: Threads + Sync, G: Gate + Sync>(
     rt: &R,
     alloc: Global,
@@ -134,14 +195,16 @@ pub fn open_image<'a, R: Threads + Sync, G: Gate + Sync>(
     ensures valid { OnOk result (Valid bytes.now) }
     ensures damaged { IfErr result (IsDamageOf bytes.now) }
 {
-    let index = open_index(rt, alloc, jobs, bytes, bytes.len() as u64, gate)?;
-    Ok(Image::whole(index))
+    let workers = Workers {
+        rt,
+        alloc,
+        jobs,
+        gate,
+    };
+    Image::open(&workers, bytes)
 }
 
-/// The index of the image that a file of this length is, of which these are the first bytes, or the
-/// file's first damage: what `open_image` answers for the whole file.
-///
-/// The bytes hold the file's index, if it has a header; what stands behind that changes nothing.
+/// What `Index::open` answers by that many jobs of a runtime.
 pub fn open_index<'a, R: Threads + Sync, G: Gate + Sync>(
     rt: &R,
     alloc: Global,
@@ -156,7 +219,11 @@ pub fn open_index<'a, R: Threads + Sync, G: Gate + Sync>(
     ensures valid { (b : List ℕ) → IsFileOf front.now length b → OnOk result (Valid b) }
     ensures damaged { (b : List ℕ) → IsFileOf front.now length b → IfErr result (IsDamageOf b) }
 {
-    let sections = sections_of(front, length)?;
-    check_body(rt, alloc, jobs, &sections, gate)?;
-    Ok(Index::checked(front, sections.header, length))
+    let workers = Workers {
+        rt,
+        alloc,
+        jobs,
+        gate,
+    };
+    Index::open(&workers, front, length)
 }

@@ -1,3 +1,4 @@
+use jm_bytes::NoMemory;
 use jm_form::Damage;
 
 /// Why bytes are not opened as an image.
@@ -7,4 +8,15 @@ pub enum OpenError {
     Damaged(Damage),
     /// No memory was found for the entries' places.
     Memory,
+}
+
+impl From<NoMemory> for OpenError {
+    ghost use Rattle.std.specs.Prelude.{◌≡◌};
+    ghost use Rattle.jm_valid.specs.declared.open_error.OpenError.TheVariants.{Memory};
+
+    ghost from_gives = { λ _ error. error ≡ Memory };
+
+    fn from(_: NoMemory) -> OpenError {
+        OpenError::Memory
+    }
 }

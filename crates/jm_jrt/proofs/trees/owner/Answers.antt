@@ -1,10 +1,9 @@
-use Rattle.std.proofs.Common.{ℕ, List, Option, Ok, Bor, option_map, ap, sym, ◌∙◌, arith}
+use Rattle.std.proofs.Common.{ℕ, List, Option, Ok, Bor, option_map, ap, sym, ◌∙◌}
 use Rattle.jm_bytes.proofs.ResultLaws.{passed_on}
 use Rattle.jm_jrt.specs.Nodes.{on_ok}
 use Rattle.jm_jrt.specs.Stat.{full_among}
 use Rattle.jm_jrt.proofs.OwnerLaws.{no_owners, no_package, owners_here}
 use Rattle.jm_jrt.proofs.StandingLaws.{index_file}
-use Rattle.jm_jrt.proofs.TreeContents.{HasSections}
 use Rattle.jm_jrt.proofs.TreeLaws.{owner_shown}
 use Rattle.jm_jrt.proofs.trees.owner.Goals as goal
 
@@ -15,10 +14,7 @@ returns-then-not-is_package-clause-owner g c =
 
 pub returns-then-not-is_package-clause-trees : goal.returns-then-not-is_package-clause-trees
 returns-then-not-is_package-clause-trees g c =
-    let locations = c.if-prove.false in
-    let strings = c.if-prove-2.false in
-    let has : HasSections c.header-header.result = record { locations = omega arith; strings = omega arith } in
-    owner_shown c.args.image.now c.args.path.now c.header-header.result _ c.header-header.ensures.header has
+    owner_shown c.args.image.now c.args.path.now c.header-header.result _ c.header-header.ensures.header c.if-prove.false c.if-prove-2.false
     (returns-then-not-is_package-clause-owner g c)
 
 pub returns-in_default-clause-owner : goal.returns-in_default-clause-owner
@@ -28,10 +24,7 @@ returns-in_default-clause-owner g c =
 
 pub returns-in_default-clause-trees : goal.returns-in_default-clause-trees
 returns-in_default-clause-trees g c =
-    let locations = c.if-prove.false in
-    let strings = c.if-prove-2.false in
-    let has : HasSections c.header-header.result = record { locations = omega arith; strings = omega arith } in
-    owner_shown c.args.image.now c.args.path.now c.header-header.result _ c.header-header.ensures.header has
+    owner_shown c.args.image.now c.args.path.now c.header-header.result _ c.header-header.ensures.header c.if-prove.false c.if-prove-2.false
     (returns-in_default-clause-owner g c)
 
 pub returns-in_err-check-clause-owner : goal.returns-in_err-check-clause-owner
@@ -47,10 +40,7 @@ returns-in_err-check-clause-owner g c =
 
 pub returns-in_err-check-clause-trees : goal.returns-in_err-check-clause-trees
 returns-in_err-check-clause-trees g c =
-    let locations = c.if-prove.false in
-    let strings = c.if-prove-2.false in
-    let has : HasSections c.header-header.result = record { locations = omega arith; strings = omega arith } in
-    owner_shown c.args.image.now c.args.path.now c.header-header.result _ c.header-header.ensures.header has
+    owner_shown c.args.image.now c.args.path.now c.header-header.result _ c.header-header.ensures.header c.if-prove.false c.if-prove-2.false
     (returns-in_err-check-clause-owner g c)
 
 pub returns-clause-owner : goal.returns-clause-owner
@@ -64,8 +54,5 @@ returns-clause-owner g c =
 
 pub returns-clause-trees : goal.returns-clause-trees
 returns-clause-trees g c =
-    let locations = c.if-prove.false in
-    let strings = c.if-prove-2.false in
-    let has : HasSections c.header-header.result = record { locations = omega arith; strings = omega arith } in
-    owner_shown c.args.image.now c.args.path.now c.header-header.result _ c.header-header.ensures.header has
+    owner_shown c.args.image.now c.args.path.now c.header-header.result _ c.header-header.ensures.header c.if-prove.false c.if-prove-2.false
     (returns-clause-owner g c)

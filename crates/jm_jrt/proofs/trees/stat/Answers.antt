@@ -1,11 +1,10 @@
-use Rattle.std.proofs.Common.{Ok, ap, sym, ◌∙◌, arith}
+use Rattle.std.proofs.Common.{Ok, ap, sym, ◌∙◌}
 use Rattle.jm_bytes.proofs.ResultLaws.{passed_on}
 use Rattle.jm_form.specs.TreeView.{File}
 use Rattle.jm_reader.proofs.IndexLaws.{sound_of}
 use Rattle.jm_jrt.specs.Nodes.{item_as}
 use Rattle.jm_jrt.specs.Standings.{standing_as}
 use Rattle.jm_jrt.proofs.StandingLaws.{file_costs, hashes_all, index_file}
-use Rattle.jm_jrt.proofs.TreeContents.{HasSections}
 use Rattle.jm_jrt.proofs.TreeLaws.{item_shown}
 use Rattle.jm_jrt.proofs.trees.stat.Goals as goal
 
@@ -25,10 +24,7 @@ returns-in_err-list-clause-item g c =
 
 pub returns-in_err-list-clause-trees : goal.returns-in_err-list-clause-trees
 returns-in_err-list-clause-trees g c =
-    let locations = c.if-prove.false in
-    let strings = c.if-prove-2.false in
-    let has : HasSections c.header-header.result = record { locations = omega arith; strings = omega arith } in
-    item_shown c.args.image.now c.args.path.now c.header-header.result _ c.header-header.ensures.header has
+    item_shown c.args.image.now c.args.path.now c.header-header.result _ c.header-header.ensures.header c.if-prove.false c.if-prove-2.false
     (returns-in_err-list-clause-item g c)
 
 pub returns-in_err-list-clause-hashes : goal.returns-in_err-list-clause-hashes
@@ -45,10 +41,7 @@ returns-in-Folder-clause-item g c =
 
 pub returns-in-Folder-clause-trees : goal.returns-in-Folder-clause-trees
 returns-in-Folder-clause-trees g c =
-    let locations = c.if-prove.false in
-    let strings = c.if-prove-2.false in
-    let has : HasSections c.header-header.result = record { locations = omega arith; strings = omega arith } in
-    item_shown c.args.image.now c.args.path.now c.header-header.result _ c.header-header.ensures.header has
+    item_shown c.args.image.now c.args.path.now c.header-header.result _ c.header-header.ensures.header c.if-prove.false c.if-prove-2.false
     (returns-in-Folder-clause-item g c)
 
 pub returns-in-Folder-clause-hashes : goal.returns-in-Folder-clause-hashes
@@ -65,10 +58,7 @@ returns-in-File-clause-item g c =
 
 pub returns-in-File-clause-trees : goal.returns-in-File-clause-trees
 returns-in-File-clause-trees g c =
-    let locations = c.if-prove.false in
-    let strings = c.if-prove-2.false in
-    let has : HasSections c.header-header.result = record { locations = omega arith; strings = omega arith } in
-    item_shown c.args.image.now c.args.path.now c.header-header.result _ c.header-header.ensures.header has
+    item_shown c.args.image.now c.args.path.now c.header-header.result _ c.header-header.ensures.header c.if-prove.false c.if-prove-2.false
     (returns-in-File-clause-item g c)
 
 pub returns-in-File-clause-hashes : goal.returns-in-File-clause-hashes
@@ -90,10 +80,7 @@ returns-in-Link-clause-item g c =
 
 pub returns-in-Link-clause-trees : goal.returns-in-Link-clause-trees
 returns-in-Link-clause-trees g c =
-    let locations = c.if-prove.false in
-    let strings = c.if-prove-2.false in
-    let has : HasSections c.header-header.result = record { locations = omega arith; strings = omega arith } in
-    item_shown c.args.image.now c.args.path.now c.header-header.result _ c.header-header.ensures.header has
+    item_shown c.args.image.now c.args.path.now c.header-header.result _ c.header-header.ensures.header c.if-prove.false c.if-prove-2.false
     (returns-in-Link-clause-item g c)
 
 pub returns-in-Link-clause-hashes : goal.returns-in-Link-clause-hashes

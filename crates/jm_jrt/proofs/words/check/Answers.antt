@@ -7,7 +7,6 @@ use Rattle.jm_jrt.specs.Told.{fault_of, is_word_sound, words_read}
 use Rattle.jm_jrt.proofs.EndLaws.{strings_part}
 use Rattle.jm_jrt.proofs.FaultLaws.{first_bad, none_bad}
 use Rattle.jm_jrt.proofs.FileLaws.{all_is_told, fault_is_told, file_told}
-use Rattle.jm_jrt.proofs.words.check.Goals.{in-Children, in-Owners}
 use Rattle.jm_jrt.proofs.words.check.Goals as goal
 
 pub invariant_of-ended : goal.invariant_of-ended
@@ -27,10 +26,7 @@ returns-then-not-is_sound-clause-told g c b file =
     let content = c.args.content.now in
     let form = c.args.form in
     let n = words_read content form in
-    let count : c.match-form.count ≡ n = elim c.match-form.branch [
-      | in-Children w ↦ w.count-is ∙ w.word_count-count.ensures ∙ sym (ap (words_read content) w.in-Children.is)
-      | in-Owners w ↦ w.count-is ∙ ap (λ k. 2 * k) w.pair_count.ensures ∙ sym (ap (words_read content) w.in-Owners.is)
-    ] in
+    let count = c.words_in-k-end.ensures in
     let below = c.loop-k-test.true in
     let bad : is_word_sound f content form c.loop-k.k ≡ false = sym c.is_sound.ensures.sound ∙ c.if-not-is_sound.true in
     let fault : fault_of f content form ≡ Some (BadNode (4 * c.loop-k.k)) = first_bad (is_word_sound f content form) n c.loop-k.k
@@ -43,10 +39,7 @@ returns-clause-sound g c =
     let content = c.args.content.now in
     let form = c.args.form in
     let n = words_read content form in
-    let count : c.match-form.count ≡ n = elim c.match-form.branch [
-      | in-Children w ↦ w.count-is ∙ w.word_count-count.ensures ∙ sym (ap (words_read content) w.in-Children.is)
-      | in-Owners w ↦ w.count-is ∙ ap (λ k. 2 * k) w.pair_count.ensures ∙ sym (ap (words_read content) w.in-Owners.is)
-    ] in
+    let count = c.words_in-k-end.ensures in
     let past = c.loop-k-test.false in
     none_bad (is_word_sound c.args.index.now.bytes content form) n (λ j below. c.loop-k.invariant.sound j (omega arith))
 

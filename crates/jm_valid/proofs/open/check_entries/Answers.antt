@@ -1,4 +1,4 @@
-use Rattle.std.proofs.Common.{◌≡◌, ℕ, List, [], ◌∷◌, length, Option, Some, None, option_map, refl, sym, ap, ◌∙◌}
+use Rattle.std.proofs.Common.{◌≡◌, ℕ, List, [], ◌∷◌, length, Option, Some, None, option_map, refl, sym, ap, ◌∙◌, rules, of_calls}
 use Rattle.std.proofs.lemmas.Bool.{eq-eqb}
 use Rattle.jm_bytes.specs.Checks.{first_fault}
 use Rattle.jm_form.specs.declared.damage.Damage.{Damage}
@@ -8,6 +8,7 @@ use Rattle.jm_form.specs.Damages.{entries_checks}
 use Rattle.jm_form.specs.Entries.{Entry, entries}
 use Rattle.jm_form.specs.Overlap.{ranges_of}
 use Rattle.jm_form.proofs.OverlapLaws.{first_overlap-bytes}
+use Rattle.jm_valid.proofs.BodyLaws.{entries_decide}
 use Rattle.jm_valid.proofs.EntryRows.{ranges_rise, ranges_some}
 use Rattle.jm_valid.proofs.open.check_entries.Goals as goal
 
@@ -23,6 +24,9 @@ entries_overlap : (stated : ℕ) (es : List Entry) → stated ≡ length es → 
     ≡ overlap_damage (first_overlap (ranges_of es))
 entries_overlap stated es same = rw (eq-eqb stated (length es) same) (only_check (overlap_damage (first_overlap (ranges_of es))))
 
+pub returns-then-stated-found-clause-damaged : goal.returns-then-stated-found-clause-damaged
+returns-then-stated-found-clause-damaged c = rw (entries_decide c.args.sections.now c.requires.slots) (search (rules, of_calls))
+
 pub first_overlap-requires-clause-rising : goal.first_overlap-requires-clause-rising
 first_overlap-requires-clause-rising c =
     rw (c.as_mut_slice.ensures.value ∙ c.requires.ranges) (ranges_rise c.args.sections.now.bytes.now c.args.sections.now.header)
@@ -36,7 +40,7 @@ pub returns-in-Some-clause-damaged : goal.returns-in-Some-clause-damaged
 returns-in-Some-clause-damaged c =
     let es = entries c.args.sections.now.bytes.now c.args.sections.now.header in
     let listed = c.as_mut_slice.ensures.value ∙ c.requires.ranges in
-    entries_overlap c.args.sections.now.header.count es (c.if-stated-found.false ∙ c.requires.count)
+    entries_decide c.args.sections.now c.requires.slots ∙ entries_overlap c.args.sections.now.header.count es (c.if-stated-found.false ∙ c.requires.count)
     ∙ ap overlap_damage (sym (ap first_overlap listed ∙ first_overlap-bytes (ranges_of es))) ∙ sym c.first_overlap.ensures
     ∙ c.in-Some.is
 
@@ -44,6 +48,6 @@ pub returns-clause-sound : goal.returns-clause-sound
 returns-clause-sound c =
     let es = entries c.args.sections.now.bytes.now c.args.sections.now.header in
     let listed = c.as_mut_slice.ensures.value ∙ c.requires.ranges in
-    entries_overlap c.args.sections.now.header.count es (c.if-stated-found.false ∙ c.requires.count)
+    entries_decide c.args.sections.now c.requires.slots ∙ entries_overlap c.args.sections.now.header.count es (c.if-stated-found.false ∙ c.requires.count)
     ∙ ap overlap_damage (sym (ap first_overlap listed ∙ first_overlap-bytes (ranges_of es))) ∙ sym c.first_overlap.ensures
     ∙ c.in-None.is
