@@ -9,7 +9,7 @@ use crate::closing::closed;
 use crate::image::write_image;
 use crate::resources::{link_files, read_resources};
 use jm_bytes::Text;
-use jm_halves::Gate;
+use jm_halves::{Gate, Workers};
 use jm_modpath::visible_modules;
 use jm_outside::Shelf;
 use jm_plugins::apply_for;
@@ -49,8 +49,8 @@ pub enum LinkStop {
 /// module of an earlier directory hides its name in later ones. A task whose source is an image has
 /// a module path without directories. The answer depends neither on the number of jobs nor on the
 /// gate.
-pub fn link<T: Threads + Sync, S: Shelf, G: Gate + Sync>(
-    rt: &T,
+pub fn link<R: Threads + Sync, S: Shelf, G: Gate + Sync>(
+    rt: &R,
     alloc: Global,
     jobs: u32,
     task: &LinkTask,
@@ -72,7 +72,13 @@ pub fn link<T: Threads + Sync, S: Shelf, G: Gate + Sync>(
     let places = closed(alloc, visible.candidates(), task)?;
     let files = link_files(alloc, &visible, places.as_slice())?;
     let read = read_resources(alloc, files, shelf)?;
+    let workers = Workers {
+        rt,
+        alloc,
+        jobs,
+        gate,
+    };
     let plugins = task.plugins.as_slice();
-    let left = apply_for(rt, alloc, jobs, task.release, read, plugins, gate)?;
+    let left = apply_for(&workers, task.release, read, plugins)?;
     write_image(alloc, task, places.len(), &left, shelf)
 }

@@ -1,5 +1,5 @@
 //! A whole `link` of the modules of an image.
-ghost use Rattle.std.specs.Prelude.{◌≡◌, ◌<◌, ℕ, List, IsErrOf, IsOk, IsUtf8};
+ghost use Rattle.std.specs.Prelude.{◌≡◌, ℕ, List, IsErrOf, IsOk, IsUtf8};
 ghost use Rattle.jm_filed.specs.Filed.{IsIndexAt};
 ghost use Rattle.jm_link.specs.FiledLinked.{FiledLinks};
 ghost use Rattle.jm_link.specs.ImageSteps.{HasModules, ReadsResources, ReadsModules};
@@ -15,7 +15,7 @@ use crate::image_parts::{read_contents, read_infos};
 use crate::linking::{LinkStop, Summary};
 use jm_bytes::Meter;
 use jm_filed::FiledImage;
-use jm_halves::Gate;
+use jm_halves::{Gate, Workers};
 use jm_outside::Shelf;
 use jm_plugins::apply_for;
 use jm_pool::Pool;
@@ -78,16 +78,12 @@ fn chosen_resources<S: Shelf>(
 /// on the number of jobs nor on the gate. An image that a link made comes back as it is, where all
 /// of its modules are linked without a plug-in and with that link's release or a later one.
 pub fn link_image<T: Threads + Sync, S: Shelf, G: Gate + Sync, R: Ledger>(
-    rt: &T,
-    alloc: Global,
-    jobs: u32,
+    workers: &Workers<T, G>,
     task: &LinkTask,
     image: FiledImage,
     reads: &mut Meter<R>,
     shelf: &mut S,
-    gate: &G,
 ) -> Result<Summary, LinkStop>
-    requires jobs { 0 < jobs }
     requires reads { reads.old.bytes ≡ image.index.now.bytes }
     requires path { IsUtf8 image.path.now }
     requires output { IsUtf8 task.now.output }
@@ -97,10 +93,11 @@ pub fn link_image<T: Threads + Sync, S: Shelf, G: Gate + Sync, R: Ledger>(
         (S.handed shelf.old) (S.handed shelf.new) }
     ensures reads { IsLater reads.old reads.new }
 {
+    let alloc = workers.alloc;
     let modules = shown_modules(alloc, task.release, image, reads, shelf)?;
     let places = closed(alloc, modules.candidates.as_slice(), task)?;
     let read = chosen_resources(alloc, image.path, &modules, places.as_slice(), shelf)?;
     let plugins = task.plugins.as_slice();
-    let left = apply_for(rt, alloc, jobs, task.release, read, plugins, gate)?;
+    let left = apply_for(workers, task.release, read, plugins)?;
     write_image(alloc, task, places.len(), &left, shelf)
 }

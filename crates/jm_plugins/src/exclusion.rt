@@ -7,7 +7,6 @@ use jm_bytes::NoMemory;
 use jm_halves::{Gate, Workers};
 use jm_pattern::{Pattern, matches_any};
 use jm_pool::Pool;
-use std::alloc::Global;
 use std::thread::Threads;
 
 /// Which names are dropped.
