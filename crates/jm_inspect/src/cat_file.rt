@@ -1,5 +1,5 @@
 //! `cat` on the image in a file: by its index, and then the one content.
-ghost use Rattle.std.specs.Prelude.{◌<◌, ℕ, List, None, Err, IsUtf8};
+ghost use Rattle.std.specs.Prelude.{ℕ, List, None, Err, IsUtf8};
 ghost use Rattle.jm_form.specs.Validity.{look};
 ghost use Rattle.jm_outside.specs.Shelves.{shelf_at};
 ghost use Rattle.jm_inspect.specs.Ledgers.{IsLedger};
@@ -17,10 +17,9 @@ use crate::front::{FileFront, OpenFront};
 use crate::output::put_output;
 use crate::sought::sought_content;
 use crate::stop::Stop;
-use crate::workers::Workers;
 use jm_bytes::{Meter, Steps, Text};
 use jm_form::Row;
-use jm_halves::Gate;
+use jm_halves::{Gate, Workers};
 use jm_names::to_utf8;
 use jm_outside::{Shelf, Sink};
 use jm_reader::find_row_in;
@@ -61,8 +60,7 @@ pub fn cat_file<T: Threads + Sync, S: Shelf, O: Sink, G: Gate + Sync>(
     shelf: &mut S,
     out: &mut O,
 ) -> Result<(), Stop>
-    requires jobs { 0 < workers.now.jobs }
-    requires path { IsUtf8 path.now }
+    requires { IsUtf8 path.now }
     ensures comes { (source : Seen (List ℕ)) →
         StepComesTo (WorkComesTo (S.files shelf.old) source.told path.now (ImageWork.Cat name.now))
         reading result

@@ -1,5 +1,5 @@
 //! The command `extract`.
-ghost use Rattle.std.specs.Prelude.{◌<◌, ◌≤◌, ◌+◌, ℕ, IsOk, IsErrOf, IsTrue, IsUtf8, List};
+ghost use Rattle.std.specs.Prelude.{◌≤◌, ◌+◌, ℕ, IsOk, IsErrOf, IsTrue, IsUtf8, List};
 ghost use Rattle.std.specs.Prelude.{OnOk};
 ghost use Rattle.jm_form.specs.Head.{IsFileOf};
 ghost use Rattle.jm_outside.specs.Outcome.{CountsFaults};
@@ -18,11 +18,10 @@ ghost use Rattle.jm_inspect.specs.World.{sink_at, world};
 use crate::front::{FileFront, OpenFront};
 use crate::output::put_output;
 use crate::stop::Stop;
-use crate::workers::Workers;
 use jm_bytes::{Meter, Text};
 use jm_extract::{ExtractStop, Extraction, extract};
 use jm_filed::FiledImage;
-use jm_halves::Gate;
+use jm_halves::{Gate, Workers};
 use jm_outside::{Shelf, Sink};
 use jm_words::ImageWork;
 use std::alloc::Global;
@@ -78,7 +77,6 @@ pub fn extract_file<T: Threads + Sync, S: Shelf, O: Sink, G: Gate + Sync>(
     shelf: &mut S,
     out: &mut O,
 ) -> Result<(), Stop>
-    requires jobs { 0 < workers.now.jobs }
     requires path { IsUtf8 path.now }
     requires text { IsUtf8 work.dir.now }
     ensures comes { (source : Seen (List ℕ)) →

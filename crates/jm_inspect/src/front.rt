@@ -1,5 +1,5 @@
 //! The first bytes of a file, up to the end of an image's index.
-ghost use Rattle.std.specs.Prelude.{◌≡◌, ◌≤◌, ◌<◌, ◌+◌, ℕ, List};
+ghost use Rattle.std.specs.Prelude.{◌≡◌, ◌≤◌, ◌+◌, ℕ, List};
 ghost use Rattle.std.specs.Prelude.{IfOk, IsOk, IsErrOf, IsUtf8};
 ghost use Rattle.jm_form.specs.Head.{IsFileOf};
 ghost use Rattle.jm_outside.specs.Outcome.{CountsFaults};
@@ -9,12 +9,11 @@ ghost use Rattle.jm_inspect.specs.Taken.{TakesFrom, front_size};
 
 use crate::complaint::Complaint;
 use crate::stop::Stop;
-use crate::workers::Workers;
 use jm_bytes::{NoMemory, Text};
 use jm_form::read_header_of;
-use jm_halves::Gate;
+use jm_halves::{Gate, Workers};
 use jm_outside::Shelf;
-use jm_valid::{Index, OpenError, open_index};
+use jm_valid::{Index, OpenError};
 use std::alloc::Global;
 use std::marker::Model;
 use std::thread::Threads;
@@ -179,8 +178,7 @@ impl<'a> OpenFront<'a> {
         front: &'a mut FileFront,
         shelf: &mut S,
     ) -> Result<OpenFront<'a>, Stop>
-        requires jobs { 0 < workers.now.jobs }
-        requires path { IsUtf8 path.now }
+        requires { IsUtf8 path.now }
         ensures files { S.files shelf.new ≡ S.files shelf.old }
         ensures opens { Opens (S.files shelf.old) path.now
             (IsOpenFront (S.files shelf.old) path.now) result }
@@ -192,14 +190,8 @@ impl<'a> OpenFront<'a> {
             (IsErrOf result Stop.Outside) }
     {
         *front = file_front(workers.alloc, path, shelf)?;
-        let Workers {
-            rt,
-            alloc,
-            jobs,
-            gate,
-        } = *workers;
         let bytes = front.bytes.as_slice();
-        match open_index(rt, alloc, jobs, bytes, front.length, gate) {
+        match Index::open(workers, bytes, front.length) {
             Ok(index) => Ok(OpenFront { index, bytes }),
             Err(OpenError::Damaged(damage)) => Err(Stop::Complaint(Complaint::Damaged(damage))),
             Err(OpenError::Memory) => Err(Stop::Memory),

@@ -20,7 +20,6 @@ mod sought;
 mod status;
 mod stop;
 mod work;
-mod workers;
 
 pub use cat::cat_command;
 pub use complaint::Complaint;
@@ -30,4 +29,3 @@ pub use output::put_output;
 pub use status::Status;
 pub use stop::Stop;
 pub use work::do_work;
-pub use workers::Workers;

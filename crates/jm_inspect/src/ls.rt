@@ -1,5 +1,5 @@
 //! `ls` on the image in a file: by its index, and then the content of the folder's node.
-ghost use Rattle.std.specs.Prelude.{◌≡◌, ◌<◌, ℕ, List, Err, IfOk, IsUtf8, option_map};
+ghost use Rattle.std.specs.Prelude.{◌≡◌, ℕ, List, Err, IfOk, IsUtf8, option_map};
 ghost use Rattle.jm_form.specs.Head.{IsFileOf};
 ghost use Rattle.jm_outside.specs.Shelves.{shelf_at};
 ghost use Rattle.jm_jrt.specs.Reply.{held_lines};
@@ -20,10 +20,9 @@ use crate::front::{FileFront, OpenFront};
 use crate::pieces::{PIECE, put_piece};
 use crate::sought::sought_content;
 use crate::stop::Stop;
-use crate::workers::Workers;
 use jm_bytes::{Meter, NoMemory, Steps, Text};
 use jm_form::Row;
-use jm_halves::Gate;
+use jm_halves::{Gate, Workers};
 use jm_jrt::{ChildList, JrtError, children_in, extend_next_children, node_row};
 use jm_names::to_utf8;
 use jm_outside::{Shelf, Sink, SinkError};
@@ -131,8 +130,7 @@ pub fn ls_file<T: Threads + Sync, S: Shelf, O: Sink, G: Gate + Sync>(
     shelf: &mut S,
     out: &mut O,
 ) -> Result<(), Stop>
-    requires jobs { 0 < workers.now.jobs }
-    requires image { IsUtf8 image.now }
+    requires { IsUtf8 image.now }
     ensures comes { (source : Seen (List ℕ)) →
         StepComesTo (WorkComesTo (S.files shelf.old) source.told image.now (ImageWork.Ls path.now))
         reading result

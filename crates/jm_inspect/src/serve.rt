@@ -1,5 +1,5 @@
 //! The command `serve`.
-ghost use Rattle.std.specs.Prelude.{◌≡◌, ◌<◌, IsOk, IsErrOf, IsUtf8, length};
+ghost use Rattle.std.specs.Prelude.{◌≡◌, IsOk, IsErrOf, IsUtf8, length};
 ghost use Rattle.jm_bytes.specs.Metered.{Metered};
 ghost use Rattle.jm_outside.specs.Outcome.{CountsFaults};
 ghost use Rattle.jm_jrt.specs.Sessions.{Serves};
@@ -16,12 +16,11 @@ use crate::blanks::Blanks;
 use crate::complaint::Complaint;
 use crate::front::{file_length, file_part};
 use crate::stop::Stop;
-use crate::workers::Workers;
 use jm_bytes::{Meter, Steps, Text};
-use jm_halves::Gate;
+use jm_halves::{Gate, Workers};
 use jm_jrt::{ServeError, serve};
 use jm_outside::{Shelf, Sink, Source};
-use jm_valid::{Image, OpenError, open_image};
+use jm_valid::{Image, OpenError};
 use jm_words::ImageWork;
 use std::alloc::Global;
 use std::marker::{Brand, Model};
@@ -68,8 +67,7 @@ impl<'a> Opened<'a> {
         bytes: &'a mut Text,
         shelf: &mut S,
     ) -> Result<Opened<'a>, Stop>
-        requires jobs { 0 < workers.now.jobs }
-        requires path { IsUtf8 path.now }
+        requires { IsUtf8 path.now }
         ensures files { S.files shelf.new ≡ S.files shelf.old }
         ensures opens { Opens (S.files shelf.old) path.now
             (IsSoundFile (S.files shelf.old) path.now) result }
@@ -80,7 +78,7 @@ impl<'a> Opened<'a> {
     {
         *bytes = whole_file(workers.alloc, path, shelf)?;
         let bytes = bytes.as_slice();
-        match open_image(workers.rt, workers.alloc, workers.jobs, bytes, workers.gate) {
+        match Image::open(workers, bytes) {
             Ok(image) => Ok(Opened { image, bytes }),
             Err(OpenError::Damaged(damage)) => Err(Stop::Complaint(Complaint::Damaged(damage))),
             Err(OpenError::Memory) => Err(Stop::Memory),
@@ -148,8 +146,7 @@ pub fn serve_file<T: Threads + Sync, S: Shelf, I: Source, O: Sink, G: Gate + Syn
     input: &mut I,
     out: &mut O,
 ) -> Result<(), Stop>
-    requires jobs { 0 < workers.now.jobs }
-    requires path { IsUtf8 path.now }
+    requires { IsUtf8 path.now }
     ensures comes { StepComesTo
         (WorkComesTo (S.files shelf.old) (I.rest input.old) path.now ImageWork.Serve) reading result
         (world_of S.Shelf I.Source O.Sink shelf.old input.old out.old)

@@ -1,5 +1,5 @@
 //! The commands that put what the index of an image says.
-ghost use Rattle.std.specs.Prelude.{◌<◌, ℕ, List, IsUtf8};
+ghost use Rattle.std.specs.Prelude.{ℕ, List, IsUtf8};
 ghost use Rattle.jm_form.specs.Head.{IsFileOf};
 ghost use Rattle.jm_outside.specs.Shelves.{shelf_at};
 ghost use Rattle.jm_inspect.specs.Outcome.{done, reading};
@@ -14,9 +14,8 @@ use crate::front::{FileFront, OpenFront};
 use crate::listing::put_list;
 use crate::output::put_output;
 use crate::stop::Stop;
-use crate::workers::Workers;
 use jm_bytes::{List, Text};
-use jm_halves::Gate;
+use jm_halves::{Gate, Workers};
 use jm_outside::{Shelf, Sink};
 use jm_pattern::Pattern;
 use jm_texts::header_text;
@@ -73,8 +72,7 @@ pub fn show_command<T: Threads + Sync, S: Shelf, O: Sink, G: Gate + Sync>(
     shelf: &mut S,
     out: &mut O,
 ) -> Result<(), Stop>
-    requires jobs { 0 < workers.now.jobs }
-    requires path { IsUtf8 path.now }
+    requires { IsUtf8 path.now }
     ensures comes { (source : Seen (List ℕ)) →
         StepComesTo (WorkComesTo (S.files shelf.old) source.told path.now (work_shown shown.now))
         reading result

@@ -1,5 +1,5 @@
 //! The works on the image in a file.
-ghost use Rattle.std.specs.Prelude.{◌<◌, IsUtf8};
+ghost use Rattle.std.specs.Prelude.{IsUtf8};
 ghost use Rattle.jm_words.specs.Paths.{FolderIsText};
 ghost use Rattle.jm_inspect.specs.Outcome.{reading};
 ghost use Rattle.jm_inspect.specs.Steps.{StepComesTo};
@@ -13,10 +13,9 @@ use crate::ls::ls_file;
 use crate::serve::serve_file;
 use crate::shown::{Shown, show_command};
 use crate::stop::Stop;
-use crate::workers::Workers;
 use jm_bytes::Text;
 use jm_extract::Extraction;
-use jm_halves::Gate;
+use jm_halves::{Gate, Workers};
 use jm_outside::{Shelf, Sink, Source};
 use jm_words::ImageWork;
 use std::thread::Threads;
@@ -33,7 +32,6 @@ pub fn do_work<T: Threads + Sync, S: Shelf, I: Source, O: Sink, G: Gate + Sync>(
     input: &mut I,
     out: &mut O,
 ) -> Result<(), Stop>
-    requires jobs { 0 < workers.now.jobs }
     requires image { IsUtf8 image.now }
     requires folder { FolderIsText work.now }
     ensures comes { StepComesTo
