@@ -18,7 +18,7 @@ use crate::link::stop_of_link;
 use jm_bytes::{List, NoMemory, Order, Text, copy_of, extend};
 use jm_gen::{generate, module_names};
 use jm_halves::Gate;
-use jm_inspect::{Stop, Workers, put_output};
+use jm_inspect::{Stop, Workers, put_text};
 use jm_link::{LinkStop, Summary, link};
 use jm_outside::{Shelf, Sink};
 use jm_words::{GenTask, LinkTask, Plugin, Source};
@@ -88,8 +88,8 @@ fn put_generated<O: Sink>(alloc: Global, summary: &Summary, out: &mut O) -> Resu
     } = *summary;
     let text = format!(in alloc;
         "modules {modules}\nresources {resources}\nbytes {length}\nslots {slots}\n"
-    )?;
-    put_output(alloc, text.as_bytes(), out)
+    );
+    put_text(alloc, text, out)
 }
 
 /// `gen`: makes the files of modules below a folder, links all of them to an image there, and puts

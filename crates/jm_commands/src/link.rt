@@ -19,7 +19,7 @@ ghost use Rattle.jm_inspect.specs.World.{sink_at, world};
 use jm_bytes::{Meter, Text};
 use jm_filed::FiledImage;
 use jm_halves::Gate;
-use jm_inspect::{Complaint, FileFront, OpenFront, Stop, Workers, put_output};
+use jm_inspect::{Complaint, FileFront, OpenFront, Stop, Workers, put_text};
 use jm_link::{LinkStop, Summary, link, link_image};
 use jm_outside::{Shelf, Sink};
 use jm_words::{LinkTask, Source};
@@ -51,8 +51,8 @@ fn put_summary<O: Sink>(alloc: Global, summary: &Summary, out: &mut O) -> Result
         length,
         ..
     } = *summary;
-    let text = format!(in alloc; "modules {modules}\nresources {resources}\nbytes {length}\n")?;
-    put_output(alloc, text.as_bytes(), out)
+    let text = format!(in alloc; "modules {modules}\nresources {resources}\nbytes {length}\n");
+    put_text(alloc, text, out)
 }
 
 /// The image whose modules are linked: its open index, and the path of its file.
@@ -150,18 +150,16 @@ pub fn link_command<T: Threads + Sync, S: Shelf, O: Sink, G: Gate + Sync>(
 {
     match &task.source {
         Source::Image(path) => link_from_image(workers, task, path, shelf, out),
-        Source::Path(_) => {
-            match link(
-                workers.rt,
-                workers.alloc,
-                workers.jobs,
-                task,
-                shelf,
-                workers.gate,
-            ) {
-                Ok(summary) => put_summary(workers.alloc, &summary, out),
-                Err(why) => Err(stop_of_link(why)),
-            }
-        }
+        Source::Path(_) => match link(
+            workers.rt,
+            workers.alloc,
+            workers.jobs,
+            task,
+            shelf,
+            workers.gate,
+        ) {
+            Ok(summary) => put_summary(workers.alloc, &summary, out),
+            Err(why) => Err(stop_of_link(why)),
+        },
     }
 }

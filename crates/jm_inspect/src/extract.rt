@@ -16,7 +16,7 @@ ghost use Rattle.jm_inspect.specs.Taken.{TakesFrom, extract_size};
 ghost use Rattle.jm_inspect.specs.World.{sink_at, world};
 
 use crate::front::{FileFront, OpenFront};
-use crate::output::put_output;
+use crate::output::put_text;
 use crate::stop::Stop;
 use jm_bytes::{Meter, Text};
 use jm_extract::{ExtractStop, Extraction, extract};
@@ -34,8 +34,7 @@ fn put_count<O: Sink>(alloc: Global, count: usize, out: &mut O) -> Result<(), St
     ensures { PutDoes (done (extract_text count)) result
         (sink_at O.Sink out.old) (sink_at O.Sink out.new) }
 {
-    let text = format!(in alloc; "extracted {count}\n")?;
-    put_output(alloc, text.as_bytes(), out)
+    put_text(alloc, format!(in alloc; "extracted {count}\n"), out)
 }
 
 /// Does what `extract` of jm_extract does with the image at a path, with a meter of its own.

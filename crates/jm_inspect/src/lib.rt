@@ -25,7 +25,7 @@ pub use cat::cat_command;
 pub use complaint::Complaint;
 pub use describe::describe_command;
 pub use front::{FileFront, OpenFront};
-pub use output::put_output;
+pub use output::{put_output, put_text};
 pub use status::Status;
 pub use stop::Stop;
 pub use work::do_work;

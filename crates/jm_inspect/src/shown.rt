@@ -12,7 +12,7 @@ ghost use Rattle.jm_inspect.specs.World.{sink_at, world};
 
 use crate::front::{FileFront, OpenFront};
 use crate::listing::put_list;
-use crate::output::put_output;
+use crate::output::put_text;
 use crate::stop::Stop;
 use jm_bytes::{List, Text};
 use jm_halves::{Gate, Workers};
@@ -51,13 +51,11 @@ fn put_shown<O: Sink>(
             let contents = index
                 .length()
                 .saturating_sub(header.contents_place() as u64);
-            let text = header_text(alloc, &header, contents as usize)?;
-            put_output(alloc, text.as_bytes(), out)
+            put_text(alloc, header_text(alloc, &header, contents as usize), out)
         }
         Shown::Verify => {
             let count = index.header().count;
-            let line = format!(in alloc; "valid {count}\n")?;
-            put_output(alloc, line.as_bytes(), out)
+            put_text(alloc, format!(in alloc; "valid {count}\n"), out)
         }
         Shown::List(include) => put_list(alloc, front, include, out),
     }
