@@ -1,5 +1,5 @@
 //! The command `gen`.
-ghost use Rattle.std.specs.Prelude.{◌≡◌, ◌<◌, ◌∷◌, ◌++◌, [], IfOk, IsTrue, IsUtf8};
+ghost use Rattle.std.specs.Prelude.{◌≡◌, ◌∷◌, ◌++◌, [], IfOk, IsTrue, IsUtf8};
 ghost use Rattle.std.specs.Prelude.{List, ℕ};
 ghost use Rattle.jm_link.specs.Links.{Links, request_of};
 ghost use Rattle.jm_link.specs.Steps.{AfterStep};
@@ -17,8 +17,8 @@ ghost use Rattle.jm_inspect.specs.World.{sink_at, world};
 use crate::link::stop_of_link;
 use jm_bytes::{List, NoMemory, Order, Text, copy_of, extend};
 use jm_gen::{generate, module_names};
-use jm_halves::Gate;
-use jm_inspect::{Stop, Workers, put_text};
+use jm_halves::{Gate, Workers};
+use jm_inspect::{Stop, put_text};
 use jm_link::{LinkStop, Summary, link};
 use jm_outside::{Shelf, Sink};
 use jm_words::{GenTask, LinkTask, Plugin, Source};
@@ -45,7 +45,6 @@ fn link_generated<T: Threads + Sync, S: Shelf, G: Gate + Sync>(
     mods: Text,
     shelf: &mut S,
 ) -> Result<Summary, LinkStop>
-    requires jobs { 0 < workers.now.jobs }
     requires dir { IsUtf8 task.now.dir }
     requires mods { IsUtf8 mods }
     ensures links { Links (mods ∷ []) (request_of (gen_link task.now)) (image_path task.now) result
@@ -102,7 +101,6 @@ pub fn gen_command<T: Threads + Sync, S: Shelf, O: Sink, G: Gate + Sync>(
     shelf: &mut S,
     out: &mut O,
 ) -> Result<(), Stop>
-    requires jobs { 0 < workers.now.jobs }
     requires dir { IsUtf8 task.now.dir }
     requires numbers { GenFits task.now }
     ensures { (source : Seen (List ℕ)) →

@@ -1,5 +1,5 @@
 //! The command `link`.
-ghost use Rattle.std.specs.Prelude.{◌≡◌, ◌<◌, ℕ, IsUtf8, List};
+ghost use Rattle.std.specs.Prelude.{◌≡◌, ℕ, IsUtf8, List};
 ghost use Rattle.jm_filed.specs.Filed.{IsIndexAt};
 ghost use Rattle.jm_link.specs.FiledLinked.{FiledLinks};
 ghost use Rattle.jm_link.specs.Links.{request_of};
@@ -18,8 +18,8 @@ ghost use Rattle.jm_inspect.specs.World.{sink_at, world};
 
 use jm_bytes::{Meter, Text};
 use jm_filed::FiledImage;
-use jm_halves::Gate;
-use jm_inspect::{Complaint, FileFront, OpenFront, Stop, Workers, put_text};
+use jm_halves::{Gate, Workers};
+use jm_inspect::{Complaint, FileFront, OpenFront, Stop, put_text};
 use jm_link::{LinkStop, Summary, link, link_image};
 use jm_outside::{Shelf, Sink};
 use jm_words::{LinkTask, Source};
@@ -70,7 +70,6 @@ fn link_counted<T: Threads + Sync, S: Shelf, G: Gate + Sync, R: Ledger>(
     shelf: &mut S,
     reads: Blank,
 ) -> Result<Summary, LinkStop>
-    requires jobs { 0 < workers.now.jobs }
     requires path { IsUtf8 source.path.now }
     requires output { IsUtf8 task.now.output }
     requires there { IsIndexAt source.front.now (S.files shelf.old) source.path.now }
@@ -85,16 +84,7 @@ fn link_counted<T: Threads + Sync, S: Shelf, G: Gate + Sync, R: Ledger>(
         index: front.as_index(),
         path: path.as_slice(),
     };
-    link_image(
-        workers.rt,
-        workers.alloc,
-        workers.jobs,
-        task,
-        image,
-        &mut reads,
-        shelf,
-        workers.gate,
-    )
+    link_image(workers, task, image, &mut reads, shelf)
 }
 
 /// Links the modules of the image in the file at a path, and puts what the new image has. What
@@ -107,7 +97,6 @@ fn link_from_image<T: Threads + Sync, S: Shelf, O: Sink, G: Gate + Sync>(
     shelf: &mut S,
     out: &mut O,
 ) -> Result<(), Stop>
-    requires jobs { 0 < workers.now.jobs }
     requires path { IsUtf8 path.now }
     requires output { IsUtf8 task.now.output }
     ensures comes { (source : Seen (List ℕ)) →
@@ -139,7 +128,6 @@ pub fn link_command<T: Threads + Sync, S: Shelf, O: Sink, G: Gate + Sync>(
     shelf: &mut S,
     out: &mut O,
 ) -> Result<(), Stop>
-    requires jobs { 0 < workers.now.jobs }
     requires paths { LinkIsText task.now }
     ensures comes { (source : Seen (List ℕ)) →
         StepComesTo (LinkComesTo link_text (S.files shelf.old) task.now) reading result

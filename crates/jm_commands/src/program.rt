@@ -1,4 +1,3 @@
-ghost use Rattle.std.specs.Prelude.{◌<◌};
 ghost use Rattle.std.specs.Prelude.{map, string_bytes};
 ghost use Rattle.jm_words.specs.Paths.{FilePathsAreText, NumbersFit};
 ghost use Rattle.jm_words.specs.Rule.{Says};
@@ -14,8 +13,8 @@ use crate::generator::gen_command;
 use crate::help::help_command;
 use crate::link::link_command;
 use crate::version::version_command;
-use jm_halves::Gate;
-use jm_inspect::{Status, Stop, Workers, describe_command, do_work};
+use jm_halves::{Gate, Workers};
+use jm_inspect::{Status, Stop, describe_command, do_work};
 use jm_outside::{Shelf, Sink, SinkError, Source};
 use jm_words::{Task, read_words};
 use std::alloc::Global;
@@ -52,7 +51,6 @@ fn do_command<T: Threads + Sync, S: Shelf, I: Source, O: Sink, G: Gate + Sync>(
     input: &mut I,
     out: &mut O,
 ) -> Result<(), Stop>
-    requires jobs { 0 < workers.now.jobs }
     requires paths { FilePathsAreText task.now }
     requires numbers { NumbersFit task.now }
     ensures comes { StepComesTo (TaskComesTo (S.files shelf.old) (I.rest input.old) task.now)
