@@ -128,7 +128,7 @@ pub fn link_command<T: Threads + Sync, S: Shelf, O: Sink, G: Gate + Sync>(
     shelf: &mut S,
     out: &mut O,
 ) -> Result<(), Stop>
-    requires paths { LinkIsText task.now }
+    requires { LinkIsText task.now }
     ensures comes { (source : Seen (List ℕ)) →
         StepComesTo (LinkComesTo link_text (S.files shelf.old) task.now) reading result
         (world (shelf_at S.Shelf shelf.old) source (sink_at O.Sink out.old))

@@ -4,7 +4,7 @@ use Rattle.jm_commands.proofs.LinkLaws.{directories_text, link_comes, path_put, 
 use Rattle.jm_commands.proofs.link.link_command.Goals as goal
 
 pub link-requires-clause-directories : goal.link-requires-clause-directories
-link-requires-clause-directories g c lifetimes outlives = directories_text c.args.task.now.source c.requires.paths.0
+link-requires-clause-directories g c lifetimes outlives = directories_text c.args.task.now.source c.requires.0
 
 pub returns-in-Image-clause-comes : goal.returns-in-Image-clause-comes
 returns-in-Image-clause-comes g c source =
