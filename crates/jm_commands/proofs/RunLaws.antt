@@ -21,21 +21,6 @@ use Rattle.jm_inspect.specs.World.{World}
 use Rattle.jm_inspect.proofs.Gotten.{front_of_all, front_of_nothing, gets_nothing}
 use Rattle.jm_inspect.proofs.StepLaws.{complains_undone}
 
--- a complaint's line was put
-pub reported : (given : Complaint) (is : Status) (err new_err : Seen (List ℕ)) → is ≡ status_of given
-    → Gets (line_of given) err new_err → ReportDoes given is err new_err
-reported given is err new_err same put = subst (λ (s : Status). ReportDoes given s err new_err) (sym same) (go given put)
-  where
-    go : (c : Complaint) → Gets (line_of c) err new_err → ReportDoes c (status_of c) err new_err
-    go (complaint.Words fault) put = (refl, put)
-    go (complaint.Damaged damage) put = (refl, put)
-    go (complaint.NotThere text) put = (refl, put)
-    go (complaint.Refused refusal) put = (refl, put)
-    go (complaint.BadNode at) put = (refl, put)
-    go complaint.NotFolder put = (refl, put)
-    go (complaint.LongLine k) put = (refl, put)
-    go complaint.TooManyLines put = (refl, put)
-
 -- a run that reports a complaint isn't done
 reported_undone : (given : Complaint) (is : Status) (err new_err : Seen (List ℕ)) → ReportDoes given is err new_err → is ≡ status.Done → ⊥
 reported_undone given is err new_err report done =

@@ -50,15 +50,6 @@ module _ (files : Files) (path b : List ℕ) (is : file files path ≡ Some b) w
 pub no_length : (files : Files) (path : List ℕ) (size : ℕ) → file files path ≡ None → Some size ≡ file_length files path → ⊥
 no_length files path size is long = let none : Some size ≡ None = long ∙ ap (λ f. option_map (λ bytes. length bytes) f) is in cc
 
--- no file is there
-pub none_there : (told : Option Files) (path : List ℕ) → HasLength told path None → HasFile told path None
-none_there None path none = tt
-none_there (Some files) path none = go (file files path) refl
-  where
-    go : (found : Option (List ℕ)) → file files path ≡ found → None ≡ file files path
-    go None is = sym is
-    go (Some b) is = let some : None ≡ Some (length b) = none ∙ ap (λ f. option_map (λ bytes. length bytes) f) is in cc
-
 -- a part within the length of a file is there
 pub never_lacks : (told : Option Files) (path : List ℕ) (size at count : ℕ) → HasLength told path (Some size) → at + count ≤ size
     → LacksPart told path at count → HasFile told path None

@@ -1,6 +1,6 @@
-//! What `describe` prints, put piece by piece: a class can say a line far longer than itself. A text
-//! that is passed on is added to what is held back, and that is put once it has the bytes of a
-//! piece.
+//! What `describe` prints, put piece by piece: a class can say a line far longer than itself. A
+//! text that is passed on is added to what is held back, and that is put once it has the bytes of
+//! a piece.
 ghost use Rattle.std.specs.Prelude.{◌≡◌, ◌∷◌, ◌++◌, [], OnOk, codes, flat_map};
 ghost use Rattle.jm_names.specs.Shown.{shown};
 ghost use Rattle.jm_texts.specs.DescribeText.{behind, behind_comma, describe_text, is_marked};
