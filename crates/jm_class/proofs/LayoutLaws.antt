@@ -1,19 +1,19 @@
 -- What is read by a layout is what the bytes say, both ways, whatever stands behind it. Each law stands
 -- once, for all layouts.
-use Rattle.std.proofs.Common.{◌≡◌, ℕ, ◌<◌, List, [], ◌++◌, length, Option, Some, None, ok_or}
+use Rattle.std.proofs.Common.{◌≡◌, ℕ, zero, suc, ◌<◌, List, [], ◌∷◌, ◌++◌, length, Option, Some, None, ok_or}
 use Rattle.std.proofs.Common.{Ok, Err, refl, sym, ap, subst, ◌∙◌, append_assoc}
 use Rattle.std.proofs.lemmas.List.{append-nil}
 use Rattle.std.specs.Int.{to_be_bytes}
 use Rattle.std.specs.Prelude.{All}
 use Rattle.jm_bytes.proofs.Choice.{same_ok}
 use Rattle.jm_class.specs.Classes.{u4}
-use Rattle.jm_class.specs.Layouts.{Layout, U4, width, limit, Value, Number, Field, Bytes, Told, Sized, Times, Then, Says, with_left}
-use Rattle.jm_class.specs.Layouts.{reading, at_front, value_of, whole_text, text_fields, IsGood, HasFirstFault}
-use Rattle.jm_class.specs.Readings.{Left, Outcome, number, ended, whole}
+use Rattle.jm_class.specs.Layouts.{Layout, Size, U2, U4, width, limit, Value, Number, Field, Bytes, Told, Sized, Times, Then, Says, with_left}
+use Rattle.jm_class.specs.Layouts.{listed, reading, at_front, value_of, whole_text, text_fields, IsGood, HasFirstFault}
+use Rattle.jm_class.specs.Readings.{Left, Outcome, value, and_then, counted, number, ended, whole}
 use Rattle.jm_class.proofs.FaultLaws.{Agrees, reading-agrees, ended_agrees, no_fault, one_fault, passed_good}
 use Rattle.jm_class.proofs.ReadingLaws.{IsBytes, bytes_behind, bytes_front, passed, same_value, same_left, Took, ReadBack, part-back}
-use Rattle.jm_class.proofs.ReadingLaws.{part-forth, number-back, number-forth, counted-back, counted-forth, whole-back, whole-forth}
-use Rattle.jm_class.proofs.ReadingLaws.{ended-back, ended-forth}
+use Rattle.jm_class.proofs.ReadingLaws.{part-forth, number-back, number-forth, counted-back, counted-forth, part_whole-back, part_whole-forth}
+use Rattle.jm_class.proofs.ReadingLaws.{TookAll, ended-back, ended-forth}
 
 module _ {F : Type 0} where
   -- what was read is what the bytes in front say
@@ -51,7 +51,7 @@ module _ {F : Type 0} where
       let inside = reading (λ at. fault left.place) inner in
       let got = passed (number short (width U4) left) (λ size. whole short (λ at. fault left.place) size inside) a next e in
       let size = number-back short U4 left got.middle got.first bytes got.is in
-      let cut = whole-back short (λ at. fault left.place) inside got.first got.middle next a got.rest in
+      let cut = part_whole-back (λ at. fault left.place) inside short got.first got.middle next a got.rest in
       let more = bytes_behind (u4 got.first) got.middle.bytes (subst IsBytes size.1 bytes) in
       let took = reading-says (λ at. fault left.place) inner (record { place = got.middle.place; bytes = cut.inside }) cut.all.end a
       (bytes_front cut.inside next.bytes (subst IsBytes cut.bytes more)) cut.all.is in
@@ -93,7 +93,7 @@ module _ {F : Type 0} where
   says-reading short (Sized fault inner) place a text rest (inside, below, is, says) =
       let size = number-forth short U4 place (length inside) (inside ++ rest) below in
       let read = says-reading (λ at. fault place) inner size.0 a inside [] says in
-      let all = whole-forth short (λ at. fault place) (reading (λ at. fault place) inner) (length inside) size.0 a inside rest refl
+      let all = part_whole-forth (λ at. fault place) (reading (λ at. fault place) inner) short (length inside) size.0 a inside rest refl
       (record { end = record { place = read.0; bytes = [] }; is = rw (append-nil inside) at read.1; none = refl }) in
       (all.0, rw (is, size.1, all.1) refl)
   says-reading short (Times n item) place xs text rest (size, each) =
@@ -108,22 +108,27 @@ module _ {F : Type 0} where
 
 module _ {F A : Type 0} (short rest : ℕ → F) (layout : Layout F A) (text : List ℕ) where
   -- a whole text is read to its end
-  read_all : (outcome : Outcome F A) (a : A) → value_of outcome ≡ Ok a → (end : Left) × (outcome ≡ Ok (a, end))
-  read_all (Ok r) a is = (r.1, ap (λ b. Ok (b, r.1)) (same_ok {E = F} r.0 a is))
-  read_all (Err fault) a is = cc
+  pub whole-back : (a : A) → whole_text short rest layout text ≡ Ok a → TookAll (reading short layout) (at_front text) a
+  whole-back a is = go (ended rest (reading short layout) (at_front text)) refl is
+    where
+      go : (outcome : Outcome F A) → ended rest (reading short layout) (at_front text) ≡ outcome → value_of outcome ≡ Ok a
+          → TookAll (reading short layout) (at_front text) a
+      go (Ok r) e is = ended-back rest (reading short layout) (at_front text) r.1 a (e ∙ ap (λ b. Ok (b, r.1)) (same_ok {E = F} r.0 a is))
+      go (Err fault) e is = cc
+
+  pub whole-forth : (a : A) → TookAll (reading short layout) (at_front text) a → whole_text short rest layout text ≡ Ok a
+  whole-forth a all = ap value_of (ended-forth rest (reading short layout) (at_front text) a all)
 
   pub whole-says : (a : A) → IsBytes text → whole_text short rest layout text ≡ Ok a → Says layout a text
   whole-says a bytes is =
-      let read = read_all (ended rest (reading short layout) (at_front text)) a is in
-      let all = ended-back short rest (reading short layout) (at_front text) read.0 a read.1 in
+      let all = whole-back a is in
       let took = reading-says short layout (at_front text) all.end a bytes all.is in
       subst (Says layout a) (sym (took.bytes ∙ ap (λ t. took.front ++ t) all.none ∙ append-nil took.front)) took.says
 
   pub says-whole : (a : A) → Says layout a text → whole_text short rest layout text ≡ Ok a
   says-whole a says =
       let read = says-reading short layout 0 a text [] says in
-      ap value_of (ended-forth short rest (reading short layout) (at_front text) a
-      (record { end = record { place = read.0; bytes = [] }; is = rw (append-nil text) at read.1; none = refl }))
+      whole-forth a (record { end = record { place = read.0; bytes = [] }; is = rw (append-nil text) at read.1; none = refl })
 
   whole-agrees : Agrees (ended rest (reading short layout) (at_front text)) (text_fields short rest layout text) (λ a end. [])
   whole-agrees = ended_agrees (reading short layout (at_front text)) rest _ (λ a end. []) (reading-agrees short layout _ (at_front text))
@@ -151,3 +156,48 @@ module _ {F A : Type 0} (short rest : ℕ → F) (layout : Layout F A) (text : L
           → All IsGood (text_fields short rest layout text)
       go (Ok r) agrees is = passed_good (text_fields short rest layout text) agrees
       go (Err found) agrees is = cc
+
+-- What is read by one layout, and by another one
+
+module _ {F : Type 0} (short : ℕ → F) where
+  abbrev pub Stays : {A : Type 0} → Layout F A → Layout F A → Type 0
+  Stays {A} old new = (left next : Left) (a : A) → reading short old left ≡ Ok (a, next) → reading short new left ≡ Ok (a, next)
+
+  pub field-stays : {A : Type 0} (size : Size) (found more : ℕ → Option A) (refused other : ℕ → ℕ → F)
+      → ((n : ℕ) (a : A) → found n ≡ Some a → more n ≡ Some a) → Stays (Field size found refused) (Field size more other)
+  field-stays {A} size found more refused other stays left next a e =
+      let got = passed (number short (width size) left) (λ n. with_left (ok_or (found n) (refused left.place n))) a next e in
+      let is = got.is in
+      rw is (go got.first got.middle (found got.first) refl got.rest)
+    where
+      go : (n : ℕ) (middle : Left) (value : Option A) → found n ≡ value → with_left (ok_or value (refused left.place n)) middle
+          ≡ Ok (a, next) → with_left (ok_or (more n) (other left.place n)) middle ≡ Ok (a, next)
+      go n middle (Some b) there e = let also = stays n b there in rw also e
+      go n middle None there e = cc
+
+  pub then-stays : {A B : Type 0} (first other : Layout F A) (next more : A → Layout F B) → Stays first other
+      → ((a : A) → Stays (next a) (more a)) → Stays (Then first next) (Then other more)
+  then-stays first other next more one two left end b e =
+      let got = passed (reading short first left) (λ a. reading short (next a)) b end e in
+      let same = one left got.middle got.first got.is in
+      rw same (two got.first got.middle end b got.rest)
+
+  pub times-stays : {A : Type 0} (old new : Layout F A) → Stays old new → (n : ℕ) → Stays (Times n old) (Times n new)
+  times-stays old new stays zero left next xs e = e
+  times-stays old new stays (suc n) left next xs e =
+      let one = passed (reading short old left) (λ x. and_then (counted n (reading short old)) (λ xs. value (x ∷ xs))) xs next e in
+      let two = passed (counted n (reading short old) one.middle) (λ xs. value (one.first ∷ xs)) xs next one.rest in
+      let first = stays left one.middle one.first one.is in
+      let rest = times-stays old new stays n one.middle two.middle two.first two.is in
+      rw (first, rest) two.rest
+
+  pub listed-stays : {A : Type 0} (old new : Layout F A) → Stays old new → Stays (listed old) (listed new)
+  listed-stays old new stays = then-stays (Number U2) (Number U2) (λ n. Times n old) (λ n. Times n new) (λ left next n e. e)
+      (times-stays old new stays)
+
+  pub whole-stays : {A : Type 0} (rest : ℕ → F) (old new : Layout F A) (text : List ℕ) (a : A) → Stays old new
+      → whole_text short rest old text ≡ Ok a → whole_text short rest new text ≡ Ok a
+  whole-stays rest old new text a stays is =
+      let all = whole-back short rest old text a is in
+      whole-forth short rest new text a
+      (record { end = all.end; is = stays (at_front text) all.end a all.is; none = all.none })

@@ -187,15 +187,15 @@ module _ {F A : Type 0} (reading : Reading F A) (Says : A → List ℕ → Type 
       let second = counted-forth law n first.0 xs after rest (omega (arith, size)) more in
       (second.0, rw (is, append_assoc front after rest, first.1, second.1) refl)
 
--- a part that a reading takes whole
-module _ {F A : Type 0} (short rest : ℕ → F) (reading : Reading F A) where
-  -- what was read, and what is left
-  pub record TookAll (inner : Left) (a : A) : Type 0 where
-    pub end : Left
-    pub is : reading inner ≡ Ok (a, end)
-    pub none : end.bytes ≡ []
+-- what was read, where nothing is left behind it
+pub record TookAll {F A : Type 0} (reading : Reading F A) (inner : Left) (a : A) : Type 0 where
+  pub end : Left
+  pub is : reading inner ≡ Ok (a, end)
+  pub none : end.bytes ≡ []
 
-  pub ended-back : (left next : Left) (a : A) → ended rest reading left ≡ Ok (a, next) → TookAll left a
+-- a part that a reading takes whole
+module _ {F A : Type 0} (rest : ℕ → F) (reading : Reading F A) where
+  pub ended-back : (left next : Left) (a : A) → ended rest reading left ≡ Ok (a, next) → TookAll reading left a
   ended-back left next a e =
       let got = passed (reading left) (λ a next. cond (nat_eq (length next.bytes) 0) (Ok (a, next)) (Err (rest next.place))) a next e in
       go got.first got.middle got.is (chosen (nat_eq (length got.middle.bytes) 0) (Ok (got.first, got.middle))
@@ -203,7 +203,7 @@ module _ {F A : Type 0} (short rest : ℕ → F) (reading : Reading F A) where
     where
       go : (b : A) (end : Left) → reading left ≡ Ok (b, end) → ((nat_eq (length end.bytes) 0 ≡ true)
           × ◌≡◌ {A = Outcome F A} (Ok (b, end)) (Ok (a, next))) ⊎ ((nat_eq (length end.bytes) 0 ≡ false)
-          × ◌≡◌ {A = Outcome F A} (Err (rest end.place)) (Ok (a, next))) → TookAll left a
+          × ◌≡◌ {A = Outcome F A} (Err (rest end.place)) (Ok (a, next))) → TookAll reading left a
       go b end is (inl holds) = record {
         end = end;
         is = is ∙ ap (λ b. Ok (b, end)) (same_value {F = F} b a end next holds.1);
@@ -211,7 +211,7 @@ module _ {F A : Type 0} (short rest : ℕ → F) (reading : Reading F A) where
       }
       go b end is (inr fails) = let e = fails.1 in cc
 
-  pub ended-forth : (left : Left) (a : A) → (all : TookAll left a) → ended rest reading left ≡ Ok (a, all.end)
+  pub ended-forth : (left : Left) (a : A) → (all : TookAll reading left a) → ended rest reading left ≡ Ok (a, all.end)
   ended-forth left a all = rw (all.is, all.none) refl
 
   -- the part, and what was read of it
@@ -219,10 +219,10 @@ module _ {F A : Type 0} (short rest : ℕ → F) (reading : Reading F A) where
     pub inside : List ℕ
     pub size : length inside ≡ n
     pub bytes : left.bytes ≡ inside ++ next.bytes
-    pub all : TookAll (record { place = left.place; bytes = inside }) a
+    pub all : TookAll reading (record { place = left.place; bytes = inside }) a
 
-  pub whole-back : (n : ℕ) (left next : Left) (a : A) → whole short rest n reading left ≡ Ok (a, next) → TookWhole n left a next
-  whole-back n left next a e =
+  pub part_whole-back : (short : ℕ → F) (n : ℕ) (left next : Left) (a : A) → whole short rest n reading left ≡ Ok (a, next) → TookWhole n left a next
+  part_whole-back short n left next a e =
       let one = passed (inner_part short n left) (λ inner next. continued (ended rest reading inner) (λ a end. Ok (a, next))) a
       next e in
       let cut = passed (part short n left) (λ bytes. value (record { place = left.place; bytes = bytes })) one.first one.middle
@@ -237,13 +237,13 @@ module _ {F A : Type 0} (short rest : ℕ → F) (reading : Reading F A) where
         inside = cut.first;
         size = took.0;
         bytes = took.1 ∙ ap (λ (l : Left). cut.first ++ l.bytes) after;
-        all = subst (λ a. TookAll (record { place = left.place; bytes = cut.first }) a) same
-            (subst (λ left. TookAll left two.first) (sym inner) (ended-back one.first two.middle two.first two.is));
+        all = subst (λ a. TookAll reading (record { place = left.place; bytes = cut.first }) a) same
+            (subst (λ left. TookAll reading left two.first) (sym inner) (ended-back one.first two.middle two.first two.is));
       }
 
-  pub whole-forth : (n place : ℕ) (a : A) (text more : List ℕ) → length text ≡ n → TookAll (record { place = place; bytes = text }) a
+  pub part_whole-forth : (short : ℕ → F) (n place : ℕ) (a : A) (text more : List ℕ) → length text ≡ n → TookAll reading (record { place = place; bytes = text }) a
       → ReadBack (whole short rest n reading) place text a more
-  whole-forth n place a text more size all =
+  part_whole-forth short n place a text more size all =
       let cut = part-forth short n place text more size in
       let read = ended-forth (record { place = place; bytes = text }) a all in
       (cut.0, rw (cut.1, read) refl)
