@@ -201,3 +201,40 @@ module _ {F : Type 0} (short : ℕ → F) where
       let all = whole-back short rest old text a is in
       whole-forth short rest new text a
       (record { end = all.end; is = stays (at_front text) all.end a all.is; none = all.none })
+
+-- What each value has that is read
+
+module _ {F : Type 0} (short : ℕ → F) where
+  -- each value that a layout can give has this
+  abbrev pub Gives : {A : Type 0} → (A → Type 0) → Layout F A → Type 0
+  Gives P (Value a) = P a
+  Gives {A} P (Field size found refused) = (n : ℕ) (a : A) → found n ≡ Some a → P a
+  Gives P (Then first next) = Gives (λ a. Gives P (next a)) first
+  Gives {A} P _ = (a : A) → P a
+
+  pub reading-gives : {A : Type 0} (P : A → Type 0) (layout : Layout F A) (left next : Left) (a : A) → Gives P layout
+      → reading short layout left ≡ Ok (a, next) → P a
+  reading-gives P (Value b) left next a gives e = subst P (same_value {F = F} b a left next e) gives
+  reading-gives {A} P (Field size found refused) left next a gives e =
+      let got = passed (number short (width size) left) (λ n. with_left (ok_or (found n) (refused left.place n))) a next e in
+      go got.first got.middle (found got.first) refl got.rest
+    where
+      go : (n : ℕ) (middle : Left) (value : Option A) → found n ≡ value → with_left (ok_or value (refused left.place n)) middle
+          ≡ Ok (a, next) → P a
+      go n middle (Some b) there e = subst P (same_value {F = F} b a middle next e) (gives n b there)
+      go n middle None there e = cc
+  reading-gives P (Then first more) left next b gives e =
+      let got = passed (reading short first left) (λ a. reading short (more a)) b next e in
+      reading-gives P (more got.first) got.middle next b
+      (reading-gives (λ a. Gives P (more a)) first left got.middle got.first gives got.is) got.rest
+  reading-gives P (Number size) left next a gives e = gives a
+  reading-gives P (Bytes size) left next a gives e = gives a
+  reading-gives P (Told fault inner) left next a gives e = gives a
+  reading-gives P (Sized fault inner) left next a gives e = gives a
+  reading-gives P (Times n item) left next a gives e = gives a
+
+  pub whole-gives : {A : Type 0} (rest : ℕ → F) (P : A → Type 0) (layout : Layout F A) (text : List ℕ) (a : A) → Gives P layout
+      → whole_text short rest layout text ≡ Ok a → P a
+  whole-gives rest P layout text a gives is =
+      let all = whole-back short rest layout text a is in
+      reading-gives P layout (at_front text) all.end a gives all.is
