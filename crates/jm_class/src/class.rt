@@ -1,7 +1,7 @@
 ghost use Rattle.std.specs.Prelude.{Some};
 ghost use Rattle.jm_class.specs.FaultText.{class_fault_text};
 
-use jm_bytes::List;
+use jm_bytes::{List, Or};
 use std::fmt;
 
 /// A class file. Its opaque bytes are slices of the input.
@@ -112,6 +112,17 @@ pub enum ClassFault {
     CodeLength(usize),
     /// Bytes follow the class, from here on.
     Rest(usize),
+}
+
+impl From<ClassFault> for Or<ClassFault> {
+    ghost use Rattle.jm_bytes.specs.declared.faults.Or.TheVariants.{Fault};
+    ghost use Rattle.std.specs.Prelude.{◌≡◌};
+
+    ghost from_gives = { λ fault e. e ≡ Fault fault };
+
+    fn from(fault: ClassFault) -> Or<ClassFault> {
+        Or::Fault(fault)
+    }
 }
 
 /// The fault's name, and its number behind a space, as `Short 22`.

@@ -1,12 +1,10 @@
 ghost use Rattle.std.specs.Prelude.{◌≡◌};
 ghost use Rattle.std.specs.Int.{w16, w32};
-ghost use Rattle.jm_bytes.specs.declared.faults.Or.TheVariants.{Fault};
 ghost use Rattle.jm_class.specs.Readings.{number, part, sized, inner_part};
-ghost use Rattle.jm_class.specs.Views.{fault_at, Gives};
+ghost use Rattle.jm_class.specs.Views.{fault_at, Finds};
 
 use crate::class::ClassFault;
 use crate::cursor::Cursor;
-use jm_bytes::Or;
 
 /// What is said of a field that doesn't fit.
 #[derive(Clone, Copy)]
@@ -19,47 +17,43 @@ pub enum Missing {
 
 impl Missing {
     /// The fault of a field at a place.
-    pub fn fault(self, at: usize) -> Or<ClassFault>
-        ensures { result ≡ Fault (fault_at self at) }
+    pub fn fault(self, at: usize) -> ClassFault
+        ensures { result ≡ fault_at self at }
     {
         match self {
-            Missing::Here => Or::Fault(ClassFault::Short(at)),
-            Missing::Within(fault) => Or::Fault(fault),
+            Missing::Here => ClassFault::Short(at),
+            Missing::Within(fault) => fault,
         }
     }
 }
 
 /// A number of two bytes.
-pub fn number16(cursor: &mut Cursor, missing: Missing) -> Result<u16, Or<ClassFault>>
-    ensures { Gives (λ n. n) (number (fault_at missing) w16 cursor.old) result cursor.new }
+pub fn number16(cursor: &mut Cursor, missing: Missing) -> Result<u16, ClassFault>
+    ensures { Finds (λ n. n) (number (fault_at missing) w16 cursor.old) result cursor.new }
 {
     let at = cursor.place();
     cursor.u16().ok_or(missing.fault(at))
 }
 
 /// A number of four bytes.
-pub fn number32(cursor: &mut Cursor, missing: Missing) -> Result<u32, Or<ClassFault>>
-    ensures { Gives (λ n. n) (number (fault_at missing) w32 cursor.old) result cursor.new }
+pub fn number32(cursor: &mut Cursor, missing: Missing) -> Result<u32, ClassFault>
+    ensures { Finds (λ n. n) (number (fault_at missing) w32 cursor.old) result cursor.new }
 {
     let at = cursor.place();
     cursor.u32().ok_or(missing.fault(at))
 }
 
 /// So many bytes.
-pub fn part<'a>(
-    cursor: &mut Cursor<'a>,
-    n: usize,
-    missing: Missing,
-) -> Result<&'a [u8], Or<ClassFault>>
-    ensures { Gives (λ p. p.now) (part (fault_at missing) n cursor.old) result cursor.new }
+pub fn part<'a>(cursor: &mut Cursor<'a>, n: usize, missing: Missing) -> Result<&'a [u8], ClassFault>
+    ensures { Finds (λ p. p.now) (part (fault_at missing) n cursor.old) result cursor.new }
 {
     let at = cursor.place();
     cursor.part(n).ok_or(missing.fault(at))
 }
 
 /// A length of four bytes, and so many bytes.
-pub fn sized<'a>(cursor: &mut Cursor<'a>, missing: Missing) -> Result<&'a [u8], Or<ClassFault>>
-    ensures { Gives (λ p. p.now) (sized (fault_at missing) cursor.old) result cursor.new }
+pub fn sized<'a>(cursor: &mut Cursor<'a>, missing: Missing) -> Result<&'a [u8], ClassFault>
+    ensures { Finds (λ p. p.now) (sized (fault_at missing) cursor.old) result cursor.new }
 {
     let size = number32(cursor, missing)?;
     part(cursor, size as usize, missing)
@@ -70,8 +64,8 @@ pub fn inner<'a>(
     cursor: &mut Cursor<'a>,
     n: usize,
     missing: Missing,
-) -> Result<Cursor<'a>, Or<ClassFault>>
-    ensures { Gives (λ inner. inner) (inner_part (fault_at missing) n cursor.old)
+) -> Result<Cursor<'a>, ClassFault>
+    ensures { Finds (λ inner. inner) (inner_part (fault_at missing) n cursor.old)
         result cursor.new }
 {
     let at = cursor.place();

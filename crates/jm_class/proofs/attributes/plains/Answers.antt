@@ -1,3 +1,4 @@
+use Rattle.jm_bytes.specs.declared.faults.Or.TheVariants.{Fault}
 use Rattle.std.proofs.Common.{◌∙◌, map, refl}
 use Rattle.jm_class.specs.ClassLayout.{opaque_field}
 use Rattle.jm_class.specs.Layouts.{reading}
@@ -8,13 +9,13 @@ use Rattle.jm_class.proofs.attributes.plains.Goals as goal
 
 pub returns-in_err-name : goal.returns-in_err-name
 returns-in_err-name c =
-    gives_stop (λ n. n) (map opaque_of) _ _ c.in_err-name.field-0.0 c.from_residual-in_err-name.result c.name.new.cursor
+    gives_stop (λ n. n) (map opaque_of) _ _ (Fault c.in_err-name.field-0.0) c.from_residual-in_err-name.result c.name.new.cursor
     c.name.new.cursor c.from_residual-in_err-name.ensures.1 c.in_err-name.ensures
     (λ fault stops. c.loop-k.invariant ∙ counted-stop c.in_ok-count.count c.loop-k._k (reading (fault_at c.args.missing) (opaque_field (pool_of c.args.pool.now))) (map opaque_of c.loop-k.attributes) c.loop-k.cursor fault c.loop-k-test.true (rw stops refl))
 
 pub returns-in_err-bytes : goal.returns-in_err-bytes
 returns-in_err-bytes c =
-    gives_stop (λ bytes. (opaque_of (record { name = 0; bytes = bytes })).bytes) (map opaque_of) _ _ c.in_err-bytes.field-0.0
+    gives_stop (λ bytes. (opaque_of (record { name = 0; bytes = bytes })).bytes) (map opaque_of) _ _ (Fault c.in_err-bytes.field-0.0)
     c.from_residual-in_err-bytes.result c.sized.new.cursor c.sized.new.cursor c.from_residual-in_err-bytes.ensures.1 c.in_err-bytes.ensures
     (λ fault stops. c.loop-k.invariant ∙ counted-stop c.in_ok-count.count c.loop-k._k (reading (fault_at c.args.missing) (opaque_field (pool_of c.args.pool.now))) (map opaque_of c.loop-k.attributes) c.loop-k.cursor fault c.loop-k-test.true
     (rw (c.in_ok-name.ensures, stops) refl))

@@ -1,3 +1,4 @@
+use Rattle.jm_bytes.specs.declared.faults.Or.TheVariants.{Fault}
 use Rattle.std.proofs.Common.{◌-◌, ◌∙◌}
 use Rattle.jm_class.specs.Views.{slot_of, pool_of}
 use Rattle.jm_class.proofs.ListReadings.{slots-next, slots-stop}
@@ -6,7 +7,7 @@ use Rattle.jm_class.proofs.constants.pool.Goals as goal
 
 pub returns-in_err-slot : goal.returns-in_err-slot
 returns-in_err-slot c =
-    gives_stop slot_of pool_of _ _ c.in_err-slot.field-0.0 c.from_residual-in_err-slot.result c.slot.new.cursor c.slot.new.cursor
+    gives_stop slot_of pool_of _ _ (Fault c.in_err-slot.field-0.0) c.from_residual-in_err-slot.result c.slot.new.cursor c.slot.new.cursor
     c.from_residual-in_err-slot.ensures.1 c.in_err-slot.ensures
     (λ fault stops. c.loop-k.invariant ∙ slots-stop (c.in_ok-count.count - 1) c.loop-k.k c.loop-k.due (pool_of c.loop-k.slots)
     c.loop-k.cursor fault c.loop-k-test.true stops)

@@ -1,3 +1,4 @@
+use Rattle.jm_bytes.specs.declared.faults.Or.TheVariants.{Fault}
 use Rattle.std.proofs.Common.{◌∙◌, map, refl}
 use Rattle.jm_class.specs.declared.class.ClassFault.TheVariants.{Short}
 use Rattle.jm_class.specs.ClassLayout.{member_field}
@@ -9,21 +10,21 @@ use Rattle.jm_class.proofs.members.members.Goals as goal
 
 pub returns-in_err-access : goal.returns-in_err-access
 returns-in_err-access c =
-    gives_stop (λ n. n) (map member_of) _ _ c.in_err-access.field-0.0 c.from_residual-in_err-access.result c.number16-in-loop-k.new.cursor
+    gives_stop (λ n. n) (map member_of) _ _ (Fault c.in_err-access.field-0.0) c.from_residual-in_err-access.result c.number16-in-loop-k.new.cursor
     c.number16-in-loop-k.new.cursor c.from_residual-in_err-access.ensures.1 c.in_err-access.ensures
     (λ fault stops. c.loop-k.invariant ∙ counted-stop c.in_ok-count.count c.loop-k._k (reading Short (member_field (pool_of c.args.pool.now) c.args.in_method)) (map member_of c.loop-k.members) c.loop-k.cursor fault c.loop-k-test.true
     (rw stops refl))
 
 pub returns-in_err-name : goal.returns-in_err-name
 returns-in_err-name c =
-    gives_stop (λ n. n) (map member_of) _ _ c.in_err-name.field-0.0 c.from_residual-in_err-name.result c.number16-in-loop-k-2.new.cursor
+    gives_stop (λ n. n) (map member_of) _ _ (Fault c.in_err-name.field-0.0) c.from_residual-in_err-name.result c.number16-in-loop-k-2.new.cursor
     c.number16-in-loop-k-2.new.cursor c.from_residual-in_err-name.ensures.1 c.in_err-name.ensures
     (λ fault stops. c.loop-k.invariant ∙ counted-stop c.in_ok-count.count c.loop-k._k (reading Short (member_field (pool_of c.args.pool.now) c.args.in_method)) (map member_of c.loop-k.members) c.loop-k.cursor fault c.loop-k-test.true
     (rw (c.in_ok-access.ensures, stops) refl))
 
 pub returns-in_err-descriptor : goal.returns-in_err-descriptor
 returns-in_err-descriptor c =
-    gives_stop (λ n. n) (map member_of) _ _ c.in_err-descriptor.field-0.0 c.from_residual-in_err-descriptor.result
+    gives_stop (λ n. n) (map member_of) _ _ (Fault c.in_err-descriptor.field-0.0) c.from_residual-in_err-descriptor.result
     c.number16-in-loop-k-3.new.cursor c.number16-in-loop-k-3.new.cursor
     c.from_residual-in_err-descriptor.ensures.1 c.in_err-descriptor.ensures
     (λ fault stops. c.loop-k.invariant ∙ counted-stop c.in_ok-count.count c.loop-k._k (reading Short (member_field (pool_of c.args.pool.now) c.args.in_method)) (map member_of c.loop-k.members) c.loop-k.cursor fault c.loop-k-test.true
