@@ -1,11 +1,12 @@
-pub mod ClassFaultLaws
-pub mod ComputedClassLaws
+pub mod ClassLaws
+pub mod FaultLaws
 pub mod FieldLaws
-pub mod FormatLaws
+pub mod LayoutLaws
 pub mod ListReadings
 pub mod PoolLaws
 pub mod ReadingLaws
 pub mod ReleaseLaws
 pub mod Stops
+pub mod TextLaws
 pub mod Vectors
 pub mod WholeReadings

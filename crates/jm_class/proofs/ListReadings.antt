@@ -1,11 +1,12 @@
 -- Lists that are read one item after another: what was read so far, before what is still to come.
-use Rattle.std.proofs.Common.{◌≡◌, ℕ, zero, suc, ◌+◌, ◌-◌, ◌<◌, Bool, List, [], ◌∷◌, ◌++◌, Ok, Err, refl, arith, append_assoc}
+use Rattle.std.proofs.Common.{◌≡◌, ℕ, suc, ◌+◌, ◌-◌, ◌<◌, Bool, List, [], ◌∷◌, ◌++◌, Ok, Err, refl, arith, append_assoc}
 use Rattle.std.proofs.lemmas.Bool.Decides.{nat_tests}
-use Rattle.std.proofs.lemmas.List.{append-nil}
 use Rattle.std.specs.Prelude.{nat_lt}
 use Rattle.jm_class.specs.declared.class.ClassFault.{ClassFault}
+use Rattle.jm_class.specs.declared.class.ClassFault.TheVariants.{Short}
 use Rattle.jm_class.specs.Classes.{SlotData}
-use Rattle.jm_class.specs.ComputedClass.{slot_field, slots, is_wide_slot}
+use Rattle.jm_class.specs.ClassLayout.{slot_field, slots, is_wide_slot}
+use Rattle.jm_class.specs.Layouts.{reading}
 use Rattle.jm_class.specs.Readings.{Left, Outcome, Reading, value, continued, counted}
 
 -- the items so far before those that a reading gives; a fault stays
@@ -16,11 +17,6 @@ prefixed front (Err fault) = Err fault
 pub prefixed-none : {F A : Type 0} (outcome : Outcome F (List A)) → outcome ≡ prefixed [] outcome
 prefixed-none (Ok r) = refl
 prefixed-none (Err fault) = refl
-
-pub prefixed-all : {F A : Type 0} (front : List A) (left : Left) → prefixed {F = F} front (Ok ([], left)) ≡ Ok (front, left)
-prefixed-all {F} {A} front left =
-    let whole = append-nil front in
-    rw whole refl
 
 -- one item goes from what is to come to what was read
 item_moved : {F A : Type 0} (front : List A) (item : A) (outcome : Outcome F (List A))
@@ -45,12 +41,6 @@ counted-stop count k reading front left fault more e =
     let number : count - k ≡ suc (count - (k + 1)) = omega arith in
     rw (number, e) refl
 
-pub counted-end : {F A : Type 0} (count k : ℕ) (reading : Reading F A) (front : List A) (left : Left) → k ≡ count
-    → prefixed front (counted (count - k) reading left) ≡ Ok (front, left)
-counted-end count k reading front left all =
-    let number : count - k ≡ zero = omega (arith, all) in
-    rw number (prefixed-all front left)
-
 -- The numbers of a pool
 
 -- one more is needed behind this number
@@ -58,20 +48,14 @@ pub same_test : (count k : ℕ) → k < count → nat_lt 0 (count - (k + 1)) ≡
 same_test count k more = grind (arith, nat_tests)
 
 pub slots-next : (count k : ℕ) (due : Bool) (front : List SlotData) (left next : Left) (slot : SlotData) → k < count
-    → slot_field due (nat_lt (k + 1) count) left ≡ Ok (slot, next) → prefixed front (slots (count - k) due left)
-    ≡ prefixed (front ++ slot ∷ []) (slots (count - (k + 1)) (is_wide_slot slot) next)
+    → reading Short (slot_field due (nat_lt (k + 1) count)) left ≡ Ok (slot, next) → prefixed front (reading Short (slots (count - k) due) left)
+    ≡ prefixed (front ++ slot ∷ []) (reading Short (slots (count - (k + 1)) (is_wide_slot slot)) next)
 slots-next count k due front left next slot more e =
     let number : count - k ≡ suc (count - (k + 1)) = omega arith in
-    rw (number, same_test count k more, e) (item_moved front slot (slots (count - (k + 1)) (is_wide_slot slot) next))
+    rw (number, same_test count k more, e) (item_moved front slot (reading Short (slots (count - (k + 1)) (is_wide_slot slot)) next))
 
 pub slots-stop : (count k : ℕ) (due : Bool) (front : List SlotData) (left : Left) (fault : ClassFault) → k < count
-    → slot_field due (nat_lt (k + 1) count) left ≡ Err fault → prefixed front (slots (count - k) due left) ≡ Err fault
+    → reading Short (slot_field due (nat_lt (k + 1) count)) left ≡ Err fault → prefixed front (reading Short (slots (count - k) due) left) ≡ Err fault
 slots-stop count k due front left fault more e =
     let number : count - k ≡ suc (count - (k + 1)) = omega arith in
     rw (number, same_test count k more, e) refl
-
-pub slots-end : (count k : ℕ) (due : Bool) (front : List SlotData) (left : Left) → k ≡ count
-    → prefixed front (slots (count - k) due left) ≡ Ok (front, left)
-slots-end count k due front left all =
-    let number : count - k ≡ zero = omega (arith, all) in
-    rw number (prefixed-all front left)

@@ -1,39 +1,33 @@
--- The constants of a pool are read exactly where their texts stand.
+-- The constants of a pool are laid out exactly as their texts stand.
 use Rattle.std.proofs.Common.{◌≡◌, ℕ, zero, suc, ◌+◌, ◌-◌, ◌^◌, ◌<◌, inl, inr, Bool, true, false, cond, ◌||◌}
-use Rattle.std.proofs.Common.{List, [], ◌∷◌, ◌++◌, length, Option, Some, None, Ok, refl, sym, ap, ◌∙◌, subst}
-use Rattle.std.proofs.Common.{arith, append_assoc}
-use Rattle.std.proofs.lemmas.Bool.{eqb-true, eq-eqb, ltb-true, lt-ltb, or_right, false≢true}
+use Rattle.std.proofs.Common.{List, [], ◌∷◌, ◌++◌, length, Option, Some, None, refl, sym, ap, ◌∙◌, subst}
+use Rattle.std.proofs.Common.{arith}
+use Rattle.std.proofs.lemmas.Bool.{and_parts, and_from, eqb-true, eq-eqb, ltb-true, lt-ltb, or_right, false≢true}
 use Rattle.std.proofs.lemmas.Bool.Decides.{nat_tests}
 use Rattle.std.proofs.lemmas.List.{append-nil, nil_from_length}
-use Rattle.std.specs.Int.{w16}
 use Rattle.std.specs.List.{flat_map}
 use Rattle.std.specs.Prelude.{is_some, nat_eq, nat_lt}
-use Rattle.jm_class.specs.declared.class.ClassFault.{ClassFault}
-use Rattle.jm_class.specs.declared.class.ClassFault.TheVariants.{Short, Tag, Index}
+use Rattle.jm_class.specs.declared.class.ClassFault.TheVariants.{Short, Index}
 use Rattle.jm_class.specs.Classes.{SlotData, Constant, Hole, u1, u2, joined, body_text, slot_text, pool_text}
 use Rattle.jm_class.specs.Classes.{body_size, is_tag, is_wide, FitsTag, IsPoolFrom}
-use Rattle.jm_class.specs.ComputedClass.{tag_field, text_field, body_of_size, body_field, constant}
-use Rattle.jm_class.specs.ComputedClass.{slot_field, is_wide_slot, slots, pool_field}
-use Rattle.jm_class.specs.Readings.{Left, value, and_then, part, number}
-use Rattle.jm_class.proofs.ReadingLaws.{Always, placed-lawful, Lawful, Took, ReadBack, IsBytes, passed}
-use Rattle.jm_class.proofs.ReadingLaws.{bytes_behind, same_value, same_left, value-lawful, said-lawful}
-use Rattle.jm_class.proofs.ReadingLaws.{made-lawful, checked-lawful, and_then-lawful, part-lawful}
-use Rattle.jm_class.proofs.ReadingLaws.{number8-lawful, number16-lawful}
+use Rattle.jm_class.specs.ClassLayout.{is_tag_where, tag_fault, tag_field, body_of_size, body_field, constant}
+use Rattle.jm_class.specs.ClassLayout.{slot_field, is_wide_slot, slots, pool_field}
+use Rattle.jm_class.specs.Layouts.{U1, U2, Says}
+use Rattle.jm_class.proofs.TextLaws.{Always, Lawful, value-lawful, said-lawful, made-lawful, told-lawful, tested-lawful}
+use Rattle.jm_class.proofs.TextLaws.{then-lawful, bytes-lawful, number-lawful}
 
 -- a Long or a Double needs one number more
 abbrev HasRoom : Bool → ℕ → Type 0
 HasRoom more tag = cond (is_wide tag) more true ≡ true
 
-tag-lawful : (more : Bool) → Lawful (tag_field more) u1 (λ tag. ((tag < 2 ^ 8) × (is_tag tag ≡ true)) × HasRoom more tag)
-tag-lawful more =
-    checked-lawful (λ tag. cond (is_wide tag) more true) (λ at tag. Index at) _ _ _
-    (checked-lawful is_tag (λ at tag. Tag at) _ _ _ (number8-lawful Short))
+tag-lawful : (more : Bool) → Lawful (tag_field more) u1 (λ tag. (tag < 2 ^ 8) × (is_tag_where more tag ≡ true))
+tag-lawful more = tested-lawful U1 (is_tag_where more) tag_fault
 
-text-lawful : Lawful text_field (λ body. joined (u2 (length body) ∷ body ∷ [])) (λ body. length body < 2 ^ 16)
-text-lawful = placed-lawful (λ at. and_then (number (λ _. Short at) w16) (λ size. part (λ _. Short at) size)) _ _ (λ at.
-    said-lawful _ (λ body. joined (u2 (length body) ∷ body ∷ [])) _ (λ body. length body < 2 ^ 16)
-    (and_then-lawful _ _ u2 _ length (λ xs. xs) Always (λ _ _. Unit {0}) (number16-lawful (λ _. Short at))
-    (λ size fits. said-lawful _ _ _ _ (part-lawful (λ _. Short at) size) (λ xs is. ((tt, is), tt)) (λ xs is. is.0.1) (λ xs is. refl)))
+text-lawful : Lawful (body_of_size None) (λ body. joined (u2 (length body) ∷ body ∷ [])) (λ body. length body < 2 ^ 16)
+text-lawful =
+    told-lawful Short _ _ _ (said-lawful _ (λ body. joined (u2 (length body) ∷ body ∷ [])) _ (λ body. length body < 2 ^ 16)
+    (then-lawful _ _ u2 _ length (λ xs. xs) Always (λ _ _. Unit {0}) (number-lawful U2)
+    (λ size fits. said-lawful _ _ _ _ (bytes-lawful size) (λ xs is. ((tt, is), tt)) (λ xs is. is.0.1) (λ xs is. refl)))
     (λ xs fits. fits.1.0) (λ xs fits. (tt, (fits, tt))) (λ xs fits. ap (λ t. u2 (length xs) ++ t) (sym (append-nil xs))))
 
 -- the tags of a size aren't that of a Utf8
@@ -65,7 +59,7 @@ body-lawful tag is = go (body_size tag) refl
 
     go : (o : Option ℕ) → body_size tag ≡ o → Lawful (body_of_size o) (body_text tag) (FitsTag tag)
     go (Some size) e =
-        said-lawful _ (body_text tag) _ (FitsTag tag) (part-lawful Short size)
+        said-lawful _ (body_text tag) _ (FitsTag tag) (bytes-lawful size)
         (λ body fits. inr (e ∙ ap (λ n. Some n) (sym fits))) (fits_sized size e)
         (λ body fits. let test = sized_tag tag size e in rw test refl)
     go None e =
@@ -104,10 +98,10 @@ IsSlot _ more _ = ⊥
 constant-lawful : (more : Bool) → Lawful (constant more) slot_text (IsSlot false more)
 constant-lawful more =
     said-lawful (λ s. u1 (tag_in s) ++ (body_text (tag_in s) (body_in s) ++ [])) slot_text _ (IsSlot false more)
-    (and_then-lawful _ _ u1 _ tag_in (λ s. body_text (tag_in s) (body_in s) ++ []) IsConstant (λ tag s. FitsTag tag (body_in s))
+    (then-lawful _ _ u1 _ tag_in (λ s. body_text (tag_in s) (body_in s) ++ []) IsConstant (λ tag s. FitsTag tag (body_in s))
     (tag-lawful more) (λ tag fit.
     said-lawful (λ s. body_text tag (body_in s) ++ []) (λ s. body_text (tag_in s) (body_in s) ++ []) _ _
-    (and_then-lawful _ _ _ _ body_in _ _ _ (body-lawful tag fit.0.1)
+    (then-lawful _ _ _ _ body_in _ _ _ (body-lawful tag (and_parts (is_tag tag) _ fit.1).0)
     (λ body fits. made-lawful (λ s. (IsConstant s × (tag_in s ≡ tag)) × (body_in s ≡ body)) (Constant tag body)
     ((tt, refl), refl) only))
     (λ s fits. (fits.0, fits.1.0)) (λ s fits. (fits.0, (fits.1, tt)))
@@ -118,17 +112,18 @@ constant-lawful more =
     only (Constant tag body) e = rw (e.0.1, e.1) refl
     only Hole e = absurd e.0.0
 
-    says : (s : SlotData) → IsConstant s × ((((tag_in s < 2 ^ 8) × (is_tag (tag_in s) ≡ true)) × HasRoom more (tag_in s))
+    says : (s : SlotData) → IsConstant s × (((tag_in s < 2 ^ 8) × (is_tag_where more (tag_in s) ≡ true))
         × FitsTag (tag_in s) (body_in s)) → IsSlot false more s
-    says (Constant tag body) fits = (fits.1.1, fits.1.0.1)
+    says (Constant tag body) fits = (fits.1.1, (and_parts (is_tag tag) _ fits.1.0.1).1)
     says Hole fits = absurd fits.0
 
-    fits : (s : SlotData) → IsSlot false more s → IsConstant s × ((((tag_in s < 2 ^ 8) × (is_tag (tag_in s) ≡ true))
-        × HasRoom more (tag_in s)) × FitsTag (tag_in s) (body_in s))
-    fits (Constant tag body) is = (tt, ((known_tag tag body is.0, is.1), is.0))
+    fits : (s : SlotData) → IsSlot false more s → IsConstant s × (((tag_in s < 2 ^ 8) × (is_tag_where more (tag_in s) ≡ true)) × FitsTag (tag_in s) (body_in s))
+    fits (Constant tag body) is =
+        let known = known_tag tag body is.0 in
+        (tt, ((known.0, and_from (is_tag tag) _ known.1 is.1), is.0))
     fits Hole is = absurd is
 
-    same : (s : SlotData) → IsConstant s × ((((tag_in s < 2 ^ 8) × (is_tag (tag_in s) ≡ true)) × HasRoom more (tag_in s))
+    same : (s : SlotData) → IsConstant s × (((tag_in s < 2 ^ 8) × (is_tag_where more (tag_in s) ≡ true))
         × FitsTag (tag_in s) (body_in s)) → u1 (tag_in s) ++ (body_text (tag_in s) (body_in s) ++ []) ≡ slot_text s
     same (Constant tag body) fits = refl
     same Hole fits = absurd fits.0
@@ -185,57 +180,42 @@ pub slots-lawful : (n : ℕ) (due : Bool) → (due ≡ true → 0 < n) → Lawfu
     × IsPoolFrom due xs)
 slots-lawful zero true room = absurd (let none = room refl in omega (arith, none))
 slots-lawful zero false room = record {
-  back = λ left next xs bytes e.
-      let none = same_value {F = ClassFault} [] xs left next e in
-      record {
-        fits = subst (Numbers 0 false) none (refl, refl);
-        bytes =
-            rw (sym none) (ap (λ (l : Left). l.bytes) (same_left {F = ClassFault} [] xs left next e));
-      };
-  forth = λ place xs rest fits. let none : xs ≡ [] = nil_from_length xs fits.0 in (place, rw none refl);
+  back = λ xs bytes says. let none = sym says.0 in (subst (Numbers 0 false) none (refl, refl), says.1 ∙ ap (flat_map slot_text) none);
+  forth = λ xs fits. let none = nil_from_length xs fits.0 in (none, ap (flat_map slot_text) none);
 }
 slots-lawful (suc n) due room = record { back = back (slots-lawful n); forth = forth (slots-lawful n) }
   where
     back : ((d : Bool) → (d ≡ true → 0 < n) → Lawful (slots n d) (flat_map slot_text) (Numbers n d))
-        → (left next : Left) (xs : List SlotData) → IsBytes left.bytes → slots (suc n) due left ≡ Ok (xs, next)
-        → Took (flat_map slot_text) (Numbers (suc n) due) left xs next
-    back more left next xs bytes e =
-        let one = passed (slot_field due (nat_lt 0 n) left) (λ slot. and_then (slots n (is_wide_slot slot))
-        (λ slots. value (slot ∷ slots))) xs next e in
-        let two = passed (slots n (is_wide_slot one.first) one.middle) (λ slots. value (one.first ∷ slots)) xs next one.rest in
-        let first = (slot-lawful due (nat_lt 0 n)).back left one.middle one.first bytes one.is in
-        let behind = bytes_behind (slot_text one.first) one.middle.bytes (subst IsBytes first.bytes bytes) in
-        let rest = (more (is_wide_slot one.first) (due_behind due n one.first first.fits)).back one.middle two.middle two.first
-        behind two.is in
-        let same = same_value {F = ClassFault} (one.first ∷ two.first) xs two.middle next two.rest in
-        let after = same_left {F = ClassFault} (one.first ∷ two.first) xs two.middle next two.rest in
-        let size : suc (length two.first) ≡ suc n = ap suc rest.fits.0 in
-        record {
-          fits = subst (Numbers (suc n) due) same (size, pool_cons due (nat_lt 0 n) one.first two.first first.fits rest.fits.1);
-          bytes =
-              first.bytes ∙ ap (λ m. slot_text one.first ++ m) (rest.bytes ∙ ap (λ (l : Left). flat_map slot_text two.first
-              ++ l.bytes) after)
-              ∙ sym (append_assoc (slot_text one.first) (flat_map slot_text two.first) next.bytes)
-              ∙ ap (λ xs. flat_map slot_text xs ++ next.bytes) same;
-        }
+        → (xs : List SlotData) (bytes : List ℕ) → Says (slots (suc n) due) xs bytes
+        → Numbers (suc n) due xs × (bytes ≡ flat_map slot_text xs)
+    back more xs bytes (slot, front, after, is, one, (others, body, last, parts, two, (same, none))) =
+        let first = (slot-lawful due (nat_lt 0 n)).back slot front one in
+        let rest = (more (is_wide_slot slot) (due_behind due n slot first.0)).back others body two in (
+          subst (Numbers (suc n) due) (sym same) (ap suc rest.0.0, pool_cons due (nat_lt 0 n) slot others first.0 rest.0.1),
+          is ∙ rw (parts, first.1, rest.1, none, append-nil (flat_map slot_text others)) (ap (flat_map slot_text) (sym same)),
+        )
 
     forth : ((d : Bool) → (d ≡ true → 0 < n) → Lawful (slots n d) (flat_map slot_text) (Numbers n d))
-        → (place : ℕ) (xs : List SlotData) (rest : List ℕ) → Numbers (suc n) due xs → ReadBack (slots (suc n) due) place
-        (flat_map slot_text xs) xs rest
-    forth more place [] rest fits = absurd (omega (arith, fits.0))
-    forth more place (x ∷ xs) rest fits =
+        → (xs : List SlotData) → Numbers (suc n) due xs → Says (slots (suc n) due) xs (flat_map slot_text xs)
+    forth more [] fits = absurd (omega (arith, fits.0))
+    forth more (x ∷ xs) fits =
         let size : length xs ≡ n = omega (arith, fits.0) in
         let parts = pool_head due n x xs size fits.1 in
-        let one = (slot-lawful due (nat_lt 0 n)).forth place x (flat_map slot_text xs ++ rest) parts.0 in
-        let two = (more (is_wide_slot x) (due_behind due n x parts.0)).forth one.0 xs rest (size, parts.1) in
-        (two.0, rw (append_assoc (slot_text x) (flat_map slot_text xs) rest, one.1, two.1) refl)
+        let rest = (more (is_wide_slot x) (due_behind due n x parts.0)).forth xs (size, parts.1) in (
+          x,
+          slot_text x,
+          flat_map slot_text xs,
+          refl,
+          (slot-lawful due (nat_lt 0 n)).forth x parts.0,
+          (xs, flat_map slot_text xs, [], sym (append-nil (flat_map slot_text xs)), rest, (refl, refl)),
+        )
 
 -- the pool with its count, which is one more than its numbers
 pub pool-lawful : Lawful pool_field pool_text (λ pool. (length pool < 65535) × IsPoolFrom false pool)
 pool-lawful =
     said-lawful _ pool_text _ (λ pool. (length pool < 65535) × IsPoolFrom false pool)
-    (and_then-lawful _ _ u2 _ (λ pool. length pool + 1) (flat_map slot_text) Always (λ _ pool. IsPoolFrom false pool)
-    (checked-lawful (λ count. nat_lt 0 count) _ _ _ _ (number16-lawful Short))
+    (then-lawful _ _ u2 _ (λ pool. length pool + 1) (flat_map slot_text) Always (λ _ pool. IsPoolFrom false pool)
+    (tested-lawful U2 (λ count. nat_lt 0 count) (λ at count. Index at))
     (λ count fits. said-lawful _ _ _ _ (slots-lawful (count - 1) false (λ e. cc))
     (λ xs is. ((tt, let some = ltb-true 0 count fits.1 in let size = is.0 in omega (arith, some, size)), is.1))
     (λ xs is. (let size = is.0.1 in omega (arith, size), is.1)) (λ xs is. refl)))

@@ -12,13 +12,13 @@ use Rattle.jm_bytes.specs.declared.faults.Or.{Or}
 use Rattle.jm_class.specs.declared.class.Class.{Class}
 use Rattle.jm_class.specs.declared.class.ClassFault.{ClassFault}
 use Rattle.jm_class.specs.declared.class.ClassFault.TheVariants.{Version}
-use Rattle.jm_class.specs.ClassFaults.{HasNoClassFault}
 use Rattle.jm_class.specs.Classes.{ClassData, IsClass, ReadsAs, class_text, magic, u2, u4}
-use Rattle.jm_class.specs.ComputedClass.{class_fault, class_of, fault_of}
+use Rattle.jm_class.specs.ClassLayout.{class_fault, class_of, HasNoClassFault}
+use Rattle.jm_class.specs.Layouts.{fault_of}
 use Rattle.jm_class.specs.Releases.{newest_major, major_in, release_fault, ReadsFor, class_for, fault_for, IsReadFor}
 use Rattle.jm_class.specs.Views.{ReadsClass, plain}
-use Rattle.jm_class.proofs.ClassFaultLaws.{class_has_fault, class_has_none}
-use Rattle.jm_class.proofs.ComputedClassLaws.{class_of-reads, reads-class_of, class_only, class_no_fault, class_refused, class_none}
+use Rattle.jm_class.proofs.ClassLaws.{class_has_fault, class_has_none}
+use Rattle.jm_class.proofs.ClassLaws.{class_of-reads, reads-class_of, class_only, class_no_fault, class_refused, class_none}
 use Rattle.jm_class.proofs.ReadingLaws.{IsBytes}
 
 -- the major version of a class stands in its text

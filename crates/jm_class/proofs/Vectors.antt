@@ -1,13 +1,13 @@
 -- The definitions, evaluated on the small classes of the format's cases.
-use Rattle.std.proofs.Common.{◌≡◌, ℕ, List, [], ◌∷◌, ◌++◌, Option, Some, None, Result, Ok, Err, refl, map, take, drop, length}
+use Rattle.std.proofs.Common.{◌≡◌, ℕ, ◌-◌, List, [], ◌∷◌, ◌++◌, Option, Some, None, Result, Ok, Err, refl, map, take, drop, length}
 use Rattle.std.specs.Prelude.{replicate}
 use Rattle.jm_bytes.specs.Checks.{first_fault}
 use Rattle.jm_class.specs.declared.class.ClassFault.{ClassFault}
 use Rattle.jm_class.specs.declared.class.ClassFault.TheVariants.{Magic, Version, Short, Tag, Index, CodeLength, Rest}
 use Rattle.jm_class.specs.Classes.{Constant, Hole, ClassData, class_text}
-use Rattle.jm_class.specs.ClassFaults.{class_table, class_fields_seen}
-use Rattle.jm_class.specs.ComputedClass.{class_of, class_fault}
-use Rattle.jm_class.proofs.FormatLaws.{field_fault}
+use Rattle.jm_class.specs.ClassLayout.{class_of, class_fault, class_fields}
+use Rattle.jm_class.specs.Layouts.{FieldSeen, Stands, Ends, text_fields}
+use Rattle.jm_class.proofs.FaultLaws.{field_fault}
 
 abbrev zeros : ℕ → List ℕ
 zeros n = replicate n 0
@@ -125,11 +125,19 @@ generated-longer = refl
 
 -- The rule, evaluated: the fields from left to right, and the fault of the first that has one
 
+abbrev seen : List ℕ → List (FieldSeen ClassFault)
+seen bytes = text_fields Short Rest class_fields bytes
+
+-- where a field begins, and how many bytes it has; where an end is, and how many bytes are left
+abbrev pub place_of : FieldSeen ClassFault → ℕ × ℕ
+place_of (Stands place size part_end missing refused) = (place, size)
+place_of (Ends place part_end rest) = (place, part_end - place)
+
 abbrev places : List ℕ → List (ℕ × ℕ)
-places bytes = map (λ f. (f.place, f.size)) (class_fields_seen bytes)
+places bytes = map place_of (seen bytes)
 
 abbrev rule_fault : List ℕ → Option ClassFault
-rule_fault bytes = first_fault (map (λ f. field_fault class_table f) (class_fields_seen bytes))
+rule_fault bytes = first_fault (map field_fault (seen bytes))
 
 -- magic, minor, major, count of the pool, flags, class, class above, four counts; the end
 smallest-fields : places smallest ≡ (0, 4) ∷ (4, 2) ∷ (6, 2) ∷ (8, 2) ∷ (10, 2) ∷ (12, 2) ∷ (14, 2) ∷ (16, 2) ∷ (18, 2) ∷ (20, 2) ∷

@@ -1,8 +1,7 @@
-pub mod ClassFaults
+pub mod ClassLayout
 pub mod Classes
-pub mod ComputedClass
 pub mod FaultText
-pub mod Formats
+pub mod Layouts
 pub mod Readings
 pub mod Releases
 pub mod Views

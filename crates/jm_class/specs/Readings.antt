@@ -1,7 +1,7 @@
 -- Readings from left to right: what stands at a place, or the first fault (this project's rule).
--- A reading is made of a few forms: a number, a part, one behind another, so many of one kind, a
--- check, a part that another reading takes whole.
-use Rattle.std.specs.Prelude.{◌≡◌, ℕ, zero, suc, ◌+◌, ◌≤◌, nat_le, Bool, ◌==◌, List, [], ◌∷◌}
+-- A reading is made of a few forms: a number, a part, one behind another, that many of one kind, a
+-- part that another reading takes whole.
+use Rattle.std.specs.Prelude.{◌≡◌, ℕ, zero, suc, ◌+◌, ◌≤◌, nat_le, ◌==◌, List, [], ◌∷◌}
 use Rattle.std.specs.Prelude.{length, take, drop, Result, Ok, Err, if◌then◌else◌}
 use Rattle.std.specs.Int.{Width, w16, w32, byte_len, from_be_bytes}
 
@@ -58,11 +58,6 @@ list_of short item = and_then (number short w16) (λ count. counted count item)
 -- a length of four bytes, and so many bytes
 abbrev pub sized : {F : Type 0} → (ℕ → F) → Reading F (List ℕ)
 sized short = and_then (number short w32) (λ size. part short size)
-
--- a value that passes a test; the fault by its place and the value
-abbrev pub checked : {F A : Type 0} → (A → Bool) → (ℕ → A → F) → Reading F A → Reading F A
-checked test fault reading left =
-    continued (reading left) (λ a next. if test a then Ok (a, next) else Err (fault left.place a))
 
 -- no byte is left behind it; the fault by the place of the first one
 abbrev pub ended : {F A : Type 0} → (ℕ → F) → Reading F A → Reading F A

@@ -12,9 +12,9 @@ use Rattle.jm_bytes.specs.declared.faults.Or.TheVariants.{Fault}
 use Rattle.jm_class.specs.declared.class.Class.{Class}
 use Rattle.jm_class.specs.declared.class.ClassFault.{ClassFault}
 use Rattle.jm_class.specs.declared.class.ClassFault.TheVariants.{Version}
-use Rattle.jm_class.specs.ClassFaults.{HasClassFault, HasNoClassFault}
+use Rattle.jm_class.specs.ClassLayout.{class_of, HasClassFault, HasNoClassFault}
 use Rattle.jm_class.specs.Classes.{ClassData, ReadsAs, magic}
-use Rattle.jm_class.specs.ComputedClass.{class_of, fault_of}
+use Rattle.jm_class.specs.Layouts.{fault_of}
 use Rattle.jm_class.specs.Views.{plain}
 
 -- the greatest major version of a release

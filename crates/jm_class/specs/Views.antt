@@ -17,7 +17,7 @@ use Rattle.jm_class.specs.declared.fields.Missing.{Missing}
 use Rattle.jm_class.specs.declared.fields.Missing.TheVariants.{Here, Within}
 use Rattle.jm_class.specs.Classes.{SlotData, Constant, Hole, OpaqueData, CodeData, BodyData, Opaque}
 use Rattle.jm_class.specs.Classes.{Coded, AttributeData, MemberData, ClassData}
-use Rattle.jm_class.specs.ComputedClass.{class_of}
+use Rattle.jm_class.specs.ClassLayout.{class_of}
 use Rattle.jm_class.specs.Readings.{Left, Outcome}
 
 -- a slot of the pool as plain data

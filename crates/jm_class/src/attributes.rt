@@ -1,8 +1,8 @@
 ghost use Rattle.std.specs.Prelude.{◌≡◌, ◌*◌, map};
 ghost use Rattle.jm_class.specs.Classes.{utf8_at, is_code_name};
-ghost use Rattle.jm_class.specs.ComputedClass.{name_field, opaque_field, code_fields};
-ghost use Rattle.jm_class.specs.ComputedClass.{code_field, attribute_field};
-ghost use Rattle.jm_class.specs.Readings.{part, list_of};
+ghost use Rattle.jm_class.specs.ClassLayout.{name_field, opaque_field, code_fields};
+ghost use Rattle.jm_class.specs.ClassLayout.{code_field, attribute_field};
+ghost use Rattle.jm_class.specs.Layouts.{reading, listed};
 ghost use Rattle.jm_class.specs.declared.class.ClassFault.TheVariants.{Short};
 ghost use Rattle.jm_class.specs.Views.{Gives, fault_at, pool_of, opaque_of, code_of};
 ghost use Rattle.jm_class.specs.Views.{attribute_of};
@@ -26,7 +26,7 @@ fn is_code(pool: &[Slot], name: u16) -> bool
 
 /// The name of an attribute: the number of a Utf8.
 fn name(cursor: &mut Cursor, pool: &[Slot], missing: Missing) -> Result<u16, Or<ClassFault>>
-    ensures { Gives (λ n. n) (name_field (fault_at missing) (pool_of pool.now) cursor.old)
+    ensures { Gives (λ n. n) (reading (fault_at missing) (name_field (pool_of pool.now)) cursor.old)
         result cursor.new }
 {
     let at = cursor.place();
@@ -45,7 +45,7 @@ fn plains<'a>(
     missing: Missing,
 ) -> Result<List<Plain<'a>>, Or<ClassFault>>
     ensures { Gives (map opaque_of)
-        (list_of (fault_at missing) (opaque_field (fault_at missing) (pool_of pool.now)) cursor.old)
+        (reading (fault_at missing) (listed (opaque_field (pool_of pool.now))) cursor.old)
         result cursor.new }
 {
     let count = number16(cursor, missing)?;
@@ -65,7 +65,7 @@ fn code_parts<'a>(
     pool: &[Slot],
     missing: Missing,
 ) -> Result<Code<'a>, Or<ClassFault>>
-    ensures { Gives code_of (code_fields (fault_at missing) (pool_of pool.now) cursor.old)
+    ensures { Gives code_of (reading (fault_at missing) (code_fields (pool_of pool.now)) cursor.old)
         result cursor.new }
 {
     let max_stack = number16(cursor, missing)?;
@@ -89,7 +89,8 @@ fn code<'a>(
     cursor: &mut Cursor<'a>,
     pool: &[Slot],
 ) -> Result<Code<'a>, Or<ClassFault>>
-    ensures { Gives code_of (code_field (pool_of pool.now) cursor.old) result cursor.new }
+    ensures { Gives code_of (reading Short (code_field (pool_of pool.now)) cursor.old)
+        result cursor.new }
 {
     let wrong = ClassFault::CodeLength(cursor.place());
     let size = number32(cursor, Missing::Here)?;
@@ -108,7 +109,7 @@ fn attribute<'a>(
     pool: &[Slot],
     in_method: bool,
 ) -> Result<Attribute<'a>, Or<ClassFault>>
-    ensures { Gives attribute_of (attribute_field (pool_of pool.now) in_method cursor.old)
+    ensures { Gives attribute_of (reading Short (attribute_field (pool_of pool.now) in_method) cursor.old)
         result cursor.new }
 {
     let name = name(cursor, pool, Missing::Here)?;
@@ -135,7 +136,7 @@ pub fn attributes<'a>(
     in_method: bool,
 ) -> Result<List<Attribute<'a>>, Or<ClassFault>>
     ensures { Gives (map attribute_of)
-        (list_of Short (attribute_field (pool_of pool.now) in_method) cursor.old)
+        (reading Short (listed (attribute_field (pool_of pool.now) in_method)) cursor.old)
         result cursor.new }
 {
     let count = number16(cursor, Missing::Here)?;

@@ -1,7 +1,9 @@
 ghost use Rattle.std.specs.Prelude.{◌≡◌, false, option_map};
 ghost use Rattle.jm_class.specs.Classes.{body_size, is_wide, utf8_at};
-ghost use Rattle.jm_class.specs.ComputedClass.{tag_field, body_field, slot_field, slots};
-ghost use Rattle.jm_class.specs.ComputedClass.{pool_field, is_wide_slot};
+ghost use Rattle.jm_class.specs.ClassLayout.{tag_field, body_field, slot_field, pool_field};
+ghost use Rattle.jm_class.specs.ClassLayout.{is_wide_slot};
+ghost use Rattle.jm_class.specs.Layouts.{reading};
+ghost use Rattle.jm_class.specs.declared.class.ClassFault.TheVariants.{Short};
 ghost use Rattle.jm_class.specs.Views.{Gives, slot_of, pool_of};
 
 use crate::class::{ClassFault, Slot};
@@ -35,7 +37,7 @@ fn is_wide(tag: u8) -> bool
 
 /// The tag of a constant. A Long or a Double needs one number more.
 fn tag(cursor: &mut Cursor, more: bool) -> Result<u8, Or<ClassFault>>
-    ensures { Gives (λ tag. tag) (tag_field more cursor.old) result cursor.new }
+    ensures { Gives (λ tag. tag) (reading Short (tag_field more) cursor.old) result cursor.new }
 {
     let at = cursor.place();
     let tag = cursor.u8().ok_or(Missing::Here.fault(at))?;
@@ -50,7 +52,7 @@ fn tag(cursor: &mut Cursor, more: bool) -> Result<u8, Or<ClassFault>>
 
 /// What stands behind a tag. A Utf8 that doesn't fit is short at its length.
 fn body<'a>(cursor: &mut Cursor<'a>, tag: u8) -> Result<&'a [u8], Or<ClassFault>>
-    ensures { Gives (λ body. body.now) (body_field tag cursor.old) result cursor.new }
+    ensures { Gives (λ body. body.now) (reading Short (body_field tag) cursor.old) result cursor.new }
 {
     match body_size(tag) {
         Some(size) => part(cursor, size, Missing::Here),
@@ -64,7 +66,7 @@ fn body<'a>(cursor: &mut Cursor<'a>, tag: u8) -> Result<&'a [u8], Or<ClassFault>
 
 /// A number of the pool: a hole where one is due, else a constant.
 pub fn slot<'a>(cursor: &mut Cursor<'a>, due: bool, more: bool) -> Result<Slot<'a>, Or<ClassFault>>
-    ensures { Gives slot_of (slot_field due more cursor.old) result cursor.new }
+    ensures { Gives slot_of (reading Short (slot_field due more) cursor.old) result cursor.new }
 {
     if due {
         return Ok(Slot::Hole);
@@ -86,7 +88,7 @@ pub fn is_wide_slot(slot: &Slot) -> bool
 
 /// The constant pool.
 pub fn pool<'a>(alloc: Global, cursor: &mut Cursor<'a>) -> Result<List<Slot<'a>>, Or<ClassFault>>
-    ensures { Gives pool_of (pool_field cursor.old) result cursor.new }
+    ensures { Gives pool_of (reading Short pool_field cursor.old) result cursor.new }
 {
     let at = cursor.place();
     let count = number16(cursor, Missing::Here)?;

@@ -1,7 +1,7 @@
 ghost use Rattle.std.specs.Prelude.{map};
 ghost use Rattle.jm_class.specs.declared.class.ClassFault.TheVariants.{Short};
-ghost use Rattle.jm_class.specs.ComputedClass.{member_field, short_number};
-ghost use Rattle.jm_class.specs.Readings.{list_of};
+ghost use Rattle.jm_class.specs.ClassLayout.{member_field};
+ghost use Rattle.jm_class.specs.Layouts.{Number, U2, reading, listed};
 ghost use Rattle.jm_class.specs.Views.{Gives, pool_of, member_of};
 
 use crate::attributes::attributes;
@@ -19,7 +19,7 @@ pub fn members<'a>(
     in_method: bool,
 ) -> Result<List<Member<'a>>, Or<ClassFault>>
     ensures { Gives (map member_of)
-        (list_of Short (member_field (pool_of pool.now) in_method) cursor.old)
+        (reading Short (listed (member_field (pool_of pool.now) in_method)) cursor.old)
         result cursor.new }
 {
     let count = number16(cursor, Missing::Here)?;
@@ -41,7 +41,8 @@ pub fn members<'a>(
 
 /// The interfaces.
 pub fn interfaces(alloc: Global, cursor: &mut Cursor) -> Result<List<u16>, Or<ClassFault>>
-    ensures { Gives (λ list. list) (list_of Short short_number cursor.old) result cursor.new }
+    ensures { Gives (λ list. list) (reading Short (listed (Number U2)) cursor.old)
+        result cursor.new }
 {
     let count = number16(cursor, Missing::Here)?;
     let mut interfaces = List::new(alloc);

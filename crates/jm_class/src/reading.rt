@@ -1,8 +1,10 @@
 ghost use Rattle.std.specs.Prelude.{◌≡◌, option_map};
 ghost use Rattle.jm_class.specs.Classes.{utf8_at};
-ghost use Rattle.jm_class.specs.ComputedClass.{magic_field, major_field, class_fields};
+ghost use Rattle.jm_class.specs.ClassLayout.{magic_field, major_field, class_fields};
+ghost use Rattle.jm_class.specs.Layouts.{reading};
 ghost use Rattle.jm_class.specs.Releases.{IsReadFor};
 ghost use Rattle.jm_class.specs.Views.{Gives, ReadsClass, plain};
+ghost use Rattle.jm_class.specs.declared.class.ClassFault.TheVariants.{Short};
 
 use crate::attributes::attributes;
 use crate::class::{Class, ClassFault};
@@ -18,7 +20,7 @@ pub const MAGIC: u32 = 0xCAFE_BABE;
 
 /// The magic.
 pub fn magic(cursor: &mut Cursor) -> Result<u32, Or<ClassFault>>
-    ensures { Gives (λ n. n) (magic_field cursor.old) result cursor.new }
+    ensures { Gives (λ n. n) (reading Short magic_field cursor.old) result cursor.new }
 {
     let found = number32(cursor, Missing::Here)?;
     if found != MAGIC {
@@ -29,7 +31,7 @@ pub fn magic(cursor: &mut Cursor) -> Result<u32, Or<ClassFault>>
 
 /// The major version.
 pub fn major(cursor: &mut Cursor) -> Result<u16, Or<ClassFault>>
-    ensures { Gives (λ n. n) (major_field cursor.old) result cursor.new }
+    ensures { Gives (λ n. n) (reading Short major_field cursor.old) result cursor.new }
 {
     let major = number16(cursor, Missing::Here)?;
     if major < 45 || 69 < major {
@@ -40,7 +42,7 @@ pub fn major(cursor: &mut Cursor) -> Result<u16, Or<ClassFault>>
 
 /// The fields of a class.
 fn class<'a>(alloc: Global, cursor: &mut Cursor<'a>) -> Result<Class<'a>, Or<ClassFault>>
-    ensures { Gives plain (class_fields cursor.old) result cursor.new }
+    ensures { Gives plain (reading Short class_fields cursor.old) result cursor.new }
 {
     let _magic = magic(cursor)?;
     let minor = number16(cursor, Missing::Here)?;

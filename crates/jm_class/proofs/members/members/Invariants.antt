@@ -1,11 +1,11 @@
 use Rattle.std.proofs.Common.{◌≡◌, ◌-◌, map}
 use Rattle.jm_class.specs.declared.class.ClassFault.TheVariants.{Short}
-use Rattle.jm_class.specs.ComputedClass.{member_field}
-use Rattle.jm_class.specs.Readings.{counted, list_of}
+use Rattle.jm_class.specs.ClassLayout.{member_field}
+use Rattle.jm_class.specs.Layouts.{Times, reading, listed}
 use Rattle.jm_class.specs.Views.{pool_of, member_of}
 use Rattle.jm_class.proofs.ListReadings.{prefixed}
 use Rattle.jm_class.proofs.members.members.Given as goal
 
 abbrev pub invariant-loop-k : goal.invariant-loop-k
-invariant-loop-k l = list_of Short (member_field (pool_of l.pool) l.in_method) l.fn.cursor ≡ prefixed (map member_of l.members)
-    (counted (l.count - l._k) (member_field (pool_of l.pool) l.in_method) l.cursor)
+invariant-loop-k l = reading Short (listed (member_field (pool_of l.pool) l.in_method)) l.fn.cursor
+    ≡ prefixed (map member_of l.members) (reading Short (Times (l.count - l._k) (member_field (pool_of l.pool) l.in_method)) l.cursor)

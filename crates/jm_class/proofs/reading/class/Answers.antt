@@ -1,6 +1,9 @@
+use Rattle.jm_class.specs.ClassLayout.{attribute_field, member_field}
+use Rattle.jm_class.specs.Layouts.{listed}
 use Rattle.jm_class.specs.Views.{plain, member_of, attribute_of}
-use Rattle.std.proofs.Common.{map, refl}
+use Rattle.std.proofs.Common.{true, false, map, Ok, Err, refl}
 use Rattle.jm_class.proofs.Stops.{gives_stop}
+use Rattle.jm_class.proofs.WholeReadings.{by_pool}
 use Rattle.jm_class.proofs.reading.class.Goals as goal
 
 pub returns-in_err-fields : goal.returns-in_err-fields
@@ -8,7 +11,7 @@ returns-in_err-fields c =
     gives_stop (map member_of) plain _ _ c.in_err-fields.field-0.0 c.from_residual-in_err-fields.result c.members.new.cursor
     c.members.new.cursor c.from_residual-in_err-fields.ensures.1 c.in_err-fields.ensures
     (λ fault stops.
-    let fields = rw c.as_slice.ensures at stops in
+    let fields = by_pool (λ pool. listed (member_field pool false)) _ _ c.interfaces.new.cursor (Err fault) c.as_slice.ensures stops in
     rw (
       c.in_ok-_magic.ensures,
       c.in_ok-minor.ensures,
@@ -26,8 +29,8 @@ returns-in_err-methods c =
     gives_stop (map member_of) plain _ _ c.in_err-methods.field-0.0 c.from_residual-in_err-methods.result c.members-2.new.cursor
     c.members-2.new.cursor c.from_residual-in_err-methods.ensures.1 c.in_err-methods.ensures
     (λ fault stops.
-    let fields = rw c.as_slice.ensures at c.in_ok-fields.ensures in
-    let methods = rw c.as_slice-2.ensures at stops in
+    let fields = by_pool (λ pool. listed (member_field pool false)) _ _ c.interfaces.new.cursor (Ok (map member_of c.in_ok-fields.fields, c.members.new.cursor)) c.as_slice.ensures c.in_ok-fields.ensures in
+    let methods = by_pool (λ pool. listed (member_field pool true)) _ _ c.members.new.cursor (Err fault) c.as_slice-2.ensures stops in
     rw (
       c.in_ok-_magic.ensures,
       c.in_ok-minor.ensures,
@@ -46,9 +49,9 @@ returns-in_err-attributes c =
     gives_stop (map attribute_of) plain _ _ c.in_err-attributes.field-0.0 c.from_residual-in_err-attributes.result
     c.attributes.new.cursor c.attributes.new.cursor c.from_residual-in_err-attributes.ensures.1 c.in_err-attributes.ensures
     (λ fault stops.
-    let fields = rw c.as_slice.ensures at c.in_ok-fields.ensures in
-    let methods = rw c.as_slice-2.ensures at c.in_ok-methods.ensures in
-    let attributes = rw c.as_slice-3.ensures at stops in
+    let fields = by_pool (λ pool. listed (member_field pool false)) _ _ c.interfaces.new.cursor (Ok (map member_of c.in_ok-fields.fields, c.members.new.cursor)) c.as_slice.ensures c.in_ok-fields.ensures in
+    let methods = by_pool (λ pool. listed (member_field pool true)) _ _ c.members.new.cursor (Ok (map member_of c.in_ok-methods.methods, c.members-2.new.cursor)) c.as_slice-2.ensures c.in_ok-methods.ensures in
+    let attributes = by_pool (λ pool. listed (attribute_field pool false)) _ _ c.members-2.new.cursor (Err fault) c.as_slice-3.ensures stops in
     rw (
       c.in_ok-_magic.ensures,
       c.in_ok-minor.ensures,
@@ -65,9 +68,9 @@ returns-in_err-attributes c =
 
 pub returns : goal.returns
 returns c =
-    let fields = rw c.as_slice.ensures at c.in_ok-fields.ensures in
-    let methods = rw c.as_slice-2.ensures at c.in_ok-methods.ensures in
-    let attributes = rw c.as_slice-3.ensures at c.in_ok-attributes.ensures in
+    let fields = by_pool (λ pool. listed (member_field pool false)) _ _ c.interfaces.new.cursor (Ok (map member_of c.in_ok-fields.fields, c.members.new.cursor)) c.as_slice.ensures c.in_ok-fields.ensures in
+    let methods = by_pool (λ pool. listed (member_field pool true)) _ _ c.members.new.cursor (Ok (map member_of c.in_ok-methods.methods, c.members-2.new.cursor)) c.as_slice-2.ensures c.in_ok-methods.ensures in
+    let attributes = by_pool (λ pool. listed (attribute_field pool false)) _ _ c.members-2.new.cursor (Ok (map attribute_of c.in_ok-attributes.attributes, c.attributes.new.cursor)) c.as_slice-3.ensures c.in_ok-attributes.ensures in
     rw (
       c.in_ok-_magic.ensures,
       c.in_ok-minor.ensures,

@@ -1,8 +1,9 @@
--- The class that `class_of` computes is the one that `ReadsAs` rules: both ways, and there is one.
-use Rattle.std.proofs.Common.{◌≡◌, ℕ, ◌^◌, ◌<◌, ◌≤◌, true, false, List, Some, None, Result, Ok, Err, refl, sym, ap, ◌∙◌, subst, arith}
+-- The class that `class_of` computes is the one that `ReadsAs` rules, and there is one; the fault that it
+-- computes is the one that `HasClassFault` rules. Both go both ways.
+use Rattle.std.proofs.Common.{◌≡◌, ℕ, ◌^◌, ◌<◌, ◌≤◌, true, false, List, Some, None, Option, Result, Ok, Err, refl, sym, ap, ◌∙◌, arith}
 use Rattle.std.proofs.lemmas.Bool.{and_parts, and_from, leb-true, le-leb, eqb-true, eq-eqb}
 use Rattle.std.specs.Prelude.{nat_le, nat_eq, IfOk, OnOk}
-use Rattle.jm_bytes.proofs.Choice.{same_ok}
+use Rattle.jm_bytes.proofs.Choice.{same_ok, same_some}
 use Rattle.jm_class.specs.declared.class.ClassFault.{ClassFault}
 use Rattle.jm_class.specs.declared.class.ClassFault.TheVariants.{Magic, Version, Short, Rest}
 use Rattle.jm_class.specs.declared.class.Class.{Class}
@@ -10,20 +11,21 @@ use Rattle.jm_bytes.specs.declared.faults.Or.{Or}
 use Rattle.jm_bytes.specs.declared.faults.Or.TheVariants.{Fault, Memory}
 use Rattle.jm_class.specs.Classes.{SlotData, ClassData, u2, u4, magic, class_text, is_major, IsMember}
 use Rattle.jm_class.specs.Classes.{IsAttribute, FitsCounted, IsClass, ReadsAs}
-use Rattle.jm_class.specs.ComputedClass.{magic_field, major_field, class_fields, value_of, class_of, fault_of, class_fault}
-use Rattle.jm_class.specs.Readings.{Outcome, ended}
+use Rattle.jm_class.specs.ClassLayout.{magic_field, major_field, class_fields, class_of, class_fault, HasClassFault, HasNoClassFault}
+use Rattle.jm_class.specs.Layouts.{U2, U4, fault_of, text_fields}
 use Rattle.jm_class.specs.Views.{ReadsClass, plain}
+use Rattle.jm_class.proofs.FaultLaws.{no_fault}
 use Rattle.jm_class.proofs.FieldLaws.{attribute-lawful, member-lawful}
+use Rattle.jm_class.proofs.LayoutLaws.{whole-says, says-whole, whole-fault, fault-whole, whole-good}
 use Rattle.jm_class.proofs.PoolLaws.{pool-lawful}
-use Rattle.jm_class.proofs.ReadingLaws.{Always, list_of-lawful, Lawful, IsBytes, said-lawful, made-lawful}
-use Rattle.jm_class.proofs.ReadingLaws.{checked-lawful, and_then-lawful, ended-back, ended-forth}
-use Rattle.jm_class.proofs.ReadingLaws.{number16-lawful, number32-lawful}
+use Rattle.jm_class.proofs.ReadingLaws.{IsBytes}
+use Rattle.jm_class.proofs.TextLaws.{Always, listed-lawful, Lawful, said-lawful, made-lawful, tested-lawful, then-lawful, number-lawful}
 
 pub magic-lawful : Lawful magic_field u4 (λ n. (n < 2 ^ 32) × (nat_eq n magic ≡ true))
-magic-lawful = checked-lawful (λ found. nat_eq found magic) (λ at found. Magic) _ _ _ (number32-lawful Short)
+magic-lawful = tested-lawful U4 (λ found. nat_eq found magic) (λ at found. Magic)
 
 pub major-lawful : Lawful major_field u2 (λ n. (n < 2 ^ 16) × (is_major n ≡ true))
-major-lawful = checked-lawful is_major (λ at major. Version major) _ _ _ (number16-lawful Short)
+major-lawful = tested-lawful U2 is_major (λ at major. Version major)
 
 major_parts : (n : ℕ) → is_major n ≡ true → (45 ≤ n) × (n ≤ 69)
 major_parts n is =
@@ -36,17 +38,17 @@ major_from n is = and_from (nat_le 45 n) (nat_le n 69) (le-leb 45 n is.0) (le-le
 pub class-lawful : Lawful class_fields class_text IsClass
 class-lawful =
     said-lawful _ class_text _ IsClass
-    (and_then-lawful _ _ _ _ (λ c. magic) _ Always _ magic-lawful (λ found f0.
-    and_then-lawful _ _ _ _ (λ c. c.minor) _ _ _ (number16-lawful Short) (λ minor f1.
-    and_then-lawful _ _ _ _ (λ c. c.major) _ _ _ major-lawful (λ major f2.
-    and_then-lawful _ _ _ _ (λ c. c.pool) _ _ (λ pool c. pool_rest pool c) pool-lawful (λ pool f3.
-    and_then-lawful _ _ _ _ (λ c. c.access) _ _ _ (number16-lawful Short) (λ access f4.
-    and_then-lawful _ _ _ _ (λ c. c.this_class) _ _ _ (number16-lawful Short) (λ this_class f5.
-    and_then-lawful _ _ _ _ (λ c. c.super_class) _ _ _ (number16-lawful Short) (λ super_class f6.
-    and_then-lawful _ _ _ _ (λ c. c.interfaces) _ _ _ (list_of-lawful Short _ _ _ (number16-lawful Short)) (λ interfaces f7.
-    and_then-lawful _ _ _ _ (λ c. c.fields) _ _ _ (list_of-lawful Short _ _ _ (member-lawful pool false)) (λ fields f8.
-    and_then-lawful _ _ _ _ (λ c. c.methods) _ _ _ (list_of-lawful Short _ _ _ (member-lawful pool true)) (λ methods f9.
-    and_then-lawful _ _ _ _ (λ c. c.attributes) _ _ _ (list_of-lawful Short _ _ _ (attribute-lawful pool false)) (λ attributes f10.
+    (then-lawful _ _ _ _ (λ c. magic) _ Always _ magic-lawful (λ found f0.
+    then-lawful _ _ _ _ (λ c. c.minor) _ _ _ (number-lawful U2) (λ minor f1.
+    then-lawful _ _ _ _ (λ c. c.major) _ _ _ major-lawful (λ major f2.
+    then-lawful _ _ _ _ (λ c. c.pool) _ _ (λ pool c. pool_rest pool c) pool-lawful (λ pool f3.
+    then-lawful _ _ _ _ (λ c. c.access) _ _ _ (number-lawful U2) (λ access f4.
+    then-lawful _ _ _ _ (λ c. c.this_class) _ _ _ (number-lawful U2) (λ this_class f5.
+    then-lawful _ _ _ _ (λ c. c.super_class) _ _ _ (number-lawful U2) (λ super_class f6.
+    then-lawful _ _ _ _ (λ c. c.interfaces) _ _ _ (listed-lawful _ _ _ (number-lawful U2)) (λ interfaces f7.
+    then-lawful _ _ _ _ (λ c. c.fields) _ _ _ (listed-lawful _ _ _ (member-lawful pool false)) (λ fields f8.
+    then-lawful _ _ _ _ (λ c. c.methods) _ _ _ (listed-lawful _ _ _ (member-lawful pool true)) (λ methods f9.
+    then-lawful _ _ _ _ (λ c. c.attributes) _ _ _ (listed-lawful _ _ _ (attribute-lawful pool false)) (λ attributes f10.
     made-lawful _ (record {
       minor = minor;
       major = major;
@@ -110,25 +112,18 @@ class-lawful =
         × (FitsCounted (IsMember pool false) c.fields
         × (FitsCounted (IsMember pool true) c.methods × (FitsCounted (IsAttribute pool false) c.attributes × Unit {0}))))))
 
--- The rule and its value
-
-read_class : (bytes : List ℕ) (c : ClassData) (outcome : Outcome ClassFault ClassData)
-    → ended Rest class_fields (record { place = 0; bytes = bytes }) ≡ outcome → value_of outcome ≡ Ok c → IsBytes bytes → ReadsAs bytes c
-read_class bytes c (Ok r) is e all =
-    let both = ended-back Rest class_fields class_text IsClass class-lawful (record { place = 0; bytes = bytes }) r.1 r.0 all is in
-    let same : r.0 ≡ c = same_ok {E = ClassFault} r.0 c e in
-    subst (ReadsAs bytes) same (record { well_formed = both.0; text = both.1 })
-read_class bytes c (Err fault) is e all = cc
+-- The class by its rule and its value
 
 -- what is read is a class of that text
 pub class_of-reads : (bytes : List ℕ) (c : ClassData) → IsBytes bytes → class_of bytes ≡ Ok c → ReadsAs bytes c
-class_of-reads bytes c all e = read_class bytes c (ended Rest class_fields (record { place = 0; bytes = bytes })) refl e all
+class_of-reads bytes c all e =
+    let is = class-lawful.back c bytes (whole-says Short Rest class_fields bytes c all e) in
+    record { well_formed = is.0; text = sym is.1 }
 
 -- the text of a class is read as that class
 pub reads-class_of : (bytes : List ℕ) (c : ClassData) → ReadsAs bytes c → class_of bytes ≡ Ok c
 reads-class_of bytes c reads =
-    let there = ended-forth Rest class_fields class_text IsClass class-lawful 0 c reads.well_formed in
-    rw (sym reads.text) (ap value_of there.1)
+    rw (sym reads.text) (says-whole Short Rest class_fields (class_text c) c (class-lawful.forth c reads.well_formed))
 
 -- bytes read as one class at most
 pub reads_once : (bytes : List ℕ) (c d : ClassData) → ReadsAs bytes c → ReadsAs bytes d → c ≡ d
@@ -144,6 +139,35 @@ no_fault-reads bytes all none = go (class_of bytes) refl none
     go : (result : Result ClassData ClassFault) → class_of bytes ≡ result → fault_of result ≡ None → (c : ClassData) × ReadsAs bytes c
     go (Ok c) is none = (c, class_of-reads bytes c all is)
     go (Err fault) is none = cc
+
+-- The fault by its rule and its value
+
+-- the computed fault is that of the rule
+pub class_fault-rule : (bytes : List ℕ) (f : ClassFault) → class_fault bytes ≡ Some f → HasClassFault bytes f
+class_fault-rule bytes f is = go (class_of bytes) refl is
+  where
+    go : (result : Result ClassData ClassFault) → class_of bytes ≡ result → fault_of result ≡ Some f → HasClassFault bytes f
+    go (Ok c) e is = cc
+    go (Err found) e is = whole-fault Short Rest class_fields bytes f (e ∙ ap (λ f. Err f) (same_some found f is))
+
+-- the fault of the rule is computed
+pub rule-class_fault : (bytes : List ℕ) (f : ClassFault) → HasClassFault bytes f → class_fault bytes ≡ Some f
+rule-class_fault bytes f has = ap fault_of (fault-whole Short Rest class_fields bytes f has)
+
+-- there is no fault exactly where each field is good
+pub no_class_fault-rule : (bytes : List ℕ) → class_fault bytes ≡ None → HasNoClassFault bytes
+no_class_fault-rule bytes is = go (class_of bytes) refl is
+  where
+    go : (result : Result ClassData ClassFault) → class_of bytes ≡ result → fault_of result ≡ None → HasNoClassFault bytes
+    go (Ok c) e is = whole-good Short Rest class_fields bytes c e
+    go (Err found) e is = cc
+
+pub rule-no_class_fault : (bytes : List ℕ) → HasNoClassFault bytes → class_fault bytes ≡ None
+rule-no_class_fault bytes good = go (class_fault bytes) refl
+  where
+    go : (found : Option ClassFault) → class_fault bytes ≡ found → class_fault bytes ≡ None
+    go None is = is
+    go (Some f) is = absurd (no_fault (text_fields Short Rest class_fields bytes) f good (class_fault-rule bytes f is))
 
 -- What the code read
 
@@ -176,3 +200,14 @@ class_none bytes result fault c reads is other =
     let none = reads-no_fault bytes c other in
     let both = sym none ∙ refused in
     cc
+
+-- what the code refused
+pub class_has_fault : (bytes : List ℕ) (result : Result Class (Or ClassFault)) (f : ClassFault) → ReadsClass bytes result
+    → result ≡ Err (Fault f) → HasClassFault bytes f
+class_has_fault bytes result f reads is = class_fault-rule bytes f (class_refused bytes result f reads is)
+
+-- what the code read has no fault
+pub class_has_none : (bytes : List ℕ) (result : Result Class (Or ClassFault)) → ReadsClass bytes result
+    → OnOk result (HasNoClassFault bytes)
+class_has_none bytes (Ok class) reads = whole-good Short Rest class_fields bytes (plain class) reads
+class_has_none bytes (Err error) reads = tt
