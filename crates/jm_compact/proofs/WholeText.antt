@@ -5,9 +5,9 @@ use Rattle.jm_bytes.specs.declared.faults.Or.{Or}
 use Rattle.jm_bytes.specs.declared.faults.Or.TheVariants.{Fault, Memory}
 use Rattle.jm_class.specs.declared.class.ClassFault.{ClassFault}
 use Rattle.jm_class.specs.Classes.{ClassData, class_text, ReadsAs, IsClass}
-use Rattle.jm_class.specs.ComputedClass.{fault_of}
+use Rattle.jm_class.specs.Layouts.{fault_of}
 use Rattle.jm_class.specs.Releases.{IsReadFor, ReadsFor, class_for, fault_for, newest_major}
-use Rattle.jm_class.proofs.ComputedClassLaws.{reads_once}
+use Rattle.jm_class.proofs.ClassLaws.{reads_once}
 use Rattle.jm_class.proofs.ReleaseLaws.{reads-class_for}
 use Rattle.jm_class.proofs.ReadingLaws.{IsBytes}
 use Rattle.jm_poolmap.specs.declared.site.Site.{Site}
