@@ -1,6 +1,6 @@
 -- What a form takes is the text of some tokens; with other numbers, and from another start, it gives
 -- the sites of the changed tokens: one law for each way to make forms.
-use Rattle.std.proofs.Common.{◌≡◌, ℕ, zero, suc, ◌+◌, ◌*◌, ◌%◌, ◌^◌, ◌<◌, Bool, true, false, cond, List, []}
+use Rattle.std.proofs.Common.{◌≡◌, ℕ, zero, suc, ◌+◌, ◌*◌, ◌^◌, ◌<◌, Bool, true, false, cond, List, []}
 use Rattle.std.proofs.Common.{◌∷◌, ◌++◌, length, map, replicate, Option, Some, None, Ok, refl, sym, ap, ◌∙◌}
 use Rattle.std.proofs.Common.{subst, arith, append_assoc, length-append}
 use Rattle.std.proofs.lemmas.List.{append-nil}
@@ -12,7 +12,7 @@ use Rattle.jm_class.proofs.ReadingLaws.{IsBytes, bytes_behind, same_left, same_v
 use Rattle.jm_poolmap.specs.declared.site.FoundSite.{FoundSite}
 use Rattle.jm_poolmap.specs.Forms.{NoForm, Form, Rows, unfit, without, site_of_width, in_order, counted}
 use Rattle.jm_poolmap.specs.Forms.{at_most, run, form_if, row_of, by_byte}
-use Rattle.jm_poolmap.proofs.Following.{part_front, number16_front}
+use Rattle.jm_poolmap.proofs.Following as following
 use Rattle.jm_compact.specs.Pieces.{Plain, Number, width, size}
 use Rattle.jm_compact.proofs.LocalReadings.{TookLocal, IsLocal, number_local}
 use Rattle.jm_compact.proofs.Tokens.{Token, token_text, found_from, changed, Fit, IsSmall, token_text-append}
@@ -204,11 +204,8 @@ module _ (Behind : List ℕ → Type 0) where
 number_front : (wide : Bool) (place n : ℕ) (rest : List ℕ) → n < 2 ^ (8 * size wide)
     → number unfit (width wide) (record { place = place; bytes = to_be_bytes (width wide) n ++ rest })
     ≡ Ok (n, record { place = place + size wide; bytes = rest })
-number_front true place n rest below = number16_front place n rest below
-number_front false place n rest below =
-    let bytes = part_front 1 place (to_be_bytes w8 n) rest refl in
-    let same : n % 256 ≡ n = omega (arith, below) in
-    rw (bytes, same) refl
+number_front true = following.number_front U2
+number_front false = following.number_front U1
 
 number_back : (wide : Bool) (left next : Left) (n : ℕ) → IsBytes left.bytes → number unfit (width wide) left ≡ Ok (n, next)
     → (n < 2 ^ (8 * size wide)) × (left.bytes ≡ to_be_bytes (width wide) n ++ next.bytes)

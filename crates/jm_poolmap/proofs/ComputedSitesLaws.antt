@@ -12,6 +12,7 @@ use Rattle.jm_class.specs.Classes.{MemberData, ClassData, u2, u4, joined, counte
 use Rattle.jm_class.specs.Classes.{opaque_text, code_text, held_text, attribute_text, member_text, class_text}
 use Rattle.jm_class.specs.Classes.{pool_text, rows_text, magic, utf8_at, is_code_name, IsOpaque, IsCode}
 use Rattle.jm_class.specs.Classes.{IsBody, IsAttribute, IsMember, IsClass}
+use Rattle.jm_class.specs.Layouts.{U2}
 use Rattle.jm_class.specs.Readings.{Left, continued, number}
 use Rattle.jm_poolmap.specs.declared.forms.Place as place
 use Rattle.jm_poolmap.specs.declared.forms.Place.TheVariants.{Class, Field, Method, Code}
@@ -28,7 +29,7 @@ use Rattle.jm_poolmap.specs.ComputedSites.{attribute_step, member_step, class_st
 use Rattle.jm_poolmap.specs.ComputedSites.{found_by}
 use Rattle.jm_poolmap.specs.Sites as sites
 use Rattle.jm_poolmap.specs.Sites.{member, met, found_in}
-use Rattle.jm_poolmap.proofs.Following.{Follows, carried, later, number16_front, follows_step, follows_skip}
+use Rattle.jm_poolmap.proofs.Following.{Follows, carried, later, number_front, follows_step, follows_skip}
 use Rattle.jm_poolmap.proofs.Following.{follows_site, follows_nil, follows_cons, follows_counted}
 use Rattle.jm_poolmap.proofs.Following.{follows_over, follows_sized}
 use Rattle.jm_poolmap.proofs.Handlers.{follows_handlers}
@@ -101,7 +102,7 @@ follows_named code place pool name form text step below same law = record {
       let left : Left = record { place = walk.place; bytes = (u2 name ++ (text ++ [])) ++ rest } in
       let regrouped = append_assoc (u2 name) (text ++ []) rest in
       let peeked = ap (λ bytes. number unfit w16 (record { place = walk.place; bytes = bytes })) regrouped
-      ∙ number16_front walk.place name ((text ++ []) ++ rest) below in
+      ∙ number_front U2 walk.place name ((text ++ []) ++ rest) below in
       ap (λ o. continued o (λ name next. in_order (site ∷ sized w32 (form_if (body code) (content_at place pool name)) ∷ [])
       walk.found left)) peeked
       ∙ whole.reads walk rest;
