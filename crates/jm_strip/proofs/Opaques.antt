@@ -12,7 +12,7 @@ use Rattle.jm_class.specs.Views.{Gives}
 use Rattle.jm_bytes.proofs.SameOrder.{filter_mapped}
 use Rattle.std.proofs.lemmas.List.{length-map}
 use Rattle.jm_strip.specs.Walks.{shown}
-use Rattle.jm_strip.proofs.PutLists.{flat-map}
+use Rattle.std.proofs.lemmas.List.Folds.{flat_map-map}
 
 abbrev pub held : OpaqueData → AttributeData
 held a = record { name = a.name; body = Opaque a.bytes }
@@ -81,7 +81,7 @@ kept-text test xs =
     texts : (ys : List OpaqueData) → counted_text attribute_text (map held ys) ≡ counted_text opaque_text ys
     texts ys =
         let size = length-map ys held in
-        let words = flat-map attribute_text held ys in
+        let words = flat_map-map attribute_text held ys in
         rw (size, words) refl
 
 pub class-attributes : (pool : List SlotData) (test : ℕ → Bool) (old : List ℕ) (left : Left)
