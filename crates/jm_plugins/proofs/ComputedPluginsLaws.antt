@@ -10,7 +10,7 @@ use Rattle.jm_bytes.specs.declared.faults.Or.{Or}
 use Rattle.jm_bytes.specs.declared.faults.Or.TheVariants.{Fault, Memory}
 use Rattle.jm_bytes.specs.Results.{followed, IfAnswered}
 use Rattle.jm_class.specs.Classes.{ClassData, class_text, IsClass}
-use Rattle.jm_class.specs.ComputedClass.{fault_of}
+use Rattle.jm_class.specs.Layouts.{fault_of}
 use Rattle.jm_class.specs.Releases.{ReadsFor, class_for, fault_for}
 use Rattle.jm_class.specs.declared.class.ClassFault.{ClassFault}
 use Rattle.jm_class.proofs.ReleaseLaws.{reads-class_for}

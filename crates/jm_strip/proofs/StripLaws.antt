@@ -7,8 +7,8 @@ use Rattle.jm_bytes.proofs.Members.{length_filter}
 use Rattle.jm_class.specs.Classes.{SlotData, OpaqueData, CodeData, BodyData, Opaque, Coded, AttributeData}
 use Rattle.jm_class.specs.Classes.{MemberData, ClassData, held_text, class_text, utf8_at, is_code_name}
 use Rattle.jm_class.specs.Classes.{FitsCounted, IsOpaque, IsCode, IsBody, IsAttribute, IsMember, IsClass}
-use Rattle.jm_class.specs.ComputedClass.{class_of}
-use Rattle.jm_class.proofs.ComputedClassLaws.{reads-class_of}
+use Rattle.jm_class.specs.ClassLayout.{class_of}
+use Rattle.jm_class.proofs.ClassLaws.{reads-class_of}
 use Rattle.jm_strip.specs.Strip.{stays, strip_code, strip_body, strip_attribute, strip_method, strip}
 use Rattle.jm_strip.proofs.Shorter.{code-shorter}
 
