@@ -1,15 +1,18 @@
 -- A session goes on: what its steps do, put together.
 use Rattle.std.proofs.Common.{◌≡◌, ◌<◌, ◌≤◌, ◌+◌, ℕ, List, [], ◌∷◌, ◌++◌, Option, Some, None, option_map}
-use Rattle.std.proofs.Common.{refl, sym, ap, ◌∙◌, subst, length, arith, append-nil}
+use Rattle.std.proofs.Common.{refl, sym, ap, ◌∙◌, subst, length, arith, append-nil, true, false}
+use Rattle.std.specs.List.{after_first, before_first, list_any}
 use Rattle.std.proofs.lemmas.Grind.{flat_map-append}
 use Rattle.std.proofs.lemmas.List.{append_assoc, length-append}
 use Rattle.std.proofs.lemmas.List.Elements.{All-append, All-cons, All-nil}
 use Rattle.jm_bytes.specs.Metered.{RisesAtMost}
 use Rattle.jm_jrt.specs.declared.serve_error.ServeError.{ServeError}
 use Rattle.jm_jrt.specs.declared.serve_error.ServeError.TheVariants.{ReadFault, WriteFault, LongLine, TooManyLines, Memory}
-use Rattle.jm_jrt.specs.Lines.{replies}
+use Rattle.jm_jrt.specs.Lines.{is_newline, replies}
 use Rattle.jm_jrt.specs.Reply.{IsWithin, line, line_bytes, reply}
-use Rattle.jm_jrt.specs.Sessions.{BeginsTooLong, BeginsWithLine, Breaks, Fails, IsFree, IsLine, LineFails, Moment, Passes, Refuses, joined}
+use Rattle.jm_jrt.specs.Sessions.{BeginsTooLong, BeginsWithLine, Breaks, Fails, IsAnswered, IsFree, IsLine, IsOpen, LineFails, Moment, Passes}
+use Rattle.jm_jrt.specs.Sessions.{Refuses, joined}
+use Rattle.jm_jrt.proofs.FreeLaws.{front_free, whole_cut}
 use Rattle.jm_jrt.proofs.WithinLaws.{within_append, within_nothing, within_one}
 
 -- What was put
@@ -204,3 +207,38 @@ breaks_part error b part old within free some refuses = breaks_at_once error b p
     )
     go TooManyLines refuses = (some, refuses, refl)
     go ReadFault none = absurd none
+
+-- A line that ends in a piece, behind a part that was kept
+
+pub empty_part : (lines : ℕ) (part : List ℕ) → part ≡ [] → lines ≤ 1000000 → IsOpen lines part
+empty_part lines part empty within = subst (IsOpen lines) (sym empty) (record {
+  free = All-nil (λ x. is_newline x ≡ false);
+  short = omega arith;
+  within = within;
+  numbered = λ some. absurd (omega arith);
+})
+
+module _ (b text : List ℕ) (old : Moment) (part rest front behind : List ℕ) (now : Moment) (goes_on : IsOpen now.lines part)
+    (passes : Passes b text old (part ++ rest) now) (some : list_any is_newline rest ≡ true)
+    (before : front ≡ before_first is_newline rest) (after : behind ≡ after_first is_newline rest) where
+  next_free : IsFree (part ++ front)
+  next_free = All-append (λ x. is_newline x ≡ false) part front goes_on.free (front_free rest front before)
+
+  next_cut : Passes b text old ((part ++ front) ++ 10 ∷ behind) now
+  next_cut =
+      subst (λ (t : List ℕ). Passes b text old t now) (ap (λ (t : List ℕ). part ++ t) (whole_cut rest front behind some before after)
+      ∙ sym (append_assoc part front (10 ∷ behind))) passes
+
+  pub next_breaks : (error : ServeError) (new_put : Option (List ℕ)) → LineFails error b now.lines (part ++ front) now.put new_put
+      → Breaks error b text old new_put
+  next_breaks error new_put fails =
+      breaks_then error b text old ((part ++ front) ++ 10 ∷ behind) now new_put next_cut
+      (breaks_line error b (part ++ front) behind now new_put goes_on.within next_free fails)
+
+  pub next_passes : (new : Moment) (new_part : List ℕ) → IsAnswered now.lines new.lines (part ++ front) new_part
+      → new.put ≡ option_map (λ text. text ++ reply b (part ++ front)) now.put → RisesAtMost now.hashes new.hashes 4
+      → IsWithin (line_bytes b (part ++ front)) now.reads new.reads → Passes b text old (new_part ++ behind) new
+  next_passes new new_part answered put hashes reads =
+      subst (λ (t : List ℕ). Passes b text old (t ++ behind) new) (sym answered.begun)
+      (passes_then b text old ((part ++ front) ++ 10 ∷ behind) now behind new next_cut
+      (passes_line b (part ++ front) behind now new (record { free = next_free; short = answered.short }) answered.next put hashes reads))
