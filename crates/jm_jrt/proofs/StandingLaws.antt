@@ -2,8 +2,8 @@
 -- root, a file, or nothing.
 use Rattle.std.proofs.Common.{arith, ◌+◌, ◌-◌, ◌*◌, ◌≤◌, length, take}
 use Rattle.std.proofs.Common.{◌≡◌, ℕ, ◌==◌, Bool, true, false, List, drop, Option, Some, None, is_some, option_map, inl, inr}
-use Rattle.std.proofs.Common.{Result, Ok, Err, refl, sym, ap, ◌∙◌}
-use Rattle.std.specs.Prelude.{codes, if◌then◌else◌, is_none, nat_eq, option_and_then, IfNone}
+use Rattle.std.proofs.Common.{Result, Ok, Err, refl, sym, ap, ◌∙◌, subst}
+use Rattle.std.specs.Prelude.{codes, if◌then◌else◌, is_none, nat_eq, option_and_then, IfNone, IfOk}
 use Rattle.std.specs.List.{after_last, before_last, list_any, starts_with}
 use Rattle.std.specs.Str.{bytes_eq}
 use Rattle.std.proofs.lemmas.Bool.{or_cases}
@@ -22,13 +22,19 @@ use Rattle.jm_form.specs.Head.{header_of, IsFileOf}
 use Rattle.jm_form.specs.TreeView.{Folder, Link, TreeItem, item_of}
 use Rattle.jm_form.specs.Validity.{look, look_with}
 use Rattle.jm_form.proofs.LocalityLaws.{whole_file}
+use Rattle.jm_reader.specs.Walk.{IsLater}
+use Rattle.jm_valid.specs.Opened.{Front}
 use Rattle.jm_jrt.specs.declared.jrt_error.JrtError.{JrtError}
 use Rattle.jm_jrt.specs.declared.jrt_error.JrtError.TheVariants.{NotThere}
+use Rattle.jm_jrt.specs.declared.trees.Standing.{Standing}
+use Rattle.jm_jrt.specs.declared.trees.Standing.TheVariants as standing
 use Rattle.jm_jrt.specs.Listed.{roots_if}
+use Rattle.jm_jrt.specs.Standings.{IsIn, StandingCosts, whole}
 use Rattle.jm_jrt.specs.Stat.{children_of, file, folder, has_children, in_modules, is_package, is_root, link, node_content}
 use Rattle.jm_jrt.specs.Stat.{node_hashes, node_path, owners_of, resource, roots, stat, stat_read, stat_with}
 use Rattle.jm_jrt.specs.Told.{children_told, owners_told}
 use Rattle.jm_jrt.proofs.LinkLaws.{link_none, link_some}
+use Rattle.jm_jrt.proofs.WithinLaws.{later_then}
 
 abbrev Found : Type 0
 Found = Option (Row × List ℕ)
@@ -312,15 +318,32 @@ hashes_all path old mid new first next =
       most = omega (arith, first.least, first.most, next.least, next.most, few);
     }
 
--- a file is found where no node is, and its content is read
-pub file_costs : {A : Type 0} (path : List ℕ) (content : Option A) (old found mid new : Metered) (n : ℕ)
-    → IfNone content (CostsAtMost old found (length path + 76)) → (is_some content ≡ false) × CostsAtMost found mid (length path + 76)
-    → Costs mid new n → CostsAtMost old new (2 * length path + 152 + n)
-file_costs path None old found mid new n first (none, next) last = record {
-  bytes = last.bytes ∙ next.bytes ∙ first.bytes;
-  count = record {
-    least = omega (arith, first.count.least, next.count.least, last.count);
-    most = omega (arith, first.count.least, first.count.most, next.count.least, next.count.most, last.count);
-  };
+-- a file is found where no node is
+pub standing_costs : {A : Type 0} (path : List ℕ) (content : Option A) (result : Result Standing JrtError) (old found new : Metered)
+    → IfNone content (CostsAtMost old found (length path + 76)) → IsLater old found
+    → StandingCosts result (is_some content) (length path + 76) found new → StandingCosts result false (2 * length path + 152) old new
+standing_costs path content (Err error) old found new first later next = later_then old found new later next
+standing_costs path content (Ok (standing.Folder list)) old found new first later next = later_then old found new later next
+standing_costs path content (Ok (standing.Link name)) old found new first later next = later_then old found new later next
+standing_costs path None (Ok (standing.File row)) old found new first later (none, next) = (
+  refl,
+  record {
+    bytes = next.bytes ∙ first.bytes;
+    count = record { least = omega arith; most = omega arith };
+  },
+)
+standing_costs path (Some content) (Ok (standing.File row)) old found new first later (some, next) = cc
+
+-- and its content is read
+pub file_costs : (old mid new : Metered) (m n : ℕ) → CostsAtMost old mid m → Costs mid new n → CostsAtMost old new (m + n)
+file_costs old mid new m n found read = record {
+  bytes = read.bytes ∙ found.bytes;
+  count = record { least = omega arith; most = omega arith };
 }
-file_costs path (Some content) old found mid new n first (some, next) last = cc
+
+-- the first bytes that are all
+pub within_whole : (front : Front) (b : List ℕ) (result : Result Standing JrtError) → front.bytes ≡ b → front.length ≡ length b
+    → IfOk result (IsIn front) → IfOk result (IsIn (whole b))
+within_whole front b result bytes size within =
+    subst (λ (f : Front). IfOk result (IsIn f)) (ap (λ (l : List ℕ). record { bytes = l; length = front.length }) bytes
+    ∙ ap (λ (n : ℕ). record { bytes = b; length = n }) size) within
