@@ -131,8 +131,6 @@ pub serves_given : (b : List ℕ) (rest new_rest : Option (List ℕ)) (old : Mom
 serves_given b rest new_rest old part new reads new_reads arrives =
     let given = arrives.given in
     let passes = arrives.passes in
-    let most = arrives.goes_on.within in
-    let count = passes.lines in
     let ended : ended_lines given ≡ passes.done = ap ended_lines passes.is
     ∙ ended_joined passes.done part passes.good arrives.goes_on.free in
     let first : passes.done ≡ take (length passes.done) (answered_in (given ++ left_of new_rest)) =
@@ -164,11 +162,9 @@ module _ (b text : List ℕ) (old : Moment) (none : old.lines ≡ 0) (new_put : 
   long_line : (k : ℕ) (breaks : Breaks (LongLine k) b text old new_put) → (IsTooLong k text) × (answered_in text ≡ breaks.done)
   long_line k breaks =
       let begins = breaks.fails.0 in
-      let below = breaks.fails.1 in
       let number = breaks.fails.2 in
       let long = begins.long in
       let front : Begins begins.front (begins.front ++ begins.rest) = line_begins begins.front begins.rest begins.free (omega arith) in
-      let longer = front.long in
       let behind : lines_of breaks.behind ≡ front.first ∷ front.later = ap lines_of begins.is ∙ front.lines in
       let lines : lines_of text ≡ breaks.done ++ front.first ∷ front.later = lines_behind (LongLine k) breaks
       ∙ ap (λ (l : List (List ℕ)). breaks.done ++ l) behind in
@@ -192,7 +188,6 @@ module _ (b text : List ℕ) (old : Moment) (none : old.lines ≡ 0) (new_put : 
   many_lines : (breaks : Breaks TooManyLines b text old new_put) → (IsTooMany text) × (answered_in text ≡ breaks.done)
   many_lines breaks =
       let some = breaks.fails.0 in
-      let number = breaks.fails.1 in
       let lines = lines_behind TooManyLines breaks in
       let left : 1000000 - length breaks.done ≡ 0 = omega arith in
       let all : answered_in text ≡ breaks.done =
@@ -230,7 +225,6 @@ module _ (b text : List ℕ) (old : Moment) (none : old.lines ≡ 0) (new_put : 
 
   first_so : (error : ServeError) (breaks : Breaks error b text old new_put) → breaks.done ≡ take (length breaks.done) (answered_in text)
   first_so error breaks =
-      let most = breaks.most in
       front_answered text breaks.done (lines_of breaks.behind) (lines_behind error breaks) breaks.good (omega arith)
 
   puts_so : (error : ServeError) → Breaks error b text old new_put → (left : List ℕ) → PutBehind b (Err error) text left old.put new_put
@@ -238,7 +232,6 @@ module _ (b text : List ℕ) (old : Moment) (none : old.lines ≡ 0) (new_put : 
   puts_so WriteFault breaks left =
       let first = breaks.fails.0 in
       let begins = breaks.fails.1 in
-      let below = breaks.fails.2 in
       let lines : lines_of text ≡ breaks.done ++ first ∷ lines_of begins.rest = lines_behind WriteFault breaks
       ∙ ap (λ (l : List ℕ). breaks.done ++ lines_of l) begins.is
       ∙ ap (λ (l : List (List ℕ)). breaks.done ++ l) (lines_next first begins.rest begins.good) in
@@ -316,8 +309,6 @@ pub serves_all : (b : List ℕ) (rest new_rest : Option (List ℕ)) (old : Momen
     → Serves b (Ok new.lines) rest new_rest old.put new.put old.reads new.reads
 serves_all b rest new_rest old part new none arrives ends empty =
     let passes = arrives.passes in
-    let count = passes.lines in
-    let most = arrives.goes_on.within in
     let are : lines_of arrives.given ≡ passes.done = ap lines_of passes.is ∙ ap (λ (t : List ℕ). lines_of (joined passes.done ++ t)) empty
     ∙ lines_joined passes.done [] passes.good ∙ append-nil passes.done in
     serves_whole b rest new_rest arrives.given passes.done new.lines old.put new.put old.reads new.reads arrives.told ends are passes.good
@@ -341,7 +332,6 @@ pub serves_last : (b : List ℕ) (rest new_rest : Option (List ℕ)) (old : Mome
     → Serves b (Ok (new.lines + 1)) rest new_rest old.put last_put old.reads last_reads
 serves_last b rest new_rest old part new last_put last_reads none arrives ends some put cost =
     let passes = arrives.passes in
-    let count = passes.lines in
     let below = arrives.goes_on.numbered some in
     let longer = length-append passes.done (part ∷ []) in
     serves_whole b rest new_rest arrives.given (passes.done ++ part ∷ []) (new.lines + 1) old.put last_put old.reads last_reads
@@ -445,4 +435,4 @@ comes_further b part piece new_part old new passes further_on some = go passes.d
         let sum = length-append part piece in
         let same : length (part ++ piece) ≡ length new_part = ap length is in
         omega arith
-    go (first ∷ done) is lines = let short = further_on.short in omega arith
+    go (first ∷ done) is lines = omega arith

@@ -61,11 +61,7 @@ passes_nothing b text old = record {
 pub passes_then : (b text : List ℕ) (old : Moment) (behind : List ℕ) (now : Moment) (part : List ℕ) (new : Moment)
     → Passes b text old behind now → Passes b behind now part new → Passes b text old part new
 passes_then b text old behind now part new first second =
-    let a = first.lines in
-    let c = second.lines in
     let count = length-append first.done second.done in
-    let h = first.hashes in let h_least = h.least in let h_most = h.most in
-    let k = second.hashes in let k_least = k.least in let k_most = k.most in
     record {
       done = first.done ++ second.done;
       good = All-append IsLine first.done second.done first.good second.good;
@@ -126,7 +122,7 @@ fails_more WriteFault b lines text more put new_put fails = (fails.0, line_more 
 fails_more Memory b lines text more put new_put fails = fails
 fails_more (LongLine k) b lines text more put new_put fails = (long_more text more fails.0, fails.1, fails.2, fails.3)
 fails_more TooManyLines b lines text more put new_put fails =
-    let some = fails.0 in (omega (arith, length-append text more), fails.1, fails.2)
+    (omega (arith, length-append text more), fails.1, fails.2)
 fails_more ReadFault b lines text more put new_put none = absurd none
 
 abbrev pub breaks_more : (error : ServeError) (b text : List ℕ) (old : Moment) (new_put : Option (List ℕ)) (more : List ℕ)
@@ -145,8 +141,6 @@ abbrev pub breaks_then : (error : ServeError) (b text : List ℕ) (old : Moment)
     (new_put : Option (List ℕ)) → Passes b text old behind now → Breaks error b behind now new_put → Breaks error b text old new_put
 breaks_then error b text old behind now new_put passes breaks =
     let done : List (List ℕ) = passes.done ++ breaks.done in
-    let a = passes.lines in
-    let m = breaks.most in
     let count = length-append passes.done breaks.done in
     let lines : now.lines + length breaks.done ≡ old.lines + length done = omega arith in
     record {

@@ -18,15 +18,12 @@ within_later (Some n) old new cost = record { bytes = cost.bytes; count = cost.c
 
 pub later_then : (old now new : Metered) → IsLater old now → IsLater now new → IsLater old new
 later_then old now new first second =
-    let one = first.count in let two = second.count in record { bytes = second.bytes ∙ first.bytes; count = omega arith }
+    record { bytes = second.bytes ∙ first.bytes; count = omega arith }
 
 pub within_then : (m n : Option ℕ) (old now new : Metered) → IsWithin m old now → IsWithin n now new → IsWithin (both_bounds m n) old new
 within_then None n old now new first second = later_then old now new first (within_later n now new second)
 within_then (Some m) None old now new first second = later_then old now new (within_later (Some m) old now first) second
 within_then (Some m) (Some n) old now new first second =
-    let one = first.count in
-    let two = second.count in
-    let a = one.least in let b = one.most in let c = two.least in let d = two.most in
     record { bytes = second.bytes ∙ first.bytes; count = record { least = omega arith; most = omega arith } }
 
 both_zero : (n : Option ℕ) → both_bounds (Some 0) n ≡ n

@@ -11,15 +11,11 @@ use Rattle.jm_jrt.proofs.owners.find_owner.Goals as goal
 
 pub word-place-requires : goal.word-place-requires
 word-place-requires g c =
-    let count = c.pair_count-k-end.ensures in
-    let below = c.loop-k-test.true in
     (pair_at c.args.index.now.bytes c.args.content.now c.loop-k.k c.requires.sound (omega arith)).place_fits
 
 pub text_if-found-requires-clause-ends : goal.text_if-found-requires-clause-ends
 text_if-found-requires-clause-ends g c =
     let b = c.args.index.now.bytes in
-    let count = c.pair_count-k-end.ensures in
-    let below = c.loop-k-test.true in
     let place : c.word-place.result ≡ word_of b c.args.content.now (2 * c.loop-k.k + 1) = c.word-place.ensures in
     ap (text_ends (strings b (head b))) place ∙ (pair_at b c.args.content.now c.loop-k.k c.requires.sound (omega arith)).ends
 
@@ -30,9 +26,7 @@ loop-k-preserved g c =
     let asked = c.args.asked.now in
     let k = c.loop-k.k in
     let count = c.pair_count-k-end.ensures in
-    let below = c.loop-k-test.true in
     let later = c.text_if-found.ensures.reads in
-    let higher = later.count in
     let loop = c.loop-k.invariant in
     let left : List Owner = owners_left b content (k + 1) in
     let here : owners_left b content k ≡ owner_told b content k ∷ left = owners_more b content k (omega arith) in

@@ -8,8 +8,6 @@ use Rattle.jm_jrt.proofs.owners.first_full.Goals as goal
 
 pub word-requires : goal.word-requires
 word-requires g c =
-    let count = c.pair_count-k-end.ensures in
-    let below = c.loop-k-test.true in
     (pair_at c.args.index.now.bytes c.args.content.now c.loop-k.k c.requires.sound (omega arith)).flag_fits
 
 pub returns-then-word-ne1-clause-found : goal.returns-then-word-ne1-clause-found
@@ -17,8 +15,6 @@ returns-then-word-ne1-clause-found g c =
     let b = c.args.index.now.bytes in
     let content = c.args.content.now in
     let k = c.loop-k.k in
-    let count = c.pair_count-k-end.ensures in
-    let below = c.loop-k-test.true in
     let left : List Owner = owners_left b content (k + 1) in
     let here : owners_left b content k ≡ owner_told b content k ∷ left = owners_more b content k (omega arith) in
     let full : word_of b content (2 * k) == 1 ≡ false = ap (λ n. n == 1) (sym c.word.ensures)
@@ -32,7 +28,6 @@ loop-k-preserved g c =
     let content = c.args.content.now in
     let k = c.loop-k.k in
     let count = c.pair_count-k-end.ensures in
-    let below = c.loop-k-test.true in
     let loop = c.loop-k.invariant in
     let left : List Owner = owners_left b content (k + 1) in
     let here : owners_left b content k ≡ owner_told b content k ∷ left = owners_more b content k (omega arith) in

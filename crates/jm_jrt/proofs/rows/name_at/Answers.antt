@@ -22,16 +22,12 @@ strings_there b front h is at = ap (λ x. strings x h) is ∙ ap (strings b) (sy
 
 pub word-place-requires : goal.word-place-requires
 word-place-requires g c =
-    let count = c.word_count.ensures in
-    let below = c.if-k-word_count.false in
     (child_at c.args.index.now.bytes c.args.content.now c.args.k c.requires.sound (omega arith)).fits
 
 pub returns-in_err-row-clause-end : goal.returns-in_err-row-clause-end
 returns-in_err-row-clause-end g c =
     let b = c.args.index.now.bytes in
     let h = c.header-header.result in
-    let count = c.word_count.ensures in
-    let below = c.if-k-word_count.false in
     let sound = (child_at b c.args.content.now c.args.k c.requires.sound (omega arith)).sound in
     let told : spelled_row c.row_at_place.result ≡ row_told b (word_of b c.args.content.now c.args.k) =
     ap spelled_row c.row_at_place.ensures.row ∙ row_there b c.buf-buf.result h (word_of b c.args.content.now c.args.k)
@@ -45,8 +41,6 @@ returns-in_err-pieces-clause-end g c =
     let h = c.header-header.result in
     let row : Row = c.in_ok-row.row in
     let at = head_is b h c.header-header.ensures.front in
-    let count = c.word_count.ensures in
-    let below = c.if-k-word_count.false in
     let sound = (child_at b c.args.content.now c.args.k c.requires.sound (omega arith)).sound in
     let told : spelled_row c.row_at_place.result ≡ row_told b (word_of b c.args.content.now c.args.k) =
     ap spelled_row c.row_at_place.ensures.row ∙ row_there b c.buf-buf.result h (word_of b c.args.content.now c.args.k)

@@ -63,12 +63,8 @@ returns-then-count-eq0-clause-end g c =
 pub loop-progress-smaller : goal.loop-progress-smaller
 loop-progress-smaller g c =
     let some : c.in_ok-count.count ≢ 0 = c.if-count-eq0.false in
-    let within = c.in_ok-count.ensures.within in
     let front = ap length (c.split_at.ensures.front ∙ ap (take c.in_ok-count.count) c.as_slice.ensures.value) in
     let len = length-take c.in_ok-count.count c.take.new.piece.items in
-    let further_on = c.in_ok-take_piece.ensures.open_new in
-    let most = further_on.within in
-    let short = further_on.short in
     let further = comes_further c.args.image.now c.loop-progress.progress.part.items c.split_at.result.0.now
     c.take_piece.new.progress.part.items _ _ c.in_ok-take_piece.ensures.passes c.loop-progress.invariant.arrives.goes_on (omega arith) in
     omega arith
@@ -78,7 +74,6 @@ loop-progress-preserved g c =
     let before = c.loop-progress.invariant in
     let step = c.take_piece.ensures in
     let hashes = step.hashes in
-    let hashes_before = before.hashes in
     record {
       same = (step.same.0 ∙ before.same.0, step.same.1 ∙ before.same.1, step.same.2 ∙ before.same.2);
       metered = step.reads.bytes ∙ before.metered;
@@ -96,8 +91,6 @@ loop-progress-preserved g c =
 pub returns-in_err-take_piece-clause-err : goal.returns-in_err-take_piece-clause-err
 returns-in_err-take_piece-clause-err g c =
     let count = c.in_ok-count.count in
-    let room = c.loop-progress.invariant.piece in
-    let same = c.take.ensures.length in
     let front = c.split_at.ensures.front ∙ ap (take count) c.as_slice.ensures.value in
     let size = ap length front in
     let len = length-take count c.take.new.piece.items in

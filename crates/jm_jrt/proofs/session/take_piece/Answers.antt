@@ -38,9 +38,6 @@ loop-bytes-preserved g c =
     let cut = c.in-Some.ensures in
     let step = c.end_line.ensures in
     let answered = c.in_ok-end_line.ensures.line in
-    let below = answered.within in
-    let next = answered.next in
-    let rises = step.hashes.least in
     let hashes = before.hashes in
     let later = within_later (line_bytes b (part ++ c.in-Some.bytes.now)) _ _ step.reads in
     record {

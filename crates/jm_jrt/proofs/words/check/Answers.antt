@@ -26,8 +26,6 @@ returns-then-not-is_sound-clause-told g c b file =
     let content = c.args.content.now in
     let form = c.args.form in
     let n = words_read content form in
-    let count = c.words_in-k-end.ensures in
-    let below = c.loop-k-test.true in
     let bad : is_word_sound f content form c.loop-k.k ≡ false = sym c.is_sound.ensures.sound ∙ c.if-not-is_sound.true in
     let fault : fault_of f content form ≡ Some (BadNode (4 * c.loop-k.k)) = first_bad (is_word_sound f content form) n c.loop-k.k
     (omega arith) c.loop-k.invariant.sound bad in
@@ -39,8 +37,6 @@ returns-clause-sound g c =
     let content = c.args.content.now in
     let form = c.args.form in
     let n = words_read content form in
-    let count = c.words_in-k-end.ensures in
-    let past = c.loop-k-test.false in
     none_bad (is_word_sound c.args.index.now.bytes content form) n (λ j below. c.loop-k.invariant.sound j (omega arith))
 
 pub returns-clause-told : goal.returns-clause-told
