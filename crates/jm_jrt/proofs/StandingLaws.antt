@@ -19,7 +19,7 @@ use Rattle.jm_form.specs.declared.trees.Holds.{Holds}
 use Rattle.jm_form.specs.declared.trees.Holds.TheVariants.{Children, Owners}
 use Rattle.jm_form.specs.declared.trees.Owner.{Owner}
 use Rattle.jm_form.specs.Head.{header_of, IsFileOf}
-use Rattle.jm_form.specs.TreeView.{Folder, Link, TreeItem, item_of}
+use Rattle.jm_form.specs.TreeView.{Folder, TreeItem, item_of}
 use Rattle.jm_form.specs.Validity.{look, look_with}
 use Rattle.jm_form.proofs.LocalityLaws.{whole_file}
 use Rattle.jm_reader.specs.Walk.{IsLater}
@@ -30,10 +30,9 @@ use Rattle.jm_jrt.specs.declared.trees.Standing.{Standing}
 use Rattle.jm_jrt.specs.declared.trees.Standing.TheVariants as standing
 use Rattle.jm_jrt.specs.Listed.{roots_if}
 use Rattle.jm_jrt.specs.Standings.{IsIn, StandingCosts, whole}
-use Rattle.jm_jrt.specs.Stat.{children_of, file, folder, has_children, in_modules, is_package, is_root, link, node_content}
+use Rattle.jm_jrt.specs.Stat.{children_of, file, folder, has_children, in_modules, is_package, is_root, link, link_among, node_content}
 use Rattle.jm_jrt.specs.Stat.{node_hashes, node_path, owners_of, resource, roots, stat, stat_read, stat_with}
 use Rattle.jm_jrt.specs.Told.{children_told, owners_told}
-use Rattle.jm_jrt.proofs.LinkLaws.{link_none, link_some}
 use Rattle.jm_jrt.proofs.WithinLaws.{later_then}
 
 abbrev Found : Type 0
@@ -238,15 +237,13 @@ no_slash_no_node b path content other pack none node = absurd_none (sym (sought_
     absurd_none : ◌≡◌ {A = Option (List ℕ)} None (Some content) → ⊥
     absurd_none e = cc
 
--- the link to an owner of those that were told
-pub link_of : (owners : List Owner) (told : Result Holds JrtError) (name after : List ℕ) → Ok (Owners owners) ≡ told → name ≡ after
-    → list_any (λ o. bytes_eq after o.module) owners ≡ true → Ok (Link name) ≡ link after told
-link_of owners told name after is same some =
-    ap (λ n. Ok (Link n)) same ∙ sym (link_some after owners some) ∙ ap (link after) is
-
-pub no_link_of : (owners : List Owner) (told : Result Holds JrtError) (after : List ℕ) → Ok (Owners owners) ≡ told
-    → list_any (λ o. bytes_eq after o.module) owners ≡ false → Err NotThere ≡ link after told
-no_link_of owners told after is none = sym (link_none after owners none) ∙ ap (link after) is
+-- a link is that to one of the owners that were told
+pub linked : (b path content name : List ℕ) (owners : List Owner) → has_children path ≡ false → is_package path ≡ false
+    → name ≡ after_last is_slash path → Ok (Owners owners) ≡ owners_told b content → node_content b path ≡ Some content
+    → link_among name owners ≡ stat b path
+linked b path content name owners other pack after told node =
+    ap (link name) told ∙ ap (λ m. link m (owners_told b content)) after
+    ∙ sym (stat_said b path content node ∙ said_link b path content other pack)
 
 -- a row is found exactly where look-up finds something
 pub is_row_found : (b name : List ℕ) (row : Option Row) (there : Bool) → there ≡ is_some row
@@ -289,8 +286,15 @@ unsaid_inner b path slash inner = rw (slash, inner) refl
 pub no_resource : (b path : List ℕ) → is_node (drop 8 path) ≡ true → Err NotThere ≡ resource b path
 no_resource b path is = rw is refl
 
-pub resource_is : (b path : List ℕ) → is_node (drop 8 path) ≡ false → resource b path ≡ file (look b (drop 8 path))
-resource_is b path other = rw other refl
+-- a file is that of the path without `/modules`
+pub unsaid_file : (b path name : List ℕ) (h : Header) → header_of b ≡ Ok h → node_content b path ≡ None
+    → bytes_eq path (codes "/") ≡ false → starts_with nat_eq path (codes "/modules/") ≡ true → name ≡ drop 8 path → is_node name ≡ false
+    → file (look b name) ≡ stat b path
+unsaid_file b path name h read node slash inner is other =
+    ap (λ n. file (look b n)) is ∙ sym (stat_unsaid b path h read node ∙ unsaid_inner b path slash inner ∙ go (sym (ap is_node is) ∙ other))
+  where
+    go : is_node (drop 8 path) ≡ false → resource b path ≡ file (look b (drop 8 path))
+    go other = rw other refl
 
 -- a whole image is a file of its index
 pub index_file : (f b : List ℕ) (size : ℕ) → f ≡ b → size ≡ length b → IsFileOf f size b

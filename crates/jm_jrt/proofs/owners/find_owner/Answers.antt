@@ -5,8 +5,8 @@ use Rattle.jm_form.specs.declared.trees.Owner.{Owner}
 use Rattle.jm_form.specs.Places.{strings}
 use Rattle.jm_form.specs.Texts.{text_at, text_ends}
 use Rattle.jm_reader.specs.Look.{head}
-use Rattle.jm_jrt.specs.Told.{owner_told, owners_left, word_of}
-use Rattle.jm_jrt.proofs.PairLaws.{any_later, owners_more, pair_at}
+use Rattle.jm_jrt.specs.Told.{owner_told, owners_left, pair_count, word_of}
+use Rattle.jm_jrt.proofs.PairLaws.{any_later, items_more, pair_at}
 use Rattle.jm_jrt.proofs.owners.find_owner.Goals as goal
 
 pub word-place-requires : goal.word-place-requires
@@ -29,7 +29,7 @@ loop-k-preserved g c =
     let later = c.text_if-found.ensures.reads in
     let loop = c.loop-k.invariant in
     let left : List Owner = owners_left b content (k + 1) in
-    let here : owners_left b content k ≡ owner_told b content k ∷ left = owners_more b content k (omega arith) in
+    let here : owners_left b content k ≡ owner_told b content k ∷ left = items_more (owner_told b content) k (pair_count content) (omega arith) in
     let place : word_of b content (2 * k + 1) ≡ c.word-place.result = sym c.word-place.ensures in
     let found : c.is_some.result ≡ bytes_eq asked (text_at (strings b (head b)) c.word-place.result) = c.is_some.ensures
     ∙ c.text_if-found.ensures.found in

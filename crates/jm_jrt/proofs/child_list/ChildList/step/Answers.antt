@@ -7,7 +7,7 @@ use Rattle.jm_jrt.specs.declared.owners.Owned.{Owned}
 use Rattle.jm_jrt.specs.Listed.{Listed, rest_of}
 use Rattle.jm_jrt.specs.Told.{name_told, names_left, owner_told, owners_left, pair_count, word_count, word_of}
 use Rattle.jm_jrt.specs.Views.{IsFirst, owner_as}
-use Rattle.jm_jrt.proofs.PairLaws.{names_more, owners_more}
+use Rattle.jm_jrt.proofs.PairLaws.{items_more}
 use Rattle.jm_jrt.proofs.child_list.ChildList.step.Goals as goal
 
 first_name : (b content : List ℕ) (next : ℕ) (name : List ℕ) (all : Holds) → Children (names_left b content next) ≡ all
@@ -15,14 +15,14 @@ first_name : (b content : List ℕ) (next : ℕ) (name : List ℕ) (all : Holds)
     → IsFirst all (child.Entry name) (Children (names_left b content (next + 1)))
 first_name b content next name all is below same =
     subst (λ a. IsFirst a (child.Entry name) (Children (names_left b content (next + 1)))) is
-    (names_more b content next below ∙ ap (λ (n : List ℕ). n ∷ names_left b content (next + 1)) (sym same))
+    (items_more (λ k. name_told b (word_of b content k)) next (word_count content) below ∙ ap (λ (n : List ℕ). n ∷ names_left b content (next + 1)) (sym same))
 
 first_owner : (b content : List ℕ) (next : ℕ) (owner : Owned) (all : Holds) → Owners (owners_left b content next) ≡ all
     → next < pair_count content → owner_as owner ≡ owner_told b content next
     → IsFirst all (child.Owner owner.empty owner.module) (Owners (owners_left b content (next + 1)))
 first_owner b content next owner all is below same =
     subst (λ a. IsFirst a (child.Owner owner.empty owner.module) (Owners (owners_left b content (next + 1)))) is
-    (owners_more b content next below ∙ ap (λ (o : Owner). o ∷ owners_left b content (next + 1)) (sym same))
+    (items_more (owner_told b content) next (pair_count content) below ∙ ap (λ (o : Owner). o ∷ owners_left b content (next + 1)) (sym same))
 
 pub returns-in_ok-name-in-Words-clause-child : goal.returns-in_ok-name-in-Words-clause-child
 returns-in_ok-name-in-Words-clause-child g c =
