@@ -1,5 +1,5 @@
 -- The contents of an image in a file, which are read while files are made.
-use Rattle.std.proofs.Common.{◌≡◌, ◌≢◌, ◌≤◌, ◌<◌, ◌+◌, ◌⊎◌, inl, inr, ℕ, true, false, List, [], ◌∷◌, ◌++◌, drop, length}
+use Rattle.std.proofs.Common.{◌≡◌, ◌≢◌, ◌≤◌, ◌<◌, ◌+◌, ◌⊎◌, inl, inr, ℕ, true, false, List, [], ◌∷◌, ◌++◌, drop, length, rules}
 use Rattle.std.proofs.Common.{map, take, get_or, Option, None, Some, Result, Ok, Err, IsErrAnd, option_map, refl, sym, ap, subst}
 use Rattle.std.proofs.Common.{◌∙◌, arith, nat_eq, suc, zero, Bor}
 use Rattle.std.specs.Slice.{IsItemAt}
@@ -154,9 +154,5 @@ below_begins (a ∷ dir) rest =
 
 -- no file below a directory has a path that doesn't begin with it
 pub not_below : (path dir : List ℕ) (ts : List TakenEntry) → starts_with nat_eq path dir ≡ false → false ≡ is_made_at path dir ts
-not_below path dir [] apart = refl
-not_below path dir (t ∷ ts) apart =
-    sym (or_from (bytes_eq (path_of dir t.name) path) (is_made_at path dir ts)
-    (false_from_ne_true (bytes_eq (path_of dir t.name) path) (λ same. false≢true (sym apart
-    ∙ ap (λ p. starts_with nat_eq p dir) (sym ((bytes_eq-Decides (path_of dir t.name) path).0 same)) ∙ below_begins dir (utf t.name))))
-    (sym (not_below path dir ts apart)))
+not_below path dir [] apart = search (rules)
+not_below path dir (t ∷ ts) apart = search (rules, nat_eq, false_from_ne_true, or_from, false≢true, bytes_eq-Decides, below_begins, (not_below path dir ts apart))
