@@ -1,5 +1,5 @@
 -- Rising names: where those of a folder lie.
-use Rattle.std.proofs.Common.{◌≡◌, ℕ, zero, suc, ◌+◌, ◌<◌, ◌==◌, Bool, true, false, cond, IsTrue, IsFalse}
+use Rattle.std.proofs.Common.{◌≡◌, ℕ, zero, suc, ◌+◌, ◌<◌, ◌==◌, Bool, true, false, cond, IsTrue, IsFalse, rules}
 use Rattle.std.proofs.Common.{List, [], ◌∷◌, ◌++◌, take, drop, append-nil, length, get_or, All, AllPairs, ◌≢◌}
 use Rattle.std.proofs.Common.{◌∙◌, Option, Some, None, refl, sym, ap, arith}
 use Rattle.std.proofs.lemmas.Bool.{false≢true}
@@ -126,9 +126,7 @@ within_part folder names before part behind is front back =
 -- What holds of all on one side of a place
 
 pub all_before : {X : Type 0} (P : X → Type 0) (xs : List X) (i : ℕ) → AllWithin P xs 0 i → All P (take i xs)
-all_before P xs i within k d below =
-    let inside : k < i = omega (arith, length-take i xs) in
-    rw (get_or-take i xs k d inside) (within k d (omega arith) inside)
+all_before P xs i within k d below = search (rules, get_or-take, length-take)
 
 pub all_behind : {X : Type 0} (P : X → Type 0) (xs : List X) (i : ℕ) → AllWithin P xs i (length xs) → All P (drop i xs)
 all_behind P xs i within k d below =

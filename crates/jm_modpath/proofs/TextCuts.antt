@@ -20,11 +20,7 @@ use Rattle.jm_modpath.specs.Finding.{folders_among, names_within}
 use Rattle.jm_modpath.specs.Modules.{folder_with_info, inside}
 
 pub before_is_text : (text : List ℕ) → IsUtf8 text → list_any is_slash text ≡ true → IsUtf8 (before_first is_slash text)
-before_is_text text is some =
-    let at = position_or_len is_slash text in
-    let below = position_below is_slash text some in
-    let byte = eqb-true (get_or text at 0) 47 (passes_at_first is_slash text 0 below) in
-    IsUtf8-take text at is (IsCharBoundary-before_ascii text at below (omega (arith, byte)))
+before_is_text text is some = search (rules, eqb-true, passes_at_first, IsCharBoundary-before_ascii, IsUtf8-take, position_below)
 
 -- the folder of a text is text
 pub folder_is_text : (name folder : List ℕ) → IsUtf8 name → folder_with_info name ≡ Some folder → IsUtf8 folder
