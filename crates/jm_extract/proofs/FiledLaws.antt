@@ -45,6 +45,12 @@ sizes_next ts i t within is =
     ap sizes (take_more ts i t within) ∙ sum_by_push (λ (t : TakenEntry). t.content.size) (take i ts) (get_or ts i t)
     ∙ ap (λ (u : TakenEntry). sizes (take i ts) + u.content.size) is
 
+-- which no more than all have
+pub size_within : (ts : List TakenEntry) (i : ℕ) (t : TakenEntry) → i < length ts → get_or ts i t ≡ t
+    → sizes (take i ts) + t.content.size ≤ sizes ts
+size_within ts i t within is =
+    omega (arith, sizes_next ts i t within is, sum_by-take-le (λ (t : TakenEntry). t.content.size) ts (i + 1))
+
 -- Making
 
 -- some of the files may be none

@@ -1,5 +1,5 @@
 -- A text of the strings that is a name: the name's bytes and a zero byte stand at its place.
-use Rattle.std.proofs.Common.{◌≡◌, ◌==◌, ℕ, ◌+◌, ◌-◌, ◌<◌, ◌≤◌, false, true, List, [], ◌∷◌, Ok, length, take, drop}
+use Rattle.std.proofs.Common.{◌≡◌, ◌==◌, ℕ, ◌+◌, ◌-◌, ◌<◌, ◌≤◌, false, true, List, [], ◌∷◌, Ok, length, take, drop, rules}
 use Rattle.std.proofs.Common.{get_or, slice_range, ap, sym, ◌∙◌, arith, length-drop}
 use Rattle.std.proofs.Math.Seq.{drop-cons}
 use Rattle.std.proofs.lemmas.Bool.{eqb-true, false_from_ne_true, true_from_ne_false}
@@ -22,19 +22,12 @@ use Rattle.jm_valid.proofs.PassageLaws.{long_stretch}
 -- a part of the strings is a part of the image
 pub part_of_strings : (b : List ℕ) (h : Header) (place n : ℕ) → place + n ≤ h.strings → slice_range b (strings_place h + place)
     (strings_place h + place + n) ≡ take n (drop place (strings b h))
-part_of_strings b h place n within =
-    let start : ℕ = strings_place h in
-    let size : start + place + n - (start + place) ≡ n = omega arith in
-    let from = section_from b start h.strings place (omega arith) in
-    rw size (sym (ap (take n) from ∙ take-take n (h.strings - place) (drop (start + place) b) (omega arith)))
+part_of_strings b h place n within = search (rules, take-take, section_from)
 
 -- the strings are that part of the image which the header says
 pub strings_part : (b : List ℕ) (h : Header) (buf : List ℕ) (at : ℕ) → header_of b ≡ Ok h → buf ≡ b → at ≡ strings_place h
     → slice_range buf at (at + h.strings) ≡ strings b (head b)
-strings_part b h buf at read same is =
-    let size : strings_place h + h.strings - strings_place h ≡ h.strings = omega arith in
-    ap (λ x. slice_range x at (at + h.strings)) same ∙ ap (λ n. slice_range b n (n + h.strings)) is
-    ∙ ap (λ n. take n (drop (strings_place h) b)) size ∙ ap (strings b) (sym (head_is b h read))
+strings_part b h buf at read same is = search (rules, head_is)
 
 -- so many bytes from a place on that the image has are those of the strings
 pub part_taken : (b : List ℕ) (h : Header) (place n : ℕ) (part : List ℕ) → header_of b ≡ Ok h → place + n ≤ h.strings
@@ -87,6 +80,4 @@ other_text section name place ends never =
 -- a text that ends among the bytes that were looked at is the text
 pub text_looked : (section : List ℕ) (place n : ℕ) (part text : List ℕ) → part ≡ take n (drop place section)
     → true ≡ text_ends part 0 → text ≡ text_at part 0 → text ≡ text_at section place
-text_looked section place n part text part_is ends is =
-    is ∙ ap (λ l. text_at l 0) part_is
-    ∙ text_of_front section place n (sym (ends ∙ ap (λ l. text_ends l 0) part_is))
+text_looked section place n part text part_is ends is = search (rules, text_of_front)

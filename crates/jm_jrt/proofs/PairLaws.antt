@@ -1,5 +1,5 @@
 -- What holds of a content without a bad word, and its items from one on.
-use Rattle.std.proofs.Common.{◌≡◌, ℕ, suc, ◌+◌, ◌-◌, ◌*◌, ◌%◌, ◌==◌, ◌<◌, ◌&&◌, nat_lt, Bool, true}
+use Rattle.std.proofs.Common.{◌≡◌, ℕ, ◌+◌, ◌-◌, ◌*◌, ◌%◌, ◌==◌, ◌<◌, ◌&&◌, nat_lt, Bool, true, rules}
 use Rattle.std.proofs.Common.{false, List, ◌∷◌, length, map, None, Some, refl}
 use Rattle.std.proofs.Common.{ap, ◌∙◌, arith}
 use Rattle.std.proofs.lemmas.List.{length-map}
@@ -25,9 +25,7 @@ both false b e = cc
 
 pub items_more : {A : Type 0} (item : ℕ → A) (k n : ℕ) → k < n
     → map item (range_with_len k (n - k)) ≡ item k ∷ map item (range_with_len (k + 1) (n - (k + 1)))
-items_more item k n below =
-    let size : n - k ≡ suc (n - (k + 1)) = omega arith in
-    ap (λ (m : ℕ). map item (range_with_len k m)) size
+items_more item k n below = search (rules)
 
 pub items_length : {A : Type 0} (item : ℕ → A) (k n : ℕ) → length (map item (range_with_len k (n - k))) ≡ n - k
 items_length item k n = length-map (range_with_len k (n - k)) item ∙ length-range_with_len k (n - k)

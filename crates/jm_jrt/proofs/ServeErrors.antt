@@ -1,5 +1,5 @@
 -- What is known of an answer that is an error.
-use Rattle.std.proofs.Common.{◌≡◌, ℕ, List, Option, Result, Ok, Err, IfErr, OnErr, subst}
+use Rattle.std.proofs.Common.{◌≡◌, ℕ, List, Option, Result, Ok, Err, IfErr, OnErr, rules}
 use Rattle.jm_bytes.specs.Metered.{Metered}
 use Rattle.jm_jrt.specs.declared.serve_error.ServeError.{ServeError}
 use Rattle.jm_jrt.specs.Sessions.{Serves}
@@ -14,6 +14,4 @@ err_from P Q (Err e) fact other from = from e fact other
 pub serves_lent : (b : List ℕ) (answer : Result ℕ ServeError) (rest new_rest out new_out lent_out : Option (List ℕ))
     (reads new_reads lent_reads : Metered) → new_out ≡ lent_out → new_reads ≡ lent_reads
     → Serves b answer rest new_rest out new_out reads new_reads → Serves b answer rest new_rest out lent_out reads lent_reads
-serves_lent b answer rest new_rest out new_out lent_out reads new_reads lent_reads same_out same_reads serves =
-    subst (λ (o : Option (List ℕ)). Serves b answer rest new_rest out o reads lent_reads) same_out
-    (subst (λ (r : Metered). Serves b answer rest new_rest out new_out reads r) same_reads serves)
+serves_lent b answer rest new_rest out new_out lent_out reads new_reads lent_reads same_out same_reads serves = search (rules)

@@ -1,5 +1,5 @@
 -- What a session comes to, from how far it came.
-use Rattle.std.proofs.Common.{◌≡◌, ◌<◌, ◌≤◌, ◌+◌, ◌-◌, ◌*◌, ℕ, List, [], ◌∷◌, ◌++◌, All, Option, Some, None}
+use Rattle.std.proofs.Common.{◌≡◌, ◌<◌, ◌≤◌, ◌+◌, ◌-◌, ◌*◌, ℕ, List, [], ◌∷◌, ◌++◌, All, Option, Some, None, rules}
 use Rattle.std.proofs.Common.{option_map, Ok, Err, refl, sym, ap, ◌∙◌, subst, length, take, arith, append-nil}
 use Rattle.std.proofs.Math.Seq.{take-append-add, take-append_seam}
 use Rattle.std.proofs.lemmas.List.{append_assoc, length-append, take-append-le}
@@ -42,9 +42,7 @@ told_then (Some old) (Some now) (Some new) given piece first second = first ∙ 
 -- nothing more came at the end
 pub told_same : (rest mid new_rest : Option (List ℕ)) (given piece : List ℕ) (n : ℕ) → n ≡ 0 → Told rest mid (λ old new. old
     ≡ given ++ new) → Told mid new_rest (λ old new. old ≡ take n piece ++ new) → Told rest new_rest (λ old new. old ≡ given ++ new)
-told_same rest mid new_rest given piece n none first second =
-    subst (λ (t : List ℕ). Told rest new_rest (λ old new. old ≡ t ++ new)) (ap (λ (k : ℕ). given ++ take k piece) none
-    ∙ append-nil given) (told_then rest mid new_rest given (take n piece) first second)
+told_same rest mid new_rest given piece n none first second = search (rules, append-nil, told_then)
 
 pub told_none : (rest mid new_rest : Option (List ℕ)) (given piece : List ℕ) (n : ℕ) → n ≡ 0 → Told rest mid (λ old new. old
     ≡ given ++ new) → Told mid new_rest (λ old new. old ≡ take n piece ++ new) → Shows mid (λ left. left ≡ [])
@@ -66,14 +64,9 @@ told_end (Some old) (Some new) given told ends = (told ∙ ap (λ (t : List ℕ)
 told_front : (out new_out : Option (List ℕ)) (first last : List ℕ) (P : List ℕ → Type 0)
     → Told (option_map (λ put. put ++ first) out) new_out (λ old new. PutsFront old new last) → ((n : ℕ) → n ≤ length last
     → P (first ++ take n last)) → Told out new_out (λ old new. (m : List ℕ) × (new ≡ old ++ m) × P m)
-told_front None new_out first last P told from = tt
-told_front (Some old) None first last P told from = absurd told
-told_front (Some old) (Some new) first last P told from = (
-  first ++ take told.0 last,
-  told.2
-      ∙ append_assoc old first (take told.0 last),
-  from told.0 told.1,
-)
+told_front None new_out first last P told from = search (rules)
+told_front (Some old) None first last P told from = search (rules)
+told_front (Some old) (Some new) first last P told from = search (rules, append_assoc)
 
 -- Lines that were answered are those in front
 
@@ -91,10 +84,7 @@ front_answered text done more lines good within =
 -- a front of the replies, where one more line was due
 front_put : (b : List ℕ) (done : List (List ℕ)) (first : List ℕ) (more : List (List ℕ)) (n : ℕ) → n ≤ length (reply b first)
     → replies b done ++ take n (reply b first) ≡ take (length (replies b done) + n) (replies b (done ++ first ∷ more))
-front_put b done first more n within =
-    sym (ap (take (length (replies b done) + n)) (replies_append b done (first ∷ more))
-    ∙ take-append-add (replies b done) (reply b first ++ replies b more) n
-    ∙ ap (λ (t : List ℕ). replies b done ++ t) (take-append-le n (reply b first) (replies b more) within))
+front_put b done first more n within = search (rules, take-append-add, take-append-le, replies_append)
 
 -- the line that is due is among those that are answered
 due_answered : (text : List ℕ) (done : List (List ℕ)) (first : List ℕ) (later : List (List ℕ)) → lines_of text ≡ done ++ first
@@ -122,9 +112,7 @@ due_put b text done first more left out new_out all told =
 -- the lines that ended in what came are among those that are answered
 given_answered : (given left part : List ℕ) (done : List (List ℕ)) → given ≡ joined done ++ part → All IsLine done
     → length done ≤ 1000000 → done ≡ take (length done) (answered_in (given ++ left))
-given_answered given left part done is good within =
-    front_answered (given ++ left) done (lines_of (part ++ left)) (ap lines_of (ap (λ (t : List ℕ). t ++ left) is
-    ∙ append_assoc (joined done) part left) ∙ lines_joined done (part ++ left) good) good within
+given_answered given left part done is good within = search (rules, append_assoc, lines_joined, front_answered)
 
 pub serves_given : (b : List ℕ) (rest new_rest : Option (List ℕ)) (old : Moment) (part : List ℕ) (new : Moment) (reads new_reads : Metered)
     → Arrives b rest new_rest old part new → Serves b (Err ReadFault) rest new_rest old.put new.put reads new_reads

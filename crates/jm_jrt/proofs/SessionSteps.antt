@@ -1,5 +1,5 @@
 -- A session goes on: what its steps do, put together.
-use Rattle.std.proofs.Common.{◌≡◌, ◌<◌, ◌≤◌, ◌+◌, ℕ, List, [], ◌∷◌, ◌++◌, Option, Some, None, option_map}
+use Rattle.std.proofs.Common.{◌≡◌, ◌<◌, ◌≤◌, ◌+◌, ℕ, List, [], ◌∷◌, ◌++◌, Option, Some, None, option_map, rules}
 use Rattle.std.proofs.Common.{refl, sym, ap, ◌∙◌, subst, length, arith, append-nil, true, false}
 use Rattle.std.specs.List.{after_first, before_first, list_any}
 use Rattle.std.proofs.lemmas.Grind.{flat_map-append}
@@ -48,15 +48,7 @@ joined_one first text = ap (λ (t : List ℕ). t ++ text) (append-nil (line firs
 -- Lines that were answered
 
 pub passes_nothing : (b text : List ℕ) (old : Moment) → Passes b text old text old
-passes_nothing b text old = record {
-  done = [];
-  good = All-nil IsLine;
-  is = refl;
-  lines = omega arith;
-  put = put_nothing old.put;
-  hashes = record { least = omega arith; most = omega arith };
-  reads = within_nothing old.reads;
-}
+passes_nothing b text old = search (rules, All-nil, within_nothing, put_nothing)
 
 pub passes_then : (b text : List ℕ) (old : Moment) (behind : List ℕ) (now : Moment) (part : List ℕ) (new : Moment)
     → Passes b text old behind now → Passes b behind now part new → Passes b text old part new
@@ -74,15 +66,7 @@ passes_then b text old behind now part new first second =
 
 pub passes_more : (b text : List ℕ) (old : Moment) (part : List ℕ) (new : Moment) (more : List ℕ) → Passes b text old part new
     → Passes b (text ++ more) old (part ++ more) new
-passes_more b text old part new more passes = record {
-  done = passes.done;
-  good = passes.good;
-  is = ap (λ (t : List ℕ). t ++ more) passes.is ∙ append_assoc (joined passes.done) part more;
-  lines = passes.lines;
-  put = passes.put;
-  hashes = passes.hashes;
-  reads = passes.reads;
-}
+passes_more b text old part new more passes = search (rules, append_assoc)
 
 -- one line
 pub passes_line : (b first rest : List ℕ) (old new : Moment) → IsLine first → new.lines ≡ old.lines + 1 → new.put
@@ -101,20 +85,10 @@ passes_line b first rest old new good next put hashes reads = record {
 -- Lines that weren't
 
 long_more : (text more : List ℕ) → BeginsTooLong text → BeginsTooLong (text ++ more)
-long_more text more begins = record {
-  front = begins.front;
-  rest = begins.rest ++ more;
-  is = ap (λ (t : List ℕ). t ++ more) begins.is ∙ append_assoc begins.front begins.rest more;
-  free = begins.free;
-  long = begins.long;
-}
+long_more text more begins = search (rules, append_assoc)
 
 line_more : (first text more : List ℕ) → BeginsWithLine first text → BeginsWithLine first (text ++ more)
-line_more first text more begins = record {
-  rest = begins.rest ++ more;
-  is = ap (λ (t : List ℕ). t ++ more) begins.is ∙ append_assoc first (10 ∷ begins.rest) more;
-  good = begins.good;
-}
+line_more first text more begins = search (rules, append_assoc)
 
 pub fails_more : (error : ServeError) (b : List ℕ) (lines : ℕ) (text more : List ℕ) (put new_put : Option (List ℕ))
     → Fails error b lines text put new_put → Fails error b lines (text ++ more) put new_put
@@ -205,12 +179,7 @@ breaks_part error b part old within free some refuses = breaks_at_once error b p
 -- A line that ends in a piece, behind a part that was kept
 
 pub empty_part : (lines : ℕ) (part : List ℕ) → part ≡ [] → lines ≤ 1000000 → IsOpen lines part
-empty_part lines part empty within = subst (IsOpen lines) (sym empty) (record {
-  free = All-nil (λ x. is_newline x ≡ false);
-  short = omega arith;
-  within = within;
-  numbered = λ some. absurd (omega arith);
-})
+empty_part lines part empty within = search (rules, All-nil)
 
 module _ (b text : List ℕ) (old : Moment) (part rest front behind : List ℕ) (now : Moment) (goes_on : IsOpen now.lines part)
     (passes : Passes b text old (part ++ rest) now) (some : list_any is_newline rest ≡ true)
@@ -219,9 +188,7 @@ module _ (b text : List ℕ) (old : Moment) (part rest front behind : List ℕ) 
   next_free = All-append (λ x. is_newline x ≡ false) part front goes_on.free (front_free rest front before)
 
   next_cut : Passes b text old ((part ++ front) ++ 10 ∷ behind) now
-  next_cut =
-      subst (λ (t : List ℕ). Passes b text old t now) (ap (λ (t : List ℕ). part ++ t) (whole_cut rest front behind some before after)
-      ∙ sym (append_assoc part front (10 ∷ behind))) passes
+  next_cut = search (rules, append_assoc, whole_cut)
 
   pub next_breaks : (error : ServeError) (new_put : Option (List ℕ)) → LineFails error b now.lines (part ++ front) now.put new_put
       → Breaks error b text old new_put
@@ -232,7 +199,4 @@ module _ (b text : List ℕ) (old : Moment) (part rest front behind : List ℕ) 
   pub next_passes : (new : Moment) (new_part : List ℕ) → IsAnswered now.lines new.lines (part ++ front) new_part
       → new.put ≡ option_map (λ text. text ++ reply b (part ++ front)) now.put → RisesAtMost now.hashes new.hashes 4
       → IsWithin (line_bytes b (part ++ front)) now.reads new.reads → Passes b text old (new_part ++ behind) new
-  next_passes new new_part answered put hashes reads =
-      subst (λ (t : List ℕ). Passes b text old (t ++ behind) new) (sym answered.begun)
-      (passes_then b text old ((part ++ front) ++ 10 ∷ behind) now behind new next_cut
-      (passes_line b (part ++ front) behind now new (record { free = next_free; short = answered.short }) answered.next put hashes reads))
+  next_passes new new_part answered put hashes reads = grind (arith, passes_then, passes_line, next_free, next_cut)

@@ -1,8 +1,8 @@
 -- What stands at a path is what the content of the path's node says, and without such a node it is a
 -- root, a file, or nothing.
-use Rattle.std.proofs.Common.{arith, ◌+◌, ◌-◌, ◌*◌, ◌≤◌, length, take}
-use Rattle.std.proofs.Common.{◌≡◌, ℕ, ◌==◌, Bool, true, false, List, drop, Option, Some, None, is_some, option_map, inl, inr}
-use Rattle.std.proofs.Common.{Result, Ok, Err, refl, sym, ap, ◌∙◌, subst}
+use Rattle.std.proofs.Common.{arith, ◌+◌, ◌-◌, ◌*◌, ◌≤◌, length, rules}
+use Rattle.std.proofs.Common.{◌≡◌, ℕ, ◌==◌, Bool, true, false, List, drop, Option, Some, None, is_some, option_map}
+use Rattle.std.proofs.Common.{Result, Ok, Err, refl, sym, ap, ◌∙◌}
 use Rattle.std.specs.Prelude.{codes, if◌then◌else◌, is_none, nat_eq, option_and_then, IfNone, IfOk}
 use Rattle.std.specs.List.{after_last, before_last, list_any, starts_with}
 use Rattle.std.specs.Str.{bytes_eq}
@@ -93,11 +93,7 @@ slash_no_node : (path : List ℕ) → bytes_eq path (codes "/") ≡ true → nod
 slash_no_node path is = ap node_path ((bytes_eq-Decides path (codes "/")).0 is)
 
 root_not_inner : (path : List ℕ) → is_root path ≡ true → starts_with nat_eq path (codes "/modules/") ≡ false
-root_not_inner path is =
-    elim (or_cases (bytes_eq path (codes "/modules")) (bytes_eq path (codes "/packages")) is) [
-      | inl one ↦ ap (λ p. starts_with nat_eq p (codes "/modules/")) ((bytes_eq-Decides path (codes "/modules")).0 one)
-      | inr one ↦ ap (λ p. starts_with nat_eq p (codes "/modules/")) ((bytes_eq-Decides path (codes "/packages")).0 one)
-    ]
+root_not_inner path is = search (rules, or_cases, bytes_eq-Decides)
 
 -- the tests of a path, in order
 module _ (b path : List ℕ) where
@@ -298,10 +294,7 @@ unsaid_file b path name h read node slash inner is other =
 
 -- a whole image is a file of its index
 pub index_file : (f b : List ℕ) (size : ℕ) → f ≡ b → size ≡ length b → IsFileOf f size b
-index_file f b size same long = record {
-  begins = ap (λ l. take (length l) b) same ∙ (whole_file b).begins ∙ sym same;
-  length_is = sym long;
-}
+index_file f b size same long = search (rules, whole_file)
 
 -- What it costs
 
@@ -315,39 +308,23 @@ hashes_few path = go (is_none (node_path path))
 
 pub hashes_all : (path : List ℕ) (old mid new : ℕ) → RisesAtMost old mid (node_hashes path)
     → RisesAtMost mid new (4 - node_hashes path) → RisesAtMost old new 4
-hashes_all path old mid new first next =
-    let few = hashes_few path in
-    record {
-      least = omega (arith, first.least, next.least);
-      most = omega (arith, first.least, first.most, next.least, next.most, few);
-    }
+hashes_all path old mid new first next = search (rules, hashes_few)
 
 -- a file is found where no node is
 pub standing_costs : {A : Type 0} (path : List ℕ) (content : Option A) (result : Result Standing JrtError) (old found new : Metered)
     → IfNone content (CostsAtMost old found (length path + 76)) → IsLater old found
     → StandingCosts result (is_some content) (length path + 76) found new → StandingCosts result false (2 * length path + 152) old new
-standing_costs path content (Err error) old found new first later next = later_then old found new later next
-standing_costs path content (Ok (standing.Folder list)) old found new first later next = later_then old found new later next
-standing_costs path content (Ok (standing.Link name)) old found new first later next = later_then old found new later next
-standing_costs path None (Ok (standing.File row)) old found new first later (none, next) = (
-  refl,
-  record {
-    bytes = next.bytes ∙ first.bytes;
-    count = record { least = omega arith; most = omega arith };
-  },
-)
-standing_costs path (Some content) (Ok (standing.File row)) old found new first later (some, next) = cc
+standing_costs path content (Err error) old found new first later next = search (rules, later_then)
+standing_costs path content (Ok (standing.Folder list)) old found new first later next = search (rules, later_then)
+standing_costs path content (Ok (standing.Link name)) old found new first later next = search (rules, later_then)
+standing_costs path None (Ok (standing.File row)) old found new first later (none, next) = search (rules)
+standing_costs path (Some content) (Ok (standing.File row)) old found new first later (some, next) = search (rules)
 
 -- and its content is read
 pub file_costs : (old mid new : Metered) (m n : ℕ) → CostsAtMost old mid m → Costs mid new n → CostsAtMost old new (m + n)
-file_costs old mid new m n found read = record {
-  bytes = read.bytes ∙ found.bytes;
-  count = record { least = omega arith; most = omega arith };
-}
+file_costs old mid new m n found read = search (rules)
 
 -- the first bytes that are all
 pub within_whole : (front : Front) (b : List ℕ) (result : Result Standing JrtError) → front.bytes ≡ b → front.length ≡ length b
     → IfOk result (IsIn front) → IfOk result (IsIn (whole b))
-within_whole front b result bytes size within =
-    subst (λ (f : Front). IfOk result (IsIn f)) (ap (λ (l : List ℕ). record { bytes = l; length = front.length }) bytes
-    ∙ ap (λ (n : ℕ). record { bytes = b; length = n }) size) within
+within_whole front b result bytes size within = search (rules)

@@ -1,5 +1,5 @@
 -- What a session took of its source, and what the sink has got at least.
-use Rattle.std.proofs.Common.{◌≡◌, ◌≤◌, ℕ, List, [], ◌∷◌, ◌++◌, Option, Some, None, option_map}
+use Rattle.std.proofs.Common.{◌≡◌, ◌≤◌, ℕ, List, [], ◌∷◌, ◌++◌, Option, Some, None, option_map, rules}
 use Rattle.std.proofs.Common.{false, refl, sym, ap, ◌∙◌, subst, length, take, arith, append-nil}
 use Rattle.std.proofs.lemmas.Bool.{false≢true}
 use Rattle.std.proofs.lemmas.List.{append_assoc, length-append}
@@ -94,14 +94,4 @@ got_front text last (Some old) (Some new) told = (take told.0 last, told.2 ∙ a
 pub gives_front : (most : ℕ) (b text given : List ℕ) (done : List (List ℕ)) (behind : List ℕ) (out new_out : Option (List ℕ))
     → done ≡ take (length done) (answered_in text) → HasGot (replies b done) out new_out → given ≡ joined done ++ behind
     → Cut most behind → GivesAtMost most b text given out new_out
-gives_front most b text given done behind out new_out first put is cut = record {
-  count = length done;
-  lines = done;
-  first = first;
-  put = put;
-  begun = cut.begun;
-  rest = cut.rest;
-  is = is ∙ ap (λ (t : List ℕ). joined done ++ t) cut.is;
-  line = cut.line;
-  within = cut.within;
-}
+gives_front most b text given done behind out new_out first put is cut = search (rules)

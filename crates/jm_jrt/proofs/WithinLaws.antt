@@ -1,5 +1,5 @@
 -- Bounds of what lines cost, one after another.
-use Rattle.std.proofs.Common.{◌≡◌, ℕ, List, [], ◌∷◌, ◌++◌, Option, Some, None, refl, sym, ap, ◌∙◌, subst, arith}
+use Rattle.std.proofs.Common.{◌≡◌, ℕ, List, [], ◌∷◌, ◌++◌, Option, Some, None, refl, sym, ap, ◌∙◌, subst, arith, rules}
 use Rattle.jm_bytes.specs.Metered.{Metered}
 use Rattle.jm_reader.specs.Walk.{IsLater}
 use Rattle.jm_jrt.specs.Lines.{both_bounds, lines_bytes}
@@ -42,16 +42,12 @@ both_assoc (Some k) (Some m) (Some n) = ap (λ (j : ℕ). Some j) (omega arith)
 
 pub bytes_append : (b : List ℕ) (front lines : List (List ℕ)) → lines_bytes b (front ++ lines) ≡ both_bounds (lines_bytes b front)
     (lines_bytes b lines)
-bytes_append b [] lines = sym (both_zero (lines_bytes b lines))
-bytes_append b (first ∷ front) lines =
-    ap (both_bounds (line_bytes b first)) (bytes_append b front lines)
-    ∙ both_assoc (line_bytes b first) (lines_bytes b front) (lines_bytes b lines)
+bytes_append b [] lines = search (rules, both_zero)
+bytes_append b (first ∷ front) lines = search (rules, both_assoc, (bytes_append b front lines))
 
 pub within_append : (b : List ℕ) (front lines : List (List ℕ)) (old now new : Metered) → IsWithin (lines_bytes b front) old now
     → IsWithin (lines_bytes b lines) now new → IsWithin (lines_bytes b (front ++ lines)) old new
-within_append b front lines old now new first second =
-    subst (λ (bound : Option ℕ). IsWithin bound old new) (sym (bytes_append b front lines)) (within_then (lines_bytes b front)
-    (lines_bytes b lines) old now new first second)
+within_append b front lines old now new first second = search (rules, within_then, bytes_append)
 
 pub within_one : (b first : List ℕ) (old new : Metered) → IsWithin (line_bytes b first) old new
     → IsWithin (lines_bytes b (first ∷ [])) old new

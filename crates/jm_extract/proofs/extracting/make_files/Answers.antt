@@ -32,23 +32,16 @@ loop-place-init g c =
 
 pub returns-in_err-make_entry-clause-makes : goal.returns-in_err-make_entry-clause-makes
 returns-in_err-make_entry-clause-makes g c b at =
-    let told = g.S.Shelf.files c.args.shelf.now in
-    let now = g.S.Shelf.files c.loop-place.shelf in
-    let new = g.S.Shelf.files c.make_entry.new.shelf in
-    let dir = c.args.dir.now in
     let ts = c.args.entries.now in
-    let i = c.loop-place.place in
-    let t = c.index-entries-place.result in
     let is = sym c.index-entries-place.is in
-    let texts = c.as_slice-kept.result.now in
-    let contents = subst (AreContents told b ts) (sym c.as_slice-kept.ensures) (c.in_ok-contents.ensures.contents b at) in
-    let enough = rw (sym c.as_slice-kept.ensures) at c.in_ok-contents.ensures.enough in
+    let same = sym c.as_slice-kept.ensures in
     let made = c.loop-place.invariant.made b at in
-    let has = has_content told now c.args.path.now dir b ts texts i t (option_map (λ x. x.now) c.get.result) c.loop-place-test.true is
-    at contents enough made (kept_of texts i c.get.result c.get.ensures.lookup) in
-    makes_part _ c.from_residual-in_err-make_entry.result (writes_of dir (map (taken_as b) ts)) told new
+    makes_part _ c.from_residual-in_err-make_entry.result (writes_of c.args.dir.now (map (taken_as b) ts)) _ _
     c.from_residual-in_err-make_entry.ensures.1
-    (part_next b dir ts i t told now new c.loop-place-test.true is made (c.in_err-make_entry.ensures.makes b has))
+    (part_next b c.args.dir.now ts c.loop-place.place _ _ _ _ c.loop-place-test.true is made (c.in_err-make_entry.ensures.makes b
+    (has_content _ _ c.args.path.now c.args.dir.now b ts c.as_slice-kept.result.now c.loop-place.place _ _ c.loop-place-test.true is at
+    (rw same at (c.in_ok-contents.ensures.contents b at)) (rw same at c.in_ok-contents.ensures.enough) made
+    (kept_of _ _ c.get.result c.get.ensures.lookup))))
 
 pub returns-in_err-make_entry-clause-handed : goal.returns-in_err-make_entry-clause-handed
 returns-in_err-make_entry-clause-handed g c =
@@ -63,25 +56,23 @@ returns-in_err-make_entry-clause-handed g c =
 
 pub loop-place-preserved : goal.loop-place-preserved
 loop-place-preserved g c =
-    let before = c.loop-place.invariant in
-    let told = g.S.Shelf.files c.args.shelf.now in
-    let now = g.S.Shelf.files c.loop-place.shelf in
-    let new = g.S.Shelf.files c.make_entry.new.shelf in
-    let dir = c.args.dir.now in
     let ts = c.args.entries.now in
-    let i = c.loop-place.place in
-    let t = c.index-entries-place.result in
     let is = sym c.index-entries-place.is in
-    let texts = c.as_slice-kept.result.now in
-    let enough = rw (sym c.as_slice-kept.ensures) at c.in_ok-contents.ensures.enough in
-    let next = unkept_next ts texts i t c.get.result c.loop-place-test.true is c.get.ensures.lookup in
+    let same = sym c.as_slice-kept.ensures in
+    let before = c.loop-place.invariant in
     record {
-      made = λ b at. made_next b dir ts i t told now new c.loop-place-test.true is (before.made b at)
-          (c.in_ok-make_entry.ensures.makes b (has_content told now c.args.path.now dir b ts texts i t
-          (option_map (λ x. x.now) c.get.result) c.loop-place-test.true is at (subst (AreContents told b ts) (sym c.as_slice-kept.ensures)
-          (c.in_ok-contents.ensures.contents b at)) enough (before.made b at) (kept_of texts i c.get.result c.get.ensures.lookup)));
+      made = λ b at. made_next b c.args.dir.now ts c.loop-place.place _ _ _ _ c.loop-place-test.true is (before.made b at)
+          (c.in_ok-make_entry.ensures.makes b (has_content _ _ c.args.path.now c.args.dir.now b ts c.as_slice-kept.result.now
+          c.loop-place.place _ _ c.loop-place-test.true is at (rw same at (c.in_ok-contents.ensures.contents b at))
+          (rw same at c.in_ok-contents.ensures.enough) (before.made b at) (kept_of _ _ c.get.result c.get.ensures.lookup)));
       count = c.in_ok-make_entry.ensures.faults.kept refl ∙ before.count;
-      handed = omega (arith, next, before.handed, c.in_ok-make_entry.ensures.handed);
+      handed = omega (
+        arith,
+        unkept_next ts c.as_slice-kept.result.now c.loop-place.place _ c.get.result c.loop-place-test.true is
+            c.get.ensures.lookup,
+        before.handed,
+        c.in_ok-make_entry.ensures.handed,
+      );
     }
 
 pub returns-clause-makes : goal.returns-clause-makes
