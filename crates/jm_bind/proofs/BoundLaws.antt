@@ -147,11 +147,3 @@ module _ (found : List Candidate) (names : List (List ℕ × ℕ)) (roots : List
   pub bound_within : (Has : ℕ → Type 0) → IsClosed found roots Has → (i : ℕ) → Bound found roots i → Has i
   bound_within Has closed i bound =
       led_within found names roots services graph indexed drawn Has closed i (bound_led i bound)
-
--- the set of the bound modules is closed itself, and so the least closed set
-pub bound_closed : (found : List Candidate) (roots : List (List ℕ)) → IsClosed found roots (Bound found roots)
-bound_closed found roots = record {
-  rooted = λ i root places closed. closed.rooted i root;
-  required = λ i j bound requires places closed. closed.required i j (bound places closed) requires;
-  served = λ i j bound serves places closed. closed.served i j (bound places closed) serves;
-}

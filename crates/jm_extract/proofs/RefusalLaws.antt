@@ -1,11 +1,11 @@
 -- The refusal of entries, from those of their names and of their clashes.
-use Rattle.std.proofs.Common.{◌≡◌, ◌≤◌, ◌<◌, ◌+◌, ℕ, true, ◌||◌, nat_eq, List, [], ◌∷◌, ◌++◌, drop, get_or, length, map, rules}
-use Rattle.std.proofs.Common.{Option, Some, None, option_map, refl, sym, subst, ap, ◌∙◌}
+use Rattle.std.proofs.Common.{◌≡◌, ◌≤◌, ◌<◌, ℕ, true, ◌||◌, nat_eq, List, [], ◌∷◌, drop, get_or, length, map, rules}
+use Rattle.std.proofs.Common.{Option, Some, None, refl, sym, subst, ap, ◌∙◌}
 use Rattle.std.proofs.lemmas.List.{drop_all, drop_more}
 use Rattle.std.specs.List.{starts_with}
 use Rattle.jm_bytes.proofs.Pairs.{pairs_map}
 use Rattle.jm_bytes.specs.ByteOrder.{is_before}
-use Rattle.jm_bytes.specs.Checks.{fault_if, first_fault}
+use Rattle.jm_bytes.specs.Checks.{first_fault}
 use Rattle.jm_names.specs.ByName.{Named, RisesByName}
 use Rattle.jm_names.specs.ComputedFault.{name_fault}
 use Rattle.jm_names.specs.declared.check.NameFault.{NameFault}

@@ -2,7 +2,6 @@ use Rattle.std.proofs.Common.{◌≡◌, ◌∙◌, ◌+◌, ◌∷◌, [], ℕ,
 use Rattle.std.proofs.lemmas.List.{length-append}
 use Rattle.jm_outside.specs.Files.{Files}
 use Rattle.jm_outside.specs.Outcome.{Shows}
-use Rattle.jm_filed.specs.declared.taking.TakenEntry.{TakenEntry}
 use Rattle.jm_filed.specs.Filed.{IsAt}
 use Rattle.jm_filed.specs.Taken.{content_in}
 use Rattle.jm_extract.proofs.FiledLaws.{contents_next, size_within, sizes_next}

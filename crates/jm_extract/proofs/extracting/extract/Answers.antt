@@ -1,8 +1,7 @@
-use Rattle.std.proofs.Common.{◌∙◌, Ok, Option, ap, arith, map, refl, sym, subst}
+use Rattle.std.proofs.Common.{◌∙◌, ap, arith, map, sym, subst, rules}
 use Rattle.std.proofs.lemmas.List.{length-map}
 use Rattle.jm_names.specs.ByName.{RisesByName}
 use Rattle.jm_reader.proofs.IndexLaws.{file_begins, file_with}
-use Rattle.jm_texts.specs.declared.refusal.Refusal.{Refusal}
 use Rattle.jm_extract.specs.Extracted.{extracted}
 use Rattle.jm_filed.specs.Taken.{LieWithin, taken_as}
 use Rattle.jm_extract.proofs.ExtractLaws.{broken_off, free_due, out_of_memory, refused_due}
@@ -31,41 +30,16 @@ returns-in_err-refusal-clause-extracts g c b filed =
     (g.S.Shelf.files c.args.shelf.now) c.from_residual-in_err-refusal.ensures.1
 
 pub returns-in-Some-clause-extracts : goal.returns-in-Some-clause-extracts
-returns-in-Some-clause-extracts g c b filed =
-    let is = sym c.in-Some.is ∙ c.in_ok-refusal.ensures.refusal b in (
-      refused_due (map (taken_as b) c.as_slice-entries.result.now) _ c.in-Some.refusal
-          (ap (map (taken_as b)) c.as_slice-entries.ensures ∙ c.in_ok-taken.ensures.taken b filed.0) is,
-      refl,
-    )
+returns-in-Some-clause-extracts g c b filed = search (rules, refused_due)
 
 pub make_files-requires : goal.make_files-requires
-make_files-requires g c =
-    record {
-      path = c.requires.path;
-      text = c.requires.text;
-      names = c.in_ok-refusal.ensures.sound (ap (λ (o : Option Refusal). Ok o) c.in_default.is);
-    }
+make_files-requires g c = search (rules)
 
 pub returns-in_err-make_files-clause-extracts : goal.returns-in_err-make_files-clause-extracts
-returns-in_err-make_files-clause-extracts g c b filed =
-    let entries = c.as_slice-entries.result.now in
-    let is = rw c.in_default.is at (c.in_ok-refusal.ensures.refusal b) in
-    let due = free_due (map (taken_as b) entries) _ (ap (map (taken_as b)) c.as_slice-entries.ensures
-    ∙ c.in_ok-taken.ensures.taken b filed.0) is in
-    broken_off (extracted b c.args.work.include.now) (map (taken_as b) entries) c.args.work.dir.now
-    c.from_residual-in_err-make_files.result c.in_err-make_files.field-0.0 (g.S.Shelf.files c.args.shelf.now)
-    (g.S.Shelf.files c.make_files.new.shelf) due c.from_residual-in_err-make_files.ensures.1 (c.in_err-make_files.ensures.makes b filed.1)
+returns-in_err-make_files-clause-extracts g c b filed = search (rules, broken_off, free_due)
 
 pub returns-in_err-make_files-clause-takes : goal.returns-in_err-make_files-clause-takes
-returns-in_err-make_files-clause-takes g c b file =
-    omega (
-      arith,
-      size_due c.args.image.index.now.length b c.as_slice-entries.result.now _ file.length_is
-          (subst (LieWithin c.args.image.index.now.length) (sym c.as_slice-entries.ensures) c.in_ok-taken.ensures.within)
-          (ap (map (taken_as b)) c.as_slice-entries.ensures ∙ c.in_ok-taken.ensures.taken b file)
-          (rw c.in_default.is at (c.in_ok-refusal.ensures.refusal b)),
-      c.in_err-make_files.ensures.handed,
-    )
+returns-in_err-make_files-clause-takes g c b file = grind (arith, size_due)
 
 pub returns-clause-extracts : goal.returns-clause-extracts
 returns-clause-extracts g c b filed =
