@@ -1,5 +1,5 @@
 -- The modules that have a descriptor, of the entries of an image that rise by name.
-use Rattle.std.proofs.Common.{◌≡◌, ◌≢◌, ℕ, Bool, true, false, ◌&&◌, not, List, [], ◌∷◌, ◌++◌, All, AllPairs, Contains, map}
+use Rattle.std.proofs.Common.{◌≡◌, ◌≢◌, ℕ, Bool, true, false, ◌&&◌, not, List, [], ◌∷◌, ◌++◌, All, AllPairs, Contains, map, rules}
 use Rattle.std.proofs.Common.{get_or, IsPermutation, None, option_to_list, refl, sym, ap, subst, ◌∙◌}
 use Rattle.std.proofs.lemmas.List.Elements.{All-weaker}
 use Rattle.std.proofs.lemmas.List.Kept.{AllPairs-filter}
@@ -38,10 +38,7 @@ no_other true = refl
 no_other false = refl
 
 all_taken : (es : List Entry) → taken_among None es ≡ resources es
-all_taken es =
-    filter_mapped (λ (e : Named). is_taken None e.0) named es
-    ∙ ap (map named) (filter_same (λ (e : Entry). is_taken None e.name) (λ (e : Entry). not (is_node e.name)) es
-    (λ k d below. no_other (not (is_node (get_or es k d).name))))
+all_taken es = search (rules, filter_mapped, filter_same, no_other)
 
 abbrev files_of : Named → List Filed
 files_of r = option_to_list (located r)
