@@ -8,7 +8,7 @@ use Rattle.std.specs.List.{after_last, before_last, list_any, starts_with}
 use Rattle.std.specs.Str.{bytes_eq}
 use Rattle.std.proofs.lemmas.Bool.{or_cases}
 use Rattle.std.proofs.lemmas.Slice.Eq.{bytes_eq-Decides}
-use Rattle.jm_bytes.specs.Metered.{Costs, CostsAtMost, Metered, RisesAtMost}
+use Rattle.jm_bytes.specs.Metered.{CostsAtMost, Metered, RisesAtMost}
 use Rattle.jm_bytes.proofs.Choice.{same_some}
 use Rattle.jm_bytes.proofs.Cuts.{before_last_none}
 use Rattle.jm_names.specs.Names.{is_node, is_slash}
@@ -319,10 +319,6 @@ standing_costs path content (Ok (standing.Folder list)) old found new first late
 standing_costs path content (Ok (standing.Link name)) old found new first later next = search (rules, later_then)
 standing_costs path None (Ok (standing.File row)) old found new first later (none, next) = search (rules)
 standing_costs path (Some content) (Ok (standing.File row)) old found new first later (some, next) = search (rules)
-
--- and its content is read
-pub file_costs : (old mid new : Metered) (m n : ℕ) → CostsAtMost old mid m → Costs mid new n → CostsAtMost old new (m + n)
-file_costs old mid new m n found read = search (rules)
 
 -- the first bytes that are all
 pub within_whole : (front : Front) (b : List ℕ) (result : Result Standing JrtError) → front.bytes ≡ b → front.length ≡ length b

@@ -1,9 +1,8 @@
-use Rattle.std.proofs.Common.{◌≡◌, Bool, true, false, is_some, length, drop, refl, sym, ap, ◌∙◌, arith}
+use Rattle.std.proofs.Common.{◌≡◌, Bool, true, false, is_some, refl, sym, rules}
 use Rattle.std.specs.Bool.{then_some}
 use Rattle.std.proofs.lemmas.Bool.{false≢true}
 use Rattle.std.proofs.lemmas.Slice.Eq.{bytes_eq-Decides}
 use Rattle.std.specs.Str.{bytes_eq}
-use Rattle.jm_form.specs.Texts.{text_ends}
 use Rattle.jm_jrt.proofs.EndLaws.{other_text, text_looked}
 use Rattle.jm_jrt.proofs.owners.text_if.Goals as goal
 
@@ -12,21 +11,13 @@ some_if true x = refl
 some_if false x = refl
 
 pub returns-in_err-part-clause-found : goal.returns-in_err-part-clause-found
-returns-in_err-part-clause-found g c =
-    rw c.from_residual.ensures
-    (other_text _ c.args.asked.now c.args.place c.requires.ends (λ begins. absurd (omega (arith, begins.within, c.in_err-part.ensures.none))))
+returns-in_err-part-clause-found g c = search (rules, other_text)
 
 pub returns-then-not-ended-clause-found : goal.returns-then-not-ended-clause-found
-returns-then-not-ended-clause-found g c =
-    let end = c.split_at.ensures.back ∙ ap (drop (length c.args.asked.now)) c.in_ok-part.ensures.part in
-    other_text _ c.args.asked.now c.args.place c.requires.ends (λ begins. false≢true (sym c.if-not-ended.true ∙ c.eq-ended.ensures
-    ∙ (bytes_eq-Decides c.split_at.result.1.now c.as_slice.result.now).1 (end ∙ begins.end ∙ sym c.as_slice.ensures)))
+returns-then-not-ended-clause-found g c = search (rules, false≢true, bytes_eq-Decides, other_text)
 
 pub returns-in_err-text-clause-found : goal.returns-in_err-text-clause-found
-returns-in_err-text-clause-found g c =
-    let none = c.in_err-text.ensures.ends ∙ ap (λ l. text_ends l 0) c.in_ok-part.ensures.part in
-    rw c.from_residual-in_err-text.ensures
-    (other_text _ c.args.asked.now c.args.place c.requires.ends (λ begins. false≢true (none ∙ begins.cut)))
+returns-in_err-text-clause-found g c = search (rules, false≢true, other_text)
 
 pub returns-clause-found : goal.returns-clause-found
 returns-clause-found g c =

@@ -6,11 +6,7 @@ use Rattle.jm_jrt.proofs.SessionEnds.{serves_all, serves_last, serves_not_last}
 use Rattle.jm_jrt.proofs.session.serve.Goals as goal
 
 pub returns-in_err-progress-clause-serves : goal.returns-in_err-progress-clause-serves
-returns-in_err-progress-clause-serves g c =
-    let same_out : c.serve_ended.new.answering.out.now ≡ c.in_err-progress.out-1-own.given.0 = search rules in
-    let same_reads : c.serve_ended.new.answering.reads.now ≡ c.in_err-progress.reads-1-own.given.0 = search rules in
-    serves_lent _ _ _ _ _ _ _ _ _ _ (ap g.O.Sink.content same_out) same_reads
-    (rw (passed_on c.from_residual.result c.in_err-progress.field-0.0 c.from_residual.ensures.1) c.in_err-progress.ensures.err)
+returns-in_err-progress-clause-serves g c = search (rules, passed_on, serves_lent)
 
 pub returns-then-is_empty-clause-serves : goal.returns-then-is_empty-clause-serves
 returns-then-is_empty-clause-serves g c =

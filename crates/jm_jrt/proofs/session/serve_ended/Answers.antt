@@ -1,4 +1,4 @@
-use Rattle.std.proofs.Common.{◌≢◌, [], length, take, refl, ap, ◌∙◌, arith}
+use Rattle.std.proofs.Common.{length, take, refl, ap, ◌∙◌, arith, rules}
 use Rattle.std.proofs.lemmas.List.{length-take}
 use Rattle.jm_bytes.proofs.ResultLaws.{passed_on}
 use Rattle.jm_jrt.specs.declared.serve_error.ServeError.TheVariants.{Memory}
@@ -15,21 +15,7 @@ returns-in_err-piece-clause-err g c =
     (moment _ 0 c.args.answering.now.hashes.now c.args.answering.now.reads.now) _ _ refl)
 
 pub loop-progress-init : goal.loop-progress-init
-loop-progress-init g c = record {
-  same = (refl, refl, refl);
-  metered = c.requires;
-  piece = c.in_ok-piece.ensures;
-  arrives = record {
-    given = [];
-    told = told_start _;
-    passes = rw c.new.ensures.items (passes_nothing c.args.image.now [] _);
-    goes_on = empty_part 0 _ c.new.ensures.items (omega arith);
-  };
-  input_faults = refl;
-  out_faults = refl;
-  hashes = omega arith;
-  reads = record { bytes = refl; count = omega arith };
-}
+loop-progress-init g c = search (rules, told_start, empty_part, passes_nothing)
 
 pub returns-in_err-count-clause-err : goal.returns-in_err-count-clause-err
 returns-in_err-count-clause-err g c =
@@ -41,33 +27,13 @@ returns-in_err-count-clause-err g c =
     (serves_given c.args.image.now _ _ _ _ _ _ _ c.loop-progress.invariant.arrives)
 
 pub returns-then-count-eq0-clause-ok : goal.returns-then-count-eq0-clause-ok
-returns-then-count-eq0-clause-ok g c =
-    let rest = g.I.Source.rest in
-    let arrives = c.loop-progress.invariant.arrives in
-    record {
-      given = arrives.given;
-      told = told_same (rest c.args.input.now) (rest c.loop-progress.input) (rest c.take.new.input) arrives.given c.take.new.piece.items
-          c.in_ok-count.count c.if-count-eq0.true arrives.told c.in_ok-count.ensures.moved;
-      passes = arrives.passes;
-      goes_on = arrives.goes_on;
-    }
+returns-then-count-eq0-clause-ok g c = search (rules, told_same)
 
 pub returns-then-count-eq0-clause-end : goal.returns-then-count-eq0-clause-end
-returns-then-count-eq0-clause-end g c =
-    let rest = g.I.Source.rest in
-    let arrives = c.loop-progress.invariant.arrives in
-    let none = c.if-count-eq0.true in
-    told_none (rest c.args.input.now) (rest c.loop-progress.input) (rest c.take.new.input) arrives.given c.take.new.piece.items
-    c.in_ok-count.count none arrives.told c.in_ok-count.ensures.moved (c.in_ok-count.ensures.end none)
+returns-then-count-eq0-clause-end g c = search (rules, told_none)
 
 pub loop-progress-smaller : goal.loop-progress-smaller
-loop-progress-smaller g c =
-    let some : c.in_ok-count.count ≢ 0 = c.if-count-eq0.false in
-    let front = ap length (c.split_at.ensures.front ∙ ap (take c.in_ok-count.count) c.as_slice.ensures.value) in
-    let len = length-take c.in_ok-count.count c.take.new.piece.items in
-    let further = comes_further c.args.image.now c.loop-progress.progress.part.items c.split_at.result.0.now
-    c.take_piece.new.progress.part.items _ _ c.in_ok-take_piece.ensures.passes c.loop-progress.invariant.arrives.goes_on (omega arith) in
-    omega arith
+loop-progress-smaller g c = search (rules, length-take, comes_further)
 
 pub loop-progress-preserved : goal.loop-progress-preserved
 loop-progress-preserved g c =

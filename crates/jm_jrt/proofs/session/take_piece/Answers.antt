@@ -1,9 +1,8 @@
-use Rattle.std.proofs.Common.{◌≡◌, ◌++◌, length, refl, ◌∙◌, arith, false}
+use Rattle.std.proofs.Common.{◌≡◌, ◌++◌, length, arith, false, rules}
 use Rattle.std.proofs.lemmas.List.{length-append}
 use Rattle.std.proofs.lemmas.List.Elements.{All-append}
 use Rattle.jm_bytes.proofs.ResultLaws.{passed_on}
 use Rattle.jm_jrt.specs.Lines.{is_newline}
-use Rattle.jm_jrt.specs.Reply.{line_bytes}
 use Rattle.jm_jrt.specs.Sessions.{Breaks, Refuses, moment}
 use Rattle.jm_jrt.proofs.FreeLaws.{none_free}
 use Rattle.jm_jrt.proofs.ServeErrors.{err_from}
@@ -12,15 +11,7 @@ use Rattle.jm_jrt.proofs.WithinLaws.{later_then, within_later}
 use Rattle.jm_jrt.proofs.session.take_piece.Goals as goal
 
 pub loop-bytes-init : goal.loop-bytes-init
-loop-bytes-init g c = record {
-  same = (refl, refl, refl);
-  metered = c.requires.metered;
-  goes_on = c.requires.open;
-  passes = passes_nothing c.args.image.now _ _;
-  faults = refl;
-  hashes = omega arith;
-  reads = record { bytes = refl; count = omega arith };
-}
+loop-bytes-init g c = search (rules, passes_nothing)
 
 pub returns-in_err-end_line-clause-err : goal.returns-in_err-end_line-clause-err
 returns-in_err-end_line-clause-err g c =
@@ -31,25 +22,7 @@ returns-in_err-end_line-clause-err g c =
     before.goes_on before.passes cut.found cut.before cut.after c.in_err-end_line.field-0.0 _ c.in_err-end_line.ensures.err)
 
 pub loop-bytes-preserved : goal.loop-bytes-preserved
-loop-bytes-preserved g c =
-    let b = c.args.image.now in
-    let before = c.loop-bytes.invariant in
-    let part = c.loop-bytes.progress.part.items in
-    let cut = c.in-Some.ensures in
-    let step = c.end_line.ensures in
-    let answered = c.in_ok-end_line.ensures.line in
-    let hashes = before.hashes in
-    let later = within_later (line_bytes b (part ++ c.in-Some.bytes.now)) _ _ step.reads in
-    record {
-      same = (step.same.0 ∙ before.same.0, step.same.1 ∙ before.same.1, step.same.2 ∙ before.same.2);
-      metered = later.bytes ∙ before.metered;
-      goes_on = empty_part _ _ answered.begun (omega arith);
-      passes = next_passes b _ _ part c.loop-bytes.rest.now c.in-Some.bytes.now c.in-Some.behind.now _ before.goes_on before.passes
-          cut.found cut.before cut.after _ _ answered c.in_ok-end_line.ensures.put step.hashes step.reads;
-      faults = c.in_ok-end_line.ensures.faults.kept refl ∙ before.faults;
-      hashes = omega arith;
-      reads = later_then _ _ _ before.reads later;
-    }
+loop-bytes-preserved g c = search (rules, empty_part, next_passes, later_then, within_later)
 
 pub returns-clause-err : goal.returns-clause-err
 returns-clause-err g c =

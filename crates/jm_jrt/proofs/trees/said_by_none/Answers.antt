@@ -1,5 +1,4 @@
-use Rattle.std.proofs.Common.{sym, ap, ◌∙◌}
-use Rattle.std.specs.Prelude.{codes}
+use Rattle.std.proofs.Common.{sym, ap, ◌∙◌, rules}
 use Rattle.std.specs.Str.{bytes_eq}
 use Rattle.jm_names.specs.Names.{is_node}
 use Rattle.jm_jrt.specs.Stat as answers
@@ -8,15 +7,7 @@ use Rattle.jm_jrt.proofs.StandingLaws.{unsaid_other, unsaid_roots}
 use Rattle.jm_jrt.proofs.trees.said_by_none.Goals as goal
 
 pub returns-then-eq-clause-item : goal.returns-then-eq-clause-item
-returns-then-eq-clause-item g c = λ b file node.
-    let path = c.args.path.now in
-    let slash = sym (c.eq.ensures ∙ ap (bytes_eq path) c.as_slice.ensures) ∙ c.if-eq.true in
-    let modules = is_row_found b (codes "/modules") c.find_row_in.result c.is_some-modules.result c.is_some-modules.ensures
-    (c.find_row_in.ensures.found b file) in
-    let packages = is_row_found b (codes "/packages") c.find_row_in-then-eq.result c.is_some-packages.result c.is_some-packages.ensures
-    (c.find_row_in-then-eq.ensures.found b file) in
-    unsaid_roots b path c.is_some-modules.result c.is_some-packages.result c.of.result.rest slash c.of.ensures.rest modules packages
-    ∙ sym (stat_unsaid b path c.header-header.result (c.header-header.ensures.valid b file).header node)
+returns-then-eq-clause-item g c = search (rules, is_row_found, stat_unsaid, unsaid_roots)
 
 pub returns-then-not-starts_with-clause-item : goal.returns-then-not-starts_with-clause-item
 returns-then-not-starts_with-clause-item g c = λ b file node.
