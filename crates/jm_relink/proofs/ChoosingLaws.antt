@@ -1,5 +1,5 @@
 -- The files of chosen modules, one file after another and one module after another.
-use Rattle.std.proofs.Common.{◌≡◌, ◌≢◌, ℕ, ◌+◌, ◌<◌, Bool, true, false, cond, List, [], ◌∷◌, ◌++◌, take, drop, rules}
+use Rattle.std.proofs.Common.{◌≡◌, ◌≢◌, ℕ, ◌+◌, ◌<◌, Bool, true, false, cond, List, [], ◌∷◌, ◌++◌, take, rules}
 use Rattle.std.proofs.Common.{length, get_or, map}
 use Rattle.std.proofs.Common.{All, AllPairs, Contains, Option, Some, None, option_map, slice_get, Ok, refl, sym, ap, subst, ◌∙◌}
 use Rattle.std.proofs.Common.{append_assoc, arith}
@@ -25,7 +25,7 @@ use Rattle.jm_relink.specs.declared.modules.ImageFile.{ImageFile}
 use Rattle.jm_relink.specs.declared.modules.ImageModules.{ImageModules}
 use Rattle.jm_relink.specs.Choosing.{ArePut, IsChosen, IsDescribedIn, IsDescription, WasRead, chosen_in}
 use Rattle.jm_relink.specs.Files.{file_in, file_name, files_in}
-use Rattle.jm_relink.specs.Gathering.{AreModules, HasInfos, bad_name, first_bad_name, gathered, resource_of}
+use Rattle.jm_relink.specs.Gathering.{AreModules, HasInfos, first_bad_name, gathered, resource_of}
 use Rattle.jm_relink.specs.Groups.{info_content}
 use Rattle.jm_relink.proofs.GatherLaws.{IsNext, all_got, all_with, bad_append_none, bad_one, refused_further, resources_more}
 use Rattle.jm_relink.proofs.ListLaws.{one_of}

@@ -1,6 +1,6 @@
 -- What the code's groups of files are, one entry after another.
 use Rattle.std.proofs.Common.{◌≡◌, ℕ, cond, List, [], ◌∷◌, ◌++◌, All, IfOk, IfSome, map, Option, Some, None, rules}
-use Rattle.std.proofs.Common.{is_some, option_map, option_to_list, Result, refl, sym, ap, ap₂, subst, ◌∙◌}
+use Rattle.std.proofs.Common.{is_some, option_map, option_to_list, Result, refl, sym, ap, subst, ◌∙◌}
 use Rattle.std.proofs.lemmas.List.{map-append, map_push}
 use Rattle.std.proofs.lemmas.List.Elements.{All-append, All-head, All-nil, All-push, All-tail}
 use Rattle.std.proofs.lemmas.Result.{IfOk-weaker}
@@ -15,8 +15,8 @@ use Rattle.jm_relink.specs.declared.entries.ModuleEntries.{ModuleEntries}
 use Rattle.jm_relink.specs.declared.groups.ModuleFiles.{ModuleFiles}
 use Rattle.jm_relink.specs.declared.modules.ImageFile.{ImageFile}
 use Rattle.jm_relink.specs.Entries.{FilesWithin, HasExtent}
-use Rattle.jm_relink.specs.Files.{AllWithin, Filed, file_in, files_in, located, located_among, module_and_path}
-use Rattle.jm_relink.specs.Groups.{Group, GroupWithin, KnowsInfo, begun_group, described_from, files_of, group_in, groups, groups_from, has_info}
+use Rattle.jm_relink.specs.Files.{AllWithin, Filed, located, located_among, module_and_path}
+use Rattle.jm_relink.specs.Groups.{Group, GroupWithin, KnowsInfo, begun_group, described_from, files_of, group_in, groups, has_info}
 use Rattle.jm_relink.proofs.InfoLaws.{extent_content}
 use Rattle.jm_relink.proofs.JoinedLaws.{file_joins}
 use Rattle.jm_relink.proofs.ListLaws.{all_alone, map_alone, put_alone}

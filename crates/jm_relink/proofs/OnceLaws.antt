@@ -12,7 +12,7 @@ use Rattle.jm_bytes.specs.ByteOrder.{is_before}
 use Rattle.jm_modinfo.specs.Descriptions.{info_for}
 use Rattle.jm_relink.specs.declared.fault.RelinkFault.{RelinkFault}
 use Rattle.jm_relink.specs.declared.fault.RelinkFault.TheVariants as fault_of
-use Rattle.jm_relink.specs.Files.{file_name, info_entry, resources_of}
+use Rattle.jm_relink.specs.Files.{file_name, info_entry}
 use Rattle.jm_names.specs.ByName.{Named}
 use Rattle.jm_relink.specs.Modules.{AreFilesOf, HasInfo, IsRefusedIn, IsSeenIn, IsVisibleIn, ModulesOf, SeenModule, info_refusal, name_of}
 use Rattle.jm_relink.proofs.ModuleLaws.{Differ, one_content, resources_differ}

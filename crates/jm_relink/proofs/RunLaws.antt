@@ -1,13 +1,13 @@
 -- Files of modules in the order of the names of their entries: those of one module stand side by side, and rise by path.
 use Rattle.std.proofs.Common.{◌≡◌, ◌≢◌, ◌<◌, ℕ, Bool, true, false, cond, List, [], ◌∷◌, ◌++◌, AllPairs, Contains, rules}
-use Rattle.std.proofs.Common.{map, Some, refl, sym, ap, ap₂, subst, ◌∙◌}
+use Rattle.std.proofs.Common.{map, Some, refl, sym, ap, subst, ◌∙◌}
 use Rattle.std.proofs.lemmas.Bool.{false≢true, false_from_ne_true}
 use Rattle.std.proofs.lemmas.List.{append_cancel_right}
 use Rattle.std.proofs.lemmas.Slice.Eq.{bytes_eq-Decides}
 use Rattle.std.specs.Cmp.{ranks}
 use Rattle.std.specs.Cmp.Lexicographic.{slice_cmp}
 use Rattle.std.specs.List.{filter_map, list_any}
-use Rattle.std.specs.Ordering.{MatchOrdering, is_lt, nat_cmp, ordering_then}
+use Rattle.std.specs.Ordering.{MatchOrdering, nat_cmp, ordering_then}
 use Rattle.std.specs.Str.{bytes_eq}
 use Rattle.std.specs.declared.cmp.Ordering.{Ordering}
 use Rattle.std.specs.declared.cmp.Ordering.TheVariants.{Less, Equal, Greater}
@@ -17,7 +17,7 @@ use Rattle.jm_bytes.proofs.Pairs.{pairs_filter_map, pairs_map, pairs_weaker}
 use Rattle.jm_bytes.specs.ByteOrder.{is_before}
 use Rattle.jm_names.specs.ByName.{Named, RisesByName}
 use Rattle.jm_names.specs.Names.{is_slash}
-use Rattle.jm_relink.specs.Files.{Filed, NeverFalls, file_name, located}
+use Rattle.jm_relink.specs.Files.{Filed, NeverFalls, located}
 use Rattle.jm_relink.specs.Groups.{Group, begun_as, groups, groups_from, ungrouped}
 use Rattle.jm_relink.proofs.GroupLaws.{Falls, groups_rise, groups_whole, second_decides}
 use Rattle.jm_relink.proofs.ListLaws.{pairs_each, pairs_unmap}
