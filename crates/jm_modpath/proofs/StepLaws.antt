@@ -16,7 +16,6 @@ use Rattle.jm_bytes.proofs.Cuts.{first_parts}
 use Rattle.jm_bytes.proofs.Members.{any_contains, contains_cases, contains_here, contains_later, from_filter_map}
 use Rattle.jm_modpath.specs.declared.directory.Described.{Described}
 use Rattle.jm_names.specs.Names.{is_empty, is_slash}
-use Rattle.jm_outside.specs.declared.shelf.ShelfError.TheVariants as outside
 use Rattle.jm_outside.specs.Files.{Files, after_front, file, names_below}
 use Rattle.jm_outside.specs.Outcome.{Shows}
 use Rattle.jm_outside.proofs.Laws.{names_below-exact}

@@ -1,8 +1,8 @@
 -- What is cut out of a text at a slash is text, and what is put together with a slash.
 use Rattle.std.proofs.Common.{◌≡◌, ℕ, Bool, true, false, List, [], ◌∷◌, ◌++◌}
-use Rattle.std.proofs.Common.{drop, length, length-append, get_or, cond, All, Contains, IsUtf8, Option, Some}
+use Rattle.std.proofs.Common.{drop, length, length-append, cond, All, Contains, IsUtf8, Option, Some}
 use Rattle.std.proofs.Common.{None, Result, Ok, Err, IfOk, refl, subst, arith, rules, lit<}
-use Rattle.std.specs.List.{list_any, before_first, filter_map, position_or_len}
+use Rattle.std.specs.List.{list_any, before_first, filter_map}
 use Rattle.std.specs.Str.{IsCharBoundary}
 use Rattle.std.proofs.lemmas.Bool.{eqb-true}
 use Rattle.std.proofs.lemmas.List.{take_at, drop_at}
