@@ -1,5 +1,5 @@
 -- A link of told files comes to one image or to one refusal.
-use Rattle.std.proofs.Common.{◌≡◌, ℕ, List, length, Option, Some, None, Result, Ok, Err, sym, ◌∙◌, subst}
+use Rattle.std.proofs.Common.{◌≡◌, ℕ, List, length, Option, Some, None, Result, Ok, Err, sym, ◌∙◌, subst, rules}
 use Rattle.jm_bytes.specs.declared.words.Order.{Order}
 use Rattle.jm_closure.proofs.OnceLaws.{closes_once}
 use Rattle.jm_closure.specs.declared.candidate.Candidate.{Candidate}
@@ -48,11 +48,7 @@ closed_once asked resources (Err fault) a b one other = one ∙ sym other
 
 linked_once : (asked : Request) (found : List Candidate) (resources : List ℕ → List Written) (a b : Answer)
     → IsLinkedOf asked found resources a → IsLinkedOf asked found resources b → a ≡ b
-linked_once asked found resources a b (closed, closes, is) (closed', closes', is') =
-    let roots = roots_among found asked.roots in
-    let same = closes_once found (Chosen asked.bind found roots) (chosen_below asked.bind found roots) roots closed closed' closes
-    closes' in
-    closed_once asked resources closed' a b (subst (λ c. IsClosedTo asked resources c a) same is) is'
+linked_once asked found resources a b (closed, closes, is) (closed', closes', is') = search (rules, closes_once, chosen_below, closed_once)
 
 found_once : (asked : Request) (found : List Candidate) (resources : List ℕ → List Written) (taken : Option Refusal) (a b : Answer)
     → IsFoundTo asked found resources taken a → IsFoundTo asked found resources taken b → a ≡ b
@@ -66,10 +62,8 @@ among_once asked found resources a b one other = found_once asked found resource
 
 path_once : (files : Files) (directories : List (List ℕ)) (asked : Request) (given : Option PathRefusal) (a b : Answer)
     → IsPathTo files directories asked given a → IsPathTo files directories asked given b → a ≡ b
-path_once files directories asked (Some given) a b one other = one ∙ sym other
-path_once files directories asked None a b one other =
-    let found = visible asked.release files directories in
-    among_once asked (candidates found) (resources_in files found) a b one other
+path_once files directories asked (Some given) a b one other = search (rules)
+path_once files directories asked None a b one other = search (rules, among_once)
 
 -- the rule of a link has one answer
 pub links_once : (files : Files) (directories : List (List ℕ)) (asked : Request) (a b : Answer) → LinksTo files directories asked a
