@@ -160,44 +160,89 @@ module _ {F A : Type 0} (short rest : ℕ → F) (layout : Layout F A) (text : L
 -- What is read by one layout, and by another one
 
 module _ {F : Type 0} (short : ℕ → F) where
-  abbrev pub Stays : {A : Type 0} → Layout F A → Layout F A → Type 0
-  Stays {A} old new = (left next : Left) (a : A) → reading short old left ≡ Ok (a, next) → reading short new left ≡ Ok (a, next)
+  pub record Stays {A : Type 0} (old new : Layout F A) : Type 0 where
+    pub read : (left next : Left) (a : A) → reading short old left ≡ Ok (a, next) → reading short new left ≡ Ok (a, next)
+
+  pub same-stays : {A : Type 0} (layout : Layout F A) → Stays layout layout
+  same-stays layout = record { read = λ left next a e. e }
 
   pub field-stays : {A : Type 0} (size : Size) (found more : ℕ → Option A) (refused other : ℕ → ℕ → F)
       → ((n : ℕ) (a : A) → found n ≡ Some a → more n ≡ Some a) → Stays (Field size found refused) (Field size more other)
-  field-stays {A} size found more refused other stays left next a e =
-      let got = passed (number short (width size) left) (λ n. with_left (ok_or (found n) (refused left.place n))) a next e in
-      let is = got.is in
-      rw is (go got.first got.middle (found got.first) refl got.rest)
+  field-stays {A} size found more refused other stays = record {
+    read = λ left next a e.
+        let got = passed (number short (width size) left) (λ n. with_left (ok_or (found n) (refused left.place n))) a next e in
+        let is = got.is in
+        rw is (go left.place next a got.first got.middle (found got.first) refl got.rest);
+  }
     where
-      go : (n : ℕ) (middle : Left) (value : Option A) → found n ≡ value → with_left (ok_or value (refused left.place n)) middle
-          ≡ Ok (a, next) → with_left (ok_or (more n) (other left.place n)) middle ≡ Ok (a, next)
-      go n middle (Some b) there e = let also = stays n b there in rw also e
-      go n middle None there e = cc
+      go : (place : ℕ) (next : Left) (a : A) (n : ℕ) (middle : Left) (value : Option A) → found n ≡ value
+          → with_left (ok_or value (refused place n)) middle ≡ Ok (a, next) → with_left (ok_or (more n) (other place n)) middle ≡ Ok (a, next)
+      go place next a n middle (Some b) there e = let also = stays n b there in rw also e
+      go place next a n middle None there e = cc
 
   pub then-stays : {A B : Type 0} (first other : Layout F A) (next more : A → Layout F B) → Stays first other
       → ((a : A) → Stays (next a) (more a)) → Stays (Then first next) (Then other more)
-  then-stays first other next more one two left end b e =
-      let got = passed (reading short first left) (λ a. reading short (next a)) b end e in
-      let same = one left got.middle got.first got.is in
-      rw same (two got.first got.middle end b got.rest)
+  then-stays first other next more one two = record {
+    read = λ left end b e.
+        let got = passed (reading short first left) (λ a. reading short (next a)) b end e in
+        let same = one.read left got.middle got.first got.is in
+        rw same ((two got.first).read got.middle end b got.rest);
+  }
 
-  pub times-stays : {A : Type 0} (old new : Layout F A) → Stays old new → (n : ℕ) → Stays (Times n old) (Times n new)
-  times-stays old new stays zero left next xs e = e
-  times-stays old new stays (suc n) left next xs e =
+  times_stay : {A : Type 0} (old new : Layout F A) → Stays old new → (n : ℕ) (left next : Left) (xs : List A)
+      → counted n (reading short old) left ≡ Ok (xs, next) → counted n (reading short new) left ≡ Ok (xs, next)
+  times_stay old new stays zero left next xs e = e
+  times_stay old new stays (suc n) left next xs e =
       let one = passed (reading short old left) (λ x. and_then (counted n (reading short old)) (λ xs. value (x ∷ xs))) xs next e in
       let two = passed (counted n (reading short old) one.middle) (λ xs. value (one.first ∷ xs)) xs next one.rest in
-      let first = stays left one.middle one.first one.is in
-      let rest = times-stays old new stays n one.middle two.middle two.first two.is in
+      let first = stays.read left one.middle one.first one.is in
+      let rest = times_stay old new stays n one.middle two.middle two.first two.is in
       rw (first, rest) two.rest
 
   pub listed-stays : {A : Type 0} (old new : Layout F A) → Stays old new → Stays (listed old) (listed new)
-  listed-stays old new stays = then-stays (Number U2) (Number U2) (λ n. Times n old) (λ n. Times n new) (λ left next n e. e)
-      (times-stays old new stays)
+  listed-stays old new stays = then-stays (Number U2) (Number U2) (λ n. Times n old) (λ n. Times n new) (same-stays (Number U2))
+      (λ n. record { read = times_stay old new stays n })
 
   pub whole-stays : {A : Type 0} (rest : ℕ → F) (old new : Layout F A) (text : List ℕ) (a : A) → Stays old new
       → whole_text short rest old text ≡ Ok a → whole_text short rest new text ≡ Ok a
   whole-stays rest old new text a stays is =
       let all = whole-back short rest old text a is in
       whole-forth short rest new text a
-      (record { end = all.end; is = stays (at_front text) all.end a all.is; none = all.none })
+      (record { end = all.end; is = stays.read (at_front text) all.end a all.is; none = all.none })
+
+-- What each value has that is read
+
+module _ {F : Type 0} (short : ℕ → F) where
+  -- each value that a layout can give has this
+  abbrev pub Gives : {A : Type 0} → (A → Type 0) → Layout F A → Type 0
+  Gives P (Value a) = P a
+  Gives {A} P (Field size found refused) = (n : ℕ) (a : A) → found n ≡ Some a → P a
+  Gives P (Then first next) = Gives (λ a. Gives P (next a)) first
+  Gives {A} P _ = (a : A) → P a
+
+  pub reading-gives : {A : Type 0} (P : A → Type 0) (layout : Layout F A) (left next : Left) (a : A) → Gives P layout
+      → reading short layout left ≡ Ok (a, next) → P a
+  reading-gives P (Value b) left next a gives e = subst P (same_value {F = F} b a left next e) gives
+  reading-gives {A} P (Field size found refused) left next a gives e =
+      let got = passed (number short (width size) left) (λ n. with_left (ok_or (found n) (refused left.place n))) a next e in
+      go got.first got.middle (found got.first) refl got.rest
+    where
+      go : (n : ℕ) (middle : Left) (value : Option A) → found n ≡ value → with_left (ok_or value (refused left.place n)) middle
+          ≡ Ok (a, next) → P a
+      go n middle (Some b) there e = subst P (same_value {F = F} b a middle next e) (gives n b there)
+      go n middle None there e = cc
+  reading-gives P (Then first more) left next b gives e =
+      let got = passed (reading short first left) (λ a. reading short (more a)) b next e in
+      reading-gives P (more got.first) got.middle next b
+      (reading-gives (λ a. Gives P (more a)) first left got.middle got.first gives got.is) got.rest
+  reading-gives P (Number size) left next a gives e = gives a
+  reading-gives P (Bytes size) left next a gives e = gives a
+  reading-gives P (Told fault inner) left next a gives e = gives a
+  reading-gives P (Sized fault inner) left next a gives e = gives a
+  reading-gives P (Times n item) left next a gives e = gives a
+
+  pub whole-gives : {A : Type 0} (rest : ℕ → F) (P : A → Type 0) (layout : Layout F A) (text : List ℕ) (a : A) → Gives P layout
+      → whole_text short rest layout text ≡ Ok a → P a
+  whole-gives rest P layout text a gives is =
+      let all = whole-back short rest layout text a is in
+      reading-gives P layout (at_front text) all.end a gives all.is

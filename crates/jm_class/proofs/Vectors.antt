@@ -129,7 +129,7 @@ abbrev seen : List ℕ → List (FieldSeen ClassFault)
 seen bytes = text_fields Short Rest class_fields bytes
 
 -- where a field begins, and how many bytes it has; where an end is, and how many bytes are left
-abbrev pub place_of : FieldSeen ClassFault → ℕ × ℕ
+abbrev pub place_of : {F : Type 0} → FieldSeen F → ℕ × ℕ
 place_of (Stands place size part_end missing refused) = (place, size)
 place_of (Ends place part_end rest) = (place, part_end - place)
 

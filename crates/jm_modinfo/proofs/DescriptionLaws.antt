@@ -3,7 +3,7 @@ use Rattle.std.proofs.Common.{◌≡◌, ℕ, true, List, Some, None, Result, Ok
 use Rattle.jm_bytes.proofs.Choice.{same_ok}
 use Rattle.jm_class.specs.declared.class.ClassFault.{ClassFault}
 use Rattle.jm_class.specs.Classes.{ClassData}
-use Rattle.jm_class.specs.ComputedClass.{fault_of}
+use Rattle.jm_class.specs.Layouts.{fault_of}
 use Rattle.jm_class.specs.Releases.{ReadsFor, class_for, fault_for}
 use Rattle.jm_class.proofs.ReleaseLaws.{reads-class_for, class_for-class_of}
 use Rattle.jm_modinfo.specs.declared.descriptor.Descriptor.{Descriptor}
@@ -15,9 +15,9 @@ use Rattle.jm_modinfo.specs.Constants.{is_legal}
 use Rattle.jm_modinfo.specs.Descriptions.{info_for, info_in, info_with}
 use Rattle.jm_modinfo.specs.Descriptors.{InfoOf}
 use Rattle.jm_modinfo.specs.Faults.{info_fault}
-use Rattle.jm_modinfo.specs.Faults as info
-use Rattle.jm_modinfo.specs.ModuleLayout.{info_rows, module_layout}
-use Rattle.jm_modinfo.proofs.LayoutLaws.{says-whole}
+use Rattle.jm_modinfo.specs.declared.faults.InfoFault.TheVariants.{Short, Rest}
+use Rattle.jm_modinfo.specs.ModuleLayout.{module_layout}
+use Rattle.jm_class.proofs.LayoutLaws.{says-whole}
 use Rattle.jm_modinfo.proofs.InfoLaws.{body_gives, info-computed, info_fault-of}
 
 class_faulty : (r : Result ClassData ClassFault) (fault : ClassFault) → fault_of r ≡ Some fault → r ≡ Err fault
@@ -31,7 +31,7 @@ no_class release b fault is = ap info_with (class_faulty (class_for release b) f
 pub a_class : (release : ℕ) (b : List ℕ) (c : ClassData) → ReadsFor release b c → info_for release b ≡ info_with (Ok c)
 a_class release b c reads = ap info_with (reads-class_for release b c reads)
 
-info_faulty : (r : Result Descriptor InfoFault) (fault : InfoFault) → info.fault_of r ≡ Some fault → r ≡ Err fault
+info_faulty : (r : Result Descriptor InfoFault) (fault : InfoFault) → fault_of r ≡ Some fault → r ≡ Err fault
 info_faulty (Ok d) fault is = cc
 info_faulty (Err other) fault is = cc
 
@@ -64,4 +64,4 @@ info_for-info_in release bytes d is =
 -- the name of a module is legal
 pub legal_name : (c : ClassData) (d : Descriptor) → InfoOf c d → is_legal d.name ≡ true
 legal_name c d info = (body_gives c.pool info.body (record d { main = None })
-    (says-whole (info_rows c.pool) module_layout info.body (record d { main = None }) info.says)).1
+    (says-whole Short Rest (module_layout c.pool) info.body (record d { main = None }) info.says)).1

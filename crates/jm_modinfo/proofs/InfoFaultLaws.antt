@@ -6,9 +6,10 @@ use Rattle.std.specs.Prelude.{nat_lt, not, option_and_then, OnOk}
 use Rattle.jm_bytes.proofs.Choice.{same_some}
 use Rattle.jm_bytes.specs.Checks.{fault_if, first_fault}
 use Rattle.jm_class.specs.Classes.{ClassData}
-use Rattle.jm_class.proofs.FormatLaws.{good_no_fault}
+use Rattle.jm_class.specs.Layouts.{fault_of, text_fields}
+use Rattle.jm_class.proofs.FaultLaws.{no_fault}
+use Rattle.jm_class.proofs.LayoutLaws.{whole-fault, fault-whole, whole-good}
 use Rattle.jm_modinfo.proofs.InfoLaws.{described_sound, described_fault}
-use Rattle.jm_modinfo.proofs.LayoutLaws.{whole-fault, fault-whole, whole-good}
 use Rattle.jm_modinfo.specs.InfoFaults.{HasBody, IsNoMain, HasInfoFault, InAccess, InMajor, InNone}
 use Rattle.jm_modinfo.specs.InfoFaults.{InMany, InBody, InMain}
 use Rattle.jm_modinfo.specs.ComputedInfo.{only_body, body_info, main_named, main_of, info_of}
@@ -20,10 +21,9 @@ use Rattle.jm_bytes.specs.declared.faults.Or.TheVariants.{Fault}
 use Rattle.jm_modinfo.specs.declared.faults.InfoFault.{InfoFault}
 use Rattle.jm_modinfo.specs.declared.faults.InfoFault.TheVariants as info
 use Rattle.jm_modinfo.specs.Descriptors.{module_bodies, main_bodies}
-use Rattle.jm_modinfo.specs.Faults.{fault_of, body_fault, info_fault}
+use Rattle.jm_modinfo.specs.Faults.{body_fault, info_fault}
 use Rattle.jm_modinfo.specs.Flags.{is_module}
-use Rattle.jm_modinfo.specs.Layouts.{faults, whole_fields}
-use Rattle.jm_modinfo.specs.ModuleLayout.{info_rows, module_layout}
+use Rattle.jm_modinfo.specs.ModuleLayout.{module_layout}
 use Rattle.jm_modinfo.specs.Views.{Answers}
 
 module _ (c : ClassData) (f : InfoFault) where
@@ -39,10 +39,10 @@ module _ (c : ClassData) (f : InfoFault) where
       go : (name : Option (List ℕ)) → option_and_then (named_at c.pool Class) (number_in one) ≡ name → fault_of (main_named name) ≡ Some f
           → HasInfoFault c f
       go (Some text) named e = cc
-      go None named e = InMain body has (whole-good (info_rows c.pool) module_layout body d is) (rw found named)
+      go None named e = InMain body has (whole-good info.Short info.Rest (module_layout c.pool) body d is) (rw found named)
           (sym (same_some info.Main f e))
   main_rule body has d is (one ∷ other ∷ more) found e =
-      InMain body has (whole-good (info_rows c.pool) module_layout body d is) (rw found tt)
+      InMain body has (whole-good info.Short info.Rest (module_layout c.pool) body d is) (rw found tt)
       (sym (same_some info.Main f e))
 
   bodies_rule : is_module c.access ≡ true → 53 ≤ c.major → (bodies : List (List ℕ)) → module_bodies c ≡ bodies
@@ -57,7 +57,7 @@ module _ (c : ClassData) (f : InfoFault) where
 
       go : (result : Result Descriptor InfoFault) → body_info c.pool body ≡ result
           → first_fault (fault_of result ∷ fault_of (main_of c.pool mains) ∷ []) ≡ Some f → HasInfoFault c f
-      go (Err found) is e = let same = same_some found f e in InBody body has (whole-fault (info_rows c.pool) module_layout body f (is ∙ ap (λ g. Err g) same))
+      go (Err found) is e = let same = same_some found f e in InBody body has (whole-fault info.Short info.Rest (module_layout c.pool) body f (is ∙ ap (λ g. Err g) same))
       go (Ok d) is e = main_rule body has d is mains refl (last (main_of c.pool mains) e)
         where
           last : (main : Result (Option (List ℕ)) InfoFault) → first_fault (None ∷ fault_of main ∷ []) ≡ Some f → fault_of main ≡ Some f
@@ -101,12 +101,12 @@ module _ (c : ClassData) (f : InfoFault) where
       rw (access, new, is) (many_bodies (module_bodies c) many (body_fault c.pool (module_bodies c) ∷ fault_of (main_of c.pool mains) ∷ []))
   rule-info_fault (InBody body has fault) =
       let new = le-ltb c.major 53 has.major in
-      let found = fault-whole (info_rows c.pool) module_layout body f fault in
+      let found = fault-whole info.Short info.Rest (module_layout c.pool) body f fault in
       rw (has.access, new, has.only, found) refl
   rule-info_fault (InMain body has none wrong is) = go (body_info c.pool body) refl
     where
       go : (result : Result Descriptor InfoFault) → body_info c.pool body ≡ result → info_fault c ≡ Some f
-      go (Err g) found = absurd (good_no_fault (faults (info_rows c.pool)) (whole_fields (info_rows c.pool) module_layout body) g none (whole-fault (info_rows c.pool) module_layout body g found))
+      go (Err g) found = absurd (no_fault (text_fields info.Short info.Rest (module_layout c.pool) body) g none (whole-fault info.Short info.Rest (module_layout c.pool) body g found))
       go (Ok d) found =
           let new = le-ltb c.major 53 has.major in
           let main = no_main mains wrong in

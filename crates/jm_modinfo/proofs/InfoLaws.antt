@@ -8,21 +8,21 @@ use Rattle.std.specs.Prelude.{not, bit_and, nat_lt, option_and_then, if◌then�
 use Rattle.jm_bytes.proofs.Choice.{same_ok, same_some}
 use Rattle.jm_bytes.specs.Checks.{fault_if, first_fault}
 use Rattle.jm_class.specs.Classes.{SlotData, ClassData, u2}
-use Rattle.jm_modinfo.proofs.LayoutLaws.{Gives, gives_any, says-whole, whole-gives}
+use Rattle.jm_class.specs.Layouts.{fault_of, Says}
+use Rattle.jm_class.proofs.LayoutLaws.{says-whole, whole-gives}
 use Rattle.jm_modinfo.specs.ComputedInfo.{body_info, only_body, main_named, main_of, with_body, with_info, info_of}
 use Rattle.jm_modinfo.specs.Constants.{number_in, named_at, is_legal}
 use Rattle.jm_modinfo.specs.declared.constants.Kind.TheVariants.{Class, Module}
 use Rattle.jm_modinfo.specs.declared.descriptor.Descriptor.{Descriptor}
 use Rattle.jm_modinfo.specs.declared.faults.InfoFault.{InfoFault}
-use Rattle.jm_modinfo.specs.declared.faults.InfoFault.TheVariants.{NotModule, OldVersion}
+use Rattle.jm_modinfo.specs.declared.faults.InfoFault.TheVariants.{NotModule, OldVersion, Short, Rest}
 use Rattle.jm_bytes.specs.declared.faults.Or.{Or}
 use Rattle.jm_bytes.specs.declared.faults.Or.TheVariants.{Fault, Memory}
 use Rattle.jm_modinfo.specs.Descriptors.{IsModuleBody, IsMain, module_bodies, main_bodies, InfoOf}
-use Rattle.jm_modinfo.specs.Faults.{fault_of, body_fault, info_fault}
+use Rattle.jm_modinfo.specs.Faults.{body_fault, info_fault}
 use Rattle.jm_modinfo.specs.Flags.{is_module}
-use Rattle.jm_modinfo.specs.Layouts.{Layout, listed, Says}
 use Rattle.jm_modinfo.specs.ModuleLayout as layout
-use Rattle.jm_modinfo.specs.ModuleLayout.{allowed, info_rows, module_layout}
+use Rattle.jm_modinfo.specs.ModuleLayout.{allowed}
 use Rattle.jm_modinfo.specs.Views.{Answers}
 
 -- The first fault
@@ -61,19 +61,14 @@ found_legal name (Some text) is = go (is_legal text) refl is
 pub body_gives : (pool : List SlotData) (body : List ℕ) (d : Descriptor) → body_info pool body ≡ Ok d
     → (d.main ≡ None) × (is_legal d.name ≡ true)
 body_gives pool body d is =
-    whole-gives (info_rows pool) (λ d. (d.main ≡ None) × (is_legal d.name ≡ true)) module_layout body d (λ n name found.
-    any layout.number (λ flags. any layout.version (λ version. any (listed layout.number layout.need) (λ needs.
-    any (listed layout.number layout.opened) (λ exports. any (listed layout.number layout.opened) (λ opens.
-    any (layout.names Class) (λ uses. any (listed layout.number layout.provides) (λ provides.
-    (refl, found_legal name (named_at pool Module n) found))))))))) is
-  where
-    any : {A : Type 0} {P : A → Type 0} (field : Layout layout.Held A) → ((a : A) → P a) → Gives (info_rows pool) P field
-    any {A} {P} field all = gives_any (info_rows pool) P all field
+    whole-gives Short Rest (λ d. (d.main ≡ None) × (is_legal d.name ≡ true)) (layout.module_layout pool) body d
+    (λ n name found flags at version version_found needs_count needs exports_count exports opens_count opens uses_count uses
+    provides_count provides. (refl, found_legal name (named_at pool Module n) found)) is
 
 pub without_main : (pool : List SlotData) (body : List ℕ) (d : Descriptor) → body_info pool body ≡ Ok d
-    → Says (info_rows pool) module_layout d body → IsModuleBody pool d body
+    → Says (layout.module_layout pool) d body → IsModuleBody pool d body
 without_main pool body d is says =
-    subst (λ m. Says (info_rows pool) module_layout (record d { main = m }) body) (body_gives pool body d is).0 says
+    subst (λ m. Says (layout.module_layout pool) (record d { main = m }) body) (body_gives pool body d is).0 says
 
 pub flagged : (access : ℕ) → bit_and access 0x8000 ≢ 0 → is_module access ≡ true
 flagged access some = ap not (ne_eqb (bit_and access 0x8000) 0 some)
@@ -124,7 +119,7 @@ with_parts c d body access major only info main = rw (access, major, only, info,
 pub info-computed : (c : ClassData) (d : Descriptor) → InfoOf c d → info_of c ≡ Ok d
 info-computed c d info =
     with_parts c d info.body info.access (le-ltb c.major 53 info.major) info.only
-    (says-whole (info_rows c.pool) module_layout info.body (record d { main = None }) info.says)
+    (says-whole Short Rest (layout.module_layout c.pool) info.body (record d { main = None }) info.says)
     (said-main c.pool (main_bodies c) d.main info.main)
 
 -- What the code answered

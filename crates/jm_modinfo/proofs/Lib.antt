@@ -3,7 +3,6 @@ pub mod DescriptionLaws
 pub mod InfoFaultLaws
 pub mod InfoLaws
 pub mod KeptLaws
-pub mod LayoutLaws
 pub mod SaysLaws
 pub mod Stops
 mod Vectors

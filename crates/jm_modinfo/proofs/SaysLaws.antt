@@ -5,9 +5,10 @@ use Rattle.jm_bytes.specs.Checks.{unless_fault}
 use Rattle.jm_bytes.specs.Results.{followed}
 use Rattle.jm_class.specs.declared.class.ClassFault.{ClassFault}
 use Rattle.jm_class.specs.Classes.{ClassData}
-use Rattle.jm_class.specs.ComputedClass.{class_of, fault_of}
+use Rattle.jm_class.specs.ClassLayout.{class_of}
+use Rattle.jm_class.specs.Layouts.{fault_of}
 use Rattle.jm_class.specs.Releases.{release_fault, HasFaultFor, ReadsFor, class_for, fault_for}
-use Rattle.jm_class.proofs.ClassFaultLaws.{class_fault-rule, rule-class_fault}
+use Rattle.jm_class.proofs.ClassLaws.{class_fault-rule, rule-class_fault}
 use Rattle.jm_class.proofs.ReadingLaws.{IsBytes}
 use Rattle.jm_class.proofs.ReleaseLaws.{class_for-reads}
 use Rattle.jm_modinfo.specs.declared.descriptor.Descriptor.{Descriptor}
@@ -16,7 +17,6 @@ use Rattle.jm_modinfo.specs.declared.faults.DescriptorFault.TheVariants as kind
 use Rattle.jm_modinfo.specs.declared.faults.InfoFault.{InfoFault}
 use Rattle.jm_modinfo.specs.ComputedInfo.{info_of}
 use Rattle.jm_modinfo.specs.Descriptions.{SaysFor, info_for, info_with}
-use Rattle.jm_modinfo.specs.Faults as info
 use Rattle.jm_modinfo.proofs.DescriptionLaws.{a_class, an_info, no_class, no_info, of_class}
 use Rattle.jm_modinfo.proofs.InfoFaultLaws.{info_fault-rule, rule-info_fault}
 use Rattle.jm_modinfo.proofs.InfoLaws.{info_fault-of}
@@ -54,7 +54,7 @@ fault-says release bytes fault all is = go (class_for release bytes) refl is
         → of_class r ≡ Err fault → SaysFor release bytes (Err fault)
     of_info c reads (Ok d) e is = cc
     of_info c reads (Err other) e is =
-        subst (λ r. SaysFor release bytes r) is (c, reads, info_fault-rule c other (info_fault-of c ∙ ap info.fault_of e))
+        subst (λ r. SaysFor release bytes r) is (c, reads, info_fault-rule c other (info_fault-of c ∙ ap fault_of e))
 
     go : (r : Result ClassData ClassFault) → class_for release bytes ≡ r → info_with r ≡ Err fault
         → SaysFor release bytes (Err fault)

@@ -5,8 +5,10 @@ use Rattle.std.specs.Fmt.{digits}
 use Rattle.std.specs.List.{flat_map}
 use Rattle.jm_bytes.specs.Checks.{first_fault}
 use Rattle.jm_class.specs.Classes.{SlotData, Constant, Opaque, ClassData, u2}
-use Rattle.jm_class.specs.ComputedClass.{class_of}
-use Rattle.jm_class.proofs.FormatLaws.{field_fault}
+use Rattle.jm_class.specs.ClassLayout.{class_of}
+use Rattle.jm_class.specs.Layouts.{FieldSeen, text_fields}
+use Rattle.jm_class.proofs.FaultLaws.{field_fault}
+use Rattle.jm_class.proofs.Vectors.{place_of}
 use Rattle.jm_class.specs.declared.class.ClassFault.{ClassFault}
 use Rattle.jm_class.specs.declared.class.ClassFault.TheVariants as class
 use Rattle.jm_modinfo.specs.ComputedInfo.{info_of}
@@ -16,8 +18,7 @@ use Rattle.jm_modinfo.specs.declared.faults.InfoFault.{InfoFault}
 use Rattle.jm_modinfo.specs.declared.faults.InfoFault.TheVariants.{NotModule, OldVersion, NoModule, TwoModule, Index, Short, Rest, Name}
 use Rattle.jm_modinfo.specs.declared.faults.InfoFault.TheVariants.{Main}
 use Rattle.jm_modinfo.specs.Faults.{info_fault}
-use Rattle.jm_modinfo.specs.Layouts.{faults, whole_fields}
-use Rattle.jm_modinfo.specs.ModuleLayout.{info_rows, module_layout}
+use Rattle.jm_modinfo.specs.ModuleLayout.{module_layout}
 use Rattle.jm_modinfo.specs.FaultText.{descriptor_fault_text}
 use Rattle.jm_modinfo.specs.Written.{utf8, info_pool, info_class, info_text, plain_descriptor}
 
@@ -171,11 +172,14 @@ info_printed = refl
 
 -- The rule of a body, evaluated: its fields from left to right, and the fault of the first that has one
 
+abbrev seen : List ℕ → List (FieldSeen InfoFault)
+seen words = text_fields Short Rest (module_layout all_pool) (flat_map u2 words)
+
 abbrev rule_fault : List ℕ → Option InfoFault
-rule_fault words = first_fault (map (field_fault (faults (info_rows all_pool))) (whole_fields (info_rows all_pool) module_layout (flat_map u2 words)))
+rule_fault words = first_fault (map field_fault (seen words))
 
 abbrev places : List ℕ → List (ℕ × ℕ)
-places words = map (λ f. (f.place, f.size)) (whole_fields (info_rows all_pool) module_layout (flat_map u2 words))
+places words = map place_of (seen words)
 
 -- name, flags, version, one module that is required, four counts; the end
 body_places : places (5 ∷ 0 ∷ 0 ∷ 1 ∷ 11 ∷ 64 ∷ 12 ∷ 0 ∷ 0 ∷ 0 ∷ 0 ∷ [])

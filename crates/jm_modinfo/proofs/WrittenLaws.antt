@@ -13,9 +13,10 @@ use Rattle.jm_modinfo.specs.Constants.{named_by, named_at, is_legal}
 use Rattle.jm_modinfo.specs.declared.constants.Kind.TheVariants.{Class, Module}
 use Rattle.jm_modinfo.specs.declared.descriptor.Need.{Need}
 use Rattle.jm_modinfo.specs.Descriptors.{InfoOf}
-use Rattle.jm_modinfo.specs.Layouts.{Layout, times, listed, Says}
+use Rattle.jm_class.specs.Layouts.{Layout, U2, Number, listed, Says, SaysEach}
+use Rattle.jm_modinfo.specs.declared.faults.InfoFault.{InfoFault}
 use Rattle.jm_modinfo.specs.ModuleLayout as layout
-use Rattle.jm_modinfo.specs.ModuleLayout.{allowed, info_rows}
+use Rattle.jm_modinfo.specs.ModuleLayout.{allowed}
 use Rattle.jm_modinfo.specs.Written.{utf8, IsName, IsWritable, need_slots, info_pool, needs_text, info_body}
 use Rattle.jm_modinfo.specs.Written.{info_class, info_text, plain_descriptor}
 
@@ -116,15 +117,15 @@ module_there pool index number text below is named =
 -- The body
 
 module _ (pool : List SlotData) where
-  zero-said : Says (info_rows pool) layout.number 0 (u2 0)
-  zero-said = (0, refl, omega arith, refl)
+  zero-said : Says {F = InfoFault} (Number U2) 0 (u2 0)
+  zero-said = (omega arith, refl)
 
-  none-said : {A : Type 0} (item : Layout layout.Held A) → Says (info_rows pool) (listed layout.number item) [] (u2 0)
+  none-said : {A : Type 0} (item : Layout InfoFault A) → Says (listed item) [] (u2 0)
   none-said item = (0, u2 0, [], refl, zero-said, (refl, refl))
 
   need-said : (number : ℕ) (n : Need) → IsWritable n → number < 2 ^ 16 → n.flags < 2 ^ 16
       → named_at pool Module number ≡ Some n.name
-      → Says (info_rows pool) layout.need n (u2 number ++ (u2 n.flags ++ u2 0))
+      → Says (layout.need pool) n (u2 number ++ (u2 n.flags ++ u2 0))
   need-said number n fits below flags named =
       let version : Some None ≡ Some n.version = ap (λ v. Some v) (sym fits.version) in
       let name : allowed Module (named_at pool Module number) ≡ Some n.name = rw (named, fits.name.0) refl in (
@@ -132,21 +133,21 @@ module _ (pool : List SlotData) where
         u2 number,
         _,
         refl,
-        (number, name, below, refl),
+        (number, name, (below, refl)),
         (
           n.flags,
           u2 n.flags,
           _,
           refl,
-          (n.flags, refl, flags, refl),
-          (n.version, u2 0, [], refl, (0, version, omega arith, refl), (refl, refl)),
+          (flags, refl),
+          (n.version, u2 0, [], refl, (0, version, (omega arith, refl)), (refl, refl)),
         ),
       )
 
   needs-said : (number : ℕ) (needs : List Need) → All IsWritable needs → All (λ n. n.flags < 2 ^ 16) needs
       → Placed pool number needs → number + 1 + 2 * length needs < 2 ^ 16
-      → Says (info_rows pool) (times (length needs) layout.need) needs (needs_text (number + 1) needs)
-  needs-said number [] all flags there below = (refl, refl)
+      → SaysEach (Says (layout.need pool)) needs (needs_text (number + 1) needs)
+  needs-said number [] all flags there below = refl
   needs-said number (n ∷ needs) all flags (name, constant, rest) below =
       let first = All-head IsWritable n needs all in
       let small : number < 2 ^ 16 = omega (arith, below) in
@@ -154,26 +155,19 @@ module _ (pool : List SlotData) where
       let one = need-said (number + 1) n first (omega (arith, below)) (All-head (λ n. n.flags < 2 ^ 16) n needs flags) found in
       let more = needs-said (number + 2) needs (All-tail IsWritable n needs all) (All-tail (λ n. n.flags < 2 ^ 16) n needs flags)
       rest (omega (arith, below)) in
-      let next : number + 2 + 1 ≡ number + 1 + 2 = omega arith in (
-        n,
-        _,
-        needs_text (number + 1 + 2) needs ++ [],
-        refl,
-        one,
-        (needs, needs_text (number + 1 + 2) needs, [], refl, (rw next at more), (refl, refl)),
-      )
+      let next : number + 2 + 1 ≡ number + 1 + 2 = omega arith in
+      (_, needs_text (number + 1 + 2) needs ++ [], refl, one, rw (append-nil (needs_text (number + 1 + 2) needs)) (rw next at more))
 
   body-said : (name : List ℕ) (needs : List Need) → is_legal name ≡ true → named_at pool Module 5 ≡ Some name
-      → length needs < 2 ^ 16 → Says (info_rows pool) (times (length needs) layout.need) needs (needs_text 7 needs)
-      → Says (info_rows pool) layout.module_layout (plain_descriptor name needs) (info_body needs)
+      → length needs < 2 ^ 16 → SaysEach (Says (layout.need pool)) needs (needs_text 7 needs)
+      → Says (layout.module_layout pool) (plain_descriptor name needs) (info_body needs)
   body-said name needs legal named count said =
-      let found : allowed Module (named_at pool Module 5) ≡ Some name = rw (named, legal) refl in
-      let size : Says (info_rows pool) layout.number (length needs) (u2 (length needs)) = (length needs, refl, count, refl) in (
+      let found : allowed Module (named_at pool Module 5) ≡ Some name = rw (named, legal) refl in (
         name,
         u2 5,
         _,
         refl,
-        (5, found, omega arith, refl),
+        (5, found, (omega arith, refl)),
         (
           0,
           u2 0,
@@ -185,26 +179,26 @@ module _ (pool : List SlotData) where
             u2 0,
             _,
             refl,
-            (0, refl, omega arith, refl),
+            (0, refl, (omega arith, refl)),
             (
               needs,
               u2 (length needs) ++ needs_text 7 needs,
               _,
               refl,
-              (length needs, u2 (length needs), needs_text 7 needs, refl, size, said),
+              (length needs, u2 (length needs), needs_text 7 needs, refl, (count, refl), (refl, said)),
               (
                 [],
                 u2 0,
                 _,
                 refl,
-                none-said layout.opened,
+                none-said (layout.opened pool),
                 (
                   [],
                   u2 0,
                   _,
                   refl,
-                  none-said layout.opened,
-                  ([], u2 0, _, refl, none-said (layout.named Class), ([], u2 0, _, refl, none-said layout.provides, (refl, refl))),
+                  none-said (layout.opened pool),
+                  ([], u2 0, _, refl, none-said (layout.named pool Class), ([], u2 0, _, refl, none-said (layout.provides pool), (refl, refl))),
                 ),
               ),
             ),

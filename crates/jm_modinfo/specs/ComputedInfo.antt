@@ -3,20 +3,20 @@
 use Rattle.std.specs.Prelude.{ℕ, nat_lt, List, [], ◌∷◌, Option, Some, None, option_and_then, Result}
 use Rattle.std.specs.Prelude.{Ok, Err, if◌then◌else◌, not}
 use Rattle.jm_class.specs.Classes.{SlotData, ClassData}
+use Rattle.jm_class.specs.Layouts.{whole_text}
 use Rattle.jm_modinfo.specs.Constants.{number_in, named_at}
 use Rattle.jm_modinfo.specs.declared.constants.Kind.TheVariants.{Class}
 use Rattle.jm_modinfo.specs.declared.descriptor.Descriptor.{Descriptor}
 use Rattle.jm_modinfo.specs.declared.faults.InfoFault.{InfoFault}
 use Rattle.jm_modinfo.specs.declared.faults.InfoFault.TheVariants.{NotModule, OldVersion, NoModule}
-use Rattle.jm_modinfo.specs.declared.faults.InfoFault.TheVariants.{TwoModule, Main}
+use Rattle.jm_modinfo.specs.declared.faults.InfoFault.TheVariants.{TwoModule, Main, Short, Rest}
 use Rattle.jm_modinfo.specs.Descriptors.{module_bodies, main_bodies}
 use Rattle.jm_modinfo.specs.Flags.{is_module}
-use Rattle.jm_modinfo.specs.Layouts.{whole}
-use Rattle.jm_modinfo.specs.ModuleLayout.{info_rows, module_layout}
+use Rattle.jm_modinfo.specs.ModuleLayout.{module_layout}
 
 -- the descriptor that a whole body gives, or its first fault
 abbrev pub body_info : List SlotData → List ℕ → Result Descriptor InfoFault
-body_info pool body = whole (info_rows pool) module_layout body
+body_info pool body = whole_text Short Rest (module_layout pool) body
 
 -- the one body of several, `NoModule` where there is none, `TwoModule` where there are more
 abbrev pub only_body : List (List ℕ) → Result (List ℕ) InfoFault

@@ -3,7 +3,7 @@
 use Rattle.std.specs.Prelude.{ℕ, List, Result, Ok, Err}
 use Rattle.jm_class.specs.declared.class.ClassFault.{ClassFault}
 use Rattle.jm_class.specs.Classes.{ClassData}
-use Rattle.jm_class.specs.ComputedClass.{class_of}
+use Rattle.jm_class.specs.ClassLayout.{class_of}
 use Rattle.jm_class.specs.Releases.{ReadsFor, HasFaultFor, class_for}
 use Rattle.jm_modinfo.specs.declared.descriptor.Descriptor.{Descriptor}
 use Rattle.jm_modinfo.specs.declared.faults.DescriptorFault.{DescriptorFault}

@@ -6,12 +6,12 @@ use Rattle.std.specs.List.{filter_map}
 use Rattle.std.specs.Str.{bytes_eq}
 use Rattle.jm_class.specs.Classes.{SlotData, BodyData, Opaque, Coded, AttributeData, ClassData, u2}
 use Rattle.jm_class.specs.Classes.{utf8_at}
+use Rattle.jm_class.specs.Layouts.{Says}
 use Rattle.jm_modinfo.specs.Constants.{named_at}
 use Rattle.jm_modinfo.specs.declared.constants.Kind.TheVariants.{Class}
 use Rattle.jm_modinfo.specs.declared.descriptor.Descriptor.{Descriptor}
 use Rattle.jm_modinfo.specs.Flags.{is_module}
-use Rattle.jm_modinfo.specs.Layouts.{Says}
-use Rattle.jm_modinfo.specs.ModuleLayout.{info_rows, module_layout}
+use Rattle.jm_modinfo.specs.ModuleLayout.{module_layout}
 
 -- the bytes are a number in two bytes
 abbrev pub IsNumber : ℕ → List ℕ → Type 0
@@ -23,7 +23,7 @@ IsIndex found value bytes = (index : ℕ) × (found index ≡ Some value) × IsN
 
 -- the bytes are the whole body of the Module attribute, and say this but for the main class
 abbrev pub IsModuleBody : List SlotData → Descriptor → List ℕ → Type 0
-IsModuleBody pool d bytes = Says (info_rows pool) module_layout (record d { main = None }) bytes
+IsModuleBody pool d bytes = Says (module_layout pool) (record d { main = None }) bytes
 
 -- The attributes of the class itself
 

@@ -1,18 +1,14 @@
 -- The first fault of a class as a descriptor (this project's rule): checks in their order, of which
 -- the first that finds a fault decides.
-use Rattle.std.specs.Prelude.{ℕ, nat_lt, List, [], ◌∷◌, Option, Some, None, Result, Ok, Err, not}
+use Rattle.std.specs.Prelude.{ℕ, nat_lt, List, [], ◌∷◌, Option, None, not}
 use Rattle.jm_bytes.specs.Checks.{fault_if, first_fault}
 use Rattle.jm_class.specs.Classes.{SlotData, ClassData}
+use Rattle.jm_class.specs.Layouts.{fault_of}
 use Rattle.jm_modinfo.specs.ComputedInfo.{only_body, body_info, main_of}
 use Rattle.jm_modinfo.specs.declared.faults.InfoFault.{InfoFault}
 use Rattle.jm_modinfo.specs.declared.faults.InfoFault.TheVariants.{NotModule, OldVersion}
 use Rattle.jm_modinfo.specs.Descriptors.{module_bodies, main_bodies}
 use Rattle.jm_modinfo.specs.Flags.{is_module}
-
--- the fault of a result, or none
-abbrev pub fault_of : {A F : Type 0} → Result A F → Option F
-fault_of (Ok a) = None
-fault_of (Err fault) = Some fault
 
 -- the first fault within the body, from left to right; without a body there is none
 abbrev pub body_fault : List SlotData → List (List ℕ) → Option InfoFault

@@ -1,24 +1,25 @@
 -- The first fault of the class of a module (this project's rule): that of the body of the Module
 -- attribute, and what comes in front of it and behind it.
 use Rattle.std.specs.Prelude.{◌≡◌, ℕ, ◌<◌, ◌≤◌, true, false, List, [], ◌∷◌, length, None}
-use Rattle.std.specs.Prelude.{option_and_then}
+use Rattle.std.specs.Prelude.{option_and_then, All}
 use Rattle.jm_class.specs.Classes.{SlotData, ClassData}
+use Rattle.jm_class.specs.Layouts.{text_fields, IsGood, HasFirstFault}
 use Rattle.jm_modinfo.specs.Constants.{number_in, named_at}
 use Rattle.jm_modinfo.specs.declared.constants.Kind.TheVariants.{Class}
 use Rattle.jm_modinfo.specs.declared.faults.InfoFault.{InfoFault}
 use Rattle.jm_modinfo.specs.declared.faults.InfoFault.TheVariants as info
 use Rattle.jm_modinfo.specs.Descriptors.{module_bodies, main_bodies}
 use Rattle.jm_modinfo.specs.Flags.{is_module}
-use Rattle.jm_modinfo.specs.Layouts.{HasFault, HasNoFault}
-use Rattle.jm_modinfo.specs.ModuleLayout.{info_rows, module_layout}
+use Rattle.jm_modinfo.specs.ModuleLayout.{module_layout}
 
 -- the rule of a body: its first field that doesn't fit or isn't allowed has this fault
 abbrev pub HasBodyFault : List SlotData → List ℕ → InfoFault → Type 0
-HasBodyFault pool body fault = HasFault (info_rows pool) module_layout body fault
+HasBodyFault pool body fault =
+    HasFirstFault (text_fields info.Short info.Rest (module_layout pool) body) fault
 
 -- no fault: each field of a body fits and is allowed
 abbrev pub HasNoBodyFault : List SlotData → List ℕ → Type 0
-HasNoBodyFault pool body = HasNoFault (info_rows pool) module_layout body
+HasNoBodyFault pool body = All IsGood (text_fields info.Short info.Rest (module_layout pool) body)
 
 -- The class
 

@@ -6,7 +6,6 @@ pub mod Faults
 pub mod FaultText
 pub mod Flags
 pub mod InfoFaults
-pub mod Layouts
 pub mod ModuleLayout
 pub mod Views
 pub mod Written

@@ -1,10 +1,9 @@
 ghost use Rattle.std.specs.Prelude.{◌≡◌};
 ghost use Rattle.std.specs.Int.{w16};
+ghost use Rattle.jm_class.specs.Layouts.{reading, listed};
 ghost use Rattle.jm_class.specs.Readings.{number};
 ghost use Rattle.jm_class.specs.Views.{Gives};
-ghost use Rattle.jm_modinfo.specs.Layouts.{listed};
 ghost use Rattle.jm_modinfo.specs.ModuleLayout as layout;
-ghost use Rattle.jm_modinfo.specs.ModuleLayout.{read_by};
 ghost use Rattle.jm_modinfo.specs.declared.faults.InfoFault.TheVariants.{Short};
 
 use crate::class_texts::ClassTexts;
@@ -30,7 +29,7 @@ fn name(
     kind: Kind,
 ) -> Result<SharedText, Or<InfoFault>>
     ensures class { texts.new ≡ texts.old }
-    ensures text { Gives (λ text. text) (read_by texts.old.pool (layout.named kind) cursor.old)
+    ensures text { Gives (λ text. text) (reading Short (layout.named texts.old.pool kind) cursor.old)
         result cursor.new }
 {
     let at = cursor.place();
@@ -49,7 +48,7 @@ fn name(
 /// The index of a version, or 0 for none.
 fn version(cursor: &mut Cursor, texts: &mut ClassTexts) -> Result<Option<SharedText>, Or<InfoFault>>
     ensures class { texts.new ≡ texts.old }
-    ensures version { Gives (λ version. version) (read_by texts.old.pool layout.version cursor.old)
+    ensures version { Gives (λ version. version) (reading Short (layout.version texts.old.pool) cursor.old)
         result cursor.new }
 {
     let at = cursor.place();
@@ -70,7 +69,7 @@ fn names(
     kind: Kind,
 ) -> Result<List<SharedText>, Or<InfoFault>>
     ensures class { texts.new ≡ texts.old }
-    ensures names { Gives (λ names. names) (read_by texts.old.pool (layout.names kind) cursor.old)
+    ensures names { Gives (λ names. names) (reading Short (layout.names texts.old.pool kind) cursor.old)
         result cursor.new }
 {
     let count = number(cursor)?;
@@ -86,7 +85,7 @@ fn names(
 fn needs(cursor: &mut Cursor, texts: &mut ClassTexts) -> Result<List<Need>, Or<InfoFault>>
     ensures class { texts.new ≡ texts.old }
     ensures needs { Gives (λ needs. needs)
-        (read_by texts.old.pool (listed layout.number layout.need) cursor.old)
+        (reading Short (listed (layout.need texts.old.pool)) cursor.old)
         result cursor.new }
 {
     let count = number(cursor)?;
@@ -108,7 +107,7 @@ fn needs(cursor: &mut Cursor, texts: &mut ClassTexts) -> Result<List<Need>, Or<I
 fn all_opened(cursor: &mut Cursor, texts: &mut ClassTexts) -> Result<List<Opened>, Or<InfoFault>>
     ensures class { texts.new ≡ texts.old }
     ensures all { Gives (λ all. all)
-        (read_by texts.old.pool (listed layout.number layout.opened) cursor.old)
+        (reading Short (listed (layout.opened texts.old.pool)) cursor.old)
         result cursor.new }
 {
     let count = number(cursor)?;
@@ -129,7 +128,7 @@ fn all_provides(
 ) -> Result<List<Provides>, Or<InfoFault>>
     ensures class { texts.new ≡ texts.old }
     ensures all { Gives (λ all. all)
-        (read_by texts.old.pool (listed layout.number layout.provides) cursor.old)
+        (reading Short (listed (layout.provides texts.old.pool)) cursor.old)
         result cursor.new }
 {
     let count = number(cursor)?;
@@ -145,7 +144,7 @@ fn all_provides(
 /// The fields of the Module attribute. The main class stands elsewhere.
 pub fn module(cursor: &mut Cursor, texts: &mut ClassTexts) -> Result<Descriptor, Or<InfoFault>>
     ensures class { texts.new ≡ texts.old }
-    ensures module { Gives (λ d. d) (read_by texts.old.pool layout.module_layout cursor.old)
+    ensures module { Gives (λ d. d) (reading Short (layout.module_layout texts.old.pool) cursor.old)
         result cursor.new }
 {
     let name = name(cursor, texts, Kind::Module)?;

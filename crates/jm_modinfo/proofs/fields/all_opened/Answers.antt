@@ -1,17 +1,10 @@
 use Rattle.std.proofs.Common.{◌∙◌, refl}
 use Rattle.jm_class.proofs.ListReadings.{counted-next, counted-stop}
 use Rattle.jm_class.proofs.Stops.{gives_stop}
-use Rattle.jm_modinfo.proofs.LayoutLaws.{reading-listed}
-use Rattle.jm_modinfo.specs.ModuleLayout.{number, opened, info_rows, read_by}
+use Rattle.jm_class.specs.Layouts.{reading}
+use Rattle.jm_modinfo.specs.ModuleLayout.{opened}
+use Rattle.jm_modinfo.specs.declared.faults.InfoFault.TheVariants.{Short}
 use Rattle.jm_modinfo.proofs.fields.all_opened.Goals as goal
-
-pub loop-k-init : goal.loop-k-init
-loop-k-init c = (
-  refl,
-  rw c.new-all.ensures
-      (reading-listed (info_rows c.args.texts.now.pool) number opened c.args.cursor.now c.number.new.cursor
-      c.in_ok-count.count (rw c.in_ok-count.ensures refl)),
-)
 
 pub returns-in_err-package-clause-all : goal.returns-in_err-package-clause-all
 returns-in_err-package-clause-all c =
@@ -19,7 +12,7 @@ returns-in_err-package-clause-all c =
     gives_stop (λ x. x) (λ xs. xs) _ _ c.in_err-package.field-0.0 c.from_residual-in_err-package.result c.name.new.cursor
     c.name.new.cursor c.from_residual-in_err-package.ensures.1 c.in_err-package.ensures.text
     (λ fault stops. let stop = rw class at stops in
-    c.loop-k.invariant.1 ∙ counted-stop c.in_ok-count.count c.loop-k._k (read_by c.args.texts.now.pool opened)
+    c.loop-k.invariant.1 ∙ counted-stop c.in_ok-count.count c.loop-k._k (reading Short (opened c.args.texts.now.pool))
     c.loop-k.all c.loop-k.cursor fault c.loop-k-test.true (rw stop refl))
 
 pub returns-in_err-flags-clause-all : goal.returns-in_err-flags-clause-all
@@ -28,7 +21,7 @@ returns-in_err-flags-clause-all c =
     let name = rw class at c.in_ok-package.ensures.text in
     gives_stop (λ x. x) (λ xs. xs) _ _ c.in_err-flags.field-0.0 c.from_residual-in_err-flags.result c.number-in-loop-k.new.cursor
     c.number-in-loop-k.new.cursor c.from_residual-in_err-flags.ensures.1 c.in_err-flags.ensures
-    (λ fault stops. c.loop-k.invariant.1 ∙ counted-stop c.in_ok-count.count c.loop-k._k (read_by c.args.texts.now.pool opened)
+    (λ fault stops. c.loop-k.invariant.1 ∙ counted-stop c.in_ok-count.count c.loop-k._k (reading Short (opened c.args.texts.now.pool))
     c.loop-k.all c.loop-k.cursor fault c.loop-k-test.true (rw (name, stops) refl))
 
 pub returns-in_err-to-clause-all : goal.returns-in_err-to-clause-all
@@ -38,7 +31,7 @@ returns-in_err-to-clause-all c =
     gives_stop (λ x. x) (λ xs. xs) _ _ c.in_err-to.field-0.0 c.from_residual-in_err-to.result c.names.new.cursor
     c.names.new.cursor c.from_residual-in_err-to.ensures.1 c.in_err-to.ensures.names
     (λ fault stops. let stop = rw (c.in_ok-package.ensures.class, class) at stops in
-    c.loop-k.invariant.1 ∙ counted-stop c.in_ok-count.count c.loop-k._k (read_by c.args.texts.now.pool opened)
+    c.loop-k.invariant.1 ∙ counted-stop c.in_ok-count.count c.loop-k._k (reading Short (opened c.args.texts.now.pool))
     c.loop-k.all c.loop-k.cursor fault c.loop-k-test.true (rw (name, c.in_ok-flags.ensures, stop) refl))
 
 pub loop-k-preserved : goal.loop-k-preserved
@@ -48,7 +41,7 @@ loop-k-preserved c =
     let to = rw (c.in_ok-package.ensures.class, class) at c.in_ok-to.ensures.names in (
       c.in_ok-to.ensures.class ∙ c.in_ok-package.ensures.class ∙ class,
       rw c.in_ok-push.ensures.ok
-          (c.loop-k.invariant.1 ∙ counted-next c.in_ok-count.count c.loop-k._k (read_by c.args.texts.now.pool opened) c.loop-k.all
+          (c.loop-k.invariant.1 ∙ counted-next c.in_ok-count.count c.loop-k._k (reading Short (opened c.args.texts.now.pool)) c.loop-k.all
           c.loop-k.cursor c.names.new.cursor (record { «package» = c.in_ok-package.package; flags = c.in_ok-flags.flags; to = c.in_ok-to.to })
           c.loop-k-test.true (rw (name, c.in_ok-flags.ensures, to) refl)),
     )

@@ -1,17 +1,10 @@
 use Rattle.std.proofs.Common.{◌∙◌, refl}
 use Rattle.jm_class.proofs.ListReadings.{counted-next, counted-stop}
 use Rattle.jm_class.proofs.Stops.{gives_stop}
-use Rattle.jm_modinfo.proofs.LayoutLaws.{reading-listed}
-use Rattle.jm_modinfo.specs.ModuleLayout.{number, provides, info_rows, read_by}
+use Rattle.jm_class.specs.Layouts.{reading}
+use Rattle.jm_modinfo.specs.ModuleLayout.{provides}
+use Rattle.jm_modinfo.specs.declared.faults.InfoFault.TheVariants.{Short}
 use Rattle.jm_modinfo.proofs.fields.all_provides.Goals as goal
-
-pub loop-k-init : goal.loop-k-init
-loop-k-init c = (
-  refl,
-  rw c.new-all.ensures
-      (reading-listed (info_rows c.args.texts.now.pool) number provides c.args.cursor.now c.number.new.cursor
-      c.in_ok-count.count (rw c.in_ok-count.ensures refl)),
-)
 
 pub returns-in_err-service-clause-all : goal.returns-in_err-service-clause-all
 returns-in_err-service-clause-all c =
@@ -19,7 +12,7 @@ returns-in_err-service-clause-all c =
     gives_stop (λ x. x) (λ xs. xs) _ _ c.in_err-service.field-0.0 c.from_residual-in_err-service.result c.name.new.cursor
     c.name.new.cursor c.from_residual-in_err-service.ensures.1 c.in_err-service.ensures.text
     (λ fault stops. let stop = rw class at stops in
-    c.loop-k.invariant.1 ∙ counted-stop c.in_ok-count.count c.loop-k._k (read_by c.args.texts.now.pool provides)
+    c.loop-k.invariant.1 ∙ counted-stop c.in_ok-count.count c.loop-k._k (reading Short (provides c.args.texts.now.pool))
     c.loop-k.all c.loop-k.cursor fault c.loop-k-test.true (rw stop refl))
 
 pub returns-in_err-classes-clause-all : goal.returns-in_err-classes-clause-all
@@ -29,7 +22,7 @@ returns-in_err-classes-clause-all c =
     gives_stop (λ x. x) (λ xs. xs) _ _ c.in_err-classes.field-0.0 c.from_residual-in_err-classes.result c.names.new.cursor
     c.names.new.cursor c.from_residual-in_err-classes.ensures.1 c.in_err-classes.ensures.names
     (λ fault stops. let stop = rw (c.in_ok-service.ensures.class, class) at stops in
-    c.loop-k.invariant.1 ∙ counted-stop c.in_ok-count.count c.loop-k._k (read_by c.args.texts.now.pool provides)
+    c.loop-k.invariant.1 ∙ counted-stop c.in_ok-count.count c.loop-k._k (reading Short (provides c.args.texts.now.pool))
     c.loop-k.all c.loop-k.cursor fault c.loop-k-test.true (rw (service, stop) refl))
 
 pub loop-k-preserved : goal.loop-k-preserved
@@ -39,7 +32,7 @@ loop-k-preserved c =
     let classes = rw (c.in_ok-service.ensures.class, class) at c.in_ok-classes.ensures.names in (
       c.in_ok-classes.ensures.class ∙ c.in_ok-service.ensures.class ∙ class,
       rw c.in_ok-push.ensures.ok
-          (c.loop-k.invariant.1 ∙ counted-next c.in_ok-count.count c.loop-k._k (read_by c.args.texts.now.pool provides) c.loop-k.all
+          (c.loop-k.invariant.1 ∙ counted-next c.in_ok-count.count c.loop-k._k (reading Short (provides c.args.texts.now.pool)) c.loop-k.all
           c.loop-k.cursor c.names.new.cursor (record { service = c.in_ok-service.service; classes = c.in_ok-classes.classes })
           c.loop-k-test.true (rw (service, classes) refl)),
     )

@@ -1,12 +1,12 @@
 use Rattle.std.proofs.Common.{◌≡◌, ◌-◌}
 use Rattle.jm_class.proofs.ListReadings.{prefixed}
-use Rattle.jm_class.specs.Readings.{counted}
-use Rattle.jm_modinfo.specs.Layouts.{listed}
-use Rattle.jm_modinfo.specs.ModuleLayout.{number, provides, read_by}
+use Rattle.jm_class.specs.Layouts.{Times, reading, listed}
+use Rattle.jm_modinfo.specs.ModuleLayout.{provides}
+use Rattle.jm_modinfo.specs.declared.faults.InfoFault.TheVariants.{Short}
 use Rattle.jm_modinfo.proofs.fields.all_provides.Given as goal
 
 abbrev pub invariant-loop-k : goal.invariant-loop-k
 invariant-loop-k l =
     (l.texts ≡ l.fn.texts)
-    × (read_by l.fn.texts.pool (listed number provides) l.fn.cursor
-    ≡ prefixed l.all (counted (l.count - l._k) (read_by l.fn.texts.pool provides) l.cursor))
+    × (reading Short (listed (provides l.fn.texts.pool)) l.fn.cursor
+    ≡ prefixed l.all (reading Short (Times (l.count - l._k) (provides l.fn.texts.pool)) l.cursor))
