@@ -46,9 +46,6 @@ behind_pool c = u2 c.access ++ (u2 c.this_class ++ (u2 c.super_class ++ from_int
 abbrev pub before_pool : ClassData → List ℕ
 before_pool c = u4 magic ++ (u2 c.minor ++ u2 c.major)
 
-pub text_cut : (c : ClassData) → class_text c ≡ before_pool c ++ (pool_text c.pool ++ behind_pool c)
-text_cut c = refl
-
 pub front-is : (c : ClassData) → front c ≡ before_pool c
 front-is c = refl
 

@@ -1,11 +1,11 @@
 -- Constants of which numbers are changed: by the shapes that bodies have, the names stay names and
 -- the sizes stay.
-use Rattle.std.proofs.Common.{◌≡◌, ℕ, zero, suc, ◌^◌, ◌<◌, ◌⊎◌, Bool, true, false, cond, List}
-use Rattle.std.proofs.Common.{[], ◌∷◌, ◌++◌, get_or, length, map, take, drop, Some, Contains}
-use Rattle.std.proofs.Common.{refl, sym, ap, ap₂, ◌∙◌, subst, arith}
+use Rattle.std.proofs.Common.{◌≡◌, ℕ, suc, ◌^◌, ◌<◌, ◌⊎◌, Bool, true, false, cond, List}
+use Rattle.std.proofs.Common.{[], ◌∷◌, ◌++◌, length, map, take, drop, Some, Contains}
+use Rattle.std.proofs.Common.{refl, sym, ap, ap₂, ◌∙◌, subst}
 use Rattle.std.proofs.lemmas.List.{append-nil}
-use Rattle.std.proofs.lemmas.Nat.{from_be_bytes-to_be_bytes_2, be_bytes_2}
-use Rattle.std.specs.Int.{w16, from_be_bytes, to_be_bytes}
+use Rattle.std.proofs.lemmas.Nat.{from_be_bytes-to_be_bytes_2}
+use Rattle.std.specs.Int.{w16, from_be_bytes}
 use Rattle.std.specs.Prelude.{nat_eq}
 use Rattle.jm_bytes.proofs.Members.{contains_here, contains_later}
 use Rattle.jm_class.specs.Classes.{Constant, u2, joined, body_text, slot_text, body_size, FitsTag}
@@ -122,26 +122,6 @@ renamed_twice new other tag body fits below =
 pub renamed_again : (new : ℕ → ℕ) (tag : ℕ) (body : List ℕ) → FitsTag tag body → AllFitTwo new (named_by (Constant tag body))
     → renamed (λ n. n) (renamed new (Constant tag body)) ≡ renamed new (Constant tag body)
 renamed_again new tag body fits below = renamed_twice new (λ n. n) tag body fits below
-
--- of bytes
-pub renamed_bytes : (tag : ℕ) (body : List ℕ) → FitsTag tag body → ((i : ℕ) → get_or body i 0 < 256)
-    → renamed (λ n. n) (Constant tag body) ≡ Constant tag body
-renamed_bytes tag body fits bytes = ap (Constant tag) (by_shape (λ places body. ((i : ℕ) → get_or body i 0 < 256)
-    → renumbered (λ n. n) (sites_at places) 0 body ≡ body)
-    (λ body bytes. append-nil body)
-    (λ a b bytes. two a b (bytes 0) (bytes 1))
-    (λ a b c d bytes. ap₂ (λ t u. t ++ u) (two a b (bytes 0) (bytes 1)) (two c d (bytes 2) (bytes 3)))
-    (λ a b c d bytes. ap (λ t. a ∷ b ∷ t) (two c d (bytes 2) (bytes 3)))
-    (λ a b c bytes. ap (λ t. a ∷ t) (two b c (bytes 1) (bytes 2)))
-    tag body fits bytes)
-  where
-    two : (a b : ℕ) → a < 256 → b < 256 → to_be_bytes w16 (number a b) ≡ a ∷ b ∷ []
-    two a b first second = be_bytes_2 (a ∷ b ∷ []) (number a b) refl each refl
-      where
-        each : (i : ℕ) → get_or (a ∷ b ∷ []) i 0 < 256
-        each zero = first
-        each (suc zero) = second
-        each (suc (suc i)) = omega arith
 
 -- the text is as long
 pub length-renamed : (new : ℕ → ℕ) (tag : ℕ) (body : List ℕ) → FitsTag tag body
