@@ -164,9 +164,8 @@ module _ (release : ℕ) (R : List ℕ → List ℕ → Type 0) where
       go false is = (refl, λ named d says. says)
 
   with_plain : (rs : List Written) → AreKept rs (map with_plain_map rs)
-  with_plain [] = same_kept []
-  with_plain (p ∷ rs) =
-      let one = plain_one p in more_kept p (with_plain_map p) rs (map with_plain_map rs) one.0 one.1 (with_plain rs)
+  with_plain [] = search (rules, same_kept)
+  with_plain (p ∷ rs) = search (rules, more_kept, plain_one, (with_plain rs))
 
   acted : (one : Plugin) (old new : List Written) → leaves_order one ≡ true → act release one old ≡ Ok new → AreKept old new
   acted (plugin.Exclude patterns) old new leaves is =

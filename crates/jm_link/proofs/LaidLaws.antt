@@ -1,21 +1,20 @@
 -- The image of resources that nothing refuses is what their layout is.
-use Rattle.std.proofs.Common.{◌≡◌, ◌≢◌, ℕ, false, List, [], ◌∷◌, ◌++◌, ◌≤◌, get_or, length, length-append, rules}
+use Rattle.std.proofs.Common.{◌≡◌, ◌≢◌, ℕ, false, List, [], ◌∷◌, ◌++◌, ◌≤◌, length, length-append, rules}
 use Rattle.std.proofs.Common.{All, AllPairs, Option, Some, None, is_none, option_and_then, option_map, refl}
-use Rattle.std.proofs.Common.{sym, ap, subst, ◌∙◌, arith}
+use Rattle.std.proofs.Common.{subst, arith}
 use Rattle.std.proofs.lemmas.Bool.{ltb-false}
 use Rattle.std.proofs.lemmas.List.{get_or_append_left, get_or_default}
-use Rattle.std.specs.Prelude.{nat_lt, slice_index}
+use Rattle.std.specs.Prelude.{nat_lt}
 use Rattle.jm_bytes.specs.Checks.{fault_if}
 use Rattle.jm_bytes.proofs.CheckLaws.{fault_if_none, no_fault_head, no_fault_tail}
 use Rattle.jm_bytes.specs.declared.words.Order.{Order}
-use Rattle.jm_form.specs.Greedy.{GreedyTable, bucket_of}
+use Rattle.jm_form.specs.Greedy.{GreedyTable}
 use Rattle.jm_form.specs.Layout.{Written, all_names, all_sized, layout_table, layout_with, names_of}
 use Rattle.jm_form.specs.Serves.{Serves}
-use Rattle.jm_form.specs.Table.{redirect_of, slot_of}
 use Rattle.jm_form.specs.Trees.{first_clash, node_names}
 use Rattle.jm_names.specs.NameFaults.{IsSound}
 use Rattle.jm_names.specs.Names.{is_node}
-use Rattle.jm_writer.specs.Drafts.{entry_limit, image_limit, large_number}
+use Rattle.jm_writer.specs.Drafts.{entry_limit, image_limit}
 use Rattle.jm_writer.specs.Laid.{CanLay, IsLaidOut}
 use Rattle.jm_writer.proofs.LaidNames.{all_names_are}
 use Rattle.jm_writer.proofs.LaidOut.{laid_out}

@@ -1,5 +1,5 @@
 -- What a link does, from what its steps did.
-use Rattle.std.proofs.Common.{◌≡◌, ◌≢◌, ◌⊎◌, ◌<◌, ◌∙◌, inl, inr, ℕ, suc, Bool, true, false, List, [], ◌∷◌, rules}
+use Rattle.std.proofs.Common.{◌≡◌, ◌≢◌, ◌⊎◌, ◌<◌, inl, inr, ℕ, suc, Bool, true, false, List, [], ◌∷◌, rules}
 use Rattle.std.proofs.Common.{length, map, All, AllPairs, Option, Some, None, Result, Ok, Err, refl, sym, ap}
 use Rattle.std.proofs.Common.{subst}
 use Rattle.std.proofs.lemmas.List.Elements.{All-contains, All-map}
@@ -17,7 +17,6 @@ use Rattle.jm_names.specs.ByName.{Named}
 use Rattle.jm_names.specs.NameFaults.{IsSound}
 use Rattle.jm_names.specs.Names.{is_node}
 use Rattle.jm_outside.specs.Files.{Files}
-use Rattle.jm_outside.specs.Holds.{Holds, HoldsPart}
 use Rattle.jm_outside.specs.Outcome.{Rose, Shows}
 use Rattle.jm_outside.specs.Shelves.{ShelfFailed, ShelfSeen}
 use Rattle.jm_plugins.specs.Plugins.{Applies}

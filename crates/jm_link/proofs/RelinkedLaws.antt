@@ -2,7 +2,7 @@
 use Rattle.std.proofs.Common.{◌≡◌, ◌≢◌, ◌<◌, ◌≤◌, ◌↔◌, ℕ, suc, ◌+◌, Bool, true, false, List, [], ◌∷◌, ◌++◌, rules}
 use Rattle.std.proofs.Common.{append_assoc, length, length-append, map, All, AllPairs, Contains}
 use Rattle.std.proofs.Common.{IsPermutation, Option, Some, None, option_map, slice_get, Result, Ok, Err, refl}
-use Rattle.std.proofs.Common.{sym, ap, subst, ◌∙◌, codes}
+use Rattle.std.proofs.Common.{sym, ap, subst, ◌∙◌}
 use Rattle.std.proofs.lemmas.Bool.{false≢true}
 use Rattle.std.proofs.lemmas.List.{length-map}
 use Rattle.std.proofs.lemmas.List.FromFn.{length-range_with_len}
@@ -69,9 +69,8 @@ laid_parts order modules left (Some refusal) image is = cc
 plugged_parts : (order : Order) (modules : ℕ) (r : Result (List Written) BadClass) (image : LinkedImage)
     → IsPluggedTo order modules r (Ok image) → (left : List Written) × (r ≡ Ok left) × (layout_refusal order left ≡ None)
     × (image ≡ image_with order modules left)
-plugged_parts order modules (Ok left) image is =
-    let parts = laid_parts order modules left (layout_refusal order left) image is in (left, refl, parts.0, parts.1)
-plugged_parts order modules (Err fault) image is = cc
+plugged_parts order modules (Ok left) image is = search (rules, laid_parts)
+plugged_parts order modules (Err fault) image is = search (rules)
 
 gathered_parts : (asked : Request) (modules : ℕ) (rs : List Written) (o : Option Refusal) (image : LinkedImage)
     → IsGatheredTo asked modules rs o (Ok image) → (o ≡ None) × IsPluggedTo asked.order modules (apply asked.release asked.plugins rs)

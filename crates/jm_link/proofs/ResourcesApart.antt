@@ -1,6 +1,6 @@
 -- The names of all files that are linked differ, where the modules' names do.
 use Rattle.std.proofs.Common.{◌≡◌, ◌≢◌, ℕ, ◌<◌, Bool, true, false, ◌&&◌, List, [], ◌∷◌, ◌++◌, length, map, rules}
-use Rattle.std.proofs.Common.{All, AllPairs, Contains, Some, option_map, slice_get, refl, sym, ap, subst, ◌∙◌}
+use Rattle.std.proofs.Common.{All, AllPairs, Contains, Some, option_map, slice_get, refl, sym, ap, ◌∙◌}
 use Rattle.std.proofs.Common.{suc, arith}
 use Rattle.std.proofs.lemmas.Bool.{false≢true}
 use Rattle.std.proofs.lemmas.List.{append_cancel_left}

@@ -166,8 +166,7 @@ info_parts true false major said d is = is
 
 pub said_body : (c : ClassData) (d : Descriptor) → info_of c ≡ Ok d → with_body c.pool (only_body (module_bodies c))
     (main_of c.pool (main_bodies c)) ≡ Ok d
-said_body c d is = info_parts (is_module c.access) (nat_lt c.major 53) c.major (with_body c.pool (only_body (module_bodies c))
-    (main_of c.pool (main_bodies c))) d is
+said_body c d is = search (rules, info_parts)
 
 has_module : (c : ClassData) (d : Descriptor) → info_of c ≡ Ok d → HasModule c
 has_module c d is =

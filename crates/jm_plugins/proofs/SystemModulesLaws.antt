@@ -1,5 +1,5 @@
 -- The plain map is put for the map, from the first pair to the last.
-use Rattle.std.proofs.Common.{◌≡◌, ◌<◌, ◌+◌, ℕ, true, false, cond, List, [], ◌∷◌, ◌++◌, drop, length, map, take, rules}
+use Rattle.std.proofs.Common.{◌≡◌, ◌<◌, ◌+◌, ℕ, true, false, List, [], ◌∷◌, ◌++◌, drop, length, map, take, rules}
 use Rattle.std.proofs.Common.{Some, get_or, slice_get, sym, ap, ◌∙◌, arith, append_assoc, append-nil, ◌≤◌}
 use Rattle.std.proofs.lemmas.List.{drop_all, drop_more, length-map, length-take-le, map-append, take_all, take_more}
 use Rattle.std.specs.Str.{bytes_eq}
