@@ -2,9 +2,8 @@ ghost use Rattle.std.specs.Prelude.{◌≡◌, ◌++◌, ℕ, List, OnOk, map, f
 ghost use Rattle.jm_form.specs.Head.{IsFileOf};
 ghost use Rattle.jm_inspect.specs.Ledgers.{IsLedger};
 ghost use Rattle.jm_inspect.specs.ListText.{list_text, sized_as, sized_line};
-ghost use Rattle.jm_inspect.specs.Outcome.{done};
 ghost use Rattle.jm_inspect.specs.Pieces.{PutsText};
-ghost use Rattle.jm_inspect.specs.Steps.{PutDoes};
+ghost use Rattle.jm_inspect.specs.Steps.{PutsOfFront};
 ghost use Rattle.jm_inspect.specs.World.{sink_at};
 
 use crate::front::OpenFront;
@@ -48,32 +47,31 @@ fn put_lines<O: Sink>(alloc: Global, entries: &[TakenEntry], out: &mut O) -> Res
 /// Puts the text of `list`, with a meter of its own.
 fn put_taken<O: Sink, R: Ledger>(
     alloc: Global,
-    front: &OpenFront,
+    image: &OpenFront,
     include: &Option<List<Pattern>>,
     out: &mut O,
     reads: Blank,
 ) -> Result<(), SinkError>
     requires reads { IsLedger reads.name reads.parts R.name R.parts }
-    ensures { (b : List ℕ) → IsFileOf front.now.bytes front.now.length b →
+    ensures { (b : List ℕ) → IsFileOf image.now.front.bytes image.now.front.length b →
         PutsText (list_text b include.now) result
         (sink_at O.Sink out.old) (sink_at O.Sink out.new) }
 {
-    let mut reads = Meter::<R>::new(front.bytes(), reads);
-    let entries = taken(alloc, front.as_index(), include, &mut reads)?;
+    let mut reads = Meter::<R>::new(image.bytes(), reads);
+    let entries = taken(alloc, image.as_index(), include, &mut reads)?;
     put_lines(alloc, entries.as_slice(), out)
 }
 
 /// Puts the lines of the taken entries of an image, piece by piece.
 pub fn put_list<O: Sink>(
     alloc: Global,
-    front: &OpenFront,
+    image: &OpenFront,
     include: &Option<List<Pattern>>,
     out: &mut O,
 ) -> Result<(), Stop>
-    ensures { (b : List ℕ) → IsFileOf front.now.bytes front.now.length b →
-        PutDoes (done (list_text b include.now)) result
+    ensures { PutsOfFront image.now.front (λ b. list_text b include.now) result
         (sink_at O.Sink out.old) (sink_at O.Sink out.new) }
 {
-    put_taken::<O, Brand>(alloc, front, include, out, Blank::new(1))?;
+    put_taken::<O, Brand>(alloc, image, include, out, Blank::new(1))?;
     Ok(())
 }

@@ -14,7 +14,7 @@ returns-in_err-entries g c b file =
 
 pub returns : goal.returns
 returns g c b file =
-    let front = c.args.front.now in
+    let front = c.args.image.now.front in
     let entries = c.in_ok-entries.entries in
     let took = rw c.as_index.ensures at c.in_ok-entries.ensures in
     let sizes = sizes_are front.length b file.length_is entries took.within in
