@@ -17,7 +17,7 @@ use Rattle.jm_inspect.specs.Pieces.{Passing, Piecewise, PutsText}
 use Rattle.jm_inspect.specs.Steps.{PutDoes}
 use Rattle.jm_inspect.specs.Sinks.{Gets, GetsFront, Seen}
 use Rattle.jm_inspect.specs.Stops.{stop_of_sink}
-use Rattle.jm_inspect.proofs.Gotten.{front_of_nothing, gets_nothing}
+use Rattle.jm_inspect.proofs.Gotten.{front_of_nothing}
 
 -- One text after another
 
@@ -69,16 +69,6 @@ front_longer xs ys old new front = go old.told new.told front
 -- what is held back, before a sink whose name doesn't matter
 abbrev pub bare : List ℕ → Seen (List ℕ) → Piecewise
 bare held out = record { held = held; out = out; name = 0 }
-
--- all is held back
-pub all_held : {more held : List ℕ} {now : Piecewise} → held ≡ now.held ++ more
-    → Passing more (Ok tt) now (record { held = held; out = now.out; name = now.name })
-all_held {more} {held} {now} is = record {
-  passed = ([], gets_nothing now.out now.out refl, sym is);
-  front = tt;
-  faults = record { count = omega arith; kept = λ ok. refl; rose = λ failed. cc };
-  same = refl;
-}
 
 -- no memory was found
 pub none_passed : {more held : List ℕ} {now : Piecewise}

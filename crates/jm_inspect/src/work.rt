@@ -25,7 +25,7 @@ use jm_words::ImageWork;
 use std::alloc::Global;
 use std::thread::Threads;
 
-/// Does a work on an image whose index is open.
+/// Does a work on an image whose index is open: any but `serve`, which has the whole file.
 fn do_opened<S: Shelf, O: Sink>(
     alloc: Global,
     image: &OpenFront,
