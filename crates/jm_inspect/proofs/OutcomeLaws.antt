@@ -7,10 +7,7 @@ use Rattle.jm_jrt.specs.declared.jrt_error.JrtError.TheVariants.{BadNode, NotFol
 use Rattle.jm_modinfo.specs.declared.descriptor.Descriptor.{Descriptor}
 use Rattle.jm_modinfo.specs.declared.faults.DescriptorFault.{DescriptorFault}
 use Rattle.jm_modinfo.specs.Descriptions.{info_for}
-use Rattle.jm_inspect.specs.declared.shown.Shown.{Shown}
-use Rattle.jm_inspect.specs.declared.shown.Shown.TheVariants as shown
-use Rattle.jm_inspect.specs.ShownText.{shown_text, work_shown}
-use Rattle.jm_inspect.specs.Outcome.{cat_outcome, describe_outcome, descriptor_outcome, ls_outcome, done, image_outcome}
+use Rattle.jm_inspect.specs.Outcome.{cat_outcome, describe_outcome, descriptor_outcome, ls_outcome}
 
 -- Whether a session is due
 
@@ -30,9 +27,3 @@ descriptor_session path (Err fault) = refl
 
 pub describe_session : (release : ℕ) (path b : List ℕ) → (describe_outcome release path b).session ≡ None
 describe_session release path b = descriptor_session path (info_for release b)
-
--- what an index shows is the output
-pub shown_due : (given : Shown) (b text : List ℕ) → image_outcome (work_shown given) b text ≡ done (shown_text given b)
-shown_due shown.Info b text = refl
-shown_due shown.Verify b text = refl
-shown_due (shown.List include) b text = refl
