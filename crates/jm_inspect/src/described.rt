@@ -160,7 +160,8 @@ fn put_packages<O: Sink>(
     word: &[u8],
     packages: &[Opened],
 ) -> Result<(), SinkError>
-    ensures { PassesOn O.Sink (flat_map (opened_line word.now) packages.now) result pieces.old pieces.new }
+    ensures { PassesOn O.Sink (flat_map (opened_line word.now) packages.now) result
+        pieces.old pieces.new }
 {
     for opened in packages {
         put_package(pieces, word, opened)?;

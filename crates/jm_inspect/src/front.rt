@@ -151,8 +151,8 @@ fn file_front<S: Shelf>(alloc: Global, path: &Text, shelf: &mut S) -> Result<Fil
     }
 }
 
-/// The index of an image beside the first bytes of its file, of which a meter of what is read of the
-/// index is made, and the path of that file.
+/// The index of an image beside the first bytes of its file, of which a meter of what is read of
+/// the index is made, and the path of that file.
 #[derive(Drop)]
 pub struct OpenFront<'a> {
     index: Index<'a>,

@@ -29,7 +29,8 @@ pub fn mark(bucket: &Bucket, seed: u32, slots: u32, taken: &mut [bool], marked: 
     ensures fits { (before : List ℕ) → Marks taken.old before → result ≡
         are_free before (slots_sent slots seed (map (λ name. name.now) bucket.now.names.now)) }
     ensures marks { (before : List ℕ) → Marks taken.old before → Marks taken.new
-        (if result then slots_sent slots seed (map (λ name. name.now) bucket.now.names.now) ++ before
+        (if result
+        then slots_sent slots seed (map (λ name. name.now) bucket.now.names.now) ++ before
         else before) }
 {
     let state = bucket.state_after_prefix(seed);

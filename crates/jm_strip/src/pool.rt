@@ -80,7 +80,8 @@ fn kinds(
     cursor: &mut Cursor,
     count: u16,
 ) -> Result<Vec<AttributeKind>, Or<ClassFault>>
-    ensures { Gives (λ kinds. kinds.items) (shown (map kind_of) (reading Short (slots count false) cursor.old))
+    ensures { Gives (λ kinds. kinds.items)
+        (shown (map kind_of) (reading Short (slots count false) cursor.old))
         result cursor.new }
 {
     let mut kinds = Vec::with_capacity(alloc, usize::from(count).min(cursor.len() / LEAST))?;

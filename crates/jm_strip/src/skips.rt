@@ -37,7 +37,8 @@ fn skip_attributes(cursor: &mut Cursor, pool: &Pool) -> Result<(), Or<ClassFault
 
 /// The fields.
 pub fn skip_fields(cursor: &mut Cursor, pool: &Pool) -> Result<(), Or<ClassFault>>
-    ensures { Skips (reading Short (listed (member_field pool.now false)) cursor.old) result cursor.new }
+    ensures { Skips (reading Short (listed (member_field pool.now false)) cursor.old)
+        result cursor.new }
 {
     let count = number16(cursor, Missing::Here)?;
     for _k in 0..count {
