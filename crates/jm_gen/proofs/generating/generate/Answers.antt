@@ -1,20 +1,16 @@
-use Rattle.std.proofs.Common.{◌≡◌, ◌+◌, ◌*◌, ℕ, refl, ap, subst, ◌∙◌, arith}
+use Rattle.std.proofs.Common.{◌+◌, ◌*◌, ℕ, refl, ap, subst, ◌∙◌, arith, rules}
 use Rattle.std.proofs.Math.Nat.{add-mul}
 use Rattle.jm_outside.specs.Made.{MadeAll, MadePart, Writes}
 use Rattle.jm_outside.proofs.MadeLaws.{made_none}
 use Rattle.jm_bytes.proofs.ResultLaws.{on_err}
 use Rattle.jm_gen.specs.Draws.{drawn}
-use Rattle.jm_gen.specs.Generated.{generated, module_files}
+use Rattle.jm_gen.specs.Generated.{module_files}
 use Rattle.jm_gen.proofs.DrawLaws.{drawn-drawn, same_files}
 use Rattle.jm_gen.proofs.FileLaws.{all_next, some_next}
 use Rattle.jm_gen.proofs.generating.generate.Goals as goal
 
 pub loop-number-init : goal.loop-number-init
-loop-number-init g c = let none : 0 ≡ 0 * (c.args.classes + 1) = omega arith in record {
-  files = made_none (g.S.Shelf.files c.args.shelf.now);
-  draws = c.new-draws.ensures ∙ ap (drawn c.args.seed) none;
-  faults = refl;
-}
+loop-number-init g c = search (rules, made_none)
 
 pub returns-in_err-make_module-clause-err : goal.returns-in_err-make_module-clause-err
 returns-in_err-make_module-clause-err g c =
@@ -39,7 +35,4 @@ loop-number-preserved g c =
     }
 
 pub returns-clause-ok : goal.returns-clause-ok
-returns-clause-ok g c =
-    let all : c.loop-number.number ≡ c.args.modules = omega (arith, c.loop-number.auto.number-end, c.loop-number-test.false) in
-    subst (λ (n : ℕ). MadeAll (generated c.args.dir.now n c.args.classes c.args.seed) (g.S.Shelf.files c.args.shelf.now)
-    (g.S.Shelf.files c.loop-number.shelf)) all c.loop-number.invariant.files
+returns-clause-ok g c = search (rules)

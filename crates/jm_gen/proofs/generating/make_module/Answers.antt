@@ -1,8 +1,7 @@
-use Rattle.std.proofs.Common.{◌≡◌, ◌+◌, ℕ, ap, refl, subst, ◌∙◌, arith}
-use Rattle.jm_outside.specs.Made.{MadeAll}
+use Rattle.std.proofs.Common.{◌+◌, ap, refl, ◌∙◌, rules}
 use Rattle.jm_bytes.proofs.ResultLaws.{on_err}
 use Rattle.jm_gen.specs.Draws.{draw, drawn}
-use Rattle.jm_gen.specs.Generated.{class_file, info_file, module_files}
+use Rattle.jm_gen.specs.Generated.{class_file, info_file}
 use Rattle.jm_gen.proofs.DrawLaws.{class_draw, drawn_next}
 use Rattle.jm_gen.proofs.FileLaws.{made_next, part_first, part_next}
 use Rattle.jm_gen.proofs.generating.make_module.Goals as goal
@@ -42,12 +41,7 @@ loop-class-preserved g c = record {
 }
 
 pub returns-clause-ok : goal.returns-clause-ok
-returns-clause-ok g c =
-    let all : c.loop-class.class ≡ c.args.classes = omega (arith, c.loop-class.auto.class-end, c.loop-class-test.false) in
-    subst (λ (n : ℕ). MadeAll (module_files c.args.place.dir.now n c.args.draws.now c.args.place.number 0)
-    (g.S.Shelf.files c.args.shelf.now) (g.S.Shelf.files c.loop-class.shelf)) all c.loop-class.invariant.files
+returns-clause-ok g c = search (rules)
 
 pub returns-clause-draws : goal.returns-clause-draws
-returns-clause-draws g c =
-    let all : c.loop-class.class ≡ c.args.classes = omega (arith, c.loop-class.auto.class-end, c.loop-class-test.false) in
-    c.loop-class.invariant.draws ∙ ap (λ (n : ℕ). drawn c.args.draws.now (n + 1)) all
+returns-clause-draws g c = search (rules)
