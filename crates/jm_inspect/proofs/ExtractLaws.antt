@@ -1,5 +1,5 @@
 -- What `extract` does, from what its call answered.
-use Rattle.std.proofs.Common.{◌≡◌, inl, ℕ, List, [], length, Option, None, Result, Ok, Err, IsTrue, refl, sym, ap, subst}
+use Rattle.std.proofs.Common.{◌≡◌, inl, ℕ, List, [], length, Option, Result, Ok, Err, IsTrue, refl, sym, ap, subst}
 use Rattle.jm_outside.specs.Made.{MadePart}
 use Rattle.jm_names.specs.ByName.{Named}
 use Rattle.jm_texts.specs.declared.refusal.Refusal.{Refusal}
@@ -26,12 +26,8 @@ use Rattle.jm_inspect.specs.Stops.{stop_of_extract}
 use Rattle.jm_inspect.specs.World.{World}
 use Rattle.jm_inspect.proofs.FrontLaws.{filed_there, of_work, opened}
 use Rattle.jm_inspect.proofs.Made.{stays_part}
+use Rattle.jm_inspect.proofs.OutcomeLaws.{extract_session}
 use Rattle.jm_inspect.proofs.StepLaws.{complained, made_in_part, made_put, on_any_text, put_step}
-
--- no session is due of an extraction
-pub extract_session : (dir : List ℕ) (due : Result (List Named) Refusal) → (extract_outcome dir due).session ≡ None
-extract_session dir (Ok entries) = refl
-extract_session dir (Err refusal) = refl
 
 -- files that were broken off were made in part
 broken_part : (dir : List ℕ) (due : Result (List Named) Refusal) (old new : Option Files) → BreaksOff due dir old new

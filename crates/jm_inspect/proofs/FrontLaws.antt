@@ -11,9 +11,10 @@ use Rattle.jm_form.specs.declared.container.HeaderFault.{HeaderFault}
 use Rattle.jm_form.specs.Head.{HoldsHead, IsFileOf, header_of, header_with, index_length}
 use Rattle.jm_form.specs.declared.damage.Damage.{Damage}
 use Rattle.jm_form.specs.Damages.{first_damage}
-use Rattle.jm_form.specs.Validity.{ValidAs}
+use Rattle.jm_form.specs.Validity.{ValidAs, look}
 use Rattle.jm_form.proofs.HeadLaws.{head_read}
 use Rattle.jm_form.proofs.LocalityLaws.{header_same}
+use Rattle.jm_jrt.specs.Stat.{node_sought}
 use Rattle.jm_outside.specs.Files.{Files, file, file_length, file_part, part}
 use Rattle.jm_outside.specs.Outcome.{Shows}
 use Rattle.jm_outside.specs.Shelves.{ShelfFailed, ShelfSeen}
@@ -32,7 +33,7 @@ use Rattle.jm_inspect.specs.Works.{HasFile, ImageComes, TextComesTo, WorkComesTo
 use Rattle.jm_inspect.specs.Steps.{StepComesTo, WorkDoes}
 use Rattle.jm_inspect.specs.Sinks.{Seen}
 use Rattle.jm_inspect.specs.Taken.{TakesBy, TakesFrom, TakesOf, TakesOfFront, WorkTakes, front_size, front_with}
-use Rattle.jm_inspect.specs.Taken.{opened_size, unless_damaged, work_length}
+use Rattle.jm_inspect.specs.Taken.{extract_size, opened_size, sought_size, unless_damaged, work_length}
 use Rattle.jm_inspect.specs.World.{World, world}
 use Rattle.jm_inspect.proofs.StepLaws.{comes_behind, complains, fails_at_once, step_as}
 
@@ -299,6 +300,16 @@ takes_opened told path front more old now new (is, sound) taken also =
       subst (λ (d : Option Damage). new ≤ old + (front_size b + unless_damaged d (more b))) (sym (sound b there.2))
           (omega (arith, first, rest)),
     )
+
+-- a work may take nothing
+pub work_takes_nothing : (told : Option Files) (path : List ℕ) (does : ImageWork) (n : ℕ) → WorkTakes told path does n n
+work_takes_nothing told path of.Info n = takes_nothing told path front_size n
+work_takes_nothing told path of.Verify n = takes_nothing told path front_size n
+work_takes_nothing told path (of.List include) n = takes_nothing told path front_size n
+work_takes_nothing told path (of.Cat name) n = takes_nothing told path (sought_size (λ b. look b name)) n
+work_takes_nothing told path (of.Ls folder) n = takes_nothing told path (sought_size (λ b. node_sought b folder)) n
+work_takes_nothing told path (of.Extract dir include) n = takes_nothing told path (extract_size include) n
+work_takes_nothing told path of.Serve n = takes_nothing told path (λ b. length b) n
 
 -- a work that goes by the front takes what is said of it
 pub work_takes : (told : Option Files) (path : List ℕ) (work : ImageWork) (old new : ℕ) → work ≢ of.Serve
